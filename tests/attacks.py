@@ -122,6 +122,14 @@ def files_before(count):
     return {"line": one_sequence(ONE_DIRECTORY + bytes([1, 1, 8]) + leb(128) + names, rows)}
 
 
+def many_addresses(count):
+    """Addresses of one long sequence, in no order."""
+    return {
+        "line": one_sequence(ONE_DIRECTORY + TWO_FILES, NEXT_ROW * count),
+        "addresses": b"".join(b"0x%x\n" % (0x1000 + place * 7919 % count) for place in range(count)),
+    }
+
+
 def columns_of_one_file(count):
     """Rows of one file with a long path, whose columns alternate."""
     return {
@@ -178,6 +186,7 @@ SLOW = {
     "many files of a long path": (long_paths, 250_000, ["check LINE TABLE"]),
     "many long directories before a short one": (directories_before, 20_000, ["files LINE"]),
     "many long names before short ones": (files_before, 10_000, ["table LINE --paths"]),
+    "many addresses of a long sequence": (many_addresses, 20_000, ["lookup LINE --addresses ADDRESSES"]),
     "columns of a file with a long path": (columns_of_one_file, 40_000, ["check LINE TABLE", "check LINE TABLE --all"]),
     "two files of a long path": (two_files, 40_000, ["table LINE --lines"]),
 }

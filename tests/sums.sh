@@ -1,5 +1,5 @@
 #!/usr/bin/env bash
-# The listed sum of a program that clang compiled, where it is here: its source as it was, changed and gone.
+# The listed sum of a program that clang compiled, where it is here: its source as it was, changed, gone, and no regular file.
 cd "$(dirname "$(readlink -f -- "$0")")/.." || exit 1
 . tests/check.bash
 here 'the sum of a program that clang compiled' clang objcopy || finish
@@ -17,4 +17,8 @@ sum=$(md5sum "$source" | cut -d ' ' -f 1)
 expect 'a source of 108,894 bytes' 1 "unit 0 file 0 differs $sum \"$source\""$'\n' '' "${sums[@]}"
 rm "$source"
 expect 'a source that is gone' 1 "unit 0 file 0 unreadable \"$source\""$'\n' '' "${sums[@]}"
+mkfifo "$source"
+expect 'a pipe in place of a source' 1 "unit 0 file 0 unreadable \"$source\""$'\n' '' timeout 20 "${sums[@]}"
+ln -sf /dev/zero "$source"
+expect 'a device in place of a source' 1 "unit 0 file 0 unreadable \"$source\""$'\n' '' timeout 20 "${sums[@]}"
 finish

@@ -16,7 +16,7 @@ ghost use Rattle.lnt_spans.specs.declared.position.Position.{Position as Spec};
 use crate::lookup::print_lookup;
 use lnt_digits::{address, decimal};
 use lnt_input::Source;
-use lnt_lines::Index;
+use lnt_lines::{Index, Lookups};
 use lnt_output::write_whole;
 use lnt_sources::{Halt, Status};
 use lnt_spans::Position;
@@ -54,6 +54,7 @@ pub fn print_addresses<T: Source, W: Write>(
     ensures too_long { IsErrOf result halt.TooLong → IsTrue (T.too_long lines.new) }
 {
     let mut block = vec![in alloc; 0; BLOCK]?;
+    let mut lookups = Lookups::new(alloc, index)?;
     let mut asked = Asked {
         op,
         line: Vec::new(alloc),
@@ -67,14 +68,14 @@ pub fn print_addresses<T: Source, W: Write>(
         if count == 0 {
             break;
         }
-        asked.answer_block(alloc, index, &block[..count], out)?;
+        asked.answer_block(alloc, &mut lookups, &block[..count], out)?;
         out.flush()?;
     }
     if lines.too_long() {
         return Err(Halt::TooLong);
     }
     if !asked.line.is_empty() {
-        asked.answer_line(alloc, index, out)?;
+        asked.answer_line(alloc, &mut lookups, out)?;
     }
     Ok(asked.status)
 }
@@ -97,23 +98,24 @@ impl Asked {
     fn answer_block<W: Write>(
         &mut self,
         alloc: Global,
-        index: &Index<'_>,
+        lookups: &mut Lookups<'_, '_>,
         block: &[u8],
         out: &mut W,
     ) -> Result<(), Halt>
         requires { HasNo 10 self.old.line.items }
         ensures err { IfErr result IsPrinting }
-        ensures told { OnOk result (IsBlockTold index.now self.old.op self.old.line.items block.now self.new.line.items []
+        ensures told { OnOk result (IsBlockTold lookups.old self.old.op self.old.line.items block.now self.new.line.items []
             (W.contents out.old) (W.contents out.new) self.old.status self.new.status) }
-        ensures stopped { OnErr result (IsBlockBegun index.now self.old.op self.old.line.items block.now
+        ensures stopped { OnErr result (IsBlockBegun lookups.old self.old.op self.old.line.items block.now
             (W.contents out.old) (W.contents out.new)) }
         ensures same { OnOk result (self.new.op ≡ self.old.op) }
+        ensures index { lookups.new ≡ lookups.old }
     {
         let mut rest = block;
         while let Some(end) = place_of(b'\n', rest) {
             self.line.extend_from_slice(&rest[..end])?;
             strip_return(&mut self.line);
-            self.answer_line(alloc, index, out)?;
+            self.answer_line(alloc, lookups, out)?;
             rest = &rest[end + 1..];
         }
         self.line.extend_from_slice(rest)?;
@@ -124,20 +126,21 @@ impl Asked {
     fn answer_line<W: Write>(
         &mut self,
         alloc: Global,
-        index: &Index<'_>,
+        lookups: &mut Lookups<'_, '_>,
         out: &mut W,
     ) -> Result<(), Halt>
         ensures err { IfErr result IsPrinting }
-        ensures told { OnOk result (AreLinesTold index.now self.old.op (self.old.line.items ∷ [])
+        ensures told { OnOk result (AreLinesTold lookups.old self.old.op (self.old.line.items ∷ [])
             (W.contents out.old) (W.contents out.new) self.old.status self.new.status) }
-        ensures stopped { OnErr result (AreLinesBegun index.now self.old.op (self.old.line.items ∷ [])
+        ensures stopped { OnErr result (AreLinesBegun lookups.old self.old.op (self.old.line.items ∷ [])
             (W.contents out.old) (W.contents out.new)) }
         ensures begun { OnOk result (self.new.line.items ≡ []) }
         ensures same { self.new.op ≡ self.old.op }
+        ensures index { lookups.new ≡ lookups.old }
     {
         match position_in(&self.line, self.op) {
             Some(position) => {
-                print_lookup(alloc, index, position, &mut self.room, out)?;
+                print_lookup(alloc, lookups, position, &mut self.room, out)?;
             }
             None => {
                 print_bad(&self.line, &mut self.room, out)?;

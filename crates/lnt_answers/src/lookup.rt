@@ -9,7 +9,7 @@ ghost use Rattle.lnt_sources.specs.Halts.{IsPrinting};
 ghost use Rattle.std.specs.List.{flat_map};
 ghost use Rattle.lnt_answers.specs.Lines.{answer_line, lookup_line, path_end, place_text, row_text};
 
-use lnt_lines::Index;
+use lnt_lines::{Index, Lookups};
 use lnt_output::write_whole;
 use lnt_sources::{Halt, Status};
 use lnt_spans::{Answer, Position, Probes};
@@ -24,21 +24,22 @@ use std::io::Write;
 // a front of the line, and nothing else.
 pub(crate) fn print_lookup<W: Write>(
     alloc: Global,
-    index: &Index<'_>,
+    lookups: &mut Lookups<'_, '_>,
     position: Position,
     room: &mut Vec<u8>,
     out: &mut W,
 ) -> Result<Status, Halt>
     ensures done { IfOk result (λ status. status ≡ Done) }
     ensures err { IfErr result (λ halt. IsPrinting halt) }
-    ensures line { (dead : Option ℕ) (skip : Bool) (units : List (ℕ × UnitParts)) → IsIndexOf dead skip units index.now
-        → OnOk result (Appends (W.contents out.old) (W.contents out.new) (lookup_line index.now dead skip units position)) }
-    ensures front { (dead : Option ℕ) (skip : Bool) (units : List (ℕ × UnitParts)) → IsIndexOf dead skip units index.now
-        → OnErr result (AppendsFront (W.contents out.old) (W.contents out.new) (lookup_line index.now dead skip units position)) }
+    ensures index { lookups.new ≡ lookups.old }
+    ensures line { (dead : Option ℕ) (skip : Bool) (units : List (ℕ × UnitParts)) → IsIndexOf dead skip units lookups.old
+        → OnOk result (Appends (W.contents out.old) (W.contents out.new) (lookup_line lookups.old dead skip units position)) }
+    ensures front { (dead : Option ℕ) (skip : Bool) (units : List (ℕ × UnitParts)) → IsIndexOf dead skip units lookups.old
+        → OnErr result (AppendsFront (W.contents out.old) (W.contents out.new) (lookup_line lookups.old dead skip units position)) }
 {
     room.clear();
     // A vector refuses a piece of the line only for want of memory.
-    let Ok(()) = put_lookup(alloc, index, position, room) else {
+    let Ok(()) = put_lookup(alloc, lookups, position, room) else {
         return Err(Halt::Memory);
     };
     write_whole(out, room.as_slice())?;
@@ -48,18 +49,19 @@ pub(crate) fn print_lookup<W: Write>(
 // Prints the line with the answer at the position, piece by piece.
 fn put_lookup<W: Write>(
     alloc: Global,
-    index: &Index<'_>,
+    lookups: &mut Lookups<'_, '_>,
     position: Position,
     out: &mut W,
 ) -> Result<(), Halt>
-    ensures line { (dead : Option ℕ) (skip : Bool) (units : List (ℕ × UnitParts)) → IsIndexOf dead skip units index.now
-        → OnOk result (Appends (W.contents out.old) (W.contents out.new) (lookup_line index.now dead skip units position)) }
+    ensures index { lookups.new ≡ lookups.old }
+    ensures line { (dead : Option ℕ) (skip : Bool) (units : List (ℕ × UnitParts)) → IsIndexOf dead skip units lookups.old
+        → OnOk result (Appends (W.contents out.old) (W.contents out.new) (lookup_line lookups.old dead skip units position)) }
 {
-    let Some(answer) = index.lookup(position, &mut Probes::new()) else {
+    let Some(answer) = lookups.lookup(alloc, position, &mut Probes::new())? else {
         writeln!(out, "{} none", PositionText(position))?;
         return Ok(());
     };
-    print_answered(alloc, index, position, &answer, out)
+    print_answered(alloc, lookups.index(), position, &answer, out)
 }
 
 // Prints the line of an answer at the position. The caller sees to it that its file has a path, as that of each answer of an
@@ -109,9 +111,10 @@ pub fn print_lookups<W: Write>(
         → OnErr result (AppendsFront (W.contents out.old) (W.contents out.new)
         (flat_map (lookup_line index.now dead skip units) positions.now)) }
 {
+    let mut lookups = Lookups::new(alloc, index)?;
     let mut room = Vec::new(alloc);
     for position in positions {
-        print_lookup(alloc, index, *position, &mut room, out)?;
+        print_lookup(alloc, &mut lookups, *position, &mut room, out)?;
     }
     Ok(Status::Done)
 }

@@ -24,7 +24,8 @@ use std::str;
 /// Prints a line for each file with a listed MD5 sum (`DW_LNCT_MD5` of DWARF 5, section 6.2.4.1), unit by unit:
 /// `unit U file F same "PATH"` where the bytes that the opener gives for its path have this sum, or `differs SUM` with the sum
 /// that they have, or `unreadable` in place of `same`. Unreadable is a file that can't be opened or read, has more than 2^40
-/// bytes, has a path that isn't UTF-8, or is named `-`, which is never read.
+/// bytes, has a path that isn't UTF-8, or isn't a regular file, as a pipe, a device or a folder: these are never read, nor is
+/// one that is named `-`.
 ///
 /// It answers `Done` where all of them have their sums, and `No` where one has another sum or can't be read. It stops by
 /// `Write` where the writer failed, and by `Memory`. Where it stops, the writer has gained a front of lines that are true of
@@ -113,7 +114,7 @@ fn found_of<O: Opener>(path: &[u8], listed: &[u8; 16], opener: &mut O) -> Option
     ensures found { IsTrueOfFile (O.tells opener.old path.now) listed.now result }
 {
     let name = str::from_utf8(path).ok()?;
-    if name == "-" {
+    if name == "-" || !opener.is_regular(name) {
         return None;
     }
     let reader = opener.reader_of(name)?;

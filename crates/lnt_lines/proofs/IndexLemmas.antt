@@ -6,6 +6,7 @@ use Rattle.std.specs.List.{AllByRecursion, AllZip, Contains, position}
 use Rattle.std.specs.Option.{option_map}
 use Rattle.std.proofs.lemmas.Option.{same_Some}
 use Rattle.lnt_header.specs.declared.unit_parts.UnitParts.{UnitParts}
+use Rattle.lnt_header.proofs.FirstLaws.{all_at}
 use Rattle.lnt_machine.specs.declared.row.Sequence.{Sequence}
 use Rattle.lnt_machine.specs.Matrix.{sequences}
 use Rattle.lnt_machine.specs.declared.row.Row.{Row}
@@ -16,12 +17,14 @@ use Rattle.lnt_files.specs.Files.{AreFilesOf, KeptFile}
 use Rattle.lnt_files.specs.Tables.{AreUsableTables}
 use Rattle.lnt_sequences.specs.declared.extent.Extent.{Extent}
 use Rattle.lnt_sequences.specs.declared.sequence.SeqId.{SeqId}
-use Rattle.lnt_sequences.specs.Extents.{HolderAnswers, IsHolder, NoneHolds}
+use Rattle.lnt_sequences.specs.Extents.{HolderAnswers, IsHolder, IsHolderAt, NoneHolds}
 use Rattle.lnt_sequences.proofs.FoundLaws.{live_placed}
 use Rattle.lnt_sequences.proofs.KeptLaws.{kept_live}
 use Rattle.lnt_sequences.specs.Sequences.{answer_of, kept_sequences, line_answer, live_sequences, Placed, row_at}
+use Rattle.lnt_sequences.specs.Rules.{IsOrdered}
 use Rattle.lnt_sequences.specs.Spanning.{rows_left}
 use Rattle.lnt_lines.specs.Cursors.{room_of}
+use Rattle.lnt_lines.specs.Finding.{Answers}
 use Rattle.lnt_lines.specs.Indexed.{Indexed, IsIndexOf, IsSequenceIn}
 use Rattle.lnt_lines.proofs.PlaceLemmas.{place_found}
 
@@ -62,13 +65,6 @@ sequence_in dead skip units index id placed is contained same =
       rows_are = λ d. one.rows_are d ∙ ap (λ (i : SeqId). (get_or (sequences one.unit.1) i.index d).rows) same;
     }
 
--- The sequence with this id has rows that answer.
-pub record Answers (dead : Option ℕ) (skip : Bool) (units : List (ℕ × UnitParts)) (index : Indexed) (p : spans.Position) (id : SeqId) : Type
-    0 where
-  pub rows : List Row
-  pub sequence_is : IsSequenceIn index.units index.programs id rows
-  pub answer_is : line_answer dead skip units p ≡ option_map (answer_of id.unit) (row_at p rows)
-
 pub found_answer : (dead : Option ℕ) (skip : Bool) (units : List (ℕ × UnitParts)) (index : Indexed) (p : spans.Position) (extent : Extent)
     → HolderAnswers → IsIndexOf dead skip units index
     → IsHolder index.entries p extent → Answers dead skip units index p extent.id
@@ -77,8 +73,20 @@ found_answer dead skip units index p extent law is holder =
     record {
       rows = answers.placed.rows;
       sequence_is = sequence_in dead skip units index extent.id answers.placed is answers.contained answers.id_is;
+      ordered =
+          let live = kept_live skip (live_sequences dead units) answers.placed answers.contained in
+          subst (λ (placed : Placed). IsOrdered placed.rows) live.2
+          (all_at (λ (placed : Placed). IsOrdered placed.rows) (live_sequences dead units) live.0 answers.placed live.1 is.ordered);
       answer_is = answers.answer_is ∙ ap (λ (i : SeqId). option_map (answer_of i.unit) (row_at p answers.placed.rows)) answers.id_is;
     }
+
+-- the sequence of the entry that holds the position
+pub held_answers : (dead : Option ℕ) (skip : Bool) (units : List (ℕ × UnitParts)) (index : Indexed) (p : spans.Position) (k : ℕ)
+    (entry : Extent) → HolderAnswers → IsIndexOf dead skip units index → IsHolderAt index.entries p k
+    → entry ≡ get_or index.entries k entry → Answers dead skip units index p entry.id
+held_answers dead skip units index p k entry law is holder at =
+    subst (λ (e : Extent). Answers dead skip units index p e.id) (sym at)
+    (found_answer dead skip units index p (get_or index.entries k entry) law is (holder.1 entry))
 
 pub found_none : (dead : Option ℕ) (skip : Bool) (units : List (ℕ × UnitParts)) (index : Indexed) (p : spans.Position) → HolderAnswers
     → IsIndexOf dead skip units index → NoneHolds index.entries p → None ≡ line_answer dead skip units p

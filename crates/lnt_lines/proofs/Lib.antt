@@ -2,6 +2,7 @@ mod DraftLemmas
 mod FileLemmas
 mod FlawLemmas
 mod JudgeLemmas
+mod LookupLemmas
 mod NamedLemmas
 mod PlaceLemmas
 mod RefusalLemmas

@@ -2,6 +2,7 @@ pub mod Contents
 pub mod Cursors
 pub mod Drafts
 pub mod FaultTexts
+pub mod Finding
 pub mod Good
 pub mod Indexed
 pub mod Judging

@@ -1,5 +1,5 @@
 //! What a good section answers, with its rows decoded again where they are asked for.
-ghost use Rattle.std.specs.Prelude.{◌≡◌, ◌↔◌, ◌+◌, ◌-◌, ◌^◌, ◌<◌, ◌≤◌, Bool, ℕ, List, length, Option, IfNone, IfOk, IfSome};
+ghost use Rattle.std.specs.Prelude.{◌≡◌, ◌↔◌, ◌+◌, ◌-◌, ◌^◌, ◌<◌, ◌≤◌, Bool, ℕ, List, length, Option, None, IfNone, IfOk, IfSome};
 ghost use Rattle.std.specs.Prelude.{IsSome, IsSomeAnd, IsTrue};
 ghost use Rattle.std.specs.List.{All, AllByRecursion, AllZip};
 ghost use Rattle.std.specs.List.Sorted.{IsPermutation};
@@ -15,6 +15,7 @@ ghost use Rattle.lnt_sequences.specs.Spanning.{rows_left};
 ghost use Rattle.lnt_spans.specs.declared.span.Span.{Span};
 ghost use Rattle.lnt_lines.specs.Contents.{AreRising, TellsOf};
 ghost use Rattle.lnt_lines.specs.Cursors.{GivesAllOf, room_of};
+ghost use Rattle.lnt_lines.specs.Finding.{Answers, GivesSequence};
 ghost use Rattle.lnt_lines.specs.Indexed.{HasOneOperation, IsIndex, IsIndexOf, IsSequenceIn};
 ghost use Rattle.lnt_lines.specs.Indexed.{file_count_in, file_path_in, file_sum_in, header_in};
 ghost use Rattle.lnt_spans.specs.Instructions.{IsOfInstructions};
@@ -44,6 +45,16 @@ pub struct Index<'a> {
     entries: Vec<Extent>,
     units: Vec<u64>,
     programs: Vec<Program>,
+}
+
+// The sequence that holds a position.
+#[derive(Drop)]
+pub(crate) struct Held<'i> {
+    // the index of its entry
+    pub place: usize,
+    pub id: SeqId,
+    // all of its rows
+    pub rows: SequenceRows<'i>,
 }
 
 impl<'a> Model for Index<'a> {
@@ -100,8 +111,8 @@ impl<'a> Index<'a> {
     }
 
     /// What is answered at the position: what the last row says that isn't above it, in the kept sequence that holds it;
-    /// none where none does. The file that an answer names has a path. The rows of that sequence are decoded, and no others. It
-    /// takes no memory.
+    /// none where none does. The file that an answer names has a path. The rows of that sequence up to the position are decoded, and no
+    /// others. It takes no memory.
     ///
     /// It compares the position with at most as many sequences as the number of those that hold anything has binary
     /// digits: `probes` rises by the comparisons. The caller sees to it that `probes` stands at 2^63 or below.
@@ -113,14 +124,40 @@ impl<'a> Index<'a> {
         ensures rises { probes.old ≤ probes.new }
         ensures counted { (digits : ℕ) → length self.now.entries < 2 ^ digits → probes.new ≤ probes.old + digits }
     {
+        match self.held(position, probes) {
+            Some(held) => answer_at(held.id.unit, held.rows, position),
+            None => None,
+        }
+    }
+
+    // The kept sequence that holds the position, or none where none does. It counts its comparisons as `lookup`.
+    pub(crate) fn held(&self, position: Position, probes: &mut Probes) -> Option<Held<'_>>
+        requires { probes.old ≤ 2 ^ 63 }
+        ensures is_index { IsIndex self.now }
+        ensures none { IfNone result ((dead : Option ℕ) (skip : Bool) (units : List (ℕ × UnitParts)) → IsIndexOf dead skip units self.now
+            → None ≡ line_answer dead skip units position) }
+        ensures answers { IfSome result (λ held. (dead : Option ℕ) (skip : Bool) (units : List (ℕ × UnitParts))
+            → IsIndexOf dead skip units self.now → Answers dead skip units self.now position held.id) }
+        ensures gives { IfSome result (λ held. GivesSequence self.now held.id held.rows) }
+        ensures rises { probes.old ≤ probes.new }
+        ensures counted { (digits : ℕ) → length self.now.entries < 2 ^ digits → probes.new ≤ probes.old + digits }
+    {
         holder_answers();
-        let Some(extent) = holder(&self.entries, position, probes) else {
+        let Some(place) = holder(&self.entries, position, probes) else {
             return None;
         };
-        let Some(rows) = rows_of(&self.units, &self.programs, extent.id) else {
+        let id = self.entries[place].id;
+        let Some(rows) = rows_of(&self.units, &self.programs, id) else {
             unreachable!()
         };
-        answer_at(extent.id.unit, rows, position)
+        Some(Held { place, id, rows })
+    }
+
+    // How many sequences hold anything.
+    pub(crate) fn entry_count(&self) -> usize
+        ensures { result ≡ length self.now.entries }
+    {
+        self.entries.len()
     }
 
     /// All spans, one after another: one for each two rows of a kept sequence that follow one another at different

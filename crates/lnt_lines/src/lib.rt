@@ -12,6 +12,7 @@ mod index;
 mod judge;
 pub mod laws;
 mod lines;
+mod lookups;
 mod no;
 mod options;
 mod refusal;
@@ -28,6 +29,7 @@ pub use section::{Judged, JudgedIndex, index_section, verify};
 // What a good section answers.
 pub use index::Index;
 pub use lines::Lines;
+pub use lookups::Lookups;
 pub use spans::Spans;
 
 // Positions and answers.

@@ -52,6 +52,18 @@ impl<'a> SequenceRows<'a> {
             ended: false,
         }
     }
+
+    /// The same rows, from the same one on. It takes no memory.
+    #[inline(always)]
+    pub fn fork(&self) -> SequenceRows<'a>
+        ensures { result ≡ self.now }
+    {
+        SequenceRows {
+            machine: self.machine.fork(),
+            ops: self.ops.fork(),
+            ended: self.ended,
+        }
+    }
 }
 
 impl<'a> Iterator for SequenceRows<'a> {

@@ -1,22 +1,20 @@
 -- The extent that holds a position, found by bisection, and what its sequence answers.
 use Rattle.std.proofs.Common.{◌≡◌, ◌≢◌, ℕ, ◌+◌, ◌-◌, ◌<◌, ◌≤◌, Bool, true, false, List, [], ◌∷◌, ◌++◌, Option, Some}
 use Rattle.std.proofs.Common.{None, refl, sym, ap, ◌∙◌, subst, arith, length, get_or, ⊎_elim}
-use Rattle.std.specs.Prelude.{cond}
 use Rattle.std.specs.List.{All, find}
 use Rattle.std.specs.List.Sorted.{IsPermutation}
 use Rattle.std.specs.Option.{option_and_then, option_map}
 use Rattle.std.proofs.lemmas.Bool.{cases_eq, cases_lt}
-use Rattle.std.proofs.lemmas.List.{append-nil, append_assoc, get_or_default, reverse-append}
+use Rattle.std.proofs.lemmas.List.{get_or_default}
 use Rattle.std.proofs.lemmas.List.Elements.{Contains-get_or}
 use Rattle.std.proofs.lemmas.List.Sorted.{All-permutation, Contains-permutation, IsPermutation-sym}
 use Rattle.lnt_machine.specs.declared.row.Row.{Row}
-use Rattle.lnt_machine.specs.Walking.{GivesFirstRow, GivesRow, SequenceWalk, WillGive}
 use Rattle.lnt_spans.specs.declared.position.Position.{Position}
 use Rattle.lnt_spans.specs.Positions.{IsBelow, IsAtMost, is_at_most}
 use Rattle.lnt_spans.proofs.EachTwoLaws.{each_two_from_pairs, find_none, find_only}
-use Rattle.lnt_spans.proofs.PositionLaws.{at_most_trans, below_at_most, below_is_at_most, not_both, test_at_most, test_not_at_most}
+use Rattle.lnt_spans.proofs.PositionLaws.{at_most_trans, below_at_most, below_is_at_most, not_both}
 use Rattle.lnt_sequences.specs.declared.extent.Extent.{Extent}
-use Rattle.lnt_sequences.specs.Extents.{AnswersFor, AreSettled, extents_of, HolderAnswers, IsHolder, IsIn, NoneHolds}
+use Rattle.lnt_sequences.specs.Extents.{AnswersFor, AreSettled, extents_of, HolderAnswers, IsHolder, IsHolderAt, IsIn, NoneHolds}
 use Rattle.lnt_sequences.specs.Rules.{AreApart}
 use Rattle.lnt_sequences.specs.Sequences.{answer_in, answer_of, holds, Holds, Placed, position_of, row_at}
 use Rattle.lnt_sequences.proofs.ExtentLemmas.{all_back, holds_from_test, IsEmpty, IsSketch, of_sequence, sketch, test_from_holds}
@@ -76,12 +74,13 @@ bracket_above extents p low high middle o b h k e here =
           (cases_eq middle i);
     }
 
-pub found_inside : (extents : List Extent) (p : Position) (middle : ℕ) (d : Extent) → middle < length extents
-    → IsAtMost (get_or extents middle d).low p → IsBelow p (get_or extents middle d).high → IsHolder extents p (get_or extents middle d)
-found_inside extents p middle d l from below = record {
-  contained = Contains-get_or extents middle d l;
-  holds = record { from = from; below = below };
-}
+pub found_inside : (extents : List Extent) (p : Position) (middle : ℕ) (e : Extent) → middle < length extents
+    → IsAtMost (get_or extents middle e).low p → IsBelow p (get_or extents middle e).high → IsHolderAt extents p middle
+found_inside extents p middle e l from below = (
+  l,
+  λ d. subst (IsHolder extents p) (get_or_default extents middle e d l)
+      (record { contained = Contains-get_or extents middle e l; holds = record { from = from; below = below } }),
+)
 
 pub found_nowhere : (extents : List Extent) (p : Position) (low high : ℕ) → IsBracket extents p low high → high ≤ low → NoneHolds extents p
 found_nowhere extents p low high b h = λ k d l i.
@@ -142,59 +141,3 @@ answer_some sequences extents p extent permuted apart is =
 
 pub holder_answers : HolderAnswers
 holder_answers = record { none = answer_none; some = answer_some }
-
--- ---- the last row that isn't above a position
-
--- some rows were given, the others are to come, and this is the last of those given that isn't above p
-pub record HasLooked (p : Position) (rows : List Row) (walk : SequenceWalk) (found : Option Row) : Type 0 where
-  pub seen : List Row
-  pub left : List Row
-  pub rows_are : rows ≡ seen ++ left
-  pub to_come : WillGive left walk
-  pub found_is : found ≡ row_at p seen
-
-pub looked_none : (p : Position) (rows : List Row) (walk : SequenceWalk) → WillGive rows walk → HasLooked p rows walk None
-looked_none p rows walk will = record { seen = []; left = rows; rows_are = refl; to_come = will; found_is = refl }
-
-row_at_more : (p : Position) (seen : List Row) (row : Row)
-    → row_at p (seen ++ row ∷ []) ≡ cond (is_at_most (position_of row) p) (Some row) (row_at p seen)
-row_at_more p seen row = ap (find (λ (r : Row). is_at_most (position_of r) p)) (reverse-append seen (row ∷ []))
-
-looked_more : (p : Position) (rows left : List Row) (old new : SequenceWalk) (found found' : Option Row) (row : Row)
-    (l : HasLooked p rows old found)
-    → GivesFirstRow l.left (Some row) new → found' ≡ cond (is_at_most (position_of row) p) (Some row) found → HasLooked p rows new found'
-looked_more p rows left old new found found' row l gives now = by_left l.left l.rows_are gives
-  where
-    by_left : (left : List Row) → rows ≡ l.seen ++ left → GivesFirstRow left (Some row) new → HasLooked p rows new found'
-    by_left [] are g = absurd g
-    by_left (first ∷ others) are g = record {
-      seen = l.seen ++ row ∷ [];
-      left = others;
-      rows_are = are ∙ ap (λ (r : Row). l.seen ++ r ∷ others) (sym g.0) ∙ sym (append_assoc l.seen (row ∷ []) others);
-      to_come = g.1;
-      found_is = now ∙ ap (λ (o : Option Row). cond (is_at_most (position_of row) p) (Some row) o) l.found_is
-          ∙ sym (row_at_more p l.seen row);
-    }
-
--- the next row isn't above p
-pub looked_here : (p : Position) (rows : List Row) (old new : SequenceWalk) (found : Option Row) (row : Row) → HasLooked p rows old found
-    → GivesRow old (Some row) new
-    → IsAtMost (position_of row) p → HasLooked p rows new (Some row)
-looked_here p rows old new found row l gives at =
-    looked_more p rows l.left old new found (Some row) row l (gives l.left l.to_come) (rw (test_at_most (position_of row) p at) refl)
-
--- it is above p
-pub looked_above : (p : Position) (rows : List Row) (old new : SequenceWalk) (found : Option Row) (row : Row) → HasLooked p rows old found
-    → GivesRow old (Some row) new
-    → IsBelow p (position_of row) → HasLooked p rows new found
-looked_above p rows old new found row l gives above =
-    looked_more p rows l.left old new found found row l (gives l.left l.to_come) (rw (test_not_at_most (position_of row) p above) refl)
-
--- there is no other
-pub looked_all : (p : Position) (rows : List Row) (old new : SequenceWalk) (found : Option Row) → HasLooked p rows old found
-    → GivesRow old None new → found ≡ row_at p rows
-looked_all p rows old new found l gives = by_left l.left l.rows_are (gives l.left l.to_come)
-  where
-    by_left : (left : List Row) → rows ≡ l.seen ++ left → GivesFirstRow left None new → found ≡ row_at p rows
-    by_left [] are g = l.found_is ∙ ap (row_at p) (sym (are ∙ append-nil l.seen))
-    by_left (first ∷ others) are g = absurd g

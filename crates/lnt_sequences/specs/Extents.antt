@@ -102,6 +102,10 @@ pub record IsHolder (extents : List Extent) (p : Position) (extent : Extent) : T
   pub contained : Contains extents extent
   pub holds : IsIn p extent
 
+-- so is the extent with this index
+abbrev pub IsHolderAt : List Extent → Position → ℕ → Type 0
+IsHolderAt extents p k = (k < length extents) × ((d : Extent) → IsHolder extents p (slice_index_or extents k d))
+
 -- ---- what sequences answer, by their extents
 
 -- The sequence has the extent's id, and it is what its rows say that the sequences answer.

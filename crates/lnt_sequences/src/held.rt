@@ -3,23 +3,25 @@ ghost use Rattle.std.specs.Prelude.{◌≡◌, ◌+◌, ◌^◌, ◌<◌, ◌≤
 ghost use Rattle.std.specs.Option.{option_map};
 ghost use Rattle.lnt_machine.specs.Walking.{WillGive};
 ghost use Rattle.lnt_machine.specs.declared.row.Row as spec;
-ghost use Rattle.lnt_sequences.specs.Extents.{AreSettled, IsHolder, NoneHolds};
+ghost use Rattle.lnt_sequences.specs.Extents.{AreSettled, IsHolderAt, NoneHolds};
+ghost use Rattle.lnt_sequences.specs.Rules.{IsOrdered};
 ghost use Rattle.lnt_sequences.specs.Sequences as sequence;
 
-use crate::collected::{answer_of, position_of};
+use crate::collected::answer_of;
 use crate::extent::Extent;
+use crate::marks::Mark;
 use lnt_machine::{Row, SequenceRows};
 use lnt_spans::{Answer, Position, Probes, Side, probe};
 
-/// The extent that holds the position, or none where none does.
+/// The index of the extent that holds the position, or none where none does.
 ///
 /// It compares the position with at most as many extents as their number has binary digits, which is none where there
 /// are no extents: `probes` rises by the comparisons. The caller sees to it that the extents are settled, as `entries`
 /// gives them, and that `probes` stands at 2^63 or below. It takes no memory.
-pub fn holder(extents: &[Extent], position: Position, probes: &mut Probes) -> Option<Extent>
+pub fn holder(extents: &[Extent], position: Position, probes: &mut Probes) -> Option<usize>
     requires settled { AreSettled extents.now }
     requires count { probes.old ≤ 2 ^ 63 }
-    ensures found { MatchOption result (NoneHolds extents.now position) (IsHolder extents.now position) }
+    ensures found { MatchOption result (NoneHolds extents.now position) (IsHolderAt extents.now position) }
 
     // The count never falls, and rises by at most as many as the number of extents has binary digits.
     ensures rises { probes.old ≤ probes.new }
@@ -29,10 +31,10 @@ pub fn holder(extents: &[Extent], position: Position, probes: &mut Probes) -> Op
     let mut high = extents.len();
     while low < high {
         let middle = low + (high - low) / 2;
-        let extent = extents[middle];
+        let extent = &extents[middle];
         match probe(extent.low, extent.high, position, probes) {
             Side::Below => high = middle,
-            Side::Inside => return Some(extent),
+            Side::Inside => return Some(middle),
             Side::Above => low = middle + 1,
         }
     }
@@ -41,24 +43,28 @@ pub fn holder(extents: &[Extent], position: Position, probes: &mut Probes) -> Op
 
 // The last row of a sequence that isn't above the position.
 fn row_at(rows: SequenceRows<'_>, position: Position) -> Option<Row>
-    ensures { (list : List spec.Row) → WillGive list rows.entry → result ≡ sequence.row_at position list }
+    ensures { (list : List spec.Row) → WillGive list rows.entry → IsOrdered list → result ≡ sequence.row_at position list }
 {
-    let mut found = None;
-    for row in rows {
-        if !position.is_below(position_of(&row)) {
-            found = Some(row);
-        }
-    }
-    found
+    let mut mark = Mark::before(rows);
+    while mark.go_on(position) {}
+    mark.last
 }
 
-/// What a sequence answers at a position: what the last of these rows says that isn't above it. `unit` is the offset of its
-/// unit in the section. None where no row stands at or below the position. It takes no memory.
+/// What a sequence whose positions never fall answers at a position: what the last of these rows says that isn't above it.
+/// `unit` is the offset of its unit in the section. None where no row stands at or below the position. The rows above it aren't
+/// decoded. It takes no memory.
 pub fn answer_at(unit: u64, rows: SequenceRows<'_>, position: Position) -> Option<Answer>
-    ensures { (list : List spec.Row) → WillGive list rows.entry
+    ensures { (list : List spec.Row) → WillGive list rows.entry → IsOrdered list
         → result ≡ option_map (sequence.answer_of unit) (sequence.row_at position list) }
 {
-    match row_at(rows, position) {
+    said_by(unit, row_at(rows, position))
+}
+
+// What a row says, if there is one.
+pub(crate) fn said_by(unit: u64, row: Option<Row>) -> Option<Answer>
+    ensures { result ≡ option_map (sequence.answer_of unit) row }
+{
+    match row {
         Some(row) => Some(answer_of(unit, &row)),
         None => None,
     }

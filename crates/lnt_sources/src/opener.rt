@@ -36,6 +36,11 @@ pub trait Opener {
         None
     }
 
+    /// Whether the name is that of a regular file, which has an end, and whose reader doesn't wait. By default each is.
+    fn is_regular(&self, _name: &str) -> bool {
+        true
+    }
+
     /// Why the last file that failed couldn't be opened or read, as the system says it. None where it says nothing, or
     /// where memory ran out.
     fn reason(&mut self, _alloc: Global) -> Option<String> {

@@ -105,10 +105,17 @@ impl<'a> Opener for System<'a> {
 
     // A pipe that was read has nothing left, and one that was opened anew might wait for ever.
     fn reader_again(&mut self, name: &str) -> Option<Reader<'a>> {
-        if name == "-" || !fs::metadata(self.rt, name).ok()?.is_file() {
+        if name == "-" || !self.is_regular(name) {
             return None;
         }
         Some(self.reader(Input::File(self.open(name)?)))
+    }
+
+    fn is_regular(&self, name: &str) -> bool {
+        match fs::metadata(self.rt, name) {
+            Ok(metadata) => metadata.is_file(),
+            Err(_) => false,
+        }
     }
 
     fn reason(&mut self, alloc: Global) -> Option<String> {

@@ -30,3 +30,7 @@ pub use Rattle.lnt_stream.specs.Readers
 pub use Rattle.lnt_stream.specs.Steps
 pub use Rattle.lnt_stream.specs.Stops
 pub use Rattle.lnt_stream.specs.Units
+-- the types of units that they speak of
+pub use Rattle.lnt_header.specs.declared.header.HeaderParts as DeclaredHeaderParts
+pub use Rattle.lnt_header.specs.declared.op.Op as DeclaredOp
+pub use Rattle.lnt_header.specs.declared.unit_parts.UnitParts as DeclaredParts

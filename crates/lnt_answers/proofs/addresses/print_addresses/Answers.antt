@@ -15,13 +15,14 @@ loop-count-init g c = record {
   failures = refl;
   full = search rules;
   same = refl;
-  told = text_begun c.args.index.now c.args.op (g.T.Source.remaining c.args.lines.now) c.new.result.items
-      (g.W.Write.contents c.args.out.now) _ c.new.ensures.items refl;
+  index = search rules;
+  told = text_begun c.args.index.now c.args.op (g.T.Source.remaining c.args.lines.now) c.new-2.result.items
+      (g.W.Write.contents c.args.out.now) _ c.new-2.ensures.items refl;
 }
 
 pub loop-count-preserved : goal.loop-count-preserved
 loop-count-preserved g c =
-    let block = rw c.loop-count.invariant.same at c.in_ok-answer_block.ensures.told in
+    let block = rw (c.loop-count.invariant.same, c.loop-count.invariant.index) at c.in_ok-answer_block.ensures.told in
     let whole : c.loop-count.block.len ≡ length c.pull.new.buf = search rules in
     let pulls = pulls_front (g.T.Source.remaining c.loop-count.lines) (g.T.Source.remaining c.pull.new.self) c.in-Ok.count c.pull.new.buf
     c.deref.result.now
@@ -30,6 +31,7 @@ loop-count-preserved g c =
       failures = c.in-Ok.ensures.failures ∙ c.loop-count.invariant.failures;
       full = search rules;
       same = c.in_ok-answer_block.ensures.same ∙ c.loop-count.invariant.same;
+      index = c.answer_block.ensures.index ∙ c.loop-count.invariant.index;
       told = text_kept c.args.index.now c.args.op (g.T.Source.remaining c.args.lines.now) (g.T.Source.remaining c.pull.new.self)
           c.answer_block.new.self.line.items
           (g.W.Write.contents c.args.out.now) (g.W.Write.contents c.answer_block.new.out) (g.W.Write.contents c.flush.new.self)
@@ -61,7 +63,7 @@ returns-clause-told g c =
           c.loop-count.asked.status w.answer_line.new.self.status
           c.too_long.result told ended c.if-too_long.false
           (not_empty c.loop-count.asked.line.len c.loop-count.asked.line.items (search rules) (sym c.is_empty.ensures ∙ not_so))
-          (rw c.loop-count.invariant.same at w.in_ok-answer_line.ensures.told))
+          (rw (c.loop-count.invariant.same, c.loop-count.invariant.index) at w.in_ok-answer_line.ensures.told))
       | else-not-is_empty w ↦
           let so : c.is_empty.result ≡ true = search rules in
           rw (w.out-is, w.asked-is) (
@@ -77,6 +79,11 @@ returns-in_err-block-clause-begun g c =
     so_stopped c.from_residual.result _
     (text_unbegun c.args.index.now c.args.op (g.T.Source.remaining c.args.lines.now) (g.W.Write.contents c.args.out.now))
 
+pub returns-in_err-lookups-clause-begun : goal.returns-in_err-lookups-clause-begun
+returns-in_err-lookups-clause-begun g c =
+    so_stopped c.from_residual-in_err-lookups.result _
+    (text_unbegun c.args.index.now c.args.op (g.T.Source.remaining c.args.lines.now) (g.W.Write.contents c.args.out.now))
+
 pub returns-in_default-clause-begun : goal.returns-in_default-clause-begun
 returns-in_default-clause-begun g c =
     text_kept_begun c.args.index.now c.args.op (g.T.Source.remaining c.args.lines.now) (g.T.Source.remaining c.loop-count.lines)
@@ -85,7 +92,7 @@ returns-in_default-clause-begun g c =
 
 pub returns-in_err-answer_block-clause-begun : goal.returns-in_err-answer_block-clause-begun
 returns-in_err-answer_block-clause-begun g c =
-    let begun = rw c.loop-count.invariant.same at c.in_err-answer_block.ensures.stopped in
+    let begun = rw (c.loop-count.invariant.same, c.loop-count.invariant.index) at c.in_err-answer_block.ensures.stopped in
     let whole : c.loop-count.block.len ≡ length c.pull.new.buf = search rules in
     let pulls = pulls_front (g.T.Source.remaining c.loop-count.lines) (g.T.Source.remaining c.pull.new.self) c.in-Ok.count c.pull.new.buf
     c.deref.result.now
@@ -98,7 +105,7 @@ returns-in_err-answer_block-clause-begun g c =
 
 pub returns-in_err-flush-clause-begun : goal.returns-in_err-flush-clause-begun
 returns-in_err-flush-clause-begun g c =
-    let block = rw c.loop-count.invariant.same at c.in_ok-answer_block.ensures.told in
+    let block = rw (c.loop-count.invariant.same, c.loop-count.invariant.index) at c.in_ok-answer_block.ensures.told in
     let whole : c.loop-count.block.len ≡ length c.pull.new.buf = search rules in
     let pulls = pulls_front (g.T.Source.remaining c.loop-count.lines) (g.T.Source.remaining c.pull.new.self) c.in-Ok.count c.pull.new.buf
     c.deref.result.now
@@ -139,4 +146,4 @@ returns-in_err-answer_line-clause-begun g c =
     c.loop-count.asked.line.items (g.W.Write.contents c.args.out.now) (g.W.Write.contents c.loop-count.out)
     (g.W.Write.contents c.answer_line.new.out) c.loop-count.asked.status c.too_long.result told ended c.if-too_long.false
     (not_empty c.loop-count.asked.line.len c.loop-count.asked.line.items (search rules) (sym c.is_empty.ensures ∙ not_so))
-    (rw c.loop-count.invariant.same at c.in_err-answer_line.ensures.stopped))
+    (rw (c.loop-count.invariant.same, c.loop-count.invariant.index) at c.in_err-answer_line.ensures.stopped))

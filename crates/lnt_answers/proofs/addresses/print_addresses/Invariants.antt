@@ -7,6 +7,7 @@ invariant-loop-count g l = record {
   failures : g.T.Source.failures l.lines ≡ g.T.Source.failures l.fn.lines;
   full : length l.block.items ≡ 65536;
   same : l.asked.op ≡ l.fn.op;
+  index : l.lookups ≡ l.index;
   told : IsTextTold l.index l.fn.op (g.T.Source.remaining l.fn.lines) (g.T.Source.remaining l.lines) l.asked.line.items
       (g.W.Write.contents l.fn.out) (g.W.Write.contents l.out) l.asked.status;
 }

@@ -7,13 +7,13 @@ use Rattle.lnt_answers.proofs.lookup.print_lookup.Goals as goal
 
 pub returns-in_default-clause-front : goal.returns-in_default-clause-front
 returns-in_default-clause-front g c dead skip units is =
-    front_none (g.W.Write.contents c.args.out.now) (lookup_line c.args.index.now dead skip units c.args.position)
+    front_none (g.W.Write.contents c.args.out.now) (lookup_line c.args.lookups.now dead skip units c.args.position)
 
 pub returns-in_err-write_whole-clause-front : goal.returns-in_err-write_whole-clause-front
 returns-in_err-write_whole-clause-front g c dead skip units is =
     so_stopped c.from_residual.result _
     (front_same (g.W.Write.contents c.args.out.now) (g.W.Write.contents c.write_whole.new.out) c.as_slice.result.now
-    (lookup_line c.args.index.now dead skip units c.args.position)
+    (lookup_line c.args.lookups.now dead skip units c.args.position)
     (text_in_room c.clear.new.self.items c.put_lookup.new.out.items c.as_slice.result.now _ c.clear.ensures.items
     (c.in-Ok.ensures.line dead skip units is) c.as_slice.ensures.value)
     c.in_err-write_whole.ensures.front)

@@ -1,4 +1,4 @@
-use Rattle.std.proofs.Common.{◌++◌, Bool, ℕ, [], List, Option, take}
+use Rattle.std.proofs.Common.{◌≡◌, ◌++◌, Bool, ℕ, [], List, Option, take}
 use Rattle.std.specs.Io.KnownBytes.{Appends}
 use Rattle.std.specs.List.{flat_map}
 use Rattle.lnt_header.specs.declared.unit_parts.UnitParts.{UnitParts}
@@ -7,6 +7,9 @@ use Rattle.lnt_answers.specs.Lines.{lookup_line}
 use Rattle.lnt_answers.proofs.lookup.print_lookups.Given as goal
 
 abbrev pub invariant-loop-position : goal.invariant-loop-position
-invariant-loop-position g l = (dead : Option ℕ) (skip : Bool) (units : List (ℕ × UnitParts)) → IsIndexOf dead skip units l.index
-    → Appends (g.W.Write.contents l.fn.out) (g.W.Write.contents l.out)
-    ([] ++ flat_map (lookup_line l.index dead skip units) (take l.position-index l.positions))
+invariant-loop-position g l = record {
+  index : l.lookups ≡ l.index;
+  lines : (dead : Option ℕ) (skip : Bool) (units : List (ℕ × UnitParts)) → IsIndexOf dead skip units l.index
+      → Appends (g.W.Write.contents l.fn.out) (g.W.Write.contents l.out)
+      ([] ++ flat_map (lookup_line l.index dead skip units) (take l.position-index l.positions));
+}

@@ -1,0 +1,36 @@
+-- The sequence that holds a position, and marks in the sequences of an index. No public contract speaks of it.
+use Rattle.std.specs.Prelude.{◌≡◌, Bool, ℕ, List, Option}
+use Rattle.std.specs.List.{All}
+use Rattle.std.specs.Option.{option_map}
+use Rattle.lnt_header.specs.declared.unit_parts.UnitParts.{UnitParts}
+use Rattle.lnt_machine.specs.declared.row.Row.{Row}
+use Rattle.lnt_machine.specs.Walking.{SequenceWalk, WillGive}
+use Rattle.lnt_spans.specs.declared.position.Position.{Position}
+use Rattle.lnt_sequences.specs.declared.marks.Marks.{Marks}
+use Rattle.lnt_sequences.specs.declared.sequence.SeqId.{SeqId}
+use Rattle.lnt_sequences.specs.Marking.{AreMarksIn}
+use Rattle.lnt_sequences.specs.Rules.{IsOrdered}
+use Rattle.lnt_sequences.specs.Sequences.{answer_of, line_answer, row_at}
+use Rattle.lnt_lines.specs.declared.lookups.Known.{Known}
+use Rattle.lnt_lines.specs.declared.lookups.Marked.{Marked}
+use Rattle.lnt_lines.specs.Indexed.{Indexed, IsSequenceIn}
+
+-- The sequence with this id has rows that answer, whose positions never fall.
+pub record Answers (dead : Option ℕ) (skip : Bool) (units : List (ℕ × UnitParts)) (index : Indexed) (p : Position) (id : SeqId) : Type
+    0 where
+  pub rows : List Row
+  pub sequence_is : IsSequenceIn index.units index.programs id rows
+  pub ordered : IsOrdered rows
+  pub answer_is : line_answer dead skip units p ≡ option_map (answer_of id.unit) (row_at p rows)
+
+-- the rows of the sequence with this id are to come
+abbrev pub GivesSequence : Indexed → SeqId → SequenceWalk → Type 0
+GivesSequence index id walk = (rows : List Row) → IsSequenceIn index.units index.programs id rows → WillGive rows walk
+
+-- the marks are in the sequence that they are kept of
+abbrev pub IsMarkedIn : Indexed → Marked → Type 0
+IsMarkedIn index marked = (rows : List Row) → IsSequenceIn index.units index.programs marked.id rows → AreMarksIn rows marked.marks
+
+-- so are all of these
+abbrev pub AreKnownOf : Indexed → Known → Type 0
+AreKnownOf index known = All (IsMarkedIn index) known.sequences.items

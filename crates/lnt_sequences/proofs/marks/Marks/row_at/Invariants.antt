@@ -1,0 +1,16 @@
+use Rattle.std.proofs.Common.{List}
+use Rattle.lnt_machine.specs.declared.row.Row.{Row}
+use Rattle.lnt_machine.specs.Walking.{WillGive}
+use Rattle.lnt_sequences.specs.Marking.{AreMarksIn, IsMarkIn, IsNotAbove}
+use Rattle.lnt_sequences.specs.Spanning.{rows_left}
+use Rattle.lnt_sequences.proofs.marks.Marks.row_at.Given as goal
+
+abbrev pub invariant-loop-position : goal.invariant-loop-position
+invariant-loop-position l = record {
+  marks : (list : List Row) → WillGive list l.fn.rows → AreMarksIn list l.fn.self → AreMarksIn list l.self;
+  mark : (list : List Row) → WillGive list l.fn.rows → AreMarksIn list l.fn.self → IsMarkIn list l.mark;
+  not_above : IsNotAbove l.mark.last l.position;
+}
+
+abbrev pub decreases-loop-position : goal.decreases-loop-position
+decreases-loop-position l = rows_left l.mark.after

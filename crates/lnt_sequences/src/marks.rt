@@ -1,0 +1,159 @@
+//! Marks in the rows of one sequence, from which lookups go on.
+ghost use Rattle.std.specs.Prelude.{◌≡◌, ◌<◌, List, None, IfOk, false, true};
+ghost use Rattle.std.specs.Bool.{MatchBool};
+ghost use Rattle.std.specs.Option.{option_map};
+ghost use Rattle.lnt_machine.specs.Walking.{WillGive};
+ghost use Rattle.lnt_machine.specs.declared.row.Row as spec;
+ghost use Rattle.lnt_sequences.specs.Marking.{AreMarksIn, IsMarkIn, IsNotAbove};
+ghost use Rattle.lnt_sequences.specs.Rules.{IsOrdered};
+ghost use Rattle.lnt_sequences.specs.Sequences as sequence;
+ghost use Rattle.lnt_sequences.specs.Spanning.{rows_left};
+
+use crate::collected::position_of;
+use crate::held::said_by;
+use lnt_machine::{Row, SequenceRows};
+use lnt_spans::{Answer, Position};
+use std::alloc::{AllocError, Global};
+
+// The number of rows from one mark to the next. A mark takes 200 bytes, and a row of a section one at least.
+const SPACING: usize = 128;
+
+// A place in the rows of a sequence: the last row before it, if there is one, and the rows after it.
+#[derive(Drop)]
+pub(crate) struct Mark<'a> {
+    pub last: Option<Row>,
+    after: SequenceRows<'a>,
+}
+
+impl<'a> Mark<'a> {
+    // The place before all of these rows.
+    pub(crate) fn before(rows: SequenceRows<'a>) -> Mark<'a>
+        ensures last { result.last ≡ None }
+        ensures after { result.after ≡ rows.entry }
+    {
+        Mark {
+            last: None,
+            after: rows,
+        }
+    }
+
+    // The same place once more.
+    fn fork(&self) -> Mark<'a>
+        ensures { result ≡ self.now }
+    {
+        Mark {
+            last: self.last,
+            after: self.after.fork(),
+        }
+    }
+
+    // Goes on over the rows that aren't above the position, up to the next mark. True where it stands there. Else `last` is
+    // the last row of the sequence that isn't above the position, and nothing is said of the rows after it.
+    pub(crate) fn go_on(&mut self, position: Position) -> bool
+        requires { IsNotAbove self.old.last position }
+        ensures not_above { IsNotAbove self.new.last position }
+        ensures goes_on { (rows : List spec.Row) → IsMarkIn rows self.old → MatchBool result (IsMarkIn rows self.new)
+            (IsOrdered rows → self.new.last ≡ sequence.row_at position rows) }
+        ensures fewer { result ≡ true → rows_left self.new.after < rows_left self.old.after }
+    {
+        let mut after = self.after.fork();
+        for _ in 0..SPACING {
+            let Some(row) = after.next() else {
+                return false;
+            };
+            if position.is_below(position_of(&row)) {
+                return false;
+            }
+            self.last = Some(row);
+        }
+        self.after = after;
+        true
+    }
+
+    // Whether the row before the place is above the position.
+    fn is_above(&self, position: Position) -> bool
+        ensures { result ≡ false → IsNotAbove self.now.last position }
+    {
+        match &self.last {
+            Some(row) => position.is_below(position_of(row)),
+            None => false,
+        }
+    }
+}
+
+/// Marks in the rows of one sequence, as far as lookups went: one after every so many rows, and none in a shorter sequence.
+#[derive(Drop)]
+pub struct Marks<'a> {
+    marks: Vec<Mark<'a>>,
+}
+
+impl<'a> Marks<'a> {
+    /// No marks. It takes no memory.
+    pub fn new(alloc: Global) -> Marks<'a>
+        ensures { (rows : List spec.Row) → AreMarksIn rows result }
+    {
+        Marks {
+            marks: Vec::new(alloc),
+        }
+    }
+
+    /// Whether there are none.
+    pub fn is_empty(&self) -> bool {
+        self.marks.is_empty()
+    }
+
+    /// What the sequence that the marks are in answers at a position, as [`answer_at`](crate::answer_at) of all of its rows.
+    ///
+    /// It walks over the rows after the last mark that isn't above the position, and adds a mark wherever it comes to a next
+    /// one. The one error is that memory ran out. The marks are in the same sequence then, too.
+    pub fn answer_at(
+        &mut self,
+        unit: u64,
+        rows: SequenceRows<'a>,
+        position: Position,
+    ) -> Result<Option<Answer>, AllocError>
+        ensures marks { (list : List spec.Row) → WillGive list rows.entry → AreMarksIn list self.old → AreMarksIn list self.new }
+        ensures answer { IfOk result (λ answer. (list : List spec.Row) → WillGive list rows.entry → AreMarksIn list self.old
+            → IsOrdered list → answer ≡ option_map (sequence.answer_of unit) (sequence.row_at position list)) }
+    {
+        Ok(said_by(unit, self.row_at(rows, position)?))
+    }
+
+    // The last row of the sequence that isn't above the position.
+    fn row_at(
+        &mut self,
+        rows: SequenceRows<'a>,
+        position: Position,
+    ) -> Result<Option<Row>, AllocError>
+        ensures marks { (list : List spec.Row) → WillGive list rows.entry → AreMarksIn list self.old → AreMarksIn list self.new }
+        ensures found { IfOk result (λ row. (list : List spec.Row) → WillGive list rows.entry → AreMarksIn list self.old
+            → IsOrdered list → row ≡ sequence.row_at position list) }
+    {
+        let mut mark = self.nearest(rows, position);
+        while mark.go_on(position) {
+            self.marks.push(mark.fork())?;
+        }
+        Ok(mark.last)
+    }
+
+    // The last mark whose row isn't above the position; the place before all rows where there is none.
+    fn nearest(&self, rows: SequenceRows<'a>, position: Position) -> Mark<'a>
+        ensures in_rows { (list : List spec.Row) → WillGive list rows.entry → AreMarksIn list self.now → IsMarkIn list result }
+        ensures not_above { IsNotAbove result.last position }
+    {
+        let mut low = 0;
+        let mut high = self.marks.len();
+        while low < high {
+            let middle = low + (high - low) / 2;
+            if self.marks[middle].is_above(position) {
+                high = middle;
+            } else {
+                low = middle + 1;
+            }
+        }
+        if low > 0 && !self.marks[low - 1].is_above(position) {
+            return self.marks[low - 1].fork();
+        }
+        Mark::before(rows)
+    }
+}
