@@ -7,8 +7,7 @@ use Rattle.std.specs.Prelude.{IsSomeAnd}
 use Rattle.std.specs.Borrow.{Bor}
 use Rattle.clap.specs.Lexer.{usize_max}
 use Rattle.clap.specs.Simple.{app_of_fields, new_shape}
-use Rattle.clap.specs.Walk.{is_empty, is_free_arg}
-use Rattle.clap.specs.Words.{AddsArg, AddsConflicts, AddsRequiredUnless, AddsSubcommand}
+use Rattle.clap.specs.Words.{AddsArg, AddsSubcommand}
 use Rattle.clap.specs.Words.{App, Rule, app_of, new_app, rule_of, with_rule, with_subcommand}
 use Rattle.clap.specs.declared.builder.action.ArgAction.TheVariants.{Append}
 use Rattle.clap.specs.declared.builder.arg.Arg.{Arg}
@@ -17,29 +16,7 @@ use Rattle.clap.specs.declared.builder.command.Command.TheOpen.{Command-F}
 use Rattle.clap.specs.declared.builder.command.Command.TheViews.{out-Command as fields_of}
 use Rattle.clap.specs.declared.builder.range.ValueRange.{ValueRange}
 use Rattle.lnt_words.specs.Described.{IsArgument, IsCommand}
-use Rattle.lnt_words.specs.Words.{bound, several}
-
-not_empty : {X : Type 0} (xs : List X) (x : X) → is_empty (xs ++ x ∷ []) ≡ false
-not_empty [] x = refl
-not_empty (y ∷ ys) x = search rules
-
-false_after : (a b : Bool) → (a && (false && b)) ≡ false
-false_after true b = refl
-false_after false b = refl
-
--- An argument that excludes another is bound.
-pub excluding_binds : (rule : Rule) (old new : Arg) (other : Bor (List ℕ)) → IsArgument rule old → AddsConflicts old new (other ∷ [])
-    → IsArgument (bound rule) new
-excluding_binds rule old new other is adds =
-    let rest : Bool = is_empty old.needs.items && (is_empty old.r_ifs.items && (is_empty old.r_ifs_all.items
-    && (is_empty old.r_unless.items && is_empty old.r_unless_all.items))) in
-    let is_bound : is_free_arg (record old { conflicts = new.conflicts }) ≡ false =
-    ap (λ (xs : List (Bor (List ℕ))). not old.exclusive && (is_empty xs && rest)) adds.1
-    ∙ ap (λ (b : Bool). not old.exclusive && (b && rest)) (not_empty old.conflicts.items other) ∙ false_after (not old.exclusive) rest in
-    record {
-      rule_is = ap rule_of adds.0 ∙ ap (λ (free : Bool). record (rule_of old) { is_free = free }) is_bound ∙ ap bound is.rule_is;
-      local = ap (λ (a : Arg). a.global) adds.0 ∙ is.local;
-    }
+use Rattle.lnt_words.specs.Words.{several}
 
 several_range : (range : Option ValueRange) (wanted : ValueRange) → IsSomeAnd range (λ r. r ≡ wanted) → range ≡ Some wanted
 several_range None wanted is = absurd is
@@ -71,15 +48,6 @@ pub subcommand_added : (app sub : App) (old new below : Command) → IsCommand a
 subcommand_added app sub old new below is of adds = record {
   app_is = adds.shape of.local ∙ ap₂ with_subcommand is.app_is (ap (λ (a : App). a.top) of.app_is);
   local = adds.globals ∙ ap₂ (λ (a b : Bool). a || b) is.local of.local;
-}
-
--- An argument that is required unless another is given: its rule is as before, except that it may be bound.
-pub unless_kept : (rule : Rule) (old new : Arg) (others : List (Bor (List ℕ))) → IsArgument rule old → AddsRequiredUnless old new others
-    → IsArgument (record rule { is_free = is_free_arg new }) new
-unless_kept rule old new others is adds = record {
-  rule_is = ap (λ (a : Arg). record (rule_of a) { is_free = is_free_arg new }) adds.0
-      ∙ ap (λ (r : Rule). record r { is_free = is_free_arg new }) is.rule_is;
-  local = ap (λ (a : Arg). a.global) adds.0 ∙ is.local;
 }
 
 -- ---- loops

@@ -1,18 +1,30 @@
 -- clap's matches of the words, in terms of their rows.
-use Rattle.std.proofs.Common.{◌≡◌, List, Option, Some, None, option_map, refl, true}
+use Rattle.std.proofs.Common.{◌≡◌, ◌∙◌, ◌⊎◌, inl, inr, ◌<◌, ◌≤◌, ◌+◌, ◌++◌, ◌∷◌, [], ℕ, List, Option, Some, None, ap, get_or, length, map, option_map}
+use Rattle.std.proofs.Common.{refl, subst, sym, take, true}
+use Rattle.std.specs.Borrow.{Bor}
+use Rattle.std.proofs.lemmas.List.{map-append, take_all, take_more}
 use Rattle.clap.proofs.OnLiterals.{clap_on_literals}
-use Rattle.clap.specs.Words.{Row, Text, is_simple, subcommand_name_of, subcommand_rows_of}
+use Rattle.clap.specs.Words.{HasKind, IsAmong, Kinds, Row, Text, is_simple, is_simple_and_free, kind_of, subcommand_name_of, subcommand_rows_of}
+use Rattle.clap.specs.declared.error.Error.{Error}
+use Rattle.clap.specs.declared.error.kind.ErrorKind.TheVariants as kind
+use Rattle.clap.specs.declared.error.kind.ErrorKind.{ErrorKind}
 use Rattle.clap.specs.declared.parser.matches.ArgMatches.{ArgMatches}
 use Rattle.clap.specs.declared.parser.matches.ArgMatches.TheViews.{out-ArgMatches}
-use Rattle.lnt_words.specs.Asking.{IsAskedOf}
+use Rattle.lnt_digits.specs.Digits.{IsAddress}
+use Rattle.lnt_spans.specs.declared.position.Position.{Position}
+use Rattle.lnt_words.specs.Asking.{AreAddresses, IsAskedOf, position_at}
 use Rattle.lnt_words.specs.Described.{IsAskedOfMatches, rows_in}
 use Rattle.lnt_words.specs.Words.{linetab}
 use Rattle.lnt_words.specs.declared.request.Asked.{Asked}
 
--- for this command clap's matches, where there are some, are known for all words
+-- for this command clap's matches and the kinds of its errors are known for all words
 pub linetab_is_simple : is_simple linetab ≡ true
 unfolding linetab clap_on_literals
 linetab_is_simple = refl
+
+pub linetab_is_free : is_simple_and_free linetab ≡ true
+unfolding linetab clap_on_literals
+linetab_is_free = refl
 
 paired : {X A B : Type 0} (f : X → A) (g : X → B) (found : Option X) (a : A) (b : B) → Some a ≡ option_map f found
     → Some b ≡ option_map (λ (p : A × B). p.1) (option_map {U = A × B} (λ x. (f x, g x)) found)
@@ -34,3 +46,58 @@ by_rows matches asked so = record {
   request = so.request;
   quiet = so.quiet;
 }
+
+-- ---- addresses
+
+addresses_more : (words : List Text) (addresses : List ℕ) (word : Text) (address : ℕ) → AreAddresses words addresses
+    → IsAddress word address → AreAddresses (words ++ word ∷ []) (addresses ++ address ∷ [])
+addresses_more [] [] word address so is = (is, tt)
+addresses_more [] (a ∷ addresses) word address so is = absurd so
+addresses_more (w ∷ words) [] word address so is = absurd so
+addresses_more (w ∷ words) (a ∷ addresses) word address so is = (so.0, addresses_more words addresses word address so.1 is)
+
+abbrev pub texts_of : List (Bor Text) → List Text
+texts_of = map (λ word. word.now)
+
+-- with the address of one word more
+pub one_address_more : (given : List (Bor Text)) (i : ℕ) (d : Bor Text) (addresses more : List ℕ) (address : ℕ) → i < length given
+    → AreAddresses (texts_of (take i given)) addresses → IsAddress (get_or given i d).now address → more ≡ addresses ++ address ∷ []
+    → AreAddresses (texts_of (take (i + 1) given)) more
+one_address_more given i d addresses more address lt so is more_is =
+    subst (AreAddresses (texts_of (take (i + 1) given))) (sym more_is)
+    (subst (λ (words : List Text). AreAddresses words (addresses ++ address ∷ []))
+    (sym (ap texts_of (take_more given i d lt) ∙ map-append (λ (word : Bor Text). word.now) (take i given) (get_or given i d ∷ [])))
+    (addresses_more (texts_of (take i given)) addresses (get_or given i d).now address so is))
+
+-- with those of all words
+pub all_addresses : (given : List (Bor Text)) (i : ℕ) (addresses : List ℕ) → length given ≤ i
+    → AreAddresses (texts_of (take i given)) addresses → AreAddresses (texts_of given) addresses
+all_addresses given i addresses past so =
+    subst (λ (words : List (Bor Text)). AreAddresses (texts_of words) addresses) (take_all i given past) so
+
+-- ---- positions
+
+-- with the position of one address more
+pub one_position_more : (op : ℕ) (addresses : List ℕ) (i : ℕ) (positions more : List Position) → i < length addresses
+    → positions ≡ map (position_at op) (take i addresses)
+    → more ≡ positions ++ record { address = get_or addresses i 0; op = op } ∷ []
+    → more ≡ map (position_at op) (take (i + 1) addresses)
+one_position_more op addresses i positions more lt so more_is =
+    more_is ∙ ap (λ (all : List Position). all ++ record { address = get_or addresses i 0; op = op } ∷ []) so
+    ∙ sym (ap (map (position_at op)) (take_more addresses i 0 lt) ∙ map-append (position_at op) (take i addresses) (get_or addresses i 0 ∷ []))
+
+-- with those of all addresses
+pub all_positions : (op : ℕ) (addresses : List ℕ) (i : ℕ) (positions : List Position) → length addresses ≤ i
+    → positions ≡ map (position_at op) (take i addresses) → positions ≡ map (position_at op) addresses
+all_positions op addresses i positions past so = so ∙ ap (map (position_at op)) (take_all i addresses past)
+
+-- ---- help
+
+-- an error whose kind is help or the version has a kind that clap's rules allow
+pub help_among : (kinds : Kinds) (error : Error) → HasKind kinds error
+    → (kind_of error ≡ kind.DisplayHelp) ⊎ (kind_of error ≡ kind.DisplayVersion)
+    → IsAmong kind.DisplayHelp kinds ⊎ IsAmong kind.DisplayVersion kinds
+help_among kinds error (inl memory) (inl help) = cc
+help_among kinds error (inl memory) (inr version) = cc
+help_among kinds error (inr among) (inl help) = inl (subst (λ (k : ErrorKind). IsAmong k kinds) help among)
+help_among kinds error (inr among) (inr version) = inr (subst (λ (k : ErrorKind). IsAmong k kinds) version among)

@@ -1,11 +1,12 @@
 -- The requests that words make. clap's result is a function of the words and of the command (`linetab`): the subcommand's name,
 -- and a row for each of its arguments, with the values that it was given or has by default.
-use Rattle.std.specs.Prelude.{◌≡◌, ◌≢◌, ◌⊎◌, Bool, true, false, ℕ, List, Option, Some, None, codes}
+use Rattle.std.specs.Prelude.{◌≡◌, ◌⊎◌, Bool, true, false, ℕ, map, List, [], ◌∷◌, Option, Some, None, codes, IsSomeAnd, MatchOption}
 use Rattle.std.specs.Option.{option_copied}
-use Rattle.clap.specs.Words.{Row, Text, first_of, one_of, subcommand_of, takes}
-use Rattle.lnt_digits.specs.Digits.{IsAddress}
-use Rattle.lnt_spans.specs.declared.answer.Version.{Version}
+use Rattle.clap.specs.Words.{IsAmong, Row, Text, all_of, fault_of, first_of, one_of, subcommand_of}
+use Rattle.clap.specs.declared.error.kind.ErrorKind.TheVariants.{DisplayHelp, DisplayVersion}
+use Rattle.lnt_digits.specs.Digits.{IsAddress, IsDecimal}
 use Rattle.lnt_spans.specs.declared.answer.Version.TheVariants.{One, Two}
+use Rattle.lnt_spans.specs.declared.position.Position.{Position}
 use Rattle.lnt_wire.specs.declared.format.Format.{Format}
 use Rattle.lnt_wire.specs.declared.format.Format.TheVariants.{D32, D64}
 use Rattle.lnt_wire.specs.declared.format.Order.{Order}
@@ -64,23 +65,50 @@ IsReading name rows Units = name ≡ codes "units"
 IsReading name rows (Dump ops shown) = (name ≡ codes "dump") × IsFlagGiven rows (codes "ops") ops × IsFlagGiven rows (codes "rows") shown
 IsReading name rows (Convert format to) = (name ≡ codes "convert") × IsWrittenFormat rows format × IsWrittenOrder rows to
 
-abbrev pub IsVersion : List Row → Version → Type 0
-IsVersion rows One = IsFlagGiven rows (codes "wide") false
-IsVersion rows Two = IsFlagGiven rows (codes "wide") true
+-- which of the flags that choose a table are given
+pub record AreTableFlags (rows : List Row) (wide paths lines : Bool) : Type 0 where
+  pub is_wide : IsFlagGiven rows (codes "wide") wide
+  pub has_paths : IsFlagGiven rows (codes "paths") paths
+  pub has_lines : IsFlagGiven rows (codes "lines") lines
 
--- The question about a good section that the subcommand of this name asks. Which positions are looked up isn't said.
+-- These words spell these addresses, in their order.
+abbrev pub AreAddresses : List Text → List ℕ → Type 0
+AreAddresses [] [] = Unit {0}
+AreAddresses (word ∷ words) (address ∷ addresses) = IsAddress word address × AreAddresses words addresses
+AreAddresses _ _ = ⊥
+
+-- these addresses are given as words
+abbrev pub AreAddressesIn : List Row → List ℕ → Type 0
+AreAddressesIn rows addresses = IsSomeAnd (all_of (codes "ADDRESS") rows) (λ words. AreAddresses words addresses)
+
+-- the operation index that --op gives, or 0
+abbrev pub IsOp : List Row → ℕ → Type 0
+IsOp rows op = MatchOption (first_of (codes "op") rows) (op ≡ 0) (λ word. IsDecimal word op)
+
+abbrev pub position_at : ℕ → ℕ → Position
+position_at op address = record { address = address; op = op }
+
+-- the positions at the addresses that are given, in their order, each with the operation index that is given
+pub record ArePositionsIn (rows : List Row) (positions : List Position) : Type 0 where
+  pub addresses : List ℕ
+  pub op : ℕ
+  pub are_addresses : AreAddressesIn rows addresses
+  pub is_op : IsOp rows op
+  pub same : positions ≡ map (position_at op) addresses
+
+-- The question about a good section that the subcommand of this name asks.
 abbrev pub IsQuestion : Text → List Row → Question → Type 0
 IsQuestion name rows Verify = name ≡ codes "verify"
-IsQuestion name rows (Lookup positions) = name ≡ codes "lookup"
+IsQuestion name rows (Lookup positions) = (name ≡ codes "lookup") × (first_of (codes "addresses") rows ≡ None)
+    × ArePositionsIn rows positions.items
 IsQuestion name rows Files = name ≡ codes "files"
-IsQuestion name rows (Table version) =
-    (name ≡ codes "table") × IsFlagGiven rows (codes "paths") false × IsFlagGiven rows (codes "lines") false × IsVersion rows version
-IsQuestion name rows (TableByPath true) = (name ≡ codes "table") × IsFlagGiven rows (codes "paths") true
-IsQuestion name rows (TableByPath false) = (name ≡ codes "table") × IsFlagGiven rows (codes "paths") false
-    × IsFlagGiven rows (codes "lines") true
+IsQuestion name rows (Table One) = (name ≡ codes "table") × AreTableFlags rows false false false
+IsQuestion name rows (Table Two) = (name ≡ codes "table") × AreTableFlags rows true false false
+IsQuestion name rows (TableByPath true) = (name ≡ codes "table") × AreTableFlags rows false true false
+IsQuestion name rows (TableByPath false) = (name ≡ codes "table") × AreTableFlags rows false false true
 IsQuestion name rows Md5 = name ≡ codes "md5"
 
--- The subcommand of this name asks for this request. The operation index for lines without one isn't said.
+-- The subcommand of this name asks for this request.
 abbrev pub IsAskedIn : Text → List Row → Request → Type 0
 IsAskedIn name rows (Help text) = ⊥
 IsAskedIn name rows (Read section order reading) =
@@ -88,6 +116,7 @@ IsAskedIn name rows (Read section order reading) =
 IsAskedIn name rows (Judge from question) = IsJudging rows from × IsQuestion name rows question
 IsAskedIn name rows (Addresses from file op) =
     (name ≡ codes "lookup") × IsJudging rows from × IsWord rows (codes "addresses") file.now
+    × (all_of (codes "ADDRESS") rows ≡ None) × IsOp rows op
 IsAskedIn name rows (Check from table all) =
     (name ≡ codes "check") × IsJudging rows from × IsWord rows (codes "TABLE") table.now × IsFlagGiven rows (codes "all") all
 
@@ -103,10 +132,12 @@ abbrev pub IsHelp : Request → Type 0
 IsHelp (Help text) = Unit {0}
 IsHelp _ = ⊥
 
--- The request is for help or the version, which words that the command takes never make. Nothing is said of the text.
-abbrev pub IsHelpFor : List Text → Request → Type 0
-IsHelpFor words request = IsHelp request × (takes linetab words ≢ true)
+-- These words ask for help or for the version, by clap's rules. Nothing is said of its text.
+abbrev pub AskForHelp : List Text → Type 0
+AskForHelp words = IsAmong DisplayHelp (fault_of linetab words) ⊎ IsAmong DisplayVersion (fault_of linetab words)
 
--- These words ask for this request. The first word is the program's own name.
+-- These words ask for this request. The first word is the program's own name. Where clap refuses none of them, the request is
+-- that of the subcommand that they name.
 abbrev pub IsAskedBy : List Text → Asked → Type 0
-IsAskedBy words asked = IsHelpFor words asked.request ⊎ IsAskedOf (subcommand_of linetab words) asked
+IsAskedBy words asked = (AskForHelp words × IsHelp asked.request)
+    ⊎ ((fault_of linetab words ≡ []) × IsAskedOf (subcommand_of linetab words) asked)

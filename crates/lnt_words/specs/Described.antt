@@ -9,7 +9,7 @@ use Rattle.clap.specs.declared.builder.command.Command.TheViews.{out-Command as 
 use Rattle.clap.specs.declared.parser.matches.ArgMatches.{ArgMatches}
 use Rattle.lnt_words.specs.Asking.{IsAskedIn, IsFlagGiven}
 use Rattle.lnt_words.specs.declared.request.Asked.{Asked}
-use Rattle.lnt_words.specs.Words.{bound, flag, option, required, several, word}
+use Rattle.lnt_words.specs.Words.{flag, option, required, several, word}
 use Rattle.lnt_words.specs.declared.description.ArgumentRule.{ArgumentRule}
 use Rattle.lnt_words.specs.declared.description.Kind.{Kind}
 use Rattle.lnt_words.specs.declared.description.Kind.TheVariants.{Word, WordsUnless, Flag, FlagWithout, FlagWithoutBoth, Valued, Required}
@@ -25,12 +25,13 @@ pub record IsCommand (app : App) (command : Command) : Type 0 where
   pub app_is : app_of command ≡ app
   pub local : (fields_of command).has_globals ≡ false
 
+-- Which arguments exclude one another isn't part of a rule.
 abbrev pub rule_of_kind : Text → Kind → Rule
 rule_of_kind name Word = word name
-rule_of_kind name (WordsUnless other) = bound (several (new_rule name))
+rule_of_kind name (WordsUnless other) = several (new_rule name)
 rule_of_kind name Flag = flag name
-rule_of_kind name (FlagWithout other) = bound (flag name)
-rule_of_kind name (FlagWithoutBoth one other) = bound (flag name)
+rule_of_kind name (FlagWithout other) = flag name
+rule_of_kind name (FlagWithoutBoth one other) = flag name
 rule_of_kind name (Valued value) = option name
 rule_of_kind name (Required value) = required (option name)
 

@@ -1,5 +1,5 @@
 -- The words that the command takes, as README.md lists them: its subcommands, and the arguments of each, in clap's terms. Help
--- texts aren't part of this, nor which arguments exclude one another.
+-- texts aren't part of this, nor which arguments exclude one another: `Asking` says for each request what isn't given.
 use Rattle.std.specs.Prelude.{List, [], ◌∷◌, ◌++◌, Some, true, false, codes}
 use Rattle.clap.specs.Lexer.{usize_max}
 use Rattle.clap.specs.Simple.{new_shape}
@@ -38,10 +38,6 @@ option name = valued (new_rule name) name
 abbrev pub several : Rule → Rule
 several rule = record rule { action = Some Append; range = Some (record { start_inclusive = 1; end_inclusive = usize_max }) }
 
--- Whether the argument is allowed or required depends on other arguments.
-abbrev pub bound : Rule → Rule
-bound rule = record rule { is_free = false }
-
 -- ---- the subcommands
 
 abbrev pub section : Rule
@@ -64,10 +60,9 @@ subcommands =
     ∷ subcommand (codes "dump") (flag (codes "ops") ∷ flag (codes "rows") ∷ reading)
     ∷ subcommand (codes "check") (word (codes "TABLE") ∷ flag (codes "all") ∷ judging)
     ∷ subcommand (codes "verify") judging
-    ∷ subcommand (codes "lookup") (bound (several (new_rule (codes "ADDRESS")))
-    ∷ option (codes "addresses") ∷ option (codes "op") ∷ judging)
+    ∷ subcommand (codes "lookup") (several (new_rule (codes "ADDRESS")) ∷ option (codes "addresses") ∷ option (codes "op") ∷ judging)
     ∷ subcommand (codes "files") judging
-    ∷ subcommand (codes "table") (bound (flag (codes "wide")) ∷ bound (flag (codes "paths")) ∷ flag (codes "lines") ∷ judging)
+    ∷ subcommand (codes "table") (flag (codes "wide") ∷ flag (codes "paths") ∷ flag (codes "lines") ∷ judging)
     ∷ subcommand (codes "convert") (required (option (codes "format")) ∷ required (option (codes "order")) ∷ reading)
     ∷ subcommand (codes "md5") judging
     ∷ []

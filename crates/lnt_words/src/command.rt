@@ -1,17 +1,18 @@
 //! The command, its subcommands and their arguments, built for clap.
-ghost use Rattle.std.specs.Prelude.{◌≡◌, fold, IfOk};
+ghost use Rattle.std.specs.Prelude.{◌≡◌, false, fold, IfOk};
 ghost use Rattle.clap.specs.Words.{App, app_of, new_rule};
 ghost use Rattle.lnt_words.specs.Described.{IsArgument, IsCommand, app_in, rule_in, with_argument_in, with_subcommand_in};
-ghost use Rattle.lnt_words.specs.Words.{bound, linetab, option, several};
+ghost use Rattle.lnt_words.specs.Words.{linetab, option, several};
 ghost use Rattle.lnt_words.specs.Words.{flag as flag_in, required as required_in, word as word_in};
 
 use crate::description::{ArgumentRule, Kind, SUBCOMMANDS, Subcommand, VERSION};
 use clap::{Arg, ArgAction, Command};
 use std::alloc::{AllocError, Global};
 
-/// The command with all its subcommands and arguments, for clap.
-pub(crate) fn command_of<'a>(alloc: Global) -> Result<Command<'a>, AllocError>
-    ensures { IfOk result (λ command. app_of command ≡ linetab) }
+/// The command with all its subcommands and arguments, for clap. Where `excludes` is set, clap also refuses arguments that
+/// exclude one another.
+pub(crate) fn command_of<'a>(alloc: Global, excludes: bool) -> Result<Command<'a>, AllocError>
+    ensures { IfOk result (λ command. excludes ≡ false → app_of command ≡ linetab) }
 {
     let command = Command::new(alloc, "linetab")
         .about("Reads and checks DWARF 5 line number sections")
@@ -19,7 +20,7 @@ pub(crate) fn command_of<'a>(alloc: Global) -> Result<Command<'a>, AllocError>
         .subcommand_required(true);
     // A copy of the array: a reference to the constant is twice as costly to prove.
     let subcommands = SUBCOMMANDS;
-    with_subcommands(alloc, command, &subcommands)
+    with_subcommands(alloc, command, &subcommands, excludes)
 }
 
 // Here and below a call's result goes right into the next call where it can, an error is met by `let else`, and what is let
@@ -30,12 +31,13 @@ fn with_subcommands<'a>(
     alloc: Global,
     mut command: Command<'a>,
     subcommands: &[Subcommand],
+    excludes: bool,
 ) -> Result<Command<'a>, AllocError>
-    ensures { IfOk result (λ made. (app : App) → IsCommand app command.entry
+    ensures { IfOk result (λ made. excludes ≡ false → (app : App) → IsCommand app command.entry
         → IsCommand (fold with_subcommand_in app subcommands.now) made) }
 {
     for subcommand in subcommands {
-        let Ok(subcommand) = subcommand_of(alloc, subcommand) else {
+        let Ok(subcommand) = subcommand_of(alloc, subcommand, excludes) else {
             drop(command);
             return Err(AllocError);
         };
@@ -47,8 +49,12 @@ fn with_subcommands<'a>(
     Ok(command)
 }
 
-fn subcommand_of<'a>(alloc: Global, subcommand: &Subcommand) -> Result<Command<'a>, AllocError>
-    ensures { IfOk result (IsCommand (app_in subcommand.now)) }
+fn subcommand_of<'a>(
+    alloc: Global,
+    subcommand: &Subcommand,
+    excludes: bool,
+) -> Result<Command<'a>, AllocError>
+    ensures { IfOk result (λ command. excludes ≡ false → IsCommand (app_in subcommand.now) command) }
 {
     let Ok(command) = with_arguments(
         alloc,
@@ -57,10 +63,11 @@ fn subcommand_of<'a>(alloc: Global, subcommand: &Subcommand) -> Result<Command<'
             subcommand.after,
         ),
         subcommand.own,
+        excludes,
     ) else {
         return Err(AllocError);
     };
-    with_arguments(alloc, command, subcommand.shared)
+    with_arguments(alloc, command, subcommand.shared, excludes)
 }
 
 // The command with this text after its help.
@@ -78,12 +85,13 @@ fn with_arguments<'a>(
     alloc: Global,
     mut command: Command<'a>,
     arguments: &[ArgumentRule],
+    excludes: bool,
 ) -> Result<Command<'a>, AllocError>
-    ensures { IfOk result (λ made. (app : App) → IsCommand app command.entry
+    ensures { IfOk result (λ made. excludes ≡ false → (app : App) → IsCommand app command.entry
         → IsCommand (fold with_argument_in app arguments.now) made) }
 {
     for argument in arguments {
-        let Ok(argument) = argument_of(alloc, argument) else {
+        let Ok(argument) = argument_of(alloc, argument, excludes) else {
             drop(command);
             return Err(AllocError);
         };
@@ -95,17 +103,51 @@ fn with_arguments<'a>(
     Ok(command)
 }
 
-fn argument_of<'a>(alloc: Global, argument: &ArgumentRule) -> Result<Arg<'a>, AllocError>
-    ensures { IfOk result (IsArgument (rule_in argument.now)) }
+// The argument, and what it excludes where that is asked for.
+fn argument_of<'a>(
+    alloc: Global,
+    argument: &ArgumentRule,
+    excludes: bool,
+) -> Result<Arg<'a>, AllocError>
+    ensures { IfOk result (λ made. excludes ≡ false → IsArgument (rule_in argument.now) made) }
+{
+    let made = free_argument(alloc, argument);
+    if excludes {
+        return excluding(made, argument.kind);
+    }
+    Ok(made)
+}
+
+// The argument alone, whatever it excludes.
+fn free_argument<'a>(alloc: Global, argument: &ArgumentRule) -> Arg<'a>
+    ensures { IsArgument (rule_in argument.now) result }
 {
     match argument.kind {
-        Kind::Word => Ok(word(alloc, argument)),
-        Kind::WordsUnless(other) => words_unless(alloc, argument, other),
-        Kind::Flag => Ok(flag(alloc, argument)),
-        Kind::FlagWithout(other) => flag_without(alloc, argument, other),
-        Kind::FlagWithoutBoth(one, other) => flag_without_both(alloc, argument, one, other),
-        Kind::Valued(value) => Ok(valued(alloc, argument, value)),
-        Kind::Required(value) => Ok(required(alloc, argument, value)),
+        Kind::Word => word(alloc, argument),
+        Kind::WordsUnless(_) => words(alloc, argument),
+        Kind::Flag | Kind::FlagWithout(_) | Kind::FlagWithoutBoth(_, _) => flag(alloc, argument),
+        Kind::Valued(value) => valued(alloc, argument, value),
+        Kind::Required(value) => required(alloc, argument, value),
+    }
+}
+
+// The argument of this kind, refused beside those that it excludes, and required where it has to stand for another.
+fn excluding<'a>(argument: Arg<'a>, kind: Kind) -> Result<Arg<'a>, AllocError> {
+    match kind {
+        Kind::WordsUnless(other) => {
+            let Ok(required) = argument.required_unless_present(other) else {
+                return Err(AllocError);
+            };
+            required.conflicts_with(other)
+        }
+        Kind::FlagWithout(other) => argument.conflicts_with(other),
+        Kind::FlagWithoutBoth(one, other) => {
+            let Ok(without) = argument.conflicts_with(one) else {
+                return Err(AllocError);
+            };
+            without.conflicts_with(other)
+        }
+        Kind::Word | Kind::Flag | Kind::Valued(_) | Kind::Required(_) => Ok(argument),
     }
 }
 
@@ -123,22 +165,13 @@ fn word<'a>(alloc: Global, argument: &ArgumentRule) -> Arg<'a>
     named(alloc, argument).action(ArgAction::Set).required(true)
 }
 
-// The argument as one or more words, required unless the other one is given, and refused beside it.
-fn words_unless<'a>(
-    alloc: Global,
-    argument: &ArgumentRule,
-    other: &'a str,
-) -> Result<Arg<'a>, AllocError>
-    ensures { IfOk result (IsArgument (bound (several (new_rule argument.now.name.now)))) }
+// The argument as one or more words.
+fn words<'a>(alloc: Global, argument: &ArgumentRule) -> Arg<'a>
+    ensures { IsArgument (several (new_rule argument.now.name.now)) result }
 {
-    let Ok(made) = named(alloc, argument)
+    named(alloc, argument)
         .num_args(1..)
         .action(ArgAction::Append)
-        .required_unless_present(other)
-    else {
-        return Err(AllocError);
-    };
-    made.conflicts_with(other)
 }
 
 // The argument as the flag `--name`.
@@ -148,32 +181,6 @@ fn flag<'a>(alloc: Global, argument: &ArgumentRule) -> Arg<'a>
     named(alloc, argument)
         .long(argument.name)
         .action(ArgAction::SetTrue)
-}
-
-// The argument as the flag `--name`, refused where the other argument is given.
-fn flag_without<'a>(
-    alloc: Global,
-    argument: &ArgumentRule,
-    other: &'a str,
-) -> Result<Arg<'a>, AllocError>
-    ensures { IfOk result (IsArgument (bound (flag_in argument.now.name.now))) }
-{
-    flag(alloc, argument).conflicts_with(other)
-}
-
-// The argument as the flag `--name`, refused where either of the two is given.
-fn flag_without_both<'a>(
-    alloc: Global,
-    argument: &ArgumentRule,
-    one: &'a str,
-    other: &'a str,
-) -> Result<Arg<'a>, AllocError>
-    ensures { IfOk result (IsArgument (bound (flag_in argument.now.name.now))) }
-{
-    let Ok(made) = flag_without(alloc, argument, one) else {
-        return Err(AllocError);
-    };
-    made.conflicts_with(other)
 }
 
 // The argument as the option `--name VALUE`. `value` is what help calls the value.

@@ -1,10 +1,10 @@
 //! What the words of the command ask for.
-ghost use Rattle.std.specs.Prelude.{◌≡◌, ◌≢◌, ℕ, List, codes, map, option_map, string_bytes, IfOk};
-ghost use Rattle.clap.specs.Words.{first_of, kind_of};
+ghost use Rattle.std.specs.Prelude.{◌≡◌, ◌⊎◌, ℕ, List, codes, map, option_map, string_bytes, IfOk};
+ghost use Rattle.clap.specs.Words.{Row, all_of, first_of, kind_of};
 ghost use Rattle.lnt_words.specs.Described.{IsAskedOfMatches, rows_in};
-ghost use Rattle.lnt_digits.specs.Digits.{IsAddress};
-ghost use Rattle.lnt_words.specs.Asking.{IsAskedBy, IsAskedIn, IsFlagGiven, IsHelp, IsJudging, IsOrder, IsQuestion};
-ghost use Rattle.lnt_words.specs.Asking.{IsReading, IsWord, IsWrittenFormat, IsWrittenOrder};
+ghost use Rattle.lnt_digits.specs.Digits.{IsAddress, IsDecimal};
+ghost use Rattle.lnt_words.specs.Asking.{AreAddresses, AreAddressesIn, ArePositionsIn, IsAskedBy, IsAskedIn, IsFlagGiven, IsHelp, IsJudging, IsOp};
+ghost use Rattle.lnt_words.specs.Asking.{IsOrder, IsQuestion, IsReading, IsWord, IsWrittenFormat, IsWrittenOrder};
 
 use crate::command::command_of;
 use crate::request::{Asked, Judging, Question, Reading, Request};
@@ -22,33 +22,54 @@ use std::alloc::{AllocError, Global};
 /// It stops by `Usage` where they ask for nothing that the command does, and then tells how it is used; by `BadWord`
 /// where one of them isn't what it has to be; and by `Memory`. What it gives names files by the words themselves.
 ///
-/// Where it gives no text of help, what it gives is what the words ask for (`IsAskedBy`): which subcommand they name, and
-/// what each of its arguments was given, follows from the words and from the command that `linetab` tells. It gives no text
-/// of help to words that this command takes.
+/// What it gives is what the words ask for (`IsAskedBy`): which subcommand they name, and what each of its arguments was
+/// given, follows from the words and from the command that `linetab` tells. It gives a text of help only where the words ask
+/// for help or for the version.
 pub fn request_of<'a>(alloc: Global, words: &'a [String]) -> Result<Asked<'a>, WordsStop>
     ensures { IfOk result (IsAskedBy (map string_bytes words.entry.now)) }
 {
-    match command_of(alloc)?.try_get_matches_from(words) {
-        Ok(matches) => asked_in(alloc, &matches),
-        Err(error) => help_in(alloc, &error),
+    match command_of(alloc, false)?.try_get_matches_from(words) {
+        Ok(matches) => asked_in(alloc, &matches, words),
+        Err(error) => help_in(alloc, &error, words),
     }
 }
 
 // What clap says where it finds no matches: help, the version, or how the command is used.
-fn help_in<'a>(alloc: Global, error: &Error) -> Result<Asked<'a>, WordsStop>
-    ensures { IfOk result (λ asked. IsHelp asked.request × (kind_of error.now ≢ ErrorKind.OutOfMemory)) }
+fn help_in<'a>(alloc: Global, error: &Error, given: &[String]) -> Result<Asked<'a>, WordsStop>
+    ensures { IfOk result (λ asked. IsHelp asked.request
+        × ((kind_of error.now ≡ ErrorKind.DisplayHelp) ⊎ (kind_of error.now ≡ ErrorKind.DisplayVersion))) }
 {
+    match error.kind() {
+        ErrorKind::OutOfMemory => Err(WordsStop::Memory),
+        ErrorKind::DisplayHelp | ErrorKind::DisplayVersion => Ok(Asked {
+            request: Request::Help(error.to_string(alloc)?),
+            quiet: true,
+        }),
+        _ => Err(refusal(alloc, given)),
+    }
+}
+
+// What clap says of words that are refused. Its texts on arguments that exclude one another come from the command that tells
+// clap so.
+fn refusal(alloc: Global, given: &[String]) -> WordsStop {
+    match refusal_text(alloc, given) {
+        Ok(text) => WordsStop::Usage(text),
+        Err(_) => WordsStop::Memory,
+    }
+}
+
+fn refusal_text<'a>(alloc: Global, given: &'a [String]) -> Result<String, AllocError> {
+    match command_of(alloc, true)?.try_get_matches_from(given) {
+        Ok(_matches) => String::from_str(alloc, "error: these arguments exclude one another\n"),
+        Err(error) => error_text(alloc, &error),
+    }
+}
+
+fn error_text(alloc: Global, error: &Error) -> Result<String, AllocError> {
     if error.kind() == ErrorKind::OutOfMemory {
-        return Err(WordsStop::Memory);
+        return Err(AllocError);
     }
-    let text = error.to_string(alloc)?;
-    if error.use_stderr() {
-        return Err(WordsStop::Usage(harmless(alloc, text)?));
-    }
-    Ok(Asked {
-        request: Request::Help(text),
-        quiet: true,
-    })
+    harmless(alloc, error.to_string(alloc)?)
 }
 
 // The text with the digits of each control character in its place, since a terminal would obey it. Lines stay.
@@ -88,14 +109,18 @@ fn is_obeyed(character: char) -> bool {
 }
 
 // What the words of a subcommand ask for.
-fn asked_in<'a>(alloc: Global, matches: &ArgMatches<'a>) -> Result<Asked<'a>, WordsStop>
+fn asked_in<'a>(
+    alloc: Global,
+    matches: &ArgMatches<'a>,
+    given: &[String],
+) -> Result<Asked<'a>, WordsStop>
     ensures { IfOk result (IsAskedOfMatches matches.now) }
 {
     let Some((name, words)) = matches.subcommand() else {
         return Err(usage(alloc, "no word for", "SUBCOMMAND"));
     };
     Ok(Asked {
-        request: request_in(alloc, name, words)?,
+        request: request_in(alloc, name, words, given)?,
         quiet: flag_in(words, "quiet"),
     })
 }
@@ -104,6 +129,7 @@ fn request_in<'a>(
     alloc: Global,
     name: &str,
     words: &ArgMatches<'a>,
+    given: &[String],
 ) -> Result<Request<'a>, WordsStop>
     ensures { IfOk result (λ request. IsAskedIn name.now (rows_in words.now) request) }
 {
@@ -112,8 +138,8 @@ fn request_in<'a>(
         "dump" => read_in(alloc, words, dump_in(words)),
         "convert" => convert_in(alloc, words),
         "check" => check_in(alloc, words),
-        "lookup" => lookup_in(alloc, words),
-        _ => question_in(alloc, name, words),
+        "lookup" => lookup_in(alloc, words, given),
+        _ => question_in(alloc, name, words, given),
     }
 }
 
@@ -122,13 +148,14 @@ fn question_in<'a>(
     alloc: Global,
     name: &str,
     words: &ArgMatches<'a>,
+    given: &[String],
 ) -> Result<Request<'a>, WordsStop>
     ensures { IfOk result (λ request. IsAskedIn name.now (rows_in words.now) request) }
 {
     match name {
         "verify" => judge_in(alloc, words, Question::Verify),
         "files" => judge_in(alloc, words, Question::Files),
-        "table" => judge_in(alloc, words, table_in(words)),
+        "table" => judge_in(alloc, words, table_in(alloc, words, given)?),
         "md5" => judge_in(alloc, words, Question::Md5),
         _ => Err(usage(alloc, "unknown subcommand", name)),
     }
@@ -182,54 +209,88 @@ fn judge_in<'a>(
     })
 }
 
-// What the words of `lookup` ask for. The addresses are parsed first, in their order, and then the operation index: so the
-// first bad word is told.
-fn lookup_in<'a>(alloc: Global, words: &ArgMatches<'a>) -> Result<Request<'a>, WordsStop>
+// What the words of `lookup` ask for: either words are addresses, or a file has them. The addresses are parsed first, in their
+// order, and then the operation index: so the first bad word is told.
+fn lookup_in<'a>(
+    alloc: Global,
+    words: &ArgMatches<'a>,
+    given: &[String],
+) -> Result<Request<'a>, WordsStop>
     ensures { IfOk result (λ request. IsAskedIn (codes "lookup") (rows_in words.now) request) }
 {
-    let mut positions = positions_in(alloc, words)?;
-    let op = match str_in(words, "op") {
-        Some(word) => number_of(alloc, words, word)?,
-        None => 0,
-    };
-    if let Some(file) = str_in(words, "addresses") {
-        let from = judging_in(alloc, words)?;
-        return Ok(Request::Addresses { from, file, op });
+    match (strs_in(words, "ADDRESS"), str_in(words, "addresses")) {
+        (Some(addresses), None) => {
+            let addresses = addresses_of(alloc, words, addresses)?;
+            let op = op_in(alloc, words)?;
+            let positions = positions_at(alloc, &addresses, op)?;
+            judge_in(alloc, words, Question::Lookup(positions))
+        }
+        (None, Some(file)) => {
+            let op = op_in(alloc, words)?;
+            let from = judging_in(alloc, words)?;
+            Ok(Request::Addresses { from, file, op })
+        }
+        (Some(_), Some(_)) | (None, None) => Err(refusal(alloc, given)),
     }
-    for position in &mut positions {
-        position.op = op;
-    }
-    judge_in(alloc, words, Question::Lookup(positions))
 }
 
-// A position at each of the addresses, in their order, with operation index 0.
-fn positions_in(alloc: Global, words: &ArgMatches<'_>) -> Result<Vec<Position>, WordsStop> {
-    let mut positions = Vec::new(alloc);
-    if let Some(addresses) = words.get_strs("ADDRESS") {
-        for word in addresses {
-            let address = address_of(alloc, words, word, Argument::Address)?;
-            if positions.push(Position { address, op: 0 }).is_err() {
-                return Err(WordsStop::Memory);
-            }
+// The addresses that these words spell, in their order.
+fn addresses_of(
+    alloc: Global,
+    words: &ArgMatches<'_>,
+    given: &[&str],
+) -> Result<Vec<u64>, WordsStop>
+    ensures { IfOk result (λ addresses. AreAddresses (map (λ word. word.now) given.now) addresses.items) }
+{
+    let mut addresses = Vec::new(alloc);
+    for word in given {
+        let address = address_of(alloc, words, word, Argument::Address)?;
+        if addresses.push(address).is_err() {
+            return Err(WordsStop::Memory);
         }
+    }
+    Ok(addresses)
+}
+
+// A position at each of the addresses, in their order, with this operation index.
+fn positions_at(alloc: Global, addresses: &[u64], op: u64) -> Result<Vec<Position>, AllocError>
+    ensures { IfOk result (λ positions. (rows : List Row) → AreAddressesIn rows addresses.now → IsOp rows op
+        → ArePositionsIn rows positions.items) }
+{
+    let mut positions = Vec::new(alloc);
+    for address in addresses {
+        positions.push(Position {
+            address: *address,
+            op,
+        })?;
     }
     Ok(positions)
 }
 
-// Which table is asked for: at most one of the three flags is given.
-fn table_in(words: &ArgMatches<'_>) -> Question
-    ensures { IsQuestion (codes "table") (rows_in words.now) result }
+// The operation index that the words give, or 0.
+fn op_in(alloc: Global, words: &ArgMatches<'_>) -> Result<u64, WordsStop>
+    ensures { IfOk result (λ op. IsOp (rows_in words.now) op) }
 {
-    if flag_in(words, "paths") {
-        return Question::TableByPath { columns: true };
+    match str_in(words, "op") {
+        Some(word) => number_of(alloc, words, word),
+        None => Ok(0),
     }
-    if flag_in(words, "lines") {
-        return Question::TableByPath { columns: false };
+}
+
+// Which table is asked for: at most one of the three flags may be given.
+fn table_in(alloc: Global, words: &ArgMatches<'_>, given: &[String]) -> Result<Question, WordsStop>
+    ensures { IfOk result (IsQuestion (codes "table") (rows_in words.now)) }
+{
+    let wide = flag_in(words, "wide");
+    let paths = flag_in(words, "paths");
+    let lines = flag_in(words, "lines");
+    match (wide, paths, lines) {
+        (false, false, false) => Ok(Question::Table(Version::One)),
+        (true, false, false) => Ok(Question::Table(Version::Two)),
+        (false, true, false) => Ok(Question::TableByPath { columns: true }),
+        (false, false, true) => Ok(Question::TableByPath { columns: false }),
+        _ => Err(refusal(alloc, given)),
     }
-    if flag_in(words, "wide") {
-        return Question::Table(Version::Two);
-    }
-    Question::Table(Version::One)
 }
 
 fn convert_in<'a>(alloc: Global, words: &ArgMatches<'a>) -> Result<Request<'a>, WordsStop>
@@ -295,6 +356,13 @@ fn str_in<'a>(words: &ArgMatches<'a>, name: &str) -> Option<&'a str>
     words.get_str(name)
 }
 
+// The words that were given for an argument which takes several, if any were.
+fn strs_in<'w, 'a>(words: &'w ArgMatches<'a>, name: &str) -> Option<&'w [&'a str]>
+    ensures { option_map (λ given. map (λ word. word.now) given.now) result ≡ all_of name.now (rows_in words.now) }
+{
+    words.get_strs(name)
+}
+
 fn flag_in(words: &ArgMatches<'_>, name: &str) -> bool
     ensures { IsFlagGiven (rows_in words.now) name.now result }
 {
@@ -325,7 +393,9 @@ fn address_of(
     }
 }
 
-fn number_of(alloc: Global, words: &ArgMatches<'_>, word: &str) -> Result<u64, WordsStop> {
+fn number_of(alloc: Global, words: &ArgMatches<'_>, word: &str) -> Result<u64, WordsStop>
+    ensures { IfOk result (λ number. IsDecimal word.now number) }
+{
     match decimal(word.as_bytes()) {
         Some(number) => Ok(number),
         None => Err(bad_word(alloc, words, word, Argument::Op)),

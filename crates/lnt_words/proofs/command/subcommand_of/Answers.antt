@@ -8,5 +8,5 @@ pub returns : goal.returns
 returns c =
     let made : IsCommand (new_app c.args.subcommand.now.name.now) c.about.result =
     record { app_is = search rules; local = search rules } in
-    IfOk-weaker c.with_arguments-2.result _ _ (λ whole is.
-    is _ (c.in-Ok.ensures _ (c.with_after.ensures _ made))) c.with_arguments-2.ensures
+    IfOk-weaker c.with_arguments-2.result _ _ (λ whole is free.
+    is free _ (c.in-Ok.ensures free _ (c.with_after.ensures _ made))) c.with_arguments-2.ensures

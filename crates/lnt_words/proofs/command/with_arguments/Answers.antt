@@ -3,9 +3,9 @@ use Rattle.lnt_words.proofs.CommandLemmas.{all_done, argument_added, one_more}
 use Rattle.lnt_words.proofs.command.with_arguments.Goals as goal
 
 pub loop-argument-preserved : goal.loop-argument-preserved
-loop-argument-preserved c = λ app is.
+loop-argument-preserved c = λ free app is.
     one_more with_argument_in app c.args.arguments.now c.loop-argument.argument-index _ _ c.loop-argument-test.true
-    (argument_added _ _ _ _ _ (c.loop-argument.invariant app is) c.in-Ok.ensures c.in-Ok-arg.ensures)
+    (argument_added _ _ _ _ _ (c.loop-argument.invariant free app is) (c.in-Ok.ensures free) c.in-Ok-arg.ensures)
 
 pub returns : goal.returns
-returns c = λ app is. all_done with_argument_in app c.args.arguments.now _ _ c.loop-argument-test.false (c.loop-argument.invariant app is)
+returns c = λ free app is. all_done with_argument_in app c.args.arguments.now _ _ c.loop-argument-test.false (c.loop-argument.invariant free app is)

@@ -1,4 +1,4 @@
-use Rattle.std.proofs.Common.{take}
+use Rattle.std.proofs.Common.{◌≡◌, false, take}
 use Rattle.std.specs.Prelude.{fold}
 use Rattle.clap.specs.Words.{App}
 use Rattle.lnt_words.specs.Described.{IsCommand, with_argument_in}
@@ -6,4 +6,4 @@ use Rattle.lnt_words.proofs.command.with_arguments.Given as goal
 
 abbrev pub invariant-loop-argument : goal.invariant-loop-argument
 invariant-loop-argument l =
-    (app : App) → IsCommand app l.fn.command → IsCommand (fold with_argument_in app (take l.argument-index l.arguments)) l.command
+    l.fn.excludes ≡ false → (app : App) → IsCommand app l.fn.command → IsCommand (fold with_argument_in app (take l.argument-index l.arguments)) l.command
