@@ -3,7 +3,8 @@ ghost use Rattle.std.specs.Prelude.{◌≡◌, ◌⊎◌, ℕ, List, codes, map,
 ghost use Rattle.clap.specs.Words.{Row, all_of, first_of, kind_of};
 ghost use Rattle.lnt_words.specs.Described.{IsAskedOfMatches, rows_in};
 ghost use Rattle.lnt_digits.specs.Digits.{IsAddress, IsDecimal};
-ghost use Rattle.lnt_words.specs.Asking.{AreAddresses, AreAddressesIn, ArePositionsIn, IsAskedBy, IsAskedIn, IsFlagGiven, IsHelp, IsJudging, IsOp};
+ghost use Rattle.lnt_words.specs.Asking.{AreAddresses, AreAddressesIn, ArePositionsIn, IsAskedBy, IsAskedIn, IsFlagGiven, IsHelp};
+ghost use Rattle.lnt_words.specs.Asking.{IsJudging, IsOp};
 ghost use Rattle.lnt_words.specs.Asking.{IsOrder, IsQuestion, IsReading, IsWord, IsWrittenFormat, IsWrittenOrder};
 
 use crate::command::command_of;
