@@ -17,7 +17,7 @@ use Rattle.lnt_words.specs.declared.request.Reading.{Reading}
 use Rattle.lnt_words.specs.declared.request.Request.{Request}
 use Rattle.lnt_words.specs.declared.request.Request.TheVariants.{Help, Read, Judge, Addresses, Check}
 use Rattle.lnt_table.specs.declared.by_path.Checked.{Checked}
-use Rattle.lnt_table.specs.AnyVersion.{IsTrueCheck}
+use Rattle.lnt_table.specs.AnyVersion.{IsTrueCheck, IsTrueCheckOfSection}
 use Rattle.lnt_verdicts.specs.Verdicts.{checked_line, checked_status}
 use Rattle.lnt_cli.specs.Places.{ArePlacesTold}
 use Rattle.lnt_cli.specs.Questions.{AnswersAddressesJudged, AnswersJudged}
@@ -38,7 +38,7 @@ pub record AreTextsOf (tells : List ℕ → Option (List ℕ) → Type 0) (from 
   pub general_is : AreStringsOf tells (option_copied from.strings) general
 
 -- The check's answer is true of the section and of the table, of any version, in the named files, and the writer has gained its
--- line and nothing else.
+-- line and nothing else. What it says of the section is true also where the table's bytes aren't told.
 pub record IsChecked (tells : List ℕ → Option (List ℕ) → Type 0) (from : Judging) (table : List ℕ)
     (old new : Option (List ℕ)) (checked : Checked) : Type 0 where
   pub line : List ℕ
@@ -50,6 +50,7 @@ pub record IsChecked (tells : List ℕ → Option (List ℕ) → Type 0) (from :
   pub of_table : tells table table_bytes
   pub is_true : IfSome section_bytes (λ section. IfSome table_bytes (λ text.
       IsTrueCheck line general (options_in from) section text checked))
+  pub is_true_of_section : IfSome section_bytes (λ section. IsTrueCheckOfSection line general (options_in from) section checked)
   pub printed : Appends old new (checked_line checked)
 
 -- The writer has gained the line of such an answer, and the run ends with that answer's status.

@@ -11,7 +11,7 @@ ghost use Rattle.lnt_lines.specs.Drafts.{IsJudgedIndex};
 ghost use Rattle.lnt_lines.specs.declared.options.Options.{Options as OptionsSpec};
 ghost use Rattle.lnt_lines.specs.declared.section.JudgedIndex.{JudgedIndex};
 ghost use Rattle.lnt_lines.specs.declared.section.JudgedIndex.TheVariants.{Good};
-ghost use Rattle.lnt_table.specs.AnyVersion.{IsTrueCheck};
+ghost use Rattle.lnt_table.specs.AnyVersion.{IsTrueCheck, IsTrueCheckOfSection};
 ghost use Rattle.lnt_verdicts.specs.Verdicts.{checked_line, checked_status, compared_status, verdict_status};
 
 use crate::inputs::{OpenedBoth, of_file, open_both};
@@ -102,6 +102,8 @@ fn judge_table_of<S: Source, F: Source>(
     ensures usage { IfErr result (λ stop. IsUsage stop → ⊥) }
     ensures checked { IfOk result (λ checked. IfSome (S.remaining files.old.section) (λ bytes. IfSome (F.remaining files.old.file) (λ text.
         IsTrueCheck files.old.texts.line.items files.old.texts.general.items (options_in from.now) bytes text checked))) }
+    ensures of_section { IfOk result (λ checked. IfSome (S.remaining files.old.section) (λ bytes.
+        IsTrueCheckOfSection files.old.texts.line.items files.old.texts.general.items (options_in from.now) bytes checked)) }
 {
     let strings = files.texts.strings();
     match check_any(
