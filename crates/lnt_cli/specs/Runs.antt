@@ -7,6 +7,7 @@ use Rattle.lnt_words.specs.Asking.{IsAskedBy}
 use Rattle.lnt_words.specs.declared.request.Asked.{Asked}
 use Rattle.lnt_cli.specs.Answered.{IsAnswered}
 use Rattle.lnt_cli.specs.Stopped.{IsStopped}
+use Rattle.lnt_cli.specs.Stops.{IsFileIn}
 
 -- The words ask for a request, and the text that the writer has gained and the status are its answer.
 pub record AnswersWords (tells : List ℕ → Option (List ℕ) → Type 0) (words : List (List ℕ)) (old new : Option (List ℕ)) (status : Status)
@@ -20,3 +21,7 @@ pub record StopsWords (tells : List ℕ → Option (List ℕ) → Type 0) (words
   pub asked : Asked
   pub is_asked : IsAskedBy words asked
   pub stopped : IsStopped tells asked.request old new
+
+-- The words ask for a request, and it names this file.
+abbrev pub NameFile : List (List ℕ) → List ℕ → Type 0
+NameFile words name = (asked : Asked) × IsAskedBy words asked × IsFileIn asked.request name

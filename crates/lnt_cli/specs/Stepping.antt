@@ -20,6 +20,12 @@ IsFileStop halt.TooLong name stop = stop ≡ Memory
 IsFileStop halt.Write name stop = stop ≡ Write
 IsFileStop halt.Memory name stop = stop ≡ Memory
 
+-- The file that a stop names is such a one: one that failed, or one that was found too long.
+abbrev pub IsOfCause : (List ℕ → Type 0) → (List ℕ → Type 0) → CliStop → Type 0
+IsOfCause HasFailed IsLong (Read told) = HasFailed (string_bytes told)
+IsOfCause HasFailed IsLong (TooLong told) = IsLong (string_bytes told)
+IsOfCause HasFailed IsLong _ = Unit {0}
+
 -- how a run ends where this was printed of a section and a table
 abbrev pub places_status : Places → Status
 places_status (Section reason) = ending.No

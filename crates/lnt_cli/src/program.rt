@@ -1,10 +1,10 @@
 //! One run of the command.
-ghost use Rattle.std.specs.Prelude.{◌⊎◌, map, string_bytes, IfErr, IfOk, OnErr};
+ghost use Rattle.std.specs.Prelude.{◌⊎◌, ℕ, List, map, string_bytes, IfErr, IfOk, OnErr};
 ghost use Rattle.std.specs.Io.KnownBytes.{Keeps};
 ghost use Rattle.lnt_cli.specs.Answered.{IsAnswered};
-ghost use Rattle.lnt_cli.specs.Runs.{AnswersWords, StopsWords};
+ghost use Rattle.lnt_cli.specs.Runs.{AnswersWords, NameFile, StopsWords};
 ghost use Rattle.lnt_cli.specs.Stopped.{IsStopped};
-ghost use Rattle.lnt_cli.specs.Stops.{IsUsage};
+ghost use Rattle.lnt_cli.specs.Stops.{IsFileIn, IsUsage, TellsFile};
 
 use crate::session::Session;
 use crate::stop::CliStop;
@@ -33,6 +33,7 @@ pub fn run_with_notes<O: Opener, W: Write, N: Write>(
     notes: &mut N,
 ) -> Result<Status, CliStop>
     ensures usage { IfErr result (λ stop. IsUsage stop → Keeps (W.contents out.old) (W.contents out.new)) }
+    ensures named { IfErr result (λ stop. (name : List ℕ) → TellsFile stop name → NameFile (map string_bytes words.items) name) }
     ensures answer { IfOk result (λ status. AnswersWords (O.tells opener.old) (map string_bytes words.items)
         (W.contents out.old) (W.contents out.new) status) }
     ensures stopped { OnErr result (Keeps (W.contents out.old) (W.contents out.new)
@@ -56,6 +57,7 @@ pub fn run<O: Opener, W: Write>(
     out: &mut W,
 ) -> Result<Status, CliStop>
     ensures usage { IfErr result (λ stop. IsUsage stop → Keeps (W.contents out.old) (W.contents out.new)) }
+    ensures named { IfErr result (λ stop. (name : List ℕ) → TellsFile stop name → NameFile (map string_bytes words.items) name) }
     ensures answer { IfOk result (λ status. AnswersWords (O.tells opener.old) (map string_bytes words.items)
         (W.contents out.old) (W.contents out.new) status) }
     ensures stopped { OnErr result (Keeps (W.contents out.old) (W.contents out.new)
@@ -90,6 +92,7 @@ pub fn answer<O: Opener, W: Write, N: Write>(
     notes: &mut N,
 ) -> Result<Status, CliStop>
     ensures usage { IfErr result (λ stop. IsUsage stop → ⊥) }
+    ensures named { IfErr result (λ stop. (name : List ℕ) → TellsFile stop name → IsFileIn asked.now.request name) }
     ensures answer { IfOk result (λ status.
         IsAnswered (O.tells opener.old) asked.now.request (W.contents out.old) (W.contents out.new) status) }
     ensures stopped { OnErr result (IsStopped (O.tells opener.old) asked.now.request (W.contents out.old) (W.contents out.new)) }

@@ -1,7 +1,7 @@
 //! Why a run is stopped.
-ghost use Rattle.std.specs.Prelude.{◌≡◌, IfOk, OnErr};
+ghost use Rattle.std.specs.Prelude.{◌≡◌, ℕ, List, IfOk, OnErr};
 ghost use Rattle.lnt_cli.specs.Stepping.{IsFileStop};
-ghost use Rattle.lnt_cli.specs.Stops.{IsUsage};
+ghost use Rattle.lnt_cli.specs.Stops.{IsUsage, TellsFile};
 ghost use Rattle.lnt_cli.specs.declared.stop.CliStop.TheVariants.{Memory, Write};
 
 use lnt_sources::Halt;
@@ -37,6 +37,7 @@ impl CliStop {
     pub(crate) fn of_file(alloc: Global, name: &str, halt: Halt) -> CliStop
         ensures told { IsFileStop halt name.now result }
         ensures usage { IsUsage result → ⊥ }
+        ensures named { (told : List ℕ) → TellsFile result told → name.now ≡ told }
     {
         match CliStop::with_name(alloc, name, halt) {
             Ok(stop) => stop,
@@ -48,6 +49,7 @@ impl CliStop {
     fn with_name(alloc: Global, name: &str, halt: Halt) -> Result<CliStop, AllocError>
         ensures told { IfOk result (IsFileStop halt name.now) }
         ensures usage { IfOk result (λ stop. IsUsage stop → ⊥) }
+        ensures named { IfOk result (λ stop. (told : List ℕ) → TellsFile stop told → name.now ≡ told) }
         ensures err { OnErr result (IsFileStop halt name.now Memory) }
     {
         Ok(match halt {
@@ -60,6 +62,8 @@ impl CliStop {
 }
 
 impl From<WordsStop> for CliStop {
+    ghost from_gives = { λ _ stop. (name : List ℕ) → TellsFile stop name → ⊥ };
+
     fn from(stop: WordsStop) -> CliStop {
         match stop {
             WordsStop::Usage(text) | WordsStop::BadWord { text, .. } => CliStop::Usage(text),
