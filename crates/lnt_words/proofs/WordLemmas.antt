@@ -1,10 +1,11 @@
 -- clap's matches of the words, in terms of their rows.
-use Rattle.std.proofs.Common.{◌≡◌, ◌∙◌, ◌⊎◌, inl, inr, ◌<◌, ◌≤◌, ◌+◌, ◌++◌, ◌∷◌, [], ℕ, List, Option, Some, None, ap, get_or, length, map, option_map}
-use Rattle.std.proofs.Common.{refl, subst, sym, take, true}
+use Rattle.std.proofs.Common.{◌≡◌, ◌∙◌, ◌⊎◌, inl, inr, ◌<◌, ◌≤◌, ◌+◌, ◌++◌, ◌∷◌, [], ℕ, List, Option, Some, None, ap, get_or}
+use Rattle.std.proofs.Common.{length, map, option_map, refl, subst, sym, take, true}
 use Rattle.std.specs.Borrow.{Bor}
 use Rattle.std.proofs.lemmas.List.{map-append, take_all, take_more}
 use Rattle.clap.proofs.OnLiterals.{clap_on_literals}
-use Rattle.clap.specs.Words.{HasKind, IsAmong, Kinds, Row, Text, is_simple, is_simple_and_free, kind_of, subcommand_name_of, subcommand_rows_of}
+use Rattle.clap.specs.Words.{HasKind, IsAmong, Kinds, Row, Text, is_simple, is_simple_and_free, kind_of}
+use Rattle.clap.specs.Words.{subcommand_name_of, subcommand_rows_of}
 use Rattle.clap.specs.declared.error.Error.{Error}
 use Rattle.clap.specs.declared.error.kind.ErrorKind.TheVariants as kind
 use Rattle.clap.specs.declared.error.kind.ErrorKind.{ErrorKind}
@@ -84,7 +85,8 @@ pub one_position_more : (op : ℕ) (addresses : List ℕ) (i : ℕ) (positions m
     → more ≡ map (position_at op) (take (i + 1) addresses)
 one_position_more op addresses i positions more lt so more_is =
     more_is ∙ ap (λ (all : List Position). all ++ record { address = get_or addresses i 0; op = op } ∷ []) so
-    ∙ sym (ap (map (position_at op)) (take_more addresses i 0 lt) ∙ map-append (position_at op) (take i addresses) (get_or addresses i 0 ∷ []))
+    ∙ sym (ap (map (position_at op)) (take_more addresses i 0 lt)
+    ∙ map-append (position_at op) (take i addresses) (get_or addresses i 0 ∷ []))
 
 -- with those of all addresses
 pub all_positions : (op : ℕ) (addresses : List ℕ) (i : ℕ) (positions : List Position) → length addresses ≤ i

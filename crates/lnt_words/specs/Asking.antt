@@ -1,8 +1,9 @@
 -- The requests that words make. clap's result is a function of the words and of the command (`linetab`): the subcommand's name,
 -- and a row for each of its arguments, with the values that it was given or has by default.
-use Rattle.std.specs.Prelude.{◌≡◌, ◌⊎◌, Bool, true, false, ℕ, map, List, [], ◌∷◌, Option, Some, None, codes, IsSomeAnd, MatchOption}
+use Rattle.std.specs.Prelude.{◌≡◌, ◌≢◌, ◌↔◌, ◌⊎◌, Bool, IsTrue, true, false, ℕ, map, List, [], ◌∷◌, Option, Some, None, codes, IsSomeAnd, MatchOption}
 use Rattle.std.specs.Option.{option_copied}
-use Rattle.clap.specs.Words.{IsAmong, Row, Text, all_of, fault_of, first_of, one_of, subcommand_of}
+use Rattle.clap.specs.Words.{IsAmong, Row, Text, all_of, fault_of, first_of, subcommand_of}
+use Rattle.clap.specs.declared.error.kind.ErrorKind.{ErrorKind}
 use Rattle.clap.specs.declared.error.kind.ErrorKind.TheVariants.{DisplayHelp, DisplayVersion}
 use Rattle.lnt_digits.specs.Digits.{IsAddress, IsDecimal}
 use Rattle.lnt_spans.specs.declared.answer.Version.TheVariants.{One, Two}
@@ -19,17 +20,17 @@ use Rattle.lnt_words.specs.declared.request.Reading.{Reading}
 use Rattle.lnt_words.specs.declared.request.Reading.TheVariants.{Units, Dump, Convert}
 use Rattle.lnt_words.specs.declared.request.Request.{Request}
 use Rattle.lnt_words.specs.declared.request.Request.TheVariants.{Help, Read, Judge, Addresses, Check}
+use Rattle.lnt_words.specs.declared.stop.WordsStop.{WordsStop}
+use Rattle.lnt_words.specs.declared.stop.WordsStop.TheVariants.{Memory}
 use Rattle.lnt_words.specs.Words.{linetab}
 
 -- This is the word that was given for the argument.
 abbrev pub IsWord : List Row → Text → Text → Type 0
 IsWord rows name word = first_of name rows ≡ Some word
 
--- The flag is set where clap's value for it is "true", and not set where it is "false" or where there is none.
-pub record IsFlagGiven (rows : List Row) (name : Text) (is_set : Bool) : Type 0 where
-  pub given : one_of name rows ≡ Some (codes "true") → is_set ≡ true
-  pub not_given : one_of name rows ≡ Some (codes "false") → is_set ≡ false
-  pub none : one_of name rows ≡ None → is_set ≡ false
+-- The flag is set exactly where clap's value for it is "true".
+abbrev pub IsFlagGiven : List Row → Text → Bool → Type 0
+IsFlagGiven rows name is_set = IsTrue is_set ↔ (first_of name rows ≡ Some (codes "true"))
 
 -- Numbers are big-endian where the flag --big is set, and else little-endian.
 abbrev pub IsOrder : List Row → Order → Type 0
@@ -135,6 +136,18 @@ IsHelp _ = ⊥
 -- These words ask for help or for the version, by clap's rules. Nothing is said of its text.
 abbrev pub AskForHelp : List Text → Type 0
 AskForHelp words = IsAmong DisplayHelp (fault_of linetab words) ⊎ IsAmong DisplayVersion (fault_of linetab words)
+
+-- These words ask for nothing that the command does: by clap's rules they are refused, or they name a subcommand that asks for no
+-- request with them.
+abbrev pub AskForNothing : List Text → Type 0
+AskForNothing words =
+    ((kind : ErrorKind) × IsAmong kind (fault_of linetab words) × (kind ≢ DisplayHelp) × (kind ≢ DisplayVersion))
+    ⊎ ((asked : Asked) → IsAskedOf (subcommand_of linetab words) asked → ⊥)
+
+-- the stop judges the words
+abbrev pub IsRefusal : WordsStop → Type 0
+IsRefusal Memory = ⊥
+IsRefusal _ = Unit {0}
 
 -- These words ask for this request. The first word is the program's own name. Where clap refuses none of them, the request is
 -- that of the subcommand that they name.

@@ -8,4 +8,5 @@ loop-argument-preserved c = λ free app is.
     (argument_added _ _ _ _ _ (c.loop-argument.invariant free app is) (c.in-Ok.ensures free) c.in-Ok-arg.ensures)
 
 pub returns : goal.returns
-returns c = λ free app is. all_done with_argument_in app c.args.arguments.now _ _ c.loop-argument-test.false (c.loop-argument.invariant free app is)
+returns c = λ free app is.
+    all_done with_argument_in app c.args.arguments.now _ _ c.loop-argument-test.false (c.loop-argument.invariant free app is)

@@ -16,7 +16,8 @@ returns-in-Ok c =
     let fine : fault_of linetab (map string_bytes c.args.words.now) ≡ [] =
     subst (λ (a : App). fault_of a (map string_bytes c.args.words.now) ≡ []) built
     (c.in-Ok.ensures.kinds (ap is_simple_and_free built ∙ linetab_is_free)) in
-    IfOk-weaker c.asked_in.result _ _ (λ asked so. inr (fine, subst (λ of. IsAskedOf of asked) found (by_rows _ asked so))) c.asked_in.ensures
+    IfOk-weaker c.asked_in.result _ _ (λ asked so. inr (fine, subst (λ of. IsAskedOf of asked) found (by_rows _ asked so)))
+    c.asked_in.ensures
 
 pub returns-in-Err : goal.returns-in-Err
 returns-in-Err c =
