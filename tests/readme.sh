@@ -1,26 +1,46 @@
 #!/usr/bin/env bash
-# The commands of README.md, examples/README.md and docs/STORES.md: those with a `$` before them print what stands below them, and
-# all others that stand in blocks, or in tables of examples/README.md, end with status 0. They run in a folder like the top of the
-# repository, with a program `app` and a folder `store` of debug information.
+# The commands of all pages, which stand in blocks without a language. Those with a `$` before them print what stands below them, and
+# all others end with status 0, or check a table of another tool and answer. So do those in tables of examples/README.md, and each
+# `docs/list ..` that a page names. They run in a folder like the top of the repository, with a program `app` and a folder `store`
+# of debug information.
 cd "$(dirname "$(readlink -f -- "$0")")/.." || exit 1
 . tests/check.bash
 there=$work/there
 
+# Commands that aren't run here, and why.
+declare -A elsewhere=(
+  [./test]='it runs this script'
+  ['./library PREFIX']='tests/embedding.sh runs it'
+  ['cc -IPREFIX/include app.c PREFIX/share/linetab/linetab_heap.c -LPREFIX/lib -llinetab']='tests/embedding.sh compiles so'
+)
+# The page whose commands aren't: tests/found.sh runs them, each where its sources are, with whatever versions of the tools are here.
+not_run=docs/FOUND.md
+# Tools that commands need, and the files that they make, which later commands read.
+declare -A makes=(
+  [parallel]=tables.log [make]= [dump_syms]=app.sym [llvm-gsymutil]=app.gsym [llvm-dwarfdump]= [eu-addr2line]=
+)
+
 # A tool that a command needs, or that makes the file which it reads, isn't here.
 lacks() { # COMMAND
   local tool
-  for tool in parallel make; do
-    [[ " $1" != *" $tool "* && ($tool != parallel || $1 != *tables.log*) ]] || here "$1" "$tool" || return 0
+  for tool in "${!makes[@]}"; do
+    [[ " $1" == *" $tool "* || (-n ${makes[$tool]} && $1 == *"${makes[$tool]}"*) ]] || continue
+    here "$1" "$tool" || return 0
   done
   return 1
 }
-# Runs a command. Where it is shown with what it prints, that is compared, as it may end in a no; else its status has to be 0.
+# Runs a command. Where it is shown with what it prints, that is compared, as it may end in a no; else its status has to be 0, but that
+# a table of another tool may be wrong, and then the answer is where.
 runs() { # COMMAND [WANTED]
   local status
+  [ -z "${elsewhere[$1]}" ] || { named[$1]=1; return; }
   lacks "$1" && return
   (cd "$there" && bash -c "$1") >"$work/out" 2>"$work/err"
   status=$?
   [ $# -eq 1 ] || { printf '%s' "$2" | cmp -s - "$work/out"; status=$?; }
+  if [[ $1 == *linetab-table*' | linetab-object check '* ]] && grep -q '^no 40 differs at ' "$work/out"; then
+    status=0
+  fi
   if [ "$status" -eq 0 ]; then
     passed=$((passed + 1))
   else
@@ -30,7 +50,7 @@ runs() { # COMMAND [WANTED]
   fi
 }
 
-# The blocks of a page: commands with what they print, commands alone, and the text of a Makefile. `./test` runs this script.
+# The blocks of a page: commands with what they print, commands alone, the text of a Makefile, and others, which are passed over.
 page() { # FILE
   local line inside= command= wanted=
   while IFS= read -r line; do
@@ -41,15 +61,14 @@ page() { # FILE
         [ -z "$inside" ] && inside=${line#'```'}: || inside= ;;
       *)
         case $inside in
-          '') ;;
           make:) echo "$line" >>"$there/Makefile" ;;
-          *)
+          :)
             if [[ $line == '$ '* ]]; then
               [ -z "$command" ] || runs "$command" "$wanted"
               command=${line#'$ '} wanted=
             elif [ -n "$command" ]; then
               wanted+=$line$'\n'
-            elif [ "$line" != ./test ]; then
+            else
               runs "$line"
             fi ;;
         esac ;;
@@ -57,27 +76,33 @@ page() { # FILE
   done <"$1"
 }
 
+declare -A named=()
 mkdir -p "$there/store/one" "$there/store/two" "$there/bin"
 ln -s "$top"/* "$there"
-ln -s "$top/linetab-object" "$top/linetab" "$there/bin"
+ln -s "$top/linetab-object" "$top/linetab-table" "$top/linetab" "$there/bin"
 PATH=$there/bin:$PATH
 for file in app store/one/a.debug store/two/b.debug; do
   python3 tests/images.py elf64 "$there/$file" .debug_line=examples/hello.debug_line .debug_line_str=examples/hello.debug_line_str
 done
-page README.md
+for file in README.md CONTRIBUTING.md docs/*.md; do
+  [[ $file == "$not_run" || $file == docs/TABLES.md ]] || page "$file"
+done
 expect 'the table of app' 0 '' '' cmp "$there/app.csv" examples/hello.csv
-page docs/STORES.md
-# The Python of a page, block after block: a table that is the program's own, and an answer from it.
+! here 'the answers of a store' make || expect 'the answers of a store' 0 $'yes\nyes\n' '' bash -c 'cat "$0"/store/*/*.answer' "$there"
+# The Python of a page, block after block: a table that is the program's own, and an answer from it. What other tools say is of a
+# program with code.
 sed -n '/^```python$/,/^```$/{/^```/!p}' docs/TABLES.md >"$work/page.py"
 expect "a table of one's own, and an answer from it" 0 $'/w/src/small/a.c 2\n' '' bash -c 'cd "$0" && python3 "$1"' "$there" "$work/page.py"
 expect 'it is the one that is printed' 0 "$(<"$there/mine.csv")"$'\n' '' \
   ./linetab table --lines examples/hello.debug_line --line-str examples/hello.debug_line_str
-expect 'it is checked' 0 $'yes\n' '' \
-  ./linetab check examples/hello.debug_line "$there/mine.csv" --line-str examples/hello.debug_line_str
-expect 'it is checked with another line' 1 $'no 40 differs at 0x117f,0 table "/w/src/small/a.c",4 section "/w/src/small/a.c",3\n' '' \
-  ./linetab check examples/hello.debug_line - --line-str examples/hello.debug_line_str < <(sed 's/,3$/,4/' "$there/mine.csv")
-! here 'the answers of a store' make || expect 'the answers of a store' 0 $'yes\nyes\n' '' bash -c 'cat "$0"/store/*/*.answer' "$there"
+if here 'what other tools say of a program' cc; then
+  echo 'int main(int n, char **v) { return n - 1; }' >"$there/app.c"
+  expect 'a program with code' 0 '' '' cc -g -gdwarf-5 -o "$there/app" "$there/app.c"
+  page docs/TABLES.md
+fi
 while IFS= read -r command; do
   runs "$command"
-done < <(grep -oE '`\./linetab[^`]*`' examples/README.md | tr -d '`')
+done < <((grep -oE '`\./linetab[^`]*`' examples/README.md; grep -ohE '`docs/list [a-z_ ]+`' ./*.md docs/*.md | sort -u) | tr -d '`')
+same_names=$(printf '%s\n' "${!named[@]}" | sort)
+expect 'what is run elsewhere stands on a page' 0 "$same_names"$'\n' '' bash -c 'printf "%s\n" "$@" | sort' '' "${!elsewhere[@]}"
 finish

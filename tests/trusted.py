@@ -1,6 +1,6 @@
 """Finds the definitions that the contract of `lnt_table::check` leads to, name by name, and compares their files with those of
 docs/TRUSTED.md: which they are, that each stands after those that it needs, and how many lines they have, also of a Yes alone.
-And looks whether docs/ARCHITECTURE.md says what each file of specs/ defines."""
+And looks whether each file of specs/ begins with a sentence that says what it defines, which `docs/list definitions` prints."""
 
 import glob
 import os
@@ -92,29 +92,17 @@ def said(page, pattern, lines):
     return [] if found and list(found.groups()) == true else ["it has to say %s lines in %s files: %s" % (*true, pattern)]
 
 
-def described():
-    """The files of specs/ that the tables of docs/ARCHITECTURE.md name. A row is of its own crate, of those after `of`, or of the one
-    before its table."""
-    crate, named = None, set()
-    with open(os.path.join(TOP, "docs", "ARCHITECTURE.md"), encoding="utf-8") as page:
-        for line in page:
-            head = re.match(r"In `(\w+)`:", line)
-            row = re.match(r"\| `(?:(\w+)/)?specs/([^|]+) \|", line)
-            crate = head[1] if head else crate
-            if row:
-                names, _, several = row[2].partition(" of ")
-                places = re.findall(r"\w+", several) or [row[1] or crate]
-                named |= {"crates/%s/specs/%s" % (place, name) for place in places for name in re.findall(r"[\w/]+\.antt", names)}
-    return named
-
-
 def undescribed():
-    """The files of specs/ that the tables name, but for the lists of a crate's files, and what is wrong with the tables."""
-    files = {os.path.relpath(name, TOP) for name in glob.glob(os.path.join(TOP, "crates", "*", "specs", "**", "*.antt"), recursive=True)}
-    files = {name for name in files if not name.endswith("/Lib.antt")}
-    named = described()
-    wrong = ["%s isn't in a table" % name for name in sorted(files - named)]
-    return files & named, wrong + ["%s is in a table, and isn't there" % name for name in sorted(named - files)]
+    """How many files of specs/ begin with a sentence, but for the lists of a crate's files, and those that don't."""
+    files = glob.glob(os.path.join(TOP, "crates", "*", "specs", "**", "*.antt"), recursive=True)
+    files = {os.path.relpath(name, TOP) for name in files if not name.endswith("/Lib.antt")}
+    wrong = set()
+    for name in files:
+        with open(os.path.join(TOP, name), encoding="utf-8") as file:
+            head = re.match(r"(-- .*\n)*", file.read())[0].replace("\n-- ", " ")
+            if not re.match(r"-- \w.*\.(\s|$)", head):
+                wrong.add(name)
+    return len(files - wrong), ["%s doesn't begin with a sentence that says what it defines" % name for name in sorted(wrong)]
 
 
 def main():
@@ -125,7 +113,7 @@ def main():
     of_yes, _ = closure([HEADLINE])
     with open(os.path.join(TOP, "docs", "TRUSTED.md"), encoding="utf-8") as file:
         page = file.read()
-    listed = re.findall(r"(?m)^\| \[`(crates/\S+\.antt)`\]\(\.\./\1\) \|", page)
+    listed = re.findall(r"\]\(\.\./(crates/\w+/specs/[\w/]+\.antt)\)", page.partition("\n## The contract\n")[0])
     passed = sum(listed.count(name) == 1 for name in lines)
     wrong = ["%s isn't listed, or twice" % name for name in lines if listed.count(name) != 1]
     wrong += ["%s is listed, and nothing leads to it" % name for name in listed if name not in lines]
@@ -133,13 +121,13 @@ def main():
         late = [other for other in needs.get(name, ()) if other != name and other not in listed[:at]]
         wrong += ["%s stands before %s, which it needs" % (name, other) for other in sorted(late)]
     wrong += said(page, COUNTS, lines) + said(page, COUNTS_OF_YES, of_yes)
-    told, unsaid = undescribed()
-    for text in ["docs/TRUSTED.md: " + text for text in wrong] + ["docs/ARCHITECTURE.md: " + text for text in unsaid]:
+    described, unsaid = undescribed()
+    for text in ["docs/TRUSTED.md: " + text for text in wrong] + unsaid:
         print("failed: " + text)
     crates = {name.split("/")[1] for name in lines}
     names = ", ".join(name for _, name in starts)
     print("%s lead to %d lines in %d files of %d crates" % (names, sum(lines.values()), len(lines), len(crates)))
-    print("%d passed, %d failed" % (passed + len(told), len(wrong) + len(unsaid)))
+    print("%d passed, %d failed" % (passed + described, len(wrong) + len(unsaid)))
     sys.exit(1 if wrong or unsaid else 0)
 
 

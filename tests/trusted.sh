@@ -1,6 +1,6 @@
 #!/usr/bin/env bash
 # docs/TRUSTED.md lists the files of definitions that the contract of lnt_table::check leads to, in order, and no other; and
-# docs/ARCHITECTURE.md says of each file of specs/ what it defines.
+# each file of specs/ begins with a sentence that says what it defines.
 cd "$(dirname "$(readlink -f -- "$0")")/.." || exit 1
 top=$PWD
 . ./sources.bash

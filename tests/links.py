@@ -1,0 +1,131 @@
+"""Looks whether each link of a page leads to a file and an anchor that are there; whether docs/README.md links each page of docs/;
+whether the pages of docs/ that other files name are there; and how long the pages are. It tries itself on pages with such faults."""
+
+import glob
+import os
+import re
+import sys
+import tempfile
+import xml.dom.minidom
+
+TOP = os.path.dirname(os.path.dirname(os.path.abspath(__file__)))
+PAGES = ["*.md", "docs/*.md", "bench/*.md", "examples/*.md", "tests/*/README.md"]
+# What names pages of docs/ beside them.
+NAMING = ["*", "bench/*", "crates/*/src/*.rt", "include/*", "must-fail/*", "share/*", "tests/*", "tests/*/*"]
+# Pages that the program's help names, and that lead on to another one.
+NOT_LISTED = {"README.md", "HEADERS.md", "PROGRAMS.md"}
+LONGEST = {"README.md": 6144, "docs/*.md": 130000}
+
+
+def matching(top, patterns):
+    names = {name for pattern in patterns for name in glob.glob(os.path.join(top, pattern)) if os.path.isfile(name)}
+    return sorted(os.path.relpath(name, top) for name in names)
+
+
+def read(top, name):
+    with open(os.path.join(top, name), encoding="utf-8", errors="replace") as file:
+        return file.read()
+
+
+def without_blocks(text):
+    return re.sub(r"(?ms)^```.*?^```$", "", text)
+
+
+def anchors(text):
+    """The anchors of a page's headings, as GitHub makes them."""
+    counts, found = {}, set()
+    for heading in re.findall(r"(?m)^#+ +(.*?) *$", without_blocks(text)):
+        words = re.sub(r"\[([^]]*)\]\([^)]*\)", r"\1", heading).lower()
+        slug = re.sub(r"[^\w\- ]", "", words).replace(" ", "-")
+        counts[slug] = counts.get(slug, -1) + 1
+        found.add("%s-%d" % (slug, counts[slug]) if counts[slug] else slug)
+    return found
+
+
+def links(text):
+    """The targets of a page's links and pictures."""
+    return re.findall(r"\[[^]]*\]\(([^) ]+)\)", re.sub(r"`[^`\n]*`", "code", without_blocks(text)))
+
+
+def wrong_link(top, page, target):
+    """What is wrong with a link, or None."""
+    if re.match(r"[a-z]+:", target):
+        return None
+    path, _, anchor = target.partition("#")
+    name = os.path.normpath(os.path.join(os.path.dirname(page), path)) if path else page
+    if name.startswith("..") or not os.path.exists(os.path.join(top, name)):
+        return "%s leads to %s, which isn't there" % (page, target)
+    if anchor and (not name.endswith(".md") or anchor not in anchors(read(top, name))):
+        return "%s leads to %s, which has no such heading" % (page, target)
+    return None
+
+
+def results(top):
+    """Of each thing that is looked at, what is wrong, or None."""
+    pages = matching(top, PAGES)
+    for page in pages:
+        for target in links(read(top, page)):
+            yield wrong_link(top, page, target)
+    listed = {target.partition("#")[0] for target in links(read(top, "docs/README.md"))}
+    for page in matching(top, ["docs/*.md"]):
+        name = os.path.basename(page)
+        if name not in NOT_LISTED:
+            yield None if name in listed else "docs/README.md doesn't lead to %s" % name
+    for name in sorted((set(matching(top, NAMING)) | set(pages)) - {"tests/links.py"}):
+        for page in sorted(set(re.findall(r"\bdocs/[A-Z_]+\.md\b", read(top, name)))):
+            yield None if os.path.exists(os.path.join(top, page)) else "%s names %s, which isn't there" % (name, page)
+    for picture in matching(top, ["docs/*.svg"]):
+        yield wrong_picture(top, picture)
+    for pattern, most in LONGEST.items():
+        size = sum(os.path.getsize(os.path.join(top, name)) for name in matching(top, [pattern]))
+        yield None if size <= most else "%s has %d bytes, and should have at most %d" % (pattern, size, most)
+
+
+def wrong_picture(top, name):
+    """Whether a picture is read, and has colours for a dark page too."""
+    try:
+        xml.dom.minidom.parseString(read(top, name))
+    except xml.parsers.expat.ExpatError as fault:
+        return "%s is no XML: %s" % (name, fault)
+    return None if "prefers-color-scheme: dark" in read(top, name) else "%s has no colours for a dark page" % name
+
+
+def finds_its_faults():
+    """What it finds of small pages with one fault of each kind."""
+    with tempfile.TemporaryDirectory() as top:
+        os.mkdir(os.path.join(top, "docs"))
+        texts = {
+            "README.md": "# A page\n\n[there](docs/A.md#one-two) [gone](docs/B.md) [far](https://example.org/x)\n",
+            "docs/README.md": "[here](#nowhere) `[no](link.md)`\n\n```\n[no](link.md)\n```\n",
+            "docs/A.md": "# One, two\n\n# One two\n\n[itself](#one-two-1) [up](../README.md#a-page) [out](../../x)\n",
+            "script": "docs/C.md\n",
+            "docs/a.svg": "<svg>",
+        }
+        for name, text in texts.items():
+            with open(os.path.join(top, name), "w", encoding="utf-8") as file:
+                file.write(text)
+        return [it for it in results(top) if it]
+
+
+WANTED = [
+    "README.md leads to docs/B.md, which isn't there",
+    "docs/A.md leads to ../../x, which isn't there",
+    "docs/README.md leads to #nowhere, which has no such heading",
+    "docs/README.md doesn't lead to A.md",
+    "README.md names docs/B.md, which isn't there",
+    "script names docs/C.md, which isn't there",
+]
+
+
+def main():
+    found = finds_its_faults()
+    whole = found[: len(WANTED)] == WANTED and len(found) == len(WANTED) + 1 and found[-1].startswith("docs/a.svg is no XML")
+    checked = list(results(TOP)) + [None if whole else "of pages with faults it finds %s" % found]
+    wrong = [it for it in checked if it]
+    for text in wrong:
+        print("failed: " + text)
+    print("%d passed, %d failed" % (len(checked) - len(wrong), len(wrong)))
+    sys.exit(1 if wrong else 0)
+
+
+main()
