@@ -1,5 +1,6 @@
 """Looks whether each link of a page leads to a file and an anchor that are there; whether docs/README.md links each page of docs/;
-whether the pages of docs/ that other files name are there; and how long the pages are. It tries itself on pages with such faults."""
+whether the pages of docs/ that other files name are there, and the files of crates that two pages name; and how long the pages are.
+It tries itself on pages with such faults."""
 
 import glob
 import os
@@ -60,6 +61,25 @@ def wrong_link(top, page, target):
     return None
 
 
+def places(page):
+    """The files that the rows of docs/ARCHITECTURE.md name, each of the crate and the folder that are named before it in its row."""
+    for row in re.findall(r"(?m)^\| .*$", page):
+        crate = folder = None
+        for words in re.findall(r"`([^`]+)`", row):
+            name = re.fullmatch(r"(?:(lnt_\w+|linetab)\b/?)?(?:(src|specs|proofs)\b/?)?(\w+\.(rt|antt))?", words)
+            if name:
+                crate = name[1] or crate
+                folder = name[2] or ("src" if name[4] == "rt" else folder)
+                if name[3] and crate:
+                    yield "crates/%s/%s/%s" % (crate, folder, name[3])
+
+
+def edits(page):
+    """The edits that the rows of docs/WRONG_BODIES.md name, each with the places in which it may be."""
+    for crate, name in re.findall(r"`(\w+)/(\w+)`", "\n".join(re.findall(r"(?m)^\| .*$", page))):
+        yield "%s/%s" % (crate, name), ["crates/lnt_%s/must-fail/%s.edit" % (crate, name), "must-fail/lnt_%s/%s.edit" % (crate, name)]
+
+
 def results(top):
     """Of each thing that is looked at, what is wrong, or None."""
     pages = matching(top, PAGES)
@@ -74,6 +94,10 @@ def results(top):
     for name in sorted((set(matching(top, NAMING)) | set(pages)) - {"tests/links.py"}):
         for page in sorted(set(re.findall(r"\bdocs/[A-Z_]+\.md\b", read(top, name)))):
             yield None if os.path.exists(os.path.join(top, page)) else "%s names %s, which isn't there" % (name, page)
+    for name in places(read(top, "docs/ARCHITECTURE.md")):
+        yield None if os.path.exists(os.path.join(top, name)) else "docs/ARCHITECTURE.md names %s, which isn't there" % name
+    for name, there in edits(read(top, "docs/WRONG_BODIES.md")):
+        yield None if matching(top, there) else "docs/WRONG_BODIES.md names %s, which isn't there" % name
     for picture in matching(top, ["docs/*.svg"]):
         yield wrong_picture(top, picture)
     for pattern, most in LONGEST.items():
@@ -96,8 +120,10 @@ def finds_its_faults():
         os.mkdir(os.path.join(top, "docs"))
         texts = {
             "README.md": "# A page\n\n[there](docs/A.md#one-two) [gone](docs/B.md) [far](https://example.org/x)\n",
-            "docs/README.md": "[here](#nowhere) `[no](link.md)`\n\n```\n[no](link.md)\n```\n",
+            "docs/README.md": "[here](#nowhere) [a](ARCHITECTURE.md) [b](WRONG_BODIES.md) `[no](link.md)`\n\n```\n[no](link.md)\n```\n",
             "docs/A.md": "# One, two\n\n# One two\n\n[itself](#one-two-1) [up](../README.md#a-page) [out](../../x)\n",
+            "docs/ARCHITECTURE.md": "| a | `lnt_a/specs/B.antt`, `C.antt`, `lnt_b`, `d.rt` |\n",
+            "docs/WRONG_BODIES.md": "| a | `a/b` |\n",
             "script": "docs/C.md\n",
             "docs/a.svg": "<svg>",
         }
@@ -114,6 +140,10 @@ WANTED = [
     "docs/README.md doesn't lead to A.md",
     "README.md names docs/B.md, which isn't there",
     "script names docs/C.md, which isn't there",
+    "docs/ARCHITECTURE.md names crates/lnt_a/specs/B.antt, which isn't there",
+    "docs/ARCHITECTURE.md names crates/lnt_a/specs/C.antt, which isn't there",
+    "docs/ARCHITECTURE.md names crates/lnt_b/src/d.rt, which isn't there",
+    "docs/WRONG_BODIES.md names a/b, which isn't there",
 ]
 
 
