@@ -5,8 +5,8 @@ use Rattle.lnt_sources.specs.declared.status.Status.TheVariants.{Done, No}
 use Rattle.lnt_cli.specs.declared.stop.CliStop.{CliStop}
 use Rattle.lnt_cli.specs.declared.stop.CliStop.TheVariants.{Usage, Read, TooLong, Write, Memory}
 
--- 0 where all was done or the answer is yes, 1 where it is no; of a stop, 2 where the words ask for nothing that the command does,
--- 3 where a file or the output failed, and 4 where memory ran out
+-- 0 if all was done or the answer is yes, 1 if it is no; for a stop, 2 if the words aren't a valid request, 3 if a file or the
+-- output failed, and 4 if memory ran out
 abbrev pub status_of : Result Status CliStop → ℕ
 status_of (Ok Done) = 0
 status_of (Ok No) = 1

@@ -6,8 +6,8 @@ ghost use Rattle.linetab.specs.Exits.{status_of};
 use lnt_cli::{CliStop, Status};
 use std::process::ExitCode;
 
-/// The exit status that tells how a run ended: 0 where all was done or the answer is yes, 1 where it is no, 2 where the words
-/// ask for nothing that the command does, 3 where a file or the output failed, and 4 where memory ran out.
+/// The exit status of a run. 0: all was done, or the answer is yes. 1: the answer is no. 2: the words aren't a valid request.
+/// 3: a file or the output failed. 4: memory ran out.
 pub(crate) fn exit_code(ended: &Result<Status, CliStop>) -> ExitCode
     ensures { exit_status result ≡ status_of ended.now }
 {

@@ -17,18 +17,18 @@ fn main(rt: HostRuntime) -> ExitCode {
     let mut notes = Vec::new(rt.alloc());
     let is_unread = Cell::new(false);
     let ended = run_words(&rt, &is_unread, &mut notes);
-    // Whoever closed the pipe has what was wanted of it.
+    // Whoever closed the pipe wants nothing more from it.
     if !(is_unread.get() && matches!(&ended, Err(CliStop::Write))) {
         tell(&rt, &ended, &notes);
     }
     exit_code(&ended)
 }
 
-// Tells why the run was stopped, if it was, and its notes.
+// Prints why the run stopped, if it did, and its notes.
 fn tell(rt: &HostRuntime, ended: &Result<Status, CliStop>, notes: &[u8]) {
     if let Err(stop) = ended {
         let _ = match stop {
-            // A text of usage ends in a line feed by itself.
+            // A usage text already ends in a line feed.
             CliStop::Usage(text) => rt.eprint(text),
             _ => rt.eprintln(stop),
         };
@@ -36,7 +36,7 @@ fn tell(rt: &HostRuntime, ended: &Result<Status, CliStop>, notes: &[u8]) {
     let _ = rt.stderr().write_all(whole_lines(notes));
 }
 
-// Runs the command of the process's words, and gathers its notes. What was written before a stop goes out too. Where the
+// Runs the command of the process's words, and gathers its notes. What was written before a stop is flushed too. If the
 // output is a pipe that nobody reads any more, `is_unread` says so.
 fn run_words(
     rt: &HostRuntime,
@@ -61,7 +61,7 @@ fn run_words(
     ended
 }
 
-// The lines that were written whole: want of memory may have cut the last one.
+// The complete lines: lack of memory may have cut the last one.
 fn whole_lines(notes: &[u8]) -> &[u8] {
     let mut end = notes.len();
     while end > 0 && notes[end - 1] != b'\n' {
@@ -70,7 +70,7 @@ fn whole_lines(notes: &[u8]) -> &[u8] {
     &notes[..end]
 }
 
-// The words of the process, which have to be UTF-8.
+// The words of the process, which must be UTF-8.
 fn words_of(rt: &HostRuntime, alloc: Global) -> Result<Vec<String>, CliStop> {
     match env::args(rt) {
         Ok(words) => Ok(words.collect(alloc)?),

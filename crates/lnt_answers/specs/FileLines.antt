@@ -5,12 +5,12 @@ use Rattle.csv.specs.Writing.{default_writer, row_text}
 use Rattle.hex.specs.Hex.{encode_lower}
 use Rattle.lnt_lines.specs.Indexed.{file_count_in, file_path_in, file_sum_in, Indexed, path_or_empty}
 
--- the hexadecimal digits of a sum; empty where none is listed
+-- the hexadecimal digits of a sum; empty if none is listed
 abbrev pub sum_field : Option (List ℕ) → List ℕ
 sum_field (Some sum) = encode_lower sum
 sum_field None = []
 
--- the record of a file: its unit's offset, its index, its whole path and its listed sum
+-- the record of a file: its unit's offset, its index, its full path and its listed sum
 abbrev pub file_record : Indexed → ℕ → ℕ → List ℕ
 file_record index unit file =
     row_text default_writer (decimal unit ∷ decimal file ∷ path_or_empty (file_path_in index unit file)

@@ -21,12 +21,14 @@ abbrev pub IsIndexGiven : JudgedIndex → Type 0
 IsIndexGiven (Good index) = Unit {0}
 IsIndexGiven (Bad reason) = ⊥
 
--- A writer that held these bytes has gained the line of the reason why the section isn't good; nothing for a good one.
+-- What was appended to a writer that held these bytes is the line of the reason why the section isn't good, or nothing for
+-- a good one.
 abbrev pub IsReasonTold : JudgedIndex → Option (List ℕ) → Option (List ℕ) → Type 0
 IsReasonTold (Good index) old new = Keeps old new
 IsReasonTold (Bad reason) old new = Appends old new (no_text reason ++ codes "\n")
 
--- A writer that held these bytes has gained a front of the line of a true reason why the section isn't good, and nothing else.
+-- What was appended to a writer that held these bytes is a prefix of the line of a true reason why the section isn't good, and
+-- nothing else.
 --     IsSo    which judgements are true of the section
 pub record HasBegunLine (IsSo : JudgedIndex → Type 0) (old new : Option (List ℕ)) : Type 0 where
   pub reason : No
@@ -47,7 +49,7 @@ row_text answer = codes "line "
     ++ (decimal answer.line ++ (codes " column "
     ++ (decimal answer.column ++ (codes " stmt " ++ decimal (if answer.is_stmt then 1 else 0)))))
 
--- the end of the line: the path of the file, where there is one
+-- the end of the line: the path of the file, if it has one
 abbrev pub path_end : Option (List ℕ) → List ℕ
 path_end (Some path) = codes " path " ++ (quoted_text path ++ codes "\n")
 path_end None = codes "\n"

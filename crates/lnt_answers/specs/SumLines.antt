@@ -1,5 +1,5 @@
 -- The lines that say whether the files of a good section have their listed MD5 sums (DWARF 5, section 6.2.4.1).
---     tells   what an opener may tell of the file of a name: its bytes, or None
+--     tells   what may be known of the file with a name: its bytes, or `None`
 use Rattle.std.specs.Prelude.{◌≡◌, ℕ, List, [], ◌∷◌, ◌++◌, map, IfSome, None, Option, Some, codes, decimal, suc, zero}
 use Rattle.std.specs.List.{AllByRecursion, flat_map}
 use Rattle.std.specs.Option.{option_map_or}
@@ -32,7 +32,7 @@ listed_files index = flat_map (listed_in index) index.units
 
 -- ---- the finding for one file
 
--- the file of a unit, and whether it has its sum; None where it couldn't be read
+-- the file of a unit, and whether it has its sum; `None` if it couldn't be read
 pub record Finding : Type 0 where
   pub unit : ℕ
   pub file : ℕ
@@ -41,8 +41,7 @@ pub record Finding : Type 0 where
 abbrev pub file_of : Finding → ℕ × ℕ
 file_of finding = (finding.unit, finding.file)
 
--- The agreement is true of what is told of the file, where that is its bytes. None, for a file that couldn't be read, claims
--- nothing.
+-- The agreement is true of the file's bytes, if they are known. `None`, for a file that couldn't be read, claims nothing.
 abbrev pub IsTrueOfFile : (Option (List ℕ) → Type 0) → List ℕ → Option Agreement → Type 0
 IsTrueOfFile tells listed None = Unit {0}
 IsTrueOfFile tells listed (Some agreement) =
@@ -64,7 +63,7 @@ found_text None = codes "unreadable"
 abbrev pub head_text : ℕ → ℕ → List ℕ
 head_text unit file = codes "unit " ++ (decimal unit ++ (codes " file " ++ (decimal file ++ codes " ")))
 
--- the line of a finding, with the whole path of the file
+-- the line of a finding, with the full path of the file
 abbrev pub sum_line : Indexed → Finding → List ℕ
 sum_line index finding =
     (head_text finding.unit finding.file ++ found_text finding.found)
@@ -76,17 +75,18 @@ found_status (Some Same) = Done
 found_status (Some (Differs sum)) = No
 found_status None = No
 
--- Done exactly where both are
+-- `Done` exactly when both are
 abbrev pub both : Status → Status → Status
 both Done second = second
 both No second = No
 
--- Done exactly where each file has its sum
+-- `Done` exactly when each file has its sum
 abbrev pub sums_status : List Finding → Status
 sums_status [] = Done
 sums_status (finding ∷ findings) = both (found_status finding.found) (sums_status findings)
 
--- A writer that held these bytes has gained a line with a true finding for each of these files, and nothing else.
+-- What was appended to a writer that held these bytes is a line with a true finding for each of these files, and nothing
+-- else.
 pub record AreSumsTold (tells : List ℕ → Option (List ℕ) → Type 0) (index : Indexed) (files : List (ℕ × ℕ)) (old new : Option (List ℕ))
     (status : Status) : Type 0 where
   pub findings : List Finding

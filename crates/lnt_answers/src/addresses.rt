@@ -1,4 +1,4 @@
-//! Lookups of the positions in the lines of a text.
+//! Looks up the positions in the lines of a text.
 ghost use Rattle.std.specs.Prelude.{◌≡◌, ◌+◌, ◌-◌, ◌^◌, ◌<◌, ◌==◌, [], ◌∷◌, length, IfErr, IfOk, IfSome, IsErrOf, IsTrue, MatchOption};
 ghost use Rattle.std.specs.Prelude.{◌++◌, OnErr, OnOk, codes};
 ghost use Rattle.std.specs.List.{position};
@@ -24,21 +24,21 @@ use lnt_text::Quoted;
 use std::alloc::Global;
 use std::io::Write;
 
-// The number of bytes that a pull asks the source for: as many as the buffer of a file holds, so that a pull is one read.
+// The number of bytes that a pull asks the source for: the size of a file's buffer, so that a pull is one read.
 const BLOCK: usize = 1 << 16;
 
-/// Prints a line for each line of the text that the source has to give: the answer at its position, as `print_lookups`
-/// prints it, or that the line is bad.
+/// Prints a line for each line of the text from the source: the answer at its position, as `print_lookups` prints it, or
+/// that the line is bad.
 ///
 /// A line is `ADDRESS` or `ADDRESS,N`, and ends with a line feed, with a carriage return and a line feed, or with the text.
-/// Where N is left out, the operation index is `op`. The lines that end in what one read brought are answered, and the
-/// writer flushed, before the next read.
+/// If N is left out, the operation index is `op`. The lines that end within the bytes of one read are answered, and the
+/// writer is flushed, before the next read.
 ///
-/// It answers `Done` where each line has a position, and else `No`. In both cases the writer has gained these lines, and
-/// nothing else (`AreAddressesTold`). It stops by `Read` only where the source failed, and by `TooLong` only where the source
-/// has more bytes than it may give: the lines before are then answered. It stops by `Write` where the writer failed, and by
-/// `Memory`. Where it stops, the writer has gained a front of the lines for all lines of the text, and nothing else
-/// (`AreAddressesBegun`). The caller sees to it that the number of the source's failures is below `u64::MAX`.
+/// Returns `Done` if each line has a position, and `No` otherwise. In both cases these lines have been written, and nothing
+/// else (`AreAddressesTold`). Stops with `Read` only if the source failed, and with `TooLong` only if the source has more
+/// bytes than it may give: the lines before it are then answered. Stops with `Write` if the writer failed, and with `Memory`.
+/// If it stops, a prefix of the lines for all lines of the text has been written, and nothing else (`AreAddressesBegun`). The
+/// caller ensures that the number of the source's failures is below `u64::MAX`.
 pub fn print_addresses<T: Source, W: Write>(
     alloc: Global,
     index: &Index<'_>,
@@ -89,7 +89,7 @@ struct Asked {
     line: Vec<u8>,
     // a buffer for a line to be printed
     room: Vec<u8>,
-    // Done where each line so far had a position
+    // `Done` if each line so far had a position
     status: Status,
 }
 
@@ -160,7 +160,7 @@ fn print_bad<W: Write>(line: &[u8], room: &mut Vec<u8>, out: &mut W) -> Result<(
         (codes "bad " ++ (quoted_text line.now ++ codes "\n"))) }
 {
     room.clear();
-    // A vector refuses a piece of the line only for want of memory.
+    // Writing to a vector fails only if memory runs out.
     let Ok(()) = writeln!(room, "bad {}", Quoted(line)) else {
         return Err(Halt::Memory);
     };
@@ -177,7 +177,7 @@ fn strip_return(line: &mut Vec<u8>)
     }
 }
 
-// Parses a line `ADDRESS` or `ADDRESS,N`; without N the operation index is `op`. None where the line is neither.
+// Parses a line `ADDRESS` or `ADDRESS,N`; without N the operation index is `op`. `None` if the line is neither.
 fn position_in(line: &[u8], op: u64) -> Option<Position>
     ensures { MatchOption result ((position : Spec) → TellsPosition op line.now position → ⊥) (TellsPosition op line.now) }
 {

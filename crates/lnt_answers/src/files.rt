@@ -15,12 +15,12 @@ use lnt_sources::{Halt, Status};
 use std::alloc::{AllocError, Global};
 use std::io::Write;
 
-/// Prints a header, `unit,file,path,md5`, and after it a record for each file of each unit: the unit's offset and the file's
-/// index, counted from 0, as decimal numbers, the whole path, and the listed MD5 sum in hexadecimal, or nothing where none is
-/// listed.
+/// Prints a header, `unit,file,path,md5`, and after it a record for each file of each unit. Its fields are the unit's offset
+/// and the file's index, counted from 0, as decimal numbers; the full path; and the listed MD5 sum in hexadecimal, or nothing
+/// if none is listed.
 ///
-/// It answers `Done`. It stops by `Write` where the writer failed, and by `Memory`. Where it stops, the writer has gained
-/// a front of these lines, and nothing else.
+/// Returns `Done`. Stops with `Write` if the writer failed, and with `Memory`. If it stops, a prefix of these lines has
+/// been written, and nothing else.
 pub fn print_files<W: Write>(alloc: Global, index: &Index<'_>, out: &mut W) -> Result<Status, Halt>
     ensures done { IfOk result (λ status. status ≡ Done) }
     ensures err { IfErr result IsPrinting }
@@ -52,7 +52,7 @@ fn print_unit_files<W: Write>(
     Ok(())
 }
 
-// Prints the record of a file that the unit has. Only this record is held in memory.
+// Prints the record of a file of the unit. Only this record is held in memory.
 fn print_file<W: Write>(
     alloc: Global,
     index: &Index<'_>,
@@ -70,21 +70,21 @@ fn print_file<W: Write>(
     Ok(())
 }
 
-// The record of a file that the unit has.
+// The record of a file of the unit.
 fn record_of(alloc: Global, index: &Index<'_>, unit: u64, file: u64) -> Result<Vec<u8>, AllocError>
     requires { file < file_count_in index.now unit }
     ensures { IfOk result (λ bytes. bytes.items ≡ file_record index.now unit file) }
 {
     let mut records = Writer::from_writer(Vec::new(alloc));
     put_file(alloc, index, unit, file, &mut records)?;
-    // A vector refuses to be flushed only for want of memory.
+    // Writing to a vector fails only if memory runs out.
     match records.into_inner() {
         Ok(bytes) => Ok(bytes),
         Err(_) => Err(AllocError),
     }
 }
 
-// Adds the record of a file that the unit has to the writer, which is between two records before and afterwards.
+// Appends the record of a file of the unit to the writer, which is between two records before and afterwards.
 fn put_file(
     alloc: Global,
     index: &Index<'_>,
@@ -112,14 +112,14 @@ fn put_file(
         path.as_slice(),
         sum.as_bytes(),
     ];
-    // A vector refuses a record only for want of memory.
+    // Writing to a vector fails only if memory runs out.
     match records.write_fields(&fields) {
         Ok(()) => Ok(()),
         Err(_) => Err(AllocError),
     }
 }
 
-// The whole path of a file that the unit has.
+// The full path of a file of the unit.
 pub(crate) fn path_of(
     alloc: Global,
     index: &Index<'_>,
@@ -135,7 +135,7 @@ pub(crate) fn path_of(
     }
 }
 
-// The listed sum of a file in hexadecimal digits; empty where none is listed.
+// The listed sum of a file in hexadecimal digits; empty if none is listed.
 fn sum_of(alloc: Global, index: &Index<'_>, unit: u64, file: u64) -> Result<String, AllocError>
     ensures { IfOk result (λ sum. string_bytes sum ≡ sum_field (file_sum_in index.now unit file)) }
 {

@@ -12,13 +12,13 @@ use lnt_wire::Strings;
 use std::alloc::Global;
 use std::io::Write;
 
-/// Judges the section that the source has to give, and where it isn't good, prints the line that says why.
+/// Judges the section from the source, and prints the line that says why if it isn't good.
 ///
-/// The result is true of the section (`IsJudgedIndex`). Of a good section it is the index, and the writer is as before; else
-/// it is the reason, and the writer has gained the reason's line, and nothing else. It stops by `Read` only where the source
-/// failed, by `TooLong` only where the source has more bytes than it may give, by `Write` where the writer failed, and by
-/// `Memory`. Where it stops, the writer has gained nothing, or a front of the line of a true reason. The caller sees to it
-/// that the number of the source's failures is below `u64::MAX`.
+/// The result is true of the section (`IsJudgedIndex`). For a good section it is the index, and nothing has been written;
+/// otherwise it is the reason, and the reason's line has been written, and nothing else. Stops with `Read` only if the
+/// source failed, with `TooLong` only if the source has more bytes than it may give, with `Write` if the writer failed, and
+/// with `Memory`. If it stops, nothing has been written, or a prefix of the line of a true reason. The caller ensures that
+/// the number of the source's failures is below `u64::MAX`.
 pub fn judge_section<'s, R: Source, W: Write>(
     alloc: Global,
     section: &mut R,

@@ -1,6 +1,6 @@
 //! Prints the answers of a judged section as text.
 //!
-//! [`judge_section`] gives the index of a good section, and prints why another one isn't good. From the index
+//! [`judge_section`] gives the index of a good section, or prints why the section isn't good. From the index
 //! [`print_lookups`] and [`print_addresses`] print the answers at positions, [`print_files`] the files, and [`print_sums`]
 //! whether the files have their listed MD5 sums.
 #![tactic(auto)]

@@ -20,8 +20,8 @@ use std::io::Write;
 // Prints the line with the answer at the position and the path of its file, or that there is no answer. The line is made in
 // `room` first, whose old contents are dropped.
 //
-// It answers `Done`. It stops by `Write` where the writer failed, and by `Memory`. Where it stops, the writer has gained
-// a front of the line, and nothing else.
+// Returns `Done`. Stops with `Write` if the writer failed, and with `Memory`. If it stops, a prefix of the line has been
+// written, and nothing else.
 pub(crate) fn print_lookup<W: Write>(
     alloc: Global,
     lookups: &mut Lookups<'_, '_>,
@@ -38,7 +38,7 @@ pub(crate) fn print_lookup<W: Write>(
         → OnErr result (AppendsFront (W.contents out.old) (W.contents out.new) (lookup_line lookups.old dead skip units position)) }
 {
     room.clear();
-    // A vector refuses a piece of the line only for want of memory.
+    // Writing to a vector fails only if memory runs out.
     let Ok(()) = put_lookup(alloc, lookups, position, room) else {
         return Err(Halt::Memory);
     };
@@ -64,8 +64,8 @@ fn put_lookup<W: Write>(
     print_answered(alloc, lookups.index(), position, &answer, out)
 }
 
-// Prints the line of an answer at the position. The caller sees to it that its file has a path, as that of each answer of an
-// index has.
+// Prints the line of an answer at the position. The caller ensures that its file has a path, as it does for each answer of
+// an index.
 fn print_answered<W: Write>(
     alloc: Global,
     index: &Index<'_>,
@@ -93,10 +93,10 @@ fn print_path<W: Write>(path: &[u8], out: &mut W) -> Result<(), Halt>
 }
 
 /// Prints a line for each of these positions, in their order: `0xADDRESS,OP unit U file F line L column C stmt S path "PATH"`,
-/// with the unit's offset in the section and the file's index from 0, both decimal; or `0xADDRESS,OP none`.
+/// or `0xADDRESS,OP none`. The unit's offset in the section and the file's index, counted from 0, are decimal.
 ///
-/// It answers `Done`. It stops by `Write` where the writer failed, and by `Memory`. Where it stops, the writer has gained
-/// a front of these lines, and nothing else.
+/// Returns `Done`. Stops with `Write` if the writer failed, and with `Memory`. If it stops, a prefix of these lines has
+/// been written, and nothing else.
 pub fn print_lookups<W: Write>(
     alloc: Global,
     index: &Index<'_>,

@@ -21,15 +21,15 @@ use std::alloc::Global;
 use std::io::Write;
 use std::str;
 
-/// Prints a line for each file with a listed MD5 sum (`DW_LNCT_MD5` of DWARF 5, section 6.2.4.1), unit by unit:
-/// `unit U file F same "PATH"` where the bytes that the opener gives for its path have this sum, or `differs SUM` with the sum
-/// that they have, or `unreadable` in place of `same`. Unreadable is a file that can't be opened or read, has more than 2^40
-/// bytes, has a path that isn't UTF-8, or isn't a regular file, as a pipe, a device or a folder: these are never read, nor is
-/// one that is named `-`.
+/// Prints a line for each file with a listed MD5 sum (`DW_LNCT_MD5` of DWARF 5, section 6.2.4.1), unit by unit. It is
+/// `unit U file F same "PATH"` if the bytes that the opener gives for its path have this sum. Otherwise it has `differs SUM`,
+/// with the sum that they have, or `unreadable` instead of `same`. A file is unreadable if it can't be opened or read, has
+/// more than 2^40 bytes, has a path that isn't UTF-8, or isn't a regular file, such as a pipe, a device or a folder. These are
+/// never read, nor is a file named `-`.
 ///
-/// It answers `Done` where all of them have their sums, and `No` where one has another sum or can't be read. It stops by
-/// `Write` where the writer failed, and by `Memory`. Where it stops, the writer has gained a front of lines that are true of
-/// the files, and nothing else. It doesn't stop for a file that can't be read.
+/// Returns `Done` if all of them have their sums, and `No` if one has another sum or can't be read. Stops with `Write` if
+/// the writer failed, and with `Memory`. If it stops, a prefix of lines that are true of the files has been written, and
+/// nothing else. It doesn't stop for a file that can't be read.
 pub fn print_sums<O: Opener, W: Write>(
     alloc: Global,
     index: &Index<'_>,
@@ -75,8 +75,8 @@ fn print_unit_sums<O: Opener, W: Write>(
     Ok(status)
 }
 
-// Prints the line of a file that the unit has, where a sum is listed for it. The line is made in `room` first, whose old contents
-// are dropped.
+// Prints the line of a file of the unit, if a sum is listed for it. The line is made in `room` first, whose old contents are
+// dropped.
 fn print_sum<O: Opener, W: Write>(
     alloc: Global,
     index: &Index<'_>,
@@ -100,7 +100,7 @@ fn print_sum<O: Opener, W: Write>(
     let path = path_of(alloc, index, unit, file)?;
     let found = found_of(&path, &listed, opener);
     room.clear();
-    // A vector refuses a piece of the line only for want of memory.
+    // Writing to a vector fails only if memory runs out.
     let Ok(()) = print_found(alloc, unit, file, &path, found, room) else {
         return Err(Halt::Memory);
     };
@@ -108,7 +108,7 @@ fn print_sum<O: Opener, W: Write>(
     Ok(status_of(found))
 }
 
-// Whether the file at the path has the sum. None where it can't be read.
+// Whether the file at the path has the sum. `None` if it can't be read.
 fn found_of<O: Opener>(path: &[u8], listed: &[u8; 16], opener: &mut O) -> Option<Agreement>
     ensures later { TellsNoMore (O.tells opener.old) (O.tells opener.new) }
     ensures found { IsTrueOfFile (O.tells opener.old path.now) listed.now result }
@@ -157,7 +157,7 @@ fn print_agreement<W: Write>(
     Ok(())
 }
 
-// The status for this finding: Done only for a file with its listed sum.
+// The status for this finding: `Done` only for a file with its listed sum.
 fn status_of(found: Option<Agreement>) -> Status
     ensures { result ≡ found_status found }
 {
@@ -167,7 +167,7 @@ fn status_of(found: Option<Agreement>) -> Status
     }
 }
 
-// Done where both are.
+// `Done` if both are.
 fn together(first: Status, second: Status) -> Status
     ensures { result ≡ both first second }
 {
@@ -178,7 +178,7 @@ fn together(first: Status, second: Status) -> Status
 }
 
 /// Whether an MD5 sum is listed for the first file of a unit. The files of a unit share one format (DWARF 5, section
-/// 6.2.4.1), so where the first has no sum, none has. It allocates no memory.
+/// 6.2.4.1), so if the first has no sum, none has. Allocates nothing.
 pub fn lists_sums(index: &Index<'_>) -> bool
     ensures { IsTrue result ↔ Any (λ unit. IsSome (file_sum_in index.now unit 0)) index.now.units }
 {

@@ -1,7 +1,7 @@
 -- A text that begins with a number, up to a byte that ends it.
 use Rattle.std.specs.Prelude.{◌≡◌, ℕ, List, ◌∷◌, ◌++◌}
 
--- The text begins with a spelling of n, then the byte `end`, then `rest`.
+-- The text begins with a text of n, then the byte `end`, then `rest`.
 pub record Begins (Spells : List ℕ → ℕ → Type 0) (text : List ℕ) (n end : ℕ) (rest : List ℕ) : Type 0 where
   pub front : List ℕ
   pub joined : text ≡ front ++ end ∷ rest

@@ -18,11 +18,11 @@ abbrev pub IsDigit : Radix → ℕ → Type 0
 IsDigit Ten c = IsDecimalDigit c
 IsDigit Sixteen c = IsHexadecimalDigit c
 
--- what a digit is worth
+-- the value of a digit
 abbrev pub digit_value : ℕ → ℕ
 digit_value c = if nat_lt c 58 then c - 48 else if nat_lt c 71 then c - 55 else c - 87
 
--- the digit that is worth so much, a letter in lower case
+-- the digit with this value, a letter in lower case
 abbrev pub digit_code : ℕ → ℕ
 digit_code d = if nat_lt d 10 then 48 + d else 87 + d
 
@@ -60,7 +60,7 @@ pub record IsAddress (text : List ℕ) (n : ℕ) : Type 0 where
 
 -- ---- numbers as they are written
 
--- The digits begin with no zero, unless they are a lone zero.
+-- The digits don't begin with a zero, unless they are a single zero.
 abbrev pub HasNoLeadingZero : List ℕ → Type 0
 HasNoLeadingZero [] = Unit {0}
 HasNoLeadingZero (c ∷ []) = Unit {0}
@@ -84,7 +84,7 @@ pub record IsPlainAddress (text : List ℕ) (n : ℕ) : Type 0 where
   pub written : text ≡ 48 ∷ 120 ∷ digits
   pub plain : IsPlain Sixteen digits n
 
--- A text that spells n was added.
+-- A text of n was appended.
 pub record Puts (Spells : List ℕ → ℕ → Type 0) (n : ℕ) (old new : List ℕ) : Type 0 where
   pub text : List ℕ
   pub joined : new ≡ old ++ text

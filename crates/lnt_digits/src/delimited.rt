@@ -11,8 +11,8 @@ const DECIMAL_DIGITS: usize = 18;
 
 const HEXADECIMAL_DIGITS: usize = 16;
 
-/// Parses 1 to 18 decimal digits at `at`, then `end`; gives the value and the index after `end`. `None` says nothing about the
-/// text: a longer number may stand there, and is left to `decimal`.
+/// Parses 1 to 18 decimal digits at `at`, then `end`; gives the value and the index after `end`. With `None`, a longer number
+/// may be there, which is left to `decimal`.
 #[inline(always)]
 pub fn decimal_until(text: &[u8], at: usize, end: u8) -> Option<(u64, usize)>
     ensures { IfSome result (λ found. Begins IsDecimal (drop at text.now) found.0 end (drop found.1 text.now)) }

@@ -9,9 +9,9 @@ use std::alloc::AllocError;
 // The most decimal digits that a number below 2^64 has.
 const MOST_DIGITS: usize = 20;
 
-/// Adds the decimal digits of a number, with no leading zeros. They are read back as that number.
+/// Appends the decimal digits of a number, with no leading zeros. They are read back as that number.
 ///
-/// The one error is that memory ran out, and then `out` is as before.
+/// Fails only if memory runs out, and then leaves `out` unchanged.
 #[tactic(auto, using(crate::proofs::PutLemmas::whole_decimal))]
 pub fn put_decimal(out: &mut Vec<u8>, n: u64) -> Result<(), AllocError>
     ensures ok { OnOk result (Puts IsPlainDecimal n out.old.items out.new.items) }
@@ -23,10 +23,10 @@ pub fn put_decimal(out: &mut Vec<u8>, n: u64) -> Result<(), AllocError>
     Ok(())
 }
 
-/// Adds `0x` and the hexadecimal digits of a number, in lower case and with no leading zeros. They are read back as that
+/// Appends `0x` and the hexadecimal digits of a number, in lower case and with no leading zeros. They are read back as that
 /// number.
 ///
-/// The one error is that memory ran out, and then `out` is as before.
+/// Fails only if memory runs out, and then leaves `out` unchanged.
 pub fn put_address(out: &mut Vec<u8>, n: u64) -> Result<(), AllocError>
     ensures ok { OnOk result (Puts IsPlainAddress n out.old.items out.new.items) }
     ensures err { OnErr result (out.new.items ≡ out.old.items) }
@@ -37,8 +37,8 @@ pub fn put_address(out: &mut Vec<u8>, n: u64) -> Result<(), AllocError>
 }
 
 /// Writes the decimal digits of a number, with no leading zeros, into a text, so that they end before index `end`, and
-/// gives the index of the first. The text before and after them stays as it is. The caller sees to it that `end` is at
-/// least 20 and not past the text's end.
+/// returns the index of the first. The text before and after them is unchanged. The caller ensures that `end` is at least
+/// 20 and not past the text's end.
 #[inline(always)]
 pub fn decimal_before(text: &mut [u8], end: usize, n: u64) -> usize
     requires { (20 ≤ end) × (end ≤ length text.old) }
@@ -51,8 +51,8 @@ pub fn decimal_before(text: &mut [u8], end: usize, n: u64) -> usize
 }
 
 /// Writes `0x` and the hexadecimal digits of a number, in lower case and with no leading zeros, into a text, so that they
-/// end before index `end`, and gives the index of the first character. The text before and after them stays as it is. The
-/// caller sees to it that `end` is at least 18 and not past the text's end.
+/// end before index `end`, and returns the index of the first character. The text before and after them is unchanged. The
+/// caller ensures that `end` is at least 18 and not past the text's end.
 #[inline(always)]
 pub fn address_before(text: &mut [u8], end: usize, n: u64) -> usize
     requires { (18 ≤ end) × (end ≤ length text.old) }
@@ -67,7 +67,7 @@ pub fn address_before(text: &mut [u8], end: usize, n: u64) -> usize
     start - 2
 }
 
-// Writes the digits of a number into a text, so that they end before index `end`, and gives the index of the first.
+// Writes the digits of a number into a text, so that they end before index `end`, and returns the index of the first.
 #[inline(always)]
 fn digits_before(text: &mut [u8], end: usize, n: u64, radix: Radix) -> usize
     requires { (most_digits radix ≤ end) × (end ≤ length text.old) }

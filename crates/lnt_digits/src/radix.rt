@@ -3,7 +3,7 @@ ghost use Rattle.std.specs.Prelude.{◌≡◌, ◌+◌, ◌<◌, ◌≤◌, Matc
 ghost use Rattle.std.specs.Bool.{MatchBool};
 ghost use Rattle.lnt_digits.specs.Digits.{IsDecimalDigit, IsDigit, IsHexadecimalDigit, radix_base, digit_code, digit_value, most_digits};
 
-// The digits that a number is written in.
+// The base in which a number is written.
 #[derive(Clone, Copy)]
 pub(crate) enum Radix {
     // Decimal ones.
@@ -36,7 +36,7 @@ impl Radix {
         }
     }
 
-    // The value of a digit of this base. None where the byte is no such digit.
+    // The value of a digit of this base. `None` if the byte isn't such a digit.
     #[inline(always)]
     pub(crate) fn value_of(self, byte: u8) -> Option<u64>
         ensures { MatchOption result (IsDigit self byte → ⊥) (λ d. IsDigit self byte × (d ≡ digit_value byte) × (d < radix_base self)) }
@@ -48,7 +48,7 @@ impl Radix {
     }
 }
 
-// The value of a decimal digit. None where the byte is no such digit.
+// The value of a decimal digit. `None` if the byte isn't such a digit.
 #[inline(always)]
 pub(crate) fn decimal_value(byte: u8) -> Option<u64>
     ensures { MatchOption result (IsDecimalDigit byte → ⊥) (λ d. IsDecimalDigit byte × (d ≡ digit_value byte) × (d < 10)) }
@@ -59,7 +59,7 @@ pub(crate) fn decimal_value(byte: u8) -> Option<u64>
     }
 }
 
-// The value of a hexadecimal digit of either case. None where the byte is no such digit.
+// The value of a hexadecimal digit of either case. `None` if the byte isn't such a digit.
 #[inline(always)]
 fn hexadecimal_value(byte: u8) -> Option<u64>
     ensures { MatchOption result (IsHexadecimalDigit byte → ⊥) (λ d. IsHexadecimalDigit byte × (d ≡ digit_value byte) × (d < 16)) }
@@ -79,9 +79,8 @@ pub(crate) fn is_hexadecimal(byte: u8) -> bool
     is_between(byte, b'0', b'9') | is_between(byte, b'A', b'F') | is_between(byte, b'a', b'f')
 }
 
-// The value of a hexadecimal digit of either case: its low half, and 9 more where it is a letter. It doesn't branch on
-// that, since a processor can't predict which of the two comes. For a byte that is no such digit it gives some number
-// below 64.
+// The value of a hexadecimal digit of either case: its low half, plus 9 for a letter. It doesn't branch on that, since a
+// processor can't predict which of the two comes. For any other byte it returns some number below 64.
 #[inline(always)]
 pub(crate) fn letter_or_digit_value(byte: u8) -> u64
     ensures value { IsHexadecimalDigit byte → (result ≡ digit_value byte) × (result < 16) }

@@ -4,14 +4,14 @@ ghost use Rattle.lnt_digits.specs.Digits.{IsAddress, IsDecimal, IsNumber, radix_
 
 use crate::radix::Radix;
 
-/// Parses a text of 1 to 20 decimal digits and nothing else. None for any other text, and where the number is 2^64 or more.
+/// Parses a text of 1 to 20 decimal digits and nothing else. `None` for any other text, and if the number is 2^64 or more.
 pub fn decimal(text: &[u8]) -> Option<u64>
     ensures { MatchOption result ((n : ℕ) → IsDecimal text.now n → ⊥) (λ n. IsDecimal text.now n) }
 {
     number(text, Radix::Ten)
 }
 
-/// Parses a text of `0x` and 1 to 16 hexadecimal digits of either case, and nothing else. None for any other text.
+/// Parses a text of `0x` and 1 to 16 hexadecimal digits of either case, and nothing else. `None` for any other text.
 pub fn address(text: &[u8]) -> Option<u64>
     ensures { MatchOption result ((n : ℕ) → IsAddress text.now n → ⊥) (λ n. IsAddress text.now n) }
 {
@@ -19,8 +19,8 @@ pub fn address(text: &[u8]) -> Option<u64>
     number(digits, Radix::Sixteen)
 }
 
-// Parses digits of this base. None where there are none or too many, where a byte is no such digit, and where the number is
-// 2^64 or more.
+// Parses digits of this base. `None` if there are none or too many, if a byte isn't such a digit, and if the number is 2^64
+// or more.
 #[inline(always)]
 #[tactic(auto, using(crate::proofs::ReadLemmas::no_number_of_none, crate::proofs::ReadLemmas::no_number_of_many))]
 fn number(digits: &[u8], radix: Radix) -> Option<u64>
@@ -42,7 +42,7 @@ fn number(digits: &[u8], radix: Radix) -> Option<u64>
     Some(value)
 }
 
-// The number with one more digit after its last. None where that is 2^64 or more.
+// The number with one more digit after its last. `None` if that is 2^64 or more.
 #[inline(always)]
 fn with_digit(value: u64, radix: Radix, digit: u64) -> Option<u64>
     ensures { MatchOption result (2 ^ 64 ≤ value * radix_base radix + digit)

@@ -1,4 +1,4 @@
--- What a writer has gained where a section was converted, or wasn't, and where that was stopped.
+-- What was written if a section was converted, or wasn't, or if that stopped.
 use Rattle.std.specs.Prelude.{◌≢◌, ◌⊎◌, ℕ, List, [], ◌++◌, Option, codes}
 use Rattle.std.specs.Io.KnownBytes.{Appends, Keeps}
 use Rattle.lnt_output.specs.Fronts.{HasBegun}
@@ -13,7 +13,7 @@ use Rattle.lnt_unit_encode.specs.declared.convert.ConvertFault.TheVariants.{Malf
 use Rattle.lnt_unit_encode.specs.FaultTexts.{convert_fault_text}
 use Rattle.lnt_text.specs.Texts.{malformed_text}
 
--- a writer that held these bytes has gained such a text, and nothing else
+-- what was appended to a writer that held these bytes is such a text, and nothing else
 abbrev pub IsPrintedIn : (List ℕ → Type 0) → Option (List ℕ) → Option (List ℕ) → Type 0
 IsPrintedIn Is old new = (text : List ℕ) × Is text × Appends old new text
 
@@ -21,14 +21,14 @@ IsPrintedIn Is old new = (text : List ℕ) × Is text × Appends old new text
 abbrev pub too_large_text : ConvertFault → List ℕ
 too_large_text fault = codes "no 20 " ++ convert_fault_text fault ++ codes "\n"
 
--- why a section isn't converted; of want of memory nothing is printed
+-- why a section isn't converted; for lack of memory nothing is printed
 abbrev pub refusal_text : ConvertFault → List ℕ
 refusal_text (Malformed fault) = malformed_text fault ++ codes "\n"
 refusal_text (TooLarge offset) = too_large_text (TooLarge offset)
 refusal_text Memory = []
 
--- A writer that held these bytes has gained the line that says why the section isn't converted, and that is true. Want of memory has
--- no line: it stops the work.
+-- What was appended to a writer that held these bytes is the line that says why the section isn't converted, and that is true. Lack
+-- of memory has no line: it is a stop.
 abbrev pub IsRefusalTold : Order → List ℕ → Format → Order → Option (List ℕ) → Option (List ℕ) → Type 0
 IsRefusalTold order section format to old new =
     (fault : ConvertFault) × (fault ≢ Memory) × IsConvertFault order section format to fault × Appends old new (refusal_text fault)
@@ -38,7 +38,8 @@ abbrev pub IsConversionTold : Order → List ℕ → Format → Order → Option
 IsConversionTold order section format to old new Done = IsPrintedIn (IsConverted order section format to) old new
 IsConversionTold order section format to old new No = IsRefusalTold order section format to old new
 
--- A writer that held these bytes has gained nothing, or a front of what the work on the section might have printed, and nothing else.
+-- What was appended to a writer that held these bytes is nothing, or a prefix of what the work on the section might have printed, and
+-- nothing else.
 abbrev pub IsConversionBegun : Order → List ℕ → Format → Order → Option (List ℕ) → Option (List ℕ) → Type 0
 IsConversionBegun order section format to old new =
     Keeps old new ⊎ HasBegun (IsConversionTold order section format to old) old new

@@ -1,13 +1,13 @@
--- The line that `dump --rows` prints of a row. No public contract speaks of it.
+-- The line that `dump --rows` prints for a row. No public contract speaks of it.
 use Rattle.std.specs.Prelude.{◌≡◌, ◌||◌, ℕ, Bool, cond, List, [], ◌∷◌, ◌++◌, codes, if◌then◌else◌}
 use Rattle.lnt_digits.specs.Digits.{IsPlainAddress, IsPlainDecimal}
 use Rattle.lnt_machine.specs.declared.row.Row.{Row}
 
--- a mark by its letter, where it is set
+-- a flag by its letter, if it is set
 abbrev pub mark_text : Bool → List ℕ → List ℕ
 mark_text is_set letter = cond is_set letter []
 
--- the letters of the marks that are set, or a dash where none is
+-- the letters of the flags that are set, or a dash if none is
 abbrev pub marks_text : Row → List ℕ
 marks_text row =
     cond (((row.basic_block || row.end_sequence) || row.prologue_end) || row.epilogue_begin)
@@ -16,7 +16,7 @@ marks_text row =
     (codes "-")
 
 -- Its number, counted in its unit, and its registers: decimal numbers and an address in hexadecimal digits, without leading zeros,
--- whether it is a statement, and its marks.
+-- whether it is a statement, and its flags.
 pub record IsRowLine (number : ℕ) (row : Row) (text : List ℕ) : Type 0 where
   pub number_text : List ℕ
   pub number_is : IsPlainDecimal number_text number

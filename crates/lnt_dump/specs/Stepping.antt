@@ -13,15 +13,15 @@ abbrev pub GivesUnit : Next → Type 0
 GivesUnit (NextUnit unit) = Unit {0}
 GivesUnit _ = ⊥
 
--- This comes next in the bytes that the source had to give (old), which begin at the offset. After a unit the source has the bytes
--- after it left to give (new), and the reader stands at the offset of its end (after).
+-- This comes next in the source's bytes (old), which begin at the offset. After a unit the source's remaining bytes (new) are
+-- those after it, and the reader is at the offset of its end (after).
 abbrev pub IsNext : ℕ → ℕ → Order → Option (List ℕ) → Option (List ℕ) → Next → Type 0
 IsNext offset after order old new (NextUnit unit) = IsNextUnit offset order old new unit × (after ≡ offset + length unit.bytes)
 IsNext offset after order old new (NextFault fault) = SectionEndsBy offset order old (Some fault)
 IsNext offset after order old new End = SectionEndsBy offset order old None
 
--- ---- what a writer has gained where printing was stopped
+-- ---- what was written if printing stopped
 
--- a writer that held these bytes has gained a front of such a text (Is), and nothing else
+-- what was appended to a writer that held these bytes is a prefix of such a text (Is), and nothing else
 abbrev pub IsFrontIn : (List ℕ → Type 0) → Option (List ℕ) → Option (List ℕ) → Type 0
 IsFrontIn Is old new = (text : List ℕ) × Is text × AppendsFront old new text

@@ -17,7 +17,7 @@ abbrev pub unit_line : Frame → List ℕ
 unit_line frame =
     hexadecimal frame.offset ++ (codes " " ++ (decimal (width frame.format) ++ (codes " " ++ (decimal frame.length ++ codes "\n"))))
 
--- the line of the bytes after the last unit, if no unit begins them
+-- the line of the bytes after the last unit, if they don't begin with a unit
 abbrev pub end_line : Option Fault → List ℕ
 end_line None = []
 end_line (Some fault) = malformed_text fault ++ codes "\n"
@@ -27,8 +27,8 @@ abbrev pub end_status : Option Fault → Status
 end_status None = Done
 end_status (Some fault) = No
 
--- A writer that held these bytes (old) has gained the lines of frames, the line of the fault after them, if there is one, and nothing
--- else. Where the source told what it had to give (section), these are its frames, and its first fault.
+-- What was appended to a writer that held these bytes (old) is the lines of frames, the line of the fault after them, if there is
+-- one, and nothing else. If the source's bytes are known (section), these are its frames, and its first fault.
 pub record AreUnitsTold (order : Order) (section old new : Option (List ℕ)) (status : Status) : Type 0 where
   pub frames : List Frame
   pub fault : Option Fault

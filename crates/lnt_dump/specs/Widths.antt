@@ -1,4 +1,4 @@
--- The numbers by which formats are named: 32 and 64.
+-- The numbers that name formats: 32 and 64.
 use Rattle.std.specs.Prelude.{ℕ}
 use Rattle.lnt_wire.specs.declared.format.Format.{Format}
 use Rattle.lnt_wire.specs.declared.format.Format.TheVariants.{D32, D64}

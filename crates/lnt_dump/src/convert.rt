@@ -19,16 +19,16 @@ use lnt_wire::{Cursor, Format, Order};
 use std::alloc::Global;
 use std::io::Write;
 
-/// Reads the section that the source has to give, in the byte order `order`, and prints it in the format `format` and the byte
-/// order `to`; or the line that says why there is no such section: `no 25 ..` or `no 20 ..`.
+/// Reads the section from the source, in the byte order `order`, and prints it in the format `format` and the byte order `to`;
+/// or the line that says why there is no such section: `no 25 ..` or `no 20 ..`.
 ///
-/// Where it answers `Done`, the writer has gained the converted section, and nothing else. Where it answers `No`, the
-/// section is malformed, or a unit of it is too large for the format, and the writer has gained the line that says so
-/// alone. It stops by `Read` only where the source failed, by `TooLong` only where it has more bytes than it may give,
-/// by `Write` where the writer failed, and by `Memory`. Where it stops, the writer has gained a front of the converted
-/// section, or of the line that says why there is none, and nothing else. It keeps the bytes of the section, which are
-/// read once, and converts them unit by unit, once it is known that each unit has a spelling in the format. The caller
-/// sees to it that the number of the source's failures is below `u64::MAX`.
+/// If it returns `Done`, the converted section has been written, and nothing else. If it returns `No`, the section is
+/// malformed, or a unit of it is too large for the format, and only the line that says so has been written. Stops with
+/// `Read` only if the source failed, with `TooLong` only if it has more bytes than it may give, with `Write` if the writer
+/// failed, and with `Memory`. If it stops, a prefix of the converted section, or of the line that says why there is none,
+/// has been written, and nothing else. It keeps the bytes of the section, which are read once, and converts them unit by
+/// unit, once each unit is known to have an encoding in the format. The caller ensures that the number of the source's
+/// failures is below `u64::MAX`.
 pub fn print_converted<R: Source, W: Write>(
     alloc: Global,
     source: &mut R,
@@ -55,7 +55,7 @@ pub fn print_converted<R: Source, W: Write>(
     Ok(Status::Done)
 }
 
-// Prints a section that converts in the format and in the byte order `to`, unit by unit, or a front of it.
+// Prints a section that converts in the format and in the byte order `to`, unit by unit, or a prefix of it.
 #[tactic(auto, using(crate::proofs::Sections::section_begun, crate::proofs::Sections::section_handed_on, crate::proofs::Sections::unit_long))]
 fn print_section<W: Write>(
     alloc: Global,
@@ -90,7 +90,7 @@ fn print_section<W: Write>(
     Ok(())
 }
 
-// Prints the line that says why a section isn't converted, or a front of it. Want of memory has no line: it stops.
+// Prints the line that says why a section isn't converted, or a prefix of it. Lack of memory has no line: it is a stop.
 fn print_refusal<W: Write>(alloc: Global, fault: ConvertFault, out: &mut W) -> Result<Status, Halt>
     ensures no { IfOk result (λ status. status ≡ No) }
     ensures told { OnOk result (fault ≢ ConvertFault.Memory) }
@@ -105,7 +105,7 @@ fn print_refusal<W: Write>(alloc: Global, fault: ConvertFault, out: &mut W) -> R
     }
 }
 
-// Prints the line that says which unit is too large, or a front of it.
+// Prints the line that says which unit is too large, or a prefix of it.
 fn print_too_large<W: Write>(
     alloc: Global,
     fault: ConvertFault,

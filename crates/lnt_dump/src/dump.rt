@@ -20,18 +20,19 @@ use std::io::Write;
 pub struct DumpParts {
     /// Whether a line is printed for each operation.
     pub ops: bool,
-    /// Whether after these a line is printed for each row. Then a program that doesn't run is refused, with a line that says so.
+    /// Whether after these a line is printed for each row. Then a program that doesn't run is an error, with a line that says
+    /// so.
     pub rows: bool,
 }
 
 // Why a unit isn't printed, or not whole.
 #[derive(Clone, Copy)]
 pub(crate) enum PrintStop {
-    // Its bytes are those of no unit.
+    // Its bytes aren't those of a unit.
     Malformed(Fault),
     // Its program doesn't run.
     NotRun(RunFault),
-    // The printing was stopped.
+    // The printing stopped.
     Halt(Halt),
 }
 
@@ -53,14 +54,14 @@ impl From<AllocError> for PrintStop {
     }
 }
 
-/// Prints the units that the source has to give: for each a line `unit` (offset, format, length), a line `header` (the numbers
-/// of the header in their order), and a line `dir` or `file` for each entry, counted from 0 (DWARF 5, section 6.2.4); then what
+/// Prints the units from the source. For each it prints a line `unit` (offset, format, length), a line `header` (the numbers of
+/// the header in their order), a line `dir` or `file` for each entry, counted from 0 (DWARF 5, section 6.2.4), and then what
 /// `shown` asks for.
 ///
-/// It answers `Done` where all of them were printed. At the first unit with a fault it prints the line of the fault,
-/// and nothing else of that unit, and answers `No`. It stops by `Read` where the source failed, by `TooLong` where it
-/// has more bytes than it may give, by `Write` where the writer failed, and by `Memory`; what was printed of earlier
-/// units stays. The caller sees to it that the number of the source's failures is below `u64::MAX`.
+/// Returns `Done` if all of them were printed. At the first unit with a fault it prints the line of the fault, and nothing
+/// else of that unit, and returns `No`. Stops with `Read` if the source failed, with `TooLong` if it has more bytes than it
+/// may give, with `Write` if the writer failed, and with `Memory`; what was printed of earlier units stays. The caller
+/// ensures that the number of the source's failures is below `u64::MAX`.
 pub fn print_dump<R: Source, W: Write>(
     alloc: Global,
     source: &mut R,
@@ -108,7 +109,7 @@ fn print_unit<W: Write>(
     }
 }
 
-// Prints a unit whose header is sound, or the fault of its program.
+// Prints a unit whose header is valid, or the fault of its program.
 fn print_judged<W: Write>(sheet: &Sheet<'_>, page: &mut Page, out: &mut W) -> Result<Status, Halt> {
     page.begin();
     match print_sheet(sheet, page, out) {
@@ -119,7 +120,7 @@ fn print_judged<W: Write>(sheet: &Sheet<'_>, page: &mut Page, out: &mut W) -> Re
     }
 }
 
-// Prints a unit, if it is sound, and else nothing of it. The first walk over its program judges it.
+// Prints a unit if it is valid, and otherwise nothing of it. The first walk over its program checks it.
 fn print_sheet<W: Write>(sheet: &Sheet<'_>, page: &mut Page, out: &mut W) -> Result<(), PrintStop> {
     let DumpParts { ops, rows } = sheet.shown;
     if ops {

@@ -15,7 +15,7 @@ use lnt_wire::{Fault, Reason};
 use std::alloc::Global;
 use std::io::Write;
 
-// Prints the line that says which bytes are refused, and why, or a front of it.
+// Prints the line that says which bytes are rejected, and why, or a prefix of it.
 pub(crate) fn print_fault<W: Write>(
     alloc: Global,
     fault: Fault,

@@ -1,4 +1,4 @@
-//! How headers are printed, with their entries read one by one where they lie.
+//! How headers are printed, with their entries read one by one in place.
 ghost use Rattle.std.specs.Prelude.{◌<◌, OnOk};
 ghost use Rattle.lnt_wire.specs.Bytes.{NoneSpelled};
 ghost use Rattle.lnt_header_bytes.specs.Stepping.{Passes};
@@ -13,7 +13,7 @@ use lnt_wire::{Cursor, Format, Frame, ValueView};
 use std::alloc::Global;
 use std::io::Write;
 
-// So many bytes of a block are written at once.
+// This many bytes of a block are written at once.
 const PIECE: usize = 4096;
 
 // Prints the lines of a unit's header and of its two tables.
@@ -64,7 +64,7 @@ fn print_entries<W: Write>(
     Ok(())
 }
 
-// Prints the components of the next entry, which is there, and moves past it.
+// Prints the components of the next entry, which exists, and moves past it.
 #[tactic(auto, using(crate::proofs::Entries::read_none, crate::proofs::Entries::read_more, crate::proofs::Entries::read_all, crate::proofs::Entries::none_there))]
 fn print_entry<W: Write>(
     alloc: Global,
@@ -110,7 +110,7 @@ fn print_text<W: Write>(text: &[u8], out: &mut W) -> Result<(), Halt> {
     Ok(())
 }
 
-// Prints an offset into the strings of this name.
+// Prints an offset into the string section of this name.
 fn print_offset<W: Write>(strings: &str, offset: u64, out: &mut W) -> Result<(), Halt> {
     write!(out, "{strings}:0x{offset:x}")?;
     Ok(())

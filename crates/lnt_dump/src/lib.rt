@@ -1,7 +1,7 @@
 //! The units of a section as text: their frames, headers, operations and rows; and the section in another format.
 //!
-//! [`print_units`], [`print_dump`] and [`print_converted`] take the section from a source, judge none of its lines, and
-//! write to a writer. What no unit spells gets a line that says so.
+//! [`print_units`], [`print_dump`] and [`print_converted`] read the section from a source, don't judge its lines, and write
+//! to a writer. Bytes that aren't a unit get a line that says so.
 #![tactic(auto)]
 
 mod convert;

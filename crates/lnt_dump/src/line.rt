@@ -1,4 +1,4 @@
-//! Lines of rows, written from their ends on, so that no digits have to be counted or moved.
+//! Lines of rows, written backwards from their ends, so that no digits have to be counted or moved.
 ghost use Rattle.std.specs.Prelude.{◌≡◌, ◌+◌, ◌<◌, ◌≤◌, ◌∷◌, ◌++◌, [], drop};
 ghost use Rattle.lnt_dump.specs.Rows.{IsNumberBefore, IsRowLine, mark_text, marks_text};
 
@@ -43,7 +43,7 @@ fn number_before(room: &mut [u8; MOST], end: usize, n: u64, after: u8) -> usize
     decimal_before(room, end - 1, n)
 }
 
-// Writes the letters of the marks that are set, or a dash, and a space, so that they end before index `end`, and gives the
+// Writes the letters of the flags that are set, or a dash, and a space, so that they end before index `end`, and gives the
 // index of the first.
 #[inline(always)]
 fn marks_before(room: &mut [u8; MOST], end: usize, row: &Row) -> usize
@@ -62,7 +62,7 @@ fn marks_before(room: &mut [u8; MOST], end: usize, row: &Row) -> usize
     mark_before(room, at, row.basic_block, b'b')
 }
 
-// Writes the letter `byte` of a mark before index `end`, if the mark is set, and gives the index at which the text then begins.
+// Writes the letter `byte` of a flag before index `end`, if the flag is set, and gives the index at which the text then begins.
 #[inline(always)]
 fn mark_before(room: &mut [u8; MOST], end: usize, is_set: bool, byte: u8) -> usize
     requires { (1 ≤ end) × (end ≤ 192) }

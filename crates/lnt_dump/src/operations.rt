@@ -15,8 +15,8 @@ use lnt_wire::{Cursor, Order};
 use std::alloc::AllocError;
 use std::io::Write;
 
-// Prints a line for each operation of a unit, and judges its program as it goes; where rows are shown too, also whether
-// it runs.
+// Prints a line for each operation of a unit, and checks its program on the way; if rows are shown too, also whether it
+// runs.
 #[tactic(auto, using(lnt_machine::proofs::WalkLaws::step_allowed, crate::proofs::Operands::stands_for))]
 pub(crate) fn print_ops<W: Write>(
     sheet: &Sheet<'_>,
@@ -56,7 +56,7 @@ fn print_op<W: Write>(
     turn_full(sheet, page, out)
 }
 
-// Adds what stands before the name in the line of the `index`th operation.
+// Adds the part of the line of the `index`th operation before the name.
 #[inline(always)]
 fn put_start(text: &mut Vec<u8>, index: u64) -> Result<(), AllocError> {
     text.extend_from_slice(b"op ")?;
@@ -65,7 +65,7 @@ fn put_start(text: &mut Vec<u8>, index: u64) -> Result<(), AllocError> {
 }
 
 // Adds the name and the operands of an operation, as its line has them. The bytes of an unknown extended operation may fill
-// pages, which are handed on.
+// pages, which are written.
 #[tactic(auto, using(crate::proofs::Operands::some_operands))]
 fn put_op<W: Write>(
     sheet: &Sheet<'_>,
@@ -141,12 +141,12 @@ fn put_listed(text: &mut Vec<u8>, numbers: &[u64]) -> Result<(), AllocError> {
     Ok(())
 }
 
-// Adds the numbers that the bytes spell, one after another up to their end, each after a space.
+// Adds the numbers that the bytes encode, one after another up to their end, each after a space.
 #[tactic(auto, using(crate::proofs::Operands::one_there, crate::proofs::Operands::rest_spelled, crate::proofs::Operands::rest_shorter))]
 fn put_spelled(text: &mut Vec<u8>, bytes: &[u8]) -> Result<(), AllocError>
     requires { (numbers : List ℕ) × Each UnsignedLeb numbers bytes.now }
 {
-    // The order of bytes is of no concern to these numbers.
+    // The byte order doesn't matter for these numbers.
     let mut cursor = Cursor::new(bytes, 0, Order::Little);
     while !cursor.rest().is_empty() {
         let Ok(number) = cursor.uleb() else {

@@ -8,7 +8,7 @@ use lnt_unit::UnitInPlace;
 use std::alloc::{AllocError, Global};
 use std::io::Write;
 
-// A page is handed to the writer once it has so many bytes.
+// A page is written once it has this many bytes.
 pub(crate) const PAGE: usize = 1 << 16;
 
 // A unit, and what is printed of it.
@@ -20,8 +20,8 @@ pub(crate) struct Sheet<'a> {
     pub(crate) shown: DumpParts,
 }
 
-// The text of a unit that isn't written yet. It is held back until the unit is known to be sound: then its header is
-// written, and after that the text as it comes.
+// The text of a unit that isn't written yet. It is kept until the unit is known to be valid: then its header is written,
+// and after that the text as it comes.
 #[derive(Drop)]
 pub(crate) struct Page {
     pub(crate) text: Vec<u8>,
@@ -37,7 +37,7 @@ impl Page {
         })
     }
 
-    // Whether the text has to be handed on.
+    // Whether the text has to be written.
     #[inline(always)]
     fn is_full(&self) -> bool {
         self.text.len() >= PAGE
@@ -50,7 +50,7 @@ impl Page {
     }
 }
 
-// Hands the page to the writer, if it is full.
+// Writes the page if it is full.
 #[inline(always)]
 pub(crate) fn turn_full<W: Write>(
     sheet: &Sheet<'_>,
@@ -63,7 +63,7 @@ pub(crate) fn turn_full<W: Write>(
     Ok(())
 }
 
-// Hands a full page to the writer, once the unit is known to be sound.
+// Writes a full page once the unit is known to be valid.
 fn turn<W: Write>(sheet: &Sheet<'_>, page: &mut Page, out: &mut W) -> Result<(), PrintStop> {
     if !page.is_begun {
         judge(sheet)?;
@@ -72,7 +72,7 @@ fn turn<W: Write>(sheet: &Sheet<'_>, page: &mut Page, out: &mut W) -> Result<(),
     Ok(())
 }
 
-// Judges the program of a unit without printing anything.
+// Checks the program of a unit without printing anything.
 pub(crate) fn judge(sheet: &Sheet<'_>) -> Result<(), PrintStop> {
     if sheet.shown.rows {
         run(sheet.unit)
@@ -82,7 +82,7 @@ pub(crate) fn judge(sheet: &Sheet<'_>) -> Result<(), PrintStop> {
     }
 }
 
-// Writes the text of a sound unit, and before it the header, if that wasn't written yet.
+// Writes the text of a valid unit, and before it the header, if that wasn't written yet.
 pub(crate) fn hand_on<W: Write>(
     sheet: &Sheet<'_>,
     page: &mut Page,

@@ -6,7 +6,7 @@ use crate::run::rows_end;
 use lnt_machine::{Row, Rows};
 use std::io::Write;
 
-// Prints a line for each row of a unit, and judges its program as it goes.
+// Prints a line for each row of a unit, and checks its program on the way.
 pub(crate) fn print_rows<W: Write>(
     sheet: &Sheet<'_>,
     page: &mut Page,

@@ -3,8 +3,7 @@ use crate::dump::PrintStop;
 use lnt_machine::{RowFault, Rows, RunFault};
 use lnt_unit::UnitInPlace;
 
-// Runs the program of a unit. It refuses with the fault of the first operation that isn't there, and else with that of
-// the run.
+// Runs the program of a unit. Fails with the fault of the first operation that isn't valid, or else with that of the run.
 pub(crate) fn run(unit: &UnitInPlace<'_>) -> Result<(), PrintStop> {
     for row in Rows::new(unit.numbers(), unit.ops()) {
         if let Err(fault) = row {
@@ -22,7 +21,7 @@ pub(crate) fn rows_end(unit: &UnitInPlace<'_>, fault: RowFault) -> PrintStop {
     }
 }
 
-// Why a program stops that doesn't run: an operation that isn't there comes first, wherever it would stand.
+// Why a program that doesn't run stops: an invalid operation is reported first, wherever it is.
 pub(crate) fn not_run(unit: &UnitInPlace<'_>, fault: RunFault) -> PrintStop {
     match unit.operation_count() {
         Ok(_) => PrintStop::NotRun(fault),

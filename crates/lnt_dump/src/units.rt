@@ -17,16 +17,16 @@ use lnt_wire::{Fault, Frame, Order};
 use std::alloc::Global;
 use std::io::Write;
 
-/// Prints a line `0xOFFSET 32|64 LENGTH` for each unit that the source has to give: its offset in the section, the bits of an
-/// offset in its format, and its `unit_length`, the bytes after that field, in decimal (DWARF 5, sections 6.2.4 and 7.4).
+/// Prints a line `0xOFFSET 32|64 LENGTH` for each unit from the source: its offset in the section, the bits of an offset in
+/// its format, and its `unit_length`, the bytes after that field, in decimal (DWARF 5, sections 6.2.4 and 7.4).
 ///
-/// It answers `Done` where all of them were printed. Where no unit begins what is left, it prints the line of the
-/// fault, and answers `No`. In both cases the writer has gained the lines of the section's frames (`AreFrames` of
-/// `lnt_wire`), that of the fault, and nothing else. It stops by `Read` where the source failed, by `TooLong` where it
-/// has more bytes than it may give, by `Write` where the writer failed, and by `Memory`. Where it stops, the writer has
-/// gained a front of these lines, also of those of frames that weren't read, and nothing else. That is said of a source
-/// that has numbers below 256 to give, and so bytes. The caller sees to it that the number of the source's failures is
-/// below `u64::MAX`.
+/// Returns `Done` if all of them were printed. If the remaining bytes don't begin with a unit, it prints the line of the
+/// fault, and returns `No`. In both cases the lines of the section's frames (`AreFrames` of `lnt_wire`) and that of the
+/// fault have been written, and nothing else. Stops with `Read` if the source failed, with `TooLong` if it has more bytes
+/// than it may give, with `Write` if the writer failed, and with `Memory`. If it stops, a prefix of these lines, including
+/// those of frames that weren't read, has been written, and nothing else. This holds for a source whose remaining list has
+/// only numbers below 256, which are bytes. The caller ensures that the number of the source's failures is below
+/// `u64::MAX`.
 pub fn print_units<R: Source, W: Write>(
     alloc: Global,
     source: &mut R,
@@ -62,7 +62,7 @@ pub(crate) enum Next {
     End,
 }
 
-// What comes next from a reader that wasn't stopped. A unit is read into the room.
+// What comes next from a reader that hasn't stopped. A unit is read into the room.
 pub(crate) fn next_of<R: Source>(
     reader: &mut SectionReader<'_, R>,
     room: Vec<u8>,
@@ -85,7 +85,7 @@ pub(crate) fn next_of<R: Source>(
     }
 }
 
-// Prints the line of a unit, or a front of it. The line is put together in the room.
+// Prints the line of a unit, or a prefix of it. The line is put together in the room.
 fn print_frame<W: Write>(frame: &Frame<'_>, room: &mut Vec<u8>, out: &mut W) -> Result<(), Halt>
     ensures whole { OnOk result (Appends (W.contents out.old) (W.contents out.new) (unit_line frame.now)) }
     ensures front { OnErr result (AppendsFront (W.contents out.old) (W.contents out.new) (unit_line frame.now)) }

@@ -12,7 +12,7 @@ use std::alloc::Global;
 
 /// Whether the table answers as the section does at every address and operation index.
 ///
-/// It stops as `check` does. The caller sees to it that the number of each source's failures is below `u64::MAX`.
+/// Stops as `check` does. The caller ensures that the number of each source's failures is below `u64::MAX`.
 pub fn may_ship<R: Source, T: Source>(
     alloc: Global,
     section: &mut R,

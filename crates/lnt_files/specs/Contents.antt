@@ -1,5 +1,5 @@
--- What the entries of a table say by their content types (DWARF 5, sections 6.2.4.1 and 7.22). In an entry the first component
--- of a content type counts.
+-- The entries of a table by their content types (DWARF 5, sections 6.2.4.1 and 7.22). In an entry the first component of a
+-- content type counts.
 use Rattle.std.specs.Prelude.{ℕ, ◌==◌, List, Option, Some, None}
 use Rattle.std.specs.List.{position, slice_get}
 use Rattle.std.specs.Option.{option_map, option_and_then, option_map_or}
@@ -45,7 +45,7 @@ number_of (Data4 n) = n
 number_of (Data8 n) = n
 number_of _ = 0
 
--- a file's directory number; 0 where it has none
+-- a file's directory number, or 0 if it has none
 abbrev pub directory_number : List Pair → Entry → ℕ
 directory_number pairs file = option_map_or number_of (component content_directory_index pairs file) 0
 
@@ -54,6 +54,6 @@ abbrev pub bytes_of_sum : FormValue → Option (List ℕ)
 bytes_of_sum (Data16 bytes) = Some bytes
 bytes_of_sum _ = None
 
--- a file's MD5 sum, where it lists one
+-- a file's MD5 sum, if it lists one
 abbrev pub sum_of : List Pair → Entry → Option (List ℕ)
 sum_of pairs file = option_and_then bytes_of_sum (component content_md5 pairs file)

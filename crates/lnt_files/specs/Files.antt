@@ -1,11 +1,11 @@
--- What is kept of the files of a header: of each its whole path, and its sum where one is listed.
+-- What is kept of the files of a header: the full path of each, and its sum if one is listed.
 use Rattle.std.specs.Prelude.{◌≡◌, ℕ, List, length, Option}
 use Rattle.std.specs.List.{slice_get}
 use Rattle.std.specs.Option.{option_map, option_and_then}
 use Rattle.lnt_header.specs.declared.header.HeaderParts.{HeaderParts}
 use Rattle.lnt_files.specs.Paths.{path_bytes, listed_sum}
 
--- a file's whole path, and its MD5 sum where it lists one
+-- a file's full path, and its MD5 sum if it lists one
 pub record KeptFile : Type 0 where
   pub path : List ℕ
   pub listed : Option (List ℕ)

@@ -1,4 +1,4 @@
--- How the files of a header are kept: the paths of all in one list of bytes, one after the other, and of each where its path ends.
+-- How the files of a header are kept: the paths of all in one list of bytes, one after the other, and the end of each.
 use Rattle.std.specs.Prelude.{◌≡◌, ℕ, ◌≤◌, List, [], ◌∷◌}
 use Rattle.std.specs.List.{slice_range}
 use Rattle.lnt_files.specs.declared.files.PathEnd.{PathEnd}
@@ -10,7 +10,7 @@ kept_files paths start [] = []
 kept_files paths start (file ∷ files) =
     record { path = slice_range paths start file.end; listed = file.listed } ∷ kept_files paths file.end files
 
--- the ends rise from the start to the last one
+-- the ends are in ascending order from the start to the last one
 abbrev pub EndAt : ℕ → ℕ → List PathEnd → Type 0
 EndAt last start [] = start ≡ last
 EndAt last start (file ∷ files) = (start ≤ file.end) × EndAt last file.end files

@@ -1,5 +1,4 @@
--- The pieces that the path of a file is joined from: directory 0, the file's own directory, and its name. No public contract
--- speaks of it.
+-- The pieces of the path of a file: directory 0, the file's own directory, and its name. No public contract speaks of it.
 use Rattle.std.specs.Prelude.{ℕ, List}
 use Rattle.lnt_files.specs.declared.paths.Pieces.{Pieces}
 use Rattle.lnt_files.specs.Paths.{join}

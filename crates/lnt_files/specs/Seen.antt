@@ -13,7 +13,7 @@ use Rattle.lnt_files.specs.Contents.{directory_number}
 use Rattle.lnt_files.specs.Tables.{HasPath}
 use Rattle.lnt_files.specs.Walks.{Says}
 
--- the first index that is missing, once it is told whether this one is there
+-- the first missing index, once it is known whether this one exists
 abbrev pub first_missing : Option ℕ → ℕ → Bool → Option ℕ
 first_missing (Some first) index is_there = Some first
 first_missing None index true = None
@@ -28,14 +28,14 @@ pub record HasAll (line general : List ℕ) (count : ℕ) (files : BorrowedTable
   pub paths : AllByRecursion (HasPath line general files.pairs) files.entries
   pub numbers : AllByRecursion (NamesDirectoryBelow count files.pairs) files.entries
 
--- the first file without the text of its path; else the first without its directory
+-- the first file without the text of its path; otherwise the first without its directory
 abbrev pub IsFilesFault : List ℕ → List ℕ → ℕ → BorrowedTable → EntryTableFault → Type 0
 IsFilesFault line general count files (StringOutside Files index) = IsFirstNot (HasPath line general files.pairs) files.entries index
 IsFilesFault line general count files (DirectoryNumber index) =
     AllByRecursion (HasPath line general files.pairs) files.entries × IsFirstNot (NamesDirectoryBelow count files.pairs) files.entries index
 IsFilesFault line general count files fault = ⊥
 
--- what the entry of this number says, if it is there
+-- the components of the entry with this number, if there is one
 abbrev pub EntryAt : BorrowedTable → ℕ → Option EntryView → Type 0
 EntryAt table number None = slice_get table.entries number ≡ None
 EntryAt table number (Some view) = (entry : Entry) × (slice_get table.entries number ≡ Some entry) × Says table.pairs entry view

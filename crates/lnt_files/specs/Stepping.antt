@@ -24,7 +24,7 @@ use Rattle.lnt_files.specs.Walks.{Says}
 
 -- ---- the components of an entry
 
--- the read of an entry, and what it says
+-- the read of an entry, and its components
 pub record ReadsEntry (format : Format) (pairs : List Pair) (view : EntryView) (old new : At) : Type 0 where
   pub entry : Entry
   pub says : Says pairs entry view

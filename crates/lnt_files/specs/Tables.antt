@@ -1,4 +1,4 @@
--- What the directories and files of a header have to be, and what is wrong where they aren't so (DWARF 5, section 6.2.4.1).
+-- What makes the directories and files of a header usable, and what is wrong if they aren't (DWARF 5, section 6.2.4.1).
 --     line, general   the bytes of .debug_line_str and of .debug_str
 use Rattle.std.specs.Prelude.{◌≡◌, ℕ, ◌<◌, ◌⊎◌, List, [], length, IsSome, IsSomeAnd, IfSome}
 use Rattle.std.specs.List.{AllByRecursion}
@@ -34,7 +34,7 @@ abbrev pub IsSumForm : Form → Type 0
 IsSumForm Data16 = Unit {0}
 IsSumForm _ = ⊥
 
--- A format with a path, and with directory numbers and sums, where it has some, in their forms. Other components may have any form.
+-- A format with a path, and with directory numbers and sums, if it has any, in their forms. Other components may have any form.
 pub record IsUsableFormat (pairs : List Pair) : Type 0 where
   pub path : IsSomeAnd (form_at content_path pairs) IsPathForm
   pub directory_index : IfSome (form_at content_directory_index pairs) IsNumberForm
@@ -44,7 +44,7 @@ pub record IsUsableFormat (pairs : List Pair) : Type 0 where
 abbrev pub HasUsableFormat : List Pair → List Entry → Type 0
 HasUsableFormat pairs entries = (entries ≡ []) ⊎ IsUsableFormat pairs
 
--- the text of the entry's path is there
+-- the entry's path has a text
 abbrev pub HasPath : List ℕ → List ℕ → List Pair → Entry → Type 0
 HasPath line general pairs entry = IsSome (path_text line general pairs entry)
 
@@ -53,11 +53,11 @@ pub record IsUsableTable (line general : List ℕ) (pairs : List Pair) (entries 
   pub format : HasUsableFormat pairs entries
   pub paths : AllByRecursion (HasPath line general pairs) entries
 
--- the directory that the file names is there
+-- the directory that the file names exists
 abbrev pub HasDirectory : HeaderParts → Entry → Type 0
 HasDirectory h file = directory_number h.file_format file < length h.directories
 
--- two usable tables, and no file that names a directory that isn't there
+-- two usable tables, and no file that names a missing directory
 pub record AreUsableTables (line general : List ℕ) (h : HeaderParts) : Type 0 where
   pub directories : IsUsableTable line general h.directory_format h.directories
   pub files : IsUsableTable line general h.file_format h.files
@@ -69,7 +69,7 @@ pub record HaveUsableFormats (h : HeaderParts) : Type 0 where
   pub directories : HasUsableFormat h.directory_format h.directories
   pub files : HasUsableFormat h.file_format h.files
 
--- What is wrong. Whatever is tested earlier is sound.
+-- What is wrong. Whatever is checked earlier is valid.
 abbrev pub IsTablesFault : List ℕ → List ℕ → HeaderParts → EntryTableFault → Type 0
 IsTablesFault line general h (EntryFormat Directories) = HasUsableFormat h.directory_format h.directories → ⊥
 IsTablesFault line general h (EntryFormat Files) =

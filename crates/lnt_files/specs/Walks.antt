@@ -1,4 +1,4 @@
--- Entries that are read where they lie, one after another. No public contract speaks of it.
+-- Entries that are read in place, one after another. No public contract speaks of it.
 use Rattle.std.specs.Prelude.{◌≡◌, ℕ, List, [], ◌∷◌, map, Option, Some, None}
 use Rattle.std.specs.Option.{option_map}
 use Rattle.lnt_wire.specs.At.{At}
@@ -14,7 +14,7 @@ use Rattle.lnt_files.specs.declared.components.Usual.TheVariants.{Path, IndexedP
 use Rattle.lnt_files.specs.declared.walk.EntryView.{EntryView}
 use Rattle.lnt_files.specs.Contents.{content_path, content_directory_index, content_md5, place_of, component}
 
--- ---- what an entry says
+-- ---- the components of an entry
 
 -- The view has the first component of each content type.
 pub record Says (pairs : List Pair) (entry : Entry) (view : EntryView) : Type 0 where
@@ -22,7 +22,7 @@ pub record Says (pairs : List Pair) (entry : Entry) (view : EntryView) : Type 0 
   pub directory : option_map value_of view.directory ≡ component content_directory_index pairs entry
   pub sum : option_map value_of view.sum ≡ component content_md5 pairs entry
 
--- The next entry of a walk: what it says, and the entries that are left after it.
+-- The next entry of a walk: its components, and the entries after it.
 pub record GivesEntry (old : BorrowedTable) (view : EntryView) (new : BorrowedTable) : Type 0 where
   pub entry : Entry
   pub entries_are : old.entries ≡ entry ∷ new.entries
@@ -40,7 +40,7 @@ EntryStep old (Some view) new = GivesEntry old view new
 abbrev pub contents_of : List Pair → List ℕ
 contents_of pairs = map (λ pair. pair.content) pairs
 
--- The pairs have the content types and the forms of this one of the usual formats; of another format nothing is said.
+-- The pairs have the content types and the forms of this one of the usual formats; another format isn't restricted.
 abbrev pub IsUsual : Usual → List Pair → Type 0
 IsUsual Path pairs = (contents_of pairs ≡ content_path ∷ []) × (forms_of pairs ≡ LineStrp ∷ [])
 IsUsual IndexedPath pairs = (contents_of pairs ≡ content_path ∷ content_directory_index ∷ []) × (forms_of pairs ≡ LineStrp ∷ Udata ∷ [])
@@ -54,11 +54,11 @@ pub record ArePlaces (places : Places) (pairs : List Pair) : Type 0 where
   pub directory : places.directory ≡ place_of content_directory_index pairs
   pub sum : places.sum ≡ place_of content_md5 pairs
 
--- the table with the entries that are left
+-- the table with the remaining entries
 abbrev pub left_of : BorrowedTable → ℕ → At → BorrowedTable
 left_of table left at = borrowed_table table.format table.order table.pairs left at.rest
 
--- a walk stands before so many entries, whose bytes are left
+-- a walk is before this many entries, whose bytes remain
 pub record IsWalk (table : BorrowedTable) (usual : Usual) (places : Places) (left : ℕ) (at : At) : Type 0 where
   pub usual_is : IsUsual usual table.pairs
   pub places_are : ArePlaces places table.pairs

@@ -1,4 +1,4 @@
-//! The components of an entry that matter, read where they lie.
+//! The components of an entry that matter, read in place.
 ghost use Rattle.std.specs.Prelude.{◌≡◌, ◌↔◌, IsTrue, ◌++◌, ◌∷◌, [], ℕ, List, length, IfOk, IfErr};
 ghost use Rattle.lnt_header_bytes.specs.TableBytes.{EntryBytes};
 ghost use Rattle.lnt_wire.specs.Borrowed.{value_of};
@@ -14,7 +14,8 @@ use crate::walk::EntryView;
 use lnt_header::Pair;
 use lnt_wire::{Cursor, Fault, Form, Format, ValueView};
 
-/// Which of the formats that compilers write a table has. Entries of the first three are read without a look at the format.
+/// Which of the formats that compilers write a table has. Entries of the first three are read without checking the format
+/// for each.
 #[derive(Clone, Copy)]
 pub(crate) enum Usual {
     /// A path in `.debug_line_str`.
@@ -27,7 +28,7 @@ pub(crate) enum Usual {
     Other,
 }
 
-/// Where the first components of the content types stand in an entry.
+/// The index in an entry of the first component of each content type.
 #[derive(Clone, Copy)]
 pub(crate) struct Places {
     path: Option<usize>,
@@ -35,7 +36,7 @@ pub(crate) struct Places {
     sum: Option<usize>,
 }
 
-/// The places in entries of these pairs.
+/// The indices in entries with these pairs.
 pub(crate) fn places_of(pairs: &[Pair]) -> Places
     ensures { ArePlaces result pairs.now }
 {
@@ -71,28 +72,28 @@ pub(crate) fn usual_of(pairs: &[Pair]) -> Usual
     Usual::Other
 }
 
-// Whether the pair is of a path in `.debug_line_str`.
+// Whether the pair is that of a path in `.debug_line_str`.
 fn is_path(pair: &Pair) -> bool
     ensures { IsTrue result ↔ IsPair content_path LineStrp pair.now }
 {
     pair.content == PATH && matches!(pair.form, Form::LineStrp)
 }
 
-// Whether the pair is of a directory number as `udata`.
+// Whether the pair is that of a directory number as `udata`.
 fn is_directory(pair: &Pair) -> bool
     ensures { IsTrue result ↔ IsPair content_directory_index Udata pair.now }
 {
     pair.content == DIRECTORY_INDEX && matches!(pair.form, Form::Udata)
 }
 
-// Whether the pair is of an MD5 sum.
+// Whether the pair is that of an MD5 sum.
 fn is_sum(pair: &Pair) -> bool
     ensures { IsTrue result ↔ IsPair content_md5 Data16 pair.now }
 {
     pair.content == MD5 && matches!(pair.form, Form::Data16)
 }
 
-/// What the next entry says.
+/// The components of the next entry.
 #[inline(always)]
 pub(crate) fn read_entry<'a>(
     cursor: &mut Cursor<'a>,
@@ -114,7 +115,7 @@ pub(crate) fn read_entry<'a>(
     }
 }
 
-// What the next path says.
+// The components of an entry that is a path.
 #[inline(always)]
 fn read_path<'a>(
     cursor: &mut Cursor<'a>,
@@ -133,7 +134,7 @@ fn read_path<'a>(
     })
 }
 
-// What the next path and the number of its directory say.
+// The components of an entry that is a path and the number of its directory.
 #[inline(always)]
 fn read_indexed_path<'a>(
     cursor: &mut Cursor<'a>,
@@ -153,7 +154,7 @@ fn read_indexed_path<'a>(
     })
 }
 
-// What the next path, the number of its directory and its MD5 sum say.
+// The components of an entry that is a path, the number of its directory and its MD5 sum.
 #[inline(always)]
 fn read_summed_path<'a>(
     cursor: &mut Cursor<'a>,
@@ -174,7 +175,7 @@ fn read_summed_path<'a>(
     })
 }
 
-// What the next entry says, whatever its format.
+// The components of an entry of any format.
 #[inline(never)]
 #[tactic(auto, using(crate::proofs::EntryLemmas::nothing_read, crate::proofs::EntryLemmas::one_more_read, crate::proofs::EntryLemmas::all_read, crate::proofs::EntryLemmas::none_there))]
 fn read_values<'a>(
@@ -199,7 +200,7 @@ fn read_values<'a>(
     Ok(entry)
 }
 
-// The entry with one more of its values read, the one of index `place`: it is kept where it is one of the components that matter.
+// The entry with one more of its values read, the one with index `place`: it is kept if it is one of the components that matter.
 fn with_value<'a>(
     entry: EntryView<'a>,
     places: Places,
@@ -216,8 +217,8 @@ fn with_value<'a>(
     }
 }
 
-// What is known of the component of index `wanted`, once the value of index `place` is read: this value where the two are
-// the same, and else what was known before.
+// What is known of the component with index `wanted`, once the value with index `place` was read: this value if the two are
+// the same, and otherwise what was known before.
 #[inline(always)]
 #[tactic(auto, using(crate::proofs::EntryLemmas::kept_here, crate::proofs::EntryLemmas::kept_earlier))]
 fn kept<'a>(

@@ -1,4 +1,4 @@
-//! What the entries of a table say by their content types (DWARF 5, sections 6.2.4.1 and 7.22).
+//! The entries of a table by their content types (DWARF 5, sections 6.2.4.1 and 7.22).
 ghost use Rattle.std.specs.Prelude.{◌≡◌, ◌==◌};
 ghost use Rattle.std.specs.Option.{option_copied, option_map};
 ghost use Rattle.lnt_files.specs.Contents.{place_of, form_at, component, path_text, number_of, directory_number, bytes_of_sum, sum_of};
@@ -22,7 +22,7 @@ pub(crate) fn place_of(content: u64, pairs: &[Pair]) -> Option<usize>
     pairs.iter().position(|pair| pair.content == content)
 }
 
-/// The form that the first component of the content type has.
+/// The form of the first component of the content type.
 pub(crate) fn form_at(content: u64, pairs: &[Pair]) -> Option<Form>
     ensures { result ≡ form_at content pairs.now }
 {
@@ -39,7 +39,7 @@ fn component<'e>(content: u64, pairs: &[Pair], entry: &'e Entry) -> Option<&'e F
     entry.values.as_slice().get(place)
 }
 
-/// The text of the entry's path. None where it isn't there.
+/// The text of the entry's path. `None` if there is none.
 pub(crate) fn path_text<'s>(
     strings: &'s Strings<'_>,
     pairs: &[Pair],
@@ -81,7 +81,7 @@ fn bytes_of_sum(value: &FormValue) -> Option<[u8; 16]>
     }
 }
 
-/// The file's MD5 sum, where it lists one.
+/// The file's MD5 sum, if it lists one.
 pub(crate) fn sum_of(pairs: &[Pair], file: &Entry) -> Option<[u8; 16]>
     ensures { result ≡ sum_of pairs.now file.now }
 {

@@ -7,7 +7,7 @@ ghost use Rattle.lnt_files.specs.TextEnds.{Sections, TextsEndAt};
 use lnt_wire::{Strings, ValueView};
 use std::marker::Model;
 
-/// The string sections, and where the texts of each end: whether an offset has a text is told without a look at the
+/// The string sections, and where the texts of each end, so that whether an offset has a text is known without reading the
 /// section. Contracts see the bytes of the two sections (`Sections`).
 #[derive(Drop)]
 pub struct StringEnds<'a> {
@@ -27,7 +27,7 @@ impl<'a> Model for StringEnds<'a> {
 }
 
 impl<'a> StringEnds<'a> {
-    /// The sections, each of which is searched once for its last zero byte. It takes no memory.
+    /// The sections. Each is searched once for its last zero byte. Allocates nothing.
     pub fn of(strings: Strings<'a>) -> StringEnds<'a>
         ensures line { result.line ≡ strings.entry.line.now }
         ensures general { result.general ≡ strings.entry.general.now }
@@ -39,7 +39,7 @@ impl<'a> StringEnds<'a> {
         }
     }
 
-    /// Whether the value has a text, as `Strings::text` gives it. It takes the same time whatever the sections are.
+    /// Whether the value has a text, as `Strings::text` gives it. It takes constant time.
     #[inline(always)]
     pub(crate) fn has_text(&self, value: ValueView<'_>) -> bool
         ensures { IsTrue result ↔ IsSome (text_of self.now.line self.now.general (value_of value.entry)) }
@@ -53,7 +53,7 @@ impl<'a> StringEnds<'a> {
     }
 }
 
-// How many bytes the section has up to and with its last zero byte; 0 where it has none.
+// The number of bytes of the section up to and including its last zero byte; 0 if it has none.
 #[tactic(auto, using(crate::proofs::EndLemmas::none_past, crate::proofs::EndLemmas::none_before, crate::proofs::EndLemmas::last_zero, crate::proofs::EndLemmas::no_zero))]
 fn texts_end(section: &[u8]) -> usize
     ensures { TextsEndAt result section.now }

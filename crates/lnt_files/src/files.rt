@@ -14,18 +14,18 @@ use lnt_wire::Strings;
 use std::alloc::{AllocError, Global};
 use std::marker::Model;
 
-// Room for the paths of most headers, so that it seldom grows while they are added.
+// Room for the paths of most headers, so that it seldom grows while they are appended.
 const ROOM: usize = 1024;
 
-// Where the file's path ends, and the MD5 sum that is listed of it.
+// The end of the file's path, and the MD5 sum that is listed for it.
 #[derive(Clone, Copy, Debug)]
 pub(crate) struct PathEnd {
     end: usize,
     listed: Option<[u8; 16]>,
 }
 
-/// The whole paths and the listed MD5 sums of a header's files (DWARF 5, section 6.2.4.1), which outlive the header and
-/// the string sections. Contracts see a list, with a path and a sum for each file. Files count from 0.
+/// The full paths and the listed MD5 sums of a header's files (DWARF 5, section 6.2.4.1), which outlive the header and the
+/// string sections. Contracts see a list, with a path and a sum for each file. Files count from 0.
 #[derive(Debug, Drop)]
 pub struct Files {
     // The paths, one after the other.
@@ -47,8 +47,8 @@ impl Model for Files {
 }
 
 impl Files {
-    /// The files of the header. The caller sees to it that its tables are usable, which `tables_fault` tests. It
-    /// refuses only where memory runs out, and takes one run of bytes for all paths.
+    /// The files of the header. The caller ensures that its tables are usable, which `tables_fault` checks. Fails only if
+    /// memory runs out. All paths are in one block of bytes.
     pub fn of(alloc: Global, header: &Header, strings: &Strings<'_>) -> Result<Files, AllocError>
         requires { AreUsableTables strings.now.line.now strings.now.general.now header.now }
         ensures { IfOk result (λ files. AreFilesOf strings.now.line.now strings.now.general.now header.now files) }
@@ -66,7 +66,7 @@ impl Files {
         }
     }
 
-    /// How many files there are.
+    /// The number of files.
     #[tactic(auto, using(crate::proofs::KeptLemmas::kept_length))]
     pub fn count(&self) -> u64
         ensures { result ≡ length self.now }
@@ -74,14 +74,15 @@ impl Files {
         self.kept.len() as u64
     }
 
-    /// The whole path of the file, as `in_place::path_of` gives it. None exactly where the file isn't there.
+    /// The full path of the file, as `in_place::path_of` returns it. `None` if and only if there is no such file.
     pub fn path(&self, file: u64) -> Option<&[u8]>
         ensures { option_map (λ path. path.now) result ≡ kept_path self.now file }
     {
         path_at(&self.paths, &self.kept, file)
     }
 
-    /// The MD5 sum that is listed of the file, as `in_place::listed` gives it. None where it lists none, or isn't there.
+    /// The MD5 sum that is listed for the file, as `in_place::listed` returns it. `None` if it lists none, or if there is
+    /// no such file.
     #[tactic(auto, using(crate::proofs::KeptLemmas::kept_sum_is))]
     pub fn listed(&self, file: u64) -> Option<[u8; 16]>
         ensures { result ≡ kept_sum self.now file }
@@ -90,7 +91,7 @@ impl Files {
     }
 }
 
-// Adds the whole paths of the header's files to `paths`, where there are none, and gives their ends with the sums.
+// Appends the full paths of the header's files to `paths`, which is empty at first, and returns their ends with the sums.
 #[tactic(auto, using(crate::proofs::KeptLemmas::keeps_none))]
 fn ends_of(
     alloc: Global,
@@ -138,7 +139,7 @@ fn path_at<'f>(paths: &'f [u8], kept: &[PathEnd], file: u64) -> Option<&'f [u8]>
     Some(path)
 }
 
-// Where the path of the file begins.
+// The index at which the path of the file begins.
 #[tactic(auto, using(crate::proofs::KeptLemmas::start_is_end))]
 fn start_of(kept: &[PathEnd], index: usize) -> usize
     requires { index < length kept.now }

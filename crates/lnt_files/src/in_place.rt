@@ -1,5 +1,5 @@
-//! The directories and files of a header whose entries stay where they lie. No function takes memory, but for the
-//! path that is asked for.
+//! The directories and files of a header whose entries are read in place. No function allocates, except for the path that
+//! it returns.
 
 mod judged;
 mod paths;

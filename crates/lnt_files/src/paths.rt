@@ -9,8 +9,8 @@ use lnt_header::{Entry, Header};
 use lnt_wire::Strings;
 use std::alloc::AllocError;
 
-/// What a path is joined from: directory 0, the file's directory and the file's name. The first two are empty where the
-/// path does without them.
+/// The pieces of a path: directory 0, the file's directory and the file's name. The first two are empty if the path doesn't
+/// need them.
 #[derive(Clone, Copy)]
 pub(crate) struct Pieces<'s> {
     pub(crate) first: &'s [u8],
@@ -18,7 +18,7 @@ pub(crate) struct Pieces<'s> {
     pub(crate) name: &'s [u8],
 }
 
-// The pieces of the file's path. None where a text isn't there.
+// The pieces of the file's path. `None` if a text is missing.
 fn pieces_of<'s>(
     header: &'s Header,
     strings: &'s Strings<'_>,
@@ -80,7 +80,7 @@ fn ends_with_slash(path: &[u8]) -> bool
     matches!(path.last(), Some(b'/'))
 }
 
-/// Adds the path of the file at the end. Its texts are there.
+/// Appends the path of the file, whose texts exist.
 pub(crate) fn add_path(
     out: &mut Vec<u8>,
     header: &Header,
@@ -97,7 +97,7 @@ pub(crate) fn add_path(
     add_pieces(out, &pieces)
 }
 
-/// Adds the path of these pieces at the end.
+/// Appends the path of these pieces.
 pub(crate) fn add_pieces(out: &mut Vec<u8>, pieces: &Pieces<'_>) -> Result<(), AllocError>
     ensures { OnOk result (out.new.items ≡ out.old.items ++ whole_path pieces.now) }
 {
@@ -107,8 +107,8 @@ pub(crate) fn add_pieces(out: &mut Vec<u8>, pieces: &Pieces<'_>) -> Result<(), A
     add_below(out, start, pieces.name)
 }
 
-// Adds a name to the directory that `out` holds from index `start` on. A `/` comes between them, unless the directory is
-// empty or ends with one.
+// Appends a name to the directory that `out` holds from index `start` on, after a `/` unless the directory is empty or ends
+// with one.
 fn add_below(out: &mut Vec<u8>, start: usize, name: &[u8]) -> Result<(), AllocError>
     requires { start ≤ length out.old.items }
     ensures { OnOk result (out.new.items ≡ take start out.old.items ++ join (drop start out.old.items) name.now) }

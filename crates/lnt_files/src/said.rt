@@ -1,4 +1,4 @@
-//! What an entry says that is read where it lies.
+//! The components of an entry that is read in place.
 ghost use Rattle.std.specs.Prelude.{◌≡◌, ◌↔◌, List, IsTrue};
 ghost use Rattle.std.specs.Option.{option_map};
 ghost use Rattle.lnt_header.specs.declared.header.Entry.{Entry};
@@ -13,7 +13,7 @@ use crate::walk::EntryView;
 use lnt_wire::{Strings, ValueView};
 
 impl<'a> EntryView<'a> {
-    /// Whether the text of the entry's path is there. It takes the same time whatever the sections are.
+    /// Whether the entry's path has a text. It takes constant time.
     #[inline(always)]
     #[tactic(auto, using(crate::proofs::SaidLemmas::has_text, crate::proofs::SaidLemmas::has_none))]
     pub(crate) fn has_path(&self, ends: &StringEnds<'_>) -> bool
@@ -26,7 +26,7 @@ impl<'a> EntryView<'a> {
         }
     }
 
-    /// The text of the entry's path. None where it isn't there.
+    /// The text of the entry's path. `None` if there is none.
     #[tactic(auto, using(crate::proofs::SaidLemmas::text_is, crate::proofs::SaidLemmas::no_text_is))]
     pub(crate) fn path_text(&self, strings: Strings<'a>) -> Option<&'a [u8]>
         ensures { (pairs : List Pair) (entry : Entry) → Says pairs entry self.now
@@ -38,7 +38,7 @@ impl<'a> EntryView<'a> {
         }
     }
 
-    /// The number of the file's directory. 0 where the entry has none.
+    /// The number of the file's directory, or 0 if the entry has none.
     #[inline(always)]
     #[tactic(auto, using(crate::proofs::SaidLemmas::number_is, crate::proofs::SaidLemmas::no_number_is))]
     pub(crate) fn directory_number(&self) -> u64
@@ -50,7 +50,7 @@ impl<'a> EntryView<'a> {
         }
     }
 
-    /// The file's MD5 sum, where it lists one.
+    /// The file's MD5 sum, if it lists one.
     #[tactic(auto, using(crate::proofs::SaidLemmas::sum_is, crate::proofs::SaidLemmas::no_sum_is))]
     pub(crate) fn listed(&self) -> Option<[u8; 16]>
         ensures { (pairs : List Pair) (entry : Entry) → Says pairs entry self.now → result ≡ sum_of pairs entry }

@@ -13,12 +13,12 @@ use std::fmt;
 /// Why the directories and files of a header can't be used. Indices count from 0.
 #[derive(Clone, Copy, Debug, PartialEq, Eq)]
 pub enum EntryTableFault {
-    /// A table with entries whose format has no path, or a path, a directory number or an MD5 sum in a form that it
-    /// may not have.
+    /// A table with entries whose format has no path, or has a path, a directory number or an MD5 sum in a form that isn't
+    /// allowed for it.
     EntryFormat(EntryTable),
-    /// The first entry whose path's text isn't there.
+    /// The first entry whose path has no text.
     StringOutside(EntryTable, u64),
-    /// The first file that names a directory that isn't there.
+    /// The first file whose directory doesn't exist.
     DirectoryNumber(u64),
 }
 
@@ -40,7 +40,7 @@ impl fmt::Display for EntryTableFault {
 
 impl Error for EntryTableFault {}
 
-/// Which of the two tables of a header is meant, as texts say it: `directories` or `files`.
+/// Prints which of the two tables of a header it is: `directories` or `files`.
 #[derive(Clone, Copy)]
 pub struct EntryTableText(pub EntryTable);
 

@@ -1,4 +1,4 @@
-//! The entries of a table one after another, each read where it lies.
+//! The entries of a table one after another, each read in place.
 ghost use Rattle.std.specs.Prelude.{◌≡◌, ◌↔◌, ◌<◌, ◌≤◌, IsTrue, length};
 ghost use Rattle.lnt_header_bytes.specs.Marks.{from_entry};
 ghost use Rattle.lnt_files.specs.Walks.{EntryStep};
@@ -8,8 +8,8 @@ use lnt_header_bytes::EntryTableView;
 use lnt_wire::{Cursor, ValueView};
 use std::marker::Model;
 
-/// What an entry says by its content types (DWARF 5, section 6.2.4.1), of each of which the first component counts. None
-/// where the entry has no component of a type.
+/// The components of an entry by content type (DWARF 5, section 6.2.4.1): the first of each type counts. `None` if the
+/// entry has no component of a type.
 #[derive(Clone, Copy, Debug)]
 pub(crate) struct EntryView<'a> {
     /// The path.
@@ -20,9 +20,9 @@ pub(crate) struct EntryView<'a> {
     pub sum: Option<ValueView<'a>>,
 }
 
-/// A walk over the entries of a table in order, each read where it lies. It takes no memory.
+/// A walk over the entries of a table in order, each read in place. Allocates nothing.
 ///
-/// Contracts see the table with the entries that are left.
+/// Contracts see the table with the remaining entries.
 #[derive(Drop)]
 pub(crate) struct Entries<'t> {
     table: &'t EntryTableView<'t>,
@@ -59,8 +59,8 @@ impl<'t> Entries<'t> {
         }
     }
 
-    /// A walk before the entry of this number or an earlier one, and the number of the entry that it stands before. Where the
-    /// table has marks, fewer than 256 bytes stand between the two.
+    /// A walk before the entry with this number or an earlier one, and the number of the entry before which it is. If the
+    /// table has marks, fewer than 256 bytes are between the two.
     #[tactic(auto, using(crate::proofs::WalkLemmas::walk_before, crate::proofs::WalkLemmas::before_is))]
     pub(crate) fn before(table: &'t EntryTableView<'t>, number: u64) -> (u64, Entries<'t>)
         requires { number < length table.now.entries }
@@ -79,7 +79,7 @@ impl<'t> Entries<'t> {
         (first, entries)
     }
 
-    /// What the next entry says. None after the last one.
+    /// The components of the next entry. `None` after the last one.
     #[inline(always)]
     #[tactic(auto, using(crate::proofs::WalkLemmas::walk_ended, crate::proofs::WalkLemmas::walk_steps, crate::proofs::WalkLemmas::walk_goes_on, crate::proofs::WalkLemmas::walk_never_stops))]
     pub(crate) fn next_entry(&mut self) -> Option<EntryView<'t>>

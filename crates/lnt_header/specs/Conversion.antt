@@ -4,10 +4,10 @@ use Rattle.lnt_wire.specs.declared.format.Order.{Order}
 use Rattle.lnt_header.specs.declared.header.HeaderParts.{HeaderParts}
 use Rattle.lnt_header.specs.declared.unit_parts.UnitParts.{UnitParts}
 
--- the same header in this format and order: these two are changed, and nothing else
+-- the same header in this format and order: only these two change
 abbrev pub in_format : HeaderParts → Format → Order → HeaderParts
 in_format h format order = record h { format = format; order = order }
 
--- the same unit in this format and order: its header is, and nothing else is changed
+-- the same unit in this format and order: only its header changes
 abbrev pub unit_in_format : UnitParts → Format → Order → UnitParts
 unit_in_format unit format order = record unit { header = in_format unit.header format order }

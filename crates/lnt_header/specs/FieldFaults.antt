@@ -1,4 +1,4 @@
--- What is wrong where a field isn't there whole, or is out of range.
+-- What is wrong with a field that is truncated or out of range.
 --     before   the bytes up to the place of the fault
 --     left     the bytes from the place on up to the limit of the field
 use Rattle.std.specs.Prelude.{◌≡◌, ℕ, ◌<◌, ◌≤◌, ◌⊎◌, List, [], ◌∷◌, ◌++◌, length}
@@ -8,8 +8,7 @@ use Rattle.lnt_wire.specs.Numbers.{NumberBytes}
 use Rattle.lnt_wire.specs.Leb128.{IsLeb, AreHigh, UnsignedLeb, IsLargeUnsigned, IsLargeSigned}
 use Rattle.lnt_header.specs.OpRules.{FitsTaken, taken_by}
 
--- The bytes up to the limit don't hold the field whole: a number of a fixed width, a text, a LEB128, a block, or the bytes of an
--- extended operation.
+-- The field ends after the limit: a number of a fixed width, a text, a LEB128, a block, or the bytes of an extended operation.
 pub data IsCutField (before left : List ℕ) : Type 0 where
   number : (size : ℕ) → size ≤ 16 → length left < size → IsCutField before left
   text : HasNoZero left → IsCutField before left
@@ -20,12 +19,12 @@ pub data IsCutField (before left : List ℕ) : Type 0 where
   operation : (n : ℕ) (earlier spelling : List ℕ) → UnsignedLeb n spelling → before ≡ earlier ++ 0 ∷ spelling → length left < n
       → IsCutField before left
 
--- a whole LEB128 number that doesn't fit 64 bits, read as an unsigned or as a signed one
+-- a complete LEB128 number that doesn't fit in 64 bits, read as an unsigned or as a signed one
 abbrev pub IsLargeLeb : List ℕ → Type 0
 IsLargeLeb left =
     (spelling : List ℕ) × (rest : List ℕ) × IsLeb spelling × (left ≡ spelling ++ rest) × (IsLargeUnsigned spelling ⊎ IsLargeSigned spelling)
 
--- What follows an extended operation's length is no operand of its code.
+-- What follows an extended operation's length isn't an operand of its code.
 abbrev pub IsWrongOperand : ℕ → List ℕ → Type 0
 IsWrongOperand address_size [] = Unit {0}
 IsWrongOperand address_size (code ∷ operand) = FitsTaken address_size (taken_by code) operand → ⊥

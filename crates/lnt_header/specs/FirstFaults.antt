@@ -1,12 +1,12 @@
--- The first part that isn't there of what is joined from several: the parts before it are there, one after the other, and the
--- fault is its own.
+-- The first invalid part of several joined parts: the parts before it are valid, one after the other, and the fault is its
+-- own.
 --     before   the bytes up to the place of the fault
 --     left     the bytes from the place on
 use Rattle.std.specs.Prelude.{◌≡◌, ℕ, ◌<◌, List, ◌++◌, length}
 use Rattle.lnt_wire.specs.declared.fault.Reason.{Reason}
 use Rattle.lnt_header.specs.Joins.{Each}
 
--- the first fault of a value and one after it, whose kind of spelling the first value decides
+-- the first fault of a value and one after it, whose kind of encoding depends on the first value
 pub data FirstOf {X : Type 0} (First : X → List ℕ → Type 0) (OfFirst : Reason → List ℕ → List ℕ → Type 0)
     (OfSecond : X → Reason → List ℕ → List ℕ → Type 0) (reason : Reason) (before left : List ℕ) : Type 0 where
   first : OfFirst reason before left → FirstOf First OfFirst OfSecond reason before left

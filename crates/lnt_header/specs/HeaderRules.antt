@@ -1,4 +1,4 @@
--- Which values a header has, whatever bytes spell it (DWARF 5, section 6.2.4).
+-- Which values a header has, whatever bytes encode it (DWARF 5, section 6.2.4).
 use Rattle.std.specs.Prelude.{◌≡◌, ℕ, ◌+◌, ◌<◌, ◌⊎◌, List, [], ◌∷◌, ◌++◌, length, map, take, FitsSigned}
 use Rattle.std.specs.Int.{w8, cast_unsigned}
 use Rattle.std.specs.List.{AllByRecursion}
@@ -12,7 +12,7 @@ use Rattle.lnt_header.specs.OpRules.{known_lengths, last_known}
 abbrev pub IsAddressSize : ℕ → Type 0
 IsAddressSize size = (size ≡ 2) ⊎ (size ≡ 4) ⊎ (size ≡ 8)
 
--- Lengths of the opcodes from 1 on, of which those of the known opcodes are as stated.
+-- Lengths of the opcodes from 1 on. Those of the known opcodes are as the standard states.
 abbrev pub AreStandardLengths : List ℕ → Type 0
 AreStandardLengths lengths = take last_known lengths ≡ take (length lengths) known_lengths
 
@@ -35,8 +35,8 @@ pub record HasHeaderNumbers (h : HeaderParts) : Type 0 where
   pub opcode_base : h.opcode_base ≡ length h.standard_lengths + 1
   pub lengths : AreStandardLengths h.standard_lengths
 
--- An entry with one value for each pair, of the pair's form. Each value has a spelling: a text has no zero byte, and a block fits
--- its length.
+-- An entry with one value for each pair, of the pair's form. Each value has an encoding: a text has no zero byte, and the size of
+-- a block fits its length.
 pub record IsEntryOf (pairs : List Pair) (entry : Entry) : Type 0 where
   pub forms : map form_of entry.values ≡ map (λ pair. pair.form) pairs
   pub spelled : AllByRecursion HasSpelling entry.values

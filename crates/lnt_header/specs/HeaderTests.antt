@@ -1,4 +1,4 @@
--- What `Header::new` finds wrong with parts that no decoded header has. The tests stand in a fixed order, the least index first.
+-- What `Header::new` finds wrong with parts that no decoded header has. The checks have a fixed order, the least index first.
 use Rattle.std.specs.Prelude.{◌≡◌, ℕ, ◌<◌, List, [], ◌∷◌, ◌++◌, length}
 use Rattle.std.specs.List.{AllByRecursion, AllZip}
 use Rattle.lnt_wire.specs.declared.form.FormValue.{FormValue}
@@ -12,7 +12,7 @@ use Rattle.lnt_header.specs.declared.header.Pair.{Pair}
 use Rattle.lnt_header.specs.declared.header.EntryTable.TheVariants.{Directories, Files}
 use Rattle.lnt_header.specs.HeaderRules.{HasHeaderNumbers}
 
--- the first of the values that isn't so, and its index
+-- the first of the values that fails, and its index
 pub record IsFirstNot {X : Type 0} (IsSo : X → Type 0) (values : List X) (index : ℕ) : Type 0 where
   pub before : List X
   pub value : X
@@ -33,7 +33,7 @@ pub record HasNumbersAndFormats (h : HeaderParts) : Type 0 where
   pub directories : IsFormat h.directory_format h.directories
   pub files : IsFormat h.file_format h.files
 
--- any text; or another value that has a spelling, so that a block fits its length
+-- any text; or another value that has an encoding, so that a block fits its length
 abbrev pub FitsItsForm : FormValue → Type 0
 FitsItsForm (Text text) = Unit {0}
 FitsItsForm value = HasSpelling value
@@ -43,7 +43,7 @@ abbrev pub HoldsNoZero : FormValue → Type 0
 HoldsNoZero (Text text) = HasSpelling (Text text)
 HoldsNoZero value = Unit {0}
 
--- a value in the pair's form, which, where it is a block, has no more bytes than its length can count
+-- a value in the pair's form; if it is a block, it has no more bytes than its length can count
 abbrev pub FitsPair : Pair → FormValue → Type 0
 FitsPair pair value = (form_of value ≡ pair.form) × FitsItsForm value
 
@@ -60,7 +60,7 @@ pub record AreOfFormats (h : HeaderParts) : Type 0 where
   pub directories : AllByRecursion (IsOfFormat h.directory_format) h.directories
   pub files : AllByRecursion (IsOfFormat h.file_format) h.files
 
--- What is wrong. Whatever is tested earlier is sound.
+-- What is wrong. Whatever is checked earlier is valid.
 abbrev pub IsPartsFault : UnitFault → HeaderParts → Type 0
 IsPartsFault HeaderNumber h = HasNumbersAndFormats h → ⊥
 IsPartsFault (EntryNotOfFormat Directories index) h =

@@ -25,8 +25,8 @@ pub data Operand : Type 0 where
   signed : ℤ → Operand
   half : ℕ → Operand
 
--- A special opcode; a standard one with its operand, or an unknown one with its numbers; an extended one alone, with a number, or with
--- an address, or an unknown one with its bytes.
+-- A special opcode; a standard one with its operand, or an unknown one with its numbers; an extended one without operands, with a
+-- number, or with an address, or an unknown one with its bytes.
 pub data Coding : Type 0 where
   special : ℕ → Coding
   standard : ℕ → Operand → Coding
@@ -36,7 +36,7 @@ pub data Coding : Type 0 where
   extended_address : ℕ → ℕ → Coding
   unknown_extended : ℕ → List ℕ → Coding
 
--- how each operation is coded
+-- how each operation is encoded
 abbrev pub coding : Op → Coding
 coding (Special c) = special c
 coding Copy = standard 1 bare
@@ -88,7 +88,7 @@ following k = get_or known_followings k as_listed
 
 -- ---- the known codes of extended operations
 
--- the code is none of theirs
+-- the code isn't one of theirs
 abbrev pub IsUnknownCode : ℕ → Type 0
 IsUnknownCode code = (code ≢ 1) × (code ≢ 2) × (code ≢ 4)
 
@@ -103,7 +103,7 @@ pub data Taken : Type 0 where
 abbrev pub taken_by : ℕ → Taken
 taken_by code = get_or (takes_any ∷ takes_nothing ∷ takes_address ∷ takes_any ∷ takes_number ∷ []) code takes_any
 
--- The bytes are such an operand by their length and shape.
+-- The bytes are such an operand by their length and encoding.
 abbrev pub FitsTaken : ℕ → Taken → List ℕ → Type 0
 FitsTaken address_size takes_nothing operand = operand ≡ []
 FitsTaken address_size takes_number operand = IsLeb operand
@@ -163,7 +163,7 @@ StandsFor (views.SetDiscriminator m) (SetDiscriminator n) = m ≡ n
 StandsFor (views.UnknownExtended c bytes) (UnknownExtended d operand) = (c ≡ d) × (bytes.now ≡ operand)
 StandsFor view op = ⊥
 
--- the operation of a view, with these operands where it is an unknown standard one
+-- the operation of a view, with these operands if it is an unknown standard one
 abbrev pub op_of : OpView → List ℕ → Op
 op_of (views.Special c) operands = Special c
 op_of views.Copy operands = Copy
@@ -184,11 +184,11 @@ op_of (views.SetAddress n) operands = SetAddress n
 op_of (views.SetDiscriminator n) operands = SetDiscriminator n
 op_of (views.UnknownExtended c bytes) operands = UnknownExtended c bytes.now
 
--- how the operations that a view stands for are coded, but for the operands of an unknown standard one
+-- how the operations that a view stands for are encoded, except the operands of an unknown standard one
 abbrev pub coding_of : OpView → Coding
 coding_of view = coding (op_of view [])
 
--- The view is coded so.
+-- The view is encoded so.
 abbrev pub IsCodedAs : OpView → CodedOp → Type 0
 IsCodedAs view (codes.Special c) = coding_of view ≡ special c
 IsCodedAs view (codes.Bare k) = coding_of view ≡ standard k bare

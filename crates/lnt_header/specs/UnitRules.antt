@@ -1,4 +1,4 @@
--- Which units there are, whatever bytes spell them.
+-- Which units there are, whatever bytes encode them.
 use Rattle.std.specs.List.{AllByRecursion}
 use Rattle.lnt_header.specs.HeaderRules.{IsHeader}
 use Rattle.lnt_header.specs.OpRules.{Admits}

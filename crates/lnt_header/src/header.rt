@@ -33,7 +33,7 @@ pub enum EntryTable {
     Files,
 }
 
-/// An entry of the table is printed as `directory` or `file`.
+/// Prints what an entry of the table is: `directory` or `file`.
 impl fmt::Display for EntryTable {
     ghost output = { λ which. Some (entry_text which) };
 
@@ -52,21 +52,21 @@ pub struct HeaderParts {
     pub format: Format,
     /// The order of the bytes of its numbers.
     pub order: Order,
-    /// How many bytes an address has.
+    /// The number of bytes of an address.
     pub address_size: u8,
-    /// How many bytes the smallest instruction has.
+    /// The number of bytes of the smallest instruction.
     pub minimum_instruction_length: u8,
-    /// `maximum_operations_per_instruction`: how many operations an instruction has at most.
+    /// `maximum_operations_per_instruction`: the greatest number of operations of an instruction.
     pub max_ops: u8,
-    /// Whether a row begins a statement by default: where it isn't 0.
+    /// Whether a row begins a statement by default: it does unless this is 0.
     pub default_is_stmt: u8,
     /// The least number that a special opcode adds to the line.
     pub line_base: i8,
-    /// How many different numbers the special opcodes add to the line, from `line_base` on.
+    /// The number of different line advances of the special opcodes, from `line_base` on.
     pub line_range: u8,
     /// The first special opcode.
     pub opcode_base: u8,
-    /// `standard_opcode_lengths`: how many operands each opcode from 1 to `opcode_base` - 1 has.
+    /// `standard_opcode_lengths`: the number of operands of each opcode from 1 to `opcode_base` - 1.
     pub standard_lengths: Items<u8>,
     /// What each directory consists of.
     pub directory_format: Items<Pair>,
@@ -83,8 +83,7 @@ pub struct HeaderParts {
 impl HeaderParts {
     ghost use Rattle.lnt_header.specs.HeaderRules.{six_bytes};
 
-    /// The six numbers of one byte before the standard opcode lengths, in the order in which they stand in a unit (DWARF 5,
-    /// section 6.2.4).
+    /// The six numbers of one byte before the standard opcode lengths, in the order of a unit (DWARF 5, section 6.2.4).
     pub fn single_fields(&self) -> [u8; 6]
         ensures { result ≡ six_bytes self.now }
     {
@@ -99,7 +98,7 @@ impl HeaderParts {
     }
 }
 
-/// A header: parts that some bytes spell in the 64-bit format, where its lengths fit (DWARF 5, section 6.2.4). Contracts
+/// A header: parts that have an encoding in the 64-bit format, where its lengths fit (DWARF 5, section 6.2.4). Contracts
 /// see its parts.
 #[derive(Debug, Drop)]
 pub struct Header {
@@ -122,10 +121,10 @@ impl Header {
     ghost use Rattle.lnt_header.specs.HeaderRules.{IsAddressSize, IsHeader};
     ghost use Rattle.lnt_header.specs.HeaderTests.{IsPartsFault};
 
-    /// The header of these parts, where some bytes spell it in the 64-bit format, lengths aside. It takes no memory.
+    /// The header with these parts, if they have an encoding in the 64-bit format, apart from lengths. Allocates nothing.
     ///
-    /// Else it hands the parts back with the first fault: `HeaderNumber`, then `EntryNotOfFormat`, then `TextHoldsZero`,
-    /// each of the directories before the files; no header has such parts.
+    /// Otherwise the parts are returned with the first fault: `HeaderNumber`, then `EntryNotOfFormat`, then
+    /// `TextHoldsZero`, each for the directories before the files. No header has such parts.
     #[tactic(auto, using(crate::proofs::TestLemmas::no_header))]
     pub fn new(parts: HeaderParts) -> Result<Header, (UnitFault, HeaderParts)>
         ensures ok { IfOk result (λ header. header ≡ parts) }
@@ -138,7 +137,7 @@ impl Header {
         }
     }
 
-    /// What the header is made of. It takes no memory.
+    /// What the header is made of. Allocates nothing.
     pub fn into_parts(self) -> HeaderParts
         ensures value { result ≡ self }
         ensures header { IsHeader result }
@@ -147,8 +146,8 @@ impl Header {
         parts
     }
 
-    /// The header in this format and order: these two are changed, and nothing else (DWARF 5, sections 6.2.4 and 7.4).
-    /// It takes no memory, and refuses nothing.
+    /// The header in this format and order: only these two change (DWARF 5, sections 6.2.4 and 7.4). Allocates nothing and
+    /// can't fail.
     #[tactic(auto, using(crate::proofs::ConversionLaws::header_in_format))]
     pub fn with_format(self, format: Format, order: Order) -> Header
         ensures { result ≡ in_format self format order }
@@ -163,7 +162,7 @@ impl Header {
         }
     }
 
-    /// The header of these parts, which the caller knows to be those of a header. They aren't tested again. It takes no memory.
+    /// The header with these parts. The caller ensures that a header has them; they aren't checked again. Allocates nothing.
     pub fn of(parts: HeaderParts) -> Header
         requires { IsHeader parts }
         ensures { result ≡ parts }
@@ -196,7 +195,7 @@ impl Header {
         self.parts.order
     }
 
-    /// How many bytes an address has: 2, 4 or 8.
+    /// The number of bytes of an address: 2, 4 or 8.
     #[inline(always)]
     pub fn address_size(&self) -> u8
         ensures value { result ≡ self.now.address_size }
@@ -205,7 +204,7 @@ impl Header {
         self.parts.address_size
     }
 
-    /// How many bytes the smallest instruction has.
+    /// The number of bytes of the smallest instruction.
     #[inline(always)]
     pub fn minimum_instruction_length(&self) -> u8
         ensures { result ≡ self.now.minimum_instruction_length }
@@ -213,7 +212,7 @@ impl Header {
         self.parts.minimum_instruction_length
     }
 
-    /// How many operations an instruction has at most. It isn't 0.
+    /// The greatest number of operations of an instruction. It isn't 0.
     #[inline(always)]
     pub fn max_ops(&self) -> u8
         ensures value { result ≡ self.now.max_ops }
@@ -222,7 +221,7 @@ impl Header {
         self.parts.max_ops
     }
 
-    /// Whether a row begins a statement by default, as it is written: where it isn't 0.
+    /// Whether a row begins a statement by default, as encoded: it does unless this is 0.
     #[inline(always)]
     pub fn default_is_stmt(&self) -> u8
         ensures value { result ≡ self.now.default_is_stmt }
@@ -239,7 +238,7 @@ impl Header {
         self.parts.line_base
     }
 
-    /// How many different numbers the special opcodes add to the line, from `line_base` on. It isn't 0.
+    /// The number of different line advances of the special opcodes, from `line_base` on. It isn't 0.
     #[inline(always)]
     pub fn line_range(&self) -> u8
         ensures value { result ≡ self.now.line_range }
@@ -258,7 +257,7 @@ impl Header {
         self.parts.opcode_base
     }
 
-    /// `standard_opcode_lengths`: how many operands each opcode from 1 to `opcode_base` - 1 has.
+    /// `standard_opcode_lengths`: the number of operands of each opcode from 1 to `opcode_base` - 1.
     #[inline(always)]
     pub fn standard_lengths(&self) -> &[u8]
         ensures value { result.now ≡ self.now.standard_lengths }

@@ -1,5 +1,5 @@
-//! The operations of a line number program (DWARF 5, sections 6.2.5 and 7.22), with operands of their own and with borrowed
-//! ones, and which of them a header admits.
+//! The operations of a line number program (DWARF 5, sections 6.2.5 and 7.22), with owned and with borrowed operands, and
+//! which of them a header admits.
 ghost use Rattle.std.specs.Prelude.{◌≡◌, ◌-◌, ◌^◌, ◌<◌, ◌≤◌, ◌↔◌, IsTrue, length, slice_index};
 ghost use Rattle.lnt_header.specs.HeaderRules.{IsAddressSize, IsHeader};
 ghost use Rattle.lnt_header.specs.OpRules.{Admits, IsUnknownOf, known_lengths, last_known};
@@ -10,10 +10,11 @@ use lnt_wire::Items;
 /// The last standard opcode that is known: the first is 1 (DWARF 5, section 6.2.5.2).
 pub const LAST_KNOWN: u8 = 12;
 
-/// How many operands each of the known standard opcodes has (DWARF 5, section 6.2.5.2).
+/// The number of operands of each known standard opcode (DWARF 5, section 6.2.5.2).
 pub(crate) const KNOWN_LENGTHS: [u8; 12] = [0, 1, 1, 1, 1, 0, 0, 0, 1, 0, 0, 1];
 
-/// How many operands a known standard opcode has (DWARF 5, section 6.2.5.2). The caller gives one from 1 to `LAST_KNOWN`.
+/// The number of operands of a known standard opcode (DWARF 5, section 6.2.5.2). The caller passes one from 1 to
+/// `LAST_KNOWN`.
 pub fn known_length(opcode: u8) -> u8
     requires low { 1 ≤ opcode }
     requires high { opcode ≤ last_known }
@@ -25,9 +26,9 @@ pub fn known_length(opcode: u8) -> u8
 /// An operation that owns its operands (DWARF 5, section 6.2.5).
 #[derive(Debug, Drop, PartialEq, Eq)]
 pub enum Op {
-    /// A special opcode: it advances address and line, and appends a row.
+    /// A special opcode: advances address and line, and appends a row.
     Special(u8),
-    /// Opcode 1: it appends a row.
+    /// Opcode 1: appends a row.
     Copy,
     /// Opcode 2: advances address and operation index by this many operations.
     AdvancePc(u64),
@@ -51,28 +52,28 @@ pub enum Op {
     SetEpilogueBegin,
     /// Opcode 12: sets the instruction set.
     SetIsa(u64),
-    /// An unknown standard opcode, and as many operands as the header says. It changes nothing.
+    /// An unknown standard opcode, and as many operands as the header says. Changes nothing.
     UnknownStandard(u8, Items<u64>),
-    /// Extended opcode 1: it ends a sequence, and appends a row.
+    /// Extended opcode 1: ends a sequence, and appends a row.
     EndSequence,
     /// Extended opcode 2: sets the address, and the operation index to 0.
     SetAddress(u64),
     /// Extended opcode 4: sets the discriminator, up to the next row.
     SetDiscriminator(u64),
-    /// Any other extended opcode, and its bytes. It changes nothing.
+    /// Any other extended opcode, and its bytes. Changes nothing.
     UnknownExtended(u8, Items<u8>),
 }
 
 /// The operands of an unknown standard operation.
 #[derive(Clone, Copy, Debug)]
 pub enum Operands<'a> {
-    /// The bytes of unsigned LEB128 numbers, one after the other.
+    /// The bytes of consecutive unsigned LEB128 numbers.
     Spelled(&'a [u8]),
     /// The numbers.
     Listed(&'a [u64]),
 }
 
-/// An operation as `Op` has it, with the operands of unknown operations borrowed.
+/// An operation like `Op`, with the operands of unknown operations borrowed.
 #[derive(Clone, Copy, Debug)]
 pub enum OpView<'a> {
     Special(u8),
@@ -95,12 +96,12 @@ pub enum OpView<'a> {
     UnknownExtended(u8, &'a [u8]),
 }
 
-/// How an operation is coded: its opcode, or the code of an extended one, and its operand (DWARF 5, section 6.2.5).
+/// How an operation is encoded: its opcode, or the code of an extended one, and its operand (DWARF 5, section 6.2.5).
 #[derive(Clone, Copy, Debug)]
 pub enum CodedOp<'a> {
     /// A special opcode.
     Special(u8),
-    /// A standard opcode alone.
+    /// A standard opcode without operands.
     Bare(u8),
     /// A standard opcode, and an unsigned LEB128 number.
     Unsigned(u8, u64),
@@ -110,7 +111,7 @@ pub enum CodedOp<'a> {
     Half(u8, u16),
     /// An unknown standard opcode, and its numbers.
     UnknownStandard(u8, Operands<'a>),
-    /// The code of an extended operation, alone.
+    /// The code of an extended operation without operands.
     Extended(u8),
     /// The code of an extended operation, and an unsigned LEB128 number.
     ExtendedNumber(u8, u64),
@@ -155,7 +156,7 @@ impl Op {
 impl<'a> OpView<'a> {
     ghost use Rattle.lnt_header.specs.OpRules.{IsCodedAs};
 
-    /// How the operation is coded.
+    /// How the operation is encoded.
     pub fn coded(&self) -> CodedOp<'a>
         ensures { IsCodedAs self.now result }
     {
@@ -183,9 +184,9 @@ impl<'a> OpView<'a> {
 }
 
 impl Header {
-    /// Whether a unit with this header can have the operation: a special opcode isn't below `opcode_base`, and a standard
-    /// one is; an unknown standard operation has as many operands as the header lists; an address fits the address size; and
-    /// the code of an unknown extended operation is none of 1, 2 and 4 (DWARF 5, section 6.2.5). It takes no memory.
+    /// Whether a unit with this header can have the operation (DWARF 5, section 6.2.5). A special opcode isn't below
+    /// `opcode_base`, and a standard one is. An unknown standard operation has as many operands as the header lists. An
+    /// address fits the address size. The code of an unknown extended operation isn't 1, 2 or 4. Allocates nothing.
     pub fn admits(&self, op: &Op) -> bool
         ensures { IsTrue result ↔ Admits self.now op.now }
     {

@@ -1,4 +1,4 @@
-//! Tests of a header's parts.
+//! Checks of a header's parts.
 ghost use Rattle.std.specs.Prelude.{◌≡◌, ◌↔◌, ◌<◌, FitsSigned, IsTrue, MatchOption, length, slice_index};
 ghost use Rattle.std.specs.Int.{w8};
 ghost use Rattle.std.specs.List.{AllByRecursion};
@@ -11,7 +11,7 @@ use crate::header::{Entry, EntryTable, HeaderParts, Pair};
 use crate::op::KNOWN_LENGTHS;
 use lnt_wire::FormValue;
 
-/// The first rule that the parts break, in the order of `UnitFault`; none where some header has them.
+/// The first rule that the parts break, in the order of `UnitFault`; `None` if some header has them.
 #[tactic(auto, using(crate::proofs::TestLemmas::tests_passed))]
 pub(crate) fn parts_fault(parts: &HeaderParts) -> Option<UnitFault>
     ensures { MatchOption result (IsHeader parts.now) (λ fault. IsPartsFault fault parts.now) }
@@ -43,7 +43,8 @@ pub(crate) fn parts_fault(parts: &HeaderParts) -> Option<UnitFault>
     None
 }
 
-// Whether a header can have the numbers: an address size, no zero where none may be, and lengths that fit `opcode_base`.
+// Whether a header can have the numbers: a valid address size, no zero in a number that mustn't be 0, and lengths that
+// match `opcode_base`.
 #[tactic(auto, using(crate::proofs::TestLemmas::header_numbers))]
 fn has_numbers(parts: &HeaderParts) -> bool
     ensures { IsTrue result ↔ HasHeaderNumbers parts.now }
@@ -72,8 +73,8 @@ fn has_no_zero_number(fields: &[u8], line_base: i8) -> bool
     fields[1] != 0 && fields[4] != 0
 }
 
-// Whether the listed lengths of the known opcodes are the numbers of operands that DWARF 5 gives them. Those of others may be
-// any.
+// Whether the listed lengths of the known opcodes are the numbers of operands that DWARF 5 gives them. Those of others can be
+// anything.
 fn are_standard_lengths(lengths: &[u8]) -> bool
     ensures bytes { AllByRecursion (λ byte. byte < 256) lengths.now }
     ensures known { IsTrue result ↔ AreStandardLengths lengths.now }
@@ -82,14 +83,14 @@ fn are_standard_lengths(lengths: &[u8]) -> bool
     lengths[..known] == KNOWN_LENGTHS[..known]
 }
 
-// Whether there are at most 255 pairs, and one at least where there are entries.
+// Whether there are at most 255 pairs, and at least one if there are entries.
 fn is_format(pairs: &[Pair], entries: &[Entry]) -> bool
     ensures { IsTrue result ↔ IsFormat pairs.now entries.now }
 {
     pairs.len() < 256 && (!pairs.is_empty() || entries.is_empty())
 }
 
-// The index of the first entry that hasn't one value of the right form for each pair; none where each has.
+// The index of the first entry that doesn't have one value of the right form for each pair; `None` if each has.
 #[tactic(auto, using(crate::proofs::FirstLaws::all_more, crate::proofs::FirstLaws::all_taken, crate::proofs::FirstLaws::first_not))]
 fn first_of_no_format(entries: &[Entry], pairs: &[Pair]) -> Option<u64>
     ensures { MatchOption result (AllByRecursion (IsOfFormat pairs.now) entries.now)
@@ -120,7 +121,7 @@ fn is_of_format(entry: &Entry, pairs: &[Pair]) -> bool
     true
 }
 
-// Whether the value is in the pair's form, and, where it is a block, has no more bytes than its length can count.
+// Whether the value is in the pair's form and, if it is a block, has no more bytes than its length can count.
 fn fits_pair(value: &FormValue, pair: &Pair) -> bool
     ensures { IsTrue result ↔ FitsPair pair.now value.now }
 {
@@ -136,7 +137,7 @@ fn fits_its_form(value: &FormValue) -> bool
     }
 }
 
-// The index of the first entry with a zero byte in a text, at which a reader would end it; none where there is none.
+// The index of the first entry with a zero byte in a text, at which a reader would end it; `None` if there is none.
 #[tactic(auto, using(crate::proofs::FirstLaws::all_more, crate::proofs::FirstLaws::all_taken, crate::proofs::FirstLaws::first_not))]
 fn first_with_zero(entries: &[Entry]) -> Option<u64>
     ensures { MatchOption result (AllByRecursion HasSoundTexts entries.now) (λ index. IsFirstNot HasSoundTexts entries.now index) }

@@ -36,10 +36,10 @@ impl Unit {
     ghost use Rattle.lnt_header.specs.Conversion.{unit_in_format};
     ghost use Rattle.lnt_header.specs.UnitTests.{IsUnitFault};
 
-    /// The unit of these parts, where some bytes spell it in the 64-bit format, lengths aside. It takes no memory.
+    /// The unit with these parts, if they have an encoding in the 64-bit format, apart from lengths. Allocates nothing.
     ///
-    /// Else it hands the parts back with the first fault: those of `Header::new`, then `OpNotOfUnit` with the index of the
-    /// first operation, from 0, that the header doesn't admit; no unit has such parts.
+    /// Otherwise the parts are returned with the first fault: those of `Header::new`, then `OpNotOfUnit` with the index,
+    /// counted from 0, of the first operation that the header doesn't admit. No unit has such parts.
     #[tactic(auto, using(crate::proofs::UnitLemmas::no_header_first, crate::proofs::UnitLemmas::no_ops, crate::proofs::UnitLemmas::header_fault))]
     pub fn new(parts: UnitParts) -> Result<Unit, (UnitFault, UnitParts)>
         ensures ok { IfOk result (λ unit. unit ≡ parts) }
@@ -60,7 +60,7 @@ impl Unit {
         }
     }
 
-    /// What the unit is made of. It takes no memory.
+    /// What the unit is made of. Allocates nothing.
     pub fn into_parts(self) -> UnitParts
         ensures value { result ≡ self }
         ensures unit { IsUnit result }
@@ -72,8 +72,8 @@ impl Unit {
         }
     }
 
-    /// The unit in this format and order: these two are changed, and nothing else (DWARF 5, sections 6.2.4 and 7.4).
-    /// It takes no memory, and refuses nothing.
+    /// The unit in this format and order: only these two change (DWARF 5, sections 6.2.4 and 7.4). Allocates nothing and
+    /// can't fail.
     pub fn with_format(self, format: Format, order: Order) -> Unit
         ensures { result ≡ unit_in_format self format order }
     {
@@ -81,7 +81,8 @@ impl Unit {
         Unit::of(header.with_format(format, order), ops)
     }
 
-    /// The unit of a header, and of operations which the caller knows that it admits. They aren't tested again. It takes no memory.
+    /// The unit of a header and operations. The caller ensures that the header admits them; they aren't checked again. Allocates
+    /// nothing.
     pub fn of(header: Header, ops: Items<Op>) -> Unit
         requires { AllByRecursion (Admits header) ops }
         ensures { result ≡ record { header = header; ops = ops } }

@@ -3,7 +3,7 @@ use crate::header::HeaderParts;
 use crate::op::Op;
 use lnt_wire::Items;
 
-/// What a unit is made of. `Unit::new` of the crate `lnt_unit` tells whether some unit has these parts.
+/// What a unit is made of. `Unit::new` of the crate `lnt_unit` checks whether some unit has these parts.
 #[derive(Debug, Drop, PartialEq, Eq)]
 pub struct UnitParts {
     /// What its header is made of.

@@ -1,5 +1,5 @@
--- Tables whose entries lie in bytes, and headers of such tables: what they stand for.
--- That the bytes spell the entries is `EntryBytes`; the functions here say which these are, as a reader finds them.
+-- Tables whose entries are given as bytes, and headers of such tables: what they stand for. That the bytes encode the
+-- entries is `EntryBytes`; the functions here say which entries these are, as a reader finds them.
 use Rattle.std.specs.Prelude.{◌≡◌, ℕ, zero, suc, ◌+◌, ◌≤◌, List, [], ◌∷◌, length, take, drop}
 use Rattle.lnt_wire.specs.declared.format.Order.{Order}
 use Rattle.lnt_wire.specs.declared.format.Format.{Format}
@@ -22,7 +22,7 @@ first_values format order [] bytes = []
 first_values format order (pair ∷ pairs) bytes =
     first_value format order pair.form bytes ∷ first_values format order pairs (drop (first_size format order pair.form bytes) bytes)
 
--- how many bytes spell them
+-- how many bytes encode them
 abbrev pub first_values_size : Format → Order → List Pair → List ℕ → ℕ
 first_values_size format order [] bytes = 0
 first_values_size format order (pair ∷ pairs) bytes =
@@ -48,7 +48,7 @@ abbrev pub borrowed_table : Format → Order → List Pair → ℕ → List ℕ 
 borrowed_table format order pairs count bytes =
     record { format = format; order = order; pairs = pairs; entries = first_entries format order pairs count bytes }
 
--- these bytes, and no others, spell the table's entries
+-- these bytes, and no others, encode the table's entries
 abbrev pub AreEntryBytes : BorrowedTable → List ℕ → Type 0
 AreEntryBytes table bytes = Each (EntryBytes table.format table.order table.pairs) table.entries bytes
 
@@ -74,14 +74,14 @@ pub record IsInForm (format : Format) (order : Order) (table : BorrowedTable) : 
 abbrev pub IsTableIn : HeaderParts → BorrowedTable → Type 0
 IsTableIn h table = IsInForm h.format h.order table
 
--- A header in parts: its numbers and formats alone, and its two tables.
+-- A header in parts: one with only its numbers and formats, and its two tables.
 pub record IsBorrowedHeader (numbers : HeaderParts) (directories files : BorrowedTable) (extra : List ℕ) : Type 0 where
   pub header : IsHeader (borrowed_header numbers directories files extra)
   pub numbers_are : numbers ≡ without_entries (borrowed_header numbers directories files extra)
   pub directories_in : IsTableIn numbers directories
   pub files_in : IsTableIn numbers files
 
--- the directories of a header with these numbers and formats, so many in these bytes
+-- the directories of a header with these numbers and formats, this many in these bytes
 abbrev pub directories_over : HeaderParts → ℕ → List ℕ → BorrowedTable
 directories_over numbers count bytes = borrowed_table numbers.format numbers.order numbers.directory_format count bytes
 
@@ -89,7 +89,7 @@ directories_over numbers count bytes = borrowed_table numbers.format numbers.ord
 abbrev pub files_over : HeaderParts → ℕ → List ℕ → BorrowedTable
 files_over numbers count bytes = borrowed_table numbers.format numbers.order numbers.file_format count bytes
 
--- the header of these numbers and formats, with so many directories and files, which lie in these bytes
+-- the header with these numbers and formats, and this many directories and files in these bytes
 abbrev pub header_over : HeaderParts → ℕ → List ℕ → ℕ → List ℕ → List ℕ → HeaderParts
 header_over numbers directories directory_bytes files file_bytes extra =
     borrowed_header numbers (directories_over numbers directories directory_bytes) (files_over numbers files file_bytes) extra

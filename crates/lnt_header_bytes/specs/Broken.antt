@@ -22,13 +22,13 @@ use Rattle.lnt_header_bytes.specs.HeaderFaults.{IsHeaderFault}
 use Rattle.lnt_header_bytes.specs.HeaderBytes.{HeaderBytesIn}
 use Rattle.lnt_header_bytes.specs.StartFaults.{IsStartFault}
 
--- ---- where a place lies
+-- ---- the place of a fault
 
--- the fields of a sound unit up to header_length, at this address size
+-- the fields of a valid unit up to header_length, at this address size
 abbrev pub sound_start : Order → ℕ → List ℕ
 sound_start order address_size = version_five order ++ address_size ∷ 0 ∷ []
 
--- The place lies in the header that header_length counts: it has the fields `fields` up to the place, and `left` after them.
+-- The place is in the header that header_length counts: it has the fields `fields` up to the place, and `left` after them.
 pub record InHeader (order : Order) (fields left before from : List ℕ) : Type 0 where
   pub format : Format
   pub address_size : ℕ
@@ -92,7 +92,7 @@ IsAt order Memory before from = ⊥
 
 -- ---- faults
 
--- No value of a kind begins the bytes that stand from the offset on, and the fault says why.
+-- The bytes from the offset on don't begin with a value of a kind, and the fault says why.
 pub record Broken {X : Type 0} (Spells : X → List ℕ → Type 0) (order : Order) (fault : Fault) (offset : ℕ) (bytes : List ℕ) : Type 0 where
   pub none : NoneSpelled Spells bytes
   pub before : List ℕ
@@ -112,7 +112,7 @@ pub data IsFirstField (order : Order) (reason : Reason) (before from : List ℕ)
   counted : (fields left : List ℕ) → (place : InHeader order fields left before from) → IsHeaderFault place.format order reason fields left
       → IsFirstField order reason before from
 
--- No header with a program begins the bytes, and the fault is that of its first field that isn't there.
+-- The bytes don't begin with a header with a program, and the fault is that of its first field that isn't valid.
 pub record BrokenHeader (order : Order) (fault : Fault) (offset : ℕ) (bytes : List ℕ) : Type 0 where
   pub broken : Broken (HeaderBytesIn order) order fault offset bytes
   pub first : IsFirstField order fault.reason broken.before broken.from

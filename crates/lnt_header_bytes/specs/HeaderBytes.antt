@@ -8,7 +8,7 @@ use Rattle.lnt_header.specs.declared.header.HeaderParts.{HeaderParts}
 use Rattle.lnt_header.specs.HeaderRules.{HasHeaderNumbers, single_bytes}
 use Rattle.lnt_header_bytes.specs.TableBytes.{TableBytes}
 
--- The bytes that header_length counts: fields of one byte, the two tables, and what else stands before the program.
+-- The bytes that header_length counts: fields of one byte, the two tables, and whatever else precedes the program.
 pub record HeaderFieldsBytes (h : HeaderParts) (bytes : List ℕ) : Type 0 where
   pub directories : List ℕ
   pub files : List ℕ

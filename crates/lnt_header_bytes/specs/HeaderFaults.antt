@@ -1,5 +1,5 @@
--- What is wrong with the fields that header_length counts: the first of them that isn't there, or has a value that none may have
--- (DWARF 5, section 6.2.4).
+-- What is wrong with the fields that header_length counts: the first of them that is truncated, or has an invalid value (DWARF
+-- 5, section 6.2.4).
 --     before   the bytes from the first field up to the place of the fault
 --     left     the bytes from the place on, up to the end of the header
 use Rattle.std.specs.Prelude.{◌≡◌, ◌≢◌, ℕ, ◌+◌, ◌<◌, ◌≤◌, List, [], ◌∷◌, length, slice_index}
@@ -23,14 +23,14 @@ pub record SinglesBytes (s : Singles) (bytes : List ℕ) : Type 0 where
   pub line_range : 0 < s.line_range
   pub opcode_base : 0 < s.opcode_base
 
--- Fewer than six bytes are left, and those that may not be 0 aren't.
+-- Fewer than six bytes are left, and those that mustn't be 0 aren't.
 pub record AreCutSingles (before left : List ℕ) : Type 0 where
   pub ends : left ≡ []
   pub few : length before < 6
   pub max_ops : 1 < length before → 0 < slice_index before 1
   pub line_range : 4 < length before → 0 < slice_index before 4
 
--- the reasons for which these six aren't read
+-- the reasons why these six can't be read
 abbrev pub IsSinglesFault : Reason → List ℕ → List ℕ → Type 0
 IsSinglesFault Truncated before left = AreCutSingles before left
 IsSinglesFault MaxOpsZero before left = (minimum : ℕ) × (more : List ℕ) × (before ≡ minimum ∷ []) × (left ≡ 0 ∷ more)
@@ -46,13 +46,13 @@ IsSinglesFault _ before left = ⊥
 abbrev pub LengthsBytes : ℕ → List ℕ → List ℕ → Type 0
 LengthsBytes opcode_base lengths bytes = (opcode_base ≡ length lengths + 1) × AreStandardLengths lengths × (bytes ≡ lengths)
 
--- Fewer are left than there are to be, and those are standard ones.
+-- Fewer are left than there should be, and those are as the standard states.
 pub record AreCutLengths (opcode_base : ℕ) (before left : List ℕ) : Type 0 where
   pub ends : left ≡ []
   pub few : length before + 1 < opcode_base
   pub standard : AreStandardLengths before
 
--- the reasons for which these aren't read
+-- the reasons why these can't be read
 abbrev pub IsLengthsFault : ℕ → Reason → List ℕ → List ℕ → Type 0
 IsLengthsFault opcode_base Truncated before left = AreCutLengths opcode_base before left
 IsLengthsFault opcode_base (StandardLength opcode given) before left =
@@ -60,7 +60,7 @@ IsLengthsFault opcode_base (StandardLength opcode given) before left =
     × (given ≢ slice_index known_lengths (length before)) × (left ≡ given ∷ more)
 IsLengthsFault opcode_base _ before left = ⊥
 
--- ---- the first part that isn't there
+-- ---- the first part that isn't valid
 
 -- the directories, or the files after them
 abbrev pub TwoTablesFault : Format → Order → Reason → List ℕ → List ℕ → Type 0

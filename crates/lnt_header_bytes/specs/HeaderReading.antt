@@ -11,11 +11,11 @@ use Rattle.lnt_header.specs.declared.header.HeaderParts.{HeaderParts}
 use Rattle.lnt_header_bytes.specs.declared.numbers.Singles.{Singles}
 use Rattle.lnt_header_bytes.specs.HeaderBytes.{HeaderFieldsBytes}
 
--- a cursor by what it is
+-- a cursor by its parts
 abbrev pub standing : ℕ → List ℕ → Order → At
 standing place rest order = record { place = place; rest = rest; order = order }
 
--- A cursor stands after the version of a frame, whose body it goes to the end of.
+-- A cursor is after the version of a frame, and goes to the end of its body.
 pub record IsAfterVersion (order : Order) (format : Format) (offset : ℕ) (body : List ℕ) (at : At) : Type 0 where
   pub order_is : at.order ≡ order
   pub place_is : at.place ≡ offset + length (initial_length format order (length body)) + 2

@@ -1,10 +1,10 @@
--- What is kept of a header beside its numbers and formats.
+-- What is kept of a header besides its numbers and formats.
 use Rattle.lnt_header.specs.declared.header.HeaderParts.{HeaderParts}
 use Rattle.lnt_header_bytes.specs.Borrowed.{header_in_bytes}
 use Rattle.lnt_header_bytes.specs.Marks.{IsMarkedHeader}
 use Rattle.lnt_header_bytes.specs.declared.kept.KeptEntries.{KeptEntries}
 
--- the header of these numbers and formats, with these entries
+-- the header with these numbers and formats, and these entries
 abbrev pub kept_header : HeaderParts → KeptEntries → HeaderParts
 kept_header numbers kept = header_in_bytes numbers kept.directories kept.files kept.bytes.items kept.directory_size kept.file_size
 

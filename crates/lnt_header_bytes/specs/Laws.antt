@@ -1,4 +1,4 @@
--- What is spelled is read again, whatever follows: no spelling begins another, and each spells one value.
+-- What is encoded is read back, whatever follows: no encoding is a prefix of another, and each encodes one value.
 use Rattle.lnt_wire.specs.declared.format.Order.{Order}
 use Rattle.lnt_wire.specs.Bytes.{IsCode}
 use Rattle.lnt_header_bytes.specs.HeaderBytes.{HeaderBytesIn}

@@ -1,4 +1,4 @@
--- Marks in a table: where some of its entries begin, so that these are found without those before them.
+-- Marks in a table: where some of its entries begin, so that these are found without walking those before them.
 use Rattle.std.specs.Prelude.{ℕ, ◌≤◌, List, length, take, drop}
 use Rattle.std.specs.List.{All}
 use Rattle.lnt_header_bytes.specs.Borrowed.{BorrowedTable, AreEntryBytes, directories_over, files_over, IsHeaderInBytes}
@@ -9,17 +9,17 @@ use Rattle.lnt_header_bytes.specs.declared.marks.Mark.{Mark}
 abbrev pub from_entry : ℕ → BorrowedTable → BorrowedTable
 from_entry number table = record table { entries = drop number table.entries }
 
--- The entry of this number begins at this place: the bytes from there on spell it and those after it.
+-- The entry with this number begins at this place: the bytes from there on encode it and those after it.
 pub record BeginsAt (table : BorrowedTable) (bytes : List ℕ) (number place : ℕ) : Type 0 where
   pub there : number ≤ length table.entries
   pub within : place ≤ length bytes
   pub lies : AreEntryBytes (from_entry number table) (drop place bytes)
 
--- the marks of a table, whose entries lie in these bytes: each is where its entry begins
+-- the marks of a table, whose entries are in these bytes: each is where its entry begins
 abbrev pub AreMarks : BorrowedTable → List ℕ → List Mark → Type 0
 AreMarks table bytes marks = All (λ mark. BeginsAt table bytes mark.number mark.place) marks
 
--- these bytes, and no others, spell the table's entries, and the marks are its own
+-- these bytes, and no others, encode the table's entries, and the marks are its own
 pub record IsMarkedTable (table : BorrowedTable) (bytes : List ℕ) (places : List Mark) : Type 0 where
   pub lies : AreEntryBytes table bytes
   pub marks : AreMarks table bytes places
@@ -30,7 +30,7 @@ pub record AreMarksOver (numbers : HeaderParts) (directories : ℕ) (directory_b
   pub of_directories : AreMarks (directories_over numbers directories directory_bytes) directory_bytes directory_marks
   pub of_files : AreMarks (files_over numbers files file_bytes) file_bytes file_marks
 
--- a header that lies in these bytes, with its marks
+-- a header in these bytes, with its marks
 pub record IsMarkedHeader (numbers : HeaderParts) (directories files : ℕ) (bytes : List ℕ) (directory_size file_size : ℕ)
     (directory_marks file_marks : List Mark) : Type 0 where
   pub lies : IsHeaderInBytes numbers directories files bytes directory_size file_size

@@ -39,7 +39,7 @@ pub record HasSameNumbers (one other : HeaderParts) : Type 0 where
   pub line_range : one.line_range ≡ other.line_range
   pub opcode_base : one.opcode_base ≡ other.opcode_base
 
--- The read moved past bytes that spell a value.
+-- The read moved past bytes that encode a value.
 pub record Passes {X : Type 0} (Spells : X → List ℕ → Type 0) (old new : At) : Type 0 where
   pub value : X
   pub read : Reads Spells value old new
@@ -55,12 +55,12 @@ pub record PassesAll {X : Type 0} (count : ℕ) (Spells : X → List ℕ → Typ
 abbrev pub lying_table : Format → Order → EntryTableRead → BorrowedTable
 lying_table format order table = borrowed_table format order table.pairs.items table.entries.count table.entries.bytes.now
 
--- The read gave a table in this format and the order of the bytes that are read, and moved past the bytes that spell it.
+-- The read gave a table in this format and the order of the bytes that are read, and moved past the bytes that encode it.
 pub record IsEntryTableRead (format : Format) (table : EntryTableRead) (old new : At) : Type 0 where
   pub lies : AreEntryBytes (lying_table format old.order table) table.entries.bytes.now
   pub read : Reads (TableOf format old.order) (table.pairs.items, (lying_table format old.order table).entries) old new
 
--- The read gave the fields of a header up to its file table, and moved past the bytes that spell them.
+-- The read gave the fields of a header up to its file table, and moved past the bytes that encode them.
 pub record AreFieldsRead (format : Format) (singles : Singles) (lengths : List ℕ) (directories files : EntryTableRead) (old new : At) : Type
     0 where
   pub directories_lie : AreEntryBytes (lying_table format old.order directories) directories.entries.bytes.now
@@ -76,7 +76,7 @@ pub record AreFieldsRead (format : Format) (singles : Singles) (lengths : List �
     ),
   ) old new
 
--- The numbers and the formats of a header that was read, and nothing else of it.
+-- Only the numbers and the formats of a header that was read.
 pub record ArePlain (format : Format) (order : Order) (address_size : ℕ) (singles : Singles) (lengths : List ℕ)
     (directories files : List Pair) (h : HeaderParts) : Type 0 where
   pub format_is : h.format ≡ format
@@ -105,7 +105,7 @@ pub record PassesFirstTwo (format : Format) (old new : At) : Type 0 where
   pub directory : FormValue
   pub two : AreFirstTwo format path directory old new
 
--- A path and the index of its directory aren't there, so that no entry is that begins with them.
+-- A path and the index of its directory can't be read, so there is no entry that begins with them.
 abbrev pub RefusesFirstTwo : Format → At → Fault → Type 0
 RefusesFirstTwo format old fault =
     (pairs : List Pair) (more : List Form) → forms_of pairs ≡ LineStrp ∷ Udata ∷ more

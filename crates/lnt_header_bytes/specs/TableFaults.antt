@@ -1,4 +1,4 @@
--- What is wrong where a table of a header isn't read: its first part that isn't there.
+-- What is wrong if a table of a header can't be read: its first part that isn't valid.
 --     before   the bytes from the table's first one up to the place of the fault
 --     left     the bytes from the place on, up to the end of the header
 use Rattle.std.specs.Prelude.{◌≡◌, ℕ, ◌<◌, List, [], ◌∷◌, ◌++◌}
@@ -23,7 +23,7 @@ IsNumberFault reason before left = (before ≡ []) × IsLebFault IsLargeUnsigned
 
 -- ---- pairs
 
--- a form code: the number isn't there, or it is of no form
+-- a form code: the number can't be read, or no form has it
 pub data IsCodeFault (reason : Reason) (before left : List ℕ) : Type 0 where
   no_code : IsNumberFault reason before left → IsCodeFault reason before left
   unknown : (code : ℕ) (spelling rest : List ℕ) → reason ≡ UnknownForm code → before ≡ [] → UnsignedLeb code spelling
@@ -47,7 +47,7 @@ pub data IsEntryFault (format : Format) (order : Order) (pairs : List Pair) (rea
 abbrev pub IsEntriesFault : Format → Order → List Pair → ℕ → Reason → List ℕ → List ℕ → Type 0
 IsEntriesFault format order pairs count = FirstOfSeveral count (EntryBytes format order pairs) (IsEntryFault format order pairs)
 
--- the number of entries: it isn't there, or there are some and the format has no pairs
+-- the number of entries: it can't be read, or there are some and the format has no pairs
 pub data IsSizeFault (pairs : List Pair) (reason : Reason) (before left : List ℕ) : Type 0 where
   no_size : IsNumberFault reason before left → IsSizeFault pairs reason before left
   empty : (n : ℕ) (spelling rest : List ℕ) → reason ≡ EmptyFormat → before ≡ [] → pairs ≡ [] → UnsignedLeb n spelling

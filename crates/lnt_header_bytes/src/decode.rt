@@ -12,10 +12,9 @@ use std::alloc::Global;
 
 /// The header of a frame, and the bytes of its program (DWARF 5, section 6.2.4).
 ///
-/// It refuses with `Memory`, and else only where the frame's bytes spell no header with a program. The fault is that of
-/// the first field that isn't there whole, or has a value that none may have, and its place is the field's first byte;
-/// where the fields of one byte end too early, that is where they end. The caller gives a frame as `take_frame` gives it,
-/// and the order in which that was read.
+/// Fails with `Memory`, and otherwise only if the frame's bytes aren't a header with a program. The fault is that of the
+/// first field that is truncated or has an invalid value, and its place is the field's first byte; if the fields of one
+/// byte end too early, it is their end. The caller passes a frame from `take_frame`, and the order in which that was read.
 pub fn decode_header<'a>(
     alloc: Global,
     frame: &Frame<'a>,

@@ -1,4 +1,4 @@
-//! Headers whose entries stay where they lie.
+//! Headers whose entries are read in place.
 ghost use Rattle.std.specs.Prelude.{◌≡◌, IfOk};
 ghost use Rattle.lnt_header.specs.HeaderNumbers.{without_entries};
 ghost use Rattle.lnt_header_bytes.specs.Borrowed.{header_over, IsHeaderOver, IsTableIn};
@@ -13,7 +13,7 @@ use lnt_wire::Items;
 use std::alloc::{AllocError, Global};
 use std::marker::Model;
 
-/// A header whose directories and files stay where they lie.
+/// A header whose directories and files are read in place.
 ///
 /// Contracts see the parts of the whole header, as those of `Header` do.
 #[derive(Drop)]
@@ -37,9 +37,9 @@ impl<'a> Model for HeaderView<'a> {
 }
 
 impl<'a> HeaderView<'a> {
-    /// The header of these numbers and formats, with these entries and these bytes between the file table and the
-    /// program; its tables have these marks. The caller knows the entries to be those of a header, and the marks to be
-    /// theirs. It takes no memory.
+    /// The header with these numbers and formats, these entries, and these bytes between the file table and the program;
+    /// its tables have these marks. The caller ensures that the entries are those of a header, and that the marks are
+    /// theirs. Allocates nothing.
     pub fn of(
         numbers: &'a Header,
         directories: EntriesInPlace<'a>,
@@ -99,7 +99,7 @@ impl<'a> HeaderView<'a> {
         self.extra
     }
 
-    /// The header itself, with its directories and files. It refuses only where memory runs out.
+    /// The header itself, with its directories and files in memory. Fails only if memory runs out.
     pub fn to_header(&self, alloc: Global) -> Result<Header, AllocError>
         ensures { IfOk result (λ header. header ≡ self.now) }
     {

@@ -1,4 +1,4 @@
-//! Headers whose entries stay where they lie, read from the bytes of their units.
+//! Headers whose entries are read in place, from the bytes of their units.
 ghost use Rattle.std.specs.Prelude.{◌≡◌, ◌≢◌, ◌+◌, ◌^◌, ◌<◌, length, IfOk, IfErr};
 ghost use Rattle.lnt_wire.specs.FrameBytes.{frame_bytes, IsPlacedFrame};
 ghost use Rattle.lnt_wire.specs.Reading.{RefusesOr};
@@ -23,8 +23,8 @@ use lnt_wire::{Cursor, Fault, Format, Frame, Items, Order, Reason, copied};
 use std::alloc::Global;
 use std::marker::Model;
 
-/// A header whose directories and files stay where they lie, and are lent by the bytes that it was read from. It takes
-/// no memory for them.
+/// A header whose directories and files are read in place: it borrows the bytes that it was read from, and allocates
+/// nothing for them.
 ///
 /// Contracts see the parts of the whole header, as those of `Header` do.
 #[derive(Drop)]
@@ -49,7 +49,7 @@ impl<'a> Model for HeaderInPlace<'a> {
 }
 
 impl<'a> HeaderInPlace<'a> {
-    /// A view of the header, whose entries are read where they lie. It takes no memory, and has no marks.
+    /// A view of the header, whose entries are read in place, without marks. Allocates nothing.
     pub fn view(&self) -> HeaderView<'_>
         ensures { result ≡ self.now }
     {
@@ -71,13 +71,12 @@ impl<'a> HeaderInPlace<'a> {
     }
 }
 
-/// The header of a frame, whose entries stay where they lie, and the bytes of its program (DWARF 5, section 6.2.4).
+/// The header of a frame, whose entries are read in place, and the bytes of its program (DWARF 5, section 6.2.4).
 ///
-/// It refuses with `Memory`, and else only where the frame's bytes spell no header with a program. The fault is that of
-/// the first field that isn't there whole, or has a value that none may have, and its place is the field's first byte;
-/// where the fields of one byte end too early, that is where they end. It takes memory for the formats of the entries
-/// and the standard opcode lengths alone. The caller gives a frame as `take_frame` gives it, and the order in which that
-/// was read.
+/// Fails with `Memory`, and otherwise only if the frame's bytes aren't a header with a program. The fault is that of the
+/// first field that is truncated or has an invalid value, and its place is the field's first byte; if the fields of one
+/// byte end too early, it is their end. Allocates memory only for the formats of the entries and the standard opcode
+/// lengths. The caller passes a frame from `take_frame`, and the order in which that was read.
 #[tactic(auto, using(crate::proofs::HeaderFrames::refuses_start, crate::proofs::HeaderFrames::refuses_fields, crate::proofs::HeaderFrames::header_found))]
 pub fn view_header<'a>(
     alloc: Global,
@@ -103,7 +102,7 @@ pub fn view_header<'a>(
     Ok((header, cursor.rest()))
 }
 
-// A header, from the bytes that header_length counts, which stand at the place.
+// A header, from the bytes that header_length counts, which are at the place.
 fn view_parts<'a>(
     alloc: Global,
     header: &'a [u8],
@@ -145,7 +144,7 @@ fn view_parts<'a>(
     })
 }
 
-// These standard opcode lengths, copied. Want of memory is told at the place.
+// A copy of these standard opcode lengths. If memory runs out, the fault has this place.
 fn lengths_of(alloc: Global, lengths: &[u8], place: u64) -> Result<Items<u8>, Fault>
     ensures ok { IfOk result (λ items. items ≡ lengths.now) }
     ensures err { IfErr result (λ fault. fault.reason ≡ Memory) }
@@ -159,7 +158,7 @@ fn lengths_of(alloc: Global, lengths: &[u8], place: u64) -> Result<Items<u8>, Fa
     }
 }
 
-// The parts of a header of these numbers and of the formats of directories and files, without entries.
+// The parts of a header with these numbers and these formats of directories and files, without entries.
 fn plain_parts(
     alloc: Global,
     singles: Singles,
@@ -191,7 +190,7 @@ fn plain_parts(
     }
 }
 
-// What is read of a header before its last bytes.
+// The parts of a header that are read before its last bytes.
 #[derive(Drop)]
 struct FieldsRead<'a> {
     singles: Singles,

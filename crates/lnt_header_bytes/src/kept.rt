@@ -15,8 +15,8 @@ use std::alloc::{AllocError, Global};
 use std::marker::Model;
 use std::rc::Rc;
 
-/// A header that is kept, with its directories and files as the bytes that spell them. Its numbers and the formats of its
-/// tables are shared by headers that have the same ones.
+/// A kept header, with its directories and files as the bytes that encode them. Headers with the same numbers and formats
+/// share them.
 ///
 /// Contracts see the parts of the whole header, as those of `Header` do.
 #[derive(Drop)]
@@ -52,7 +52,7 @@ impl Model for KeptHeader {
 }
 
 impl KeptHeader {
-    /// A view of the header, whose entries are read where they lie, with its marks. It takes no memory.
+    /// A view of the header, whose entries are read in place, with its marks. Allocates nothing.
     pub fn view(&self) -> HeaderView<'_>
         ensures { result ≡ self.now }
     {
@@ -88,8 +88,8 @@ impl KeptHeader {
 }
 
 impl<'a> HeaderInPlace<'a> {
-    /// The header, kept without the bytes that it was read from. It shares its numbers and formats with the other one,
-    /// if that has the same. It refuses only where memory runs out.
+    /// The header, kept without the bytes that it was read from. It shares its numbers and formats with the other header if
+    /// they are the same. Fails only if memory runs out.
     pub fn keep(self, alloc: Global, other: Option<&KeptHeader>) -> Result<KeptHeader, AllocError>
         ensures { IfOk result (λ kept. kept ≡ self.entry) }
     {
@@ -108,7 +108,7 @@ impl<'a> HeaderInPlace<'a> {
     }
 }
 
-// The entries of a header of these numbers, kept without the bytes that they lie in.
+// The entries of a header with these numbers, kept without the bytes that contain them.
 fn entries_of(
     alloc: Global,
     numbers: &Header,
@@ -134,7 +134,7 @@ fn entries_of(
     })
 }
 
-// These bytes, one after the other, in memory of their own.
+// A copy of these bytes, one after the other.
 fn joined(alloc: Global, first: &[u8], second: &[u8], third: &[u8]) -> Result<Vec<u8>, AllocError>
     ensures { IfOk result (λ bytes. bytes.items ≡ first.now ++ (second.now ++ third.now)) }
 {
@@ -149,7 +149,7 @@ fn joined(alloc: Global, first: &[u8], second: &[u8], third: &[u8]) -> Result<Ve
     Ok(bytes)
 }
 
-// These numbers and formats: those of the other header, if they are the same.
+// These numbers and formats: shared with the other header if they are the same.
 fn shared(
     alloc: Global,
     numbers: Header,
@@ -180,7 +180,7 @@ fn same_numbers<'a>(numbers: &Header, other: Option<&'a KeptHeader>) -> Option<&
     }
 }
 
-// These numbers and formats, which nothing shares yet.
+// These numbers and formats, not shared yet.
 fn alone(alloc: Global, numbers: Header) -> Result<Rc<Header>, AllocError>
     ensures { IfOk result (λ shared. shared.value ≡ numbers) }
 {

@@ -1,4 +1,4 @@
-//! The headers of DWARF 5 line number units as bytes: read, also with their entries left where they lie, and kept. The crate
+//! The headers of DWARF 5 line number units as bytes: read, with their entries in memory or in place, and kept. The crate
 //! `lnt_header_encode` writes them.
 #![tactic(auto)]
 

@@ -1,4 +1,5 @@
-//! Marks in a table: where some of its entries begin, so that one of them is found without a walk over all before it.
+//! Marks in a table: the places at which some of its entries begin, so that an entry is found without a walk over all
+//! entries before it.
 ghost use Rattle.std.specs.Prelude.{◌≡◌, ◌≤◌, ℕ, List, [], IfOk, IfSome, OnOk};
 ghost use Rattle.lnt_header_bytes.specs.Borrowed.{borrowed_table, AreEntryBytes, BorrowedTable};
 ghost use Rattle.lnt_header_bytes.specs.Marks.{AreMarks, BeginsAt};
@@ -9,10 +10,10 @@ use lnt_header::{Header, Pair};
 use lnt_wire::Cursor;
 use std::alloc::{AllocError, Global};
 
-// An entry is marked where it begins at least so many bytes after the last one that is marked, or after the first entry.
+// An entry is marked if it begins at least this many bytes after the last marked one, or after the first entry.
 const STEP: usize = 256;
 
-/// A mark: where an entry begins.
+/// A mark: the place at which an entry begins.
 #[derive(Clone, Copy, Debug)]
 pub struct Mark {
     // The number of the entry, counted from 0.
@@ -21,7 +22,8 @@ pub struct Mark {
     pub(crate) place: usize,
 }
 
-/// The marks of a header's tables: where in the bytes of a table's entries some of them begin. They rise. A table may have none.
+/// The marks of a header's tables: the places, in the bytes of a table's entries, at which some of them begin. They are in
+/// ascending order. A table may have none.
 #[derive(Clone, Copy, Debug)]
 pub struct Marks<'a> {
     /// Those of the directories.
@@ -44,8 +46,8 @@ impl<'a> Marks<'a> {
 }
 
 /// The marks of a table of the header's format and order, whose entries consist of these pairs. Between the last mark before
-/// an entry and that entry are fewer than 256 bytes. It refuses only where memory runs out, and takes none for a table of at
-/// most 256 bytes, and for any other a sixteenth of its bytes.
+/// an entry and that entry are fewer than 256 bytes. Fails only if memory runs out. Allocates nothing for a table of at most
+/// 256 bytes, and for any other a sixteenth of its bytes.
 pub(crate) fn marks_of(
     alloc: Global,
     header: &Header,
@@ -87,7 +89,7 @@ fn add_mark(marks: &mut Vec<Mark>, number: u64, place: usize) -> Result<(), Allo
     Ok(marks.push(Mark { number, place })?)
 }
 
-/// The last mark of an entry up to this number. None where no entry up to it has a mark.
+/// The last mark of an entry up to this number. `None` if no entry up to it has a mark.
 pub(crate) fn marked_before(marks: &[Mark], number: u64) -> Option<Mark>
     ensures before { IfSome result (λ mark. mark.number ≤ number) }
     ensures begins { IfSome result (λ mark. (table : BorrowedTable) (bytes : List ℕ) → AreMarks table bytes marks.now
@@ -95,7 +97,7 @@ pub(crate) fn marked_before(marks: &[Mark], number: u64) -> Option<Mark>
 {
     let above = marks.partition_point(|mark| mark.number <= number);
     let mark = marks.get(above.checked_sub(1)?)?;
-    // The marks rise, so that this always holds; the number itself is what is relied on.
+    // The marks are in ascending order, so this always holds; the proof relies only on the number.
     if mark.number <= number {
         Some(*mark)
     } else {

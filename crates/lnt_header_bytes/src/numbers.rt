@@ -7,7 +7,7 @@ ghost use Rattle.lnt_header_bytes.specs.HeaderFaults.{SinglesBytes, IsSinglesFau
 use lnt_header::{LAST_KNOWN, known_length};
 use lnt_wire::{Cursor, Fault, Reason};
 
-/// The six fields of one byte each before the standard opcode lengths, as they stand: `line_base` is the byte of a signed
+/// The six fields of one byte each before the standard opcode lengths, unchanged: `line_base` is the byte of a signed
 /// number.
 #[derive(Clone, Copy)]
 pub(crate) struct Singles {
@@ -19,8 +19,8 @@ pub(crate) struct Singles {
     pub opcode_base: u8,
 }
 
-/// Reads the six fields of one byte before the standard opcode lengths. It refuses a zero where none may be, at that field,
-/// and, with `Truncated`, where fewer than six bytes are left, at their end.
+/// Reads the six fields of one byte before the standard opcode lengths. Fails at a field that is 0 but mustn't be, and,
+/// with `Truncated`, at the end of the bytes if fewer than six are left.
 #[tactic(auto, using(crate::proofs::HeaderReaders::max_ops_zero, crate::proofs::HeaderReaders::line_range_zero, crate::proofs::HeaderReaders::opcode_base_zero, crate::proofs::HeaderReaders::cut_singles, crate::proofs::HeaderReaders::reads_singles))]
 pub(crate) fn read_singles(cursor: &mut Cursor<'_>) -> Result<Singles, Fault>
     ensures ok { IfOk result (λ s. Reads SinglesBytes s cursor.old cursor.new) }
@@ -62,7 +62,7 @@ pub(crate) fn read_singles(cursor: &mut Cursor<'_>) -> Result<Singles, Fault>
     }
 }
 
-/// Where the known standard opcodes end: at `opcode_base`, or after the last one where that is less.
+/// The end of the known standard opcodes: `opcode_base`, or one more than the last known opcode if that is less.
 fn known_end(opcode_base: u8) -> u8
     ensures low { result ≤ opcode_base }
     ensures high { result ≤ last_known + 1 }
@@ -71,8 +71,8 @@ fn known_end(opcode_base: u8) -> u8
     opcode_base.min(LAST_KNOWN + 1)
 }
 
-/// Reads the lengths of the standard opcodes, `opcode_base - 1` bytes, which stay where they lie. It refuses the first one
-/// that isn't the length of its known opcode, and, with `Truncated`, where there are fewer, at the end of the bytes.
+/// Reads the lengths of the standard opcodes, `opcode_base - 1` bytes, which are borrowed. Fails at the first one that
+/// isn't the length of its known opcode, and, with `Truncated`, at the end of the bytes if there are fewer.
 #[tactic(auto, using(crate::proofs::HeaderReaders::refuses_length, crate::proofs::HeaderReaders::cut_lengths, crate::proofs::HeaderReaders::reads_lengths))]
 pub(crate) fn read_lengths<'a>(cursor: &mut Cursor<'a>, opcode_base: u8) -> Result<&'a [u8], Fault>
     requires { 0 < opcode_base }

@@ -1,4 +1,4 @@
-//! Entries of a table that are passed: read where they lie, and kept nowhere.
+//! Entries of a table that are skipped: checked in place, and not kept.
 ghost use Rattle.std.specs.Prelude.{OnOk, IfOk, IfErr};
 ghost use Rattle.lnt_header_bytes.specs.Stepping.{Passes, PassesAll, PassesFirstTwo, RefusesFirstTwo, IsLayout};
 ghost use Rattle.lnt_header.specs.Joins.{Several};
@@ -9,8 +9,8 @@ ghost use Rattle.lnt_wire.specs.Reading.{Refuses};
 use lnt_header::Pair;
 use lnt_wire::{Cursor, Fault, Form, Format};
 
-/// Moves the cursor past `count` entries, and gives their bytes. It refuses with the fault of the first value that isn't
-/// there. It takes no memory.
+/// Moves the cursor past `count` entries, and returns their bytes. Fails with the fault of the first invalid value.
+/// Allocates nothing.
 #[tactic(auto, using(crate::proofs::PassLemmas::none_passed, crate::proofs::PassLemmas::one_more_passed, crate::proofs::PassLemmas::all_passed, crate::proofs::PassLemmas::refuses_passed))]
 pub(crate) fn pass_entries<'a>(
     cursor: &mut Cursor<'a>,
@@ -31,8 +31,8 @@ pub(crate) fn pass_entries<'a>(
     Ok(bytes)
 }
 
-// Which forms the entries of a table have. Entries of the layouts that compilers write are passed by a function of their own. The
-// layout says nothing of the content types; its name is what compilers mean by it.
+// The forms of the entries of a table. Entries with the layouts that compilers write are skipped by functions of their own. A
+// layout doesn't fix the content types; its name says what compilers use it for.
 #[derive(Clone, Copy)]
 enum Layout {
     // A `LineStrp`: a path in `.debug_line_str`.
@@ -41,7 +41,7 @@ enum Layout {
     IndexedPath,
     // The same, and a `Data16`: an MD5 sum.
     SummedPath,
-    // Any forms, those above too.
+    // Any forms, including those above.
     Other,
 }
 
@@ -153,7 +153,7 @@ fn pass_first_two(cursor: &mut Cursor<'_>, format: Format) -> Result<(), Fault>
     Ok(())
 }
 
-// Moves past the next entry, whatever its forms.
+// Moves past the next entry, with any forms.
 #[inline(never)]
 #[tactic(auto, using(crate::proofs::PassLemmas::values_begun, crate::proofs::PassLemmas::values_next_passed, crate::proofs::PassLemmas::values_passed, crate::proofs::PassLemmas::refuses_value_passed))]
 fn pass_values(cursor: &mut Cursor<'_>, format: Format, pairs: &[Pair]) -> Result<(), Fault>

@@ -1,4 +1,4 @@
-//! Tables of a header, read with their entries passed over.
+//! Tables of a header, read without keeping their entries.
 ghost use Rattle.std.specs.Prelude.{◌≡◌, IfOk, IfErr};
 ghost use Rattle.lnt_wire.specs.Reading.{RefusesOr};
 ghost use Rattle.lnt_header_bytes.specs.Stepping.{IsEntryTableRead};
@@ -11,23 +11,23 @@ use lnt_header::Pair;
 use lnt_wire::{Cursor, Fault, Format, Reason};
 use std::alloc::Global;
 
-/// Entries that lie one after the other: how many there are, and their bytes.
+/// Consecutive entries: their number and their bytes.
 #[derive(Clone, Copy, Debug)]
 pub struct EntriesInPlace<'a> {
-    /// How many there are.
+    /// The number of entries.
     pub count: u64,
     /// Their bytes, and no others.
     pub bytes: &'a [u8],
 }
 
-/// What was read of a table: its format, and where its entries lie.
+/// A table as it was read: its format, and the bytes of its entries.
 #[derive(Drop)]
 pub(crate) struct EntryTableRead<'a> {
     pub pairs: Vec<Pair>,
     pub entries: EntriesInPlace<'a>,
 }
 
-/// Reads the format of a table and the number of its entries, and moves past these, which stay where they lie.
+/// Reads the format of a table and the number of its entries, and moves past the entries, which are borrowed.
 pub(crate) fn read_table<'a>(
     alloc: Global,
     cursor: &mut Cursor<'a>,

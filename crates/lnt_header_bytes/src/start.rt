@@ -1,4 +1,4 @@
-//! The fields of a header after its version up to header_length.
+//! The fields of a header after its version, up to header_length.
 ghost use Rattle.std.specs.Prelude.{IfOk, IfErr};
 ghost use Rattle.lnt_wire.specs.Reading.{Reads, RefusesField, Refuses};
 ghost use Rattle.lnt_header_bytes.specs.StartBytes.{AddressSizeBytes, SelectorBytes, CountedBytes, StartBytes};

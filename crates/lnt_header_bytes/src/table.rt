@@ -51,7 +51,7 @@ pub(crate) fn read_pairs(
     Ok(pairs)
 }
 
-// Reads the next pair, and adds it to `pairs`.
+// Reads the next pair, and appends it to `pairs`.
 fn add_pair(cursor: &mut Cursor<'_>, pairs: &mut Vec<Pair>) -> Result<(), Fault>
     ensures ok { OnOk result (ReadsNext PairBytes pairs.old.items pairs.new.items cursor.old cursor.new) }
     ensures err { IfErr result (λ fault. RefusesOr IsPairFault PairBytes cursor.old fault) }
@@ -115,13 +115,13 @@ pub(crate) fn read_entries(
     Ok(entries)
 }
 
-// For how many of `count` entries room is reserved before they are read: at most 32, and no more than there are bytes left.
-// So a count that the bytes don't hold reserves little.
+// The number of entries, of `count`, for which room is reserved before they are read: at most 32, and at most the number of
+// bytes left. So a wrong count reserves little.
 fn first_room(cursor: &Cursor<'_>, count: u64) -> usize {
     cursor.rest().len().min(count.min(32) as usize)
 }
 
-// Reads the next entry, and adds it to `entries`.
+// Reads the next entry, and appends it to `entries`.
 fn read_entry(
     alloc: Global,
     cursor: &mut Cursor<'_>,
@@ -141,7 +141,7 @@ fn read_entry(
     Ok(())
 }
 
-// Adds an entry of these values to `entries`. The one error is that memory ran out.
+// Appends an entry of these values to `entries`. Fails only if memory runs out.
 fn push_entry(entries: &mut Vec<Entry>, values: Vec<FormValue>) -> Result<(), AllocError>
     ensures { OnOk result (entries.new.items ≡ entries.old.items ++ entry_of values.items ∷ []) }
 {
@@ -150,7 +150,7 @@ fn push_entry(entries: &mut Vec<Entry>, values: Vec<FormValue>) -> Result<(), Al
     })?)
 }
 
-// The fault `Memory`, at the place where the cursor stands.
+// The fault `Memory`, at the place of the cursor.
 fn no_memory(cursor: &Cursor<'_>) -> Fault
     ensures { result.reason ≡ Reason.Memory }
 {

@@ -1,4 +1,4 @@
-//! Tables of a header whose entries stay where they lie.
+//! Tables of a header whose entries are read in place.
 ghost use Rattle.std.specs.Prelude.{◌≡◌, ◌≤◌, length, IfOk};
 ghost use Rattle.lnt_header_bytes.specs.Borrowed.{borrowed_table, AreEntryBytes};
 ghost use Rattle.lnt_header_bytes.specs.Marks.{AreMarks, from_entry};
@@ -11,9 +11,9 @@ use lnt_wire::{Cursor, Format, Order, Reason};
 use std::alloc::{AllocError, Global};
 use std::marker::Model;
 
-/// An entry table of a header, of its directories or of its files: a format, and entries, which stay where they lie.
+/// A table of a header, of its directories or of its files: a format, and entries, which are read in place.
 ///
-/// Contracts see the format and the entries, and how the numbers of these are spelled (`BorrowedTable`).
+/// Contracts see the format, the entries, and how their numbers are encoded (`BorrowedTable`).
 #[derive(Drop)]
 pub struct EntryTableView<'a> {
     format: Format,
@@ -66,7 +66,7 @@ impl<'a> EntryTableView<'a> {
         self.pairs
     }
 
-    /// How many entries there are. It takes no memory.
+    /// The number of entries. Allocates nothing.
     #[tactic(auto, using(crate::proofs::BorrowedLaws::length_found))]
     pub fn count(&self) -> u64
         ensures { result ≡ length self.now.entries }
@@ -89,8 +89,8 @@ impl<'a> EntryTableView<'a> {
         Cursor::new(self.entries.bytes, 0, self.order)
     }
 
-    /// A cursor before the entry of this number or an earlier one, and the number of that entry. Where the table has marks,
-    /// fewer than 256 bytes stand between the two.
+    /// A cursor before the entry of this number or an earlier one, and the number of that entry. If the table has marks,
+    /// fewer than 256 bytes are between the two.
     pub fn cursor_before(&self, number: u64) -> (u64, Cursor<'_>)
         ensures before { result.0 ≤ number }
         ensures there { result.0 ≤ length self.now.entries }
@@ -104,7 +104,7 @@ impl<'a> EntryTableView<'a> {
         (mark.number, Cursor::new(bytes, 0, self.order))
     }
 
-    /// The entries themselves. It refuses only where memory runs out.
+    /// The entries in memory. Fails only if memory runs out.
     pub(crate) fn to_entries(&self, alloc: Global) -> Result<Vec<Entry>, AllocError>
         ensures { IfOk result (λ entries. entries.items ≡ self.now.entries) }
     {
@@ -118,7 +118,7 @@ impl<'a> EntryTableView<'a> {
             Ok(entries) => Ok(entries),
             Err(fault) => match fault.reason {
                 Reason::Memory => Err(AllocError),
-                // So many entries are there.
+                // There are this many entries.
                 _ => unreachable!(),
             },
         }

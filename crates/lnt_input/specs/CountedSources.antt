@@ -1,15 +1,15 @@
--- What a source over a reader, with a limit, has to give and has counted.
+-- What a source over a reader, with a limit, gives and has counted.
 use Rattle.std.specs.Prelude.{◌≡◌, Bool, ℕ, List, Option, Some, None, is_some, true, option_to_list}
 use Rattle.std.specs.Io.KnownBytes.{prepend_known}
 use Rattle.std.proofs.Common.{arith}
 use Rattle.lnt_input.specs.declared.counted.Counted.{Counted}
 use Rattle.lnt_input.specs.Pulling.{HasMoreThan}
 
--- The byte after the limit, where it was found, and then what the reader has to give.
+-- The byte after the limit, if it was found, and then what the reader gives.
 abbrev pub counted_remaining : {R : Type 0} → (R → Option (List ℕ)) → Counted R → Option (List ℕ)
 counted_remaining remaining source = prepend_known (option_to_list source.beyond) (remaining source.reader)
 
--- how many reads were refused
+-- the number of reads that failed
 abbrev pub counted_failures : {R : Type 0} → Counted R → ℕ
 counted_failures source = source.failures
 
@@ -17,13 +17,13 @@ counted_failures source = source.failures
 abbrev pub counted_too_long : {R : Type 0} → Counted R → Bool
 counted_too_long source = is_some source.beyond
 
--- how many bytes may still be given
+-- the number of bytes that may still be given
 abbrev pub counted_left : {R : Type 0} → Counted R → ℕ
 counted_left source = source.left
 
--- ---- a proof that the ghost member `more` of `Counted` cites, and that stands here for this alone: nothing of it is to be believed
+-- ---- a proof that the ghost member `more` of `Counted` cites; it is here only for that, and nothing in it has to be trusted
 
--- a byte that was found where none may be given any more is one more than may be given
+-- a byte that was found when no more may be given is one more than may be given
 more_of : (beyond : Option ℕ) (known : Option (List ℕ)) (left : ℕ) → is_some beyond ≡ true → left ≡ 0
     → HasMoreThan (prepend_known (option_to_list beyond) known) left
 more_of None known left found none_left = cc

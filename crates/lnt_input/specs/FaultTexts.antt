@@ -3,7 +3,7 @@ use Rattle.std.specs.Prelude.{ℕ, List, codes}
 use Rattle.lnt_input.specs.declared.stop.Stop.{Stop}
 use Rattle.lnt_input.specs.declared.stop.Stop.TheVariants as stop
 
--- why the work on the bytes of a source was stopped
+-- why the work on the bytes of a source stopped
 abbrev pub stop_text : Stop → List ℕ
 stop_text stop.Memory = codes "out of memory"
 stop_text stop.Read = codes "cannot read"

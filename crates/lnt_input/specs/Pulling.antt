@@ -1,7 +1,7 @@
--- What pulls do to the bytes that a source has to give. A source need not tell its bytes: then they are None, and nothing is said.
+-- What pulls do to the bytes from a source. A source's bytes needn't be known: then they are `None`, and nothing is claimed.
 use Rattle.std.specs.Prelude.{◌≡◌, ℕ, ◌<◌, ◌⊎◌, Bool, IsTrue, List, [], ◌++◌, length, Option, Some, None, IfSome}
 
--- The bytes that the source had (old) are those given, and after them those that it still has (new).
+-- The bytes that the source had (old) are those given, followed by those that it still has (new).
 abbrev pub Pulls : Option (List ℕ) → Option (List ℕ) → List ℕ → Type 0
 Pulls None new given = Unit {0}
 Pulls (Some old) None given = ⊥
@@ -14,7 +14,7 @@ pub record GivesMore (old new : Option (List ℕ)) (taken more : List ℕ) (k : 
   pub joined : more ≡ taken ++ given
   pub pulls : Pulls old new given
 
--- The source has nothing left to give, or has more than it may give.
+-- The source has no bytes left, or has more than it may give.
 abbrev pub IsAtEnd : Option (List ℕ) → Bool → Type 0
 IsAtEnd remaining too_long = IfSome remaining (λ bytes. bytes ≡ []) ⊎ IsTrue too_long
 

@@ -1,4 +1,4 @@
-//! A source over any reader, as a file, with a limit.
+//! A source over any reader, such as a file, with a limit.
 ghost use Rattle.std.specs.Prelude.{◌≡◌, ◌+◌, ◌-◌, ◌^◌, ◌<◌, min, false, is_some, true};
 
 use crate::source::{ReadFault, Source};
@@ -9,23 +9,23 @@ const MOST: u64 = 1 << 40;
 
 /// Gives the bytes of a reader, up to a limit.
 ///
-/// Every error of the reader is a failure and isn't tried again, also where a call was interrupted. Once the limit is
-/// reached, the next pull asks the reader for one byte more. Where there is one, the source is too long, gives nothing
-/// from then on, and counts the byte among those that it has to give.
+/// Every error of the reader is a failure and isn't retried, even if a call was interrupted. Once the limit is reached, the
+/// next pull reads one more byte. If there is one, the source is too long and gives nothing from then on; the byte counts
+/// as one that remains.
 #[derive(Drop)]
 pub struct Counted<R> {
     reader: R,
-    // How many bytes it may still give.
+    // The number of bytes that it may still give.
     left: u64,
-    // How many pulls were refused.
+    // The number of pulls that failed.
     failures: u64,
-    // The byte after the limit, where there is one.
+    // The byte after the limit, if there is one.
     beyond: Option<u8>,
     ghost full: { is_some beyond ≡ true → left ≡ 0 },
 }
 
 impl<R: Read> Counted<R> {
-    /// A source of at most `limit` bytes of the reader; a limit above 2^40 counts as 2^40. It asks the reader for nothing yet.
+    /// A source of at most `limit` bytes of the reader; a limit above 2^40 counts as 2^40. It doesn't read yet.
     pub fn new(reader: R, limit: u64) -> Counted<R>
         ensures remaining { ⟦<Counted<R> as Source>⟧.remaining result ≡ R.remaining reader }
         ensures failures { ⟦<Counted<R> as Source>⟧.failures result ≡ 0 }

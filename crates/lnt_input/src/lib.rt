@@ -1,5 +1,5 @@
-//! Where the bytes of a file come from. A [`Source`] gives them some at a time, up to a limit; [`Counted`] is one over any reader, as
-//! a file; and [`read_all`] takes them all, or stops for one of the reasons of [`Stop`].
+//! The source of the bytes of a file. A [`Source`] gives them piece by piece, up to a limit; [`Counted`] is one over any reader, such
+//! as a file; and [`read_all`] reads them all, or stops for one of the reasons of [`Stop`].
 #![tactic(auto)]
 
 mod counted;

@@ -1,4 +1,4 @@
-//! Where the bytes of a file come from, some at a time, up to a limit.
+//! Sources of the bytes of a file, which come piece by piece, up to a limit.
 ghost use Rattle.std.specs.Prelude.{◌≡◌, ◌≢◌, ℕ, ◌+◌, ◌-◌, ◌^◌, ◌<◌, ◌≤◌, length, take};
 ghost use Rattle.std.specs.Prelude.{IfOk, IsErrOf, IfSome, IsTrue, true, Bool, Option, List, MatchResult, Some, codes};
 ghost use Rattle.lnt_input.specs.Pulling.{Pulls, GivesMore, IsAtEnd, HasMoreThan};
@@ -8,7 +8,7 @@ use std::alloc::Global;
 use std::error::Error;
 use std::fmt;
 
-/// A source failed to give its next bytes (stop 34): what it reads from, such as a file, answered with an error.
+/// A source failed to give its next bytes (stop 34): what it reads from, such as a file, returned an error.
 #[derive(Clone, Copy, Debug, PartialEq, Eq)]
 pub struct ReadFault;
 
@@ -22,11 +22,11 @@ impl fmt::Display for ReadFault {
 
 impl Error for ReadFault {}
 
-/// Gives bytes in order, some at a time, up to a limit, and may fail.
+/// Gives bytes in order, piece by piece, up to a limit, and may fail.
 ///
-/// Contracts see it by four ghost members: `remaining`, the bytes that it has to give from here on, where it tells them;
-/// `failures`, how many pulls were refused; `too_long`, whether it was found to have more bytes than it may give; and
-/// `left`, how many bytes it may still give.
+/// Contracts see it by four ghost members: `remaining`, the bytes that it gives from here on, if they are known;
+/// `failures`, the number of pulls that failed; `too_long`, whether it was found to have more bytes than it may give; and
+/// `left`, the number of bytes that it may still give.
 pub trait Source {
     ghost remaining: { Self → Option (List ℕ) };
 
@@ -36,11 +36,11 @@ pub trait Source {
 
     ghost left: { Self → ℕ };
 
-    /// Writes the next bytes into the front of `buf`, and answers how many, at most as many as `buf` has room for.
+    /// Writes the next bytes to the start of `buf`, and returns how many, at most the length of `buf`.
     ///
-    /// An answer of 0 to a buffer with room says that the source is at its end, or too long. A refusal, and nothing else,
-    /// raises the number of failures, by one; what `buf` then holds and which bytes are left isn't said. The caller sees
-    /// to it that the source has failed fewer than `u64::MAX` times.
+    /// A result of 0 for a nonempty buffer means that the source is at its end, or too long. An error, and nothing else,
+    /// adds one to the number of failures; then the contents of `buf` and the remaining bytes are unspecified. The caller
+    /// ensures that the source has failed fewer than `u64::MAX` times.
     fn pull(&mut self, buf: &mut [u8]) -> Result<usize, ReadFault>
         requires { failures self.old < 2 ^ 64 - 1 }
         ensures bound { IfOk result (λ k. k ≤ length buf.new) }
@@ -50,7 +50,7 @@ pub trait Source {
         ensures failures { MatchResult result
             (λ _. failures self.new ≡ failures self.old) (λ _. failures self.new ≡ failures self.old + 1) };
 
-    /// How many pulls were refused.
+    /// The number of pulls that failed.
     fn failures(&self) -> u64
         ensures { result ≡ failures self.now };
 
@@ -58,19 +58,19 @@ pub trait Source {
     fn too_long(&self) -> bool
         ensures { result ≡ too_long self.now };
 
-    /// How many bytes the source may still give, at most.
+    /// The greatest number of bytes that the source may still give.
     fn left(&self) -> u64
         ensures { result ≡ left self.now };
 
-    // Each source proves that where it is too long, more bytes remain than it may still give.
+    // Each source proves that if it is too long, more bytes remain than it may still give.
     ghost more: { (s : Self) → too_long s ≡ true → HasMoreThan (remaining s) (left s) };
 }
 
-/// How many bytes are asked of a source at once, and reserved ahead of them, at most: 64 KiB.
+/// The greatest number of bytes that are pulled from a source at once, and reserved ahead of them: 64 KiB.
 pub const BLOCK: usize = 1 << 16;
 
-// Writes the next bytes of the source into the front of the room, until it is full or no more come. It answers how many came,
-// which are fewer than the room holds only at the end, or where the source is too long.
+// Writes the next bytes of the source to the start of the room, until it is full or no more come. It returns how many came:
+// fewer than the length of the room only at the end, or if the source is too long.
 #[tactic(auto, using(crate::proofs::PullLaws::pulls_none))]
 fn fill<R: Source>(source: &mut R, room: &mut [u8]) -> Result<usize, ReadFault>
     requires { R.failures source.old < 2 ^ 64 - 1 }
@@ -92,11 +92,11 @@ fn fill<R: Source>(source: &mut R, room: &mut [u8]) -> Result<usize, ReadFault>
     Ok(filled)
 }
 
-/// Takes the next `size` bytes of the source, or those up to its end, right into the room after those that `all` holds. It
-/// answers how many came: fewer than `size` only at the end, or where the source is too long.
+/// Appends the next `size` bytes of the source, or those up to its end, to `all`, without another copy. It returns how many
+/// came: fewer than `size` only at the end, or if the source is too long.
 ///
-/// It stops with `Memory`, and with `Read` only where the source failed. After a stop nothing is said of `all`. The caller
-/// sees to it that the number of failures is below `u64::MAX`, and asks for no more than [`BLOCK`] bytes.
+/// Stops with `Memory`, and with `Read` only if the source failed. After a stop `all` is unspecified. The caller ensures
+/// that the number of failures is below `u64::MAX`, and asks for no more than [`BLOCK`] bytes.
 pub fn take_block<R: Source>(source: &mut R, all: &mut Vec<u8>, size: usize) -> Result<usize, Stop>
     requires failures { R.failures source.old < 2 ^ 64 - 1 }
     requires size { size ≤ 2 ^ 16 }
@@ -120,11 +120,11 @@ pub fn take_block<R: Source>(source: &mut R, all: &mut Vec<u8>, size: usize) -> 
     Ok(count)
 }
 
-/// All bytes that the source has to give, from where it stands to its end.
+/// All remaining bytes of the source, up to its end.
 ///
-/// It stops with `Memory`; with `Read` only where the source failed, once, which is not tried again; and with `TooLong`
-/// only where the source was found to have more bytes than it may give. No more memory is reserved ahead of the bytes
-/// that come than for [`BLOCK`] of them. The caller sees to it that the source has failed fewer than `u64::MAX` times.
+/// Stops with `Memory`; with `Read` only if the source failed, once, which isn't retried; and with `TooLong` only if the
+/// source was found to have more bytes than it may give. Memory is reserved for at most [`BLOCK`] bytes ahead of those that
+/// came. The caller ensures that the source has failed fewer than `u64::MAX` times.
 #[tactic(auto, using(crate::proofs::PullLaws::pulling))]
 pub fn read_all<R: Source>(alloc: Global, source: &mut R) -> Result<Vec<u8>, Stop>
     requires { R.failures source.old < 2 ^ 64 - 1 }

@@ -5,7 +5,8 @@ ghost use Rattle.lnt_input.specs.FaultTexts.{stop_text};
 use std::error::Error;
 use std::fmt;
 
-/// Why the work on the bytes of a source was stopped. It says nothing of the bytes. Each reason has a number, from 33 to 35.
+/// Why the work on the bytes of a source was stopped. It is no verdict on the bytes. Each reason has a number, from 33 to
+/// 35.
 #[derive(Clone, Copy, Debug, PartialEq, Eq)]
 pub enum Stop {
     /// 33: memory ran out.

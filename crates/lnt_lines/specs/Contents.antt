@@ -22,33 +22,33 @@ pub record Contents : Type 0 where
 abbrev pub AreRising : List ℕ → Type 0
 AreRising offsets = AllPairs (λ one other. one < other) offsets
 
--- Each span's answer tells the instruction set and the discriminator too.
+-- Each span's answer includes the instruction set and the discriminator.
 abbrev pub AreWhole : List Span → Type 0
 AreWhole spans = AllByRecursion (λ (span : Span). (more : More) × (span.answer.more ≡ Some more)) spans
 
--- The spans are in order and their answers are whole, the units are in order, and each has its files.
+-- The spans are in order and their answers are complete, the units are in order, and each has its files.
 pub record AreContents (contents : Contents) : Type 0 where
   pub in_order : AreInOrder contents.spans
   pub whole : AreWhole contents.spans
   pub rising : AreRising contents.units
   pub each : length contents.units ≡ length contents.files
 
--- the files of the unit at an offset, if one stands there
+-- the files of the unit at an offset, if there is one
 abbrev pub files_at : List ℕ → List (List KeptFile) → ℕ → Option (List KeptFile)
 files_at units files unit = option_and_then (slice_get files) (position (λ offset. offset == unit) units)
 
 abbrev pub files_of : Contents → ℕ → Option (List KeptFile)
 files_of contents unit = files_at contents.units contents.files unit
 
--- how many files it has; 0 where no unit stands there
+-- the number of its files; 0 if there is no unit
 abbrev pub count_in : Contents → ℕ → ℕ
 count_in contents unit = option_map_or length (files_of contents unit) 0
 
--- the path of one of its files, if that is there
+-- the path of one of its files, if it exists
 abbrev pub path_in : Contents → ℕ → ℕ → Option (List ℕ)
 path_in contents unit file = option_and_then (λ files. kept_path files file) (files_of contents unit)
 
--- the MD5 sum that is listed of one of its files
+-- the MD5 sum that is listed for one of its files
 abbrev pub sum_in : Contents → ℕ → ℕ → Option (List ℕ)
 sum_in contents unit file = option_and_then (λ files. kept_sum files file) (files_of contents unit)
 

@@ -1,4 +1,4 @@
--- All spans of an index, one after another: a sequence is decoded where its spans come next.
+-- All spans of an index, one after another: a sequence is decoded when its spans come next.
 use Rattle.std.specs.Prelude.{◌≡◌, Bool, ℕ, ◌+◌, ◌≤◌, List, [], ◌∷◌, ◌++◌, length, Option, Some, None}
 use Rattle.std.specs.List.{AllZip}
 use Rattle.std.specs.List.Sorted.{IsPermutation}
@@ -16,7 +16,7 @@ use Rattle.lnt_sequences.specs.Spanning.{HasSpans, rows_left}
 use Rattle.lnt_lines.specs.Contents.{AreWhole}
 use Rattle.lnt_lines.specs.Indexed.{IsSequenceIn}
 
--- the units and their programs, the entries of the sequences that weren't begun, and the rest of the one at hand, in the
+-- the units and their programs, the entries of the sequences that haven't begun, and the rest of the current one, in the
 -- unit at an offset, with its last row so far
 pub record Cursor : Type 0 where
   pub units : List ℕ
@@ -26,14 +26,14 @@ pub record Cursor : Type 0 where
   pub rows : Option SequenceWalk
   pub last : Option Row
 
--- The spans of the sequences that weren't begun are these.
+-- The spans of the sequences that haven't begun are these.
 pub record ComeLater (spans : List Span) (cursor : Cursor) : Type 0 where
   pub sequences : List Placed
   pub each : AllZip (λ entry placed. (placed.id ≡ entry.id) × IsSequenceIn cursor.units cursor.programs entry.id placed.rows) cursor.entries
       sequences
   pub spans_are : spans ≡ spans_of sequences
 
--- Those of the sequence at hand that are still to come are these.
+-- Those of the current sequence that are still to come are these.
 abbrev pub ComeHere : List Span → Cursor → Type 0
 ComeHere spans cursor = elim cursor.rows [ None ↦ spans ≡ [] | Some rows ↦ HasSpans cursor.unit spans rows cursor.last ]
 
@@ -46,7 +46,7 @@ pub record AreToCome (cursor : Cursor) (spans : List Span) : Type 0 where
   pub spans_are : spans ≡ here ++ later
 
 -- What is to come are the spans of the kept sequences of these units, each once: they are in order, answer as the rows do at
--- every position, tell everything, and are no fewer than so many. Each of their numbers is of at most 64 bits.
+-- every position, have all parts of an answer, and are no fewer than this many. Each of their numbers has at most 64 bits.
 pub record GivesAllOf (dead : Option ℕ) (skip : Bool) (units : List (ℕ × UnitParts)) (count : ℕ) (cursor : Cursor) : Type 0 where
   pub spans : List Span
   pub to_come : AreToCome cursor spans
@@ -64,7 +64,7 @@ abbrev pub room_of : List KeptProgram → ℕ
 room_of [] = 1
 room_of (kept ∷ programs) = length kept.program + room_of programs
 
--- so much room for each of the sequences
+-- this many spans for each of the sequences
 abbrev pub room_for : ℕ → List Extent → ℕ
 room_for room [] = 0
 room_for room (entry ∷ entries) = room + room_for room entries
@@ -73,6 +73,6 @@ abbrev pub rows_here : Option SequenceWalk → ℕ
 rows_here None = 0
 rows_here (Some rows) = rows_left rows
 
--- at most so many spans are to come
+-- at most this many spans are to come
 abbrev pub most_left : Cursor → ℕ
 most_left cursor = rows_here cursor.rows + room_for (room_of cursor.programs) cursor.entries

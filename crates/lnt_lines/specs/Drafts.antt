@@ -1,6 +1,6 @@
--- What is known of a section as far as its units were judged.
+-- The state of judging a section, unit by unit.
 --     line, general   the bytes of .debug_line_str and of .debug_str
---     dead            the address at which sequences of dead code begin, where one is given
+--     dead            the address at which sequences of dead code begin, if one is given
 use Rattle.std.specs.Prelude.{◌≡◌, ℕ, List}
 use Rattle.lnt_header.specs.declared.unit_parts.UnitParts.{UnitParts}
 use Rattle.lnt_lines.specs.declared.options.Options.{Options}

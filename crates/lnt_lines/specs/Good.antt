@@ -1,6 +1,6 @@
 -- What makes a section good (DWARF 5, section 6.2).
 --     line, general   the bytes of .debug_line_str and of .debug_str
---     dead            the address at which sequences of dead code begin, where one is given
+--     dead            the address at which sequences of dead code begin, if one is given
 use Rattle.std.specs.Prelude.{ℕ, List, length, Option}
 use Rattle.std.specs.List.{AllByRecursion}
 use Rattle.lnt_header.specs.declared.unit_parts.UnitParts.{UnitParts}
@@ -11,20 +11,20 @@ use Rattle.lnt_sequences.specs.Rules.{AreApart, AreOrdered, HaveFiles}
 use Rattle.lnt_sequences.specs.Sequences.{kept_sequences, live_in}
 use Rattle.lnt_lines.specs.declared.options.Options.{Options}
 
--- A unit whose program runs, and whose tables are usable: each file's directory is there, and the text of each path.
+-- A unit whose program runs, and whose tables are usable: each file's directory exists, and each path has its text.
 pub record IsWellFormed (line general : List ℕ) (unit : UnitParts) : Type 0 where
   pub runs : Runs unit
   pub tables : AreUsableTables line general unit.header
 
--- A well-formed unit, which stands at an offset. The rows of its live sequences name files that are there, and their
--- positions never fall.
+-- A well-formed unit, which is at an offset. The rows of its live sequences name existing files, and their positions never
+-- fall.
 pub record IsSoundUnit (line general : List ℕ) (dead : Option ℕ) (unit : ℕ × UnitParts) : Type 0 where
   pub well_formed : IsWellFormed line general unit.1
   pub files : HaveFiles (length unit.1.header.files) (live_in dead unit)
   pub ordered : AreOrdered (live_in dead unit)
 
--- The section is the bytes of these units. Each of them is sound, and no position is held by two of their kept sequences: of
--- the live ones, less the copies where these are skipped.
+-- The section is the bytes of these units. Each of them is valid, and no position is held by two of their kept sequences:
+-- the live ones, without the copies if these are skipped.
 pub record IsGood (line general : List ℕ) (options : Options) (section : List ℕ) (units : List (ℕ × UnitParts)) : Type 0 where
   pub spelled : SectionBytes options.order units section
   pub sound : AllByRecursion (IsSoundUnit line general options.dead) units

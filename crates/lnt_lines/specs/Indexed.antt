@@ -1,5 +1,4 @@
--- What is kept of a good section by its sequences: where each lies, the programs of the units that they are in, and the
--- string sections.
+-- What is kept of a good section by its sequences: the place of each, the programs of their units, and the string sections.
 use Rattle.std.specs.Prelude.{◌≡◌, ◌<◌, ◌==◌, Bool, ℕ, List, [], length, map, get_or, Option, None, Some}
 use Rattle.std.specs.List.{AllByRecursion, AllZip, position, slice_get}
 use Rattle.std.specs.List.Sorted.{IsPermutation}
@@ -20,8 +19,8 @@ use Rattle.lnt_sequences.specs.Rules.{AreApart, AreOrdered, HaveFiles}
 use Rattle.lnt_sequences.specs.Sequences.{kept_sequences, live_in, live_sequences}
 use Rattle.lnt_lines.specs.Contents.{AreRising}
 
--- the bytes of .debug_line_str and of .debug_str, an entry for each sequence that holds something, and the offset and the
--- program of each unit
+-- the bytes of .debug_line_str and of .debug_str, an entry for each nonempty sequence, and the offset and the program of
+-- each unit
 pub record Indexed : Type 0 where
   pub line : List ℕ
   pub general : List ℕ
@@ -29,8 +28,8 @@ pub record Indexed : Type 0 where
   pub units : List ℕ
   pub programs : List KeptProgram
 
--- The index is that of the kept sequences of these units, no two of which hold one position. Positions fall in no live sequence.
--- The units stand in order, and the tables of each are usable.
+-- The index is that of the kept sequences of these units, no two of which hold the same position. Positions fall in no live
+-- sequence. The units are in order, and the tables of each are usable.
 pub record IsIndexOf (dead : Option ℕ) (skip : Bool) (units : List (ℕ × UnitParts)) (index : Indexed) : Type 0 where
   pub settled : AreSettled index.entries
   pub entries : IsPermutation (extents_of (kept_sequences dead skip units)) index.entries
@@ -41,8 +40,7 @@ pub record IsIndexOf (dead : Option ℕ) (skip : Bool) (units : List (ℕ × Uni
   pub programs : AllZip (λ unit kept. KeepsProgram kept unit.1) units index.programs
   pub tables : AllByRecursion (λ unit. AreUsableTables index.line index.general unit.1.header) units
 
--- It is that of some units. The rows of their live sequences name files that are there, and the numbers of their headers are such as
--- can be read.
+-- It is that of some units. The rows of their live sequences name existing files, and the numbers of their headers can be read.
 pub record IsIndex (index : Indexed) : Type 0 where
   pub dead : Option ℕ
   pub skip : Bool
@@ -59,25 +57,25 @@ HasOneOperation kept = kept.header.max_ops ≡ 1
 
 -- ---- the files of units
 
--- the header of the unit at an offset, if one stands there
+-- the header of the unit at an offset, if there is one
 abbrev pub header_in : Indexed → ℕ → Option HeaderParts
 header_in index unit =
     option_map (λ kept. kept.header) (option_and_then (slice_get index.programs) (position (λ offset. offset == unit) index.units))
 
--- how many files it has; 0 where no unit stands there
+-- the number of its files; 0 if there is no unit
 abbrev pub file_count_in : Indexed → ℕ → ℕ
 file_count_in index unit = option_map_or (λ header. length header.files) (header_in index unit) 0
 
--- the path of one of its files, if that is there
+-- the path of one of its files, if it exists
 abbrev pub file_path_in : Indexed → ℕ → ℕ → Option (List ℕ)
 file_path_in index unit file = option_and_then (λ header. path_bytes index.line index.general header file) (header_in index unit)
 
--- what is written of a path in a field of a record; empty where there is none, but each file that is counted has one
+-- what is written for a path in a field of a record; empty if there is none, but each counted file has one
 abbrev pub path_or_empty : Option (List ℕ) → List ℕ
 path_or_empty (Some path) = path
 path_or_empty None = []
 
--- the MD5 sum that is listed of one of its files
+-- the MD5 sum that is listed for one of its files
 abbrev pub file_sum_in : Indexed → ℕ → ℕ → Option (List ℕ)
 file_sum_in index unit file = option_and_then (λ header. listed_sum header file) (header_in index unit)
 

@@ -1,7 +1,7 @@
--- What the judgement of one unit says: that it is sound, and what is kept of it; or the first thing that is wrong with it. No
--- public contract speaks of it.
+-- The verdict on one unit: that it is valid, and what is kept of it; or the first thing that is wrong with it. No public
+-- contract speaks of it.
 --     line, general   the bytes of .debug_line_str and of .debug_str
---     dead            the address at which sequences of dead code begin, where one is given
+--     dead            the address at which sequences of dead code begin, if one is given
 use Rattle.std.specs.Prelude.{◌≡◌, ℕ, List, [], ◌∷◌, ◌++◌, length, drop, Option}
 use Rattle.lnt_wire.specs.declared.fault.Fault.{Fault}
 use Rattle.lnt_stream.specs.Units.{BufferedUnit}
@@ -31,19 +31,19 @@ pub record HasFlaw (line general : List ℕ) (dead : Option ℕ) (buffer : Buffe
   pub spelled : UnitBytesIn buffer.order unit buffer.bytes
   pub flaw : IsFlaw line general dead (buffer.offset, unit) reason
 
--- What is told of the unit in the buffer is so.
+-- What is reported of the unit in the buffer is true.
 abbrev pub IsUnitNo : List ℕ → List ℕ → Option ℕ → BufferedUnit → No → Type 0
 IsUnitNo line general dead buffer (no.Malformed fault) = BrokenUnit buffer.order fault buffer.offset buffer.bytes
 IsUnitNo line general dead buffer other = HasFlaw line general dead buffer other
 
--- A unit is refused for what is wrong with it, or for want of memory.
+-- A unit is rejected for what is wrong with it, or for lack of memory.
 abbrev pub IsUnitRefusal : List ℕ → List ℕ → Option ℕ → BufferedUnit → Refusal → Type 0
 IsUnitRefusal line general dead buffer (refusal.No reason) = IsUnitNo line general dead buffer reason
 IsUnitRefusal line general dead buffer (refusal.Stop stop.Memory) = Unit {0}
 IsUnitRefusal line general dead buffer (refusal.Stop _) = ⊥
 
--- What is told where an operation leads out of the range of lines: the fault, where the bytes are those of a unit, and
--- else why they aren't.
+-- What is reported if an operation leads out of the range of lines: the fault, if the bytes are those of a unit, and
+-- otherwise why they aren't.
 pub data IsRefusalOfRun (view : View) (unit : ℕ) (fault : RunFault) (told : Refusal) : Type 0 where
   of_unit : (count : ℕ) → HasCount view count → told ≡ refusal.No (no.Run unit fault) → IsRefusalOfRun view unit fault told
   broken : (first : Fault) → BrokenUnit view.unit.order first view.unit.offset view.unit.bytes → told ≡ refusal.No (no.Malformed first)
@@ -59,11 +59,11 @@ pub record HasRun (dead : Option ℕ) (view : View) (places : List ℕ) (old new
   pub collects : (sequences : List Placed) → Collects old sequences → CollectsRows dead view.unit.offset new sequences (rows unit)
   pub kept : KeepsProgram (record { header = view.header; program = view.program; places = places }) unit
 
--- what is kept of the unit in the buffer: its program goes to the end of the bytes
+-- what is kept of the unit in the buffer: its program extends to the end of the bytes
 abbrev pub kept_program_of : BufferedUnit → SoundUnit → KeptProgram
 kept_program_of buffer unit = record { header = unit.header; program = drop unit.start buffer.bytes; places = unit.places.items }
 
--- The bytes of the buffer are those of a sound unit, whose program is kept. What its live sequences hold was collected.
+-- The bytes of the buffer are those of a valid unit, whose program is kept. What its live sequences hold was collected.
 pub record IsJudgedSound (line general : List ℕ) (dead : Option ℕ) (buffer : BufferedUnit) (old new : Collected)
     (kept : KeptProgram) : Type 0 where
   pub unit : UnitParts
@@ -73,7 +73,7 @@ pub record IsJudgedSound (line general : List ℕ) (dead : Option ℕ) (buffer :
   pub collects : (units : List (ℕ × UnitParts)) → Collects old (live_sequences dead units)
       → Collects new (live_sequences dead (units ++ (buffer.offset, unit) ∷ []))
 
--- A unit whose program ran to its end, and whose rows the watch has seen, has this flaw; or it is sound.
+-- A unit whose program ran to its end, and whose rows the watch has seen, has this flaw; or it is valid.
 abbrev pub IsFlawedRun : List ℕ → List ℕ → View → Watch → No → Type 0
 IsFlawedRun line general view watch reason =
     (dead : Option ℕ) (places : List ℕ) (old new : Collected) → HasRun dead view places old new watch

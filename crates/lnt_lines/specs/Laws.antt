@@ -1,6 +1,6 @@
 -- What the laws of judged sections say.
 --     line, general   the bytes of .debug_line_str and of .debug_str
---     dead            the address at which sequences of dead code begin, where one is given
+--     dead            the address at which sequences of dead code begin, if one is given
 use Rattle.std.specs.Prelude.{◌≡◌, ◌≢◌, Bool, ℕ, List, length, None, Option, Some}
 use Rattle.std.specs.List.{All, Contains}
 use Rattle.lnt_wire.specs.declared.format.Order.{Order}
@@ -18,7 +18,7 @@ use Rattle.lnt_lines.specs.Good.{IsGood}
 use Rattle.lnt_lines.specs.Indexed.{header_in, Indexed, IsIndexOf}
 use Rattle.lnt_lines.specs.Nos.{IsTrueNo}
 
--- Of a good section no reason is true.
+-- No reason is true of a good section.
 abbrev pub GoodHasNoFlaw : Type 0
 GoodHasNoFlaw = (line general : List ℕ) (options : Options) (section : List ℕ) (units : List (ℕ × UnitParts)) (reason : No)
     → IsGood line general options section units → IsTrueNo line general options section reason → ⊥
@@ -29,7 +29,7 @@ pub record ListsFilesOf (line general : List ℕ) (unit : ℕ × UnitParts) (con
   pub paths : (file : ℕ) → path_in contents unit.0 file ≡ path_bytes line general unit.1.header file
   pub sums : (file : ℕ) → sum_in contents unit.0 file ≡ listed_sum unit.1.header file
 
--- So it is of each unit of the section, and no files are held where no unit stands.
+-- The same for each unit of the section, and no files are held for an offset without a unit.
 pub record FilesOfUnits : Type 0 where
   pub listed : (line general : List ℕ) (dead : Option ℕ) (skip : Bool) (order : Order) (section : List ℕ) (units : List (ℕ × UnitParts))
       (contents : Contents) (unit : ℕ × UnitParts)
@@ -38,15 +38,16 @@ pub record FilesOfUnits : Type 0 where
   pub none : (line general : List ℕ) (dead : Option ℕ) (skip : Bool) (units : List (ℕ × UnitParts)) (contents : Contents) (offset : ℕ)
       → TellsOf line general dead skip units contents → All (λ unit. unit.0 ≢ offset) units → files_of contents offset ≡ None
 
--- The header that an index finds at the offset of a unit is that of the unit, and it finds none where no unit stands.
+-- The header that an index finds at the offset of a unit is that of the unit, and it finds none at an offset without a
+-- unit.
 pub record HeadersOfUnits : Type 0 where
   pub found : (dead : Option ℕ) (skip : Bool) (units : List (ℕ × UnitParts)) (index : Indexed) (unit : ℕ × UnitParts)
       → IsIndexOf dead skip units index → Contains units unit → header_in index unit.0 ≡ Some unit.1.header
   pub none : (dead : Option ℕ) (skip : Bool) (units : List (ℕ × UnitParts)) (index : Indexed) (offset : ℕ) → IsIndexOf dead skip units index
       → All (λ unit. unit.0 ≢ offset) units → header_in index offset ≡ None
 
--- Of the kept sequences of a good section at most one holds p, and the section answers at p what its last row at or before p says.
--- Where none holds p, it answers nothing.
+-- At most one kept sequence of a good section holds p, and the section answers at p what its last row at or before p says. If none
+-- holds p, there is no answer.
 pub record AnswersAsHolder : Type 0 where
   pub one_alone : (line general : List ℕ) (options : Options) (section : List ℕ) (units : List (ℕ × UnitParts)) (one other : Placed)
       (p : Position) → IsGood line general options section units
@@ -62,7 +63,7 @@ pub record AnswersAsHolder : Type 0 where
       → ((placed : Placed) → Contains (kept_sequences dead skip units) placed → Holds placed.rows p → ⊥)
       → line_answer dead skip units p ≡ None
 
--- Of one section, under one choice of options, at most one reason is true. Where the bytes are malformed, that is one fault, at one
+-- At most one reason is true of a section, under one choice of options. If the bytes are malformed, that is one fault, at one
 -- place.
 pub record OneNo : Type 0 where
   pub one : (line general : List ℕ) (options : Options) (section : List ℕ) (one other : No) → IsTrueNo line general options section one

@@ -1,6 +1,6 @@
 -- What is wrong with a section that isn't good, and that it is the first thing that is wrong.
 --     line, general   the bytes of .debug_line_str and of .debug_str
---     dead            the address at which sequences of dead code begin, where one is given
+--     dead            the address at which sequences of dead code begin, if one is given
 use Rattle.std.specs.Prelude.{◌≡◌, ◌≢◌, ℕ, List, [], ◌∷◌, ◌++◌, length, Option}
 use Rattle.std.specs.List.{AllByRecursion}
 use Rattle.lnt_wire.specs.declared.fault.Fault.{Fault}
@@ -21,8 +21,8 @@ use Rattle.lnt_lines.specs.declared.no.No.TheVariants as no
 use Rattle.lnt_lines.specs.declared.options.Options.{Options}
 use Rattle.lnt_lines.specs.Good.{IsSoundUnit, IsWellFormed}
 
--- The unit at this offset has the flaw that is told, and none of a lower number; and it is the first of its number.
--- What isn't of one unit is no flaw.
+-- The unit at this offset has the flaw that is reported, and none of a lower number; and it is the first of its number. A
+-- reason that isn't about one unit isn't a flaw.
 abbrev pub IsFlaw : List ℕ → List ℕ → Option ℕ → ℕ × UnitParts → No → Type 0
 IsFlaw line general dead unit (no.Run offset fault) = (offset ≡ unit.0) × (fault ≢ run.Memory) × IsRunFault unit.1 fault
 IsFlaw line general dead unit (no.EntryFormat offset which) =
@@ -39,7 +39,7 @@ IsFlaw line general dead unit (no.Falls offset row) =
     × IsFirstFall dead (placed_in unit) row
 IsFlaw line general dead unit _ = ⊥
 
--- A front of the section is the bytes of sound units, and of one after them that has the flaw.
+-- A prefix of the section is the bytes of valid units, followed by those of one that has the flaw.
 pub record IsFirstFlaw (line general : List ℕ) (options : Options) (section : List ℕ) (reason : No) : Type 0 where
   pub units : List (ℕ × UnitParts)
   pub unit : ℕ × UnitParts
@@ -50,19 +50,20 @@ pub record IsFirstFlaw (line general : List ℕ) (options : Options) (section : 
   pub sound : AllByRecursion (IsSoundUnit line general options.dead) units
   pub flaw : IsFlaw line general options.dead unit reason
 
--- No list of units spells the section. It begins with sound units, and no unit begins the bytes after them, for the fault.
+-- No list of units encodes the section. It begins with valid units, and the bytes after them don't begin with a unit, for
+-- the fault.
 pub record IsMalformed (line general : List ℕ) (options : Options) (section : List ℕ) (fault : Fault) : Type 0 where
   pub broken : BrokenSection options.order fault section
   pub sound : AllByRecursion (IsSoundUnit line general options.dead) broken.true_fault.units
 
--- The section is the bytes of sound units, and of their kept sequences these are the first that overlap.
+-- The section is the bytes of valid units, and of their kept sequences these are the first that overlap.
 pub record IsOverlap (line general : List ℕ) (options : Options) (section : List ℕ) (overlap : Overlap) : Type 0 where
   pub units : List (ℕ × UnitParts)
   pub spelled : SectionBytes options.order units section
   pub sound : AllByRecursion (IsSoundUnit line general options.dead) units
   pub first : IsFirstOverlap (kept_sequences options.dead options.skip_copies units) overlap
 
--- What is told is wrong with the section, and it is the first thing that is.
+-- What is reported is wrong with the section, and it is the first thing that is.
 abbrev pub IsTrueNo : List ℕ → List ℕ → Options → List ℕ → No → Type 0
 IsTrueNo line general options section (no.Malformed fault) = IsMalformed line general options section fault
 IsTrueNo line general options section (no.Overlap first second position) =

@@ -1,4 +1,4 @@
--- Why there are no lines of a section, as faults, stops and flaws of tables make it. No public contract speaks of it.
+-- Why there are no lines of a section, by faults, stops and flaws of tables. No public contract speaks of it.
 use Rattle.std.specs.Prelude.{◌≡◌, ◌≢◌, ℕ}
 use Rattle.lnt_wire.specs.declared.fault.Fault.{Fault}
 use Rattle.lnt_wire.specs.declared.fault.Reason.TheVariants.{Memory}
@@ -18,7 +18,7 @@ pub data IsFaultRefusal (fault : Fault) (refusal : Refusal) : Type 0 where
   memory : fault.reason ≡ Memory → refusal ≡ Stop stop.Memory → IsFaultRefusal fault refusal
   malformed : fault.reason ≢ Memory → refusal ≡ No (Malformed fault) → IsFaultRefusal fault refusal
 
--- The refusal for a stop of the section's reader. A reader that wasn't stopped before never gives Failed, so there is none for it.
+-- The refusal for a stop of the section's reader. A reader that hasn't stopped before never gives Failed, so there is none for it.
 abbrev pub IsStopRefusal : SectionStop → Refusal → Type 0
 IsStopRefusal (section.Fault fault) refusal = refusal ≡ No (Malformed fault)
 IsStopRefusal section.Memory refusal = refusal ≡ Stop stop.Memory
@@ -32,6 +32,6 @@ table_no unit (table.EntryFormat which) = EntryFormat unit which
 table_no unit (table.StringOutside which entry) = StringOutside unit which entry
 table_no unit (table.DirectoryNumber file) = DirectoryNumber unit file
 
--- what is wrong with the unit at an offset where a row names a file that isn't there
+-- what is wrong with the unit at an offset if one of its rows names a missing file
 abbrev pub missing_no : ℕ → MissingFile → no.No
 missing_no unit missing = FileNumber unit missing.row missing.file

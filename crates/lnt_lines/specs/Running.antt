@@ -26,8 +26,8 @@ use Rattle.lnt_lines.specs.declared.run.Watched.{Watched}
 use Rattle.lnt_input.specs.declared.stop.Stop.TheVariants as stop
 use Rattle.lnt_lines.specs.Judging.{IsRefusalOfRun}
 
--- What was run so far: the operations that the walk has given, whose rows the watch has seen. Of each sequence that has ended the
--- place where it begins in the program is known. The machine's header needn't list the unit's files, so their number is given: files.
+-- What was run so far: the operations that the walk has given, whose rows the watch has seen. For each ended sequence the place where
+-- it begins in the program is known. The machine's header needn't list the unit's files, so their number is given: files.
 pub record RanSoFar (dead : Option ℕ) (view : View) (files : ℕ) (old now : Collected) (walk : Walk) (run : RunState) (watch : Watch)
     (places : List ℕ) (place : ℕ) : Type 0 where
   pub ops : List Op
@@ -55,11 +55,11 @@ abbrev pub RunsByNumbers : Option ℕ → View → Watched → Collected → Col
 RunsByNumbers dead view watched old now walk places =
     RunsSoFar dead (by_numbers view) (length view.header.files) watched old now walk places
 
--- the program, of which it is known how many bytes it has, ends below 2^64
+-- the program, whose number of bytes is known, ends below 2^64
 abbrev pub HasRoom : View → Watched → Type 0
 HasRoom view watched = (view.place + length view.program < 2 ^ 64) × (watched.length ≡ length view.program)
 
--- Whatever was run so far, it goes on by an operation that the walk gives, after which so many bytes are left.
+-- Whatever was run so far, the run continues with an operation that the walk gives, after which this many bytes are left.
 abbrev pub RunsOnBy : OpView → ℕ → Watched → Watched → Collected → Collected → List ℕ → List ℕ → Type 0
 RunsOnBy item left watched watched' now now' places places' =
     (dead : Option ℕ) (view : View) (files : ℕ) (old : Collected) (walk walk' : Walk)
@@ -67,7 +67,7 @@ RunsOnBy item left watched watched' now now' places places' =
     → HasRoom view watched → left ≡ length walk'.at.rest
     → RunsSoFar dead view files watched' old now' walk' places'
 
--- Whatever was run so far, it goes on up to where the walk stands then.
+-- Whatever was run so far, the run continues up to the new place of the walk.
 abbrev pub GoesOnTo : Walk → Walk → Watched → Watched → Collected → Collected → List ℕ → List ℕ → Type 0
 GoesOnTo walk walk' watched watched' now now' places places' =
     (dead : Option ℕ) (view : View) (files : ℕ) (old : Collected) → RunsSoFar dead view files watched old now walk places
@@ -103,7 +103,7 @@ StopsAfter walk watched now places fault =
     → HasRoom view watched
     → IsOut dead view files old fault
 
--- What is told for the fault of a program.
+-- What is reported for the fault of a program.
 abbrev pub IsRefusedFor : View → ℕ → RunFault → Refusal → Type 0
 IsRefusedFor view unit Memory told = told ≡ refusal.Stop stop.Memory
 IsRefusedFor view unit fault told = IsRefusalOfRun view unit fault told

@@ -20,14 +20,14 @@ use Rattle.lnt_spans.specs.declared.span.Span.{Span}
 use Rattle.lnt_spans.specs.Coming.{GivesFirstSpan}
 use Rattle.lnt_lines.specs.Cursors.{Cursor, ComeLater, AreToCome}
 
--- The draft is of these units, all of which are sound.
+-- The draft is of these units, all of which are valid.
 pub record IsDraftOf (line general : List ℕ) (dead : Option ℕ) (units : List (ℕ × UnitParts)) (draft : Draft) : Type 0 where
   pub sound : AllByRecursion (IsSoundUnit line general dead) units
   pub collects : Collects draft.collected (live_sequences dead units)
   pub offsets : draft.units.items ≡ map (λ unit. unit.0) units
   pub programs : AllZip (λ unit kept. KeepsProgram kept unit.1) units draft.programs.items
 
--- The draft is of some units that stand in order, with different sequences, and with headers whose numbers are such as can be read.
+-- The draft is of some units in order, with different sequences, and with headers whose numbers can be read.
 pub record IsWholeDraft (line general : List ℕ) (draft : Draft) : Type 0 where
   pub dead : Option ℕ
   pub units : List (ℕ × UnitParts)
@@ -36,7 +36,7 @@ pub record IsWholeDraft (line general : List ℕ) (draft : Draft) : Type 0 where
   pub distinct : AreDistinct (live_sequences dead units)
   pub rising : AreRising draft.units.items
 
--- The draft is of units that the whole section is the bytes of, where its source tells its bytes.
+-- The draft is of the units whose bytes are the whole section, if its source's bytes are known.
 pub record IsDraftOfSection (line general : List ℕ) (options : Options) (section : Option (List ℕ)) (draft : Draft) : Type 0 where
   pub units : List (ℕ × UnitParts)
   pub bytes : List ℕ
@@ -51,15 +51,15 @@ pub record HasAdded (line general : List ℕ) (dead : Option ℕ) (buffer : Buff
   pub drafts : (units : List (ℕ × UnitParts)) → IsDraftOf line general dead units old
       → IsDraftOf line general dead (units ++ (buffer.offset, unit) ∷ []) new
 
--- What is told of the section is wrong with it.
+-- What is reported of the section is wrong with it.
 abbrev pub IsRefusal : List ℕ → List ℕ → Options → List ℕ → Refusal → Type 0
 IsRefusal line general options section (refusal.No reason) = IsTrueNo line general options section reason
 IsRefusal line general options section (refusal.Stop stop) = Unit {0}
 
 -- ---- the next span
 
--- The first of the spans was given, of the sequence at hand, and the others are to come; or all are those of the
--- sequences that weren't begun.
+-- The first of the spans was given, of the current sequence, and the others are to come; or all are those of the sequences
+-- that haven't begun.
 abbrev pub GivesHere : Cursor → List Span → Option Span → Type 0
 GivesHere new spans None = ComeLater spans new
 GivesHere new spans (Some given) = GivesFirstSpan (AreToCome new) spans (Some given)

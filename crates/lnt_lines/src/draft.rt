@@ -1,4 +1,4 @@
-//! What is known of a section as far as its units were judged.
+//! The state of judging a section, unit by unit.
 ghost use Rattle.std.specs.Prelude.{◌≡◌, ◌≤◌, ℕ, List, [], ◌∷◌, ◌++◌, length, drop, Option, IfOk, OnOk, IfErr};
 ghost use Rattle.lnt_header.specs.declared.unit_parts.UnitParts.{UnitParts};
 ghost use Rattle.lnt_sequences.specs.Extents.{IsFirstOverlap};
@@ -19,7 +19,7 @@ use lnt_stream::UnitBuffer;
 use lnt_wire::Strings;
 use std::alloc::{AllocError, Global};
 
-/// What is known of the units judged so far, all of which are sound.
+/// The results for the units judged so far, all of which are valid.
 #[derive(Drop)]
 pub(crate) struct Draft {
     collected: Collected,
@@ -29,7 +29,7 @@ pub(crate) struct Draft {
 }
 
 impl Draft {
-    /// A draft of no units. It takes no memory.
+    /// A draft without units. Allocates nothing.
     pub(crate) fn new(alloc: Global) -> Draft
         ensures collected { Collects result.collected [] }
         ensures units { result.units.items ≡ [] }
@@ -42,8 +42,8 @@ impl Draft {
         }
     }
 
-    /// Judges the next unit, and adds it if it is sound: then it gives memory for the bytes of another unit. Else it
-    /// refuses as `judge_unit`. Nothing is said then of the draft.
+    /// Judges the next unit, and adds it if it is valid: then it returns a buffer for the bytes of another unit. Otherwise
+    /// it fails as `judge_unit` does, and the draft is unspecified.
     pub(crate) fn add_unit(
         &mut self,
         alloc: Global,
@@ -77,8 +77,8 @@ impl Draft {
         Ok(())
     }
 
-    /// The index of the section, once its last unit was added; or the first overlap of two live sequences, without the
-    /// copies where these are skipped. The strings are those that the units were judged by.
+    /// The index of the section, once its last unit was added; or the first overlap of two live sequences, apart from
+    /// copies if these are skipped. The strings are those with which the units were judged.
     pub(crate) fn index<'a>(
         self,
         strings: &Strings<'a>,
@@ -104,10 +104,10 @@ impl Draft {
     }
 }
 
-// A program of so many bytes or more is kept where it is, and not copied.
+// A program of at least this many bytes is kept in its buffer instead of being copied.
 const LARGE: usize = 1 << 16;
 
-// A program, which is `bytes` from index `start` on, and in `room` memory for the bytes of another unit.
+// A program, which is `bytes` from index `start` on, and `room`, a buffer for the bytes of another unit.
 #[derive(Drop)]
 struct Taken {
     bytes: Vec<u8>,
@@ -115,8 +115,8 @@ struct Taken {
     room: Vec<u8>,
 }
 
-// The program that is these bytes from index `start` on. A small one is copied, so that the memory of the bytes is free for
-// another unit.
+// The program that is these bytes from index `start` on. A small one is copied, so that the buffer can be used for another
+// unit.
 fn take_program(alloc: Global, bytes: Vec<u8>, start: usize) -> Result<Taken, AllocError>
     requires { start ≤ length bytes.items }
     ensures program { IfOk result (λ taken. drop taken.start taken.bytes.items ≡ drop start bytes.items) }

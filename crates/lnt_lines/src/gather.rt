@@ -1,4 +1,4 @@
-//! The lines of an index, with all spans and paths at hand.
+//! The lines of an index, with all spans and paths in memory.
 ghost use Rattle.std.specs.Prelude.{◌≡◌, Bool, ℕ, List, Option, IfOk};
 ghost use Rattle.lnt_header.specs.declared.unit_parts.UnitParts.{UnitParts};
 ghost use Rattle.lnt_lines.specs.Contents.{TellsOf};
@@ -9,7 +9,7 @@ use crate::lines::Lines;
 use lnt_spans::collect;
 use std::alloc::{AllocError, Global};
 
-// The lines of the units that the index is of. The one error is that memory ran out.
+// The lines of the units that the index is of. Fails only if memory runs out.
 pub(crate) fn lines_of(alloc: Global, index: &Index<'_>) -> Result<Lines, AllocError>
     ensures { IfOk result (λ lines. (dead : Option ℕ) (skip : Bool) (units : List (ℕ × UnitParts)) → IsIndexOf dead skip units index.now
         → TellsOf index.now.line index.now.general dead skip units lines) }

@@ -1,4 +1,4 @@
-//! What a good section answers, with its rows decoded again where they are asked for.
+//! What a good section answers, with its rows decoded again when they are needed.
 ghost use Rattle.std.specs.Prelude.{◌≡◌, ◌↔◌, ◌+◌, ◌-◌, ◌^◌, ◌<◌, ◌≤◌, Bool, ℕ, List, length, Option, None, IfNone, IfOk, IfSome};
 ghost use Rattle.std.specs.Prelude.{IsSome, IsSomeAnd, IsTrue};
 ghost use Rattle.std.specs.List.{All, AllByRecursion, AllZip};
@@ -37,7 +37,7 @@ use std::marker::Model;
 /// The sequences of a good section, in order, and the programs of its units, with the strings of its files. It keeps no
 /// row, no span and no path.
 ///
-/// A unit is named by its offset in the section, and its files count from 0. Contracts say of which units it is
+/// A unit is named by its offset in the section, and its files count from 0. Contracts say which units it indexes
 /// (`IsIndexOf`).
 #[derive(Drop)]
 pub struct Index<'a> {
@@ -110,12 +110,12 @@ impl<'a> Index<'a> {
         }
     }
 
-    /// What is answered at the position: what the last row says that isn't above it, in the kept sequence that holds it;
-    /// none where none does. The file that an answer names has a path. The rows of that sequence up to the position are decoded, and no
-    /// others. It takes no memory.
+    /// The answer at the position: that of the last row at or below it in the kept sequence that holds it. `None` if no kept sequence
+    /// holds it. The file that an answer names has a path. Only the rows of that sequence up to the position are decoded. Allocates
+    /// nothing.
     ///
-    /// It compares the position with at most as many sequences as the number of those that hold anything has binary
-    /// digits: `probes` rises by the comparisons. The caller sees to it that `probes` stands at 2^63 or below.
+    /// The position is compared with at most as many sequences as the number of nonempty ones has binary digits, and the
+    /// number of comparisons is added to `probes`. The caller ensures that `probes` is at most 2^63.
     pub fn lookup(&self, position: Position, probes: &mut Probes) -> Option<Answer>
         requires { probes.old ≤ 2 ^ 63 }
         ensures answer { (dead : Option ℕ) (skip : Bool) (units : List (ℕ × UnitParts)) → IsIndexOf dead skip units self.now
@@ -130,7 +130,7 @@ impl<'a> Index<'a> {
         }
     }
 
-    // The kept sequence that holds the position, or none where none does. It counts its comparisons as `lookup`.
+    // The kept sequence that holds the position, or `None` if none does. Comparisons are counted as in `lookup`.
     pub(crate) fn held(&self, position: Position, probes: &mut Probes) -> Option<Held<'_>>
         requires { probes.old ≤ 2 ^ 63 }
         ensures is_index { IsIndex self.now }
@@ -153,17 +153,17 @@ impl<'a> Index<'a> {
         Some(Held { place, id, rows })
     }
 
-    // How many sequences hold anything.
+    // The number of sequences that hold a position.
     pub(crate) fn entry_count(&self) -> usize
         ensures { result ≡ length self.now.entries }
     {
         self.entries.len()
     }
 
-    /// All spans, one after another: one for each two rows of a kept sequence that follow one another at different
-    /// positions. They are in order, none is empty, and each answer tells the instruction set and the discriminator too.
-    /// Each of their numbers is of at most 64 bits, so that it can be written in a table. A sequence is decoded where its
-    /// spans come next, and there are no fewer spans than sequences that hold anything. It takes no memory.
+    /// All spans: one for each two consecutive rows of a kept sequence at different positions. They are in order, none is
+    /// empty, and each answer includes the instruction set and the discriminator. Each of their numbers has at most 64
+    /// bits, so that it can be written in a table. A sequence is decoded when its spans come next, and there are at least
+    /// as many spans as nonempty sequences. Allocates nothing.
     pub fn spans(&self) -> Spans<'_>
         ensures is_index { IsIndex self.now }
         ensures gives { (dead : Option ℕ) (skip : Bool) (units : List (ℕ × UnitParts)) → IsIndexOf dead skip units self.now
@@ -175,8 +175,7 @@ impl<'a> Index<'a> {
     }
 
     /// Whether no instruction of the units has more than one operation, as `maximum_operations_per_instruction` says in the
-    /// header of each (DWARF 5, section 6.2.4). Then each span begins and ends at operation index 0, which is told without a
-    /// walk over the rows.
+    /// header of each (DWARF 5, section 6.2.4). Then each span begins and ends at operation index 0. The rows aren't walked.
     pub fn has_single_operations(&self) -> bool
         ensures single { IsTrue result ↔ All HasOneOperation self.now.programs }
         ensures spans { IsTrue result → (dead : Option ℕ) (skip : Bool) (units : List (ℕ × UnitParts)) (spans : List Span)
@@ -193,7 +192,7 @@ impl<'a> Index<'a> {
         self.units.as_slice()
     }
 
-    /// How many files the unit at this offset has; 0 where no unit stands there. It takes no memory.
+    /// The number of files of the unit at this offset, or 0 if there is no such unit. Allocates nothing.
     pub fn file_count(&self, unit: u64) -> u64
         ensures { result ≡ file_count_in self.now unit }
     {
@@ -203,16 +202,16 @@ impl<'a> Index<'a> {
         }
     }
 
-    /// The MD5 sum that is listed of the file of the unit at this offset. None where it lists none, or the file or the
-    /// unit isn't there. It takes no memory.
+    /// The MD5 sum that the unit at this offset lists for the file. `None` if it lists none, or if there is no such file or
+    /// unit. Allocates nothing.
     pub fn listed(&self, unit: u64, file: u64) -> Option<[u8; 16]>
         ensures { result ≡ file_sum_in self.now unit file }
     {
         listed(&self.header_of(unit)?, file)
     }
 
-    /// The whole path of the file of the unit at this offset, made of its texts. None exactly where the file or the unit
-    /// isn't there, so never for a file below `file_count`. It refuses only where memory runs out.
+    /// The full path of the file of the unit at this offset, built from its texts. `None` if and only if there is no such
+    /// file or unit, so never for a file below `file_count`. Fails only if memory runs out.
     #[tactic(auto, using(crate::proofs::NamedLemmas::counted_named))]
     pub fn path_of(
         &self,
@@ -229,8 +228,8 @@ impl<'a> Index<'a> {
         path_of(alloc, &header, self.strings, file)
     }
 
-    /// The header of the unit at this offset, with its directories and files at hand, for a caller that goes through many
-    /// of them. None exactly where no unit stands there. It refuses only where memory runs out.
+    /// The header of the unit at this offset, with its directories and files in memory, for a caller that needs many of
+    /// them. `None` if and only if there is no such unit. Fails only if memory runs out.
     pub fn header(&self, alloc: Global, unit: u64) -> Result<Option<Header>, AllocError>
         ensures header { IfOk result (λ header. header ≡ header_in self.now unit) }
         ensures usable { IfOk result (λ found. IfSome found (λ header. AreUsableTables self.now.line self.now.general header)) }
@@ -241,7 +240,7 @@ impl<'a> Index<'a> {
         Ok(Some(header.to_header(alloc)?))
     }
 
-    /// The string sections that the texts of files are in.
+    /// The string sections with the texts of files.
     pub fn strings(&self) -> Strings<'a>
         ensures line { result.line.now ≡ self.now.line }
         ensures general { result.general.now ≡ self.now.general }
@@ -249,7 +248,7 @@ impl<'a> Index<'a> {
         self.strings
     }
 
-    // The files of each unit, with their whole paths.
+    // The files of each unit, with their full paths.
     pub(crate) fn files(&self, alloc: Global) -> Result<Vec<Files>, AllocError>
         ensures { IfOk result (λ all. AllZip (λ kept files. AreFilesOf self.now.line self.now.general kept.header files) self.now.programs
             all.items) }
@@ -268,7 +267,7 @@ impl<'a> Index<'a> {
     }
 }
 
-// The offsets of units are of at most 64 bits, as their type says. It does nothing.
+// The offsets of units have at most 64 bits, as their type says. Does nothing at run time.
 fn offsets_fit(units: &[u64])
     ensures { AllByRecursion (λ offset. offset < 2 ^ 64) units.now }
 {}

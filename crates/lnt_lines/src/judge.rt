@@ -17,21 +17,21 @@ use lnt_stream::UnitBuffer;
 use lnt_unit::UnitInPlace;
 use std::alloc::{AllocError, Global};
 
-/// What is kept of a sound unit, but for its program.
+/// What is kept of a valid unit, apart from its program.
 #[derive(Drop)]
 pub(crate) struct SoundUnit {
     pub header: KeptHeader,
-    /// How many bytes of the unit stand before its program, which goes to the unit's end.
+    /// The number of bytes of the unit before its program, which extends to the unit's end.
     pub start: usize,
     /// Where its sequences begin in the program.
     pub places: Vec<usize>,
 }
 
-/// Judges the unit in the buffer. Of a sound one it gives what is kept, and adds what its live sequences hold to what is
-/// collected. Its header shares its numbers and formats with the other one, if that has the same.
+/// Judges the unit in the buffer. For a valid unit it returns what is kept, and adds what its live sequences hold to what
+/// is collected. Its header shares its numbers and formats with the other header if they are the same.
 ///
-/// It refuses with the first thing that is wrong, in the order of the numbers of `No`, and else with `Memory`. After a
-/// refusal nothing is said of what is collected.
+/// Fails with the first thing that is wrong, in the order of the numbers of `No`, or with `Memory`. After an error, what is
+/// collected is unspecified.
 pub(crate) fn judge_unit(
     alloc: Global,
     buffer: &UnitBuffer,
@@ -55,8 +55,8 @@ pub(crate) fn judge_unit(
     }
 }
 
-// Judges the unit at an offset, whose header is sound, and adds what its live sequences hold to what is collected. Of a
-// sound one it gives where its sequences begin in the program.
+// Judges the unit at an offset, whose header is valid, and adds what its live sequences hold to what is collected. For a
+// valid unit it returns where its sequences begin in the program.
 fn judge_run(
     alloc: Global,
     view: &UnitInPlace<'_>,
@@ -79,7 +79,7 @@ fn judge_run(
 }
 
 // The first thing that is wrong with the unit at an offset, whose program ran to its end, and whose rows the watch has
-// seen. None where it is sound.
+// seen. `None` if it is valid.
 fn flaw_of(view: &UnitInPlace<'_>, unit: u64, watch: &Watch, ends: &StringEnds<'_>) -> Option<No>
     requires { unit ≡ view.now.unit.offset }
     ensures { MatchOption result (IsSoundRun ends.now.line ends.now.general view.now watch.now)
@@ -91,7 +91,7 @@ fn flaw_of(view: &UnitInPlace<'_>, unit: u64, watch: &Watch, ends: &StringEnds<'
     tables.or(missing).or(falls)
 }
 
-// What is kept of a sound unit, whose sequences begin at these places. It refuses only where memory runs out.
+// What is kept of a valid unit, whose sequences begin at these places. Fails only if memory runs out.
 fn sound_unit(
     alloc: Global,
     view: UnitInPlace<'_>,
@@ -123,7 +123,7 @@ fn tables_no(unit: u64, fault: Option<EntryTableFault>) -> Option<No>
     })
 }
 
-// What is wrong with the unit at an offset where a row names a file that isn't there.
+// What is wrong with the unit at an offset if one of its rows names a missing file.
 fn missing_no(unit: u64, missing: Option<MissingFile>) -> Option<No>
     ensures { result ≡ option_map (missing_no unit) missing }
 {
@@ -131,7 +131,7 @@ fn missing_no(unit: u64, missing: Option<MissingFile>) -> Option<No>
     Some(No::FileNumber(unit, row, file))
 }
 
-// What is wrong with the unit at an offset where the position of a row falls.
+// What is wrong with the unit at an offset if the position of one of its rows falls.
 fn falls_no(unit: u64, row: Option<u64>) -> Option<No>
     ensures { result ≡ option_map (Falls unit) row }
 {

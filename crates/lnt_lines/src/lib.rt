@@ -1,9 +1,9 @@
-//! A whole line number section of DWARF 5 (section 6.2), judged in one pass, and what a good one answers. A good section answers at
-//! each position, an address with an operation index, what its rows say there; of another one the first thing that is wrong is
-//! told as a [`No`].
+//! Judges a whole line number section of DWARF 5 (section 6.2) in one pass, and answers from a good one. A good section answers at
+//! each position, an address with an operation index, what its rows say there. For any other section the first thing that is wrong
+//! is reported as a [`No`].
 //!
-//! Start with [`verify`], whose [`Lines`] hold all spans and need the section no more, or with [`index_section`], whose
-//! [`Index`] is smaller and decodes rows where they are asked for.
+//! Start with [`verify`], whose [`Lines`] hold all spans and don't need the section any more, or with [`index_section`],
+//! whose [`Index`] is smaller and decodes rows when they are needed.
 #![tactic(auto)]
 
 mod draft;

@@ -15,10 +15,10 @@ use lnt_spans::{Answer, Position, Probes};
 use std::alloc::{AllocError, Global};
 use std::marker::Model;
 
-/// Lookups in an index, with marks in the long sequences that were looked up, so that no other lookup there walks over more
-/// than the rows between two marks.
+/// Lookups in an index. They leave marks in long sequences, so that a later lookup there walks over no more than the rows
+/// between two marks.
 ///
-/// Contracts see the index, and no marks.
+/// Contracts see the index, but not the marks.
 #[derive(Drop)]
 pub struct Lookups<'i, 'a> {
     index: &'i Index<'a>,
@@ -37,8 +37,7 @@ impl<'i, 'a> Model for Lookups<'i, 'a> {
 }
 
 impl<'i, 'a> Lookups<'i, 'a> {
-    /// Lookups in this index. It refuses only where memory runs out, of which it takes four bytes for each sequence that holds
-    /// anything.
+    /// Lookups in this index. Fails only if memory runs out. It allocates four bytes for each nonempty sequence.
     pub fn new(alloc: Global, index: &'i Index<'a>) -> Result<Lookups<'i, 'a>, AllocError>
         ensures { IfOk result (λ lookups. lookups ≡ index.entry.now) }
     {
@@ -53,9 +52,8 @@ impl<'i, 'a> Lookups<'i, 'a> {
         self.index
     }
 
-    /// What is answered at the position, as [`Index::lookup`] answers it, with as many comparisons of the position with
-    /// sequences. Of the rows of the sequence that holds the position it decodes those from the last mark on, and up to the
-    /// position. It refuses only where memory runs out.
+    /// The answer at the position, the same as that of [`Index::lookup`], with as many comparisons of the position with
+    /// sequences. Only the rows from the last mark before the position up to it are decoded. Fails only if memory runs out.
     pub fn lookup(
         &mut self,
         alloc: Global,
@@ -88,13 +86,13 @@ struct Marked<'i> {
 #[derive(Drop)]
 struct Known<'i> {
     sequences: Vec<Marked<'i>>,
-    // For each entry of the index, one more than where its sequence stands in `sequences`; 0 where it has no marks. Nothing depends
-    // on it but the time of a lookup.
+    // For each entry of the index, one more than the index of its sequence in `sequences`, or 0 if it has no marks. Only the time
+    // of a lookup depends on it.
     places: Vec<u32>,
 }
 
 impl<'i> Known<'i> {
-    // No marks yet, of so many entries.
+    // No marks, for this many entries.
     fn new(alloc: Global, count: usize) -> Result<Known<'i>, AllocError>
         ensures { IfOk result (λ known. (index : Indexed) → AreKnownOf index known) }
     {
@@ -142,7 +140,7 @@ impl<'i> Known<'i> {
     }
 }
 
-// Where the sequence with this id, which is that of the entry at a place, stands among those with marks.
+// The index, among the sequences with marks, of the sequence with this id, which is that of the entry at a place.
 fn place_in(sequences: &[Marked<'_>], places: &[u32], place: usize, id: SeqId) -> Option<usize>
     ensures { IfSome result (λ known. (known < length sequences.now) × ((d : Marked) → (slice_index_or sequences.now known d).id ≡ id)) }
 {

@@ -20,7 +20,7 @@ pub(crate) enum Refusal {
 }
 
 impl Refusal {
-    // The refusal for a stop of the section's reader. A reader that wasn't stopped before never gives `Failed`.
+    // The refusal for a stop of the section's reader. A reader that hasn't stopped before never returns `Failed`.
     pub(crate) fn of_stop(stop: SectionStop) -> Refusal
         requires { stop ≢ SectionStop.Failed }
         ensures { IsStopRefusal stop result }

@@ -37,18 +37,18 @@ pub enum JudgedIndex<'a> {
     Bad(No),
 }
 
-/// Judges the section that the source has to give, a section `.debug_line` (DWARF 5, section 6.2), whose strings may
-/// lie in these string sections.
+/// Judges the section from the source, a section `.debug_line` (DWARF 5, section 6.2). Its strings may be in these string
+/// sections.
 ///
-/// It is good where its bytes are those of units one after another, and nothing else, whose programs run, whose tables are
-/// usable and whose live sequences name files that are there, never fall, and share no position, but for copies where these
-/// are skipped. Its lines answer at each position what the last row says that isn't after the position, in the live
-/// sequence that holds it. Else the first thing that is wrong is told (`No`). Units are taken from the source one at a
-/// time, so what is wrong with one is told before later bytes are asked for.
+/// It is good if its bytes are consecutive units and nothing else, whose programs run and whose tables are usable, and
+/// whose live sequences name existing files, never fall, and share no position, except copies if these are skipped. Its
+/// lines answer at each position what the last row at or before it says, in the live sequence that holds it. Otherwise the
+/// first thing that is wrong is reported (`No`). Units are read from the source one at a time, so an error in one is
+/// reported before later bytes are read.
 ///
-/// It stops with `Memory`; with `Read` only where the source failed; and with `TooLong` only where the source has more
-/// bytes than it may give. A stop judges nothing. Nothing is said of how far the source was read. The caller sees to it
-/// that the number of the source's failures is below `u64::MAX`.
+/// Stops with `Memory`; with `Read` only if the source failed; and with `TooLong` only if the source has more bytes than it
+/// may give. A stop isn't a verdict. How far the source was read is unspecified. The caller ensures that the number of the
+/// source's failures is below `u64::MAX`.
 pub fn verify<R: Source>(
     alloc: Global,
     section: &mut R,
@@ -76,8 +76,8 @@ pub fn verify<R: Source>(
     }
 }
 
-/// Judges the section as `verify` does, and gives the index of a good one in place of its lines: no list of rows, of
-/// spans or of paths is made. Its stops are those of `verify`.
+/// Judges the section as `verify` does, and returns the index of a good one instead of its lines: no list of rows, spans or
+/// paths is made. It stops as `verify` does.
 pub fn index_section<'a, R: Source>(
     alloc: Global,
     section: &mut R,
@@ -121,7 +121,7 @@ fn judge_section<'a, R: Source>(
     Ok(draft.index(strings, options.skip_copies)?)
 }
 
-// Judges the units that the reader has to give, up to the end of the section, or to the first that isn't sound.
+// Judges the units from the reader, up to the end of the section or the first that isn't valid.
 fn judge_units<R: Source>(
     alloc: Global,
     reader: &mut SectionReader<'_, R>,

@@ -13,16 +13,16 @@ use lnt_sequences::{Extent, next_span};
 use lnt_spans::{Span, SpanSource};
 use std::marker::Model;
 
-/// The spans of an index, in order. It holds one sequence at a time, which it decodes where its spans come next.
+/// The spans of an index, in order. It holds one sequence at a time, which it decodes when its spans come next.
 ///
-/// Contracts see how far it has come (`Cursor`), and say which spans are still to come (`AreToCome`).
+/// Contracts see its position (`Cursor`), and say which spans remain (`AreToCome`).
 #[derive(Drop)]
 pub struct Spans<'a> {
     units: &'a [u64],
     programs: &'a [Program],
-    // those of the sequences that weren't begun
+    // those of the sequences that haven't begun
     entries: &'a [Extent],
-    // the unit of the sequence at hand, its rows that are left, and the last one so far
+    // the unit of the current sequence, its remaining rows, and the last row so far
     unit: u64,
     rows: Option<SequenceRows<'a>>,
     last: Option<Row>,
@@ -69,7 +69,7 @@ impl<'a> Spans<'a> {
         }
     }
 
-    // The next span of the sequence at hand.
+    // The next span of the current sequence.
     #[inline(always)]
     fn next_here(&mut self) -> Option<Span>
         ensures same { (self.new.units ≡ self.old.units) × (self.new.programs ≡ self.old.programs) × (self.new.entries ≡ self.old.entries) }
@@ -82,7 +82,7 @@ impl<'a> Spans<'a> {
         next_span(self.unit, rows, &mut self.last)
     }
 
-    // Begins the next sequence, if there is one. It is in line, so that the state of a walk needn't lie in memory.
+    // Begins the next sequence, if there is one. Inlined, so that the state of a walk can stay in registers.
     #[inline(always)]
     fn begin(&mut self) -> bool
         ensures same { (self.new.units ≡ self.old.units) × (self.new.programs ≡ self.old.programs) }
@@ -107,7 +107,7 @@ impl<'a> SpanSource for Spans<'a> {
 
     #[inline(always)]
     fn next_span(&mut self) -> Option<Span> {
-        // One call in one place, so that the walk is in line where its spans are used.
+        // One call in one place, so that the walk is inlined where its spans are used.
         loop {
             if let Some(span) = self.next_here() {
                 return Some(span);

@@ -12,11 +12,11 @@ use Rattle.lnt_header.specs.OpRules.{op_of}
 use Rattle.lnt_machine.specs.declared.row.Row.{Row}
 use Rattle.lnt_machine.specs.Registers.{IsLine, advance_of_special, line_increment}
 
--- the operation that a view stands for, but for the operands of an unknown standard one, which change nothing
+-- the operation that a view stands for, except the operands of an unknown standard one, which change nothing
 abbrev pub plain : OpView → Op
 plain view = op_of view []
 
--- What is asked of an operation: a special opcode is not below the first one, and an address has the bytes of addresses.
+-- The requirements of an operation: a special opcode isn't below the first one, and an address fits the address size.
 abbrev pub IsAllowed : HeaderParts → Op → Type 0
 IsAllowed h (Special c) = h.opcode_base ≤ c
 IsAllowed h (SetAddress a) = a < 256 ^ h.address_size
@@ -58,7 +58,7 @@ line_reached h r op = pos r.line +ℤ line_increment h op
 abbrev pub special_row : HeaderParts → Row → ℕ → Row
 special_row h r c = record (advanced h r (advance_of_special h c)) { line = unsigned_abs (line_reached h r (Special c)) }
 
--- the registers after an operation that neither makes a row nor moves the line
+-- the registers after an operation that neither appends a row nor changes the line
 abbrev pub set_by : HeaderParts → Row → Op → Row
 set_by h r (AdvancePc n) = advanced h r n
 set_by h r (SetFile n) = record r { file = n }
@@ -82,14 +82,14 @@ changed h r EndSequence = initial_registers h
 changed h r (AdvanceLine z) = record r { line = unsigned_abs (line_reached h r (AdvanceLine z)) }
 changed h r op = set_by h r op
 
--- the row that an operation makes, if it makes one
+-- the row that an operation appends, if any
 abbrev pub made : HeaderParts → Row → Op → Option Row
 made h r (Special c) = Some (special_row h r c)
 made h r Copy = Some r
 made h r EndSequence = Some (record r { end_sequence = true })
 made h r _ = None
 
--- The operation was done: the line is in range, the registers changed, and the row was made.
+-- The operation was done: the line is in range, the registers changed, and the row was appended.
 pub record Changes (h : HeaderParts) (op : Op) (old new : Row) (row : Option Row) : Type 0 where
   pub line : IsLine (line_reached h old op)
   pub new_is : new ≡ changed h old op

@@ -1,5 +1,5 @@
--- Rows cut into sequences, and those that no sequence ends yet (DWARF 5, section 6.2.2). Bodies here and in
--- lnt_lines speak of it, and no public contract.
+-- Rows divided into sequences, and those whose sequence hasn't ended (DWARF 5, section 6.2.2). Bodies here and in lnt_lines
+-- speak of it, and no public contract.
 use Rattle.std.specs.Prelude.{◌≡◌, Bool, true, false, List, [], ◌∷◌, ◌++◌}
 use Rattle.std.specs.List.{AllByRecursion}
 use Rattle.lnt_machine.specs.declared.row.Row.{Row}

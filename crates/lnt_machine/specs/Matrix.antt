@@ -11,7 +11,7 @@ use Rattle.lnt_machine.specs.declared.row.Row.{Row}
 use Rattle.lnt_machine.specs.declared.row.Sequence.{Sequence}
 use Rattle.lnt_machine.specs.Registers.{registers_after, discriminator, basic_block, prologue_end, epilogue_begin, line, IsLine}
 
--- The row of a Copy or a Special after `back`: the registers after it, but with the discriminator and the marks that were set before
+-- The row of a Copy or a Special after `back`: the registers after it, but with the discriminator and the flags that were set before
 -- it.
 abbrev pub row_of : HeaderParts → List Op → Op → Row
 row_of h back op = record (registers_after h (op ∷ back)) {
@@ -25,7 +25,7 @@ row_of h back op = record (registers_after h (op ∷ back)) {
 abbrev pub end_row_of : HeaderParts → List Op → Row
 end_row_of h back = record (registers_after h back) { end_sequence = true }
 
--- the row that an operation after `back` makes, if it makes one
+-- the row that an operation after `back` appends, if any
 abbrev pub row_made : HeaderParts → List Op → Op → Option Row
 row_made h back Copy = Some (row_of h back Copy)
 row_made h back (Special c) = Some (row_of h back (Special c))
@@ -41,12 +41,12 @@ rows_after h back (op ∷ ops) = cons_option (row_made h back op) (rows_after h 
 abbrev pub rows : UnitParts → List Row
 rows unit = rows_after unit.header [] unit.ops
 
--- a row put before the first of some sequences; where there is none, it belongs to none
+-- a row put before the first of some sequences; if there is none, it belongs to none
 abbrev pub onto_first : Row → List Sequence → List Sequence
 onto_first row [] = []
 onto_first row (sequence ∷ sequences) = record { rows = row ∷ sequence.rows } ∷ sequences
 
--- The sequences of rows: each is cut after an end row. Rows after the last end row belong to none.
+-- The sequences of rows: each ends with an end row. Rows after the last end row belong to none.
 abbrev pub sequences_of : List Row → List Sequence
 sequences_of [] = []
 sequences_of (row ∷ rows) = cond row.end_sequence (record { rows = row ∷ [] } ∷ sequences_of rows) (onto_first row (sequences_of rows))
@@ -67,13 +67,13 @@ done ops k = reverse (take k ops)
 abbrev pub LinesFit : UnitParts → ℕ → Type 0
 LinesFit unit k = (j : ℕ) → j ≤ k → IsLine (line unit.header (done unit.ops j))
 
--- The program runs: its lines are in range, and each of its rows stands in a sequence, so that none follows the last end row.
+-- The program runs: its lines are in range, and each of its rows is in a sequence, so that none follows the last end row.
 pub record Runs (unit : UnitParts) : Type 0 where
   pub lines : LinesFit unit (length unit.ops)
   pub closed : joined_rows (sequences unit) ≡ rows unit
 
--- Why a program doesn't run. The line leaves its range with an operation and with none before it; or no line does, and
--- some row stands in no sequence. Want of memory says nothing of the program.
+-- Why a program doesn't run. The line leaves its range with an operation and with none before it; or no line does, and some
+-- row is in no sequence. Lack of memory says nothing about the program.
 abbrev pub IsRunFault : UnitParts → RunFault → Type 0
 IsRunFault unit (LineOutOfRange k) = (k < length unit.ops) × LinesFit unit k × (IsLine (line unit.header (done unit.ops (k + 1))) → ⊥)
 IsRunFault unit OpenSequence = LinesFit unit (length unit.ops) × (joined_rows (sequences unit) ≡ rows unit → ⊥)

@@ -1,5 +1,5 @@
--- Programs in parts, each of whole sequences (DWARF 5, section 6.2.5): what an operation does looks back no further than
--- to the last EndSequence.
+-- Programs in parts, each of whole sequences (DWARF 5, section 6.2.5): the effect of an operation depends on nothing before
+-- the last EndSequence.
 use Rattle.std.specs.Prelude.{◌≡◌, cond, List, [], ◌∷◌, ◌++◌, reverse}
 use Rattle.lnt_header.specs.declared.header.HeaderParts.{HeaderParts}
 use Rattle.lnt_header.specs.declared.op.Op.{Op}
@@ -21,13 +21,13 @@ AreWhole ops = AtStart (reverse ops)
 abbrev pub rows_of_ops : HeaderParts → List Op → List Row
 rows_of_ops h ops = rows_after h [] ops
 
--- the rows of the first sequence of some rows: up to the first end row, and with it
+-- the rows of the first sequence of some rows: up to and including the first end row
 abbrev pub first_sequence : List Row → List Row
 first_sequence [] = []
 first_sequence (row ∷ rows) = row ∷ cond row.end_sequence [] (first_sequence rows)
 
--- The rows of a program of which a front is of whole sequences are the rows of that front, and then those of the rest as
--- of a program of its own. So are its sequences.
+-- The rows of a program with a prefix of whole sequences are the rows of that prefix, followed by those of the rest run as
+-- a program of its own. So are its sequences.
 pub record RowsOfParts : Type 0 where
   pub rows : (h : HeaderParts) (front rest : List Op) → AreWhole front
       → rows_of_ops h (front ++ rest) ≡ rows_of_ops h front ++ rows_of_ops h rest

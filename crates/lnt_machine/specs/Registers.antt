@@ -14,12 +14,12 @@ use Rattle.lnt_machine.specs.declared.row.Row.{Row}
 
 -- ---- looking back
 
--- what was done since the last operation that the test passes, or all where there is none
+-- what was done since the last operation that the test passes, or all if there is none
 abbrev pub since : (Op → Bool) → List Op → List Op
 since test [] = []
 since test (op ∷ back) = cond (test op) [] (op ∷ since test back)
 
--- what the newest operation gives of those for which `gives` has a value, or the default where it has none
+-- what the newest operation gives of those for which `gives` has a value, or the default if it has none
 abbrev pub newest : {X : Type 0} → (Op → Option X) → X → List Op → X
 newest gives default [] = default
 newest gives default (op ∷ back) = unwrap_or (gives op) (newest gives default back)
@@ -33,7 +33,7 @@ is_copy_or_special Copy = true
 is_copy_or_special (Special c) = true
 is_copy_or_special _ = false
 
--- what was done in the sequence at hand
+-- what was done in the current sequence
 abbrev pub part : List Op → List Op
 part back = since is_end back
 
@@ -54,7 +54,7 @@ advance_of h (Special c) = advance_of_special h c
 advance_of h ConstAddPc = advance_of_special h 255
 advance_of h _ = 0
 
--- the sum of the advances after the last SetAddress or FixedAdvancePc of the sequence at hand, or in all of it
+-- the sum of the advances after the last SetAddress or FixedAdvancePc of the current sequence, or in all of it
 abbrev pub advances : HeaderParts → List Op → ℕ
 advances h [] = 0
 advances h (EndSequence ∷ back) = 0
@@ -83,7 +83,7 @@ op_index h back = advances h back % h.max_ops
 
 -- ---- the line
 
--- by how much an operation moves the line
+-- by how much an operation advances the line
 abbrev pub line_increment : HeaderParts → Op → ℤ
 line_increment h (AdvanceLine z) = z
 line_increment h (Special c) = h.line_base +ℤ pos ((c - h.opcode_base) % h.line_range)
@@ -131,9 +131,9 @@ isa back = newest isa_set 0 (part back)
 abbrev pub discriminator : List Op → ℕ
 discriminator back = newest discriminator_set 0 (after_row back)
 
--- ---- marks
+-- ---- flags
 
--- b, inverted as often as NegateStmt stands in the list
+-- b, inverted once for each NegateStmt in the list
 abbrev pub inverted : Bool → List Op → Bool
 inverted b [] = b
 inverted b (NegateStmt ∷ back) = not (inverted b back)
@@ -165,7 +165,7 @@ epilogue_begin back = list_any is_set_epilogue_begin (after_row back)
 
 -- ---- all of them
 
--- The registers between two operations. The line is the absolute value of `line`, which is the same wherever that isn't below 0.
+-- The registers between two operations. The line is the absolute value of `line`, which is the same if that isn't below 0.
 abbrev pub registers_after : HeaderParts → List Op → Row
 registers_after h back = record {
   address = address h back;

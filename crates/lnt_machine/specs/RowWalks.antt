@@ -18,18 +18,18 @@ pub record RowWalk : Type 0 where
   pub walk : Walk
   pub ended : Bool
 
--- The operations were run, one after another, and none made a row.
+-- The operations were run, one after another, and none appended a row.
 abbrev pub RunsQuietly : List OpView → RunState → RunState → Type 0
 RunsQuietly [] old new = new ≡ old
 RunsQuietly (item ∷ items) old new = (next : RunState) × RunsOn item old next None × RunsQuietly items next new
 
--- The walk gave some operations, one after another, which were run and made no row.
+-- The walk gave some operations, one after another, which were run and appended no row.
 pub record RunsToRow (run : RunState) (walk : Walk) (run' : RunState) (walk' : Walk) : Type 0 where
   pub items : List OpView
   pub given : GivesEach items walk walk'
   pub quiet : RunsQuietly items run run'
 
--- The next operation that makes a row was run, and it made this one.
+-- The next operation that appends a row was run, and it appended this one.
 pub record Makes (row : Row) (run : RunState) (walk : Walk) (run' : RunState) (walk' : Walk) : Type 0 where
   pub run_before : RunState
   pub walk_before : Walk
@@ -38,20 +38,20 @@ pub record Makes (row : Row) (run : RunState) (walk : Walk) (run' : RunState) (w
   pub step : walks.GivesOperation item walk_before walk'
   pub made : RunsOn item run_before run' (Some row)
 
--- The program ended, and no further operation makes a row. It is told whether rows stand after the last end row.
+-- The program ended, and no further operation appends a row. It is known whether rows follow the last end row.
 pub record EndsWith (is_open : Bool) (run : RunState) (walk : Walk) (run' : RunState) (walk' : Walk) : Type 0 where
   pub walk_before : Walk
   pub passes : RunsToRow run walk run' walk_before
   pub ends : Ends walk_before walk'
   pub open_is : run'.is_open ≡ is_open
 
--- Before a further row was made, bytes came that no operation begins.
+-- Before a further row was appended, bytes came that don't begin with an operation.
 pub record Breaks (fault : Fault) (run : RunState) (walk : Walk) (run' : RunState) (walk' : Walk) : Type 0 where
   pub walk_before : Walk
   pub passes : RunsToRow run walk run' walk_before
   pub fails : Fails fault walk_before walk'
 
--- Before a further row was made, an operation with this index came that leads out of the range of lines. It isn't run.
+-- Before a further row was appended, an operation with this index came that leads out of the range of lines. It isn't run.
 pub record LeavesLines (index : ℕ) (run : RunState) (walk : Walk) (run' : RunState) (walk' : Walk) : Type 0 where
   pub walk_before : Walk
   pub passes : RunsToRow run walk run' walk_before
@@ -60,7 +60,7 @@ pub record LeavesLines (index : ℕ) (run : RunState) (walk : Walk) (run' : RunS
   pub leaves : LeavesRange item run'.machine
   pub index_is : index ≡ run'.machine.count
 
--- what comes next that is no fault: a row, or the end with no rows open
+-- what comes next that isn't a fault: a row, or the end with no rows open
 abbrev pub Comes : Option Row → RunState → Walk → RunState → Walk → Type 0
 Comes (Some row) run walk run' walk' = Makes row run walk run' walk'
 Comes None run walk run' walk' = EndsWith false run walk run' walk'
@@ -72,13 +72,13 @@ Stops (Run (LineOutOfRange index)) run walk run' walk' = LeavesLines index run w
 Stops (Run OpenSequence) run walk run' walk' = EndsWith true run walk run' walk'
 Stops (Run Memory) run walk run' walk' = ⊥
 
--- The walk goes on, or has ended, and what came is so.
+-- The walk continues, or has ended, and this holds for what came.
 pub record Goes (ended : Bool) (old new : RowWalk) (IsSo : RunState → Walk → RunState → Walk → Type 0) : Type 0 where
   pub going : old.ended ≡ false
   pub ended_is : new.ended ≡ ended
   pub is_so : IsSo old.run old.walk new.run new.walk
 
--- One step of a walk over rows. After its end nothing comes, and the walk stays as it is.
+-- One step of a walk over rows. After its end nothing comes, and the walk is unchanged.
 abbrev pub RowStep : RowWalk → Option (Result Row RowFault) → RowWalk → Type 0
 RowStep old None new = ((old.ended ≡ true) × (new ≡ old)) ⊎ Goes true old new (Comes None)
 RowStep old (Some (Ok row)) new = Goes false old new (Comes (Some row))

@@ -5,14 +5,14 @@ use Rattle.lnt_header.specs.declared.op.Op.{Op}
 use Rattle.lnt_machine.specs.declared.row.Row.{Row}
 use Rattle.lnt_machine.specs.Registers.{IsLine, line, registers_after}
 
--- the header that operations are read by, the registers, and how many operations were done
+-- the header with which operations are read, the registers, and the number of operations done
 pub record MachineState : Type 0 where
   pub header : HeaderParts
   pub registers : Row
   pub count : ℕ
 
--- The machine stands after the operations of `back`, the newest first: its registers are those that looking back over
--- them gives, and their line is in range.
+-- The machine stands after the operations of `back`, the newest first: its registers are those that these operations give,
+-- and their line is in range.
 pub record StandsAfter (machine : MachineState) (back : List Op) : Type 0 where
   pub registers : machine.registers ≡ registers_after machine.header back
   pub line : IsLine (line machine.header back)

@@ -1,4 +1,4 @@
--- What the bodies of this crate say of one step, and of places those of lnt_lines. No public contract speaks of it.
+-- What the bodies of this crate say of one step, and those of lnt_lines of places. No public contract speaks of it.
 use Rattle.std.specs.Prelude.{◌≡◌, ℕ, ◌<◌, List, [], ◌∷◌, ◌++◌, length, reverse, slice_index_or, Option, Some, None}
 use Rattle.lnt_header.specs.declared.header.HeaderParts.{HeaderParts}
 use Rattle.lnt_header.specs.declared.op.Op.{Op}
@@ -11,18 +11,18 @@ use Rattle.lnt_machine.specs.Parts.{AtStart, rows_of_ops}
 use Rattle.lnt_machine.specs.State.{MachineState}
 use Rattle.lnt_machine.specs.Walking.{HasRows}
 
--- The first of the rows was made, and the others are to come; or there is none.
+-- The first of the rows was appended, and the others are to come; or there is none.
 abbrev pub GivesNext : HeaderParts → List Row → Option Row → MachineState → Walk → Type 0
 GivesNext h [] None machine walk = Unit {0}
 GivesNext h (row ∷ rows) (Some made) machine walk = (made ≡ row) × HasRows h rows machine walk
 GivesNext h _ _ machine walk = ⊥
 
--- The first of the rows was made, and the others are to come; or none was made yet.
+-- The first of the rows was appended, and the others are to come; or none was appended yet.
 abbrev pub ComesNext : HeaderParts → List Row → Option Row → MachineState → Walk → Type 0
 ComesNext h rows None machine walk = HasRows h rows machine walk
 ComesNext h rows (Some made) machine walk = GivesNext h rows (Some made) machine walk
 
--- A front of the program, of so many whole sequences, ends at this place.
+-- A prefix of the program, of this many whole sequences, ends at this place.
 pub record IsProgramFront (h : HeaderParts) (program : List ℕ) (index place : ℕ) : Type 0 where
   pub earlier : List Op
   pub front : List ℕ
@@ -33,7 +33,7 @@ pub record IsProgramFront (h : HeaderParts) (program : List ℕ) (index place : 
   pub start : AtStart (reverse earlier)
   pub index_is : index ≡ length (sequences_of (rows_of_ops h earlier))
 
--- So many sequences have ended; their places are known, and that where the next one begins.
+-- This many sequences have ended; their places are known, and that where the next one begins.
 pub record HasPlaces (h : HeaderParts) (program : List ℕ) (count : ℕ) (places : List ℕ) (place : ℕ) : Type 0 where
   pub count_is : length places ≡ count
   pub each : (k d : ℕ) → k < length places → IsProgramFront h program k (slice_index_or places k d)

@@ -1,4 +1,4 @@
--- Rows that a machine makes of the operations which a walk has before it, and the rows of one sequence.
+-- Rows that a machine makes from the remaining operations of a walk, and the rows of one sequence.
 use Rattle.std.specs.Prelude.{◌≡◌, ℕ, ◌<◌, Bool, true, false, List, [], ◌∷◌, ◌++◌, length, reverse, slice_index_or, Option, Some, None}
 use Rattle.lnt_header.specs.declared.header.HeaderParts.{HeaderParts}
 use Rattle.lnt_header.specs.declared.op.Op.{Op}
@@ -36,7 +36,7 @@ pub record SequenceWalk : Type 0 where
   pub walk : Walk
   pub ended : Bool
 
--- These rows are still to come: those up to the next end row, and with it.
+-- These rows are still to come: those up to and including the next end row.
 pub data WillGive (rows : List Row) (walk : SequenceWalk) : Type 0 where
   none : walk.ended ≡ true → rows ≡ [] → WillGive rows walk
   some : (h : HeaderParts) (all : List Row) → walk.ended ≡ false → HasRows h all walk.machine walk.walk → rows ≡ first_sequence all
@@ -47,7 +47,7 @@ GivesFirstRow [] None new = WillGive [] new
 GivesFirstRow (row ∷ rows) (Some made) new = (made ≡ row) × WillGive rows new
 GivesFirstRow _ _ new = ⊥
 
--- Whatever rows were to come, the first of them was given; none only where there were none.
+-- Whatever rows were to come, the first of them was given; none only if there were none.
 abbrev pub GivesRow : SequenceWalk → Option Row → SequenceWalk → Type 0
 GivesRow old result new = (rows : List Row) → WillGive rows old → GivesFirstRow rows result new
 
@@ -73,8 +73,8 @@ pub record KeptProgram : Type 0 where
   pub program : List ℕ
   pub places : List ℕ
 
--- The header is the unit's, and the places are those of its sequences in this program, in order. So where the unit has a sequence,
--- the program spells its operations.
+-- The header is the unit's, and the places are those of its sequences in this program, in order. So if the unit has a sequence,
+-- the program encodes its operations.
 pub record KeepsProgram (kept : KeptProgram) (unit : UnitParts) : Type 0 where
   pub header_is : kept.header ≡ unit.header
   pub count : length kept.places ≡ length (sequences unit)

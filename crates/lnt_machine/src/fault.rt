@@ -10,11 +10,11 @@ use std::fmt;
 /// Why the program of a unit doesn't run. Each reason has a number, from 22 to 24.
 #[derive(Clone, Copy, Debug, PartialEq, Eq)]
 pub enum RunFault {
-    /// 22: the operation with this index, the first being 0, leads to a line below 0, or of 2^32 or more.
+    /// 22: the operation with this index, counted from 0, sets the line below 0, or to 2^32 or more.
     LineOutOfRange(u64),
     /// 23: rows follow the last end row, or there are rows and no end row.
     OpenSequence,
-    /// 24: memory ran out. It says nothing of the program.
+    /// 24: memory ran out. The program may run.
     Memory,
 }
 
@@ -56,10 +56,10 @@ impl fmt::Display for RunLine {
     }
 }
 
-/// Why a walk over the rows of a unit ends before its program does. It prints the text of the fault that it has.
+/// Why a walk over the rows of a unit ends before its program does. It prints the text of its fault.
 #[derive(Clone, Copy, Debug, PartialEq, Eq)]
 pub enum RowFault {
-    /// No operation begins the bytes that are left of the program.
+    /// The remaining bytes of the program don't begin with an operation.
     Malformed(Fault),
     /// The program doesn't run.
     Run(RunFault),

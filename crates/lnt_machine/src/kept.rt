@@ -1,4 +1,4 @@
-//! The program of a unit that runs, kept with the places of its sequences.
+//! The program of a unit, which runs, kept with the places of its sequences.
 ghost use Rattle.std.specs.Prelude.{◌≡◌, ◌<◌, ◌≤◌, length, drop, slice_index_or, IfNone, IfSome};
 ghost use Rattle.lnt_header.specs.declared.unit_parts.UnitParts.{UnitParts};
 ghost use Rattle.lnt_machine.specs.declared.row.Sequence as spec;
@@ -9,7 +9,7 @@ use crate::walk::SequenceRows;
 use lnt_header_bytes::{HeaderView, KeptHeader};
 use std::marker::Model;
 
-/// The program of a unit that runs, with the place of each of its sequences.
+/// The program of a unit, which runs, with the place of each of its sequences.
 #[derive(Drop)]
 pub struct Program {
     header: KeptHeader,
@@ -33,9 +33,9 @@ impl Model for Program {
 }
 
 impl Program {
-    /// The program of a unit that runs: the end of `bytes`, from index `start` on. `places` are the indices in it at which the
-    /// first operation of each of the unit's sequences begins, in order. The caller sees to both, and that `start` isn't above
-    /// the length of `bytes`. It takes no memory.
+    /// The program of a unit, which runs: the end of `bytes`, from index `start` on. `places` are the indices in it of the
+    /// first byte of each of the unit's sequences, in order. The caller ensures both, and that `start` isn't above the length
+    /// of `bytes`. Allocates nothing.
     pub fn of(header: KeptHeader, bytes: Vec<u8>, start: usize, places: Vec<usize>) -> Program
         requires kept { IsKeptProgram (record { header = header; program = drop start bytes.items; places = places.items }) }
         requires within { start ≤ length bytes.items }
@@ -56,15 +56,15 @@ impl Program {
         self.header.view()
     }
 
-    /// The header with its directories and files, as they are kept.
+    /// The header with its directories and files, in the form in which they are kept.
     pub fn kept_header(&self) -> &KeptHeader
         ensures { result.now ≡ self.now.header }
     {
         &self.header
     }
 
-    /// The rows of the sequence with this index, the first being 0, decoded from the kept bytes. None where there are only
-    /// `index` sequences or fewer. It takes no memory.
+    /// The rows of the sequence with this index, counted from 0, decoded from the kept bytes. `None` if there are only
+    /// `index` sequences or fewer. Allocates nothing.
     pub fn sequence(&self, index: usize) -> Option<SequenceRows<'_>>
         ensures none { IfNone result (length self.now.places ≤ index) }
         ensures left { IfSome result (λ walk. length walk.walk.at.rest ≤ length self.now.program) }

@@ -12,11 +12,12 @@ use crate::row::Row;
 use lnt_header::{Header, OpView};
 use std::marker::Model;
 
-/// The registers of a line number program between two of its operations, and how many were done.
+/// The registers of a line number program between two of its operations, and the number of operations done.
 ///
 /// Contracts see the header, the registers and the count (`MachineState`). A machine stands after a list of operations
-/// (`StandsAfter`) where each register is what DWARF 5 makes of that list in sections 6.2.2 and 6.2.5, as a sum over it
-/// or a look back at the last operation of a kind. The count stays at `u64::MAX` once it is there.
+/// (`StandsAfter`) if each register has the value that DWARF 5, sections 6.2.2 and 6.2.5, gives it after that list. That is
+/// a sum over the list, or the value that the last operation of a kind sets. The count stays at `u64::MAX` once it has
+/// reached it.
 #[derive(Drop)]
 pub struct Machine<'a> {
     header: &'a Header,
@@ -38,7 +39,8 @@ impl<'a> Model for Machine<'a> {
 }
 
 impl<'a> Machine<'a> {
-    /// A machine before the first operation of a program with this header: it stands after none. It takes no memory.
+    /// A machine before the first operation of a program with this header: it stands after the empty list. Allocates
+    /// nothing.
     pub fn new(header: &'a Header) -> Machine<'a>
         ensures header { result.header ≡ header.entry.now }
         ensures stands { StandsAfter result [] }
@@ -52,7 +54,7 @@ impl<'a> Machine<'a> {
         }
     }
 
-    // Another machine that stands where this one does.
+    // A copy of this machine.
     #[inline(always)]
     pub(crate) fn fork(&self) -> Machine<'a>
         ensures { result ≡ self.now }
@@ -65,18 +67,18 @@ impl<'a> Machine<'a> {
         }
     }
 
-    /// Does an operation that the header admits, and gives the row that it makes.
+    /// Does an operation that the header admits, and returns the row that it appends.
     ///
-    /// Whatever list of operations the machine stood after, it then stands after that list with this operation added,
-    /// and the row is that of this operation after them (`Steps`; DWARF 5, section 6.2.5). It refuses exactly where
-    /// the line would be below 0, or 2^32 or more: with `LineOutOfRange` (22) of the count, which is the operation's
-    /// index. The machine is then as before. It takes no memory.
+    /// If the machine stood after a list of operations, it then stands after that list with this operation appended, and
+    /// the row is that of this operation after them (`Steps`; DWARF 5, section 6.2.5). Fails if and only if the line would
+    /// be below 0, or 2^32 or more: with `LineOutOfRange` (22) of the count, which is the operation's index. The machine is
+    /// then unchanged. Allocates nothing.
     #[inline(always)]
     pub fn step(&mut self, view: &OpView<'_>) -> Result<Option<Row>, RunFault>
         requires { (op : Op) × StandsFor view.now op × Admits self.old.header op }
         ensures ok { IfOk result (Steps view.now self.old self.new) }
 
-        // It refuses where the line leaves its range, with the operation's index, and nowhere else.
+        // Fails if and only if the line leaves its range, with the operation's index.
         ensures in_range { (back : List Op) (op : Op) → StandsAfter self.old back → StandsFor view.now op
             → IsLine (line self.old.header (op ∷ back)) → IsOk result }
         ensures out_of_range { OnErr result (LeavesRange view.now self.old) }

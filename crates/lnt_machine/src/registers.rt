@@ -37,8 +37,8 @@ pub(crate) fn initial(header: &Header) -> Row
     }
 }
 
-// Does an operation, and gives the row that it appends, if any. Where the line would be below 0, or 2^32 or more, it is
-// refused and the registers stay.
+// Does an operation, and returns the row that it appends, if any. If the line would be below 0, or 2^32 or more, it fails
+// and leaves the registers unchanged.
 #[inline(always)]
 pub(crate) fn change(
     registers: &mut Row,
@@ -78,7 +78,7 @@ pub(crate) fn change(
     }
 }
 
-// Does an operation that appends no row and doesn't move the line. Of any other it does nothing.
+// Does an operation that appends no row and doesn't change the line. Does nothing for any other operation.
 #[inline(always)]
 fn set(registers: &mut Row, header: &Header, view: &OpView<'_>)
     requires bounded { IsBounded header.now registers.old }
@@ -107,7 +107,7 @@ fn set(registers: &mut Row, header: &Header, view: &OpView<'_>)
     }
 }
 
-// 2^16 divided by `line_range`, rounded down, plus 1. `divided` multiplies by it, which is sooner done than a division.
+// 2^16 divided by `line_range`, rounded down, plus 1. `divided` multiplies by it, which is faster than a division.
 #[inline(always)]
 pub(crate) fn reciprocal_of(header: &Header) -> u32
     ensures { result ≡ 65536 / header.now.line_range + 1 }
@@ -115,7 +115,7 @@ pub(crate) fn reciprocal_of(header: &Header) -> u32
     65536 / u32::from(header.line_range()) + 1
 }
 
-// Does a special opcode: advances address and line, and gives the row that it appends.
+// Does a special opcode: advances address and line, and returns the row that it appends.
 #[inline(always)]
 fn special(
     registers: &mut Row,
@@ -155,7 +155,8 @@ fn divided(dividend: u8, divisor: u8, reciprocal: u32) -> (u8, u8)
     (quotient, dividend - quotient * divisor)
 }
 
-// Gives the registers as a row, and resets what each row resets: the discriminator and the three marks.
+// Returns the registers as a row, and resets what each row resets: the discriminator and the three flags `basic_block`,
+// `prologue_end` and `epilogue_begin`.
 #[inline(always)]
 fn append(registers: &mut Row) -> Row
     ensures row { result ≡ registers.old }
@@ -178,7 +179,7 @@ fn set_address(registers: &mut Row, address: u64)
     registers.op_index = 0;
 }
 
-// Advances address and operation index by so many operations (DWARF 5, section 6.2.5.1).
+// Advances address and operation index by this many operations (DWARF 5, section 6.2.5.1).
 #[inline(always)]
 #[tactic(auto, using(crate::proofs::AdvanceLemmas::advanced_by_parts))]
 fn advance(registers: &mut Row, header: &Header, by: u64)
@@ -195,7 +196,7 @@ fn advance(registers: &mut Row, header: &Header, by: u64)
     }
 }
 
-// The address so many instructions after `from`, cut to the bytes that addresses have.
+// The address this many instructions after `from`, truncated to the address size.
 #[inline(always)]
 fn moved(header: &Header, from: u64, instructions: u64) -> u64
     ensures { result ≡ (from + header.now.minimum_instruction_length * instructions) % 2 ^ (8 * header.now.address_size) }
@@ -204,7 +205,7 @@ fn moved(header: &Header, from: u64, instructions: u64) -> u64
     within(header, from.wrapping_add(bytes))
 }
 
-// The address modulo 2^16, 2^32 or 2^64, as the header's addresses have 2, 4 or 8 bytes.
+// The address modulo 2^16, 2^32 or 2^64, if the header's addresses have 2, 4 or 8 bytes.
 #[inline(always)]
 fn within(header: &Header, address: u64) -> u64
     ensures value { result ≡ address % 2 ^ (8 * header.now.address_size) }

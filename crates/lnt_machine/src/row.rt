@@ -1,24 +1,24 @@
-//! Rows, and the sequences that they stand in.
+//! Rows, and the sequences that they form.
 use lnt_wire::Items;
 
-/// A row of the matrix: the registers as they stood when it was made (DWARF 5, section 6.2.2).
+/// A row of the matrix: the registers when it was appended (DWARF 5, section 6.2.2).
 ///
-/// Between two operations a machine has them too, with `end_sequence` false.
+/// Between two operations a machine has these registers too, with `end_sequence` false.
 #[derive(Clone, Copy, Debug, PartialEq, Eq)]
 pub struct Row {
-    /// The address of an instruction, of as many bytes as the header says.
+    /// The address of an instruction, of as many bytes as the header's address size.
     pub address: u64,
-    /// Which operation of the instruction it is, the first being 0. It is below the header's `max_ops`.
+    /// The index of the operation within the instruction, counted from 0. It is below the header's `max_ops`.
     pub op_index: u64,
     /// The index of the source file.
     pub file: u64,
-    /// The line in it: 1 is the first, and 0 says that there is none.
+    /// The line in the file: 1 is the first, and 0 means that there is none.
     pub line: u64,
     /// The column in the line: 1 is the first, and 0 is the line's left edge.
     pub column: u64,
     /// The instruction set.
     pub isa: u64,
-    /// Which of the blocks of one source line it is.
+    /// The discriminator, which distinguishes blocks of one source line.
     pub discriminator: u64,
     /// Whether it is a good place for a breakpoint, as the beginning of a statement.
     pub is_stmt: bool,
@@ -32,9 +32,9 @@ pub struct Row {
     pub epilogue_begin: bool,
 }
 
-/// Rows of instructions that lie one after another.
+/// Rows of consecutive instructions.
 #[derive(Debug, Drop, PartialEq, Eq)]
 pub struct Sequence {
-    /// The rows in the order in which they were made. The last one ends the sequence, and no other does.
+    /// The rows in the order in which they were appended. The last one, and no other, ends the sequence.
     pub rows: Items<Row>,
 }

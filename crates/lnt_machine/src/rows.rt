@@ -11,16 +11,16 @@ use lnt_ops::Ops;
 use std::iter::FusedIterator;
 use std::marker::Model;
 
-/// The rows of a unit's program in order, each made of its operations where they lie (DWARF 5, sections 6.2.2 and 6.2.5).
-/// It takes no memory.
+/// The rows of a unit's program in order, with its operations read in place (DWARF 5, sections 6.2.2 and 6.2.5). Allocates
+/// nothing.
 ///
-/// Each item is the row of the next operation that makes one, or a fault, which is the last item:
-/// - `Malformed` where no operation begins the bytes that are left, with the fault of [`Ops`]. Operations are read as they
-///   are run, so a fault of the run that stands before it is told instead.
-/// - `Run` with `LineOutOfRange` (22) where the next operation leads to a line below 0, or of 2^32 or more, and with
-///   `OpenSequence` (23) where the program has ended and rows stand after the last end row.
+/// Each item is the row of the next operation that appends one, or a fault, which is the last item:
+/// - `Malformed` if the remaining bytes don't begin with an operation, with the fault of [`Ops`]. Operations are read as
+///   they are run, so an earlier fault of the run is reported instead.
+/// - `Run` with `LineOutOfRange` (22) if the next operation sets the line below 0, or to 2^32 or more, and with
+///   `OpenSequence` (23) if the program has ended and rows follow the last end row.
 ///
-/// It gives None where the program has ended and no rows are open, and in each call after that or after a fault.
+/// Returns `None` if the program has ended and no rows are open, and in each call after that or after a fault.
 #[derive(Drop)]
 pub struct Rows<'a> {
     run: Run<'a>,
@@ -43,7 +43,7 @@ impl<'a> Rows<'a> {
     ghost use Rattle.std.specs.Prelude.{[], false};
     ghost use Rattle.lnt_machine.specs.Running.{HasDone};
 
-    /// The rows of these operations, which are those of a unit with this header, from its first one on.
+    /// The rows of these operations, which are all those of a unit with this header.
     pub fn new(header: &'a Header, ops: Ops<'a>) -> Rows<'a>
         requires { ops.header ≡ header.now }
         ensures header { result.run.machine.header ≡ header.entry.now }
@@ -88,7 +88,7 @@ impl<'a> Iterator for Rows<'a> {
 
 impl<'a> FusedIterator for Rows<'a> {}
 
-// The row of the next operation that makes one. None where the program has ended and no rows stand open.
+// The row of the next operation that appends one. `None` if the program has ended and no rows are open.
 #[tactic(auto, using(crate::proofs::RowWalkLemmas::may_run))]
 #[inline(always)]
 fn next_row(run: &mut Run<'_>, ops: &mut Ops<'_>) -> Result<Option<Row>, RowFault>

@@ -13,10 +13,10 @@ use crate::row::Row;
 use lnt_header::{Header, OpView};
 use std::marker::Model;
 
-/// The program of a unit as it is run: a machine, and whether rows stand after the last end row.
+/// The program of a unit while it is run: a machine, and whether rows follow the last end row.
 ///
 /// A walk over the rows of a unit is a loop of [`Run::step`] over its operations, and [`Run::end`] after the last one. For
-/// operations that lie in a unit's bytes, [`Rows`](crate::Rows) is that loop, row by row.
+/// operations in a unit's bytes, [`Rows`](crate::Rows) is that loop, row by row.
 #[derive(Drop)]
 pub struct Run<'a> {
     machine: Machine<'a>,
@@ -32,7 +32,7 @@ impl<'a> Model for Run<'a> {
 }
 
 impl<'a> Run<'a> {
-    /// A program with this header, of which no operation was run yet. It takes no memory.
+    /// A program with this header, before its first operation. Allocates nothing.
     pub fn new(header: &'a Header) -> Run<'a>
         ensures header { result.machine.header ≡ header.entry.now }
         ensures done { HasDone result [] }
@@ -44,16 +44,16 @@ impl<'a> Run<'a> {
         }
     }
 
-    /// Runs an operation that the header admits, and gives the row that it makes.
+    /// Runs an operation that the header admits, and returns the row that it appends.
     ///
-    /// It is [`Machine::step`], with the same row and the same refusal, by `LineOutOfRange` (22) alone, after which the
-    /// run is as before. It takes no memory.
+    /// It is [`Machine::step`], with the same row and the same only error, `LineOutOfRange` (22), after which the run is
+    /// unchanged. Allocates nothing.
     #[inline(always)]
     pub fn step(&mut self, view: &OpView<'_>) -> Result<Option<Row>, RunFault>
         requires { (op : Op) × StandsFor view.now op × Admits self.old.machine.header op }
         ensures ok { IfOk result (RunsOn view.now self.old self.new) }
 
-        // It refuses where the line leaves its range, with the operation's index, and nowhere else.
+        // Fails if and only if the line leaves its range, with the operation's index.
         ensures in_range { (back : List Op) (op : Op) → StandsAfter self.old.machine back → StandsFor view.now op
             → IsLine (line self.old.machine.header (op ∷ back)) → IsOk result }
         ensures out_of_range { OnErr result (LeavesRange view.now self.old.machine) }
@@ -67,7 +67,7 @@ impl<'a> Run<'a> {
         Ok(made)
     }
 
-    /// Whether rows stand after the last end row: some row was made, and the last one is no end row.
+    /// Whether rows follow the last end row: a row was appended, and the last one isn't an end row.
     #[inline(always)]
     pub fn is_open(&self) -> bool
         ensures { result ≡ self.now.is_open }
@@ -75,9 +75,9 @@ impl<'a> Run<'a> {
         self.is_open
     }
 
-    /// What the end of the program comes to, after its last operation.
+    /// Ends the program, after its last operation.
     ///
-    /// It refuses with `OpenSequence` (23) exactly where rows stand after the last end row.
+    /// Fails with `OpenSequence` (23) if and only if rows follow the last end row.
     pub fn end(self) -> Result<(), RunFault>
         ensures ok { OnOk result (self.entry.is_open ≡ false) }
         ensures left_open { OnErr result (self.entry.is_open ≡ true) }

@@ -12,11 +12,11 @@ use lnt_wire::Items;
 use std::alloc::{AllocError, Global};
 use std::mem;
 
-/// The rows of a unit, sequence by sequence, where its program runs (`Runs`; DWARF 5, sections 6.2.2 and 6.2.5).
+/// The rows of a unit, sequence by sequence, if its program runs (`Runs`; DWARF 5, sections 6.2.2 and 6.2.5).
 ///
-/// It refuses with `LineOutOfRange` (22) where an operation, with this index and none before it, leads to a line below
-/// 0, or of 2^32 or more; with `OpenSequence` (23) where no operation does, and rows follow the last end row, or there
-/// are rows and no end row; and with `Memory` (24).
+/// Fails with `LineOutOfRange` (22) if the operation with this index is the first that sets the line below 0, or to 2^32 or
+/// more. If no operation does, fails with `OpenSequence` (23) if rows follow the last end row, or there are rows and no end
+/// row. Fails with `Memory` (24) if memory runs out.
 #[tactic(auto, using(crate::proofs::MatrixLemmas::ran_sequences))]
 pub fn matrix(alloc: Global, unit: &Unit) -> Result<Vec<Sequence>, RunFault>
     ensures runs { OnOk result (Runs unit.now) }
@@ -36,7 +36,7 @@ pub fn matrix(alloc: Global, unit: &Unit) -> Result<Vec<Sequence>, RunFault>
     Ok(sequences)
 }
 
-// Adds a row to those after the last end row. An end row makes a sequence of them.
+// Appends a row to those after the last end row. An end row makes them a sequence.
 #[tactic(auto, using(crate::proofs::SequenceLaws::cut_more, crate::proofs::SequenceLaws::cut_end, crate::proofs::SequenceLaws::some_after))]
 fn add_row(
     alloc: Global,

@@ -1,4 +1,4 @@
-//! The rows of one sequence, from the place of its first operation on.
+//! The rows of one sequence, from its first operation on.
 ghost use Rattle.std.specs.Prelude.{◌≡◌, ◌<◌, ◌≤◌, ℕ, List, length, reverse, false, IfSome, if◌then◌else◌};
 ghost use Rattle.std.specs.Iterator.{at_most};
 ghost use Rattle.lnt_header.specs.declared.header.HeaderParts.{HeaderParts};
@@ -15,7 +15,7 @@ use lnt_header::Header;
 use lnt_ops::Ops;
 use std::marker::Model;
 
-/// The rows of one sequence of a unit whose program runs, each made of its operations where they lie.
+/// The rows of one sequence of a unit whose program runs, with operations read in place.
 #[derive(Drop)]
 pub struct SequenceRows<'a> {
     machine: Machine<'a>,
@@ -35,11 +35,11 @@ impl<'a> Model for SequenceRows<'a> {
 }
 
 impl<'a> SequenceRows<'a> {
-    /// The rows of the sequence whose first operation begins at the index `place` of the program. It takes no memory.
+    /// The rows of the sequence whose first operation begins at the index `place` of the program. Allocates nothing.
     ///
-    /// They are the rows of the operations from there on, up to and with the first end row. The caller sees to it that
-    /// `place` isn't above the program's length. Where no sequence begins there, or the program doesn't run, nothing is said
-    /// of the rows, and an operation that is refused ends them as an end row does.
+    /// They are the rows of the operations from there on, up to and including the first end row. The caller ensures that
+    /// `place` isn't above the program's length. If no sequence begins there, or the program doesn't run, the rows are
+    /// unspecified, and an operation that fails ends them like an end row.
     pub fn at(header: &'a Header, program: &'a [u8], place: usize) -> SequenceRows<'a>
         requires within { place ≤ length program.now }
         ensures left { length result.walk.at.rest ≤ length program.entry.now }
@@ -53,7 +53,7 @@ impl<'a> SequenceRows<'a> {
         }
     }
 
-    /// The same rows, from the same one on. It takes no memory.
+    /// A copy of these rows, at the same row. Allocates nothing.
     #[inline(always)]
     pub fn fork(&self) -> SequenceRows<'a>
         ensures { result ≡ self.now }
@@ -87,7 +87,7 @@ impl<'a> Iterator for SequenceRows<'a> {
     }
 }
 
-// The next row that the machine makes of the operations.
+// The next row that the operations append.
 #[inline(always)]
 fn next_row(machine: &mut Machine<'_>, ops: &mut Ops<'_>) -> Option<Row>
     requires { machine.old.header ≡ ops.old.header }
@@ -99,7 +99,7 @@ fn next_row(machine: &mut Machine<'_>, ops: &mut Ops<'_>) -> Option<Row>
     if let Some(row) = short_row(machine, ops) {
         return Some(row);
     }
-    // The slow path works on copies of both, which are written back, so that these stay in registers.
+    // The slow path works on copies of both, which are written back, so that both stay in registers.
     let mut own = machine.fork();
     let mut ahead = ops.fork();
     let row = any_row(&mut own, &mut ahead);
@@ -108,7 +108,7 @@ fn next_row(machine: &mut Machine<'_>, ops: &mut Ops<'_>) -> Option<Row>
     row
 }
 
-// The next row, whatever operations come: the slow path.
+// The next row, for any operations: the slow path.
 #[tactic(auto, using(crate::proofs::WalkingLemmas::may_step))]
 #[inline(never)]
 fn any_row(machine: &mut Machine<'_>, ops: &mut Ops<'_>) -> Option<Row>
@@ -132,8 +132,8 @@ fn any_row(machine: &mut Machine<'_>, ops: &mut Ops<'_>) -> Option<Row>
     None
 }
 
-// The row that the machine makes of the next operations, where all of them up to it are short. Else none; operations that
-// make no row may then be done already.
+// The row that the next operations append, if all of them up to it are short. Otherwise `None`; operations that append no
+// row may then already be done.
 #[tactic(auto, using(crate::proofs::WalkingLemmas::may_step))]
 #[inline(always)]
 fn short_row(machine: &mut Machine<'_>, ops: &mut Ops<'_>) -> Option<Row>

@@ -17,8 +17,8 @@ struct Ends {
     last: Position,
 }
 
-// Whether two sequences of the section that the source has to give begin and end at the same positions. None where one of
-// them isn't found, or the section can't be read that far.
+// Whether two sequences of the section from the source begin and end at the same positions. `None` if one of them isn't
+// found, or the section can't be read that far.
 pub(crate) fn end_alike<R: Source>(
     alloc: Global,
     source: &mut R,
@@ -52,7 +52,7 @@ fn ends_in(alloc: Global, buffer: &UnitBuffer, index: u64) -> Option<Ends> {
     ends_of(&UnitInPlace::over(alloc, buffer).ok()?, index)
 }
 
-// The ends of the sequence with this index in the unit. None where the unit has fewer sequences, or its program doesn't run
+// The ends of the sequence with this index in the unit. `None` if the unit has fewer sequences, or its program doesn't run
 // that far.
 fn ends_of(unit: &UnitInPlace<'_>, index: u64) -> Option<Ends> {
     let mut ended: u64 = 0;

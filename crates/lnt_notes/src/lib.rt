@@ -1,8 +1,8 @@
-//! Notes: advice for a person beside an answer. They don't change the answer.
+//! Notes: advice for the user beside an answer. They don't change the answer.
 //!
 //! A [`WatchedReader`] keeps the first bytes of a section for them. [`tell_bad`], [`tell_good`], [`tell_agreed`],
 //! [`tell_refused`] and [`tell_table`] print the notes to an answer. Some notes need a file to be read again. That is done only
-//! where the answer makes such a note likely, and only for files that can be read again.
+//! if the answer makes such a note likely, and only for files that can be read again.
 #![tactic(auto)]
 
 mod ends;

@@ -4,7 +4,7 @@ use lnt_text::Look;
 use lnt_wire::{Cursor, Order};
 
 // What the bytes look like other than a section in this byte order: another kind of file, a compressed section, text, or a
-// section in the other order. None where they look like none of these.
+// section in the other order. `None` if they look like none of these.
 pub(crate) fn look_of(seen: &Seen, order: Order) -> Option<Look> {
     let head = seen.head();
     if let Some(look) = file_look(head) {

@@ -4,8 +4,8 @@ use lnt_text::Column;
 use std::alloc::Global;
 use std::io::Read;
 
-// The line, counted from 1, in which the record with this index, counted from 0, begins. None where the text has fewer
-// records. An error where the text can't be read that far, or memory ran out.
+// The line, counted from 1, in which the record with this index, counted from 0, begins. `None` if the text has fewer
+// records. An error if the text can't be read that far, or memory ran out.
 pub(crate) fn line_of<R: Read + Drop>(
     alloc: Global,
     text: R,
@@ -23,7 +23,7 @@ pub(crate) fn line_of<R: Read + Drop>(
 }
 
 // Reads the records of a table up to the one with the index `record`, counted from 0, into `row`, one over the other, so that
-// `row` holds that one. False where there are fewer.
+// `row` holds that one. False if there are fewer.
 fn reads<R: Read>(
     reader: &mut Reader<R>,
     row: &mut ByteRecord,
@@ -46,8 +46,8 @@ pub enum Columns {
     ByPath,
 }
 
-// The kind of the column with this index, counted from 0, in a table with these columns. None where any bytes may stand in
-// it, or the table has no such column.
+// The kind of the column with this index, counted from 0, in a table with these columns. `None` if it may contain any
+// bytes, or the table has no such column.
 pub(crate) fn column_at(columns: Columns, index: u64) -> Option<Column> {
     match columns {
         Columns::Numbered => numbered_column(index),

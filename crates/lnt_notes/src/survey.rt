@@ -9,7 +9,7 @@ use lnt_unit::UnitInPlace;
 use lnt_wire::Order;
 use std::alloc::Global;
 
-// The addresses at which the sequences of a section begin, so far as they point to discarded code.
+// The addresses at which the sequences of a section begin, as far as they indicate discarded code.
 #[derive(Clone, Copy)]
 pub(crate) struct Survey {
     // the address of discarded code that the words give
@@ -46,7 +46,7 @@ impl Survey {
         }
     }
 
-    // Adds the sequences of a unit. None where its program doesn't run.
+    // Adds the sequences of a unit. `None` if its program doesn't run.
     fn see_unit(&mut self, unit: &UnitInPlace<'_>) -> Option<()> {
         let numbers = unit.numbers();
         let mut begins = true;
@@ -61,8 +61,8 @@ impl Survey {
     }
 }
 
-// The survey of the section that the source has to give. Unless `all` is asked for, it ends after the first unit in which a
-// sequence begins at the address `dead`. None where the section can't be read as far as that, or a program doesn't run.
+// The survey of the section from the source. Unless `all` is asked for, it ends after the first unit in which a sequence
+// begins at the address `dead`. `None` if the section can't be read as far as that, or a program doesn't run.
 pub(crate) fn survey_of<R: Source>(
     alloc: Global,
     source: &mut R,

@@ -33,7 +33,7 @@ pub struct Given<'a> {
     pub section: &'a str,
     /// The byte order of its numbers.
     pub order: Order,
-    /// The address at which sequences of dead code begin, where one is given.
+    /// The address at which sequences of dead code begin, if one is given.
     pub dead: Option<u64>,
     /// Whether copies are skipped.
     pub skip_copies: bool,
@@ -54,7 +54,7 @@ pub struct Hints {
     pub lists_no_sum: bool,
 }
 
-/// The hints of a good section with this index, where sums weren't asked for.
+/// The hints of a good section with this index, if sums weren't asked for.
 pub fn hints_of(index: &Index<'_>) -> Hints
     ensures nothing { (dead : Option ℕ) (skip : Bool) (units : List (ℕ × UnitParts)) → IsIndexOf dead skip units index.now
         → IsTrue result.holds_nothing ↔ spans_of (kept_sequences dead skip units) ≡ [] }
@@ -97,7 +97,7 @@ fn holds(index: &Index<'_>, address: u64) -> bool {
     index.lookup(position, &mut Probes::new()).is_some()
 }
 
-/// Prints the line of a note. It fails only where the writer does; then a front of this line may be written.
+/// Prints the line of a note. It fails only if the writer does; then a prefix of this line may be written.
 pub fn print_note<N: Write>(note: Note, notes: &mut N) -> io::Result<()>
     ensures line { OnOk result (Appends (N.contents notes.old) (N.contents notes.new) (note_line note)) }
     ensures notes { OnOk result (AddsNotes (N.contents notes.old) (N.contents notes.new)) }
@@ -105,7 +105,7 @@ pub fn print_note<N: Write>(note: Note, notes: &mut N) -> io::Result<()>
     writeln!(notes, "linetab: note: {note}")
 }
 
-// Prints the note where it is to be told.
+// Prints the note if there is one.
 fn print_where<N: Write>(is_told: bool, note: Note, notes: &mut N) -> io::Result<()>
     ensures { OnOk result (AddsNotes (N.contents notes.old) (N.contents notes.new)) }
 {
@@ -116,8 +116,8 @@ fn print_where<N: Write>(is_told: bool, note: Note, notes: &mut N) -> io::Result
     }
 }
 
-/// Prints the note to a refusal, where the section was read in this byte order and its lines weren't judged: what the file
-/// looks like instead, if it looks like something else. It fails only where the writer does; then a front of the note may be
+/// Prints the note to a rejected section, which was read in this byte order and whose lines weren't judged: what the file
+/// looks like instead, if it looks like something else. It fails only if the writer does; then a prefix of the note may be
 /// written.
 pub fn tell_refused<N: Write>(seen: &Seen, order: Order, notes: &mut N) -> io::Result<()>
     ensures { OnOk result (AddsNotes (N.contents notes.old) (N.contents notes.new)) }
@@ -128,7 +128,7 @@ pub fn tell_refused<N: Write>(seen: &Seen, order: Order, notes: &mut N) -> io::R
     }
 }
 
-/// Prints the notes to the reason why a section isn't good. It fails only where the writer does; then a front of these notes
+/// Prints the notes to the reason why a section isn't good. It fails only if the writer does; then a prefix of these notes
 /// may be written.
 pub fn tell_bad<O: Opener, N: Write>(
     alloc: Global,
@@ -159,7 +159,7 @@ pub fn tell_bad<O: Opener, N: Write>(
     }
 }
 
-/// Prints the notes to a good section. It fails only where the writer does; then a front of these notes may be written.
+/// Prints the notes to a good section. It fails only if the writer does; then a prefix of these notes may be written.
 pub fn tell_good<O: Opener, N: Write>(
     alloc: Global,
     hints: &Hints,
@@ -185,7 +185,7 @@ pub fn tell_good<O: Opener, N: Write>(
     }
 }
 
-// Prints the option that gives the string section with the paths of this table of a unit, where it wasn't given.
+// Prints the option that gives the string section with the paths of this table of a unit, if it wasn't given.
 fn tell_strings<O: Opener, N: Write>(
     alloc: Global,
     unit: u64,
@@ -222,8 +222,8 @@ fn strings_again<O: Opener>(
 }
 
 // Prints the notes that sequences begin where linkers leave discarded code, and that none begins at the address given for such
-// code. Where the section can't be read again, the only note is one about `known`, if there is such an address, with no count
-// of sequences. Unless `all` is asked for, the section is read only up to the unit in which a sequence begins at the given
+// code. If the section can't be read again, the only note is one about `known`, if there is such an address, with no count of
+// sequences. Unless `all` is asked for, the section is read only up to the unit in which a sequence begins at the given
 // address.
 fn tell_dead<O: Opener, N: Write>(
     alloc: Global,
@@ -248,7 +248,7 @@ fn tell_dead<O: Opener, N: Write>(
     }
 }
 
-// Prints the note that sequences begin at a mark, if any does.
+// Prints the note that sequences begin at an address of discarded code, if any does.
 fn tell_mark<N: Write>(survey: &Survey, notes: &mut N) -> io::Result<()>
     ensures { OnOk result (AddsNotes (N.contents notes.old) (N.contents notes.new)) }
 {
@@ -269,7 +269,7 @@ fn survey_again<O: Opener>(
     survey_of(alloc, &mut source, given.order, given.dead, all)
 }
 
-// Prints that copies can be skipped, where the two sequences that overlap begin and end at the same positions and copies
+// Prints that copies can be skipped, if the two sequences that overlap begin and end at the same positions and copies
 // aren't skipped yet.
 fn tell_copies<O: Opener, N: Write>(
     alloc: Global,
@@ -299,8 +299,8 @@ fn alike_again<O: Opener>(
     end_alike(alloc, &mut source, given.order, first, second)
 }
 
-/// Prints the notes to a table, in the file of this name, that answers as a good section does. It fails only where the writer
-/// does; then a front of these notes may be written.
+/// Prints the notes to a table, in the file of this name, that answers as a good section does. It fails only if the writer
+/// does; then a prefix of these notes may be written.
 pub fn tell_agreed<O: Opener, N: Write>(
     alloc: Global,
     given: &Given<'_>,
@@ -311,7 +311,7 @@ pub fn tell_agreed<O: Opener, N: Write>(
     ensures { OnOk result (AddsNotes (N.contents notes.old) (N.contents notes.new)) }
 {
     let holds_nothing = opener.reader_again(table).is_some_and(|reader| {
-        // A table without a span answers nothing.
+        // A table without a span gives no answers.
         matches!(line_of(alloc, reader, 1), Ok(None))
     });
     print_where(holds_nothing, Note::HoldsNothing, notes)?;
@@ -323,8 +323,8 @@ pub fn tell_agreed<O: Opener, N: Write>(
 }
 
 /// Prints the note to a fault of the table in the file of this name, which was read as one with these columns. For a fault of
-/// the header the columns don't count: the header is that of no version. It fails only where the writer does; then a front of
-/// the note may be written.
+/// the header the columns don't count: the header isn't that of any version. It fails only if the writer does; then a prefix
+/// of the note may be written.
 pub fn tell_table<O: Opener, N: Write>(
     alloc: Global,
     fault: TableFault,

@@ -12,7 +12,7 @@ use std::alloc::Global;
 // The content type of a path (DWARF 5, section 6.2.4.1).
 const PATH: u64 = 1;
 
-// The string section that has the paths of this table of the unit at this offset. None where no string section has them, or
+// The string section that has the paths of this table of the unit at this offset. `None` if no string section has them, or
 // the unit can't be read.
 pub(crate) fn strings_of<R: Source>(
     alloc: Global,
@@ -46,7 +46,7 @@ fn format_of(numbers: &Header, which: EntryTable) -> &[Pair] {
     }
 }
 
-// The string section that has the paths of a table with this format, by the form of the first path in the format. None where
+// The string section that has the paths of a table with this format, by the form of the first path in the format. `None` if
 // neither section has them.
 fn strings_by(format: &[Pair]) -> Option<StringSection> {
     for pair in format {

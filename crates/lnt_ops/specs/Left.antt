@@ -1,4 +1,4 @@
--- What a walk over a program has before it, and the places of operations in a program.
+-- The remaining operations of a walk over a program, and the places of operations in a program.
 use Rattle.std.specs.Prelude.{◌≡◌, ℕ, List, ◌++◌, length, false}
 use Rattle.lnt_header.specs.declared.header.HeaderParts.{HeaderParts}
 use Rattle.lnt_header.specs.declared.op.Op.{Op}
@@ -6,13 +6,13 @@ use Rattle.lnt_header.specs.Joins.{Each}
 use Rattle.lnt_ops.specs.OpBytes.{OpBytes}
 use Rattle.lnt_ops.specs.Walks.{Walk}
 
--- The walk goes on, over bytes that spell these operations.
+-- The walk continues, over bytes that encode these operations.
 pub record OperationsAreLeft (h : HeaderParts) (later : List Op) (walk : Walk) : Type 0 where
   pub header_is : walk.header ≡ h
   pub going : walk.failed ≡ false
   pub spelled : Each (OpBytes h) later walk.at.rest
 
--- So many bytes of the program spell the first of its operations, and the bytes after them spell the later ones.
+-- This many bytes of the program encode the first of its operations, and the bytes after them encode the later ones.
 pub record IsPlace (h : HeaderParts) (program : List ℕ) (earlier later : List Op) (place : ℕ) : Type 0 where
   pub front : List ℕ
   pub rest : List ℕ

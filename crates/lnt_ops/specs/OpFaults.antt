@@ -1,4 +1,4 @@
--- What is wrong where no operation begins some bytes (DWARF 5, section 6.2.5).
+-- What is wrong with bytes that don't begin with an operation (DWARF 5, section 6.2.5).
 --     before   the bytes up to the place of the fault
 --     left     the bytes from the place on, up to the end of the program
 use Rattle.std.specs.Prelude.{◌≡◌, ℕ, ◌+◌, ◌<◌, List, [], ◌∷◌, ◌++◌, length}
@@ -12,19 +12,19 @@ use Rattle.lnt_header.specs.OpRules.{following, last_known, standard_length, tak
 use Rattle.lnt_header.specs.OpRules.Following.{one_signed, one_unsigned, two_bytes}
 use Rattle.lnt_header.specs.OpRules.Taken.{takes_number}
 
--- A field is cut, a number is out of range, or a length after a zero byte is none that its operation fills.
+-- A field is truncated, a number is out of range, or a length after a zero byte isn't that of its operation.
 pub data IsOpFault (address_size : ℕ) (reason : Reason) (before left : List ℕ) : Type 0 where
   cut_field : reason ≡ Truncated → IsCutField before left → IsOpFault address_size reason before left
   large_number : reason ≡ LebTooLarge → IsLargeLeb left → IsOpFault address_size reason before left
   wrong_length : (earlier : List ℕ) → reason ≡ ExtendedLength → before ≡ earlier ++ 0 ∷ [] → IsWrongLength address_size left
       → IsOpFault address_size reason before left
 
--- Before the number of an extended operation stand a zero byte, the length, and a code that takes a number.
+-- A zero byte, the length, and a code that takes a number precede the number of an extended operation.
 abbrev pub IsBeforeNumber : List ℕ → List ℕ → Type 0
 IsBeforeNumber spelling before = (code : ℕ) × (taken_by code ≡ takes_number) × (before ≡ 0 ∷ (spelling ++ code ∷ []))
 
--- The first field of an operation that isn't there, by the fields of the operation before it. Where the bytes that a length
--- counts are all there, they are judged as one.
+-- The first field of an operation that isn't valid, by the fields of the operation before it. If all bytes that a length
+-- counts are there, they are judged together.
 pub data IsFirstFault (h : HeaderParts) (reason : Reason) (before left : List ℕ) : Type 0 where
   no_opcode : reason ≡ Truncated → before ≡ [] → left ≡ [] → IsFirstFault h reason before left
   unsigned_operand : (k : ℕ) → following k ≡ one_unsigned → k < h.opcode_base → before ≡ k ∷ [] → IsLebFault IsLargeUnsigned reason left

@@ -17,8 +17,8 @@ pub record IsOpOf (size : ℕ) (view : OpView) : Type 0 where
   pub stands : StandsFor view op
   pub admitted : Admits header op
 
--- The operation that the view stands for was added in its shortest spelling, as it is in each unit whose numbers have this order,
--- whose addresses have this size, and whose header admits it.
+-- The operation that the view stands for was appended in its shortest encoding, as it is in each unit whose numbers have this
+-- order, whose addresses have this size, and whose header admits it.
 pub record AddsView (order : Order) (size : ℕ) (view : OpView) (old new : List ℕ) : Type 0 where
   pub adds : (h : HeaderParts) (op : Op) → h.order ≡ order → h.address_size ≡ size → StandsFor view op → Admits h op
       → Appends (OpBytes h) op old new
@@ -29,7 +29,7 @@ pub record IsLike (h : HeaderParts) (order : Order) (other : HeaderParts) : Type
   pub size_is : other.address_size ≡ h.address_size
   pub admits : (op : Op) → Admits h op → Admits other op
 
--- The operations of the program were added in this order, each in its shortest spelling.
+-- The operations of the program were added in this order, each in its shortest encoding.
 pub record AddsOps (h : HeaderParts) (program : List ℕ) (order : Order) (old new : List ℕ) : Type 0 where
   pub ops : List Op
   pub spelled : Each (OpBytes h) ops program

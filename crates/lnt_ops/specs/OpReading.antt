@@ -7,7 +7,7 @@ use Rattle.lnt_header.specs.declared.op.OpView.{OpView}
 use Rattle.lnt_header.specs.OpRules.{Admits, StandsFor}
 use Rattle.lnt_ops.specs.OpBytes.{OpBytes}
 
--- The view stands for an operation that the header admits, and the read moved past the bytes that spell it.
+-- The view stands for an operation that the header admits, and the read moved past the bytes that encode it.
 pub record GivesOp (h : HeaderParts) (view : OpView) (old new : At) : Type 0 where
   pub op : Op
   pub stands : StandsFor view op

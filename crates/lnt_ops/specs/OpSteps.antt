@@ -25,7 +25,7 @@ use Rattle.lnt_ops.specs.OpFaults.{IsFirstFault}
 pub record BytesAfter (h : HeaderParts) (opcode : ℕ) (op : Op) (bytes : List ℕ) : Type 0 where
   pub whole : OpBytes h op (opcode ∷ bytes)
 
--- the reasons for which no operation is read after its first byte
+-- the reasons why no operation can be read after its first byte
 pub record IsFaultAfter (h : HeaderParts) (opcode : ℕ) (reason : Reason) (before left : List ℕ) : Type 0 where
   pub whole : IsFirstFault h reason (opcode ∷ before) left
 
@@ -42,7 +42,7 @@ pub record PassesOperands (count : ℕ) (old new : At) : Type 0 where
   pub count_is : length operands ≡ count
   pub reads : Reads (Each UnsignedLeb) operands old new
 
--- fewer operands than the count says are there, and the next one isn't
+-- there are fewer operands than the count says, and the next one can't be read
 pub record IsOperandFault (count : ℕ) (reason : Reason) (before left : List ℕ) : Type 0 where
   pub operands : List ℕ
   pub spelled : Each UnsignedLeb operands before
@@ -59,7 +59,7 @@ ExtendedBody h (extended_address code address) bytes = (Exactly (code ∷ []) �
 ExtendedBody h (unknown_extended code operand) bytes = IsUnknownCode code × (code < 256) × (Exactly (code ∷ []) ⨾ Exactly operand) bytes
 ExtendedBody h c bytes = ⊥
 
--- a code, and an operand that fits it in length and shape
+-- a code, and an operand of the length and encoding that it requires
 abbrev pub IsRightOperand : ℕ → List ℕ → Type 0
 IsRightOperand address_size [] = ⊥
 IsRightOperand address_size (code ∷ operand) = FitsTaken address_size (taken_by code) operand
@@ -71,7 +71,7 @@ pub record GivesCounted (h : HeaderParts) (view : OpView) (bytes : List ℕ) : T
   pub admitted : Admits h op
   pub spelled : ExtendedBody h (coding op) bytes
 
--- The bytes, which stand at the place `start`, are a code that takes a number, and a whole number that is out of range.
+-- The bytes, at the place `start`, are a code that takes a number, and a complete number that is out of range.
 pub record IsLargeNumber (start : ℕ) (fault : Fault) (bytes : List ℕ) : Type 0 where
   pub code : ℕ
   pub operand : List ℕ
@@ -82,7 +82,7 @@ pub record IsLargeNumber (start : ℕ) (fault : Fault) (bytes : List ℕ) : Type
   pub whole : IsLeb operand
   pub large : IsLargeUnsigned operand
 
--- The bytes that a length counts, from the place `start` on, are no operation: they don't fit the length, which stands at its own
+-- The bytes that a length counts, from the place `start` on, aren't an operation: they don't fit the length, which is at its own
 -- place, or their number is out of range.
 pub data IsCountedOpFault (address_size length_place start : ℕ) (fault : Fault) (bytes : List ℕ) : Type 0 where
   wrong_operand : fault.reason ≡ ExtendedLength → fault.place ≡ length_place → IsWrongOperand address_size bytes

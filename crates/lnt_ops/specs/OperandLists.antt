@@ -11,7 +11,7 @@ pub record IsOperands (operands : Operands) : Type 0 where
   pub numbers : List ℕ
   pub are : AreOperands operands numbers
 
--- the bytes spell some numbers
+-- the bytes encode some numbers
 pub record SpellsNumbers (bytes : List ℕ) : Type 0 where
   pub numbers : List ℕ
   pub spelled : Each UnsignedLeb numbers bytes

@@ -8,7 +8,7 @@ use Rattle.lnt_header.specs.Joins.{Each}
 use Rattle.lnt_ops.specs.OpBytes.{OpBytes}
 use Rattle.lnt_ops.specs.OpFaults.{IsOpFault, IsFirstFault}
 
--- The fault is that of an operation that isn't there after some that are.
+-- The fault is that of an operation that isn't valid, after some that are.
 pub record IsFirstIn (h : HeaderParts) (reason : Reason) (before left : List ℕ) : Type 0 where
   pub ops : List Op
   pub front : List ℕ
@@ -17,7 +17,7 @@ pub record IsFirstIn (h : HeaderParts) (reason : Reason) (before left : List ℕ
   pub joined : before ≡ front ++ fields
   pub fault : IsFirstFault h reason fields left
 
--- No operations spell the whole program, which stands at a place, and the fault says why: its own place lies after the bytes `before`.
+-- No operations encode the whole program, which is at a place, and the fault says why: its own place is after the bytes `before`.
 pub record BrokenProgram (h : HeaderParts) (place : ℕ) (program : List ℕ) (fault : Fault) : Type 0 where
   pub before : List ℕ
   pub left : List ℕ

@@ -8,7 +8,7 @@ use Rattle.lnt_header.specs.declared.op.OpView.TheVariants.{NegateStmt, ConstAdd
 use Rattle.lnt_header.specs.OpRules.{Admits, StandsFor}
 use Rattle.lnt_ops.specs.OpBytes.{OpBytes}
 
--- So many bytes at the front spell an operation that the header admits, for which the view stands.
+-- This many bytes at the start encode an operation that the header admits and the view stands for.
 pub record IsOperationFront (h : HeaderParts) (view : OpView) (size : ℕ) (bytes : List ℕ) : Type 0 where
   pub op : Op
   pub stands : StandsFor view op
@@ -16,7 +16,7 @@ pub record IsOperationFront (h : HeaderParts) (view : OpView) (size : ℕ) (byte
   pub within : size ≤ length bytes
   pub spelled : OpBytes h op (take size bytes)
 
--- An operation of a frequent kind whose operand is short takes so many bytes: one for the operand, or two where that is signed.
+-- An operation of a frequent kind whose operand is short takes this many bytes: one for the operand, or two if that is signed.
 abbrev pub IsShort : OpView → ℕ → Type 0
 IsShort (Special opcode) size = size ≡ 1
 IsShort Copy size = size ≡ 1
@@ -29,6 +29,6 @@ IsShort ConstAddPc size = size ≡ 1
 IsShort (SetDiscriminator n) size = size ≡ 4
 IsShort view size = ⊥
 
--- No such operation begins the bytes.
+-- The bytes don't begin with such an operation.
 abbrev pub NoneShort : HeaderParts → List ℕ → Type 0
 NoneShort h bytes = (view : OpView) (size : ℕ) → IsShort view size → IsOperationFront h view size bytes → ⊥

@@ -43,7 +43,7 @@ pub record StandsForSome (view : OpView) : Type 0 where
 
 -- ---- operands that are added
 
--- The numbers that the bytes spell were added, each in its shortest spelling.
+-- The numbers that the bytes encode were appended, each in its shortest encoding.
 pub record AddsSpelled (bytes old new : List ℕ) : Type 0 where
   pub adds : (numbers : List ℕ) → Each UnsignedLeb numbers bytes → Appends (Each UnsignedLeb) numbers old new
 
@@ -53,7 +53,7 @@ pub record AddsOperands (code : ℕ) (operands : Operands) (old new : List ℕ) 
 
 -- ---- operands that aren't short
 
--- no byte is there, or one that isn't the last of a number
+-- there is no byte, or one that isn't the last of a number
 abbrev pub NoByte : List ℕ → Type 0
 NoByte operand = 0 < length operand → 128 ≤ get_or operand 0 0
 

@@ -9,13 +9,13 @@ use Rattle.lnt_ops.specs.OpBytes.{OpBytes}
 use Rattle.lnt_ops.specs.OpFaults.{IsOpFault, IsFirstFault}
 use Rattle.lnt_ops.specs.OpReading.{GivesOp}
 
--- What a walk is: the header of the unit, where it stands in the program, and whether an operation was refused.
+-- What a walk is: the header of the unit, its place in the program, and whether an operation failed.
 pub record Walk : Type 0 where
   pub header : HeaderParts
   pub at : At
   pub failed : Bool
 
--- the walk has ended: nothing is left, or an operation was refused earlier
+-- the walk has ended: nothing is left, or an operation failed earlier
 pub record Ends (old new : Walk) : Type 0 where
   pub ended : (old.failed ≡ true) ⊎ (length old.at.rest ≡ 0)
   pub unchanged : new ≡ old
@@ -28,7 +28,7 @@ pub record GivesOperation (view : OpView) (old new : Walk) : Type 0 where
   pub gives : GivesOp old.header view old.at new.at
   pub shorter : length new.at.rest < length old.at.rest
 
--- bytes are left, and no operation begins them
+-- bytes are left, and they don't begin with an operation
 pub record Fails (fault : Fault) (old new : Walk) : Type 0 where
   pub going : old.failed ≡ false
   pub failed : new.failed ≡ true
@@ -44,7 +44,7 @@ WalkStep old None new = Ends old new
 WalkStep old (Some (Ok view)) new = GivesOperation view old new
 WalkStep old (Some (Err fault)) new = Fails fault old new
 
--- The walk gives these, one after another, and then stands as told.
+-- The walk gives these, one after another, and is then in this state.
 abbrev pub GivesEach : List OpView → Walk → Walk → Type 0
 GivesEach [] old new = new ≡ old
 GivesEach (item ∷ items) old new = (next : Walk) × GivesOperation item old next × GivesEach items next new

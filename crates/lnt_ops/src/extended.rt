@@ -12,7 +12,7 @@ ghost use Rattle.lnt_ops.specs.OpSteps.{IsLargeNumber};
 use lnt_header::{Header, OpView};
 use lnt_wire::{Cursor, Fault, Reason};
 
-/// Reads an extended operation after its zero byte: a length, and so many bytes, which are a code and its operand.
+/// Reads an extended operation after its zero byte: a length, and that many bytes, which are a code and its operand.
 #[inline(never)]
 #[tactic(auto, using(crate::proofs::ExtendedReaders::gives_extended, crate::proofs::ExtendedReaders::refuses_length, crate::proofs::ExtendedReaders::refuses_cut, crate::proofs::ExtendedReaders::refuses_counted))]
 pub(crate) fn read_extended<'a>(
@@ -30,8 +30,8 @@ pub(crate) fn read_extended<'a>(
     read_counted(counted, length_place, start, header)
 }
 
-// The operation of these bytes, a code and its operand, which stand at the offset `start` of the section. `length_place` is
-// that of their length.
+// The operation of these bytes, a code and its operand, at the offset `start` of the section. `length_place` is that of
+// their length.
 #[tactic(auto, using(crate::proofs::ExtendedReaders::counted_reads))]
 fn read_counted<'a>(
     bytes: &'a [u8],
@@ -61,7 +61,7 @@ fn read_counted<'a>(
     }
 }
 
-// Whether these bytes are a code and an operand that fits it in length and shape.
+// Whether these bytes are a code and an operand of the length and encoding that the code requires.
 #[tactic(auto, using(crate::proofs::ExtendedReaders::operand_tests))]
 fn has_right_operand(bytes: &[u8], header: &Header) -> bool
     ensures { MatchBool result (IsRightOperand header.now.address_size bytes.now) (IsWrongOperand header.now.address_size bytes.now) }
@@ -91,8 +91,8 @@ fn is_leb(bytes: &[u8]) -> bool
     false
 }
 
-// Reads the number after a code that takes one. The bytes, which stand at the offset `start` of the section, are the code and the
-// whole number.
+// Reads the number after a code that takes one. The bytes, at the offset `start` of the section, are the code and the whole
+// number.
 #[tactic(auto, using(crate::proofs::ExtendedReaders::gives_number, crate::proofs::ExtendedReaders::refuses_number))]
 fn read_number(bytes: &[u8], start: u64, header: &Header) -> Result<u64, Fault>
     requires room { start + length bytes.now < 2 ^ 64 }
@@ -105,7 +105,7 @@ fn read_number(bytes: &[u8], start: u64, header: &Header) -> Result<u64, Fault>
     Cursor::new(operand, start + 1, header.order()).uleb()
 }
 
-// Reads an address. The cursor has just as many bytes left as an address has.
+// Reads an address. The cursor has exactly as many bytes left as an address has.
 fn read_address(cursor: &mut Cursor<'_>, header: &Header) -> Result<u64, Fault>
     requires size { length cursor.old.rest ≡ header.now.address_size }
     requires order { cursor.old.order ≡ header.now.order }

@@ -9,7 +9,7 @@ use lnt_header::{Header, OpView};
 use lnt_wire::{Cursor, Fault};
 use std::marker::Model;
 
-/// The operations of a program in order, each from its own bytes (DWARF 5, section 6.2.5). It takes no memory.
+/// The operations of a program in order, each from its own bytes (DWARF 5, section 6.2.5). Allocates nothing.
 ///
 /// It ends after the last operation, or after its first fault, which is that of [`read_op`]. So it gives at most as
 /// many items as the program has bytes.
@@ -43,8 +43,8 @@ impl<'a> Ops<'a> {
     ghost use Rattle.lnt_ops.specs.Walks.{GivesOperation};
     ghost use Rattle.lnt_ops.specs.Short.{NoneShort};
 
-    /// The operations of a program in a unit with this header. The program's first byte stands at the offset `place`
-    /// of the section, and the offset after its last byte is below 2^64.
+    /// The operations of a program in a unit with this header. The program's first byte is at the offset `place` of the
+    /// section, and the offset after its last byte is below 2^64.
     pub fn new(header: &'a Header, program: &'a [u8], place: u64) -> Ops<'a>
         requires { place + length program.now < 2 ^ 64 }
         ensures header { result.header ≡ header.entry.now }
@@ -64,8 +64,8 @@ impl<'a> Ops<'a> {
         }
     }
 
-    /// The operations of a program without its first `skipped` bytes; the caller sees to it that it has as many. The
-    /// program's first byte stands at the offset `place` of the section, and the offset after its last byte is below 2^64.
+    /// The operations of a program without its first `skipped` bytes; the caller ensures that it has at least as many. The
+    /// program's first byte is at the offset `place` of the section, and the offset after its last byte is below 2^64.
     pub fn after(header: &'a Header, program: &'a [u8], place: u64, skipped: usize) -> Ops<'a>
         requires room { place + length program.now < 2 ^ 64 }
         requires within { skipped ≤ length program.now }
@@ -80,7 +80,7 @@ impl<'a> Ops<'a> {
         Ops::new(header, rest, place + skipped as u64)
     }
 
-    /// Another walk at the same place. It is lent to a call that isn't inlined, so that this one can stay in registers.
+    /// A copy of this walk. It is lent to a call that isn't inlined, so that this one can stay in registers.
     #[inline(always)]
     pub fn fork(&self) -> Ops<'a>
         ensures { result ≡ self.now }
@@ -93,7 +93,7 @@ impl<'a> Ops<'a> {
         }
     }
 
-    /// How many bytes are left.
+    /// The number of remaining bytes.
     #[inline(always)]
     pub fn left(&self) -> usize
         ensures { result ≡ length self.now.at.rest }
@@ -101,10 +101,10 @@ impl<'a> Ops<'a> {
         self.rest.len()
     }
 
-    /// The next operation, where it is frequent and short: a special opcode, `Copy`, `NegateStmt` or `ConstAddPc`; an
+    /// The next operation, if it is frequent and short: a special opcode, `Copy`, `NegateStmt` or `ConstAddPc`; an
     /// `AdvancePc`, `SetFile`, `SetColumn` or `SetDiscriminator` whose number has one byte; or an `AdvanceLine` whose number
-    /// has one or two. It is the one that `next` would give, read inline for loops that do many. None where no such operation
-    /// comes next, or one was refused; then the walk is as it was, and `next` tells what comes.
+    /// has one or two. It is the one that `next` would return, inlined for loops over many operations. `None` if no such
+    /// operation comes next, or one has failed; then the walk is unchanged, and `next` returns what comes.
     #[inline(always)]
     #[tactic(auto, using(crate::proofs::ShortLemmas::steps_short))]
     pub fn next_short(&mut self) -> Option<OpView<'a>>

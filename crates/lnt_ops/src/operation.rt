@@ -1,4 +1,4 @@
-//! One operation: read from its first byte on, and kept.
+//! One operation: read from its first byte on, and as an owned value.
 ghost use Rattle.std.specs.Prelude.{◌≡◌, ◌<◌, ◌⊎◌, IfOk, IfErr, OnErr};
 ghost use Rattle.lnt_wire.specs.Reading.{Refuses};
 ghost use Rattle.lnt_header.specs.OpRules.{last_known, StandsFor};
@@ -15,13 +15,13 @@ use lnt_header::{Header, Op, OpView};
 use lnt_wire::{Cursor, Fault, Items};
 use std::alloc::{AllocError, Global};
 
-/// The next operation of a program in a unit with this header, in whose byte order the cursor reads (DWARF 5, section
-/// 6.2.5). It takes no memory.
+/// The next operation of a program in a unit with this header, whose byte order is that of the cursor (DWARF 5, section
+/// 6.2.5). Allocates nothing.
 ///
-/// It refuses only where no front of the bytes that are left spells an operation, and then leaves the cursor as it
-/// was. A number that isn't there whole is `Truncated`, and one out of range is `LebTooLarge`, both at its first byte.
-/// An extended operation whose length isn't that of its code and operand is `ExtendedLength` at the length; where
-/// the bytes end before the length does, it is `Truncated` at the first byte that the length counts.
+/// Fails only if no prefix of the remaining bytes encodes an operation, and then leaves the cursor unchanged. A truncated
+/// number is `Truncated`, and one out of range is `LebTooLarge`, both at its first byte. An extended operation whose length
+/// isn't that of its code and operand is `ExtendedLength` at the length; if the length counts more bytes than remain, it is
+/// `Truncated` at the first byte that the length counts.
 #[inline(always)]
 #[tactic(auto, using(crate::proofs::OpReaders::gives_special, crate::proofs::OpReaders::gives_after, crate::proofs::OpReaders::first_opcode, crate::proofs::OpReaders::first_after, crate::proofs::OpReaders::refuses_opcode, crate::proofs::OpReaders::refuses_after))]
 pub fn read_op<'a>(cursor: &mut Cursor<'a>, header: &Header) -> Result<OpView<'a>, Fault>
@@ -42,7 +42,7 @@ pub fn read_op<'a>(cursor: &mut Cursor<'a>, header: &Header) -> Result<OpView<'a
     Ok(view)
 }
 
-// Reads what follows a standard opcode, or the 0 of an extended one. The opcode itself was read.
+// Reads what follows a standard opcode, or the 0 of an extended one. The opcode itself was already read.
 #[inline(always)]
 #[tactic(auto, using(crate::proofs::StandardReaders::standard_reads))]
 fn read_operand<'a>(
@@ -74,7 +74,7 @@ fn read_operand<'a>(
 }
 
 // Reads what follows the 0 of an extended opcode, or a standard opcode that DWARF 5 doesn't know: the slow path for rare
-// ones. They are read by a copy of the cursor, which isn't lent to the call, so that it stays in registers.
+// ones. They are read by a copy of the cursor, so that the cursor itself isn't lent and stays in registers.
 #[inline(always)]
 fn read_apart<'a>(cursor: &mut Cursor<'a>, header: &Header, opcode: u8) -> Result<OpView<'a>, Fault>
     requires standard { opcode < header.now.opcode_base }
@@ -93,7 +93,7 @@ fn read_apart<'a>(cursor: &mut Cursor<'a>, header: &Header, opcode: u8) -> Resul
     Ok(view)
 }
 
-/// The operation that the view stands for. The only error is that memory ran out.
+/// The operation that the view stands for. Fails only if memory runs out.
 #[tactic(auto, using(crate::proofs::OwnedLemmas::some_operands))]
 pub(crate) fn owned_op(alloc: Global, view: OpView<'_>) -> Result<Op, AllocError>
     requires { StandsForSome view }

@@ -1,4 +1,4 @@
-//! The operands of unknown standard operations, in memory of their own.
+//! The operands of unknown standard operations, as owned values.
 ghost use Rattle.std.specs.Prelude.{IfOk};
 ghost use Rattle.lnt_wire.specs.Leb128.{UnsignedLeb};
 ghost use Rattle.lnt_header.specs.Joins.{Each};
@@ -9,7 +9,7 @@ use lnt_header::Operands;
 use lnt_wire::{Cursor, Items, Order};
 use std::alloc::{AllocError, Global};
 
-/// The numbers of borrowed operands, in memory of their own. The only error is that memory ran out.
+/// The numbers of borrowed operands, as owned values. Fails only if memory runs out.
 pub(crate) fn owned_operands(
     alloc: Global,
     operands: Operands<'_>,
@@ -23,7 +23,7 @@ pub(crate) fn owned_operands(
     }
 }
 
-// The numbers that the bytes spell one after another, up to their end.
+// The numbers that the bytes encode, up to their end.
 #[tactic(auto, using(crate::proofs::OwnedLemmas::numbers_none, crate::proofs::OwnedLemmas::numbers_more, crate::proofs::OwnedLemmas::numbers_done, crate::proofs::OwnedLemmas::number_long))]
 fn spelled_numbers(alloc: Global, bytes: &[u8]) -> Result<Items<u64>, AllocError>
     requires { SpellsNumbers bytes.now }

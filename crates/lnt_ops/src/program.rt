@@ -12,11 +12,11 @@ use lnt_header::{Header, Op};
 use lnt_wire::{Fault, Items, Reason};
 use std::alloc::Global;
 
-/// The operations of a whole program in a unit with this header (DWARF 5, section 6.2.5). The program's first byte
-/// stands at the offset `place` of the section, and the offset after its last byte is below 2^64.
+/// The operations of a whole program in a unit with this header (DWARF 5, section 6.2.5). The program's first byte is at
+/// the offset `place` of the section, and the offset after its last byte is below 2^64.
 ///
-/// It refuses only where no operations spell the program, with the fault of the first operation that isn't there,
-/// or with `Memory`.
+/// Fails only if the program isn't a list of operations, with the fault of the first one that isn't valid, or with
+/// `Memory`.
 #[tactic(auto, using(crate::proofs::ProgramLaws::ops_none, crate::proofs::ProgramLaws::ops_more, crate::proofs::ProgramLaws::ops_spelled, crate::proofs::ProgramLaws::ops_admitted, crate::proofs::ProgramLaws::walk_done, crate::proofs::ProgramLaws::is_view))]
 pub fn read_ops(
     alloc: Global,

@@ -17,9 +17,9 @@ use lnt_header::{CodedOp, Header, Op, OpView, Operands};
 use lnt_wire::{Cursor, Order, append_sleb, append_uleb, put_u16, put_u32, put_u64};
 use std::alloc::AllocError;
 
-/// Adds the bytes of the operations in a unit with the header, one after the other, each LEB128 in its shortest
-/// spelling. The caller sees to it that the header admits each of them (`Header::admits`). The one error is that memory
-/// ran out, and then `out` is as before.
+/// Appends the bytes of the operations in a unit with the header, one after the other, each LEB128 in its shortest
+/// encoding. The caller ensures that the header admits each of them (`Header::admits`). Fails only if memory runs out, and
+/// then leaves `out` unchanged.
 #[tactic(auto, using(crate::proofs::OpPutLemmas::taken_back))]
 pub fn put_ops(out: &mut Vec<u8>, header: &Header, ops: &[Op]) -> Result<(), AllocError>
     requires { AllByRecursion (Admits header.now) ops.now }
@@ -36,7 +36,7 @@ pub fn put_ops(out: &mut Vec<u8>, header: &Header, ops: &[Op]) -> Result<(), All
     }
 }
 
-// Adds operations. After a refusal a part of them may be there.
+// Appends operations. After an error a part of them may have been added.
 #[tactic(auto, using(crate::proofs::OpPutLemmas::ops_begun, crate::proofs::OpPutLemmas::ops_more, crate::proofs::OpPutLemmas::ops_done, lnt_header::proofs::FirstLaws::all_at))]
 fn add_ops(out: &mut Vec<u8>, header: &Header, ops: &[Op]) -> Result<(), AllocError>
     requires { AllByRecursion (Admits header.now) ops.now }
@@ -49,7 +49,7 @@ fn add_ops(out: &mut Vec<u8>, header: &Header, ops: &[Op]) -> Result<(), AllocEr
     Ok(())
 }
 
-// Adds an operation. After a refusal a part of it may be there.
+// Appends an operation. After an error a part of it may have been added.
 #[tactic(auto, using(crate::proofs::OpPutLemmas::is_op_of_header, crate::proofs::OpPutLemmas::op_put))]
 fn add_op(out: &mut Vec<u8>, header: &Header, op: &Op) -> Result<(), AllocError>
     requires { Admits header.now op.now }
@@ -59,9 +59,9 @@ fn add_op(out: &mut Vec<u8>, header: &Header, op: &Op) -> Result<(), AllocError>
     put_view(out, op.view(), header.order(), header.address_size())
 }
 
-/// Adds the bytes of the operation that the view stands for, in a unit whose numbers have the order, each LEB128 in its
-/// shortest spelling. The caller sees to it that a header with addresses of this size admits it. The one error is that
-/// memory ran out, and then a part of the operation may be there. It takes no memory but that of `out`.
+/// Appends the bytes of the operation that the view stands for, in a unit with this byte order, each LEB128 in its shortest
+/// encoding. The caller ensures that a header with addresses of this size admits it. Fails only if memory runs out, and
+/// then a part of the operation may have been added. Allocates memory only for `out`.
 pub fn put_view(
     out: &mut Vec<u8>,
     view: OpView<'_>,
@@ -89,7 +89,7 @@ pub fn put_view(
     }
 }
 
-// Adds an opcode without operands.
+// Appends an opcode without operands.
 #[tactic(auto, using(crate::proofs::OpPutLemmas::unchanged_extends))]
 fn add_code(out: &mut Vec<u8>, code: u8) -> Result<(), AllocError>
     ensures ok { OnOk result (out.new.items ≡ out.old.items ++ code ∷ []) }
@@ -98,7 +98,7 @@ fn add_code(out: &mut Vec<u8>, code: u8) -> Result<(), AllocError>
     Ok(out.push(code)?)
 }
 
-// Adds an opcode and an unsigned number.
+// Appends an opcode and an unsigned number.
 fn add_unsigned(out: &mut Vec<u8>, code: u8, n: u64) -> Result<(), AllocError>
     ensures ok { OnOk result (Appends (Coded code UnsignedLeb) n out.old.items out.new.items) }
     ensures extends { OnErr result (Extends out.old.items out.new.items) }
@@ -107,7 +107,7 @@ fn add_unsigned(out: &mut Vec<u8>, code: u8, n: u64) -> Result<(), AllocError>
     append_uleb(out, n)
 }
 
-// Adds an opcode and a signed number.
+// Appends an opcode and a signed number.
 #[tactic(auto, using(crate::proofs::OpPutLemmas::coded_put))]
 fn add_signed(out: &mut Vec<u8>, code: u8, z: i64) -> Result<(), AllocError>
     ensures ok { OnOk result (Appends (Coded code SignedLeb) z out.old.items out.new.items) }
@@ -117,7 +117,7 @@ fn add_signed(out: &mut Vec<u8>, code: u8, z: i64) -> Result<(), AllocError>
     append_sleb(out, z)
 }
 
-// Adds an opcode and a number of 2 bytes.
+// Appends an opcode and a number of 2 bytes.
 fn add_number(out: &mut Vec<u8>, code: u8, n: u16, order: Order) -> Result<(), AllocError>
     ensures ok { OnOk result (Appends (Coded code (NumberBytes order 2)) n out.old.items out.new.items) }
     ensures extends { OnErr result (Extends out.old.items out.new.items) }
@@ -126,7 +126,7 @@ fn add_number(out: &mut Vec<u8>, code: u8, n: u16, order: Order) -> Result<(), A
     put_u16(out, n, order)
 }
 
-// Adds an opcode and unsigned numbers.
+// Appends an opcode and unsigned numbers.
 #[tactic(auto, using(crate::proofs::OpPutLemmas::spelled_put, crate::proofs::OpPutLemmas::listed_put))]
 fn add_operands(out: &mut Vec<u8>, code: u8, operands: Operands<'_>) -> Result<(), AllocError>
     requires { IsOperands operands }
@@ -140,7 +140,7 @@ fn add_operands(out: &mut Vec<u8>, code: u8, operands: Operands<'_>) -> Result<(
     }
 }
 
-// Adds the unsigned numbers that the bytes spell.
+// Appends the unsigned numbers that the bytes encode.
 #[tactic(auto, using(crate::proofs::OpPutLemmas::spelled_begun, crate::proofs::OpPutLemmas::spelled_more, crate::proofs::OpPutLemmas::spelled_done, crate::proofs::OwnedLemmas::number_long))]
 fn add_spelled(out: &mut Vec<u8>, bytes: &[u8]) -> Result<(), AllocError>
     requires { SpellsNumbers bytes.now }
@@ -154,7 +154,7 @@ fn add_spelled(out: &mut Vec<u8>, bytes: &[u8]) -> Result<(), AllocError>
     Ok(())
 }
 
-// Adds unsigned numbers.
+// Appends unsigned numbers.
 #[tactic(auto, using(crate::proofs::OpPutLemmas::numbers_begun, crate::proofs::OpPutLemmas::numbers_more, crate::proofs::OpPutLemmas::numbers_done))]
 fn add_numbers(out: &mut Vec<u8>, numbers: &[u64]) -> Result<(), AllocError>
     ensures ok { OnOk result (Appends (Each UnsignedLeb) numbers.now out.old.items out.new.items) }
@@ -166,7 +166,7 @@ fn add_numbers(out: &mut Vec<u8>, numbers: &[u64]) -> Result<(), AllocError>
     Ok(())
 }
 
-// Adds an extended operation with this operand.
+// Appends an extended operation with this operand.
 #[tactic(auto, using(crate::proofs::OpPutLemmas::extended_put))]
 fn add_extended(out: &mut Vec<u8>, code: u8, operand: &[u8]) -> Result<(), AllocError>
     ensures ok { OnOk result (Appends (ExtendedCoded code Exactly) operand.now out.old.items out.new.items) }
@@ -177,7 +177,7 @@ fn add_extended(out: &mut Vec<u8>, code: u8, operand: &[u8]) -> Result<(), Alloc
     Ok(())
 }
 
-// Adds what stands before the operand of an extended operation: a zero byte, the length `count`, which counts the code and
+// Appends the part of an extended operation before its operand: a zero byte, the length `count`, which counts the code and
 // the operand, and the code.
 #[tactic(auto, using(crate::proofs::OpPutLemmas::start_put))]
 fn start_extended(out: &mut Vec<u8>, count: u64, code: u8) -> Result<(), AllocError>
@@ -190,7 +190,7 @@ fn start_extended(out: &mut Vec<u8>, count: u64, code: u8) -> Result<(), AllocEr
     Ok(())
 }
 
-// Adds an extended operation with an address.
+// Appends an extended operation with an address.
 #[tactic(auto, using(crate::proofs::OpPutLemmas::address_put))]
 fn add_address(
     out: &mut Vec<u8>,
@@ -208,7 +208,7 @@ fn add_address(
     add_sized(out, address, size, order)
 }
 
-// Adds a number in `size` bytes, which are those of an address: 2, 4 or 8.
+// Appends a number in `size` bytes, the size of an address: 2, 4 or 8.
 fn add_sized(out: &mut Vec<u8>, n: u64, size: u8, order: Order) -> Result<(), AllocError>
     requires size { IsAddressSize size }
     requires fits { n < 256 ^ size }
@@ -223,7 +223,7 @@ fn add_sized(out: &mut Vec<u8>, n: u64, size: u8, order: Order) -> Result<(), Al
     }
 }
 
-// Adds an extended operation with an unsigned number. Its length, of one byte, is written once it is known.
+// Appends an extended operation with an unsigned number. Its length, of one byte, is filled in once it is known.
 fn add_counted(out: &mut Vec<u8>, code: u8, n: u64) -> Result<(), AllocError>
     ensures ok { OnOk result (Appends (ExtendedCoded code UnsignedLeb) n out.old.items out.new.items) }
     ensures extends { OnErr result (Extends out.old.items out.new.items) }

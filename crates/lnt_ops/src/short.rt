@@ -1,4 +1,4 @@
-//! Frequent operations with short operands, read in line (DWARF 5, section 6.2.5).
+//! Frequent operations with short operands, read by inlined code (DWARF 5, section 6.2.5).
 ghost use Rattle.std.specs.Prelude.{◌≡◌, ◌<◌, ◌≤◌, length, take, [], ◌∷◌, IfNone, IfSome};
 ghost use Rattle.lnt_wire.specs.Leb128.{SignedLeb, UnsignedLeb};
 ghost use Rattle.lnt_ops.specs.Short.{IsOperationFront, NoneShort};
@@ -6,8 +6,8 @@ ghost use Rattle.lnt_ops.specs.Stepping.{IsGroup, NoByte, NoDiscriminator, NoTwo
 
 use lnt_header::{Header, OpView};
 
-/// The operation that the bytes begin with, and how many of them spell it, where it is of a frequent kind and its operand
-/// is short. None where no such operation begins them.
+/// The operation that the bytes begin with, and the number of its bytes, if it is of a frequent kind and its operand is
+/// short. `None` if the bytes don't begin with such an operation.
 #[inline(always)]
 #[tactic(auto, using(crate::proofs::ShortLemmas::short_fronts))]
 pub(crate) fn short_op<'a>(bytes: &'a [u8], header: &Header) -> Option<(OpView<'a>, usize)>
@@ -38,7 +38,7 @@ pub(crate) fn short_op<'a>(bytes: &'a [u8], header: &Header) -> Option<(OpView<'
     }
 }
 
-// The unsigned number that the first byte alone spells. None where there is no byte, or the number has more.
+// The unsigned number that the first byte encodes. `None` if there is no byte, or the number has more than one.
 #[inline(always)]
 #[tactic(auto, using(crate::proofs::ShortLemmas::one_unsigned))]
 fn short_number(bytes: &[u8]) -> Option<u64>
@@ -51,7 +51,7 @@ fn short_number(bytes: &[u8]) -> Option<u64>
     None
 }
 
-// The discriminator that one byte spells, after the length 2 and the code 4.
+// The discriminator that one byte encodes, after the length 2 and the code 4.
 #[inline(always)]
 #[tactic(auto, using(crate::proofs::ShortLemmas::discriminator_taken, crate::proofs::ShortLemmas::no_discriminator_here))]
 fn short_discriminator(bytes: &[u8]) -> Option<u64>
@@ -64,7 +64,7 @@ fn short_discriminator(bytes: &[u8]) -> Option<u64>
     None
 }
 
-// The signed number that one or two bytes spell, and how many they are.
+// The signed number that one or two bytes encode, and how many they are.
 #[inline(always)]
 #[tactic(auto, using(crate::proofs::ShortLemmas::one_signed, crate::proofs::ShortLemmas::two_signed))]
 fn short_signed(bytes: &[u8]) -> Option<(i64, usize)>

@@ -9,7 +9,7 @@ ghost use Rattle.lnt_ops.specs.OpSteps.{BytesAfter, IsFaultAfter, GivesAfter, Pa
 use lnt_header::{Header, OpView, Operands};
 use lnt_wire::{Cursor, Fault};
 
-/// Reads the operands of an unknown standard operation: as many numbers as the header lists, which stay where they lie.
+/// Reads the operands of an unknown standard operation: as many numbers as the header lists, which are borrowed.
 #[inline(never)]
 #[tactic(auto, using(crate::proofs::UnknownReaders::opcode_there, crate::proofs::UnknownReaders::gives_unknown, crate::proofs::UnknownReaders::refuses_unknown))]
 pub(crate) fn read_unknown<'a>(

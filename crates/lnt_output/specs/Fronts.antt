@@ -3,14 +3,14 @@
 use Rattle.std.specs.Prelude.{◌≡◌, ℕ, List, ◌++◌, Option}
 use Rattle.std.specs.Io.KnownBytes.{Appends, append_known}
 
--- The known bytes grow by a front of these bytes.
+-- The known bytes grow by a prefix of these bytes.
 pub record AppendsFront (old new : Option (List ℕ)) (bytes : List ℕ) : Type 0 where
   pub front : List ℕ
   pub rest : List ℕ
   pub joined : front ++ rest ≡ bytes
   pub gained : Appends old new front
 
--- The known bytes grow by a front of bytes that a complete run might have written.
+-- The known bytes grow by a prefix of bytes that a complete run might have written.
 --     Ends    relates what the writer holds after a complete run to how the run ends
 pub record HasBegun {Ending : Type 0} (Ends : Option (List ℕ) → Ending → Type 0) (old new : Option (List ℕ)) : Type 0 where
   pub whole : List ℕ

@@ -1,4 +1,4 @@
-//! Writes bytes whole, or a front of them.
+//! Writes bytes whole, or a prefix of them.
 ghost use Rattle.std.specs.Prelude.{OnErr, OnOk};
 ghost use Rattle.std.specs.Io.KnownBytes.{Appends};
 ghost use Rattle.lnt_output.specs.Fronts.{AppendsFront};
@@ -7,8 +7,8 @@ use std::io::{self, ErrorKind, Write};
 
 /// Writes all of these bytes, in order, as `write_all` does.
 ///
-/// On an error the writer, which failed, took nothing, or was interrupted in all of 2^64 - 1 writes, has gained a front of the
-/// bytes and nothing else. A write that was interrupted is tried again until then.
+/// On an error a prefix of the bytes has been written and nothing else. An error means that the writer failed, took nothing,
+/// or was interrupted in each of 2^64 - 1 writes; until then an interrupted write is retried.
 pub fn write_whole<W: Write>(out: &mut W, bytes: &[u8]) -> io::Result<()>
     ensures whole { OnOk result (Appends (W.contents out.old) (W.contents out.new) bytes.now) }
     ensures front { OnErr result (AppendsFront (W.contents out.old) (W.contents out.new) bytes.now) }

@@ -1,11 +1,11 @@
--- Spans that begin or end inside an instruction, which a table by path can't say.
+-- Spans that begin or end inside an instruction, which a table by path can't express.
 use Rattle.std.specs.Prelude.{◌≡◌, ◌≢◌, List, [], ◌∷◌}
 use Rattle.std.specs.List.{AllByRecursion, Contains}
 use Rattle.lnt_spans.specs.declared.position.Position.{Position}
 use Rattle.lnt_spans.specs.Positions.{IsAtMost}
 use Rattle.lnt_paths.specs.PathSpans.{PathSpan}
 
--- the span by path begins and ends at operation index 0, as a span does of which IsOfInstructions is so
+-- the span by path begins and ends at operation index 0, like a span for which IsOfInstructions holds
 abbrev pub IsPathSpanOfInstructions : PathSpan → Type 0
 IsPathSpanOfInstructions span = (span.low.op ≡ 0) × (span.high.op ≡ 0)
 

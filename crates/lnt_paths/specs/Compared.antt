@@ -5,12 +5,12 @@ use Rattle.std.specs.List.{All}
 use Rattle.lnt_paths.specs.declared.told.ComparedFiles.{ComparedFiles}
 use Rattle.lnt_paths.specs.declared.told.ToldFile.{ToldFile}
 
--- Of each file in a slot it is told rightly whether its path is this one.
+-- For each file in a slot, it is remembered correctly whether its path is this one.
 abbrev pub AreTold : (ℕ → ℕ → List ℕ) → List ℕ → List (Option ToldFile) → Type 0
 AreTold path target slots = All (λ slot. IfSome slot (λ told.
     MatchBool told.same (path told.unit told.file ≡ target) (path told.unit told.file ≢ target))) slots
 
--- Of the two files in each slot it is told rightly whether their paths are the same.
+-- For the two files in each slot, it is remembered correctly whether their paths are the same.
 abbrev pub AreCompared : (ℕ → ℕ → List ℕ) → List (Option ComparedFiles) → Type 0
 AreCompared path slots = All (λ slot. IfSome slot (λ pair. MatchBool pair.same
     (path pair.unit pair.file ≡ path pair.other_unit pair.other_file)

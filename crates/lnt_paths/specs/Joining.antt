@@ -1,5 +1,5 @@
--- Spans joined by their answers told by path, and the lines that are written for them. `tell` tells an answer by path; a joined
--- span keeps the answer of its first part. No public contract speaks of it.
+-- Spans joined by their answers by path, and the lines that are written for them. `tell` gives an answer by path; a joined span
+-- keeps the answer of its first part. No public contract speaks of it.
 use Rattle.std.specs.Prelude.{◌≡◌, ◌≢◌, ◌⊎◌, ℕ, false, List, [], ◌∷◌, ◌++◌, Option, Some, None, IfSome}
 use Rattle.std.specs.Io.KnownBytes.{Appends}
 use Rattle.std.specs.List.{All, AllZip}
@@ -19,7 +19,7 @@ use Rattle.lnt_paths.specs.PathSpans.{PathSpan}
 use Rattle.lnt_paths.specs.PathTables.{SaysPath, path_column_names}
 use Rattle.lnt_paths.specs.Written.{records_text}
 
--- a span told by path
+-- a span by path
 abbrev pub tell_span : (Answer → PathAnswer) → Span → PathSpan
 tell_span tell span = record { low = span.low; high = span.high; answer = tell span.answer }
 
@@ -72,7 +72,7 @@ field_with_comma path = field_text default_writer path ++ 44 ∷ []
 pub record IsPlainByte (byte : ℕ) : Type 0 where
   pub needs_none : needs_byte default_writer byte ≡ false
 
--- The cached field is that of its file, where these are the paths of files.
+-- The cached field is that of its file, if these are the paths of files.
 abbrev pub IsFieldOf : (ℕ → ℕ → List ℕ) → PathField → Type 0
 IsFieldOf path kept = kept.text.items ≡ field_with_comma (path kept.unit kept.file)
 
@@ -80,7 +80,7 @@ IsFieldOf path kept = kept.text.items ≡ field_with_comma (path kept.unit kept.
 abbrev pub AreFieldsOf : (ℕ → ℕ → List ℕ) → List (Option PathField) → Type 0
 AreFieldsOf path slots = All (λ slot. IfSome slot (IsFieldOf path)) slots
 
--- The line of a span was added, with the addresses of its positions alone.
+-- The line of a span was appended, with only the addresses of its positions.
 pub record AddsPathLine (tell : Answer → PathAnswer) (version : PathVersion) (span : Span) (old new : List ℕ) : Type 0 where
   pub fields : Fields
   pub joined : new ≡ old ++ row_text default_writer fields
@@ -91,7 +91,7 @@ abbrev pub IsPlaceEnd : PathVersion → ℕ → List ℕ → Type 0
 IsPlaceEnd Three column more = (text : List ℕ) × IsPlainDecimal text column × (more ≡ 44 ∷ text ++ 10 ∷ [])
 IsPlaceEnd Four column more = more ≡ 10 ∷ []
 
--- The end of a span's line was added: the line in the file, in version 3 the column, and a line feed.
+-- The end of a span's line was appended: the line in the file, in version 3 the column, and a line feed.
 pub record AddsPlace (version : PathVersion) (answer : Answer) (old new : List ℕ) : Type 0 where
   pub text : List ℕ
   pub line : IsPlainDecimal text answer.line
@@ -99,14 +99,14 @@ pub record AddsPlace (version : PathVersion) (answer : Answer) (old new : List �
   pub joined : new ≡ old ++ (text ++ more)
   pub column : IsPlaceEnd version answer.column more
 
--- The writer has gained the header, and a line for each of these spans.
+-- What was written is the header, and a line for each of these spans.
 pub record HasWritten (tell : Answer → PathAnswer) (version : PathVersion) (old new : Option (List ℕ)) (joined : List Span) : Type 0 where
   pub records : List Fields
   pub written : Appends old new (records_text (path_column_names version ∷ records))
   pub each : AllZip (λ fields span. SaysPath IsPlainAddress IsPlainDecimal version fields span.low.address span.high.address
       (tell span.answer)) records joined
 
--- The writer was stopped, and has gained a front of the header and the lines of these spans.
+-- The writer stopped, and a prefix of the header and the lines of these spans has been written.
 pub record HasBegunLines (tell : Answer → PathAnswer) (version : PathVersion) (old new : Option (List ℕ))
     (joined : List Span) : Type 0 where
   pub records : List Fields

@@ -1,5 +1,5 @@
--- A section's spans compared with the records of a table by path, as far as these have come. `tell` tells an answer by path.
--- No public contract speaks of it.
+-- A section's spans compared with the records of a table by path, so far. `tell` gives an answer by path. No public contract
+-- speaks of it.
 use Rattle.std.specs.Prelude.{◌≡◌, ℕ, Bool, true, false, List, [], ◌∷◌, Option, Some, None, IfSome, length}
 use Rattle.std.specs.List.{All}
 use Rattle.std.specs.Option.{option_map}

@@ -42,7 +42,7 @@ pub record IsPathLine (version : PathVersion) (said : PathRecord) (bytes rest : 
 
 -- ---- the lines so far
 
--- `csv` reads these records from the bytes, and one record from the text, and goes on from the same state with the same
+-- `csv` reads these records from the bytes, and one record from the text, and continues from the same state with the same
 -- rest.
 pub record GoesOnAs (bytes text : List ℕ) (records : List Fields) (after : State) (rest : List ℕ) : Type 0 where
   pub last : Fields

@@ -1,4 +1,4 @@
--- The answer at a position by path: the bytes of the whole path of the file, the line, and in version 3 the column.
+-- The answer at a position by path: the bytes of the full path of the file, the line, and in version 3 the column.
 use Rattle.std.specs.Prelude.{ℕ, List, Option, None, Some}
 use Rattle.std.specs.Option.{option_map}
 use Rattle.lnt_spans.specs.declared.answer.Answer.{Answer}
@@ -13,20 +13,20 @@ pub record PathAnswer : Type 0 where
   pub line : ℕ
   pub column : Option ℕ
 
--- the column, if the version tells it
+-- the column, if the version has columns
 abbrev pub told_column : PathVersion → ℕ → Option ℕ
 told_column Three column = Some column
 told_column Four column = None
 
--- an answer told by path, where these are the paths of the files of units
+-- an answer by path, if these are the paths of the files of units
 abbrev pub path_answer : PathVersion → (ℕ → ℕ → List ℕ) → Answer → PathAnswer
 path_answer version path answer =
     record { path = path answer.unit answer.file; line = answer.line; column = told_column version answer.column }
 
--- what spans answer at a position, told by path in this way
+-- what spans answer at a position, by path in this way
 abbrev pub answer_told : (Answer → PathAnswer) → List Span → Position → Option PathAnswer
 answer_told tell spans p = option_map tell (span_answer spans p)
 
--- the same, where these are the paths of the files of units
+-- the same, if these are the paths of the files of units
 abbrev pub spans_by_path : PathVersion → (ℕ → ℕ → List ℕ) → List Span → Position → Option PathAnswer
 spans_by_path version path spans p = answer_told (path_answer version path) spans p

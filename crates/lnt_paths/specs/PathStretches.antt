@@ -1,5 +1,5 @@
--- All stretches at which a section and a table by path answer differently, each told as a difference: its first position, and
--- the two answers that stay the same from there on.
+-- All stretches at which a section and a table by path answer differently, each as a difference: its first position, and the
+-- two answers that stay the same from there on.
 use Rattle.std.specs.Prelude.{List, Option, map}
 use Rattle.std.specs.Option.{option_map}
 use Rattle.lnt_spans.specs.declared.position.Position.{Position}
@@ -19,6 +19,6 @@ stretch_of difference = record {
 abbrev pub stretches_of : List DifferenceByPath → List (Stretch PathAnswer)
 stretches_of differences = map stretch_of differences
 
--- The differences are exactly the stretches, in rising order.
+-- The differences are exactly the stretches, in ascending order.
 abbrev pub ArePathStretches : (Position → Option PathAnswer) → (Position → Option PathAnswer) → List DifferenceByPath → Type 0
 ArePathStretches by_section by_table differences = AreAllStretches by_section by_table (stretches_of differences)

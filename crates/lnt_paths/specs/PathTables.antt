@@ -23,7 +23,7 @@ SaysColumn Number Three fields None = ⊥
 SaysColumn Number Three fields (Some column) = Number (get_or fields 4 []) column
 SaysColumn Number Four fields column = column ≡ None
 
--- A record of two addresses and an answer, in these spellings of addresses and numbers.
+-- A record of two addresses and an answer, in these encodings of addresses and numbers.
 pub record SaysPath (Address Number : List ℕ → ℕ → Type 0) (version : PathVersion) (fields : Fields) (low high : ℕ)
     (answer : PathAnswer) : Type 0 where
   pub count : length fields ≡ path_column_count version

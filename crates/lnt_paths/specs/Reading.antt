@@ -26,7 +26,7 @@ abbrev pub IsFieldFault : Fields → FieldFault → Type 0
 IsFieldFault fields field_fault.Count = ⊥
 IsFieldFault fields (field_fault.Number i) = IsFaultyField fields i
 
--- either that, or the record hasn't as many fields as the version has columns
+-- either that, or the number of the record's fields isn't that of the version's columns
 abbrev pub IsPathRecordFault : PathVersion → Fields → FieldFault → Type 0
 IsPathRecordFault version fields field_fault.Count = length fields ≢ path_column_count version
 IsPathRecordFault version fields (field_fault.Number i) = (length fields ≡ path_column_count version) × IsFaultyField fields i

@@ -21,7 +21,7 @@ abbrev pub held_end : Position → List HeldSpan → Option Position
 held_end at [] = None
 held_end at (held ∷ table) = Some (cond (is_below at (whole held.low)) (whole held.low) (whole held.high))
 
--- a stretch that was found, told by path
+-- a stretch that was found, by path
 abbrev pub stretch_begun : (Answer → PathAnswer) → Begun → Stretch PathAnswer
 stretch_begun tell begun = record {
   position = begun.position;

@@ -50,7 +50,7 @@ pub record IsOfFirst (answer : AnswerByPath) (table : List HeldSpan) : Type 0 wh
   pub table_is : table ≡ first ∷ more
   pub answer_is : answer ≡ first.answer
 
--- Of the files in these slots it is told rightly whether they have the path of the first span, if there is one.
+-- For the files in these slots, it is remembered correctly whether they have the path of the first span, if there is one.
 abbrev pub AreToldOfFirst : (ℕ → ℕ → List ℕ) → List HeldSpan → List (Option ToldFile) → Type 0
 AreToldOfFirst path [] slots = Unit {0}
 AreToldOfFirst path (first ∷ table) slots = AreTold path first.answer.path.items slots
@@ -66,8 +66,8 @@ held_runs at table = length table + length table + held_gap at table
 
 -- ---- both sides
 
--- These stretches were given, and the spans from there on are still to come, where these are the paths of the files of
--- units. What is remembered of paths is right.
+-- These stretches were given, and the spans from there on are still to come, if these are the paths of the files of units.
+-- What is remembered of paths is correct.
 pub record HasToldByPath {S : Type 0} (to_come : S → List Span → Type 0) (path : ℕ → ℕ → List ℕ) (differences : DifferencesByPath S)
     (by_section by_table : Position → Option PathAnswer) (told : List (Stretch PathAnswer)) : Type 0 where
   pub section : IsSectionAt to_come (path_answer differences.version path) differences.section differences.at by_section
@@ -77,7 +77,7 @@ pub record HasToldByPath {S : Type 0} (to_come : S → List Span → Type 0) (pa
   pub files : AreToldOfFirst path differences.table.now differences.told.slots
   pub compared : AreCompared path differences.compared.slots
 
--- An upper bound on the stretches that are left to give, where the function bounds the spans that are left in the section's
+-- An upper bound on the stretches that are left to give, if the function bounds the spans that are left in the section's
 -- source. Each stretch begins where a run of one side does, so the runs left on both sides are added up.
 abbrev pub path_stretches_left : {S : Type 0} → (S → ℕ) → DifferencesByPath S → ℕ
 path_stretches_left of_section differences =

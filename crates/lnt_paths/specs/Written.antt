@@ -37,16 +37,16 @@ pub record IsCanonicalPathTable (version : PathVersion) (answers : Position → 
   pub table : IsPathTableOf version bytes spans
   pub plain : IsPlainPathTable version bytes spans
 
--- No table can tell the canonical spans with these answers: this is the least position at which one begins or ends with an
--- operation index other than 0.
+-- No table can contain the canonical spans with these answers: this is the least position at which one begins or ends with
+-- an operation index other than 0.
 pub record HasOperationIndex (answers : Position → Option PathAnswer) (position : Position) : Type 0 where
   pub spans : List PathSpan
   pub canonical : AreCanonicalOf answers spans
   pub least : IsLeastOperation spans position
 
--- The writer has gained a front of the header and the lines of the first canonical spans with these answers. Every whole table of them
--- begins with what it has gained. It has gained nothing, or all of these spans begin and end at operation index 0, so that there is a
--- whole table of them wherever their numbers are of at most 64 bits.
+-- What was written is a prefix of the header and the lines of the first canonical spans with these answers. Every whole table of them
+-- begins with it. It is empty, or all of these spans begin and end at operation index 0, so that there is a whole table of them if
+-- their numbers have at most 64 bits.
 pub record BeginsPathTable (version : PathVersion) (answers : Position → Option PathAnswer) (old new : Option (List ℕ)) : Type 0 where
   pub spans : List PathSpan
   pub canonical : AreCanonicalOf answers spans
@@ -59,8 +59,8 @@ pub record BeginsPathTable (version : PathVersion) (answers : Position → Optio
   pub of_whole : (bytes : List ℕ) → IsCanonicalPathTable version answers bytes → AppendsFront old new bytes
   pub decided : Keeps old new ⊎ AllByRecursion IsPathSpanOfInstructions spans
 
--- What came of writing the table of these answers, and what the writer has gained: exactly the bytes of the table, or
--- nothing where there can't be one.
+-- The result of writing the table of these answers, and what was written: exactly the bytes of the table, or nothing if
+-- there can't be one.
 abbrev pub HasBecome : PathVersion → (Position → Option PathAnswer) → Option (List ℕ) → Option (List ℕ) → PathTable → Type 0
 HasBecome version answers old new Written = (bytes : List ℕ) × Appends old new bytes × IsCanonicalPathTable version answers bytes
 HasBecome version answers old new (OperationIndex position) = Keeps old new × HasOperationIndex answers position

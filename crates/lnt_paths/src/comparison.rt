@@ -34,12 +34,12 @@ use std::alloc::{AllocError, Global};
 ///
 /// As long as the table's lines have nothing in quotes, they are parsed in one pass over their bytes; the records after
 /// these are read one by one by `csv`. None is kept. `Same`: the bytes are a table by path that answers at every position as
-/// the spans do, told by path as the table's version tells: paths are compared byte for byte. `Fault`: the bytes are not
-/// such a table. The first faulty record is reported, even if answers differed before it. `Differs`: all records are well
-/// formed, and the answers differ at this position and at no lower one; both are told in the table's version.
+/// the spans do, with paths, in the fields of the table's version: paths are compared byte for byte. `Fault`: the bytes are
+/// not such a table. The first faulty record is reported, even if answers differed before it. `Differs`: all records are
+/// well formed, and the answers differ at this position and at no lower one; both are reported in the table's version.
 ///
 /// No list of the spans is made, and a path is made again only after another file took its slot in a cache. The caller makes
-/// sure that the spans are in order and none is empty. The one error is that memory ran out.
+/// sure that the spans are in order and none is empty. Fails only if memory runs out.
 pub fn compare_by_path<S: SpanSource + Drop, P: Paths>(
     alloc: Global,
     table: &[u8],
@@ -105,7 +105,7 @@ fn compare_after<S: SpanSource + Drop, P: Paths>(
     )
 }
 
-// Compares the records that the reader has left, but for the first one, each read into `row`.
+// Compares the remaining records of the reader except the first one, each read into `row`.
 fn compare_records<S: SpanSource + Drop, P: Paths>(
     alloc: Global,
     reader: &mut Reader<&[u8]>,
@@ -143,11 +143,11 @@ fn compare_records<S: SpanSource + Drop, P: Paths>(
 pub(crate) struct PathComparison<S> {
     pub(crate) section: Section<S>,
     pub(crate) known: KnownPaths,
-    // the address where the last record ends; 0 where there is none
+    // the address where the last record ends; 0 if there is none
     pub(crate) at: u64,
     // the first difference below `at`
     pub(crate) first: Option<DifferenceByPath>,
-    // the number of records so far, the header included, which is the number of the next record
+    // the number of records so far, including the header, which is the number of the next record
     pub(crate) count: u64,
 }
 
@@ -235,7 +235,7 @@ impl<S: SpanSource + Drop> PathComparison<S> {
         Ok(None)
     }
 
-    // The least position at which the section and the table answer differently, once no record follows. None where they
+    // The least position at which the section and the table answer differently, once no record follows. `None` if they
     // answer alike at every position.
     fn finish<P: Paths>(
         &mut self,
@@ -267,7 +267,7 @@ impl<S: SpanSource + Drop> PathComparison<S> {
     }
 }
 
-// An answer of a section, told by path.
+// An answer of a section, with its path.
 pub(crate) fn told_of<P: Paths>(
     alloc: Global,
     paths: &P,
@@ -284,7 +284,7 @@ pub(crate) fn told_of<P: Paths>(
     })
 }
 
-// The answer of a record, with a path of its own.
+// The answer of a record, with an owned path.
 pub(crate) fn said_of(alloc: Global, said: &PathRecord<'_>) -> Result<AnswerByPath, AllocError>
     ensures { IfOk result (λ told. told_path_answer told ≡ record_answer said.now) }
 {
@@ -296,7 +296,7 @@ pub(crate) fn said_of(alloc: Global, said: &PathRecord<'_>) -> Result<AnswerByPa
     })
 }
 
-// A difference between a section and a record, with both answers told by path.
+// A difference between a section and a record, with the paths of both answers.
 fn difference_of<P: Paths>(
     alloc: Global,
     paths: &P,

@@ -23,7 +23,7 @@ pub(crate) struct PathField {
     text: Vec<u8>,
 }
 
-// A cache of fields, one in each slot, which the file number selects. It pays since code goes back and forth between files.
+// A cache of fields, one in each slot, which the file number selects. It pays off since code alternates between files.
 #[derive(Drop)]
 pub(crate) struct PathFields {
     slots: Vec<Option<PathField>>,
@@ -108,13 +108,13 @@ pub(crate) fn calls_for_quotes(byte: u8) -> bool
     byte == b',' || byte == b'"' || byte == b'\r' || byte == b'\n'
 }
 
-// A record of the path and an empty field: less its line feed, that is the field with a comma.
+// A record of the path and an empty field: without its line feed, that is the field with a comma.
 fn record_of(alloc: Global, path: &[u8]) -> Result<Vec<u8>, AllocError>
     ensures { IfOk result (λ text. text.items ≡ row_text default_writer (path.now ∷ [] ∷ [])) }
 {
     let mut record = Writer::from_writer(Vec::new(alloc));
     let fields = [path, b"".as_slice()];
-    // A vector refuses a record only for want of memory.
+    // Writing to a vector fails only if memory runs out.
     match record.write_fields(&fields) {
         Ok(()) => {}
         Err(_) => return Err(AllocError),

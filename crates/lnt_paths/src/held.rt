@@ -28,10 +28,10 @@ pub struct HeldSpan {
     pub(crate) answer: AnswerByPath,
 }
 
-/// What the bytes of a table by path came to.
+/// What the bytes of a table by path are.
 #[derive(Drop)]
 pub enum HeldTable {
-    /// They are not a table by path: this is the first fault.
+    /// They aren't a table by path: this is the first fault.
     Fault(TableFault),
     /// They are a table of this version with these spans, in order.
     Table(PathVersion, Vec<HeldSpan>),
@@ -41,7 +41,7 @@ pub enum HeldTable {
 ///
 /// `Table`: the bytes are a table by path of that version, and these are all of its spans. `Fault`: the bytes are not such a
 /// table; the first faulty record is reported, as `compare_by_path` reports it. All records are read by `csv`. The spans
-/// held are in order. The one error is that memory ran out; then nothing is held.
+/// held are in order. Fails only if memory runs out; then nothing is held.
 #[inline(never)]
 pub fn hold_table(alloc: Global, table: &[u8]) -> Result<HeldTable, AllocError>
     ensures held { IfOk result (λ held. IsHeld table.now held) }
@@ -118,7 +118,7 @@ fn hold_record(
     Ok(None)
 }
 
-// The address where the last span ends; 0 where there is none.
+// The address where the last span ends; 0 if there is none.
 fn end_of(spans: &[HeldSpan]) -> u64
     ensures { whole result ≡ path_end (map held_span spans.now) }
 {

@@ -89,7 +89,7 @@ fn goes_on<P: Paths>(
     compared.same_path(alloc, paths, &last.answer, &span.answer)
 }
 
-// Whether two answers have the same line, and the same column if the version tells it.
+// Whether two answers have the same line, and the same column if the version has columns.
 pub(crate) fn same_place(version: PathVersion, one: &Answer, other: &Answer) -> bool
     ensures { MatchBool result ((one.now.line ≡ other.now.line)
         × (told_column version one.now.column ≡ told_column version other.now.column))

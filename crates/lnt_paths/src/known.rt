@@ -42,7 +42,7 @@ impl KnownPaths {
         Ok(KnownPaths { slots })
     }
 
-    // Whether the file that an answer names has this path, byte for byte. It is remembered of some files whether they do.
+    // Whether the file that an answer names has this path, byte for byte. The result is remembered for some files.
     #[inline(always)]
     pub(crate) fn has_told_path<P: Paths>(
         &mut self,

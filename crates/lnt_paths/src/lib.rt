@@ -1,9 +1,9 @@
-//! Address tables by path: a section's answers with the whole path of their file, in place of a unit and a file number.
+//! Address tables by path: a section's answers with the full path of their file, instead of a unit and a file number.
 //!
 //! Record 0 is the header: `low,high,path,line,column` in version 3, and the same without `,column` in version 4. Each later
-//! record is a span: `low` and `high` are addresses, for the positions at operation index 0, `path` is any bytes, quoted
-//! where they need it, and the other fields are decimal numbers. [`write_by_path`] writes the one shortest table for the
-//! spans of a source.
+//! record is a span: `low` and `high` are addresses, for the positions at operation index 0, `path` is any bytes, quoted if
+//! necessary, and the other fields are decimal numbers. [`write_by_path`] writes the one shortest table for the spans of a
+//! source.
 #![tactic(auto)]
 
 mod answer;

@@ -145,7 +145,8 @@ impl Apart {
     }
 }
 
-// Whether the answer of a section, told by path, is that of a record. It is told of some files whether they have its path.
+// Whether the answer of a section, with its path, is that of a record. The comparison of paths is remembered for some
+// files.
 fn answers_so<P: Paths>(
     alloc: Global,
     paths: &P,
@@ -168,7 +169,7 @@ fn answers_so<P: Paths>(
     known.has_told_path(alloc, paths, told, answer, said.path)
 }
 
-// The column, if the version tells it.
+// The column, if the version has columns.
 pub(crate) fn column_in(version: PathVersion, column: u64) -> Option<u64>
     ensures { result ≡ told_column version column }
 {

@@ -9,7 +9,7 @@ use crate::record::PathRecord;
 use crate::version::PathVersion;
 use lnt_digits::{address_until, decimal_until, past};
 
-// Parses the line at `at`; gives its record and the index of the next line. None leaves the line to `csv`. `last` is the
+// Parses the line at `at`; gives its record and the index of the next line. `None` leaves the line to `csv`. `last` is the
 // path of the line before; it is tried first, since most lines repeat it.
 #[inline(always)]
 pub(crate) fn line_at<'t>(
@@ -73,7 +73,7 @@ fn plain_field<'t>(text: &'t [u8]) -> Option<(&'t [u8], usize)>
     None
 }
 
-// Parses the line in the file, the column if the version tells it, and the line feed; gives the next index.
+// Parses the line in the file, the column if the version has columns, and the line feed; gives the next index.
 #[inline(always)]
 fn place_at(table: &[u8], at: usize, version: PathVersion) -> Option<((u64, Option<u64>), usize)>
     ensures { IfSome result (λ found. IsPlace version found.0.0 found.0.1 (drop at table.now) (drop found.1 table.now)) }

@@ -22,7 +22,7 @@ pub(crate) struct PathRecord<'r> {
     pub(crate) high: u64,
     pub(crate) path: &'r [u8],
     pub(crate) line: u64,
-    // None where the version doesn't tell it
+    // `None` if the version has no columns
     pub(crate) column: Option<u64>,
 }
 
@@ -99,7 +99,7 @@ fn record_in<'r>(row: &'r ByteRecord, version: PathVersion) -> Result<PathRecord
     })
 }
 
-// The column, which only version 3 tells.
+// The column, which only version 3 has.
 fn column_in(row: &ByteRecord, version: PathVersion) -> Result<Option<u64>, FieldFault>
     requires count { length (fields_of row.now) ≡ path_column_count version }
     requires before { AreSoundUpTo (fields_of row.now) 4 }

@@ -1,4 +1,4 @@
-//! Remembers how paths compared, so that code that goes back and forth between files doesn't have them made again.
+//! Remembers how paths compared, so that they aren't made again for code that alternates between files.
 ghost use Rattle.std.specs.Prelude.{◌≡◌, ◌≢◌, ◌<◌, ℕ, List, IfOk, IfSome, OnOk};
 ghost use Rattle.std.specs.Bool.{MatchBool};
 ghost use Rattle.lnt_paths.specs.Compared.{AreCompared, AreTold};
@@ -40,7 +40,7 @@ pub(crate) struct ToldFiles {
 }
 
 impl ToldFiles {
-    // Nothing of any file.
+    // Nothing is remembered of any file.
     #[inline(always)]
     pub(crate) fn none() -> ToldFiles
         ensures { (path : ℕ → ℕ → List ℕ) (target : List ℕ) → AreTold path target result.slots }
@@ -64,7 +64,7 @@ impl ToldFiles {
         None
     }
 
-    // Whether the file that an answer names has this path, byte for byte. It is remembered of some files whether they do.
+    // Whether the file that an answer names has this path, byte for byte. The result is remembered for some files.
     pub(crate) fn has_path<P: Paths>(
         &mut self,
         alloc: Global,
@@ -114,7 +114,7 @@ pub(crate) struct ComparedPaths {
 }
 
 impl ComparedPaths {
-    // Nothing of any files.
+    // Nothing is remembered of any files.
     pub(crate) fn none() -> ComparedPaths
         ensures { (path : ℕ → ℕ → List ℕ) → AreCompared path result.slots }
     {

@@ -1,7 +1,7 @@
-//! The versions of tables by path, and what came of writing one.
+//! The versions of tables by path, and the result of writing one.
 use lnt_spans::Position;
 
-/// How much of an answer an address table by path tells.
+/// Which parts of an answer an address table by path contains.
 #[derive(Clone, Copy, Debug, PartialEq, Eq)]
 pub enum PathVersion {
     /// Version 3: path, line and column.
@@ -10,12 +10,12 @@ pub enum PathVersion {
     Four,
 }
 
-/// What came of writing a table.
+/// The result of writing a table.
 #[derive(Clone, Copy, Debug, PartialEq, Eq)]
 pub enum PathTable {
     /// It was written.
     Written,
     /// 43: one of its spans begins or ends at this position, whose operation index isn't 0, and none does so at a lower
-    /// position. A table by path can't say this, and nothing was written.
+    /// position. A table by path can't express this, and nothing was written.
     OperationIndex(Position),
 }

@@ -24,21 +24,20 @@ use std::alloc::Global;
 use std::io::Write;
 
 /// Writes the table by path of the spans of a source, line by line, as they come. Another source gives spans that answer the
-/// same; by these it is decided first whether there is such a table. The spans of both must be in order, and none empty.
-/// Only one span of each source is kept at a time. The writer should gather what it is given, as `BufWriter` does, to make
-/// this fast.
+/// same; they decide first whether there is such a table. The spans of both must be in order, and none empty. Only one span
+/// of each source is kept at a time. The writer should be buffered, like `BufWriter`, to make this fast.
 ///
-/// On `Written`, the writer has gained bytes that are a table of exactly the canonical spans that answer as the spans do,
-/// told by path: the one shortest table that does. Spans that touch are joined if their path, line and, in version 3, column
-/// are the same, whatever units they are of.
+/// On `Written`, the bytes that were written are a table of exactly the canonical spans that answer as the spans do, with
+/// paths: the one shortest table that does. Adjacent spans are joined if their path, line and, in version 3, column are the
+/// same, even if their units differ.
 ///
-/// It gives `OperationIndex` (43) exactly where one of these canonical spans begins or ends at an operation index other than
-/// 0; then nothing was written.
+/// It returns `OperationIndex` (43) exactly when one of these canonical spans begins or ends at an operation index other
+/// than 0; then nothing was written.
 ///
-/// It stops with `Memory` (33) where memory ran out, and with `Write` (42) where the writer refused some bytes; then the
-/// writer has gained a front of the header and the lines of the first canonical spans. It has gained nothing unless all of these
-/// spans begin and end at operation index 0, so that there is a whole table of them. No contract of a writer says when it
-/// refuses, so no clause says that `Write` comes only then.
+/// Stops with `Memory` (33) if memory ran out, and with `Write` (42) if the writer failed; then a prefix of the header and the
+/// lines of the first canonical spans has been written. Nothing has been written unless all of these spans begin and end at
+/// operation index 0, so that there is a whole table of them. No contract of a writer says when it fails, so no clause says that
+/// `Write` is returned only then.
 pub fn write_by_path<S: SpanSource + Drop, P: Paths, W: Write>(
     alloc: Global,
     judged: S,
@@ -66,7 +65,7 @@ pub fn write_by_path<S: SpanSource + Drop, P: Paths, W: Write>(
 /// Does the same for spans that all begin and end at operation index 0: then there always is a table, nothing is decided
 /// first, and one source is enough.
 ///
-/// The caller makes sure that they do, that they are in order and that none is empty. It stops as `write_by_path` does.
+/// The caller makes sure that they do, that they are in order and that none is empty. Stops as `write_by_path` does.
 pub fn write_instructions_by_path<S: SpanSource + Drop, P: Paths, W: Write>(
     alloc: Global,
     spans: S,

@@ -19,8 +19,8 @@ use Rattle.lnt_records.specs.declared.remaining.Remaining.{Remaining}
 use Rattle.lnt_records.specs.Faults.{IsFault}
 use Rattle.lnt_records.specs.Table.{BeginsWith, IsTableOf, column_names}
 
--- The bytes are a table, and `differences` is about to give the stretches at which it and the section answer differently, as
--- far as the table's version tells; none was given yet.
+-- The bytes are a table, and `differences` is about to give the stretches at which it and the section answer differently, in
+-- the fields of the table's version; none was given yet.
 pub record DiffersAlong {S T : Type 0} (of_section : S → List Span → Type 0) (of_table : T → List Span → Type 0) (bytes : List ℕ)
     (section : Position → Option Answer) (differences : Differences S T) : Type 0 where
   pub version : Version

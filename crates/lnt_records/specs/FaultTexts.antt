@@ -1,4 +1,4 @@
--- What is said of a faulty table, and why one wasn't written, as their types print it.
+-- What is wrong with a faulty table, and why one wasn't written, as their types print it.
 use Rattle.std.specs.Prelude.{List, ℕ, ◌++◌, codes, decimal}
 use Rattle.lnt_records.specs.declared.fault.TableFault.{TableFault}
 use Rattle.lnt_records.specs.declared.fault.TableFault.TheVariants.{Header, Fields, Number, Order}

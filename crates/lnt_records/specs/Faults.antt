@@ -50,14 +50,14 @@ IsFault bytes (fault.Order k) = HasFaultyRecord bytes (fault.Order k)
 
 -- ---- a comparison
 
--- The bytes are a table, and this is the least difference from the section, as the table's version tells answers.
+-- The bytes are a table, and this is the least difference from the section, in the fields of the table's version.
 pub record DiffersSo (bytes : List ℕ) (section : List Span) (difference : Difference) : Type 0 where
   pub version : Version
   pub table : List Span
   pub is_table : IsTableOf version bytes table
   pub least : IsLeastDifference (version_answer version section) (span_answer table) difference
 
--- The bytes are a table that answers at every position as the section does, as far as the table's version tells.
+-- The bytes are a table that answers at every position as the section does, in the fields of the table's version.
 pub record AnswersAs (bytes : List ℕ) (section : List Span) : Type 0 where
   pub version : Version
   pub table : List Span

@@ -12,7 +12,7 @@ use Rattle.lnt_records.specs.Written.{following, line_text}
 
 -- ---- what the bytes begin with, and what is after it
 
--- the two fields of a position, each with a comma after it, in these spellings of addresses and numbers; then `rest`
+-- the two fields of a position, each with a comma after it, in these encodings of addresses and numbers; then `rest`
 pub record IsPosition (Address Number : List ℕ → ℕ → Type 0) (position : Position) (bytes rest : List ℕ) : Type 0 where
   pub address : List ℕ
   pub op : List ℕ
@@ -56,13 +56,13 @@ pub record IsAnswer (Number : List ℕ → ℕ → Type 0) (version : Version) (
   pub is_stmt_is : IsFlag is_stmt answer.is_stmt
   pub more_are : AreMoreFields Number version more answer.more
 
--- the line of a span in these spellings, then `rest`
+-- the line of a span in these encodings, then `rest`
 pub record SaysLine (Address Number : List ℕ → ℕ → Type 0) (version : Version) (span : Span) (bytes rest : List ℕ) : Type 0 where
   pub fields : Fields
   pub joined : bytes ≡ line_text fields ++ rest
   pub says : SaysSpan Address Number version fields span
 
--- the line of a span in any spelling, then `rest`
+-- the line of a span in any encoding, then `rest`
 abbrev pub IsTextLine : Version → Span → List ℕ → List ℕ → Type 0
 IsTextLine version span bytes rest = SaysLine IsAddress IsDecimal version span bytes rest
 

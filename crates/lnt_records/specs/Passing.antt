@@ -15,15 +15,15 @@ use Rattle.lnt_records.specs.Written.{lines_text}
 
 -- ---- the bytes
 
--- Bytes were taken from a source into a window, and the ones in `passed` were passed: the window had `before` and has
--- `after`, the source had `old` to give and has `new`, and it may give `may_still` bytes of the `may_give` before.
+-- Bytes were taken from a source into a window, and the ones in `passed` were skipped: the window had `before` and has
+-- `after`, the source had `old` and has `new`, and it may give `may_still` bytes of the `may_give` before.
 pub record Passes (old new : Option (List ℕ)) (may_give may_still : ℕ) (before after passed : List ℕ) : Type 0 where
   pub given : List ℕ
   pub joined : before ++ given ≡ passed ++ after
   pub pulls : Pulls old new given
   pub count : may_still + length given ≡ may_give
 
--- `all` consists of the bytes before and all that the source has to give.
+-- `all` consists of the bytes before and all from the source.
 pub record Ends (old : Option (List ℕ)) (may_give : ℕ) (before all : List ℕ) : Type 0 where
   pub given : List ℕ
   pub joined : all ≡ before ++ given
@@ -39,7 +39,7 @@ pub record AreLines (version : Version) (text : List ℕ) (table : List Span) (c
   pub each : AllZip (IsSpanRecord version) records table
   pub count_is : count ≡ length records + 1
 
--- The merge has compared spans that answer as the section does, as far as the version tells, with the records in `table`.
+-- The merge has compared spans that answer as the section does, in the fields of the version, with the records in `table`.
 pub record Follows {S : Type 0} (to_come : S → List Span → Type 0) (merge : Merging S) (version : Version)
     (section table : List Span) : Type 0 where
   pub spans : List Span
@@ -55,10 +55,10 @@ pub record HasPassed {S : Type 0} (to_come : S → List Span → Type 0) (merge 
   pub lines : AreLines version text table count
   pub follows : Follows to_come merge version section table
 
--- ---- where canonical spans leave off
+-- ---- where the lines of canonical spans end
 
--- The lines in `text` are the first spans of a list in order that answers as the section does, as far as the version tells.
--- The list's other spans are to come, and the last span of the lines ends at `end`.
+-- The lines in `text` are the first spans of a list in order that answers as the section does, in the fields of the
+-- version. The list's other spans are to come, and the last span of the lines ends at `end`.
 pub record LeavesOff (ToCome : List Span → Type 0) (version : Version) (section : List Span) (text : List ℕ) (count : ℕ)
     (end : Position) : Type 0 where
   pub table : List Span

@@ -33,7 +33,7 @@ abbrev pub IsColumnFault : Fields → RecordFault → Type 0
 IsColumnFault fields record_fault.Fields = ⊥
 IsColumnFault fields (record_fault.Number i) = IsFaultyColumn fields i
 
--- either that, or the record hasn't as many fields as the version has columns
+-- either that, or the number of the record's fields isn't that of the version's columns
 abbrev pub IsRecordFault : Version → Fields → RecordFault → Type 0
 IsRecordFault version fields record_fault.Fields = length fields ≢ column_count version
 IsRecordFault version fields (record_fault.Number i) = (length fields ≡ column_count version) × IsFaultyColumn fields i
@@ -65,13 +65,13 @@ pub record Judges {S : Type 0} (to_come : S → List Span → Type 0) (compariso
 
 -- ---- lines that are added
 
--- The line of the span was added.
+-- The line of the span was appended.
 pub record AddsRecord (version : Version) (span : Span) (old new : List ℕ) : Type 0 where
   pub fields : Fields
   pub joined : new ≡ old ++ line_text fields
   pub plain : IsPlainRecord version fields span
 
--- A line for each of the spans was added.
+-- A line for each of the spans was appended.
 pub record AddsRecords (version : Version) (spans : List Span) (old new : List ℕ) : Type 0 where
   pub records : List Fields
   pub joined : new ≡ old ++ lines_text records
@@ -84,7 +84,7 @@ abbrev pub IsGathered : List ℕ → Version → List Span → Gathered → Type
 IsGathered bytes version table (gathered.Fault told) = IsFault bytes told
 IsGathered bytes version table (gathered.Spans spans) = IsTableOf version bytes (table ++ spans.items)
 
--- The spans in `table` and then `rest` are in order and answer as the section does, as the version tells answers; the ones
+-- The spans in `table` and then `rest` are in order and answer as the section does, in the fields of the version; the ones
 -- in `table` end at `at`.
 pub record IsContinuedBy (version : Version) (section : Position → Option Answer) (table rest : List Span) (at : Position) : Type 0 where
   pub order : AreInOrder (table ++ rest)

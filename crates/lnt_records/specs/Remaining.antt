@@ -1,4 +1,4 @@
--- The spans that a source has left, where it may be known to have none.
+-- The spans that a source has left. It may be known to have none.
 use Rattle.std.specs.Prelude.{◌≡◌, Bool, true, false, List, []}
 use Rattle.lnt_spans.specs.declared.span.Span.{Span}
 

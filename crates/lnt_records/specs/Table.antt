@@ -67,7 +67,7 @@ AreMore Number One fields more = more ≡ None
 AreMore Number Two fields None = ⊥
 AreMore Number Two fields (Some more) = Number (get_or fields 9 []) more.isa × Number (get_or fields 10 []) more.discriminator
 
--- A record of the span, in these spellings of addresses and numbers.
+-- A record of the span, in these encodings of addresses and numbers.
 pub record SaysSpan (Address Number : List ℕ → ℕ → Type 0) (version : Version) (fields : Fields) (span : Span) : Type 0 where
   pub count : length fields ≡ column_count version
   pub low : Address (get_or fields 0 []) span.low.address
@@ -81,7 +81,7 @@ pub record SaysSpan (Address Number : List ℕ → ℕ → Type 0) (version : Ve
   pub is_stmt : IsFlag (get_or fields 8 []) span.answer.is_stmt
   pub more : AreMore Number version fields span.answer.more
 
--- A record of the span in any spelling.
+-- A record of the span in any encoding.
 abbrev pub IsSpanRecord : Version → Fields → Span → Type 0
 IsSpanRecord version fields span = SaysSpan IsAddress IsDecimal version fields span
 

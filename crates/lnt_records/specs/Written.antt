@@ -12,7 +12,7 @@ use Rattle.lnt_spans.specs.declared.span.Span.{Span}
 use Rattle.lnt_spans.specs.Spans.{IsCanonical, span_answer, version_answer}
 use Rattle.lnt_records.specs.Table.{Fields, IsTableOf, SaysSpan, column_names}
 
--- The answer has exactly what the version tells.
+-- The answer has exactly the fields of the version.
 abbrev pub IsOfVersion : Version → Answer → Type 0
 IsOfVersion One answer = answer.more ≡ None
 IsOfVersion Two answer = (more : More) × (answer.more ≡ Some more)
@@ -50,19 +50,19 @@ pub record IsWrittenTable (version : Version) (bytes : List ℕ) (spans : List S
 abbrev pub TellsAll : Span → Type 0
 TellsAll span = IsOfVersion Two span.answer
 
--- The bytes are a table, on plain lines, of the canonical spans that answer as the given ones do, as the version tells
--- answers.
+-- The bytes are a table, on plain lines, of the canonical spans that answer as the given ones do, in the fields of the
+-- version.
 pub record IsCanonicalTable (version : Version) (given : List Span) (bytes : List ℕ) : Type 0 where
   pub spans : List Span
   pub canonical : IsCanonical spans
   pub same : (p : Position) → span_answer spans p ≡ version_answer version given p
   pub written : IsWrittenTable version bytes spans
 
--- ---- tables whose writing was stopped
+-- ---- tables whose writing stopped
 --     old, new    the known bytes that the writer holds before and afterwards
 
--- The writer has gained a front of the header and the lines of the first of these spans. Every table of the spans on plain lines
--- begins with what it has gained.
+-- What was written is a prefix of the header and the lines of the first of these spans. Every table of the spans on plain lines
+-- begins with it.
 pub record BeginsTable (version : Version) (spans : List Span) (old new : Option (List ℕ)) : Type 0 where
   pub first : List Span
   pub rest : List Span
@@ -72,8 +72,8 @@ pub record BeginsTable (version : Version) (spans : List Span) (old new : Option
   pub front : AppendsFront old new (lines_text (column_names version ∷ records))
   pub of_whole : (bytes : List ℕ) → IsPlainTable version bytes spans → AppendsFront old new bytes
 
--- The same for the canonical spans that answer as the given ones do, as the version tells answers: every table of them on plain lines
--- begins with what the writer has gained.
+-- The same for the canonical spans that answer as the given ones do, in the fields of the version: every table of them on plain lines
+-- begins with what was written.
 pub record BeginsCanonicalTable (version : Version) (given : List Span) (old new : Option (List ℕ)) : Type 0 where
   pub spans : List Span
   pub canonical : IsCanonical spans

@@ -15,16 +15,16 @@ use lnt_spans::{Joiner, Span, SpanSource, Version};
 use std::alloc::{AllocError, Global};
 use std::io::Write;
 
-/// Writes the table of the spans of a source, block by block, as they come. Spans that touch and have the same answer, as
-/// the version tells answers, are joined first.
+/// Writes the table of the spans of a source, block by block, as they come. Adjacent spans with the same answer, narrowed
+/// to what the version contains, are joined first.
 ///
-/// On Ok, the writer has gained bytes that are a table of exactly the canonical spans: the one shortest table that answers
-/// as the spans do, as far as the version tells. Each record is on a line of its own, as `write_spans` writes it. Only one
-/// span is kept at a time.
+/// On Ok, the bytes that were written are a table of exactly the canonical spans: the one shortest table with the answers
+/// of the spans, narrowed to what the version contains. Each record is on a line of its own, as `write_spans` writes it.
+/// Only one span is kept at a time.
 ///
 /// The caller makes sure that the spans are in order, that none is empty, and that each answer has an instruction set and a
-/// discriminator. It stops as `write_spans` does: then the writer has gained a front of the header and the lines of the
-/// first canonical spans.
+/// discriminator. Stops as `write_spans` does: then a prefix of the header and the lines of the first canonical spans has
+/// been written.
 pub fn write_canonical<S: SpanSource + Drop, W: Write>(
     alloc: Global,
     spans: S,

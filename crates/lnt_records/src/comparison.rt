@@ -32,12 +32,12 @@ pub enum Compared {
 /// Compares the table in these bytes with the spans of a section.
 ///
 /// The records are read one by one, as `csv` reads them, and none is kept. `Same`: the bytes are a table that answers at
-/// every position as the spans do, as far as the table's version tells: in version 1 the spans' instruction sets and
+/// every position as the spans do, in the fields of the table's version: in version 1 the spans' instruction sets and
 /// discriminators don't count. `Fault`: the bytes are not a table. The first faulty record is reported, even if answers
 /// differed before it. `Differs`: all records are well formed, and the answers differ at this position and at no lower one;
-/// both are told in the table's version.
+/// both are reported in the table's version.
 ///
-/// The caller makes sure that the spans are in order and none is empty. The one error is that memory ran out.
+/// The caller makes sure that the spans are in order and none is empty. Fails only if memory runs out.
 pub fn compare(alloc: Global, table: &[u8], spans: &[Span]) -> Result<Compared, AllocError>
     requires { AreInOrder spans.now }
     ensures { IfOk result (λ compared. IsComparison table.now spans.now compared) }
@@ -75,8 +75,8 @@ pub(crate) fn header_of(alloc: Global, table: &[u8]) -> Result<Option<Version>, 
     read_header(&mut reader, &mut row)
 }
 
-// Compares the rest of a table. `text` is the table's header with the records after it, less some that the merge has already
-// compared with the spans; `count` is the number of these, the header included.
+// Compares the rest of a table. `text` is the table's header with the records after it, without those that the merge has
+// already compared with the spans; `count` is the number of these, including the header.
 pub(crate) fn compare_after<S: SpanSource + Drop>(
     alloc: Global,
     text: &[u8],
@@ -136,7 +136,7 @@ fn compare_rest<S: SpanSource + Drop>(
 pub(crate) struct Comparison<S> {
     pub(crate) merge: Merge<S>,
     pub(crate) version: Version,
-    // the number of records so far, the header included, which is the number of the next record
+    // the number of records so far, including the header, which is the number of the next record
     pub(crate) count: u64,
 }
 

@@ -33,14 +33,14 @@ pub enum Differing<S> {
 /// Compares the table of a source with the spans of a section, at every position.
 ///
 /// `Fault`: the bytes are not a table, as in `compare_table`. `Table`: they are one, and it gives the stretches at which the
-/// two answer differently, one after another, as the table's version tells answers.
+/// two answer differently, one after another, in the fields of the table's version.
 ///
 /// As long as the table's lines are those that `write_canonical` writes for the spans, they are compared as text, neither
 /// parsed nor held, as in `compare_table`. The records from there on are read by `csv` from bytes that are held all at once,
 /// and their spans are held: whether all records are well formed is known only at the end of the table.
 ///
 /// The caller makes sure that the spans are in order and none is empty, and that the number of the source's failures is
-/// below `u64::MAX`. It stops as `compare_table` does.
+/// below `u64::MAX`. Stops as `compare_table` does.
 pub fn compare_all<S: SpanSource + Drop, T: Source>(
     alloc: Global,
     table: &mut T,
@@ -75,7 +75,7 @@ pub enum DifferingRead<S> {
 }
 
 /// Compares a table as `compare_all` does, except one that names the columns of neither version: its bytes are given back,
-/// and nothing is said about them. So `Fault` is never the fault of a header. It stops as `compare_table` does.
+/// and nothing is said about them. So `Fault` is never the fault of a header. Stops as `compare_table` does.
 pub fn differ_or_take<S: SpanSource + Drop, T: Source>(
     alloc: Global,
     table: &mut T,

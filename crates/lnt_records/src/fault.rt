@@ -15,7 +15,7 @@ pub enum TableFault {
     Header,
     /// The number of fields in this record isn't the number of columns.
     Fields(u64),
-    /// In this record, this column is the first that holds no value of its kind.
+    /// In this record, this column is the first whose field isn't of its kind.
     Number(u64, u64),
     /// The span of this record is empty, or begins below the end of the span before it.
     Order(u64),
@@ -44,7 +44,7 @@ impl Error for TableFault {}
 pub enum WriteStop {
     /// Memory ran out.
     Memory,
-    /// The writer refused some bytes.
+    /// The writer failed.
     Write,
 }
 

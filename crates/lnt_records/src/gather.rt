@@ -23,9 +23,9 @@ pub(crate) enum Gathered {
     Spans(Vec<Span>),
 }
 
-// Gathers the spans of the rest of a table. `text` is the table's header with the records after it, less some that the merge
-// has already compared with spans; `count` is the number of these, the header included. Not inlined: a reader of records is
-// large, the stack is short, and no caller should hold it.
+// Gathers the spans of the rest of a table. `text` is the table's header with the records after it, without those that the
+// merge has already compared with spans; `count` is the number of these, including the header. Not inlined: a reader of
+// records is large, the stack is short, and no caller should hold it.
 #[inline(never)]
 pub(crate) fn gather_after<S: SpanSource + Drop>(
     alloc: Global,

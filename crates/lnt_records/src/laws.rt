@@ -17,7 +17,7 @@ pub fn one_fault()
     ensures { OneFault }
 {}
 
-/// A comparison of a section with a table that answers at every position as the section does, as far as its version tells,
+/// A comparison of a section with a table that answers at every position as the section does, in the fields of its version,
 /// has no other result than that.
 pub fn agreement()
     ensures { ComparisonAgrees }

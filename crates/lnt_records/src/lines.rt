@@ -64,7 +64,7 @@ pub(crate) fn pass_header(window: &mut Window) -> Option<Version>
     None
 }
 
-// Parses the line at `at`; gives its span and the index of the next line. None leaves the line to `csv`.
+// Parses the line at `at`; gives its span and the index of the next line. `None` leaves the line to `csv`.
 #[inline(always)]
 fn span_at(table: &[u8], at: usize, version: Version) -> Option<(Span, usize)>
     ensures { IfSome result (λ found. IsTextLine version found.0 (drop at table.now) (drop found.1 table.now)) }

@@ -14,7 +14,7 @@ use lnt_input::{Source, Stop};
 use lnt_spans::{Answer, Joiner, Merge, Position, Span, SpanSource, Version};
 use std::alloc::Global;
 
-// The state after these lines: the spans after those of the lines, the number of records so far, the header included, and
+// The state after these lines: the spans after those of the lines, the number of records so far, including the header, and
 // the end of the last record.
 #[derive(Drop)]
 pub(crate) struct Passed<S> {
@@ -79,7 +79,7 @@ fn pass_line(window: &mut Window, room: &mut [u8; ROOM], span: &Span, version: V
     window.pass_text(&room[start..])
 }
 
-// Whether an answer has exactly what the version tells.
+// Whether an answer has exactly the fields of the version.
 #[inline(always)]
 fn tells(answer: &Answer, version: Version) -> bool
     ensures { MatchBool result (IsOfVersion version answer.now) (IsOfVersion version answer.now → ⊥) }

@@ -21,8 +21,8 @@ pub fn reader_of<'a>(alloc: Global, bytes: &'a [u8]) -> Reader<&'a [u8]>
         .from_reader(alloc, bytes)
 }
 
-/// Reads the next record into `row`, and gives whether there was one. The reader must come from `reader_of`. The one error is
-/// that memory ran out: of bytes in memory, in records of any number of fields, `csv` has no other.
+/// Reads the next record into `row`, and gives whether there was one. The reader must come from `reader_of`. Fails only if
+/// memory runs out: of bytes in memory, in records of any number of fields, `csv` has no other.
 pub fn read_next(reader: &mut Reader<&[u8]>, row: &mut ByteRecord) -> Result<bool, AllocError>
     requires { (bytes : List ℕ) × (records : List Fields) × HasRead reader.old bytes records }
     ensures read { IfOk result (λ found. (bytes : List ℕ) (records : List Fields) → HasRead reader.old bytes records
@@ -36,7 +36,7 @@ pub fn read_next(reader: &mut Reader<&[u8]>, row: &mut ByteRecord) -> Result<boo
 }
 
 /// Reads record 0 into `row`, and gives whether there is one. The reader must come from `reader_of` and have read nothing
-/// yet. The bytes begin with no other record than that. The one error is that memory ran out, as in `read_next`.
+/// yet. The bytes begin with no other record than that. Fails only if memory runs out, as in `read_next`.
 pub fn read_first(reader: &mut Reader<&[u8]>, row: &mut ByteRecord) -> Result<bool, AllocError>
     requires { (bytes : List ℕ) × HasRead reader.old bytes [] }
     ensures { IfOk result (λ found. (bytes : List ℕ) → HasRead reader.old bytes [] → MatchBool found

@@ -7,8 +7,8 @@ ghost use Rattle.lnt_records.specs.Remaining.{AreLeft};
 
 use lnt_spans::{Span, SpanSource, Version};
 
-/// Gives up to two spans held here, then those of a source as the version tells them, unless that is known to have none
-/// left.
+/// Gives up to two spans held here, then those of a source, narrowed to what the version contains, unless the source is
+/// known to have none left.
 #[derive(Drop)]
 pub struct Remaining<S> {
     pub(crate) first: Option<Span>,

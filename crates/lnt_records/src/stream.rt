@@ -17,10 +17,10 @@ use std::alloc::{AllocError, Global};
 
 /// Compares the table of a source with the spans of a section, as both come.
 ///
-/// `Same`: the bytes are a table that answers at every position as the spans do, as far as the table's version tells: in
+/// `Same`: the bytes are a table that answers at every position as the spans do, in the fields of the table's version: in
 /// version 1 the spans' instruction sets and discriminators don't count. `Fault`: the bytes are not a table. The first
 /// faulty record is reported, even if answers differed before it. `Differs`: all records are well formed, and the answers
-/// differ at this position and at no lower one; both are told in the table's version.
+/// differ at this position and at no lower one; both are reported in the table's version.
 ///
 /// As long as the table's lines are those that `write_canonical` writes for the spans, they are compared as text and not
 /// parsed. The lines from there on are parsed one by one, as long as each is a well-formed record on a line of its own with
@@ -28,8 +28,8 @@ use std::alloc::{AllocError, Global};
 /// such lines neither the table nor the spans are held: it takes one block of memory.
 ///
 /// The caller makes sure that the spans are in order and none is empty, and that the number of the source's failures is
-/// below `u64::MAX`. It stops with `Memory`; with `Read` only where the source failed; and with `TooLong` only where the
-/// source has more bytes than it may give. The table is read to its end before a fault is reported.
+/// below `u64::MAX`. Stops with `Memory`; with `Read` only if the source failed; and with `TooLong` only if the source has
+/// more bytes than it may give. The table is read to its end before a fault is reported.
 pub fn compare_table<S: SpanSource + Drop, T: Source>(
     alloc: Global,
     table: &mut T,
@@ -60,7 +60,7 @@ pub enum TableRead {
 }
 
 /// Compares a table as `compare_table` does, except one that names the columns of neither version: its bytes are given back,
-/// and nothing is said about them. It stops as `compare_table` does.
+/// and nothing is said about them. Stops as `compare_table` does.
 pub fn compare_or_take<S: SpanSource + Drop, T: Source>(
     alloc: Global,
     table: &mut T,

@@ -9,7 +9,7 @@ use lnt_input::{BLOCK, Source, Stop, take_block};
 use std::alloc::{AllocError, Global};
 use std::marker::Model;
 
-// The bytes at hand: a block from index `at` on. Contracts see them as a list.
+// The current bytes: a block from index `at` on. Contracts see them as a list.
 #[derive(Drop)]
 pub(crate) struct Window {
     block: Vec<u8>,
@@ -37,7 +37,7 @@ impl Window {
         }
     }
 
-    // The bytes at hand.
+    // The current bytes.
     #[inline(always)]
     pub(crate) fn bytes(&self) -> &[u8]
         ensures { result.now ≡ self.now }
@@ -65,7 +65,7 @@ impl Window {
         is_next
     }
 
-    // Takes more bytes until `ROOM` are at hand, which hold a whole line, or the source has none left.
+    // Takes more bytes until there are `ROOM`, which contain a whole line, or the source has none left.
     #[inline(always)]
     pub(crate) fn fill<T: Source>(&mut self, alloc: Global, source: &mut T) -> Result<(), Stop>
         requires { T.failures source.old < 2 ^ 64 - 1 }
@@ -81,7 +81,7 @@ impl Window {
         self.refill(alloc, source)
     }
 
-    // The slow path of `fill`, not inlined: a new block begins with the bytes at hand.
+    // The slow path of `fill`, not inlined: a new block begins with the current bytes.
     #[inline(never)]
     fn refill<T: Source>(&mut self, alloc: Global, source: &mut T) -> Result<(), Stop>
         requires { T.failures source.old < 2 ^ 64 - 1 }
@@ -99,7 +99,7 @@ impl Window {
         Ok(())
     }
 
-    // The text, the bytes at hand, and all that the source has left, as one.
+    // The text, the current bytes, and all that the source has left, as one.
     pub(crate) fn rest_after<T: Source>(
         self,
         alloc: Global,

@@ -22,14 +22,14 @@ const BLOCK: usize = 1 << 16;
 
 /// Writes the table of some spans, block by block.
 ///
-/// On Ok, the writer has gained bytes that are a table of exactly these spans. Each record is on a line of its own that ends
-/// in a line feed, with addresses in lower case and no leading zeros.
+/// On Ok, the bytes that were written are a table of exactly these spans. Each record is on a line of its own that ends in a
+/// line feed, with addresses in lower case and no leading zeros.
 ///
-/// The caller makes sure that the spans are in order, that none is empty, and that each answer has exactly what the version
-/// tells: an instruction set and a discriminator in version 2, and neither in version 1. It stops with `Memory` where memory
-/// ran out, and with `Write` where the writer refused some bytes; then the writer has gained a front of the header and the
-/// lines of the first spans, and nothing else. No contract of a writer says when it refuses, so no clause says that `Write`
-/// comes only then.
+/// The caller makes sure that the spans are in order, that none is empty, and that each answer has exactly the fields of the
+/// version: an instruction set and a discriminator in version 2, and neither in version 1. Stops with `Memory` if memory ran
+/// out, and with `Write` if the writer failed; then a prefix of the header and the lines of the first spans has been
+/// written, and nothing else. No contract of a writer says when it fails, so no clause says that `Write` is returned only
+/// then.
 pub fn write_spans<W: Write>(
     alloc: Global,
     spans: &[Span],

@@ -1,4 +1,4 @@
--- Extents without copies, and an order in which copies stand together. No public contract speaks of it.
+-- Extents without copies, and an order in which copies are adjacent. No public contract speaks of it.
 use Rattle.std.specs.Prelude.{◌≡◌, ℕ, ◌+◌, ◌<◌, Bool, true, false, not, ◌&&◌, List, length, slice_index_or}
 use Rattle.std.specs.List.{filter, list_any}
 use Rattle.lnt_spans.specs.Positions.{IsAtMost}
@@ -10,7 +10,7 @@ use Rattle.lnt_sequences.specs.Sequences.{is_same, stands_before}
 abbrev pub end_alike : Extent → Extent → Bool
 end_alike one other = is_same one.low other.low && is_same one.high other.high
 
--- whether it is a copy among these: one that stands before it begins and ends at the same positions
+-- whether it is a copy among these: an earlier one begins and ends at the same positions
 abbrev pub is_copied : List Extent → Extent → Bool
 is_copied extents extent = list_any (λ (earlier : Extent). stands_before earlier.id extent.id && end_alike extent earlier) extents
 
@@ -24,7 +24,7 @@ pub record EndsNoLater (one other : Extent) : Type 0 where
   pub low : IsAtMost one.low other.low
   pub rest : one.low.address ≡ other.low.address → one.low.op ≡ other.low.op → IsNotLater one.high one.id other.high other.id
 
--- in this order, in which copies stand after what they are copies of
+-- in this order, in which copies come after their originals
 abbrev pub AreGathered : List Extent → Type 0
 AreGathered extents =
     (k : ℕ) (d : Extent) → k + 1 < length extents → EndsNoLater (slice_index_or extents k d) (slice_index_or extents (k + 1) d)

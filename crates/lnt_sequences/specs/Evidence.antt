@@ -1,4 +1,4 @@
--- Rows that break a rule, told by their index among all rows of the sequences of their unit.
+-- Rows that break a rule, by their index among all rows of the sequences of their unit.
 use Rattle.std.specs.Prelude.{◌≡◌, ℕ, ◌<◌, ◌≤◌, true, false, List, ◌∷◌, ◌++◌, length, Option, Some}
 use Rattle.std.specs.List.{flat_map}
 use Rattle.lnt_machine.specs.declared.row.Row.{Row}
@@ -10,7 +10,7 @@ use Rattle.lnt_sequences.specs.Sequences.{position_of, last_row, is_live, Placed
 abbrev pub rows_of : List Placed → List Row
 rows_of sequences = flat_map (λ placed. placed.rows) sequences
 
--- The row with this index stands in the sequence, after these rows of it.
+-- The row with this index is in the sequence, after these rows of it.
 pub record StandsIn (sequences : List Placed) (placed : Placed) (before : List Row) (row : Row) (index : ℕ) : Type 0 where
   pub earlier : List Placed
   pub later : List Placed
@@ -37,9 +37,9 @@ pub record IsFirstFall (dead : Option ℕ) (sequences : List Placed) (index : �
   pub fall : IsFall dead sequences index
   pub first : (earlier : ℕ) → earlier < index → IsFall dead sequences earlier → ⊥
 
--- ---- files that aren't there
+-- ---- missing files
 
--- The row of a live sequence is no end row, and names a file that isn't among so many.
+-- The row of a live sequence isn't an end row, and names a file that isn't below this count.
 pub record IsMissingFile (dead : Option ℕ) (files : ℕ) (sequences : List Placed) (missing : MissingFile) : Type 0 where
   pub placed : Placed
   pub before : List Row

@@ -31,8 +31,8 @@ pub record BeginsNoLater (one other : Placed) : Type 0 where
 
 -- ---- the first overlap
 
--- Two different sequences hold the position, and no lower position is held by two. By first position and then by place
--- these are, in order, the first two that hold it. So it is the position where the second begins.
+-- Two different sequences hold the position, and no lower position is held by two. These are the first two that hold it, in
+-- order by first position and then by place. So it is the position where the second begins.
 pub record IsFirstOverlap (sequences : List Placed) (overlap : Overlap) : Type 0 where
   pub one : Placed
   pub other : Placed
@@ -51,11 +51,11 @@ pub record IsFirstOverlap (sequences : List Placed) (overlap : Overlap) : Type 0
 
 -- ---- the extents of sequences
 
--- the extent from a first position up to a last one, if it holds anything
+-- the extent from a first position up to a last one, if it isn't empty
 abbrev pub extent_between : SeqId → Position → Position → List Extent
 extent_between id low high = cond (is_below low high) (record { low = low; high = high; id = id } ∷ []) []
 
--- the extent of a sequence, if it holds anything
+-- the extent of a sequence, if it isn't empty
 abbrev pub extent_of_rows : SeqId → Option Row → Option Row → List Extent
 extent_of_rows id (Some first) (Some last) = extent_between id (position_of first) (position_of last)
 extent_of_rows id _ _ = []
@@ -63,7 +63,7 @@ extent_of_rows id _ _ = []
 abbrev pub extent_of : Placed → List Extent
 extent_of placed = extent_of_rows placed.id (first_row placed.rows) (last_row placed.rows)
 
--- the extents of the sequences that hold anything
+-- the extents of the nonempty sequences
 abbrev pub extents_of : List Placed → List Extent
 extents_of sequences = flat_map extent_of sequences
 
@@ -108,15 +108,15 @@ IsHolderAt extents p k = (k < length extents) × ((d : Extent) → IsHolder exte
 
 -- ---- what sequences answer, by their extents
 
--- The sequence has the extent's id, and it is what its rows say that the sequences answer.
+-- The sequence has the extent's id, and the sequences answer what its rows say.
 pub record AnswersFor (sequences : List Placed) (p : Position) (extent : Extent) : Type 0 where
   pub placed : Placed
   pub contained : Contains sequences placed
   pub id_is : placed.id ≡ extent.id
   pub answer_is : answer_in sequences p ≡ option_map (answer_of placed.id.unit) (row_at p placed.rows)
 
--- Where no position is held by two sequences: no extent holds a position at which nothing is answered, and the one that
--- holds it is that of the sequence that answers.
+-- If no position is held by two sequences: no extent holds a position without an answer, and the one that holds a position
+-- is that of the sequence that answers.
 pub record HolderAnswers : Type 0 where
   pub none : (sequences : List Placed) (extents : List Extent) (p : Position) → IsPermutation (extents_of sequences) extents
       → NoneHolds extents p → answer_in sequences p ≡ None

@@ -34,7 +34,7 @@ pub record IsExtentOf (sequences : List Placed) (extent : Extent) (placed : Plac
   pub id_is : placed.id ≡ extent.id
 
 -- The sequences of the entries, in this order, have spans in order. These are the spans of all sequences, and answer as all do.
--- There is a span for each of the entries at least.
+-- There is at least one span for each of the entries.
 pub record HaveSpansInOrder (sequences : List Placed) (entries : List Extent) : Type 0 where
   pub in_turn : List Placed
   pub each : AllZip (IsExtentOf sequences) entries in_turn
@@ -43,7 +43,7 @@ pub record HaveSpansInOrder (sequences : List Placed) (entries : List Extent) : 
   pub answers : (p : Position) → span_answer (spans_of in_turn) p ≡ answer_in sequences p
   pub count : length entries ≤ length (spans_of in_turn)
 
--- So it is of ordered sequences no two of which hold one position, and of their extents, settled.
+-- The same for ordered sequences of which no two hold the same position, and for their settled extents.
 abbrev pub EntriesInTurn : Type 0
 EntriesInTurn =
     (sequences : List Placed) (entries : List Extent) → AreSettled entries → IsPermutation (extents_of sequences) entries

@@ -27,7 +27,7 @@ use Rattle.lnt_sequences.specs.Watching.{Collects, CollectsRows}
 abbrev pub SpansAnswer : Type 0
 SpansAnswer = (sequences : List Placed) → AreOrdered sequences → (p : Position) → span_answer (spans_of sequences) p ≡ answer_in sequences p
 
--- The spans of an ordered sequence hold what it holds, and answer there as its last row that isn't after the position.
+-- The spans of an ordered sequence hold what it holds, and answer there as its last row at or before the position.
 abbrev pub SequenceSpans : Type 0
 SequenceSpans = (unit : ℕ) (rows : List Row) (p : Position) → IsOrdered rows
     → (Holds rows p → span_answer (row_spans unit rows) p ≡ option_map (answer_of unit) (row_at p rows))
@@ -42,12 +42,12 @@ abbrev pub FallIsNotOrdered : Type 0
 FallIsNotOrdered =
     (dead : Option ℕ) (sequences : List Placed) (index : ℕ) → IsFall dead sequences index → AreOrdered (live_of dead sequences) → ⊥
 
--- Where a row names a file that isn't there, they don't have their files.
+-- If a row names a missing file, they don't have their files.
 abbrev pub MissingFileIsNotThere : Type 0
 MissingFileIsNotThere = (dead : Option ℕ) (files : ℕ) (sequences : List Placed) (missing : MissingFile)
     → IsMissingFile dead files sequences missing → HaveFiles files (live_of dead sequences) → ⊥
 
--- What is collected of all rows of a unit, whose program runs, is collected of its live sequences.
+-- If a unit's program runs, what is collected from all its rows is collected from its live sequences.
 abbrev pub CollectedUnit : Type 0
 CollectedUnit =
     (dead : Option ℕ) (unit : ℕ × UnitParts) (collected : Collected) (sequences : List Placed) → Runs unit.1 → length (rows unit.1) < 2 ^ 64
@@ -59,7 +59,7 @@ DistinctSequences =
     (dead : Option ℕ) (units : List (ℕ × UnitParts)) → AllPairs (λ one other. one.0 ≢ other.0) units
     → AreDistinct (live_sequences dead units)
 
--- Where copies aren't skipped, the kept sequences are the live ones. Where they are, the kept ones are live, and of units at
+-- If copies aren't skipped, the kept sequences are the live ones. If they are, the kept ones are live, and of units at
 -- different offsets no two that hold a position begin and end at the same ones.
 pub record KeptSequences : Type 0 where
   pub all : (dead : Option ℕ) (units : List (ℕ × UnitParts)) → kept_sequences dead false units ≡ live_sequences dead units
@@ -68,7 +68,7 @@ pub record KeptSequences : Type 0 where
   pub differ : (dead : Option ℕ) (units : List (ℕ × UnitParts)) → AllPairs (λ one other. one.0 ≢ other.0) units
       → AllPairs (λ (one : Placed) (other : Placed). hold_alike one.rows other.rows ≡ false) (kept_sequences dead true units)
 
--- The row is the last of the rows, in their order, at or before p: those after it stand above p.
+-- The row is the last of the rows, in their order, at or before p: those after it are above p.
 pub record IsLastAt (p : Position) (rows : List Row) (row : Row) : Type 0 where
   pub before : List Row
   pub past : List Row
@@ -76,8 +76,8 @@ pub record IsLastAt (p : Position) (rows : List Row) (row : Row) : Type 0 where
   pub at : IsAtMost (position_of row) p
   pub above : AllByRecursion (λ later. IsBelow p (position_of later)) past
 
--- Of sequences that share no position at most one holds p, and they answer at p what its last row at or before p says. Where none
--- holds p, they answer nothing.
+-- If sequences share no position, at most one holds p, and they answer at p what its last row at or before p says. If none holds
+-- p, there is no answer.
 pub record AnswersAsHolder : Type 0 where
   pub one_alone : (sequences : List Placed) (one other : Placed) (p : Position) → AreApart sequences → Contains sequences one
       → Contains sequences other
@@ -95,12 +95,12 @@ pub record StandAlike (units others : List (ℕ × UnitParts)) (offset other : �
   pub unit_is : (d : ℕ × UnitParts) → offset ≡ (get_or units place d).0
   pub other_is : (d : ℕ × UnitParts) → other ≡ (get_or others place d).0
 
--- The answers are the same but for the units' offsets, which stand alike.
+-- The answers are the same except the units' offsets, which correspond.
 pub record IsAlike (units others : List (ℕ × UnitParts)) (answer other : Answer) : Type 0 where
   pub stand : StandAlike units others answer.unit other.unit
   pub same : other ≡ record answer { unit = other.unit }
 
--- Both sections answer so, or neither answers anything.
+-- Both sections have such answers, or neither has one.
 abbrev pub AreAlike : List (ℕ × UnitParts) → List (ℕ × UnitParts) → Option Answer → Option Answer → Type 0
 AreAlike units others None None = Unit {0}
 AreAlike units others (Some answer) (Some other) = IsAlike units others answer other

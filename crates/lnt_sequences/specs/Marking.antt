@@ -1,4 +1,4 @@
--- Places in the rows of one sequence, from which lookups go on.
+-- Places in the rows of one sequence, from which lookups continue.
 use Rattle.std.specs.Prelude.{◌≡◌, List, ◌++◌, Option, IfSome}
 use Rattle.std.specs.List.{All}
 use Rattle.lnt_machine.specs.declared.row.Row.{Row}

@@ -1,4 +1,4 @@
--- Extents of which no two hold one position, or the first two that do. No public contract speaks of it.
+-- Extents of which no two hold the same position, or the first two that do. No public contract speaks of it.
 use Rattle.std.specs.Prelude.{◌≡◌, ◌≢◌, ◌⊎◌, List}
 use Rattle.std.specs.List.{All, AllPairs, Contains}
 use Rattle.lnt_spans.specs.declared.position.Position.{Position}

@@ -1,4 +1,4 @@
--- The spans of a sequence: one for each two rows that follow one another at rising positions.
+-- The spans of a sequence: one for each two consecutive rows at ascending positions.
 use Rattle.std.specs.Prelude.{ℕ, cond, List, [], ◌∷◌, ◌++◌}
 use Rattle.std.specs.List.{flat_map}
 use Rattle.lnt_machine.specs.declared.row.Row.{Row}
@@ -6,7 +6,7 @@ use Rattle.lnt_spans.specs.declared.span.Span.{Span}
 use Rattle.lnt_spans.specs.Positions.{is_below}
 use Rattle.lnt_sequences.specs.Sequences.{position_of, answer_of, Placed}
 
--- the span from a row up to the next, if it holds anything
+-- the span from a row up to the next, if it isn't empty
 abbrev pub span_between : ℕ → Row → Row → List Span
 span_between unit row next =
     cond (is_below (position_of row) (position_of next))

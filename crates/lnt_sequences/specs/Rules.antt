@@ -13,7 +13,7 @@ IsOrdered rows = AllPairs (λ earlier later. IsAtMost (position_of earlier) (pos
 abbrev pub AreOrdered : List Placed → Type 0
 AreOrdered sequences = AllByRecursion (λ (placed : Placed). IsOrdered placed.rows) sequences
 
--- Each row but the end row names one of so many files.
+-- Each row except the end row names a file below this count.
 abbrev pub FilesExist : ℕ → List Row → Type 0
 FilesExist files rows = AllByRecursion (λ row. row.end_sequence ≡ false → row.file < files) rows
 

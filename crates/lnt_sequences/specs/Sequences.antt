@@ -10,7 +10,7 @@ use Rattle.lnt_spans.specs.declared.position.Position.{Position}
 use Rattle.lnt_spans.specs.Positions.{IsBelow, IsAtMost, is_below, is_at_most}
 use Rattle.lnt_sequences.specs.declared.sequence.SeqId.{SeqId}
 
--- where a row stands
+-- the position of a row
 abbrev pub position_of : Row → Position
 position_of row = record { address = row.address; op = row.op_index }
 
@@ -26,16 +26,16 @@ abbrev pub placed_rows : ℕ → List Row → List Placed
 placed_rows unit rows =
     map (λ p. record { id = record { unit = unit; index = p.0 }; rows = p.1.rows }) (enumerate_from 0 (sequences_of rows))
 
--- the sequences of a unit, which stands at an offset
+-- the sequences of the unit at an offset
 abbrev pub placed_in : ℕ × UnitParts → List Placed
 placed_in unit = placed_rows unit.0 (rows unit.1)
 
--- whether rows that begin with this one are live: where there is a marker, their address isn't it
+-- whether rows that begin with this one are live: if there is a marker, their address isn't it
 abbrev pub begins_live : Option ℕ → Row → Bool
 begins_live None row = true
 begins_live (Some marker) row = not (row.address == marker)
 
--- Where a marker is given, a sequence whose first row has that address is dead.
+-- If a marker is given, a sequence whose first row has that address is dead.
 abbrev pub are_live : Option ℕ → List Row → Bool
 are_live dead [] = true
 are_live dead (row ∷ rows) = begins_live dead row
@@ -84,7 +84,7 @@ holds p rows = elim (first_row rows) [
 
 -- ---- copies
 
--- whether a sequence stands before another: in an earlier unit, or earlier in the same one
+-- whether a sequence comes before another: in an earlier unit, or earlier in the same one
 abbrev pub stands_before : SeqId → SeqId → Bool
 stands_before one other = nat_lt one.unit other.unit || (one.unit == other.unit && nat_lt one.index other.index)
 
@@ -103,17 +103,17 @@ ends_alike _ _ _ _ = false
 abbrev pub hold_alike : List Row → List Row → Bool
 hold_alike rows others = ends_alike (first_row rows) (last_row rows) (first_row others) (last_row others)
 
--- A sequence that holds a position is a copy where one that stands before it begins and ends at the same positions.
+-- A sequence that holds a position is a copy if an earlier one begins and ends at the same positions.
 abbrev pub is_copy : List Placed → Placed → Bool
 is_copy sequences placed =
     list_any (λ (earlier : Placed). stands_before earlier.id placed.id && hold_alike placed.rows earlier.rows) sequences
 
--- the sequences that are kept of these: all, or all but the copies where these are skipped
+-- the sequences that are kept of these: all, or all but the copies if these are skipped
 abbrev pub kept_of : Bool → List Placed → List Placed
 kept_of false sequences = sequences
 kept_of true sequences = filter (λ placed. not (is_copy sequences placed)) sequences
 
--- the kept sequences of a section, of the live ones
+-- the kept sequences among the live ones of a section
 abbrev pub kept_sequences : Option ℕ → Bool → List (ℕ × UnitParts) → List Placed
 kept_sequences dead skip units = kept_of skip (live_sequences dead units)
 
@@ -134,7 +134,7 @@ answer_of unit row = record {
 abbrev pub row_at : Position → List Row → Option Row
 row_at p rows = find (λ row. is_at_most (position_of row) p) (reverse rows)
 
--- What sequences answer at p: what that row says, in the first sequence that holds p; nothing where none holds it.
+-- What sequences answer at p: what that row says, in the first sequence that holds p; nothing if none holds it.
 abbrev pub answer_in : List Placed → Position → Option Answer
 answer_in sequences p =
     option_and_then (λ (placed : Placed). option_map (answer_of placed.id.unit) (row_at p placed.rows))

@@ -1,4 +1,4 @@
--- The spans of a sequence, one after another as its rows come.
+-- The spans of a sequence, made one after another from its rows.
 use Rattle.std.specs.Prelude.{◌≡◌, ℕ, cond, List, [], ◌∷◌, length, Option, Some, None}
 use Rattle.lnt_machine.specs.declared.row.Row.{Row}
 use Rattle.lnt_machine.specs.Walking.{SequenceWalk, WillGive}
@@ -10,7 +10,7 @@ abbrev pub spans_left : ℕ → Option Row → List Row → List Span
 spans_left unit None rows = row_spans unit rows
 spans_left unit (Some row) rows = spans_after unit row rows
 
--- at most so many rows are
+-- at most this many rows are
 abbrev pub rows_left : SequenceWalk → ℕ
 rows_left walk = cond walk.ended 0 (length walk.walk.at.rest)
 

@@ -1,7 +1,7 @@
--- What a watch has seen of a unit's rows, and what is collected of them, told row by row as a watch remembers them.
+-- What a watch has seen of a unit's rows, and what is collected from them, row by row as a watch remembers them.
 --
--- A caller needs Collects, HasSeen, HasSeenAll and CollectsRows alone. What they come to once all rows of a unit were seen
--- is said without a watch, in the contracts of `missing_file` and `falls` and in the law `collected_unit`.
+-- A caller needs only Collects, HasSeen, HasSeenAll and CollectsRows. What they mean once all rows of a unit were seen is
+-- said without a watch, in the contracts of `missing_file` and `falls` and in the law `collected_unit`.
 use Rattle.std.specs.Prelude.{◌≡◌, ℕ, ◌+◌, ◌^◌, ◌<◌, Bool, false, not, cond, ◌&&◌, nat_le, List, [], ◌∷◌}
 use Rattle.std.specs.Prelude.{◌++◌, length, Option, Some, None}
 use Rattle.std.specs.Option.{option_or}
@@ -16,7 +16,7 @@ use Rattle.lnt_sequences.specs.declared.watch.Watch.{Watch}
 use Rattle.lnt_sequences.specs.Extents.{extent_between, extents_of}
 use Rattle.lnt_sequences.specs.Sequences.{begins_live, position_of, Placed}
 
--- It is collected of these sequences: the extents of those that hold anything.
+-- It is collected of these sequences: the extents of the nonempty ones.
 pub record Collects (collected : Collected) (sequences : List Placed) : Type 0 where
   pub extents : collected.extents.items ≡ extents_of sequences
 
@@ -38,13 +38,13 @@ abbrev pub falls_after : Option Current → Row → Bool
 falls_after None row = false
 falls_after (Some current) row = is_below (position_of row) current.last
 
--- whether a row that is no end row names a file that isn't among so many
+-- whether a row that isn't an end row names a file that isn't below this count
 abbrev pub names_no_file : ℕ → Row → Bool
 names_no_file files row = not row.end_sequence && nat_le files row.file
 
 -- ---- rows, one after another
 
--- how far the rows of a unit have come: how many there were, how many sequences have ended, and the rows of the one that
+-- the progress through the rows of a unit: how many there were, how many sequences have ended, and the rows of the one that
 -- hasn't
 pub record RowsSoFar : Type 0 where
   pub rows : ℕ
@@ -118,13 +118,13 @@ pub record Remembers (dead : Option ℕ) (unit files : ℕ) (watch : Watch) (row
   pub falls_is : watch.falls ≡ first_shown (fall_shown dead) start rows
   pub file_is : watch.missing_file ≡ first_shown (file_shown dead files) start rows
 
--- The watch was made with this marker, offset and number of files, and has seen these rows, in this order. There are
--- fewer than 2^64 of them: nothing is said of more.
+-- The watch was made with this marker, offset and number of files, and has seen these rows, in this order. There are fewer
+-- than 2^64 of them: nothing is claimed of more.
 abbrev pub HasSeen : Option ℕ → ℕ → ℕ → Watch → List Row → Type 0
 HasSeen dead unit files watch rows = length rows < 2 ^ 64 → Remembers dead unit files watch rows
 
--- It has seen these rows, and each of them stands in a sequence: none is after the last end row. So it is where a unit's
--- program runs, and these are all rows of the unit.
+-- It has seen these rows, and each of them is in a sequence: none is after the last end row. This holds if a unit's program
+-- runs and these are all rows of the unit.
 pub record HasSeenAll (dead : Option ℕ) (unit files : ℕ) (watch : Watch) (rows : List Row) : Type 0 where
   pub seen : HasSeen dead unit files watch rows
   pub closed : joined_rows (sequences_of rows) ≡ rows
@@ -134,7 +134,7 @@ pub record HasSeenAll (dead : Option ℕ) (unit files : ℕ) (watch : Watch) (ro
 pub record CollectsBoth (dead : Option ℕ) (unit : ℕ) (collected : Collected) (sequences : List Placed) (rows : List Row) : Type 0 where
   pub extents : collected.extents.items ≡ extents_of sequences ++ shown (extent_shown dead unit) start rows
 
--- It is collected of these sequences, and of these rows of the unit at an offset, as far as they are live. There are
--- fewer than 2^64 of them: nothing is said of more.
+-- It is collected of these sequences, and of these rows of the unit at an offset, as far as they are live. There are fewer
+-- than 2^64 of them: nothing is claimed of more.
 abbrev pub CollectsRows : Option ℕ → ℕ → Collected → List Placed → List Row → Type 0
 CollectsRows dead unit collected sequences rows = length rows < 2 ^ 64 → CollectsBoth dead unit collected sequences rows

@@ -1,4 +1,4 @@
-//! What the live sequences of a section hold.
+//! The positions that the live sequences of a section hold.
 ghost use Rattle.std.specs.Prelude.{◌≡◌, ◌++◌, [], IfOk, OnOk, IfErr, List};
 ghost use Rattle.std.specs.List.Sorted.{IsPermutation};
 ghost use Rattle.lnt_sequences.specs.Extents.{AreSettled, IsFirstOverlap, extent_between, extents_of};
@@ -13,17 +13,17 @@ use lnt_machine::Row;
 use lnt_spans::{Answer, More, Position};
 use std::alloc::{AllocError, Global};
 
-/// What the live sequences of a section hold, as far as a watch on each unit has seen their rows.
+/// The positions that the live sequences of a section hold, as far as a watch on each unit has seen their rows.
 ///
-/// It keeps the first and last position of each sequence that holds anything, and no row. Contracts say of which
-/// sequences it is (`Collects`).
+/// It keeps the first and last position of each nonempty sequence, and no row. Contracts say which sequences it is
+/// collected from (`Collects`).
 #[derive(Debug, Drop)]
 pub struct Collected {
     extents: Vec<Extent>,
 }
 
 impl Collected {
-    /// An empty collection, in which there is no sequence. It takes no memory.
+    /// An empty collection, without sequences. Allocates nothing.
     pub fn new(alloc: Global) -> Collected
         ensures { Collects result [] }
     {
@@ -32,16 +32,15 @@ impl Collected {
         }
     }
 
-    /// The extents of the collected sequences, by first position, where no position is held by two of them. Where copies are
-    /// skipped, a sequence that holds a position is left out where one that stands before it in the section begins and ends
-    /// at the same positions.
+    /// The extents of the collected sequences, by first position, if no position is held by two of them. If copies are
+    /// skipped, a sequence that holds a position is left out if an earlier one in the section begins and ends at the same
+    /// positions.
     ///
-    /// Else it tells the first overlap: two different sequences that hold one position, where no lower position is held
-    /// by two, the first two that hold it by their first positions and then by their places in the section. A sequence
-    /// that holds nothing overlaps none.
+    /// Otherwise the first overlap is returned: the lowest position that two different sequences hold, and the first two
+    /// that hold it, by their first positions and then by their places in the section. An empty sequence overlaps none.
     ///
-    /// The caller sees to it that no two sequences have the same id. Sequences that come in order cost one pass. It takes
-    /// no memory.
+    /// The caller ensures that no two sequences have the same id. Sequences that come in order take one pass. Allocates
+    /// nothing.
     pub fn entries(self, skip_copies: bool) -> Result<Vec<Extent>, Overlap>
         requires { (sequences : List Placed) × Collects self sequences × AreDistinct sequences }
         ensures settled { IfOk result (λ entries. AreSettled entries.items) }
@@ -59,7 +58,7 @@ impl Collected {
         }
     }
 
-    // Adds the extent of a sequence, from `first` up to `last`, if it holds any position.
+    // Appends the extent of a sequence, from `first` up to `last`, if it holds any position.
     pub(crate) fn push_extent(
         &mut self,
         id: SeqId,
@@ -90,7 +89,7 @@ pub(crate) fn position_of(row: &Row) -> Position
     }
 }
 
-// The answer that a row gives at the positions from its own on.
+// The answer that a row gives from its own position on.
 #[inline(always)]
 pub(crate) fn answer_of(unit: u64, row: &Row) -> Answer
     ensures { result ≡ spec.answer_of unit row.now }

@@ -1,4 +1,4 @@
-//! The positions that sequences hold, and the first that two of them hold.
+//! The positions that sequences hold, and the first position that two of them hold.
 ghost use Rattle.std.specs.Prelude.{◌≡◌, ◌≢◌, ◌+◌, ◌-◌, ◌<◌, length, slice_index_or, IfNone, IfSome, MatchOption, Some};
 ghost use Rattle.std.specs.List.{All, AllPairs};
 ghost use Rattle.std.specs.List.Sorted.{IsPermutation};
@@ -14,10 +14,10 @@ use lnt_spans::Position;
 use std::error::Error;
 use std::fmt;
 
-/// Two different sequences that hold one position, the first such position and the first two that hold it.
+/// Two different sequences that hold the same position: the first such position, and the first two that hold it.
 #[derive(Clone, Copy, Debug, PartialEq, Eq)]
 pub struct Overlap {
-    /// Of the two, the one that begins first, by its first position and then by its place in the section.
+    /// The sequence that comes first, by its first position and then by its place in the section.
     pub first: SeqId,
     /// The other one.
     pub second: SeqId,
@@ -47,12 +47,12 @@ pub struct Extent {
     pub low: Position,
     /// The position of its end row.
     pub high: Position,
-    /// Which sequence it is.
+    /// The id of the sequence.
     pub id: SeqId,
 }
 
-// The extents without the copies, where these are skipped: of those that begin and end at the same positions the one is
-// kept that stands first in the section. It takes no memory.
+// The extents without the copies, if these are skipped: of those that begin and end at the same positions, the one that
+// comes first in the section is kept. Allocates nothing.
 pub(crate) fn kept(extents: Vec<Extent>, skip_copies: bool) -> Vec<Extent>
     requires { AllPairs (λ one other. one.id ≢ other.id) extents.items }
     ensures { IsPermutation (kept_extents skip_copies extents.items) result.items }
@@ -68,7 +68,7 @@ pub(crate) fn kept(extents: Vec<Extent>, skip_copies: bool) -> Vec<Extent>
     extents
 }
 
-// The extents in order by first position, then by last position, and then by place: copies stand one after another.
+// The extents in order by first position, then by last position, and then by place: copies are adjacent.
 fn gathered(mut extents: Vec<Extent>) -> Vec<Extent>
     ensures permutation { IsPermutation extents.items result.items }
     ensures gathered { AreGathered result.items }
@@ -129,7 +129,7 @@ fn sort(extents: &mut [Extent])
     });
 }
 
-// The index of the first extent that ends above the first position of the next one, and so overlaps it. None where there is none.
+// The index of the first extent that ends above the first position of the next one, and so overlaps it. `None` if there is none.
 fn first_crossed(extents: &[Extent]) -> Option<usize>
     ensures { MatchOption result (AreApartUpTo (length extents.now - 1) extents.now)
         (λ k. (k + 1 < length extents.now) × AreApartUpTo k extents.now

@@ -1,4 +1,4 @@
-//! What is answered at a position, by the extents of sequences and by the rows of the one that holds it.
+//! Answers at a position, by the extents of sequences and by the rows of the one that holds it.
 ghost use Rattle.std.specs.Prelude.{◌≡◌, ◌+◌, ◌^◌, ◌<◌, ◌≤◌, ℕ, List, length, MatchOption};
 ghost use Rattle.std.specs.Option.{option_map};
 ghost use Rattle.lnt_machine.specs.Walking.{WillGive};
@@ -13,17 +13,17 @@ use crate::marks::Mark;
 use lnt_machine::{Row, SequenceRows};
 use lnt_spans::{Answer, Position, Probes, Side, probe};
 
-/// The index of the extent that holds the position, or none where none does.
+/// The index of the extent that holds the position, or `None` if none does.
 ///
-/// It compares the position with at most as many extents as their number has binary digits, which is none where there
-/// are no extents: `probes` rises by the comparisons. The caller sees to it that the extents are settled, as `entries`
-/// gives them, and that `probes` stands at 2^63 or below. It takes no memory.
+/// The position is compared with at most as many extents as their number has binary digits, so with none if there are no
+/// extents, and the number of comparisons is added to `probes`. The caller ensures that the extents are settled, as
+/// `entries` returns them, and that `probes` is at most 2^63. Allocates nothing.
 pub fn holder(extents: &[Extent], position: Position, probes: &mut Probes) -> Option<usize>
     requires settled { AreSettled extents.now }
     requires count { probes.old ≤ 2 ^ 63 }
     ensures found { MatchOption result (NoneHolds extents.now position) (IsHolderAt extents.now position) }
 
-    // The count never falls, and rises by at most as many as the number of extents has binary digits.
+    // The count never falls, and rises by at most the number of binary digits of the number of extents.
     ensures rises { probes.old ≤ probes.new }
     ensures counted { (digits : ℕ) → length extents.now < 2 ^ digits → probes.new ≤ probes.old + digits }
 {
@@ -50,9 +50,9 @@ fn row_at(rows: SequenceRows<'_>, position: Position) -> Option<Row>
     mark.last
 }
 
-/// What a sequence whose positions never fall answers at a position: what the last of these rows says that isn't above it.
-/// `unit` is the offset of its unit in the section. None where no row stands at or below the position. The rows above it aren't
-/// decoded. It takes no memory.
+/// The answer at a position of a sequence whose positions never fall: that of the last of these rows at or below it. `unit` is
+/// the offset of its unit in the section. `None` if no row is at or below the position. The rows above it aren't decoded.
+/// Allocates nothing.
 pub fn answer_at(unit: u64, rows: SequenceRows<'_>, position: Position) -> Option<Answer>
     ensures { (list : List spec.Row) → WillGive list rows.entry → IsOrdered list
         → result ≡ option_map (sequence.answer_of unit) (sequence.row_at position list) }

@@ -11,29 +11,29 @@ pub fn spans_answer()
     ensures { SpansAnswer }
 {}
 
-/// The spans of one sequence whose positions never fall hold the positions that it holds, and no other, and answer there
-/// what the last of its rows says that isn't after the position.
+/// The spans of one sequence whose positions never fall hold exactly the positions that it holds, and answer there what the
+/// last of its rows at or before the position says.
 #[tactic(auto, using(crate::proofs::ExtentLemmas::sequence_spans))]
 pub fn sequence_spans()
     ensures { SequenceSpans }
 {}
 
-/// Where two sequences overlap, some position is held by two.
+/// If two sequences overlap, some position is held by two.
 pub fn overlap_is_not_apart()
     ensures { OverlapIsNotApart }
 {}
 
-/// Where a row falls, the positions of its sequence are not in order.
+/// If a row falls, the positions of its sequence are not in order.
 pub fn fall_is_not_ordered()
     ensures { FallIsNotOrdered }
 {}
 
-/// Where a row of a live sequence names a file that is missing, not every row of the live sequences names one that is there.
+/// If a row of a live sequence names a file that is missing, not every row of the live sequences names an existing one.
 pub fn missing_file_is_not_there()
     ensures { MissingFileIsNotThere }
 {}
 
-/// What a watch on a unit has collected of all its rows, whose program runs, is collected of its live sequences.
+/// If a unit's program runs, what a watch has collected from all its rows is collected from its live sequences.
 pub fn collected_unit()
     ensures { CollectedUnit }
 {}
@@ -43,21 +43,21 @@ pub fn distinct_sequences()
     ensures { DistinctSequences }
 {}
 
-/// The kept sequences are the live ones, less the copies where these are skipped: then no two of them begin and end at the
-/// same positions, where they hold one.
+/// The kept sequences are the live ones, without the copies if these are skipped: then no two nonempty ones begin and end
+/// at the same positions.
 pub fn kept_sequences()
     ensures { KeptSequences }
 {}
 
-/// Where no position is held by two sequences, what they answer is what the rows of the sequence say whose extent holds the
-/// position, and nothing where no extent does.
+/// If no position is held by two sequences, their answer is that of the rows of the sequence whose extent holds the
+/// position. There is none if no extent does.
 #[tactic(auto, using(crate::proofs::HolderLemmas::holder_answers))]
 pub fn holder_answers()
     ensures { HolderAnswers }
 {}
 
-/// Of sequences that share no position at most one holds a position, and what they answer there is what the last of its
-/// rows says, in their order, that stands at or before it. They answer nothing where none holds it.
+/// If sequences share no position, at most one holds a position. Their answer there is that of its last row, in order, at
+/// or before the position. There is none if no sequence holds it.
 #[tactic(auto, using(crate::proofs::LastRowLemmas::answers_as_holder))]
 pub fn answers_as_holder()
     ensures { AnswersAsHolder }
@@ -75,9 +75,8 @@ pub fn entries_in_turn()
     ensures { EntriesInTurn }
 {}
 
-/// A section and what it was converted to, in another format or byte order, answer alike at every position: the same but
-/// for the offsets of units, of which each stands for that of the unit with the same place (DWARF 5, sections 6.2.4 and
-/// 7.4).
+/// A section and its conversion to another format or byte order give the same answer at every position, except that the
+/// offset of a unit is that of the unit with the same place (DWARF 5, sections 6.2.4 and 7.4).
 pub fn converted_answers()
     ensures { ConvertedAnswers }
 {

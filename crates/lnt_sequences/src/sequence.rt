@@ -1,4 +1,4 @@
-//! The names of sequences, by which they are told apart.
+//! The ids of sequences.
 ghost use Rattle.std.specs.Prelude.{Some};
 ghost use Rattle.lnt_sequences.specs.FaultTexts.{sequence_text};
 
@@ -10,7 +10,7 @@ use std::fmt;
 pub struct SeqId {
     /// The offset of its unit in the section.
     pub unit: u64,
-    /// Its index among the sequences of that unit, the first being 0. Dead sequences count, and those that hold nothing.
+    /// Its index among the sequences of that unit, counted from 0. Dead and empty sequences count.
     pub index: u64,
 }
 

@@ -1,4 +1,4 @@
-//! The spans of a sequence, one after another as its rows come.
+//! The spans of a sequence, made one after another from its rows.
 ghost use Rattle.std.specs.Prelude.{◌<◌, List, IfSome};
 ghost use Rattle.lnt_spans.specs.declared.span.Span as spec;
 ghost use Rattle.lnt_sequences.specs.Spanning.{GivesSpan, HasSpans, rows_left};
@@ -7,8 +7,8 @@ use crate::collected::{answer_of, position_of};
 use lnt_machine::{Row, SequenceRows};
 use lnt_spans::Span;
 
-/// The next span of a sequence: from a row up to the next one at a higher position. None where the rows have ended. `unit`
-/// is the offset of the sequence's unit, and `last` the last row that came, at first None. It takes no memory.
+/// The next span of a sequence: from a row up to the next one at a higher position. `None` if the rows have ended. `unit`
+/// is the offset of the sequence's unit, and `last` the last row that came, at first `None`. Allocates nothing.
 #[inline(always)]
 pub fn next_span(unit: u64, rows: &mut SequenceRows<'_>, last: &mut Option<Row>) -> Option<Span>
     ensures fewer { IfSome result (λ _. rows_left rows.new < rows_left rows.old) }

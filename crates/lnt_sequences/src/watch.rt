@@ -1,4 +1,4 @@
-//! What is remembered of the rows of a unit as they come.
+//! What a watch remembers of the rows of a unit.
 ghost use Rattle.std.specs.Prelude.{◌≡◌, ℕ, ◌∷◌, ◌++◌, [], List, Option, MatchOption, IfOk, if◌then◌else◌};
 ghost use Rattle.lnt_machine.specs.declared.row.Row.{Row};
 ghost use Rattle.lnt_sequences.specs.Evidence.{IsFirstFall, IsFirstMissingFile};
@@ -15,10 +15,10 @@ use lnt_machine::Row;
 use lnt_spans::Position;
 use std::alloc::AllocError;
 
-/// A row that names a source file which isn't among the unit's files.
+/// A row that names a source file that isn't among the unit's files.
 #[derive(Clone, Copy, Debug, PartialEq, Eq)]
 pub struct MissingFile {
-    /// The row's index among all rows of the unit, end rows too, the first being 0.
+    /// The row's index among all rows of the unit, including end rows, counted from 0.
     pub row: u64,
     /// The file that it names.
     pub file: u64,
@@ -36,7 +36,7 @@ struct Current {
 
 /// What is remembered of the rows of one unit. No row is kept.
 ///
-/// Contracts say which rows it has seen (`HasSeen`), in which order they came.
+/// Contracts say which rows it has seen, in which order (`HasSeen`).
 #[derive(Debug, Drop)]
 pub struct Watch {
     dead: Option<u64>,
@@ -52,9 +52,9 @@ pub struct Watch {
 }
 
 impl Watch {
-    /// A watch that has seen no row. `dead` is the address at which sequences of dead code begin, if the caller knows
-    /// one; `unit` is the unit's offset in the section, and `files` how many source files its header lists. It takes no
-    /// memory.
+    /// A watch that has seen no row. `dead` is the address at which sequences of dead code begin, if the caller knows one;
+    /// `unit` is the unit's offset in the section, and `files` the number of source files that its header lists. Allocates
+    /// nothing.
     pub fn new(dead: Option<u64>, unit: u64, files: u64) -> Watch
         ensures { HasSeen dead unit files result [] }
     {
@@ -70,10 +70,10 @@ impl Watch {
         }
     }
 
-    /// Sees the unit's next row. Where it is the end row of a live sequence, it adds the positions that the sequence
-    /// holds to what is collected of the section.
+    /// Sees the unit's next row. If it is the end row of a live sequence, it adds the positions that the sequence holds to
+    /// what is collected of the section.
     ///
-    /// The one error is that memory ran out. Nothing is said then of the watch, nor of what is collected.
+    /// Fails only if memory runs out. Then the watch and what is collected are unspecified.
     #[inline(always)]
     pub fn see(&mut self, row: &Row, collected: &mut Collected) -> Result<(), AllocError>
         ensures seen { IfOk result (λ _. (dead : Option ℕ) (unit files : ℕ) (rows : List Row) → HasSeen dead unit files self.old rows
@@ -89,10 +89,10 @@ impl Watch {
         Ok(())
     }
 
-    /// The first row that names a source file which isn't there: of all rows of the unit's live sequences but the end
-    /// rows (DWARF 5, section 6.2.4). None where each of them names one of the unit's files.
+    /// The first row that names a missing source file, among all rows of the unit's live sequences except end rows (DWARF
+    /// 5, section 6.2.4). `None` if each of them names one of the unit's files.
     ///
-    /// The answer is of a unit all of whose rows the watch has seen, and whose program runs.
+    /// This holds if the watch has seen all rows of the unit, and its program runs.
     #[tactic(auto, using(crate::proofs::EvidenceLemmas::files_judged))]
     pub fn missing_file(&self) -> Option<MissingFile>
         ensures { (dead : Option ℕ) (unit files : ℕ) (rows : List Row) → HasSeenAll dead unit files self.now rows
@@ -103,9 +103,9 @@ impl Watch {
     }
 
     /// The index, among all rows of the unit, of the first row whose position is below that of the row before it, in the
-    /// same live sequence (DWARF 5, section 6.2.5). None where positions never fall in a live sequence.
+    /// same live sequence (DWARF 5, section 6.2.5). `None` if positions never fall in a live sequence.
     ///
-    /// The answer is of a unit all of whose rows the watch has seen, and whose program runs.
+    /// This holds if the watch has seen all rows of the unit, and its program runs.
     #[tactic(auto, using(crate::proofs::EvidenceLemmas::falls_judged))]
     pub fn falls(&self) -> Option<u64>
         ensures { (dead : Option ℕ) (unit files : ℕ) (rows : List Row) → HasSeenAll dead unit files self.now rows
@@ -114,7 +114,7 @@ impl Watch {
         self.falls
     }
 
-    // Where the next row ends a live sequence, adds the extent of that sequence.
+    // If the next row ends a live sequence, adds the extent of that sequence.
     #[inline(always)]
     fn collect(&self, row: &Row, live: bool, collected: &mut Collected) -> Result<(), AllocError>
         ensures { IfOk result (λ _. collected.new.extents.items ≡ collected.old.extents.items
@@ -133,7 +133,7 @@ impl Watch {
         collected.push_extent(id, current.low, position_of(row))
     }
 
-    // Remembers the next row if its sequence is live, and it is the first that falls, or the first whose file isn't there.
+    // Remembers the next row if its sequence is live, and it is the first that falls, or the first whose file is missing.
     #[inline(always)]
     fn note(&mut self, row: &Row, live: bool)
         ensures { self.new ≡ step.noted self.old row.now live }
@@ -150,7 +150,7 @@ impl Watch {
         }
     }
 
-    // Counts the row. Its sequence, with the row, goes on, unless it is an end row.
+    // Counts the row. Its sequence, with the row, continues unless it is an end row.
     #[inline(always)]
     fn go_on(&mut self, row: &Row, current: Current)
         ensures { self.new ≡ step.gone_on self.old row.now current }

@@ -1,4 +1,4 @@
--- The texts that say why the work on a file was stopped.
+-- The texts that say why the work on a file stopped.
 use Rattle.std.specs.Prelude.{ℕ, List, codes}
 use Rattle.lnt_sources.specs.declared.halt.Halt.{Halt}
 use Rattle.lnt_sources.specs.declared.halt.Halt.TheVariants.{Memory, Read, TooLong, Write}

@@ -1,4 +1,4 @@
--- Why the work on a file was stopped.
+-- Why the work on a file stopped.
 use Rattle.lnt_input.specs.declared.stop.Stop.{Stop}
 use Rattle.lnt_input.specs.declared.stop.Stop.TheVariants.{Memory as SourceMemory, Read as SourceRead, TooLong as SourceTooLong}
 use Rattle.lnt_sources.specs.declared.halt.Halt.{Halt}
@@ -10,13 +10,13 @@ halt_of_source SourceMemory = Memory
 halt_of_source SourceRead = Read
 halt_of_source SourceTooLong = TooLong
 
--- opening can end so
+-- opening can end like this
 abbrev pub IsOpening : Halt → Type 0
 IsOpening Read = Unit {0}
 IsOpening Memory = Unit {0}
 IsOpening _ = ⊥
 
--- printing can end so
+-- printing can end like this
 abbrev pub IsPrinting : Halt → Type 0
 IsPrinting Write = Unit {0}
 IsPrinting Memory = Unit {0}

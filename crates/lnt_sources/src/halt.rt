@@ -1,4 +1,4 @@
-//! Why the work on a file was stopped.
+//! Why the work on a file stopped.
 ghost use Rattle.std.specs.Prelude.{◌≡◌, Some};
 ghost use Rattle.lnt_sources.specs.FaultTexts.{halt_text};
 ghost use Rattle.lnt_sources.specs.Halts.{halt_of_source};
@@ -9,12 +9,12 @@ use std::alloc::AllocError;
 use std::error::Error;
 use std::{fmt, io};
 
-/// Why the work on a file was stopped. It judges nothing.
+/// Why the work on a file stopped. It isn't a verdict.
 #[derive(Clone, Copy, Debug, PartialEq, Eq)]
 pub enum Halt {
     /// The file can't be opened or read.
     Read,
-    /// The file has more bytes than are read of a file, [`LIMIT`](crate::LIMIT).
+    /// The file has more bytes than the limit, [`LIMIT`](crate::LIMIT).
     TooLong,
     /// The writer failed.
     Write,
@@ -57,7 +57,7 @@ impl From<AllocError> for Halt {
     }
 }
 
-// An `io::Error` that comes here is a writer's: a failed read is told by its source.
+// An `io::Error` here is a writer's: a failed read is reported by its source.
 impl From<io::Error> for Halt {
     ghost from_gives = { λ _ halt. halt ≡ Write };
 

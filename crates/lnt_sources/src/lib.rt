@@ -1,7 +1,7 @@
 //! Files by their names, as sources of bytes, and how the work on one ends.
 //!
 //! An [`Opener`] gives readers of files. [`open_file`] makes a source of one, [`source_of`] of any reader, and
-//! [`bytes_of_file`] reads a file whole. Work on a file ends by a [`Status`], or is stopped by a [`Halt`].
+//! [`bytes_of_file`] reads a file whole. Work on a file ends with a [`Status`], or stops with a [`Halt`].
 #![tactic(auto)]
 
 mod halt;

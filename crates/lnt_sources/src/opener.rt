@@ -9,49 +9,49 @@ use lnt_input::{Counted, Source, read_all};
 use std::alloc::{AllocError, Global};
 use std::io::{BufReader, Read};
 
-/// The most bytes that are read of a file, 2^40.
+/// The greatest number of bytes that are read from a file, 2^40.
 pub const LIMIT: u64 = 1 << 40;
 
-// How many bytes are read of a file at once.
+// The number of bytes that are read from a file at once.
 const BLOCK: usize = 1 << 16;
 
 /// Gives readers of files by their names.
 ///
-/// Contracts see it by a ghost member, `tells`: what may be told of the file of a name. That is all its bytes; or None,
-/// where its reader doesn't tell them. By default all of this may be told of each file, and so nothing is said of any.
+/// Contracts see it by a ghost member, `tells`: what may be known of the file with a name. That is all its bytes; or
+/// `None`, if its reader doesn't say them. By default anything may be known of each file, so nothing is said of any.
 pub trait Opener {
     /// Reads a file from its first byte on.
     type Reader: Read + Drop;
 
     ghost tells: { Self → List ℕ → Option (List ℕ) → Type 0 } = { λ _ _ _. ⊤ };
 
-    /// A reader of the file of this name, or none where it can't be opened.
+    /// A reader of the file with this name, or `None` if it can't be opened.
     fn reader_of(&mut self, name: &str) -> Option<Self::Reader>
         ensures told { IfSome result (λ reader. tells self.old name.now (Self.Reader.remaining reader)) }
         ensures later { TellsNoMore (tells self.old) (tells self.new) };
 
-    /// Another reader of a file that was read before. None where its bytes can't be read a second time, as those of
+    /// Another reader of a file that was read before. `None` if its bytes can't be read a second time, like those of
     /// standard input or of a pipe.
     fn reader_again(&mut self, _name: &str) -> Option<Self::Reader> {
         None
     }
 
-    /// Whether the name is that of a regular file, which has an end, and whose reader doesn't wait. By default each is.
+    /// Whether the name is that of a regular file, which has an end, and whose reader doesn't wait. By default each is one.
     fn is_regular(&self, _name: &str) -> bool {
         true
     }
 
-    /// Why the last file that failed couldn't be opened or read, as the system says it. None where it says nothing, or
-    /// where memory ran out.
+    /// Why the last file that failed couldn't be opened or read, as the system reports it. `None` if it reports nothing, or
+    /// if memory ran out.
     fn reason(&mut self, _alloc: Global) -> Option<String> {
         None
     }
 }
 
-/// The file of this name, as a source of the bytes that it holds. It is read block by block, as they are asked for.
+/// The file with this name, as a source of its bytes. It is read block by block, as they are needed.
 ///
-/// The source has not failed, wasn't found too long, and may give 2^40 bytes. It has to give what the opener tells of the
-/// file. It answers `Read` where the opener gives no reader, and else `Memory`, and nothing else.
+/// The source hasn't failed, wasn't found too long, and may give 2^40 bytes. It gives what the opener says of the file.
+/// Fails with `Read` if the opener gives no reader, and otherwise only with `Memory`.
 pub fn open_file<O: Opener>(
     alloc: Global,
     opener: &mut O,
@@ -70,10 +70,10 @@ pub fn open_file<O: Opener>(
     }
 }
 
-/// A reader's bytes as a source, read block by block, as they are asked for.
+/// A reader's bytes as a source, read block by block, as they are needed.
 ///
-/// The source has not failed, wasn't found too long, and may give 2^40 bytes: those that the reader has to give. The one
-/// error is that memory ran out.
+/// The source hasn't failed, wasn't found too long, and may give 2^40 bytes: those of the reader. Fails only if memory runs
+/// out.
 pub fn source_of<R: Read + Drop>(
     alloc: Global,
     reader: R,
@@ -89,10 +89,10 @@ pub fn source_of<R: Read + Drop>(
     }
 }
 
-/// All bytes of the file of this name, as the opener tells them.
+/// All bytes of the file with this name, as the opener says them.
 ///
-/// It answers `Read` where the file can't be opened or read, `TooLong` where it has more bytes than are read of a file,
-/// and `Memory`; never `Write`.
+/// Fails with `Read` if the file can't be opened or read, with `TooLong` if it has more bytes than the limit, and with
+/// `Memory`; never with `Write`.
 pub fn bytes_of_file<O: Opener>(alloc: Global, opener: &mut O, name: &str) -> Result<Vec<u8>, Halt>
     ensures bytes { IfOk result (λ bytes. AreBytesOf (O.tells opener.old name.now) bytes.items) }
     ensures later { TellsNoMore (O.tells opener.old) (O.tells opener.new) }

@@ -1,4 +1,4 @@
--- Spans that come one after another, the next one already at hand: which are still to come, and how many at most.
+-- Spans that come one after another, the next one already taken: which are still to come, and how many at most.
 use Rattle.std.specs.Prelude.{ℕ, ◌+◌, cond, List, Option, Some, None}
 use Rattle.lnt_spans.specs.declared.position.Position.{Position}
 use Rattle.lnt_spans.specs.declared.span.Span.{Span}
@@ -6,13 +6,13 @@ use Rattle.lnt_spans.specs.declared.ahead.Ahead.{Ahead}
 use Rattle.lnt_spans.specs.Positions.{is_below}
 use Rattle.lnt_spans.specs.Remaining.{SpansAreLeft}
 
--- These spans, the one at hand included, are still to come.
+-- These spans, including the current one, are still to come.
 abbrev pub IsAhead : {S : Type 0} → (S → List Span → Type 0) → Ahead S → List Span → Type 0
 IsAhead to_come ahead spans = SpansAreLeft to_come ahead.next ahead.spans spans
 
 -- ---- how many there are at most
 
--- an upper bound on the spans to come, where the source has at most `left` of them
+-- an upper bound on the spans to come, if the source has at most `left` of them
 abbrev pub count_ahead : Option Span → ℕ → ℕ
 count_ahead None left = 0
 count_ahead (Some span) left = left + 1

@@ -1,4 +1,4 @@
--- Answers, and how much of them each version of the address table tells.
+-- Answers, and which of their parts each version of the address table contains.
 use Rattle.std.specs.Prelude.{None}
 use Rattle.lnt_spans.specs.declared.answer.Answer.{Answer}
 use Rattle.lnt_spans.specs.declared.answer.Version.{Version}
@@ -8,7 +8,7 @@ use Rattle.lnt_spans.specs.declared.answer.Version.TheVariants.{One, Two}
 abbrev pub narrowed : Answer → Answer
 narrowed answer = record answer { more = None }
 
--- the answer as a version tells it
+-- the answer, narrowed to what a version contains
 abbrev pub in_version : Version → Answer → Answer
 in_version One answer = narrowed answer
 in_version Two answer = answer

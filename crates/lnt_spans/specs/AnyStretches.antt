@@ -49,15 +49,15 @@ AreRising [] = Unit {0}
 AreRising (stretch ∷ []) = Unit {0}
 AreRising (stretch ∷ next ∷ stretches) = IsBelow stretch.position next.position × AreRising (next ∷ stretches)
 
--- These are exactly the stretches, in rising order: each is one, and at every position that none of them holds both sides
--- answer alike.
+-- These are exactly the stretches, in ascending order: each is one, and at every position that none of them holds both
+-- sides answer alike.
 pub record AreAllStretches {X : Type 0} (by_section by_table : Position → Option X) (stretches : List (Stretch X)) : Type 0 where
   pub each : AllByRecursion (BeginsStretch by_section by_table) stretches
   pub rising : AreRising stretches
   pub all : (p : Position) → (by_section p ≡ by_table p) ⊎ IsInOne by_section by_table stretches p
 
--- These are the first stretches, in rising order: each is one, and at every position below the beginning of one of them that
--- none of them holds both sides answer alike. So no other stretch begins below the last one.
+-- These are the first stretches, in ascending order: each is one, and at every position below the beginning of one of them
+-- that none of them holds both sides answer alike. So no other stretch begins below the last one.
 pub record AreFirstStretches {X : Type 0} (by_section by_table : Position → Option X) (stretches : List (Stretch X)) : Type 0 where
   pub each : AllByRecursion (BeginsStretch by_section by_table) stretches
   pub rising : AreRising stretches

@@ -1,4 +1,4 @@
--- A section's spans compared with the records of a table, as far as these have come: what contracts see of a `Merge`.
+-- A section's spans compared with the records of a table, so far: what contracts see of a `Merge`.
 use Rattle.std.specs.Prelude.{◌≡◌, List, [], ◌∷◌, Option, Some, None}
 use Rattle.lnt_spans.specs.declared.ahead.Ahead.{Ahead}
 use Rattle.lnt_spans.specs.declared.answer.Answer.{Answer}
@@ -54,13 +54,13 @@ IsComparedBy (Some difference) state spans by_table = DifferBefore state spans b
 abbrev pub IsCompared : MergeState → List Span → (Position → Option Answer) → Type 0
 IsCompared state spans by_table = IsComparedBy state.first state spans by_table
 
--- the end of the last record, or the origin where there is none
+-- the end of the last record, or the origin if there is none
 abbrev pub end_of : List Span → Position
 end_of [] = record { address = 0; op = 0 }
 end_of (first ∷ []) = first.high
 end_of (first ∷ next ∷ records) = end_of (next ∷ records)
 
--- The span's answer tells no more than the version does.
+-- The span's answer has no more than the version contains.
 abbrev pub IsTold : Version → Span → Type 0
 IsTold version span = span_in_version version span ≡ span
 

@@ -16,7 +16,7 @@ use Rattle.lnt_spans.specs.ToldStretches.{AreToldBelow}
 
 -- ---- one side
 
--- These spans are still to come, and from `at` on they answer as the function does, as the version tells answers.
+-- These spans are still to come, and from `at` on they answer as the function does, in the fields of the version.
 pub record IsSideAt {S : Type 0} (to_come : S → List Span → Type 0) (version : Version) (ahead : Ahead S) (at : Position)
     (answers : Position → Option Answer) : Type 0 where
   pub rest : List Span
@@ -25,7 +25,7 @@ pub record IsSideAt {S : Type 0} (to_come : S → List Span → Type 0) (version
   pub past : EndsAfter at rest
   pub same : (p : Position) → IsAtMost at p → version_answer version rest p ≡ answers p
 
--- an upper bound on the runs of one answer that are left, where the source has at most `left` spans
+-- an upper bound on the runs of one answer that are left, if the source has at most `left` spans
 abbrev pub runs_left : Position → Option Span → ℕ → ℕ
 runs_left at next left = count_ahead next left + count_ahead next left + gap_before at next
 
@@ -38,8 +38,8 @@ pub record HasTold {S T : Type 0} (of_section : S → List Span → Type 0) (of_
   pub table : IsSideAt of_table differences.version differences.table differences.at by_table
   pub below : AreToldBelow by_section by_table differences.at differences.by_section differences.by_table (stretches_of told)
 
--- An upper bound on the stretches that are left to give, where the two functions bound the spans that are left in the
--- sources. Each stretch begins where a run of one side does, so the runs left on both sides are added up.
+-- An upper bound on the stretches that are left to give, if the two functions bound the spans that are left in the sources.
+-- Each stretch begins where a run of one side does, so the runs left on both sides are added up.
 abbrev pub stretches_left : {S T : Type 0} → (S → ℕ) → (T → ℕ) → Differences S T → ℕ
 stretches_left of_section of_table differences =
     runs_left differences.at differences.section.next (of_section differences.section.spans)

@@ -1,4 +1,4 @@
--- Spans whose numbers are of at most 64 bits, so that they can be written in a table.
+-- Spans whose numbers have at most 64 bits, so that they can be written in a table.
 use Rattle.std.specs.Prelude.{◌^◌, ◌<◌, List, Option, Some, None}
 use Rattle.std.specs.List.{AllByRecursion}
 use Rattle.lnt_spans.specs.declared.answer.Answer.{Answer}

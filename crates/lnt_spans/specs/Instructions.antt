@@ -1,4 +1,4 @@
--- Spans of whole instructions, as all are where no instruction has more than one operation (DWARF 5, section 6.2.4).
+-- Spans of whole instructions, as all are if no instruction has more than one operation (DWARF 5, section 6.2.4).
 use Rattle.std.specs.Prelude.{◌≡◌}
 use Rattle.lnt_spans.specs.declared.span.Span.{Span}
 

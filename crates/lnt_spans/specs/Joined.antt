@@ -20,7 +20,7 @@ HasJoined version pushed given (Some last) = IsJoined version pushed given last
 
 -- ---- what contracts see of a joiner
 
--- the version whose answers it tells
+-- the version to which answers are narrowed
 abbrev pub version_of : Joiner → Version
 version_of joiner = joiner.version
 

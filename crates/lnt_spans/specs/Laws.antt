@@ -30,12 +30,12 @@ Borders = (xs ys : List Span) → AreInOrder xs → AreInOrder ys
 abbrev pub OneCanonical : Type 0
 OneCanonical = (xs ys : List Span) → IsCanonical xs → IsCanonical ys → AgreeEverywhere xs ys → xs ≡ ys
 
--- the first of the list is the least difference; where the list is empty, there is none
+-- the first of the list is the least difference; if the list is empty, there is none
 abbrev pub IsFirst : (Position → Option Answer) → (Position → Option Answer) → List Difference → Type 0
 IsFirst by_section by_table [] = Agree by_section by_table
 IsFirst by_section by_table (first ∷ differences) = IsLeastDifference by_section by_table first
 
--- The first stretch begins at the least difference; where there is no stretch, the two sides answer alike.
+-- The first stretch begins at the least difference; if there is no stretch, the two sides answer alike.
 abbrev pub FirstStretch : Type 0
 FirstStretch =
     (by_section by_table : Position → Option Answer) (differences : List Difference) → AreStretches by_section by_table differences

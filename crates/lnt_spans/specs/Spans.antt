@@ -19,11 +19,11 @@ is_in_span p span = is_at_most span.low p && is_below p span.high
 abbrev pub span_answer : List Span → Position → Option Answer
 span_answer spans p = option_map (λ span. span.answer) (find (is_in_span p) spans)
 
--- that answer, as a version of the address table tells it
+-- that answer, narrowed to what a version of the address table contains
 abbrev pub version_answer : Version → List Span → Position → Option Answer
 version_answer version spans p = option_map (in_version version) (span_answer spans p)
 
--- the span with its answer as the version tells it
+-- the span with its answer narrowed to what the version contains
 abbrev pub span_in_version : Version → Span → Span
 span_in_version version span = record span { answer = in_version version span.answer }
 

@@ -18,12 +18,12 @@ use Rattle.lnt_spans.specs.Comparing.{Merging, MergeState, state_of, IsSound, Is
 
 -- ---- one step on to where one of the two answers ends: how far each of them goes, and what the step brings
 
--- The position isn't after the end, where there is one.
+-- The position isn't after the end, if there is one.
 abbrev pub IsUpTo : Position → Option Position → Type 0
 IsUpTo p None = Unit {0}
 IsUpTo p (Some end) = IsAtMost p end
 
--- It is below the end, where there is one.
+-- It is below the end, if there is one.
 abbrev pub IsBefore : Position → Option Position → Type 0
 IsBefore p None = Unit {0}
 IsBefore p (Some end) = IsBelow p end
@@ -85,7 +85,7 @@ pub record IsScanned (version : Version) (spans : List Span) (from to : Position
 
 -- ---- spans ahead
 
--- The span at hand is the first of these; there is one unless they are empty.
+-- The current span is the first of these; there is one unless they are empty.
 abbrev pub BeginsWith : Option Span → List Span → Type 0
 BeginsWith next [] = next ≡ None
 BeginsWith next (span ∷ spans) = next ≡ Some span
@@ -101,7 +101,8 @@ steps_left next at to = gap_before at next + cond (is_below at to) 1 0
 
 -- ---- a comparison
 
--- No difference was found so far, and the record is the first span that is left, as the table's version tells it.
+-- No difference was found so far, and the record is the first span that is left, narrowed to what the table's version
+-- contains.
 pub record IsNext {S : Type 0} (merge : Merging S) (said : Span) : Type 0 where
   pub span : Span
   pub next : merge.spans.next ≡ Some span

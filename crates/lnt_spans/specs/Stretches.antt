@@ -1,5 +1,5 @@
--- All stretches at which a section and a table answer differently, each told as a difference: its first position, and the
--- two answers that stay the same from there on.
+-- All stretches at which a section and a table answer differently, each as a difference: its first position, and the two
+-- answers that stay the same from there on.
 use Rattle.std.specs.Prelude.{List, Option, map}
 use Rattle.lnt_spans.specs.declared.answer.Answer.{Answer}
 use Rattle.lnt_spans.specs.declared.difference.Difference.{Difference}
@@ -14,6 +14,6 @@ stretch_of difference =
 abbrev pub stretches_of : List Difference → List (Stretch Answer)
 stretches_of differences = map stretch_of differences
 
--- The differences are exactly the stretches, in rising order.
+-- The differences are exactly the stretches, in ascending order.
 abbrev pub AreStretches : (Position → Option Answer) → (Position → Option Answer) → List Difference → Type 0
 AreStretches by_section by_table differences = AreAllStretches by_section by_table (stretches_of differences)

@@ -1,18 +1,18 @@
--- How far stretches are told, whatever an answer is: exactly those that begin below a position.
+-- Which stretches were given, for any kind of answer: exactly those that begin below a position.
 use Rattle.std.specs.Prelude.{◌≡◌, ◌⊎◌, List, Option}
 use Rattle.std.specs.List.{AllByRecursion}
 use Rattle.lnt_spans.specs.declared.position.Position.{Position}
 use Rattle.lnt_spans.specs.AnyStretches.{AreAnswers, AreRising, BeginsStretch, IsInOne, Stay, Stretch}
 use Rattle.lnt_spans.specs.Positions.{IsBelow, IsAtMost}
 
--- The positions from `at` on, for as long as both sides keep these two answers, all lie in one of the stretches told.
+-- The positions from `at` on, for as long as both sides keep these two answers, all lie in one of the stretches given.
 abbrev pub IsOpen : {X : Type 0} → (Position → Option X) → (Position → Option X) → Position → Option X → Option X → List (Stretch X)
     → Type 0
 IsOpen by_section by_table at section table told =
     (p : Position) → IsAtMost at p → Stay by_section by_table section table at p → AreAnswers by_section by_table section table p
     → IsInOne by_section by_table told p
 
--- The stretches told so far are exactly those that begin below `at`.
+-- The stretches given so far are exactly those that begin below `at`.
 pub record AreToldBelow {X : Type 0} (by_section by_table : Position → Option X) (at : Position) (section table : Option X)
     (told : List (Stretch X)) : Type 0 where
   pub each : AllByRecursion (BeginsStretch by_section by_table) told

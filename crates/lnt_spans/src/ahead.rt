@@ -22,7 +22,7 @@ impl<S: SpanSource> Ahead<S> {
         Ahead { next, spans }
     }
 
-    // Drops the span at hand and takes the next one.
+    // Drops the current span and takes the next one.
     #[inline(always)]
     pub(crate) fn pass(&mut self)
         requires { IsSome self.old.next }

@@ -1,8 +1,8 @@
-//! Answers at positions, and how much of an answer an address table tells.
+//! Answers at positions, and which parts of an answer an address table contains.
 ghost use Rattle.std.specs.Prelude.{◌≡◌};
 ghost use Rattle.lnt_spans.specs.Answers.{narrowed, in_version};
 
-/// How much of an answer an address table tells.
+/// Which parts of an answer an address table contains.
 #[derive(Clone, Copy, Debug, PartialEq, Eq)]
 pub enum Version {
     /// Unit, file, line, column and `is_stmt`.
@@ -20,7 +20,7 @@ pub struct More {
     pub discriminator: u64,
 }
 
-/// Where in the source the code at a position comes from (DWARF 5, section 6.2.2).
+/// The place in the source that the code at a position comes from (DWARF 5, section 6.2.2).
 #[derive(Clone, Copy, Debug, PartialEq, Eq)]
 pub struct Answer {
     /// The section offset of the unit that gives this answer.
@@ -33,19 +33,19 @@ pub struct Answer {
     pub column: u64,
     /// Whether the position is a recommended breakpoint location, such as the beginning of a statement.
     pub is_stmt: bool,
-    /// What only version 2 of the address table tells; None where it is left out.
+    /// What only version 2 of the address table contains; `None` if it is left out.
     pub more: Option<More>,
 }
 
 impl Answer {
-    /// The answer as version 1 of the address table tells it: without instruction set and discriminator.
+    /// The answer as version 1 of the address table contains it: without instruction set and discriminator.
     pub fn narrow(self) -> Answer
         ensures { result ≡ narrowed self }
     {
         Answer { more: None, ..self }
     }
 
-    /// The answer as a version of the address table tells it.
+    /// The answer as a version of the address table contains it.
     #[inline(always)]
     pub fn in_version(self, version: Version) -> Answer
         ensures { result ≡ in_version version self }

@@ -2,7 +2,7 @@
 use crate::answer::Answer;
 use crate::position::Position;
 
-/// A position at which a table and a section answer differently, with both answers. An answer is None where no span holds
+/// A position at which a table and a section answer differently, with both answers. An answer is `None` if no span holds
 /// the position.
 #[derive(Clone, Copy, Debug, PartialEq, Eq)]
 pub struct Difference {
@@ -10,6 +10,6 @@ pub struct Difference {
     pub position: Position,
     /// What the table answers there.
     pub by_table: Option<Answer>,
-    /// What the section answers there, as a table of the version that was compared tells it.
+    /// What the section answers there, as a table of the version that was compared contains it.
     pub by_section: Option<Answer>,
 }

@@ -24,8 +24,8 @@ use std::marker::Model;
 /// one by one and are spans too.
 ///
 /// Contracts see the state (`Merging`), and state which spans and records were compared (`Compares`): all spans of the
-/// section, with the records pushed so far. The section's answers are narrowed where the table has version 1; the records of
-/// such a table have None as `more`. A merge keeps no record, only one span and the first difference. It takes no memory.
+/// section, with the records pushed so far. The section's answers are narrowed if the table has version 1; the records of
+/// such a table have `None` as `more`. A merge keeps no record, only one span and the first difference. Allocates nothing.
 #[derive(Drop)]
 pub struct Merge<S> {
     version: Version,
@@ -62,7 +62,7 @@ impl<S: SpanSource + Drop> Merge<S> {
 
     /// A merge that has already compared the records with which both the section and a table of this version begin. These
     /// records end at `at`, and the source gives the spans after them. The caller makes sure that all of them are in order,
-    /// that none is empty, and that the records answer as the version tells answers.
+    /// that none is empty, and that the answers of the records are narrowed to what the version contains.
     pub fn past(spans: S, version: Version, at: Position) -> Merge<S>
         ensures version { result.version ≡ version }
         ensures compares { (passed list : List Span) → S.to_come spans list → AreInOrder (passed ++ list)
@@ -106,7 +106,7 @@ impl<S: SpanSource + Drop> Merge<S> {
     }
 
     /// Gives the least position at which the section and the table answer differently, with both answers, once no record
-    /// follows. None where they answer alike at every position.
+    /// follows. `None` if they answer alike at every position.
     pub fn finish(self) -> Option<Difference>
         ensures { (spans records : List Span) → Compares S.to_come self spans records
             → MatchOption result (Agree (version_answer self.version spans) (span_answer records))
@@ -123,8 +123,8 @@ impl<S: SpanSource + Drop> Merge<S> {
         })
     }
 
-    // Whether no difference was found so far and the record equals the next span as the table's version tells it: the fast
-    // path.
+    // Whether no difference was found so far and the record equals the next span, narrowed to what the table's version
+    // contains: the fast path.
     #[inline(always)]
     fn is_next(&self, span: &Span) -> bool
         ensures { result ≡ true → IsNext self.now span.now }

@@ -16,7 +16,7 @@ use crate::position::Position;
 use crate::source::SpanSource;
 use crate::span::Span;
 
-// A range of positions up to `end` with one answer, and whether the span at hand ends at `end` and so is done with.
+// A range of positions up to `end` with one answer, and whether the current span ends at `end` and so is done with.
 #[derive(Clone, Copy)]
 struct Stretch {
     answer: Option<Answer>,

@@ -50,7 +50,7 @@ pub enum Side {
 }
 
 /// Compares a position with the half-open range from `low` up to `high`, and counts the comparison. A search compares
-/// positions in no other way. The caller sees to it that the count is below 2^64 - 1.
+/// positions in no other way. The caller ensures that the count is below 2^64 - 1.
 #[inline(always)]
 pub fn probe(low: Position, high: Position, position: Position, probes: &mut Probes) -> Side
     requires { probes.old + 1 < 2 ^ 64 }
@@ -67,11 +67,11 @@ pub fn probe(low: Position, high: Position, position: Position, probes: &mut Pro
     }
 }
 
-/// The answer of the span that holds the position, or None where no span does.
+/// The answer of the span that holds the position, or `None` if no span does.
 ///
-/// The position is compared with at most as many spans as their number has binary digits, so with none where there are no
-/// spans; `probes` rises by the number of comparisons. The caller makes sure that the spans are in order, that none is
-/// empty, and that `probes` stands at 2^63 or below. It takes no memory.
+/// The position is compared with at most as many spans as their number has binary digits, so with none if there are no
+/// spans; the number of comparisons is added to `probes`. The caller makes sure that the spans are in order, that none is
+/// empty, and that `probes` is at most 2^63. Allocates nothing.
 pub fn lookup(spans: &[Span], position: Position, probes: &mut Probes) -> Option<Answer>
     requires order { AreInOrder spans.now }
     requires count { probes.old ≤ 2 ^ 63 }

@@ -16,13 +16,13 @@ pub trait SpanSource {
 
     ghost left: { Self → ℕ };
 
-    /// Gives the next span, or None where none is left.
+    /// Gives the next span, or `None` if none is left.
     fn next_span(&mut self) -> Option<Span>
         ensures gives { (spans : List spec.Span) → to_come self.old spans → GivesFirstSpan (to_come self.new) spans result }
         ensures fewer { IfSome result (λ _. left self.new < left self.old) };
 }
 
-/// Collects all spans of a source. The one error is that memory ran out.
+/// Collects all spans of a source. Fails only if memory runs out.
 pub fn collect<S: SpanSource + Drop>(alloc: Global, spans: S) -> Result<Vec<Span>, AllocError>
     ensures { IfOk result (λ all. (list : List spec.Span) → S.to_come spans list → all.items ≡ list) }
 {

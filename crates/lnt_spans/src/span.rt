@@ -5,7 +5,7 @@ ghost use Rattle.lnt_spans.specs.Spans.{span_in_version};
 use crate::answer::{Answer, Version};
 use crate::position::Position;
 
-/// The half-open range of positions from `low` up to `high`, with one answer. It is empty where `low` isn't below `high`.
+/// The half-open range of positions from `low` up to `high`, with one answer. It is empty if `low` isn't below `high`.
 #[derive(Clone, Copy, Debug, PartialEq, Eq)]
 pub struct Span {
     /// The first position in the span.
@@ -17,8 +17,8 @@ pub struct Span {
 }
 
 impl Span {
-    /// The span with its answer as a version of the address table tells it: version 1 tells neither the instruction set nor
-    /// the discriminator.
+    /// The span with its answer as a version of the address table contains it: version 1 has neither the instruction set
+    /// nor the discriminator.
     #[inline(always)]
     pub fn in_version(self, version: Version) -> Span
         ensures { result ≡ span_in_version version self }

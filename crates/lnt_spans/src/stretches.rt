@@ -29,7 +29,7 @@ use crate::span::Span;
 /// stay the same. The spans of both sides come as they are needed, each from a source of its own.
 ///
 /// Contracts see which stretches were given (`HasTold`), and an upper bound on the number left (`stretches_left`). No list
-/// of them is held: only the next span of each side, and the last two answers. It takes no memory.
+/// of them is held: only the next span of each side, and the last two answers. Allocates nothing.
 #[derive(Drop)]
 pub struct Differences<S, T> {
     version: Version,
@@ -42,7 +42,7 @@ pub struct Differences<S, T> {
     by_table: Option<Answer>,
 }
 
-// One side's answer, and where it may end; no end where it never does.
+// One side's answer, and where it may end; no end if it never does.
 #[derive(Clone, Copy)]
 struct Run {
     answer: Option<Answer>,
@@ -63,7 +63,8 @@ enum Step {
 impl<S: SpanSource, T: SpanSource> Differences<S, T> {
     /// Starts at `at`, with no stretch given yet, for a section and a table that begin with the same spans up to there; the
     /// sources give the spans after these. The caller makes sure that the spans of both are in order, that none is empty,
-    /// and that the table's spans answer as the version tells answers. Without any spans in common, `at` is the origin.
+    /// and that the answers of the table's spans are narrowed to what the version contains. Without any spans in common,
+    /// `at` is the origin.
     pub fn past(section: S, table: T, version: Version, at: Position) -> Differences<S, T>
         ensures { (by_section : spec_position.Position → Option spec_answer.Answer) (passed spans records : List spec.Span)
             → S.to_come section spans → T.to_come table records
@@ -82,8 +83,8 @@ impl<S: SpanSource, T: SpanSource> Differences<S, T> {
         }
     }
 
-    /// Gives the next stretch: its first position and the two answers. None once all were given; those are then exactly the
-    /// stretches, in rising order.
+    /// Gives the next stretch: its first position and the two answers. `None` once all were given; those are then exactly
+    /// the stretches, in ascending order.
     pub fn next_difference(&mut self) -> Option<Difference>
         requires { (by_section : spec_position.Position → Option spec_answer.Answer)
             × (by_table : spec_position.Position → Option spec_answer.Answer) × (told : List spec_difference.Difference)
@@ -136,7 +137,7 @@ impl<S: SpanSource, T: SpanSource> Differences<S, T> {
     }
 }
 
-// The answer at `at`, as the version tells answers, and where it may end; no end where it never does.
+// The answer at `at`, narrowed to what the version contains, and where it may end; no end if it never does.
 fn run_at(version: Version, next: Option<Span>, at: Position) -> Run
     ensures end { result.end ≡ run_end at next }
     ensures run { (spans : List spec.Span) → BeginsWith next spans → AreInOrder spans → EndsAfter at spans
@@ -160,7 +161,7 @@ fn run_at(version: Version, next: Option<Span>, at: Position) -> Run
     }
 }
 
-// The earlier of two ends; None where both are.
+// The earlier of two ends; `None` if both are.
 fn earlier_end(one: Option<Position>, other: Option<Position>) -> Option<Position>
     ensures { MatchOption result ((one ≡ None) × (other ≡ None))
         (λ end. IsUpTo end one × IsUpTo end other × ((one ≡ Some end) ⊎ (other ≡ Some end))) }

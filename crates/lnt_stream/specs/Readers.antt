@@ -6,7 +6,7 @@ use Rattle.lnt_input.specs.declared.source.Source.{Ghosts}
 use Rattle.lnt_stream.specs.declared.reader.Progress.{Progress}
 use Rattle.lnt_stream.specs.declared.reader.SectionReader.{SectionReader}
 
--- the source that the reader borrows, as it is by now
+-- the source that the reader borrows, in its current state
 abbrev pub source_of : {R : Type 0} {source : Ghosts R} → SectionReader R source → R
 source_of reader = reader.source.now
 
@@ -18,10 +18,10 @@ loan_of reader = reader.source.ghost_name
 abbrev pub order_of : {R : Type 0} {source : Ghosts R} → SectionReader R source → Order
 order_of reader = reader.order
 
--- the offset in the section at which the next unit stands
+-- the offset in the section of the next unit
 abbrev pub offset_of : {R : Type 0} {source : Ghosts R} → SectionReader R source → ℕ
 offset_of reader = reader.offset
 
--- where the reader stands
+-- the progress of the reader
 abbrev pub progress_of : {R : Type 0} {source : Ghosts R} → SectionReader R source → Progress
 progress_of reader = reader.progress

@@ -15,7 +15,7 @@ use Rattle.lnt_stream.specs.Units.{IsNextUnit, SectionEndsBy, BufferedUnit}
 -- itself.
 pub record IsStep {R : Type 0} {source : Ghosts R} (old new : SectionReader R source)
     (answer : Result (Option BufferedUnit) SectionStop) : Type 0 where
-  -- a unit is the next one, and the reader goes on after it
+  -- a unit is the next one, and the reader continues after it
   pub unit : IfOk answer (λ got. IfSome got (λ unit.
       IsNextUnit (offset_of old) (order_of old) (source.remaining (source_of old)) (source.remaining (source_of new)) unit))
   pub goes_on : IfOk answer (λ got. IfSome got (λ unit.
@@ -28,7 +28,7 @@ pub record IsStep {R : Type 0} {source : Ghosts R} (old new : SectionReader R so
       (SectionEndsBy (offset_of old) (order_of old) (source.remaining (source_of old)) None))
   pub not_long : progress_of old ≡ Reading → IfOk answer (λ got. IfNone got (source.too_long (source_of new) ≡ false))
   pub ends : IfOk answer (λ got. IfNone got (progress_of new ≡ Ended))
-  -- what a stop says is so, and the reader is done
+  -- what a stop says is true, and the reader is done
   pub fault : IfErr answer (λ why. IfFault why (λ fault.
       SectionEndsBy (offset_of old) (order_of old) (source.remaining (source_of old)) (Some fault)))
   pub read : IsErrOf answer stop.Read → source.failures (source_of new) ≡ source.failures (source_of old) + 1

@@ -7,13 +7,13 @@ use Rattle.lnt_stream.specs.declared.stop.SectionStop.{SectionStop}
 use Rattle.lnt_wire.specs.FaultTexts.{fault_text}
 use Rattle.lnt_stream.specs.declared.stop.SectionStop.TheVariants.{Fault as stop_fault, Memory, Read, TooLong, Failed}
 
--- the stop of a reader whose source was stopped
+-- the stop of a reader whose source stopped
 abbrev pub stop_of : Stop → SectionStop
 stop_of source.Memory = Memory
 stop_of source.Read = Read
 stop_of source.TooLong = TooLong
 
--- Where the stop is a fault, IsSo is so of it.
+-- If the stop is a fault, IsSo holds for it.
 abbrev pub IfFault : SectionStop → (Fault → Type 0) → Type 0
 IfFault (stop_fault fault) IsSo = IsSo fault
 IfFault _ IsSo = Unit {0}

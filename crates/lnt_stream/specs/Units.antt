@@ -21,16 +21,16 @@ pub record IsWholeUnit (unit : BufferedUnit) : Type 0 where
   pub spelled : FrameBytes unit.order (format, body) unit.bytes
   pub room : unit.offset + length unit.bytes < 2 ^ 64
 
--- The unit is a whole one at the offset, and its bytes are the next of a source: of those that the source had to give (old), the
--- others are left (new).
+-- The unit is a whole one at the offset, and its bytes are the next of a source: those of the source before (old) are these and
+-- the remaining ones (new).
 pub record IsNextUnit (offset : ℕ) (order : Order) (old new : Option (List ℕ)) (unit : BufferedUnit) : Type 0 where
   pub whole : IsWholeUnit unit
   pub offset_is : unit.offset ≡ offset
   pub order_is : unit.order ≡ order
   pub pulls : Pulls old new unit.bytes
 
--- The section ends at the offset, where the source tells the bytes that it has to give (remaining): nothing is left; or, with a
--- fault, some bytes, which begin with no frame, for the fault's reason at its place.
+-- The section ends at the offset, if the source's bytes are known (remaining): nothing is left; or, with a fault, some bytes
+-- that don't begin with a frame, for the fault's reason at its place.
 abbrev pub SectionEndsBy : ℕ → Order → Option (List ℕ) → Option Fault → Type 0
 SectionEndsBy offset order remaining fault =
     IfSome remaining (λ bytes. EndsBy (record { place = offset; rest = bytes; order = order }) fault)

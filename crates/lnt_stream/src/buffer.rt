@@ -10,9 +10,9 @@ use lnt_wire::{Cursor, Fault, Format, Frame, Order, take_frame};
 use std::marker::Model;
 
 /// The bytes of one whole unit: its initial length, and the body that it counts, which begins with version 5 (DWARF 5,
-/// sections 6.2.4 and 7.4). What else stands in the body isn't judged.
+/// sections 6.2.4 and 7.4). The rest of the body isn't checked.
 ///
-/// A `SectionReader` alone makes one. A contract sees the offset of the unit in the section, its bytes, and the byte order
+/// Only a `SectionReader` makes one. A contract sees the offset of the unit in the section, its bytes, and the byte order
 /// of its numbers.
 #[derive(Debug, Drop)]
 pub struct UnitBuffer {
@@ -33,9 +33,9 @@ impl Model for UnitBuffer {
 }
 
 impl UnitBuffer {
-    // The unit that these bytes are, which stands at the offset in the section; or the fault for which they begin with no
-    // frame. The caller sees to it that no frame that begins with these bytes is shorter than they are, so that the frame
-    // is all of them.
+    // The unit that these bytes are, at the offset in the section; or the fault for which they don't begin with a frame.
+    // The caller ensures that no frame at the start of these bytes is shorter than they are, so that the frame is all of
+    // them.
     #[tactic(auto, using(crate::proofs::BufferLemmas::spelled_whole))]
     pub(crate) fn of(bytes: Vec<u8>, offset: u64, order: Order) -> Result<UnitBuffer, Fault>
         requires room { offset + length bytes.items < 2 ^ 64 }
@@ -70,8 +70,8 @@ impl UnitBuffer {
         self.bytes.as_slice()
     }
 
-    /// The bytes of the unit as the vector that holds them, which isn't copied, for a caller that is done with the unit:
-    /// `next_unit_in` reads the next unit into the same memory.
+    /// The bytes of the unit as the vector that holds them, without a copy. A caller that is done with the unit can pass it
+    /// to `next_unit_in`, which reads the next unit into the same memory.
     pub fn into_bytes(self) -> Vec<u8>
         ensures { result.items ≡ self.bytes }
     {

@@ -1,4 +1,4 @@
-//! The reader of a section, which gives one unit after another.
+//! The reader of a section, which returns one unit after another.
 ghost use Rattle.std.specs.Prelude.{◌≡◌, ◌≢◌, ℕ, ◌+◌, ◌-◌, ◌^◌, ◌<◌, length};
 ghost use Rattle.std.specs.Prelude.{IsTrue, false, IfOk, IfErr, OnErr, IsErrOf, IfSome, IfNone};
 ghost use Rattle.lnt_input.specs.Pulling.{HasMoreThan};
@@ -13,21 +13,21 @@ use lnt_input::Source;
 use lnt_wire::Order;
 use std::alloc::Global;
 
-/// Where a reader of a section stands, and so what its next call does.
+/// The progress of a reader of a section, which determines what its next call does.
 #[derive(Clone, Copy, Debug, PartialEq, Eq)]
 pub enum Progress {
     /// Before a unit, or at the end of the section, which isn't known yet: the next call reads on.
     Reading,
-    /// After the end of the section, which was answered: each further call answers none.
+    /// The end of the section was returned: each further call returns `None`.
     Ended,
-    /// After a stop: each further call is stopped by `Failed`.
+    /// A call has stopped: each further call stops with `Failed`.
     Failed,
 }
 
 /// Reads a section unit by unit from a source, which it borrows.
 ///
-/// A contract sees the source by now and which one it is, the byte order, the offset in the section at which the next
-/// unit stands, and the progress (`source_of` and its neighbours).
+/// A contract sees the source in its current state and which one it is, the byte order, the offset in the section of the
+/// next unit, and the progress (`source_of` and its neighbours).
 #[derive(Drop)]
 pub struct SectionReader<'s, R: Source> {
     source: &'s mut R,
@@ -42,8 +42,8 @@ impl<'s, R: Source> SectionReader<'s, R> {
     ghost use Rattle.lnt_stream.specs.Readers.{source_of, loan_of, order_of, offset_of, progress_of};
     ghost use Rattle.lnt_stream.specs.Steps.{IsStep};
 
-    /// A reader before the first unit of the section that the source has to give from where it stands, with numbers in this
-    /// byte order. It takes nothing of the source yet. The caller sees to it that the source has failed fewer than
+    /// A reader before the first unit of the section that the source gives from its current position on, with numbers in
+    /// this byte order. It doesn't read from the source yet. The caller ensures that the source has failed fewer than
     /// `u64::MAX` times.
     pub fn new(source: &'s mut R, order: Order) -> SectionReader<'s, R>
         requires { R.failures source.now < 2 ^ 64 - 1 }
@@ -53,7 +53,7 @@ impl<'s, R: Source> SectionReader<'s, R> {
         ensures offset { offset_of result ≡ 0 }
         ensures order { order_of result ≡ order }
     {
-        // The bytes to come are counted by a u64, so each offset is one.
+        // The remaining bytes are counted by a u64, so each offset is a u64.
         let _left = source.left();
         SectionReader {
             source,
@@ -63,31 +63,31 @@ impl<'s, R: Source> SectionReader<'s, R> {
         }
     }
 
-    /// Where the reader stands: whether it reads on, has told the end of the section, or was stopped.
+    /// The reader's progress: whether it reads on, has returned the end of the section, or has stopped.
     pub fn progress(&self) -> Progress
         ensures { result ≡ progress_of self.now }
     {
         self.progress
     }
 
-    /// The offset in the section, in bytes, at which the next unit stands: how many bytes the units that were given have.
+    /// The offset in the section, in bytes, of the next unit: the number of bytes of all units returned so far.
     pub fn offset(&self) -> u64
         ensures { result ≡ offset_of self.now }
     {
         self.offset
     }
 
-    /// The next unit of the section, or none at its end (DWARF 5, sections 6.2.4 and 7.4).
+    /// The next unit of the section, or `None` at its end (DWARF 5, sections 6.2.4 and 7.4).
     ///
-    /// The unit's bytes are the next ones of the source, and its offset is the number of bytes of all units before it. None
-    /// comes only where the section ends after the last unit, and again in each later call. The source is never asked for
-    /// more bytes than the initial length, or the unit at hand, still needs, and no memory is reserved for more than 64 KiB
-    /// ahead of the bytes that came.
+    /// The unit's bytes are the next ones of the source, and its offset is the number of bytes of all units before it.
+    /// `None` is returned only if the section ends after the last unit, and again in each later call. No more bytes are
+    /// ever read from the source than the initial length, or the current unit, still needs, and memory is reserved for at
+    /// most 64 KiB ahead of the bytes that came.
     ///
-    /// It is stopped by a `Fault` only where bytes are left that begin with no unit: `Truncated` at the unit's offset where
-    /// the section ends within the unit, and the others as in `take_frame`. By `Read` only where the source failed; by
-    /// `TooLong` only where the source has more bytes than it may give; and by `Memory`. From then on every call is stopped
-    /// by `Failed`, and leaves the source alone.
+    /// Stops with a `Fault` only if the remaining bytes don't begin with a unit: `Truncated` at the unit's offset if the
+    /// section ends within the unit, and the others as in `take_frame`. Stops with `Read` only if the source failed; with
+    /// `TooLong` only if the source has more bytes than it may give; and with `Memory`. From then on every call stops with
+    /// `Failed`, and doesn't use the source.
     pub fn next_unit(&mut self, alloc: Global) -> Result<Option<UnitBuffer>, SectionStop>
         ensures unit { IfOk result (λ got. IfSome got (λ unit.
             IsNextUnit (offset_of self.old) (order_of self.old) (R.remaining (source_of self.old))
@@ -119,10 +119,10 @@ impl<'s, R: Source> SectionReader<'s, R> {
         self.next_unit_in(Vec::new(alloc))
     }
 
-    /// The next unit of the section, as `next_unit` gives it, with its bytes read into this vector, which grows where the
-    /// unit needs more. What the vector held is dropped.
+    /// The next unit of the section, as `next_unit` returns it, with its bytes read into this vector, which grows if the
+    /// unit needs more. The vector's contents are dropped.
     ///
-    /// A caller that is done with a unit gets the vector back by `UnitBuffer::into_bytes`, and so reads a whole section in the
+    /// `UnitBuffer::into_bytes` returns the vector of a unit that is no longer needed. So a whole section can be read in the
     /// memory of its largest unit.
     pub fn next_unit_in(&mut self, room: Vec<u8>) -> Result<Option<UnitBuffer>, SectionStop>
         ensures { IsStep self.old self.new result }
@@ -132,7 +132,7 @@ impl<'s, R: Source> SectionReader<'s, R> {
             Progress::Ended => return Ok(None),
             Progress::Failed => return Err(SectionStop::Failed),
         }
-        // It has failed, unless all goes well.
+        // It has failed unless everything below succeeds.
         self.progress = Progress::Failed;
         let Some(unit) = take_unit(self.source, room, self.offset, self.order)? else {
             self.progress = Progress::Ended;
@@ -144,8 +144,8 @@ impl<'s, R: Source> SectionReader<'s, R> {
     }
 }
 
-// The unit that comes next from the source and stands at the offset in the section, or none where the source has ended. Its
-// bytes take the place of those in `bytes`. After a stop nothing is said of how far the source was read.
+// The next unit from the source, at the offset in the section, or `None` if the source has ended. Its bytes replace those
+// in `bytes`. After a stop, how far the source was read is unspecified.
 #[tactic(auto, using(crate::proofs::ReaderLemmas::unit_exits))]
 fn take_unit<R: Source>(
     source: &mut R,

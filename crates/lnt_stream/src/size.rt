@@ -1,13 +1,13 @@
-//! How many bytes of a unit may be asked for, by those that came (DWARF 5, section 7.4).
+//! The number of bytes of a unit that may be read, by those that came already (DWARF 5, section 7.4).
 ghost use Rattle.std.specs.Prelude.{◌≡◌, ◌+◌, ◌<◌, length};
 ghost use Rattle.lnt_wire.specs.FrameFaults.{IsCutFrame};
 ghost use Rattle.lnt_stream.specs.Sizes.{IsLeastSize};
 
 use lnt_wire::{Cursor, Order};
 
-// How many more bytes surely belong to the frame that begins with these bytes: those up to the end of its initial length,
-// and once that is whole, those up to the end of the frame. It is 0 where the frame is whole, or its initial length is a
-// reserved one.
+// The number of further bytes that surely belong to the frame that begins with these bytes: those up to the end of its
+// initial length and, once that is complete, those up to the end of the frame. It is 0 if the frame is complete, or its
+// initial length is a reserved one.
 pub(crate) fn missing_size(bytes: &[u8], order: Order) -> u64
     ensures least { 0 < result → IsLeastSize order bytes.now (length bytes.now + result) }
     ensures whole { result ≡ 0 → IsCutFrame order bytes.now → ⊥ }
@@ -15,7 +15,7 @@ pub(crate) fn missing_size(bytes: &[u8], order: Order) -> u64
     missing_at(&mut Cursor::new(bytes, 0, order))
 }
 
-// The same for the bytes that a cursor has left. Nothing is said of where the cursor then stands.
+// The same for the remaining bytes of a cursor, whose place is then unspecified.
 #[tactic(auto, using(crate::proofs::SizeLemmas::sizes))]
 fn missing_at(cursor: &mut Cursor<'_>) -> u64
     ensures least { 0 < result → IsLeastSize cursor.old.order cursor.old.rest (length cursor.old.rest + result) }

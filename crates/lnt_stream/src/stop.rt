@@ -1,4 +1,4 @@
-//! Why a reader of a section is stopped.
+//! Why a reader of a section stops.
 ghost use Rattle.std.specs.Prelude.{◌≡◌, Some};
 ghost use Rattle.lnt_stream.specs.declared.stop.SectionStop.TheVariants.{Fault as StopFault};
 ghost use Rattle.lnt_stream.specs.Stops.{stop_of, section_stop_text};
@@ -8,19 +8,19 @@ use lnt_wire::Fault;
 use std::error::Error;
 use std::fmt;
 
-/// Why no further unit comes, though the section hasn't ended. The reader is done with it.
+/// Why no further unit comes, though the section hasn't ended. The reader reads no further.
 #[derive(Clone, Copy, Debug, PartialEq, Eq)]
 pub enum SectionStop {
-    /// The bytes that are left begin with no unit, for a reason from 1 to 3: `Truncated`, `ReservedLength` or
+    /// The remaining bytes don't begin with a unit, for a reason from 1 to 3: `Truncated`, `ReservedLength` or
     /// `VersionNotFive` (DWARF 5, sections 6.2.4 and 7.4).
     Fault(Fault),
-    /// 33: memory ran out, which says nothing of the bytes.
+    /// 33: memory ran out. The bytes may be valid.
     Memory,
     /// 34: the source failed to give its next bytes.
     Read,
     /// 35: the source has more bytes than its limit allows it to give.
     TooLong,
-    /// 41: an earlier call of the same reader was stopped.
+    /// 41: an earlier call of the same reader stopped.
     Failed,
 }
 

@@ -1,4 +1,4 @@
-//! The bytes of a unit, taken from a source block by block, and none after them.
+//! The bytes of a unit, read from a source block by block, and none after them.
 ghost use Rattle.std.specs.Prelude.{◌≡◌, ◌≢◌, ◌+◌, ◌-◌, ◌^◌, ◌<◌, [], length};
 ghost use Rattle.std.specs.Prelude.{IfOk, IfSome, OnOk, IsErrOf, IsTrue, false, MatchBool};
 ghost use Rattle.lnt_wire.specs.FrameFaults.{IsCutFrame};
@@ -9,9 +9,9 @@ use crate::size::missing_size;
 use lnt_input::{BLOCK, Source, Stop, take_block};
 use lnt_wire::Order;
 
-// Takes the bytes of the frame that comes next, and none after them: all of them, or those up to the end of the source. It
-// answers whether they came as far as the initial length tells: false says that the source ended within the frame, or had
-// nothing left. No byte is asked for that isn't of the frame, and memory is reserved for no more than one block ahead.
+// Reads the bytes of the next frame, and none after them: all of them, or those up to the end of the source. It returns
+// whether the frame is complete: false means that the source ended within the frame, or had no bytes left. No byte after
+// the frame is read, and memory is reserved for at most one block ahead.
 #[tactic(auto, using(crate::proofs::TakingLemmas::taking))]
 pub(crate) fn take_unit_bytes<R: Source>(
     source: &mut R,

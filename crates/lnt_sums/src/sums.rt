@@ -12,18 +12,17 @@ use md5::{Digest, Md5};
 pub enum Agreement {
     /// The sum of the bytes is the listed one, in all 16 bytes.
     Same,
-    /// The sum of the bytes is this one, in the order of its bytes as MD5 gives them. It isn't the listed one.
+    /// The sum of the bytes is this one, in the byte order of MD5. It isn't the listed one.
     Differs([u8; 16]),
 }
 
-// How many bytes are asked of a source at once. They lie on the stack, so no memory is asked for.
+// The number of bytes that are read from a source at once. They are on the stack, so no memory is allocated.
 const BLOCK: usize = 1 << 14;
 
-/// The MD5 sum of all bytes that the source has to give, from where it stands to its end. It takes no memory.
+/// The MD5 sum of all remaining bytes of the source, up to its end. Allocates nothing.
 ///
-/// It stops with `Read` only where the source failed, once, which is not tried again, and with `TooLong` only where the
-/// source was found to have more bytes than it may give. The caller sees to it that the source has failed fewer than
-/// `u64::MAX` times.
+/// Stops with `Read` only if the source failed, once, which isn't retried, and with `TooLong` only if the source was found
+/// to have more bytes than it may give. The caller ensures that the source has failed fewer than `u64::MAX` times.
 #[tactic(auto, using(crate::proofs::SumLemmas::summing))]
 pub fn sum_of<R: Source>(source: &mut R) -> Result<[u8; 16], Stop>
     requires { R.failures source.old < 2 ^ 64 - 1 }
@@ -52,11 +51,11 @@ pub fn sum_of<R: Source>(source: &mut R) -> Result<[u8; 16], Stop>
     Ok(hasher.finalize())
 }
 
-/// Whether the MD5 sum of all bytes that the source has to give is the listed one, which an entry of a file table gives
-/// in 16 bytes (`DW_LNCT_MD5` of DWARF 5, section 6.2.4.1). It takes no memory.
+/// Whether the MD5 sum of all bytes from the source is the listed one, which an entry of a file table gives in 16 bytes
+/// (`DW_LNCT_MD5` of DWARF 5, section 6.2.4.1). Allocates nothing.
 ///
-/// It stops as `sum_of` does: with `Read` only where the source failed, and with `TooLong` only where it has more bytes
-/// than it may give. The caller sees to it that the source has failed fewer than `u64::MAX` times.
+/// Stops as `sum_of` does: with `Read` only if the source failed, and with `TooLong` only if it has more bytes than it may
+/// give. The caller ensures that the source has failed fewer than `u64::MAX` times.
 pub fn md5_agrees<R: Source>(source: &mut R, listed: &[u8; 16]) -> Result<Agreement, Stop>
     requires { R.failures source.old < 2 ^ 64 - 1 }
     ensures ok { IfOk result (λ agreement.

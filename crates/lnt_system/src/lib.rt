@@ -1,4 +1,4 @@
-//! The files and the standard streams of the process, as the program `linetab` hands them to `lnt_cli::run`.
+//! The files and the standard streams of the process, as the program `linetab` passes them to `lnt_cli::run`.
 #![tactic(auto)]
 
 mod output;

@@ -2,12 +2,12 @@
 use std::cell::Cell;
 use std::io::{self, ErrorKind, Write};
 
-/// A writer, which tells where it is a pipe that nobody reads any more.
+/// A writer that records whether it is a pipe that nobody reads any more.
 #[derive(Drop)]
 pub struct Output<'a, W> {
-    /// What is written to.
+    /// The underlying writer.
     pub writer: W,
-    /// Set where a write fails since nobody reads the pipe any more, and else left as it is.
+    /// Set if a write fails because nobody reads the pipe any more, and otherwise unchanged.
     pub is_unread: &'a Cell<bool>,
 }
 

@@ -5,30 +5,30 @@ use std::cell::Cell;
 use std::fs::{self, File};
 use std::io::{self, Read, Stdin};
 
-/// Files that hold the descriptors of standard input, output and error, where the process was started without them. They
-/// are given back where it is let go.
+/// Files that hold the descriptors of standard input, output and error, if the process was started without them. They are
+/// closed when this is dropped.
 #[derive(Drop)]
 pub struct Held(Option<File>, Option<File>, Option<File>);
 
-/// Opens the root folder three times, before any other file. A file gets the least descriptor that is free, so where the
-/// process was started without standard input, the first file that the words name would be read as standard input too.
-/// A folder there can neither be read nor written, so `-` is refused, and so is what would be printed.
+/// Opens the root folder three times, before any other file. A file gets the lowest free descriptor, so if the process was
+/// started without standard input, the first file among the words would be read as standard input too. A folder there can
+/// neither be read nor written, so reading `-` fails, and so does printing.
 pub fn hold_standard_descriptors(rt: &HostRuntime) -> Held {
     let open = || fs::open(rt, "/").ok();
     Held(open(), open(), open())
 }
 
-/// Why the last file that failed couldn't be opened or read. None where none failed.
+/// Why the last file that failed couldn't be opened or read. `None` if none failed.
 pub type Reason = Cell<Option<io::Error>>;
 
-// What a name stands for.
+// What a name refers to.
 #[derive(Drop)]
 enum Input {
     File(File),
     Standard(Stdin),
 }
 
-/// A file that is read. Where a read fails, the reason is kept.
+/// A file that is read. If a read fails, the reason is kept.
 #[derive(Drop)]
 pub struct Reader<'a> {
     input: Input,
@@ -103,7 +103,7 @@ impl<'a> Opener for System<'a> {
         Some(self.reader(Input::Standard(self.rt.stdin())))
     }
 
-    // A pipe that was read has nothing left, and one that was opened anew might wait for ever.
+    // A pipe that was read has nothing left, and opening one again might wait for ever.
     fn reader_again(&mut self, name: &str) -> Option<Reader<'a>> {
         if name == "-" || !self.is_regular(name) {
             return None;

@@ -18,8 +18,8 @@ use Rattle.lnt_table.specs.ByPath.{told_path}
 use Rattle.lnt_table.specs.Headline.{IsGoodSection, IsTrueOfSection, IsTrueVerdict}
 
 -- The table begins with the header of neither version 1 nor 2. `compared` is true of the table and of the answers of the
--- units' rows, with each file's whole path, as versions 3 and 4 tell answers: `Fault` of the header, where the table begins
--- with that of neither of these.
+-- units' rows, with the full path of each file, in the fields of versions 3 and 4: `Fault` of the header if the table
+-- begins with that of neither of these.
 pub record IsComparedByPath (index : Indexed) (dead : Option ℕ) (skip : Bool) (units : List (ℕ × UnitParts)) (table : List ℕ)
     (compared : ComparedByPath) : Type 0 where
   pub unnumbered : (version : Version) → BeginsWith table (column_names version ∷ []) → ⊥
@@ -31,8 +31,8 @@ pub record IsTrueByPath (line general : List ℕ) (options : Options) (section t
   pub of_section : IsIndexOfSection line general options section index
   pub told : IsComparedByPath index options.dead options.skip_copies of_section.units table compared
 
--- The answer is true, and a reason that it gives is the first. Where the section is good and the table begins with the header
--- of neither version 1 nor 2, it is an answer by path and no verdict.
+-- The answer is true, and a reason that it gives is the first. If the section is good and the table begins with the header of
+-- neither version 1 nor 2, it is an answer by path, not a verdict.
 abbrev pub IsTrueCheck : List ℕ → List ℕ → Options → List ℕ → List ℕ → Checked → Type 0
 IsTrueCheck line general options section table (Numbered verdict) =
     IsTrueVerdict line general options section table verdict × (verdict ≢ No no.TableHeader)

@@ -26,7 +26,7 @@ use Rattle.lnt_table.specs.declared.verdict.TableNo.TheVariants as no
 use Rattle.lnt_table.specs.declared.verdict.Verdict.{Verdict}
 use Rattle.lnt_table.specs.declared.verdict.Verdict.TheVariants.{Yes, No}
 
--- the answer of a section's rows at a position, as this version of the address table tells answers
+-- the answer of a section's rows at a position, in the fields of this version of the address table
 abbrev pub told_answer : Version → Option ℕ → Bool → List (ℕ × UnitParts) → Position → Option Answer
 told_answer version dead skip units p = option_map (in_version version) (line_answer dead skip units p)
 
@@ -39,7 +39,7 @@ pub record AnswersRight (line general : List ℕ) (options : Options) (section t
   pub is_table : IsTableOf version table spans
   pub answers : (p : Position) → span_answer spans p ≡ told_answer version options.dead options.skip_copies units p
 
--- The section is good. The table's bytes are no table, and `told` is their first fault.
+-- The section is good. The table's bytes aren't a table, and `told` is their first fault.
 pub record IsFaultyTable (line general : List ℕ) (options : Options) (section table : List ℕ) (told : TableFault) : Type 0 where
   pub units : List (ℕ × UnitParts)
   pub good : IsGood line general options section units
@@ -76,14 +76,14 @@ IsTrueVerdict line general options section table (No reason) = IsTrueTableNo lin
 abbrev pub IsGoodSection : List ℕ → List ℕ → Options → List ℕ → Type 0
 IsGoodSection line general options section = (units : List (ℕ × UnitParts)) × IsGood line general options section units
 
--- The verdict's reason is why the section isn't good; where it gives no such reason, the section is good.
+-- The verdict's reason is why the section isn't good; if it gives no such reason, the section is good.
 abbrev pub IsTrueOfSection : List ℕ → List ℕ → Options → List ℕ → Verdict → Type 0
 IsTrueOfSection line general options section (No (no.Section reason)) = IsTrueNo line general options section reason
 IsTrueOfSection line general options section other = IsGoodSection line general options section
 
 -- ---- a stop
 
--- A source was found to have more bytes than the `left` that it may give. Where its bytes are known, they are more than these.
+-- A source was found to have more bytes than the `left` that it may give. If its bytes are known, they are more than these.
 pub record IsFoundTooLong (found : Bool) (remaining : Option (List ℕ)) (left : ℕ) : Type 0 where
   pub is_found : IsTrue found
   pub more : HasMoreThan remaining left

@@ -33,13 +33,13 @@ pub record OneVerdict : Type 0 where
   pub one : (line general : List ℕ) (options : Options) (section table : List ℕ) (one other : Verdict)
       → IsTrueVerdict line general options section table one → IsTrueVerdict line general options section table other → one ≡ other
 
--- For a good section, and a table that was written of its lines, Yes is the only true verdict.
+-- For a good section, and a table that was written from its lines, Yes is the only true verdict.
 abbrev pub OwnTable : Type 0
 OwnTable = (line general : List ℕ) (options : Options) (section table : List ℕ) (lines : Contents) (version : Version) (verdict : Verdict)
     → AreLinesOf line general options section lines → IsTableOfLines version lines.spans table
     → IsTrueVerdict line general options section table verdict → verdict ≡ Yes
 
--- The same for a table that was written of its index.
+-- The same for a table that was written from its index.
 abbrev pub OwnTableOfUnits : Type 0
 OwnTableOfUnits =
     (line general : List ℕ) (options : Options) (section table : List ℕ) (units : List (ℕ × UnitParts)) (version : Version)
@@ -56,7 +56,7 @@ pub record OneWritten : Type 0 where
 
 -- ---- checks of a table of any version
 
--- Where a verdict is true of a section and a table, no other answer is: neither another verdict nor one by path.
+-- If a verdict is true of a section and a table, no other answer is: neither another verdict nor one by path.
 pub record OneNumbered : Type 0 where
   pub one : (line general : List ℕ) (options : Options) (section table : List ℕ) (verdict : Verdict) (checked : Checked)
       → IsTrueCheck line general options section table (Numbered verdict) → IsTrueCheck line general options section table checked
@@ -79,7 +79,8 @@ pub record OneCheck : Type 0 where
   pub one : (line general : List ℕ) (options : Options) (section table : List ℕ) (one other : Checked)
       → IsTrueCheck line general options section table one → IsTrueCheck line general options section table other → SayTheSame one other
 
--- For a good section, and the table by path that was written of its index, `ByPath Same` is a true answer, and no verdict is.
+-- For a good section, and the table by path that was written from its index, `ByPath Same` is a true answer, and no verdict
+-- is.
 pub record OwnTableByPath : Type 0 where
   pub same : (line general : List ℕ) (options : Options) (section table : List ℕ) (index : Indexed) (version : PathVersion)
       → (i : IsIndexOfSection line general options section index)

@@ -1,4 +1,4 @@
--- The lines that are printed of tables by path, as their types print them.
+-- The lines that are printed for tables by path, as their types print them.
 use Rattle.std.specs.Prelude.{ℕ, List, [], ◌++◌, Option, None, Some, codes, decimal}
 use Rattle.lnt_paths.specs.PathAnswers.{PathAnswer}
 use Rattle.lnt_spans.specs.AnyStretches.{Stretch}
@@ -6,7 +6,7 @@ use Rattle.lnt_spans.specs.declared.position.Position.{Position}
 use Rattle.lnt_text.specs.Quotes.{quoted_text}
 use Rattle.lnt_text.specs.Texts.{position_text}
 
--- a comma and the column of an answer, where the version has columns; else nothing
+-- a comma and the column of an answer, if the version has columns; otherwise nothing
 abbrev pub column_text : Option ℕ → List ℕ
 column_text None = []
 column_text (Some column) = codes "," ++ decimal column

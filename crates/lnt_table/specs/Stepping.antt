@@ -40,7 +40,7 @@ IsCheckedWith index dead skip units table (Numbered verdict) =
     (compared : Compared) × IsComparedWith dead skip units table compared × (verdict ≡ verdict_of compared) × (verdict ≢ No no.TableHeader)
 IsCheckedWith index dead skip units table (ByPath compared) = IsComparedByPath index dead skip units table compared
 
--- A verdict is what a comparison makes of it, and none of the section.
+-- A verdict is that of a comparison, not one on the section.
 abbrev pub IsOfGood : Checked → Type 0
 IsOfGood (Numbered verdict) = (compared : Compared) × (verdict ≡ verdict_of compared)
 IsOfGood (ByPath compared) = Unit {0}

@@ -20,7 +20,7 @@ use Rattle.lnt_table.specs.declared.stretches.AnyDiffering.TheVariants.{ByPath, 
 use Rattle.lnt_table.specs.Headline.{told_answer}
 
 -- The bytes are a table, and `differences` is about to give the first of the stretches at which the answers of the table and
--- of the units' rows differ, as the table's version tells answers.
+-- of the units' rows differ, in the fields of the table's version.
 pub record DiffersFromUnits {S T : Type 0} (of_section : S → List Span → Type 0) (of_table : T → List Span → Type 0) (dead : Option ℕ)
     (skip : Bool) (units : List (ℕ × UnitParts)) (table : List ℕ) (differences : Differences S T) : Type 0 where
   pub version : Version
@@ -28,15 +28,15 @@ pub record DiffersFromUnits {S T : Type 0} (of_section : S → List Span → Typ
   pub is_table : IsTableOf version table spans
   pub told : HasTold of_section of_table differences (told_answer version dead skip units) (span_answer spans) []
 
--- The stretches of a table, or the first fault of bytes that are none.
+-- The stretches of a table, or the first fault of bytes that aren't a table.
 abbrev pub IsDifferingFrom : {S : Type 0} → (Remaining S → List Span → Type 0) → (SpanList → List Span → Type 0) → Option ℕ → Bool
     → List (ℕ × UnitParts) → List ℕ → Differing S → Type 0
 IsDifferingFrom of_section of_table dead skip units table (Fault told) = IsFault table told
 IsDifferingFrom of_section of_table dead skip units table (Table differences) =
     DiffersFromUnits of_section of_table dead skip units table differences
 
--- For bytes with the header of version 1 or 2: the same, and the fault isn't the header's. Else the bytes begin with neither
--- header, and `held` is the table by path that they are, or their first fault.
+-- For bytes with the header of version 1 or 2: the same, and the fault isn't the header's. Otherwise the bytes begin with
+-- neither header, and `held` is the table by path that they are, or their first fault.
 abbrev pub IsAnyDiffering : {S : Type 0} → (Remaining S → List Span → Type 0) → (SpanList → List Span → Type 0) → Option ℕ → Bool
     → List (ℕ × UnitParts) → List ℕ → AnyDiffering S → Type 0
 IsAnyDiffering of_section of_table dead skip units table (Numbered told) =

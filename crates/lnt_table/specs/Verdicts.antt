@@ -1,4 +1,4 @@
--- The reason against a table that its first fault is.
+-- The reason against a table that its first fault stands for.
 use Rattle.lnt_records.specs.declared.fault.TableFault.{TableFault}
 use Rattle.lnt_records.specs.declared.fault.TableFault.TheVariants as fault
 use Rattle.lnt_table.specs.declared.verdict.TableNo.{TableNo}

@@ -1,4 +1,4 @@
--- The tables that are written of a section's lines.
+-- The tables that are written from a section's lines.
 use Rattle.std.specs.Prelude.{◌≡◌, ◌⊎◌, Bool, ℕ, List, Option}
 use Rattle.lnt_output.specs.Fronts.{AppendsFront}
 use Rattle.lnt_header.specs.declared.unit_parts.UnitParts.{UnitParts}
@@ -13,38 +13,38 @@ use Rattle.lnt_paths.specs.PathAnswers.{PathAnswer}
 use Rattle.lnt_paths.specs.Written.{HasBecome, IsCanonicalPathTable}
 use Rattle.lnt_table.specs.Headline.{told_answer}
 
--- The bytes are a table of this version, on plain lines, of the canonical spans that answer as the section's spans do,
--- as the version tells answers.
+-- The bytes are a table of this version, on plain lines, of the canonical spans that answer as the section's spans do, in
+-- the fields of the version.
 pub record IsTableOfLines (version : Version) (section : List Span) (bytes : List ℕ) : Type 0 where
   pub spans : List Span
   pub canonical : IsCanonical spans
   pub same : (p : Position) → span_answer spans p ≡ version_answer version section p
   pub written : IsWrittenTable version bytes spans
 
--- The same of the canonical spans that answer as the rows of some units do.
+-- The same for the canonical spans that answer as the rows of some units do.
 pub record IsTableOfUnits (version : Version) (dead : Option ℕ) (skip : Bool) (units : List (ℕ × UnitParts)) (bytes : List ℕ) : Type 0 where
   pub spans : List Span
   pub canonical : IsCanonical spans
   pub same : (p : Position) → span_answer spans p ≡ told_answer version dead skip units p
   pub written : IsWrittenTable version bytes spans
 
--- ---- tables whose writing was stopped
+-- ---- tables whose writing stopped
 --     old, new    the known bytes that the writer holds before and afterwards
 
--- The writer has gained a front of a table of these units. There is one such table, by the law `one_written`.
+-- What was written is a prefix of a table of these units. There is one such table, by the law `one_written`.
 pub record BeginsTableOfUnits (version : Version) (dead : Option ℕ) (skip : Bool) (units : List (ℕ × UnitParts)) (old new : Option (List ℕ))
     : Type 0 where
   pub whole : List ℕ
   pub is_table : IsTableOfUnits version dead skip units whole
   pub front : AppendsFront old new whole
 
--- The writer has gained a front of the table by path with these answers. There is one such table, by the same law.
+-- What was written is a prefix of the table by path with these answers. There is one such table, by the same law.
 pub record BeginsTableByPath (version : PathVersion) (answers : Position → Option PathAnswer) (old new : Option (List ℕ)) : Type 0 where
   pub whole : List ℕ
   pub is_table : IsCanonicalPathTable version answers whole
   pub front : AppendsFront old new whole
 
--- That; or there can't be a table by path with these answers, and the writer has gained nothing.
+-- That; or there can't be a table by path with these answers, and nothing was written.
 abbrev pub BeginsPaths : PathVersion → (Position → Option PathAnswer) → Option (List ℕ) → Option (List ℕ) → Type 0
 BeginsPaths version answers old new = BeginsTableByPath version answers old new
     ⊎ ((position : Position) × HasBecome version answers old new (OperationIndex position))

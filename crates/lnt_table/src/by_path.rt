@@ -26,11 +26,11 @@ pub enum Checked {
     /// The section isn't good, or the table begins with the header of version 1 or 2. This is the verdict, as `check` gives it.
     Numbered(Verdict),
     /// The section is good, and the table begins with the header of neither version 1 nor 2. This is the outcome of its
-    /// comparison with the section in versions 3 and 4: `Fault` of the header, where it begins with neither of theirs.
+    /// comparison with the section in versions 3 and 4: `Fault` of the header if it begins with neither of theirs.
     ByPath(ComparedByPath),
 }
 
-/// The line that says so, without its line feed.
+/// The line that reports it, without its line feed.
 impl fmt::Display for Checked {
     ghost output = { λ checked. Some (checked_text checked) };
 
@@ -48,11 +48,11 @@ impl fmt::Display for Checked {
 
 /// Checks a section as `check` does, against an address table of any of the four versions.
 ///
-/// For a table with the header of version 1 or 2 it answers what `check` answers. For any other it answers whether the table
-/// is one of version 3 or 4 that gives at every position the answer of the section's rows: each file's whole path byte for
-/// byte, the line and, in version 3, the column (`IsTrueCheck`). If not, it gives the first fault or the least difference.
+/// For a table with the header of version 1 or 2 it answers what `check` answers. For any other table it answers whether it
+/// is one of version 3 or 4 that gives at every position the answer of the section's rows: each file's full path byte for
+/// byte, the line and, in version 3, the column (`IsTrueCheck`). If not, it returns the first fault or the least difference.
 ///
-/// It holds the bytes of a table by path, but neither its records nor the section's spans. It stops as `check` does.
+/// It holds the bytes of a table by path, but neither its records nor the section's spans. Stops as `check` does.
 pub fn check_any<R: Source, T: Source>(
     alloc: Global,
     section: &mut R,
@@ -65,7 +65,7 @@ pub fn check_any<R: Source, T: Source>(
     ensures checked { IfOk result (λ checked. IfSome (R.remaining section.old) (λ bytes. IfSome (T.remaining table.old) (λ text.
         IsTrueCheck strings.now.line.now strings.now.general.now options.now bytes text checked))) }
 
-    // What it says of the section is true whatever the table is, and where the section isn't good, the table isn't read.
+    // What it says of the section is true whatever the table is, and if the section isn't good, the table isn't read.
     ensures of_section { IfOk result (λ checked. IfSome (R.remaining section.old) (λ bytes.
         IsTrueCheckOfSection strings.now.line.now strings.now.general.now options.now bytes checked)) }
     ensures unread { (no : SectionNo) → result ≡ Ok (Checked.Numbered (Verdict.No (TableNo.Section no))) → table.new ≡ table.old }
@@ -84,7 +84,7 @@ pub fn check_any<R: Source, T: Source>(
     Ok(checked)
 }
 
-// Compares the table with the spans of the index: by number or by path, as its header says.
+// Compares the table with the spans of the index, by number or by path according to its header.
 fn check_index<T: Source>(alloc: Global, table: &mut T, index: &Index<'_>) -> Result<Checked, Stop>
     requires { T.failures table.old < 2 ^ 64 - 1 }
     ensures ok { IfOk result (λ checked. (dead : Option ℕ) (skip : Bool) (units : List (ℕ × UnitParts))

@@ -17,36 +17,36 @@ use std::alloc::Global;
 /// Checks the section `.debug_line` (DWARF 5, section 6.2) that `section` gives against the address table that `table`
 /// gives.
 ///
-/// **Where it answers Yes, the section's bytes spell exactly a list of well-formed units, positions never fall within a
+/// **Where it answers Yes, the section's bytes encode exactly a list of well-formed units, positions never fall within a
 /// live sequence, no position is held by two live sequences, every file and directory number used exists, and for every
 /// address and operation index the table's answer is that of the last matrix row at or before it in the live sequence
 /// holding it, or none where none does.**
 ///
 /// Each phrase has a definition, and `IsTrueVerdict` joins them in its case `Yes`:
 /// - *answers Yes*: the call returns `Ok(Verdict::Yes)`;
-/// - *the section's bytes*: all that `section` has to give at entry, where its bytes are known, however the reads divide
-///   them (`Source.remaining`);
-/// - *spell exactly*: `SectionBytes` of `lnt_unit`, with nothing before, between or after the units;
+/// - *the section's bytes*: all that `section` still gives at entry, if its bytes are known, however the reads divide them
+///   (`Source.remaining`);
+/// - *encode exactly*: `SectionBytes` of `lnt_unit`, with nothing before, between or after the units;
 /// - *well-formed*: `IsWellFormed` of `lnt_lines`: the program runs, and the tables are usable;
 /// - *never fall*: `AreOrdered` of `lnt_sequences`; equal positions are allowed;
-/// - *live*: `live_sequences` of `lnt_sequences`: the sequence doesn't begin at the address of dead code, where the options
-///   give one; where copies are skipped, they are live, but they don't count for *held by two*, and they answer nothing
+/// - *live*: `live_sequences` of `lnt_sequences`: the sequence doesn't begin at the address of dead code, if the options
+///   give one; if copies are skipped, they are live, but they don't count for *held by two*, and they give no answers
 ///   (`kept_sequences`);
 /// - *held*, *held by two*: `Holds` and `AreApart` of `lnt_sequences`: from the position of a sequence's first row up to that
 ///   of its end row, which is not held;
 /// - *file number used*: `HaveFiles` of `lnt_sequences`, for each row of a live sequence but its end row;
 /// - *directory number used*: `AreUsableTables` of `lnt_files`, for each file that a unit lists;
-/// - *the table's answer*: `IsTableOf` of `lnt_records`, for all bytes that `table` has to give, and `span_answer` of
-///   `lnt_spans`, for the table's spans;
+/// - *the table's answer*: `IsTableOf` of `lnt_records`, for all bytes of `table`, and `span_answer` of `lnt_spans`, for
+///   the table's spans;
 /// - *the last matrix row at or before it*: `line_answer` of `lnt_sequences`, over the rows of `lnt_machine`; under version 1
 ///   of the table without instruction set and discriminator.
 ///
-/// Else it gives the first thing that is wrong (`TableNo`). The section is judged first, and the table is read only
-/// where the section is good. `strings` are the string sections that the section's forms refer to.
+/// Otherwise it returns the first thing that is wrong (`TableNo`). The section is judged first, and the table is read only
+/// if the section is good. `strings` are the string sections that the section's forms refer to.
 ///
-/// It stops with `Memory`; with `Read` only where one of the sources failed; and with `TooLong` only where one has more
-/// bytes than it may give. A stop judges nothing. Nothing is said of how far the sources were read. The caller sees to
-/// it that the number of each source's failures is below `u64::MAX`.
+/// Stops with `Memory`; with `Read` only if one of the sources failed; and with `TooLong` only if one has more bytes than
+/// it may give. A stop isn't a verdict. How far the sources were read is unspecified. The caller ensures that the number of
+/// each source's failures is below `u64::MAX`.
 pub fn check<R: Source, T: Source>(
     alloc: Global,
     section: &mut R,
@@ -59,7 +59,7 @@ pub fn check<R: Source, T: Source>(
     ensures verdict { IfOk result (λ verdict. IfSome (R.remaining section.old) (λ bytes. IfSome (T.remaining table.old) (λ text.
         IsTrueVerdict strings.now.line.now strings.now.general.now options.now bytes text verdict))) }
 
-    // What it says of the section is true whatever the table is, and where the section isn't good, the table isn't read.
+    // What it says of the section is true whatever the table is, and if the section isn't good, the table isn't read.
     ensures of_section { IfOk result (λ verdict. IfSome (R.remaining section.old) (λ bytes.
         IsTrueOfSection strings.now.line.now strings.now.general.now options.now bytes verdict)) }
     ensures unread { (no : SectionNo) → result ≡ Ok (Verdict.No (TableNo.Section no)) → table.new ≡ table.old }

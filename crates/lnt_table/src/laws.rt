@@ -3,17 +3,17 @@ ghost use Rattle.lnt_spans.specs.Laws.{Borders};
 ghost use Rattle.lnt_table.specs.Laws.{OneCheck, OneNumbered, OnePath, OneVerdict, OneWritten, OnlyYes};
 ghost use Rattle.lnt_table.specs.Laws.{OwnTable, OwnTableByPath, OwnTableOfUnits};
 
-/// Two lists of spans, each in order and with no empty span, that give the same answer wherever a span of either begins or
-/// ends give the same answer at every position. So the spans of a table and of a section need comparing at their borders
-/// alone.
+/// If two lists of spans, each in order and without empty spans, give the same answer at each position where a span of
+/// either begins or ends, they give the same answer at every position. So the spans of a table and of a section need to be
+/// compared only at their borders.
 pub fn borders()
     ensures { Borders }
 {
     lnt_spans::laws::borders();
 }
 
-/// For a good section, and a table that answers as it does at every position, Yes is the only true verdict. So `check`,
-/// where it doesn't stop, answers Yes exactly for these.
+/// For a good section, and a table that answers as it does at every position, Yes is the only true verdict. So if `check`
+/// doesn't stop, it answers Yes exactly for these.
 #[tactic(auto, using(crate::proofs::LawLemmas::only_yes))]
 pub fn only_yes()
     ensures { OnlyYes }
@@ -23,8 +23,8 @@ pub fn only_yes()
     lnt_records::laws::no_fault();
 }
 
-/// For one section, table and choice of options at most one verdict is true. So `check`, where it doesn't stop, has no
-/// choice, not even of the fault that it names in malformed bytes, and of its place.
+/// For one section, table and choice of options at most one verdict is true. So if `check` doesn't stop, its answer is
+/// determined, including the fault in malformed bytes and its place.
 #[tactic(auto, using(crate::proofs::OneVerdictLemmas::one_verdict))]
 pub fn one_verdict()
     ensures { OneVerdict }
@@ -53,13 +53,13 @@ pub fn own_table_of_units()
 }
 
 /// The rows of some units have one written table of each version, byte for byte, and so have answers by path. So what
-/// `write_index` and `write_paths` write is determined, and so is what they have written a front of where they stop.
+/// `write_index` and `write_paths` write is determined; if they stop, they have written a prefix of it.
 pub fn one_written()
     ensures { OneWritten }
 {}
 
-/// Where `Numbered` of a verdict is true of a section, a table and a choice of options, no other answer of `check_any` is:
-/// neither another verdict nor an answer by path.
+/// If `Numbered` of a verdict is a true answer of `check_any` for a section, a table and a choice of options, no other
+/// answer is: neither another verdict nor an answer by path.
 #[tactic(auto, using(crate::proofs::AnyLawLemmas::one_numbered))]
 pub fn one_numbered()
     ensures { OneNumbered }
@@ -82,9 +82,9 @@ pub fn one_path()
     ensures { OnePath }
 {}
 
-/// For one section, table of any version and choice of options all true answers of `check_any` say the same. So where it
-/// doesn't stop, it has no choice: neither of the fault that it names, nor of the position, the two answers there and the
-/// bytes of their paths.
+/// For one section, table of any version and choice of options all true answers of `check_any` say the same. So if it
+/// doesn't stop, its answer is determined: the fault that it names, or the position, the two answers there and the bytes of
+/// their paths.
 pub fn one_check()
     ensures { OneCheck }
 {

@@ -1,6 +1,6 @@
-//! Checks a line number section of DWARF 5 against an address table, and writes the table of a section. A table is right where it
-//! gives the section's answer at every address and operation index; else the first thing that is wrong is told. Tables of versions 1
-//! and 2 name a file by its unit and number (*by number*), those of versions 3 and 4 by its path (*by path*).
+//! Checks a line number section of DWARF 5 against an address table, and writes the table of a section. A table is right if it gives
+//! the section's answer at every address and operation index; otherwise the first thing that is wrong is reported. Tables of
+//! versions 1 and 2 name a file by its unit and number (*by number*), those of versions 3 and 4 by its path (*by path*).
 //!
 //! Start with [`check`], which takes versions 1 and 2, or with [`check_any`], which takes all four; with [`differences_any`]
 //! for all positions at which the two answers differ; or with [`write_table`] and [`write_paths`] for the one shortest table

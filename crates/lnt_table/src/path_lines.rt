@@ -1,4 +1,4 @@
-//! The lines that are printed of tables by path: where one and a section differ, and that there can't be one.
+//! The lines that are printed for tables by path: where one differs from a section, and why there can't be one.
 ghost use Rattle.std.specs.Prelude.{Some};
 ghost use Rattle.std.specs.Option.{option_map};
 ghost use Rattle.lnt_paths.specs.PathDifferences.{told_path_answer};
@@ -43,7 +43,7 @@ impl fmt::Display for PathAnswerText<'_> {
     }
 }
 
-// A comma and the column of an answer, where the version has columns; else nothing.
+// A comma and the column of an answer if the version has columns; otherwise nothing.
 #[derive(Clone, Copy)]
 struct ColumnText(Option<u64>);
 
@@ -59,7 +59,7 @@ impl fmt::Display for ColumnText {
 }
 
 /// The line with number 43, without its line feed: a span begins or ends at this position, whose operation index isn't 0, so that
-/// no table by path can tell it.
+/// no table by path can express it.
 #[derive(Clone, Copy)]
 pub struct OperationLine(pub Position);
 

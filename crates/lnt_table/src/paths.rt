@@ -19,7 +19,7 @@ pub struct IndexPaths<'i, 'a> {
 }
 
 impl<'i, 'a> IndexPaths<'i, 'a> {
-    /// The whole paths of the files that the units of this index name: the directory joined with the name, byte for byte.
+    /// The full paths of the files that the units of this index name: the directory joined with the name, byte for byte.
     pub fn of(index: &'i Index<'a>) -> IndexPaths<'i, 'a>
         ensures { ⟦<IndexPaths<'i, 'a> as Paths>⟧.bytes_of result ≡ path_at index.entry.now }
     {
@@ -33,23 +33,23 @@ impl<'i, 'a> Paths for IndexPaths<'i, 'a> {
     fn path_of(&self, alloc: Global, unit: u64, file: u64) -> Result<Vec<u8>, AllocError> {
         match self.index.path_of(alloc, unit, file)? {
             Some(path) => Ok(path),
-            // Of numbers that no answer of the index has: then no such file is there (`path_at`).
+            // For numbers that no answer of the index has: then there is no such file (`path_at`).
             None => Ok(Vec::new(alloc)),
         }
     }
 }
 
 /// Writes the table by path of the units that an index was made of, in this version, line by line, without a list of their
-/// spans. Where the header of a unit allows several operations in an instruction, it goes through the spans twice: first to
-/// see whether such a table can tell them.
+/// spans. If the header of a unit allows several operations in an instruction, it walks the spans twice: first to check
+/// that such a table can express them.
 ///
-/// Where it answers `Written`, the writer has gained bytes that are a table of exactly the canonical spans that answer as
-/// the rows of the units do, with the whole path of their file: the one shortest table that does. Where one of these spans
-/// begins or ends at an operation index other than 0, it answers `OperationIndex` (43) with the least such position, and
-/// nothing was written.
+/// If it returns `Written`, the bytes that were written are a table of exactly the canonical spans with the answers of the
+/// units' rows and the full paths of their files: the one shortest table that has them. If one of these spans begins or
+/// ends at an operation index other than 0, it returns `OperationIndex` (43) with the least such position, and nothing has
+/// been written.
 ///
-/// It stops by `Memory` (33) where memory ran out, and by `Write` (42) where the writer refused some bytes. Where it stops,
-/// the writer has gained a front of that table; or there can't be one, and it has gained nothing.
+/// Stops with `Memory` (33) if memory ran out, and with `Write` (42) if the writer failed. If it stops, a prefix of that
+/// table has been written; or there can't be such a table, and nothing has been written.
 pub fn write_paths<W: Write>(
     alloc: Global,
     index: &Index<'_>,

@@ -20,14 +20,15 @@ use lnt_records::{Differing, DifferingRead, Remaining, compare_all, differ_or_ta
 use lnt_spans::{SpanList, SpanSource};
 use std::alloc::{AllocError, Global};
 
-/// Compares the address table that a source has to give with the units that an index was made of, at every position.
+/// Compares the address table from a source with the units that an index was made of, at every position.
 ///
-/// Where the bytes are no table, it gives their first fault, as `check` does. Else it gives the stretches at which the
-/// answers of the table and of the units' rows differ, as the table's version tells answers; `Differences::next_difference`
-/// gives one after another. A stretch is a longest run of consecutive positions at which the two answers differ and neither
-/// of them changes. Where there is none, `check` answers Yes; else the first begins with the difference that `check` gives.
+/// If the bytes aren't a table, it returns their first fault, as `check` does. Otherwise it returns the stretches at which
+/// the answers of the table and of the units' rows differ, in the fields of the table's version;
+/// `Differences::next_difference` returns one after another. A stretch is a longest run of consecutive positions at which
+/// the two answers differ and neither of them changes. If there is none, `check` answers Yes; otherwise the first begins
+/// with the difference that `check` reports.
 ///
-/// It stops as `check` does. The caller sees to it that the number of the source's failures is below `u64::MAX`.
+/// Stops as `check` does. The caller ensures that the number of the source's failures is below `u64::MAX`.
 pub fn differences<'i, T: Source>(
     alloc: Global,
     table: &mut T,
@@ -54,17 +55,16 @@ pub enum AnyDiffering<S> {
     /// its records.
     Numbered(Differing<S>),
     /// The table begins with neither of these headers. This has the spans of the table by path, which `differences_by_path`
-    /// compares, or its first fault: `Fault` of the header, where it begins with that of neither version 3 nor 4.
+    /// compares, or its first fault: `Fault` of the header if it begins with that of neither version 3 nor 4.
     ByPath(HeldTable),
 }
 
-/// Compares the address table of any version that a source has to give with the units that an index was made of, at every
-/// position.
+/// Compares the address table of any version from a source with the units that an index was made of, at every position.
 ///
-/// For a table with the header of version 1 or 2 it gives what `differences` gives. For any other it takes all bytes, and
-/// gives the spans of the table by path that they are, which are in order, or their first fault.
+/// For a table with the header of version 1 or 2 it returns what `differences` returns. For any other table it reads all
+/// bytes, and returns the spans of the table by path, which are in order, or its first fault.
 ///
-/// It stops as `check` does. The caller sees to it that the number of the source's failures is below `u64::MAX`.
+/// Stops as `check` does. The caller ensures that the number of the source's failures is below `u64::MAX`.
 pub fn differences_any<'i, T: Source>(
     alloc: Global,
     table: &mut T,
@@ -91,10 +91,10 @@ pub fn differences_any<'i, T: Source>(
     }
 }
 
-/// The stretches at which the answers of a table by path with these spans, in this version, and of the rows of the units that
-/// an index was made of differ, with the whole path of each file. `DifferencesByPath::next_difference` gives them one after
-/// another, from the first on; it takes `IndexPaths::of` the same index. The caller sees to it that the spans are in order,
-/// as those of a `HeldTable` are.
+/// The stretches at which two answers differ, with the full path of each file: those of a table by path with these spans, in
+/// this version, and those of the rows of the units that an index was made of. `DifferencesByPath::next_difference` returns
+/// them one after another; it takes `IndexPaths::of` the same index. The caller ensures that the spans are in order, as those
+/// of a `HeldTable` are.
 pub fn differences_by_path<'t, 'i>(
     index: &'i Index<'_>,
     spans: &'t [HeldSpan],

@@ -20,7 +20,7 @@ pub enum Verdict {
     No(TableNo),
 }
 
-/// The line that says so, without its line feed.
+/// The line that reports it, without its line feed.
 impl fmt::Display for Verdict {
     ghost output = { λ verdict. Some (verdict_text verdict) };
 
@@ -44,13 +44,13 @@ pub enum TableNo {
     /// 36: the table has no record 0, or one with the column names of no version: of 1 and 2 for `check`, of 1 to 4 for
     /// `check_any`.
     TableHeader,
-    /// 37: this record hasn't as many fields as the table has columns.
+    /// 37: the number of fields of this record isn't the number of the table's columns.
     TableFields(u64),
-    /// 38: a field of a record is no value of its column's kind: the record, and the column of its first such field.
+    /// 38: a field of a record isn't a value of its column's kind: the record, and the column of its first such field.
     TableNumber(u64, u64),
     /// 39: the span of this record is empty, or begins below the end of the span before it.
     TableOrder(u64),
-    /// 40: the answers of the table and of the section differ, as the table's version tells answers. None where a side has no
+    /// 40: the answers of the table and of the section differ, in the fields of the table's version. `None` if a side has no
     /// answer.
     Differs {
         /// The least position at which they do.
@@ -62,7 +62,7 @@ pub enum TableNo {
     },
 }
 
-/// The line that says so, without its line feed.
+/// The line that reports it, without its line feed.
 impl fmt::Display for TableNo {
     ghost output = { λ no. Some (table_no_text no) };
 
@@ -105,7 +105,7 @@ impl From<TableFault> for TableNo {
 }
 
 impl TableNo {
-    /// The fault in the table itself that this reason stands for. None for `Section` and `Differs`.
+    /// The fault in the table itself that this reason stands for. `None` for `Section` and `Differs`.
     pub fn fault(&self) -> Option<TableFault>
         ensures some { IfSome result (λ fault. self.now ≡ no_of_fault fault) }
         ensures none { IfNone result ((fault : TableFaultSpec) → self.now ≢ no_of_fault fault) }

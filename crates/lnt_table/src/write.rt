@@ -14,13 +14,12 @@ use std::io::Write;
 
 /// Writes the table of these lines, in this version, block by block.
 ///
-/// Where it answers Ok, the writer has gained bytes that are a table of exactly the canonical spans of the lines, which
-/// is the one shortest table that answers as the lines do, as far as the version tells. Each record is on a line of its
-/// own.
+/// If it returns Ok, the bytes that were written are a table of exactly the canonical spans of the lines: the one shortest
+/// table with the answers of the lines, in the fields of its version. Each record is on a line of its own.
 ///
-/// It stops by `Memory` (33) where memory ran out, and by `Write` (42) where the writer refused some bytes. Where it stops,
-/// the writer has gained nothing, or a front of the column names and the lines of the first canonical spans. No contract of
-/// a writer tells when it refuses, so no clause says that `Write` comes only then.
+/// Stops with `Memory` (33) if memory ran out, and with `Write` (42) if the writer failed. If it stops, nothing has been
+/// written, or a prefix of the column names and the lines of the first canonical spans. No contract of a writer says when
+/// it fails, so no clause says that `Write` is returned only then.
 pub fn write_table<W: Write>(
     alloc: Global,
     lines: &Lines,
@@ -40,10 +39,9 @@ pub fn write_table<W: Write>(
 
 /// Writes the table of the units that an index was made of, in this version, block by block, without a list of their spans.
 ///
-/// Where it answers Ok, the writer has gained bytes that are a table of exactly the canonical spans that answer as the
-/// rows of the units do, as far as the version tells: the one shortest table that does. These are the bytes that
-/// `write_table` writes for the lines of the units. It stops as `write_table` does; then the writer has gained a front of
-/// that table.
+/// If it returns Ok, the bytes that were written are a table of exactly the canonical spans with the answers of the units'
+/// rows, in the fields of its version: the one shortest table with these answers. These are the bytes that `write_table`
+/// writes for the lines of the units. Stops as `write_table` does; then a prefix of that table has been written.
 pub fn write_index<W: Write>(
     alloc: Global,
     index: &Index<'_>,

@@ -16,7 +16,7 @@ use Rattle.lnt_text.specs.declared.note.StringSection.{StringSection}
 use Rattle.lnt_text.specs.declared.note.StringSection.TheVariants.{Line, General}
 use Rattle.lnt_wire.specs.FaultTexts.{hexadecimal}
 
--- what an argument has to be
+-- the words that an argument takes
 abbrev pub argument_text : Argument → List ℕ
 argument_text argument.Address = codes "ADDRESS is 0x and 1 to 16 hexadecimal digits"
 argument_text argument.Op = codes "N of --op is 1 to 20 decimal digits, and below 2^64"
@@ -24,7 +24,7 @@ argument_text argument.Dead = codes "ADDRESS of --dead is 0x and 1 to 16 hexadec
 argument_text argument.Format = codes "--format is 32 or 64"
 argument_text argument.Order = codes "--order is little or big"
 
--- what bytes look like, and what to do
+-- what a file looks like, and what to do
 abbrev pub look_text : Look → List ℕ
 look_text Elf = codes "this looks like an ELF file; linetab-object takes its sections out, and does the word"
 look_text Pe = codes "this looks like a PE file; linetab-object takes its sections out, and does the word"
@@ -42,7 +42,7 @@ abbrev pub strings_text : StringSection → List ℕ
 strings_text Line = codes "its text lies in .debug_line_str, which wasn't given; --line-str FILE names that section's bytes"
 strings_text General = codes "its text lies in .debug_str, which wasn't given; --str FILE names that section's bytes"
 
--- how many they are, where that is known
+-- how many they are, if that is known
 abbrev pub count_text : Option ℕ → List ℕ
 count_text (Some count) = codes " (" ++ (decimal count ++ codes " of them)")
 count_text None = []
@@ -51,7 +51,7 @@ count_text None = []
 abbrev pub advice_text : ℕ → List ℕ
 advice_text address = codes "; --dead " ++ (hexadecimal address ++ codes " leaves them out")
 
--- the line of the text where a record begins, where that is known
+-- the line of the text where a record begins, if that is known
 abbrev pub line_text : Option ℕ → List ℕ
 line_text (Some line) = codes "line " ++ (decimal line ++ codes " of the table: ")
 line_text None = []
@@ -83,7 +83,7 @@ rule_text Fields = codes "each record has as many fields as the header has names
 rule_text (Kind which) = column_name which ++ (codes " is " ++ column_kind which)
 rule_text Order = codes "each span ends above its low, which isn't below the high of the span before"
 
--- the headers of the versions of a table that tell units and file numbers
+-- the headers of the versions of a table that contain units and file numbers
 abbrev pub numbered_headers : List ℕ
 numbered_headers = codes "low,low_op,high,high_op,unit,file,line,column,is_stmt or with this and ,isa,discriminator"
 

@@ -11,12 +11,12 @@ use Rattle.lnt_spans.specs.declared.position.Position.{Position}
 abbrev pub position_text : Position → List ℕ
 position_text position = hexadecimal position.address ++ codes "," ++ decimal position.op
 
--- what version 2 of the address table tells above version 1, each after a comma
+-- what version 2 of the address table has in addition to version 1, each after a comma
 abbrev pub more_text : Option More → List ℕ
 more_text None = []
 more_text (Some more) = codes "," ++ (decimal more.isa ++ (codes "," ++ decimal more.discriminator))
 
--- what is answered, as the fields of a table's record after its positions
+-- an answer, as the fields of a table's record after its positions
 abbrev pub answer_text : Option Answer → List ℕ
 answer_text None = codes "none"
 answer_text (Some answer) =
@@ -25,12 +25,12 @@ answer_text (Some answer) =
     (decimal answer.line ++ (codes "," ++
     (decimal answer.column ++ (codes "," ++ (decimal (if answer.is_stmt then 1 else 0) ++ more_text answer.more))))))))
 
--- where a table answers otherwise than a section, with both answers
+-- where a table and a section answer differently, with both answers
 abbrev pub difference_text : Difference → List ℕ
 difference_text difference =
     codes "no 40 differs at " ++ (position_text difference.position
     ++ (codes " table " ++ (answer_text difference.by_table ++ (codes " section " ++ answer_text difference.by_section))))
 
--- which bytes are refused, and why
+-- which bytes are rejected, and why
 abbrev pub malformed_text : Fault → List ℕ
 malformed_text fault = codes "no 25 " ++ fault_text fault

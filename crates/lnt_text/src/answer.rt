@@ -5,7 +5,7 @@ ghost use Rattle.lnt_text.specs.Texts.{answer_text, more_text};
 use lnt_spans::{Answer, More};
 use std::fmt;
 
-/// What is answered, as the fields of a table's record after its positions, or `none`.
+/// An answer, as the fields of a table's record after its positions, or `none`.
 #[derive(Clone, Copy)]
 pub(crate) struct AnswerText(pub(crate) Option<Answer>);
 
@@ -23,7 +23,8 @@ impl fmt::Display for AnswerText {
     }
 }
 
-// The two fields that version 2 of the address table has more than version 1, each after a comma; nothing where they aren't told.
+// The two fields that version 2 of the address table has in addition to those of version 1, each after a comma; nothing if the
+// answer doesn't have them.
 #[derive(Clone, Copy)]
 struct MoreText(Option<More>);
 

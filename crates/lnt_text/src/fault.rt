@@ -1,11 +1,11 @@
-//! How the fault of bytes that are refused is printed.
+//! How the fault of rejected bytes is printed.
 ghost use Rattle.std.specs.Prelude.{Some};
 ghost use Rattle.lnt_text.specs.Texts.{malformed_text};
 
 use lnt_wire::Fault;
 use std::fmt;
 
-/// The line that says which bytes are refused, and why (number 25), without its line feed.
+/// The line that says which bytes are rejected, and why (number 25), without its line feed.
 #[derive(Clone, Copy)]
 pub struct MalformedLine(pub Fault);
 

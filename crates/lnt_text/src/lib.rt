@@ -1,5 +1,5 @@
-//! How values are printed: faults as the lines that tell them, positions, answers, quoted texts, names and words, and
-//! the notes that help a person.
+//! How values are printed: the lines that report faults, positions, answers, quoted texts, names and words, and notes that
+//! help the user.
 #![tactic(auto)]
 
 mod answer;

@@ -1,4 +1,4 @@
-//! Notes: what helps a person, after an answer that stays as it is.
+//! Notes: help for the user, after an answer, which they don't change.
 ghost use Rattle.std.specs.Prelude.{◌≡◌, Some};
 ghost use Rattle.lnt_text.specs.Notes.{advice_text, argument_text, column_kind, column_name, count_text, line_text};
 ghost use Rattle.lnt_text.specs.Notes.{look_text, note_text, rule_text, strings_text};
@@ -6,18 +6,19 @@ ghost use Rattle.lnt_text.specs.Notes.{look_text, note_text, rule_text, strings_
 use lnt_wire::Order;
 use std::fmt;
 
-/// What helps a person. No answer and no status depends on it.
+/// A note for the user. No answer and no status depends on it.
 #[derive(Clone, Copy, Debug, PartialEq, Eq)]
 pub enum Note {
-    /// A word isn't what this argument has to be.
+    /// A word isn't valid for this argument.
     Word(Argument),
     /// The file of the section isn't the raw bytes of one: it looks like this.
     NotRaw(Look),
-    /// The text of an entry lies in a section that wasn't given.
+    /// The text of an entry is in a section that wasn't given.
     NoStrings(StringSection),
-    /// So many live sequences begin at this address, where linkers leave discarded code. None where they weren't counted.
+    /// This many live sequences begin at this address, at which linkers leave discarded code. `None` if they weren't
+    /// counted.
     MaybeDead(Option<u64>, u64),
-    /// No sequence begins at the address that was told to be that of discarded code.
+    /// No sequence begins at the address that was given as that of discarded code.
     NoneDead(u64),
     /// The two sequences that overlap hold the same positions, and copies weren't skipped.
     Copies,
@@ -27,11 +28,11 @@ pub enum Note {
     NoSums,
     /// The table begins with the header of no version.
     TableHeader,
-    /// A record of the table breaks this rule. It begins in this line of the text, where that is known.
+    /// A record of the table breaks this rule. It begins in this line of the text, if that is known.
     TableRecord(Option<u64>, RecordRule),
 }
 
-/// An argument that takes words of a certain kind alone.
+/// An argument that takes only words of a certain kind.
 #[derive(Clone, Copy, Debug, PartialEq, Eq)]
 pub enum Argument {
     /// An address to look up.
@@ -46,7 +47,7 @@ pub enum Argument {
     Order,
 }
 
-/// What bytes look like that aren't those of a section.
+/// What a file that isn't a section looks like.
 #[derive(Clone, Copy, Debug, PartialEq, Eq)]
 pub enum Look {
     /// An ELF file.
@@ -76,12 +77,12 @@ pub enum StringSection {
     General,
 }
 
-/// What is asked of each record of a table.
+/// The rules for the records of a table.
 #[derive(Clone, Copy, Debug, PartialEq, Eq)]
 pub enum RecordRule {
     /// It has as many fields as its table has columns.
     Fields,
-    /// In this column, it holds what is of the column's kind.
+    /// Its field in this column is of the column's kind.
     Kind(Column),
     /// Its span isn't empty, and doesn't begin below the end of the one before it.
     Order,
@@ -173,11 +174,11 @@ impl fmt::Display for RecordRule {
     }
 }
 
-// The headers of the versions that tell units and file numbers.
+// The headers of the versions that contain units and file numbers.
 const NUMBERED_HEADERS: &str =
     "low,low_op,high,high_op,unit,file,line,column,is_stmt or with this and ,isa,discriminator";
 
-// What an argument has to be.
+// The words that an argument takes.
 fn rule_of_argument(argument: Argument) -> &'static str
     ensures { result.now ≡ argument_text argument }
 {
@@ -190,7 +191,7 @@ fn rule_of_argument(argument: Argument) -> &'static str
     }
 }
 
-// What bytes look like, and what to do.
+// What a file looks like, and what to do.
 fn advice_to_look(look: Look) -> &'static str
     ensures { result.now ≡ look_text look }
 {
@@ -233,7 +234,7 @@ fn missing_option(section: StringSection) -> &'static str
     }
 }
 
-// How many sequences begin there, where that is known.
+// How many sequences begin there, if that is known.
 #[derive(Clone, Copy)]
 struct CountText(Option<u64>);
 
@@ -248,7 +249,7 @@ impl fmt::Display for CountText {
     }
 }
 
-// The option by which sequences that begin at this address are left out.
+// The option that leaves out sequences that begin at this address.
 #[derive(Clone, Copy)]
 struct AdviceText(u64);
 
@@ -261,7 +262,7 @@ impl fmt::Display for AdviceText {
     }
 }
 
-// The line of the text in which a record begins, where that is known.
+// The line of the text in which a record begins, if that is known.
 #[derive(Clone, Copy)]
 struct LineText(Option<u64>);
 

@@ -1,9 +1,9 @@
-//! Names and words, as they are shown to a person.
+//! Names and words, as they are shown to the user.
 use crate::quoted::Quoted;
 use std::fmt;
 
-/// A name or a word: between quotes where it has a control character, which a terminal would obey, and else as it
-/// stands.
+/// A name or a word: between quotes if it contains a control character, which a terminal would obey, and otherwise
+/// unchanged.
 #[derive(Clone, Copy)]
 pub struct Shown<'a>(pub &'a str);
 

@@ -10,7 +10,7 @@ use Rattle.lnt_ops.specs.Programs.{BrokenProgram}
 use Rattle.lnt_header.specs.declared.unit_parts.UnitParts.{UnitParts}
 use Rattle.lnt_unit.specs.UnitBytes.{UnitBytesIn, SectionBytes}
 
--- A header with a program begins the bytes, which stand at the offset. The program stands at the place, and ends where the unit does.
+-- The bytes, at the offset, begin with a header and a program. The program is at the place, and ends where the unit does.
 pub record BeginsWithHeader (order : Order) (offset : ℕ) (bytes : List ℕ) (header : HeaderParts) (place : ℕ) (program : List ℕ) : Type 0
   where
     pub front : List ℕ
@@ -19,16 +19,16 @@ pub record BeginsWithHeader (order : Order) (offset : ℕ) (bytes : List ℕ) (h
     pub joined : bytes ≡ front ++ more
     pub ends : place + length program ≡ offset + length front
 
--- No unit begins the bytes, which stand at the offset, and the fault is so at its place: where no header with a program begins
--- them, it is that of the header's first field that isn't there; where one does, that of the program's first operation that isn't
--- there.
+-- The bytes, at the offset, don't begin with a unit, and the fault is true at its place. If they don't begin with a header and a
+-- program, it is that of the header's first field that isn't valid; if they do, that of the program's first operation that isn't
+-- valid.
 pub record BrokenUnit (order : Order) (fault : Fault) (offset : ℕ) (bytes : List ℕ) : Type 0 where
   pub broken : Broken (UnitBytesIn order) order fault offset bytes
   pub in_header : NoneSpelled (HeaderBytesIn order) bytes → IsFirstField order fault.reason broken.before broken.from
   pub in_program : (header : HeaderParts) (place : ℕ) (program : List ℕ) → BeginsWithHeader order offset bytes header place program
       → BrokenProgram header place program fault
 
--- A section is broken after some units that it begins with: more bytes follow, and no unit begins them.
+-- A section is broken after some units that it begins with: more bytes follow, and they don't begin with a unit.
 pub record IsTrueFault (order : Order) (fault : Fault) (section : List ℕ) : Type 0 where
   pub units : List (ℕ × UnitParts)
   pub front : List ℕ
@@ -38,7 +38,7 @@ pub record IsTrueFault (order : Order) (fault : Fault) (section : List ℕ) : Ty
   pub split : section ≡ front ++ rest
   pub broken : BrokenUnit order fault (length front) rest
 
--- No list of units spells the section, and the fault is true of it.
+-- No list of units encodes the section, and the fault is true of it.
 pub record BrokenSection (order : Order) (fault : Fault) (section : List ℕ) : Type 0 where
   pub none : (units : List (ℕ × UnitParts)) → SectionBytes order units section → ⊥
   pub true_fault : IsTrueFault order fault section

@@ -12,7 +12,7 @@ use Rattle.lnt_header.specs.declared.unit_parts.UnitParts.{UnitParts}
 abbrev pub units_in_format : List (ℕ × UnitParts) → Format → Order → List UnitParts
 units_in_format units format order = map (λ unit. unit_in_format unit.1 format order) units
 
--- The result is a section of the same units as this one, each in this format and order, and in its shortest spelling. Their
+-- The result is a section of the same units as this one, each in this format and order, and in its shortest encoding. Their
 -- offsets are those of the result.
 pub record IsConverted (order : Order) (section : List ℕ) (format : Format) (to : Order) (result : List ℕ) : Type 0 where
   pub units : List (ℕ × UnitParts)

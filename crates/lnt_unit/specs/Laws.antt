@@ -1,5 +1,5 @@
--- What is spelled is read again, whatever follows: no spelling begins another, and each spells one value. And what whole walks
--- over a unit and over a section say.
+-- What is encoded is read back, whatever follows: no encoding is a prefix of another, and each encodes one value. And what
+-- whole walks over a unit and over a section say.
 use Rattle.std.specs.Prelude.{◌≡◌, ◌⊎◌, ◌≤◌, ℕ, List, ◌++◌, length, false, Some}
 use Rattle.std.specs.List.{AllByRecursion, AllZip}
 use Rattle.lnt_wire.specs.declared.format.Order.{Order}
@@ -29,7 +29,7 @@ pub record OneSection : Type 0 where
   pub fault : (order : Order) (fault : Fault) (units : List (ℕ × UnitParts)) (bytes : List ℕ) → IsTrueFault order fault bytes
       → SectionBytes order units bytes → ⊥
 
--- Of one section at most one fault is true, at one place and for one reason; and it stands after the same units.
+-- At most one fault is true of a section, at one place and for one reason, after the same units.
 pub record OneTrueFault : Type 0 where
   pub fault : (order : Order) (section : List ℕ) (fault other : Fault) → IsTrueFault order fault section → IsTrueFault order other section
       → fault ≡ other
@@ -38,7 +38,7 @@ pub record OneTrueFault : Type 0 where
 
 -- ---- whole walks
 
--- A walk over the program of a view that has given nothing yet, as `ops` gives it. It reads by the header, or by its numbers alone.
+-- A walk over the program of a view that has given nothing yet, as `ops` gives it. It reads by the header, or by its numbers only.
 pub record BeginsOf (view : View) (walk : Walk) : Type 0 where
   pub header_is : (walk.header ≡ view.header) ⊎ (walk.header ≡ without_entries view.header)
   pub place_is : walk.at.place ≡ view.place
@@ -46,15 +46,15 @@ pub record BeginsOf (view : View) (walk : Walk) : Type 0 where
   pub order_is : walk.at.order ≡ view.header.order
   pub going : walk.failed ≡ false
 
--- What was given stands for these operations, which the header admits. They are no more than the program has bytes.
+-- What was given stands for these operations, which the header admits. They are at most as many as the program has bytes.
 pub record AreGiven (view : View) (items : List OpView) (ops : List Op) : Type 0 where
   pub stand : AllZip StandsFor items ops
   pub admitted : AllByRecursion (Admits view.header) ops
   pub few : length items ≤ length view.program
 
--- A walk over a unit in a buffer, from first to last: what it gives are operations, in order. Where it ends after them, the bytes
--- are those of the unit of the header and these operations. Where it fails after them, the bytes are those of no unit, and the
--- fault says why.
+-- A walk over a unit in a buffer, from first to last: what it gives are operations, in order. If it ends after them, the bytes
+-- are those of the unit of the header and these operations. If it fails after them, the bytes are those of no unit, and the fault
+-- says why.
 pub record WholeWalk : Type 0 where
   pub given : (view : View) (start now : Walk) (items : List OpView) → BeginsOf view start → GivesEach items start now → (ops : List Op)
       × AreGiven view items ops
@@ -65,8 +65,9 @@ pub record WholeWalk : Type 0 where
       → BeginsOf view start → GivesEach items start now → Fails fault now end
       → BrokenUnit view.unit.order fault view.unit.offset view.unit.bytes
 
--- What a fault of `next_unit` says, and one of the unit at hand, after units that were given: no list of units spells the section,
--- whatever follows, and the fault is true of it. After frames that spell no unit, the fault of `next_unit` is so of what is left.
+-- What a fault of `next_unit` says, and one of the current unit, after units that were given: no list of units encodes the
+-- section, whatever follows, and the fault is true of it. After frames that encode no unit, the fault of `next_unit` is true of
+-- what is left.
 pub record FaultOfSection : Type 0 where
   pub next : (order : Order) (units : List (ℕ × UnitParts)) (front rest : List ℕ) (fault : Fault) → SectionBytes order units front
       → EndsBy (record { place = length front; rest = rest; order = order }) (Some fault) → BrokenSection order fault (front ++ rest)

@@ -10,13 +10,13 @@ use Rattle.lnt_unit.specs.UnitBytes.{UnitBytesIn}
 use Rattle.lnt_unit.specs.Views.{View}
 use Rattle.lnt_header.specs.declared.unit_parts.UnitParts.{UnitParts}
 
--- A walk over the program stands after these operations, and none was refused.
+-- A walk over the program is after these operations, and none failed.
 pub record HasGiven (view : View) (ops : List Op) (walk : Walk) : Type 0 where
   pub header_is : walk.header ≡ view.header
   pub going : walk.failed ≡ false
   pub so : OpsSoFar view.header view.place view.program ops walk.at
 
--- The read moved past the bytes of a unit, which was added with the offset at which it stands.
+-- The read moved past the bytes of a unit, which was appended with its offset.
 pub record AddsUnit (order : Order) (before after : List (ℕ × UnitParts)) (old new : At) : Type 0 where
   pub unit : ℕ × UnitParts
   pub added : after ≡ before ++ unit ∷ []

@@ -1,4 +1,4 @@
--- Units that are longer than their format can say (DWARF 5, section 7.4).
+-- Units that are too long for their format (DWARF 5, section 7.4).
 use Rattle.std.specs.Prelude.{ℕ, List}
 use Rattle.lnt_wire.specs.Bytes.{IsShortest}
 use Rattle.lnt_header.specs.Joins.{Each}
@@ -6,7 +6,7 @@ use Rattle.lnt_header_encode.specs.Large.{IsTooLong}
 use Rattle.lnt_ops.specs.OpBytes.{OpBytes}
 use Rattle.lnt_header.specs.declared.unit_parts.UnitParts.{UnitParts}
 
--- Even with the shortest header and the shortest program, the unit's length is more than its format can say.
+-- Even with the shortest header and the shortest program, the unit's length is too large for its format.
 pub record IsTooLongUnit (unit : UnitParts) : Type 0 where
   pub program : List ℕ
   pub shortest : IsShortest (Each (OpBytes unit.header)) unit.ops program

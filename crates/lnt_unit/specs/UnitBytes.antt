@@ -6,7 +6,7 @@ use Rattle.lnt_header.specs.Joins.{Each}
 use Rattle.lnt_ops.specs.OpBytes.{OpBytes}
 use Rattle.lnt_header_bytes.specs.HeaderBytes.{HeaderBytes}
 
--- The bytes of a unit: its header, and one spelling of each operation in order.
+-- The bytes of a unit: its header, and one encoding of each operation in order.
 pub record UnitBytes (unit : UnitParts) (bytes : List ℕ) : Type 0 where
   pub program : List ℕ
   pub operations : Each (OpBytes unit.header) unit.ops program
@@ -17,7 +17,7 @@ pub record UnitBytesIn (order : Order) (unit : UnitParts) (bytes : List ℕ) : T
   pub order_is : unit.header.order ≡ order
   pub spelled : UnitBytes unit bytes
 
--- The units that stand from an offset on, each with its own offset.
+-- The units from an offset on, each with its own offset.
 abbrev pub UnitsFrom : Order → ℕ → List (ℕ × UnitParts) → List ℕ → Type 0
 UnitsFrom order offset [] bytes = bytes ≡ []
 UnitsFrom order offset (unit ∷ units) bytes =

@@ -1,4 +1,4 @@
--- A unit that lies in a buffer: its header with its program, and how far its operations were read.
+-- A unit in a buffer: its header with its program, and how far its operations were read.
 use Rattle.std.specs.Prelude.{◌≡◌, ℕ, ◌+◌, ◌^◌, ◌<◌, List, length}
 use Rattle.lnt_header.specs.HeaderNumbers.{without_entries}
 use Rattle.lnt_header.specs.declared.header.HeaderParts.{HeaderParts}
@@ -15,13 +15,13 @@ pub record View : Type 0 where
   pub program : List ℕ
   pub place : ℕ
 
--- The header with the program spells the bytes, and the program ends where they do, below 2 ^ 64.
+-- The header with the program encodes the bytes, and the program ends where they do, below 2 ^ 64.
 pub record IsUnitView (view : View) : Type 0 where
   pub spelled : HeaderBytesIn view.unit.order (view.header, view.program) view.unit.bytes
   pub end : view.place + length view.program ≡ view.unit.offset + length view.unit.bytes
   pub room : view.place + length view.program < 2 ^ 64
 
--- the same by the header's numbers alone
+-- the same by the header's numbers only
 abbrev pub by_numbers : View → View
 by_numbers view = record view { header = without_entries view.header }
 
@@ -29,7 +29,7 @@ by_numbers view = record view { header = without_entries view.header }
 abbrev pub with_ops : View → List Op → UnitParts
 with_ops view ops = record { header = view.header; ops = ops }
 
--- The bytes are the unit of so many operations.
+-- The bytes are the unit of this many operations.
 pub record HasCount (view : View) (count : ℕ) : Type 0 where
   pub ops : List Op
   pub spelled : UnitBytesIn view.unit.order (with_ops view ops) view.unit.bytes

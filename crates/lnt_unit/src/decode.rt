@@ -12,13 +12,13 @@ use lnt_ops::read_ops;
 use lnt_wire::{Cursor, Fault, Frame, Order, Reason, take_frame};
 use std::alloc::Global;
 
-/// The unit at the cursor, which moves past exactly the bytes that spell it. The caller sees to it that `order` is
-/// the cursor's.
+/// Reads the unit at the cursor, and moves past exactly the bytes that encode it. The caller ensures that `order` is the
+/// cursor's.
 ///
-/// It refuses with `Memory`, and else only where no unit begins the bytes that are left. The fault's place is that
-/// of the field at fault, which is the unit's own where its initial length is cut, is reserved, or counts more bytes
-/// than are left. Where a header with a program is there, the fault is that of the program's first operation that
-/// isn't there (`read_ops`). After a refusal the cursor is as it was.
+/// Fails with `Memory`, and otherwise only if the remaining bytes don't begin with a unit. The fault's place is that of the
+/// field at fault. It is the unit's own offset if the initial length is truncated, is reserved, or counts more bytes than
+/// remain. If the header is valid, the fault is that of the program's first operation that isn't (`read_ops`). After an
+/// error the cursor is unchanged.
 #[tactic(auto, using(crate::proofs::ReadLaws::frame_placed, crate::proofs::ReadLaws::frame_end, crate::proofs::ReadLaws::unit_read))]
 pub fn decode_unit(alloc: Global, cursor: &mut Cursor<'_>, order: Order) -> Result<Unit, Fault>
     requires { cursor.old.order ≡ order }
@@ -52,11 +52,11 @@ fn unit_of(alloc: Global, frame: &Frame<'_>, end: u64, order: Order) -> Result<U
     }
 }
 
-/// The units of the section `bytes` with their offsets in it, in order. They stand one after the other, and their
-/// bytes joined are the section: the last one ends where the section does.
+/// The units of the section `bytes` with their offsets in it, in order. They are consecutive, and their bytes joined are
+/// the section: the last one ends where the section does.
 ///
-/// It refuses with `Memory`, and else only where no units spell the section, with the fault of the first unit that
-/// isn't there: `decode_unit`'s at the offset after those before it.
+/// Fails with `Memory`, and otherwise only if the section isn't a list of units, with the fault that `decode_unit` gives at
+/// the end of the last valid unit.
 #[tactic(auto, using(crate::proofs::SectionLaws::no_units, crate::proofs::SectionLaws::unit_added, crate::proofs::SectionLaws::unit_added_long, crate::proofs::SectionLaws::all_units))]
 pub fn decode_section(alloc: Global, bytes: &[u8], order: Order) -> Result<Vec<(u64, Unit)>, Fault>
     ensures ok { IfOk result (λ units. SectionBytes order units.items bytes.now) }
@@ -73,7 +73,7 @@ pub fn decode_section(alloc: Global, bytes: &[u8], order: Order) -> Result<Vec<(
     Ok(units)
 }
 
-// Reads the unit at the cursor, and adds it to `units` with its offset. The caller sees to it that `order` is the cursor's.
+// Reads the unit at the cursor, and appends it to `units` with its offset. The caller ensures that `order` is the cursor's.
 fn add_unit(
     alloc: Global,
     cursor: &mut Cursor<'_>,

@@ -1,4 +1,4 @@
-//! A unit that lies in a buffer with its directories and files, and its operations one by one.
+//! A unit in a buffer, whose directories, files and operations are read in place.
 ghost use Rattle.std.specs.Prelude.{◌≡◌, ◌≢◌, ◌≤◌, length, drop, IfOk, IfErr, false};
 ghost use Rattle.lnt_header_bytes.specs.Broken.{BrokenHeader};
 ghost use Rattle.lnt_unit.specs.BrokenUnits.{BrokenUnit};
@@ -11,11 +11,11 @@ use lnt_wire::{Fault, Reason};
 use std::alloc::Global;
 use std::marker::Model;
 
-/// A unit in a buffer: its directories, files and operations, each read where it lies (DWARF 5, section 6.2.4). It takes
-/// memory for the formats of its tables and its standard opcode lengths alone.
+/// A unit in a buffer, whose directories, files and operations are read in place (DWARF 5, section 6.2.4). Allocates memory
+/// only for the formats of its tables and its standard opcode lengths.
 ///
-/// Contracts see what those of `UnitView` do (`View`): the buffer's unit, the header, the program, and the offset in the
-/// section at which that begins. The header with the program spells the buffer's bytes.
+/// Contracts see what those of `UnitView` see (`View`): the buffer's unit, the header, the program, and the program's
+/// offset in the section. The header with the program encodes the buffer's bytes.
 #[derive(Drop)]
 pub struct UnitInPlace<'a> {
     buffer: &'a UnitBuffer,
@@ -41,8 +41,8 @@ impl<'a> UnitInPlace<'a> {
 
     /// The unit in a buffer.
     ///
-    /// It refuses with `Memory`, and else only where no header with a program begins the bytes, with the fault of
-    /// `decode_header`; so they are those of no unit. The program isn't judged yet.
+    /// Fails with `Memory`, and otherwise only if the bytes don't begin with a header and a program, with the fault of
+    /// `decode_header`. Then they aren't a unit. The program isn't checked yet.
     pub fn over(alloc: Global, buffer: &'a UnitBuffer) -> Result<UnitInPlace<'a>, Fault>
         ensures ok { IfOk result (λ view. view.unit ≡ buffer.entry.now) }
         ensures err { IfErr result (λ fault. fault.reason ≢ Reason.Memory
@@ -67,7 +67,7 @@ impl<'a> UnitInPlace<'a> {
         self.header.view()
     }
 
-    /// The numbers of the header, which are what a machine runs by: a header that has them, and no entries.
+    /// The header without its directories and files: the numbers that a machine needs.
     pub fn numbers(&self) -> &Header
         ensures { result.now ≡ without_entries self.now.header }
     {
@@ -82,7 +82,7 @@ impl<'a> UnitInPlace<'a> {
         self.program
     }
 
-    /// The header, and how many bytes of the unit stand before the program, which goes to the unit's end.
+    /// The header, and the number of bytes of the unit before the program, which extends to the unit's end.
     #[tactic(auto, using(crate::proofs::InPlaceLemmas::program_fits, crate::proofs::InPlaceLemmas::program_ends))]
     pub fn into_parts(self) -> (HeaderInPlace<'a>, usize)
         ensures header { result.0 ≡ self.entry.header }
@@ -98,11 +98,10 @@ impl<'a> UnitInPlace<'a> {
         (header, buffer.bytes().len() - program.len())
     }
 
-    /// The operations in order, each read where it lies. It takes no memory.
+    /// The operations in order, each read in place. Allocates nothing.
     ///
-    /// They are read by the header's numbers alone, which tell as much of them as the header does. Once all were given,
-    /// the bytes are those of the unit of the header and these operations; where one is refused, they are those of no
-    /// unit (`laws::whole_walk`).
+    /// Only the header's numbers are needed to read them. If all operations are valid, the bytes encode the unit with the
+    /// header and these operations; if one isn't, they encode no unit (`laws::whole_walk`).
     pub fn ops(&self) -> Ops<'_>
         ensures header { result.header ≡ without_entries self.now.header }
         ensures place { result.at.place ≡ self.now.place }
@@ -115,8 +114,8 @@ impl<'a> UnitInPlace<'a> {
         Ops::new(self.header.numbers(), self.program, self.place)
     }
 
-    /// How many operations the unit has, where the bytes are those of a unit. Else it refuses with the fault for which
-    /// they are not, which is that of the first operation that isn't there. It takes no memory.
+    /// The number of operations of the unit. If the bytes encode no unit, fails with the fault of the first operation that
+    /// isn't valid. Allocates nothing.
     #[tactic(auto, using(crate::proofs::InPlaceLemmas::counted_none_by_numbers, crate::proofs::InPlaceLemmas::counted_all_by_numbers, crate::proofs::ViewLemmas::counted_room))]
     pub fn operation_count(&self) -> Result<u64, Fault>
         ensures ok { IfOk result (HasCount self.now) }

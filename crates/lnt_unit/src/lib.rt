@@ -1,9 +1,9 @@
 //! The units of DWARF 5 line number sections (section 6.2.4): their headers and operations, read from bytes and written as bytes.
-//! A unit is given exactly where its bytes spell it, and what is written spells it. Units are read whole, or one at a time in the
-//! memory of one, with operations that stay where they lie.
+//! A unit is returned exactly when the bytes encode it, and what is written encodes it. Units are read whole, or one at a time in
+//! the memory of one, with operations that are read in place.
 //!
-//! Start with [`decode_section`] for a section in memory, with [`SectionReader::new`] and [`UnitView::over`] for one that a
-//! source gives, or with [`Unit::new`] for a unit of your own, which [`encode_unit`] writes.
+//! Start with [`decode_section`] for a section in memory, with [`SectionReader::new`] and [`UnitView::over`] for a section
+//! from a source, or with [`Unit::new`] to build a unit, which [`encode_unit`] writes.
 #![tactic(auto)]
 
 mod decode;
@@ -29,7 +29,7 @@ pub use lnt_ops::Ops;
 pub use lnt_stream::{Progress, SectionReader, SectionStop, UnitBuffer};
 pub use view::UnitView;
 
-// Headers whose entries stay where they lie.
+// Headers whose entries are read in place.
 pub use in_place::UnitInPlace;
 pub use lnt_header_bytes::{
     EntriesInPlace, EntryTableView, HeaderInPlace, HeaderView, KeptHeader, Marks,

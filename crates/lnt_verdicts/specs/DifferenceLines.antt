@@ -1,4 +1,4 @@
--- The lines that are printed where the answers of a table and of a section differ.
+-- The lines that are printed for positions at which the answers of a table and of a section differ.
 use Rattle.std.specs.Prelude.{ℕ, List, [], ◌∷◌, ◌++◌, Option, codes}
 use Rattle.std.specs.List.{flat_map}
 use Rattle.lnt_output.specs.Fronts.{AppendsFront}
@@ -13,7 +13,7 @@ use Rattle.lnt_text.specs.Texts.{difference_text}
 abbrev pub difference_line : Difference → List ℕ
 difference_line difference = difference_text difference ++ codes "\n"
 
--- a line for each stretch, or `yes` where there is none
+-- a line for each stretch, or `yes` if there is none
 abbrev pub stretches_text : List Difference → List ℕ
 stretches_text [] = codes "yes\n"
 stretches_text (first ∷ differences) = flat_map difference_line (first ∷ differences)
@@ -23,10 +23,10 @@ abbrev pub stretches_status : List Difference → Status
 stretches_status [] = Done
 stretches_status (first ∷ differences) = No
 
--- ---- where the writer was stopped
+-- ---- where the writer stopped
 
--- A writer that held these bytes (old) has gained a front of the lines of all stretches, or of `yes` where there is none, and
--- nothing else.
+-- What was appended to a writer that held these bytes (old) is a prefix of the lines of all stretches, or of `yes` if there
+-- is none, and nothing else.
 pub record AreDifferencesBegun (by_section by_table : Position → Option Answer) (old new : Option (List ℕ)) : Type 0 where
   pub differences : List Difference
   pub are_all : AreStretches by_section by_table differences

@@ -14,13 +14,13 @@ use Rattle.lnt_table.specs.PathTexts.{operation_text}
 abbrev pub operation_line : Position → List ℕ
 operation_line position = operation_text position ++ codes "\n"
 
--- A writer that held these bytes has gained the table with these answers; or, where there can't be one, the line of the least
--- position that such a table can't tell.
+-- What was appended to a writer that held these bytes is the table with these answers; or, if there can't be one, the line of
+-- the least position that such a table can't express.
 abbrev pub IsPrintedTable : PathVersion → (Position → Option PathAnswer) → Option (List ℕ) → Option (List ℕ) → Status → Type 0
 IsPrintedTable version answers old new Done = (bytes : List ℕ) × Appends old new bytes × IsCanonicalPathTable version answers bytes
 IsPrintedTable version answers old new No =
     (position : Position) × Appends old new (operation_line position) × HasOperationIndex answers position
 
--- A writer that was stopped has gained a front of such a table; or, where there can't be one, a front of that line.
+-- What a stopped writer has received is a prefix of such a table; or, if there can't be one, a prefix of that line.
 abbrev pub BeginsPrintedTable : PathVersion → (Position → Option PathAnswer) → Option (List ℕ) → Option (List ℕ) → Type 0
 BeginsPrintedTable version answers old new = HasBegun (IsPrintedTable version answers old) old new

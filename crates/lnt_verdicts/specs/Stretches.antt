@@ -1,4 +1,4 @@
--- What is printed where all places are told at which a table answers otherwise than a good section.
+-- What is printed if all positions are reported at which a table and a good section answer differently.
 use Rattle.std.specs.Prelude.{◌≡◌, ◌≢◌, ◌++◌, ◌⊎◌, Bool, ℕ, List, [], ◌∷◌, Option, codes}
 use Rattle.std.specs.Io.KnownBytes.{Appends}
 use Rattle.lnt_output.specs.Fronts.{AppendsFront}
@@ -31,8 +31,8 @@ use Rattle.lnt_lines.specs.Indexed.{Indexed}
 use Rattle.lnt_sources.specs.declared.status.Status.{Status}
 use Rattle.lnt_sources.specs.declared.status.Status.TheVariants as ending
 
--- The bytes are a table. These are exactly the stretches at which it answers otherwise than the rows of the units, as far as
--- its version tells, and a writer that held these bytes has gained their lines, or `yes` where there is none.
+-- The bytes are a table. These are exactly the stretches at which it and the rows of the units answer differently, in the
+-- fields of its version, and what was appended to a writer that held these bytes is their lines, or `yes` if there is none.
 pub record AreToldOf (dead : Option ℕ) (skip : Bool) (units : List (ℕ × UnitParts)) (table : List ℕ) (old new : Option (List ℕ))
     (status : Status) : Type 0 where
   pub version : Version
@@ -43,7 +43,7 @@ pub record AreToldOf (dead : Option ℕ) (skip : Bool) (units : List (ℕ × Uni
   pub printed : Appends old new (stretches_text differences)
   pub status_is : status ≡ stretches_status differences
 
--- The same of a table by path, and of what the rows answer with the whole path of each file.
+-- The same for a table by path, and for what the rows answer with the full path of each file.
 pub record AreToldByPath (index : Indexed) (dead : Option ℕ) (skip : Bool) (units : List (ℕ × UnitParts)) (table : List ℕ)
     (old new : Option (List ℕ)) (status : Status) : Type 0 where
   pub version : PathVersion
@@ -54,14 +54,14 @@ pub record AreToldByPath (index : Indexed) (dead : Option ℕ) (skip : Bool) (un
   pub printed : Appends old new (path_stretches_text stretches)
   pub status_is : status ≡ path_stretches_status stretches
 
--- The bytes begin with the header of neither version 1 nor 2, and this is their first fault as a table by path: `Header` where
+-- The bytes begin with the header of neither version 1 nor 2, and this is their first fault as a table by path: `Header` if
 -- they begin with the header of neither version 3 nor 4.
 pub record IsFaultByPath (table : List ℕ) (told : TableFault) : Type 0 where
   pub unnumbered : (version : Version) → BeginsWith table (column_names version ∷ []) → ⊥
   pub fault : IsPathFault table told
 
--- What is told is true of the bytes: the stretches at which the table answers otherwise, or its first fault. Of bytes with the header
--- of version 1 or 2 it is Faulty or Told, of all others FaultyByPath or ToldByPath.
+-- What is reported is true of the bytes: the stretches at which the answers differ, or its first fault. Of bytes with the header of
+-- version 1 or 2 it is Faulty or Told, of all others FaultyByPath or ToldByPath.
 abbrev pub AreStretchesOf : Indexed → Option ℕ → Bool → List (ℕ × UnitParts) → List ℕ → Option (List ℕ) → Option (List ℕ) → Stretches
     → Type 0
 AreStretchesOf index dead skip units table old new (Faulty told) = IsFault table told × (told ≢ fault.Header)
@@ -69,39 +69,39 @@ AreStretchesOf index dead skip units table old new (Told status) = AreToldOf dea
 AreStretchesOf index dead skip units table old new (FaultyByPath told) = IsFaultByPath table told
 AreStretchesOf index dead skip units table old new (ToldByPath status) = AreToldByPath index dead skip units table old new status
 
--- A writer that held these bytes has gained the line of what is wrong with the table, where something is.
+-- What was appended to a writer that held these bytes is the line of what is wrong with the table, if something is.
 abbrev pub IsFaultTold : Stretches → Option (List ℕ) → Option (List ℕ) → Type 0
 IsFaultTold (Faulty told) old new = Appends old new (table_no_text (no_of_fault told) ++ codes "\n")
 IsFaultTold (Told status) old new = Unit {0}
 IsFaultTold (FaultyByPath told) old new = Appends old new (table_no_text (no_of_fault told) ++ codes "\n")
 IsFaultTold (ToldByPath status) old new = Unit {0}
 
--- how a run ends that tells it
+-- how a run that reports it ends
 abbrev pub told_status : Stretches → Status
 told_status (Faulty told) = ending.No
 told_status (Told status) = status
 told_status (FaultyByPath told) = ending.No
 told_status (ToldByPath status) = status
 
--- ---- where the writer was stopped
+-- ---- where the writer stopped
 --     old, new    what it holds before and afterwards
 
--- A front of the lines of all stretches at which a table by path answers otherwise was gained, or of `yes` where there is none, and
--- nothing else.
+-- A prefix of the lines of all stretches at which a table by path answers differently was written, or of `yes` if there is none,
+-- and nothing else.
 pub record ArePathDifferencesBegun (by_section by_table : Position → Option PathAnswer) (old new : Option (List ℕ)) : Type 0 where
   pub stretches : List (Stretch PathAnswer)
   pub are_all : AreAllByPath by_section by_table stretches
   pub front : AppendsFront old new (path_stretches_text stretches)
 
--- The writer has gained a front of the line of a fault of the table.
+-- What was written is a prefix of the line of a fault of the table.
 --     IsSo    which faults the table has
 pub record IsFaultBegun (IsSo : TableFault → Type 0) (old new : Option (List ℕ)) : Type 0 where
   pub told : TableFault
   pub is_so : IsSo told
   pub front : AppendsFront old new (table_no_text (no_of_fault told) ++ codes "\n")
 
--- The bytes are a table, and a front of the lines of the stretches at which it answers otherwise than the rows of the units was
--- gained.
+-- The bytes are a table, and a prefix of the lines of the stretches at which it and the rows of the units answer differently
+-- was written.
 pub record AreBegunOf (dead : Option ℕ) (skip : Bool) (units : List (ℕ × UnitParts)) (table : List ℕ) (old new : Option (List ℕ)) : Type 0
   where
     pub version : Version
@@ -109,7 +109,7 @@ pub record AreBegunOf (dead : Option ℕ) (skip : Bool) (units : List (ℕ × Un
     pub is_table : IsTableOf version table spans
     pub begun : AreDifferencesBegun (told_answer version dead skip units) (span_answer spans) old new
 
--- The same of a table by path, and of what the rows answer with the whole path of each file.
+-- The same for a table by path, and for what the rows answer with the full path of each file.
 pub record AreBegunByPath (index : Indexed) (dead : Option ℕ) (skip : Bool) (units : List (ℕ × UnitParts)) (table : List ℕ)
     (old new : Option (List ℕ)) : Type 0 where
   pub version : PathVersion
@@ -117,8 +117,8 @@ pub record AreBegunByPath (index : Indexed) (dead : Option ℕ) (skip : Bool) (u
   pub is_table : IsPathTableOf version table spans
   pub begun : ArePathDifferencesBegun (told_path version index dead skip units) (path_span_answer spans) old new
 
--- The writer has gained a front of what is told of the table, by its version: of the line of its first fault, or of the lines of the
--- stretches.
+-- What was written is a prefix of what is reported of the table, by its version: of the line of its first fault, or of the lines of
+-- the stretches.
 abbrev pub AreStretchesBegun : Indexed → Option ℕ → Bool → List (ℕ × UnitParts) → List ℕ → Option (List ℕ) → Option (List ℕ) → Type 0
 AreStretchesBegun index dead skip units table old new =
     IsFaultBegun (λ told. IsFault table told × (told ≢ fault.Header)) old new

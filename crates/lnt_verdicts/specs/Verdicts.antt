@@ -40,7 +40,7 @@ checked_status (ByPath compared) = compared_status compared
 abbrev pub path_stretch_line : Stretch PathAnswer → List ℕ
 path_stretch_line stretch = path_stretch_text stretch ++ codes "\n"
 
--- a line for each stretch, or `yes` where there is none
+-- a line for each stretch, or `yes` if there is none
 abbrev pub path_stretches_text : List (Stretch PathAnswer) → List ℕ
 path_stretches_text [] = codes "yes\n"
 path_stretches_text (first ∷ stretches) = flat_map path_stretch_line (first ∷ stretches)

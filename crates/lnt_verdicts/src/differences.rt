@@ -18,11 +18,11 @@ use lnt_text::DifferenceLine;
 use std::alloc::Global;
 use std::io::Write;
 
-// Prints a line for each stretch of positions at which the answers of a table and of a section differ, in rising order, or
-// `yes` where there is none.
+// Prints a line for each stretch of positions at which the answers of a table and of a section differ, in ascending order,
+// or `yes` if there is none.
 //
-// It answers `Done` where there is none, and else `No`. It stops by `Write` where the writer failed, and by `Memory`.
-// Where it stops, the writer has gained a front of these lines, and nothing else.
+// Returns `Done` if there is none, and `No` otherwise. Stops with `Write` if the writer failed, and with `Memory`. If it
+// stops, a prefix of these lines has been written, and nothing else.
 pub(crate) fn print_differences<S: SpanSource + Drop, T: SpanSource + Drop, W: Write>(
     alloc: Global,
     differences: Differences<S, T>,
@@ -63,7 +63,7 @@ fn print_difference<W: Write>(
     ensures front { OnErr result (AppendsFront (W.contents out.old) (W.contents out.new) (difference_line difference)) }
 {
     room.clear();
-    // A vector refuses a piece of the line only for want of memory.
+    // Writing to a vector fails only if memory runs out.
     let Ok(()) = writeln!(room, "{}", DifferenceLine(difference)) else {
         return Err(Halt::Memory);
     };

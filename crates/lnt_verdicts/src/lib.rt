@@ -1,7 +1,7 @@
-//! Prints what is told of address tables: a section's own table, the verdict on a given one, and where the two differ.
+//! Prints the results about address tables: a section's own table, the verdict on a given one, and where the two differ.
 //!
 //! [`print_table`] and [`print_path_table`] print the table of a good section. [`print_checked`] prints the line of a check's
-//! answer, and [`print_stretches`] a line for each stretch of positions at which a table answers otherwise than a section.
+//! answer, and [`print_stretches`] a line for each stretch of positions at which a table and a section answer differently.
 #![tactic(auto)]
 
 mod differences;

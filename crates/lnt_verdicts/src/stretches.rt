@@ -1,4 +1,4 @@
-//! All stretches of positions at which a table answers otherwise than a good section.
+//! All stretches of positions at which a table and a good section answer differently.
 ghost use Rattle.std.specs.Prelude.{◌≡◌, ◌-◌, ◌^◌, ◌<◌, ◌+◌, ◌++◌, ◌⊎◌, [], Bool, ℕ, List, Option, IfErr, IfOk, IfSome, IsErrOf};
 ghost use Rattle.std.specs.Prelude.{OnErr, OnOk, codes, string_bytes};
 ghost use Rattle.std.specs.Io.KnownBytes.{Appends, Keeps};
@@ -33,25 +33,25 @@ use std::io::Write;
 /// What was printed about a table that was compared with a good section at every position.
 #[derive(Drop)]
 pub enum Stretches {
-    /// The header is that of version 1 or 2, but the bytes are no table: the first fault.
+    /// The header is that of version 1 or 2, but the bytes aren't a table: the first fault.
     Faulty(TableFault),
-    /// A table of version 1 or 2: the places at which it answers otherwise; `Done` where there is none.
+    /// A table of version 1 or 2: the positions at which the answers differ; `Done` if there are none.
     Told(Status),
-    /// The header is another, and the bytes are no table by path: the first fault.
+    /// The header is another, and the bytes aren't a table by path: the first fault.
     FaultyByPath(TableFault),
-    /// A table by path: the places at which it answers otherwise, with the paths of files; `Done` where there is none.
+    /// A table by path: the positions at which the answers differ, with the paths of files; `Done` if there are none.
     ToldByPath(Status),
 }
 
-/// Prints a line for each stretch of positions at which the table that a source has to give, of any version, answers otherwise
-/// than a good section, in rising order, or `yes` where there is none; or the line of the table's first fault. A line tells the
-/// first position of its stretch, with both answers.
+/// Prints a line for each stretch of positions at which the table from a source, of any version, and a good section answer
+/// differently, in ascending order, or `yes` if there is none; or the line of the table's first fault. A line has the first
+/// position of its stretch, with both answers.
 ///
-/// The result says which of these was printed. It stops by `Read` only where the source failed, by `TooLong` where the source
-/// has more bytes than it may give, by `Write` where the writer failed, and by `Memory`. Where it stops, the writer has gained
-/// nothing, or a front of these lines. The caller sees to it that the number of the source's failures is below `u64::MAX`.
+/// The result says which of these was printed. Stops with `Read` only if the source failed, with `TooLong` if the source has
+/// more bytes than it may give, with `Write` if the writer failed, and with `Memory`. If it stops, nothing has been written,
+/// or a prefix of these lines. The caller ensures that the number of the source's failures is below `u64::MAX`.
 ///
-/// It is never inlined: its frame is large, the stack is short, and its caller's other frames are not to hold it too.
+/// Never inlined: its frame is large, the stack is short, and the frame of its caller shouldn't contain it.
 #[inline(never)]
 pub fn print_stretches<T: Source, W: Write>(
     alloc: Global,
@@ -94,7 +94,7 @@ pub fn print_stretches<T: Source, W: Write>(
     }
 }
 
-// Prints the line of a table's fault; where it stops, a front of that line.
+// Prints the line of a table's fault; if it stops, a prefix of that line.
 fn print_fault<W: Write>(alloc: Global, fault: TableFault, out: &mut W) -> Result<(), Halt>
     ensures err { IfErr result IsPrinting }
     ensures line { OnOk result (Appends (W.contents out.old) (W.contents out.new) (table_no_text (no_of_fault fault) ++ codes "\n")) }
@@ -113,9 +113,9 @@ fn fault_line(alloc: Global, fault: TableFault) -> Result<String, AllocError>
     format!(in alloc; "{}\n", TableNo::from(fault))
 }
 
-// Prints a line for each stretch of positions at which a table by path answers otherwise than a section, in rising order, or
-// `yes` where there is none. It stops where memory ran out or the writer failed. Where it stops, the writer has gained a front
-// of these lines.
+// Prints a line for each stretch of positions at which a table by path and a section answer differently, in ascending order,
+// or `yes` if there is none. Stops if memory ran out or the writer failed. If it stops, a prefix of these lines has been
+// written.
 #[inline(never)]
 fn print_path_differences<S: SpanSource + Drop, P: Paths, W: Write>(
     alloc: Global,
@@ -159,7 +159,7 @@ fn print_path_difference<W: Write>(
     ensures front { OnErr result (AppendsFront (W.contents out.old) (W.contents out.new) (path_stretch_line (stretch_of difference))) }
 {
     room.clear();
-    // A vector refuses a piece of the line only for want of memory.
+    // Writing to a vector fails only if memory runs out.
     let written = writeln!(room, "{}", PathDifferenceLine(&difference));
     drop(difference);
     if written.is_err() {

@@ -23,8 +23,8 @@ use std::io::Write;
 
 /// Prints the address table of a good section, in version 1 or 2.
 ///
-/// It answers `Done`. It stops by `Write` where the writer failed, and by `Memory`. Where it stops, the writer has gained a
-/// front of the table, and nothing else.
+/// Returns `Done`. Stops with `Write` if the writer failed, and with `Memory`. If it stops, a prefix of the table has been
+/// written, and nothing else.
 pub fn print_table<W: Write>(
     alloc: Global,
     index: &Index<'_>,
@@ -45,11 +45,11 @@ pub fn print_table<W: Write>(
     }
 }
 
-/// Prints the address table by path of a good section, in version 3 or 4; or where there can't be one, the line of the least
-/// position that no such table can tell: a span begins or ends there with an operation index other than 0.
+/// Prints the address table by path of a good section, in version 3 or 4. If there can't be one, it prints the line of the
+/// least position that no such table can express: a span begins or ends there with an operation index other than 0.
 ///
-/// It answers `Done` where the table is printed, and `No` where that line is. It stops by `Write` where the writer failed, and
-/// by `Memory`. Where it stops, the writer has gained a front of the table, or of that line, and nothing else.
+/// Returns `Done` if the table is printed, and `No` if that line is. Stops with `Write` if the writer failed, and with
+/// `Memory`. If it stops, a prefix of the table or of that line has been written, and nothing else.
 pub fn print_path_table<W: Write>(
     alloc: Global,
     index: &Index<'_>,
@@ -73,7 +73,7 @@ pub fn print_path_table<W: Write>(
     }
 }
 
-// Prints the line that says that a span begins or ends at this position, whose operation index isn't 0; where it stops, a front
+// Prints the line that says that a span begins or ends at this position, whose operation index isn't 0; if it stops, a prefix
 // of that line.
 fn print_operation<W: Write>(alloc: Global, position: Position, out: &mut W) -> Result<(), Halt>
     ensures err { IfErr result IsPrinting }
@@ -92,7 +92,7 @@ fn line_of(alloc: Global, position: Position) -> Result<String, AllocError>
     format!(in alloc; "{}\n", OperationLine(position))
 }
 
-// How printing ends where a table couldn't be written.
+// How printing ends if a table couldn't be written.
 fn halt_of(stop: WriteStop) -> Halt
     ensures told { result ≡ halt_of_write stop }
     ensures err { IsPrinting result }

@@ -13,8 +13,8 @@ use std::io::Write;
 
 /// Prints the line of a check's answer: `yes`, or the first thing that is wrong with the section or the table.
 ///
-/// It stops by `Write` where the writer failed, and by `Memory`. Where it stops, the writer has gained a front of the line,
-/// and nothing else.
+/// Stops with `Write` if the writer failed, and with `Memory`. If it stops, a prefix of the line has been written, and
+/// nothing else.
 pub fn print_checked<W: Write>(alloc: Global, checked: &Checked, out: &mut W) -> Result<(), Halt>
     ensures err { IfErr result IsPrinting }
     ensures line { OnOk result (Appends (W.contents out.old) (W.contents out.new) (checked_line checked.now)) }

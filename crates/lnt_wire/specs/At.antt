@@ -1,4 +1,4 @@
--- What a contract sees of a cursor: the offset in the section of the next byte, the bytes that are left, and the byte order of numbers.
+-- What a contract sees of a cursor: the offset in the section of the next byte, the remaining bytes, and the byte order of numbers.
 use Rattle.std.specs.Prelude.{ℕ, List}
 use Rattle.lnt_wire.specs.declared.format.Order.{Order}
 

@@ -1,5 +1,5 @@
--- Lists of bytes as spellings of values: how bytes are put together, not how they are read. A kind of spelling is a relation
--- between a value and the bytes that spell it; a value may have several spellings.
+-- Lists of bytes as encodings of values: how bytes are composed, not how they are read. A kind of encoding is a relation
+-- between a value and the bytes that encode it; a value may have several encodings.
 use Rattle.std.specs.Prelude.{◌≡◌, ℕ, ◌≤◌, List, ◌++◌, length}
 
 -- The bytes are these, and no others.
@@ -11,7 +11,7 @@ pub record TakenBytes (count : ℕ) (taken bytes : List ℕ) : Type 0 where
   pub count_is : length bytes ≡ count
   pub taken_is : taken ≡ bytes
 
--- The bytes are a front of the first kind, and after it a back of the second kind.
+-- The bytes are a prefix of the first kind, followed by a rest of the second kind.
 pub record Then (First Second : List ℕ → Type 0) (bytes : List ℕ) : Type 0 where
   pub front : List ℕ
   pub back : List ℕ
@@ -23,27 +23,27 @@ infixr 30 ◌⨾◌
 abbrev pub ◌⨾◌ : (List ℕ → Type 0) → (List ℕ → Type 0) → List ℕ → Type 0
 (First ⨾ Second) bytes = Then First Second bytes
 
--- No front of the bytes spells a value, of whatever length.
+-- No prefix of the bytes encodes a value, of whatever length.
 abbrev pub NoneSpelled : {X : Type 0} → (X → List ℕ → Type 0) → List ℕ → Type 0
 NoneSpelled {X} Spells bytes = (x : X) (spelling more : List ℕ) → Spells x spelling → spelling ++ more ≡ bytes → ⊥
 
--- The bytes spell the value, and no shorter bytes do.
+-- The bytes encode the value, and no shorter bytes do.
 pub record IsShortest {X : Type 0} (Spells : X → List ℕ → Type 0) (x : X) (bytes : List ℕ) : Type 0 where
   pub spelled : Spells x bytes
   pub shortest : (other : List ℕ) → Spells x other → length bytes ≤ length other
 
--- The new bytes are the old ones, and after them a shortest spelling of the value.
+-- The new bytes are the old ones followed by a shortest encoding of the value.
 pub record Appends {X : Type 0} (Spells : X → List ℕ → Type 0) (x : X) (old new : List ℕ) : Type 0 where
   pub spelling : List ℕ
   pub spelled : IsShortest Spells x spelling
   pub joined : new ≡ old ++ spelling
 
--- The new bytes are the old ones, and after them some more.
+-- The new bytes are the old ones followed by some more.
 pub record Extends (old new : List ℕ) : Type 0 where
   pub more : List ℕ
   pub joined : new ≡ old ++ more
 
--- A kind of spelling in which no spelling is the front of another, and each spells one value: so what is spelled is read again,
--- whatever follows. Where bytes begin with a spelling x of u and with a spelling y of v, both are the same.
+-- A kind of encoding in which no encoding is the prefix of another, and each encodes one value: so what is encoded is read
+-- back, whatever follows. If bytes begin with an encoding x of u and with an encoding y of v, both are the same.
 pub record IsCode {X : Type 0} (Spells : X → List ℕ → Type 0) : Type 0 where
   pub one : (u v : X) (x y r s : List ℕ) → Spells u x → Spells v y → x ++ r ≡ y ++ s → (u ≡ v) × (x ≡ y)

@@ -1,4 +1,4 @@
--- The texts of refusals, as their types print them.
+-- The texts of errors, as their types print them.
 use Rattle.std.specs.Prelude.{ℕ, List, ◌++◌, codes, decimal, false}
 use Rattle.std.specs.Fmt.{digits}
 use Rattle.lnt_wire.specs.declared.fault.Fault.{Fault}

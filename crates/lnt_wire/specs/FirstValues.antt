@@ -1,7 +1,7 @@
--- The value in a form that bytes begin with, and how many of them spell it, as a reader finds them. Where the bytes begin with no
--- value in the form, these functions give something that means nothing. That bytes spell a value is `ValueBytes` of `FormBytes`, and
--- `proofs/FirstValueLaws` shows that what is spelled is found. No contract of this crate speaks of these functions; in
--- `lnt_header_bytes` they say which entries a table has whose entries stay where they lie (`Borrowed`).
+-- The value in a form that bytes begin with, and how many of them encode it, as a reader finds them. If the bytes don't begin with a
+-- value in the form, the results of these functions are meaningless. That bytes encode a value is `ValueBytes` of `FormBytes`, and
+-- `proofs/FirstValueLaws` shows that what is encoded is found. No contract of this crate speaks of these functions; in
+-- `lnt_header_bytes` they say which entries a table has whose entries are read in place (`Borrowed`).
 use Rattle.std.specs.Prelude.{ℕ, zero, suc, ◌+◌, cond, nat_lt, List, [], ◌∷◌, length, take, drop}
 use Rattle.byteorder.specs.Endian.{little_number, big_number}
 use Rattle.lnt_wire.specs.declared.format.Order.{Order}
@@ -15,7 +15,7 @@ use Rattle.lnt_wire.specs.declared.form.FormValue.TheVariants.{Block, Block1, Bl
 use Rattle.lnt_wire.specs.Leb128.{groups}
 use Rattle.lnt_wire.specs.Numbers.{offset_size}
 
--- the number that the first `size` bytes spell
+-- the number that the first `size` bytes encode
 abbrev pub first_number : Order → ℕ → List ℕ → ℕ
 first_number Little size bytes = little_number size bytes
 first_number Big size bytes = big_number size bytes
@@ -51,7 +51,7 @@ first_value format order forms.Strp bytes = Strp (first_number order (offset_siz
 first_value format order forms.LineStrp bytes = LineStrp (first_number order (offset_size format) bytes)
 first_value format order forms.Udata bytes = Udata (groups (first_leb bytes))
 
--- how many bytes spell that value
+-- how many bytes encode that value
 abbrev pub first_size : Format → Order → Form → List ℕ → ℕ
 first_size format order forms.Data1 bytes = 1
 first_size format order forms.Data2 bytes = 2

@@ -1,4 +1,5 @@
--- Values in the forms that a table of a line number header may have, and the bytes that spell them (DWARF 5, section 7.5.6).
+-- Values in the forms that a table of a line number header may have, and the bytes that encode them (DWARF 5, section
+-- 7.5.6).
 use Rattle.std.specs.Prelude.{◌≡◌, ◌≢◌, ℕ, ◌^◌, ◌<◌, List, [], ◌∷◌, ◌++◌, length}
 use Rattle.std.specs.List.{AllByRecursion}
 use Rattle.lnt_wire.specs.declared.format.Order.{Order}
@@ -57,11 +58,11 @@ pub record TextBytes (text bytes : List ℕ) : Type 0 where
   pub no_zero : HasNoZero text
   pub joined : bytes ≡ text ++ 0 ∷ []
 
--- The bytes are the length of the block, of the kind of spelling Length, and after it the bytes of the block.
+-- The bytes are the length of the block, of the kind of encoding Length, and after it the bytes of the block.
 abbrev pub BlockBytes : (ℕ → List ℕ → Type 0) → List ℕ → List ℕ → Type 0
 BlockBytes Length block bytes = (Length (length block) ⨾ Exactly block) bytes
 
--- The bytes spell the value in its form. Offsets have 4 bytes in the 32-bit format, and 8 in the 64-bit one.
+-- The bytes encode the value in its form. Offsets have 4 bytes in the 32-bit format, and 8 in the 64-bit one.
 abbrev pub FormBytes : Format → Order → FormValue → List ℕ → Type 0
 FormBytes format order (Text text) bytes = TextBytes text bytes
 FormBytes format order (LineStrp offset) bytes = OffsetBytes format order offset bytes
@@ -77,12 +78,12 @@ FormBytes format order (Block1 block) bytes = BlockBytes (NumberBytes order 1) b
 FormBytes format order (Block2 block) bytes = BlockBytes (NumberBytes order 2) block bytes
 FormBytes format order (Block4 block) bytes = BlockBytes (NumberBytes order 4) block bytes
 
--- The value is in this form, and the bytes spell it.
+-- The value is in this form, and the bytes encode it.
 pub record ValueBytes (format : Format) (order : Order) (form : Form) (value : FormValue) (bytes : List ℕ) : Type 0 where
   pub form_is : form_of value ≡ form
   pub spelled : FormBytes format order value bytes
 
--- The value has a spelling in its form; of offsets this is so in the 64-bit format.
+-- The value has an encoding in its form; for offsets, in the 64-bit format.
 abbrev pub HasSpelling : FormValue → Type 0
 HasSpelling (Text text) = HasNoZero text
 HasSpelling (Block1 block) = length block < 2 ^ 8

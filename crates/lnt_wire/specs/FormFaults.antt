@@ -1,5 +1,5 @@
--- What is wrong with bytes that begin with no value in a form (DWARF 5, section 7.5.6). The place of each fault is the value's
--- first byte, so `bytes` are those from there on, up to the end of what may be read.
+-- What is wrong with bytes that don't begin with a value in a form (DWARF 5, section 7.5.6). The place of each fault is the
+-- value's first byte, so `bytes` are those from there on, up to the end of what may be read.
 use Rattle.std.specs.Prelude.{◌≡◌, ℕ, ◌<◌, List, ◌++◌, length}
 use Rattle.lnt_wire.specs.declared.format.Order.{Order}
 use Rattle.lnt_wire.specs.declared.format.Format.{Format}
@@ -17,15 +17,15 @@ pub record IsCutText (reason : Reason) (bytes : List ℕ) : Type 0 where
   pub reason_is : reason ≡ Truncated
   pub no_zero : HasNoZero bytes
 
--- The length of a block isn't there, or is followed by fewer bytes than it says. Length is the kind in which the length is
--- spelled, and IsLengthFault says why bytes begin with none of it.
+-- The length of a block can't be read, or is followed by fewer bytes than it says. Length is the kind in which the length
+-- is encoded, and IsLengthFault says why bytes don't begin with one.
 pub data IsBlockFault (Length : ℕ → List ℕ → Type 0) (IsLengthFault : Reason → List ℕ → Type 0) (reason : Reason)
     (bytes : List ℕ) : Type 0 where
   no_length : IsLengthFault reason bytes → IsBlockFault Length IsLengthFault reason bytes
   cut_block : (size : ℕ) (spelling rest : List ℕ) → reason ≡ Truncated → Length size spelling → bytes ≡ spelling ++ rest
       → length rest < size → IsBlockFault Length IsLengthFault reason bytes
 
--- Why the bytes begin with no value in the form.
+-- Why the bytes don't begin with a value in the form.
 abbrev pub IsValueFault : Format → Order → Form → Reason → List ℕ → Type 0
 IsValueFault format order forms.Data1 = IsCutShort 1
 IsValueFault format order forms.Data2 = IsCutShort 2

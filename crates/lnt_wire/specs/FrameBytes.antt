@@ -1,4 +1,5 @@
--- Frames: the units of a section by their initial lengths and versions alone (DWARF 5, sections 6.2.4 and 7.4).
+-- Frames: the units of a section, delimited by their initial lengths, with their versions checked (DWARF 5, sections 6.2.4
+-- and 7.4).
 use Rattle.std.specs.Prelude.{◌≡◌, ℕ, ◌+◌, ◌^◌, ◌<◌, List, [], ◌∷◌, ◌++◌, length}
 use Rattle.lnt_wire.specs.declared.format.Order.{Order}
 use Rattle.lnt_wire.specs.declared.format.Format.{Format}
@@ -31,12 +32,13 @@ pub record IsFrame (order : Order) (frame : Frame) (bytes : List ℕ) : Type 0 w
   pub length_is : frame.length ≡ length frame.body.now
   pub spelled : FrameBytes order (frame.format, frame.body.now) bytes
 
--- The frame stands at its offset in a section, in which it ends below 2 ^ 64.
+-- The frame is at its offset in a section, in which it ends below 2 ^ 64.
 pub record IsPlacedFrame (order : Order) (frame : Frame) : Type 0 where
   pub is : IsFrame order frame (frame_bytes order frame.format frame.body.now)
   pub room : frame.offset + length (frame_bytes order frame.format frame.body.now) < 2 ^ 64
 
--- The bytes of frames one after another. The first frame stands at the offset, and each other where the one before it ends.
+-- The bytes of frames one after another. The first frame is at the offset, and each other one begins where the one before
+-- it ends.
 abbrev pub FramesFrom : Order → ℕ → List Frame → List ℕ → Type 0
 FramesFrom order offset [] bytes = bytes ≡ []
 FramesFrom order offset (frame ∷ frames) bytes =

@@ -1,5 +1,5 @@
--- What is wrong with bytes that begin with no frame (DWARF 5, sections 6.2.4 and 7.4). A fault has a place in the bytes, which
--- parts them:
+-- What is wrong with bytes that don't begin with a frame (DWARF 5, sections 6.2.4 and 7.4). A fault has a place in the bytes,
+-- which divides them:
 --     before   the bytes before the place of the fault
 --     from     the bytes from the place on, to the end of the section
 use Rattle.std.specs.Prelude.{◌≡◌, ◌≢◌, ℕ, ◌^◌, ◌<◌, ◌≤◌, List, [], ◌∷◌, ◌++◌, length}
@@ -10,15 +10,16 @@ use Rattle.lnt_wire.specs.declared.fault.Reason.TheVariants.{Truncated, Reserved
 use Rattle.lnt_wire.specs.Numbers.{number_bytes}
 use Rattle.lnt_wire.specs.InitialLength.{initial_length, LengthFits}
 
--- The bytes begin with a whole unit, judged by its initial length. Its body is the fields before the place, and from there on what
--- is left of it.
+-- The bytes begin with a whole unit, judged by its initial length. Its body is the fields before the place, and the rest from
+-- there on.
 pub record InFrame (order : Order) (format : Format) (fields left before from : List ℕ) : Type 0 where
   pub more : List ℕ
   pub fits : LengthFits format (length (fields ++ left))
   pub before_is : before ≡ initial_length format order (length (fields ++ left)) ++ fields
   pub from_is : from ≡ left ++ more
 
--- The initial length is cut, in its first 4 bytes or in the 8 bytes after 0xffffffff; or it counts more bytes than follow it.
+-- The initial length is truncated, in its first 4 bytes or in the 8 bytes after 0xffffffff; or it counts more bytes than
+-- follow it.
 pub data IsCutFrame (order : Order) (bytes : List ℕ) : Type 0 where
   no_length : length bytes < 4 → IsCutFrame order bytes
   no_wide_length : (rest : List ℕ) → bytes ≡ number_bytes order 4 0xffffffff ++ rest → length rest < 8 → IsCutFrame order bytes
@@ -38,14 +39,14 @@ abbrev pub IsCutVersion : Order → List ℕ → List ℕ → Type 0
 IsCutVersion order before from =
     (format : Format) × (left : List ℕ) × (length left < 2) × InFrame order format [] left before from
 
--- The unit is whole by its initial length, and its version is another than 5.
+-- The unit is whole by its initial length, and its version isn't 5.
 abbrev pub IsOtherVersion : Order → ℕ → List ℕ → List ℕ → Type 0
 IsOtherVersion order version before from =
     (format : Format) × (left : List ℕ) × (version < 2 ^ 16) × (version ≢ 5)
     × InFrame order format [] (number_bytes order 2 version ++ left) before from
 
--- The reasons for which the bytes begin with no frame, each at its place: the first byte of the bytes, where nothing is before
--- it, or that of the version.
+-- The reasons why the bytes don't begin with a frame, each at its place: the first byte of the bytes, with nothing before it,
+-- or that of the version.
 abbrev pub IsFrameFault : Order → Reason → List ℕ → List ℕ → Type 0
 IsFrameFault order Truncated [] from = IsCutFrame order from
 IsFrameFault order Truncated (b ∷ before) from = IsCutVersion order (b ∷ before) from

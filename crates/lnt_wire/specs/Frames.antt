@@ -8,14 +8,14 @@ use Rattle.lnt_wire.specs.FrameBytes.{FrameBytes, FramesFrom}
 use Rattle.lnt_wire.specs.FrameFaults.{IsFrameFault}
 use Rattle.lnt_wire.specs.Reading.{Refuses}
 
--- What follows the last frame: nothing; or, where there is a fault, some bytes, which begin with no frame, for the fault's reason at
+-- What follows the last frame: nothing; or, if there is a fault, some bytes that don't begin with a frame, for the fault's reason at
 -- its place.
 abbrev pub EndsBy : At → Option Fault → Type 0
 EndsBy at None = at.rest ≡ []
 EndsBy at (Some fault) = (0 < length at.rest) × Refuses (IsFrameFault at.order) (FrameBytes at.order) at fault
 
--- The bytes of the frames one after another are a front of the section, from offset 0 on, and after it the section ends as the
--- fault says. So they are all frames of the section, or all before the first fault.
+-- The bytes of the frames one after another are a prefix of the section, from offset 0 on, and after it the section ends as
+-- the fault says. So they are all frames of the section, or all before the first fault.
 pub record AreFrames (order : Order) (bytes : List ℕ) (frames : List Frame) (fault : Option Fault) : Type 0 where
   pub front : List ℕ
   pub rest : List ℕ

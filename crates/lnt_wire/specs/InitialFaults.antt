@@ -1,5 +1,5 @@
--- Why the readers of a frame's parts refuse: that of the initial length, and that of the version. No public contract speaks of
--- these; why bytes begin with no frame is `IsFrameFault`.
+-- Why the readers of a frame's parts fail: that of the initial length, and that of the version. No public contract speaks of
+-- these; why bytes don't begin with a frame is `IsFrameFault`.
 use Rattle.std.specs.Prelude.{◌≡◌, ◌≢◌, ℕ, ◌^◌, ◌<◌, List, ◌++◌, length}
 use Rattle.lnt_wire.specs.declared.format.Order.{Order}
 use Rattle.lnt_wire.specs.declared.fault.Reason.{Reason}
@@ -7,7 +7,7 @@ use Rattle.lnt_wire.specs.declared.fault.Reason.TheVariants.{Truncated, Reserved
 use Rattle.lnt_wire.specs.FrameFaults.{IsCutFrame, IsReserved}
 use Rattle.lnt_wire.specs.Numbers.{number_bytes}
 
--- Why no initial length begins the bytes.
+-- Why the bytes don't begin with an initial length.
 abbrev pub IsInitialFault : Order → Reason → List ℕ → Type 0
 IsInitialFault order Truncated bytes = IsCutFrame order bytes
 IsInitialFault order ReservedLength bytes = IsReserved order bytes

@@ -10,12 +10,12 @@ abbrev pub initial_length : Format → Order → ℕ → List ℕ
 initial_length D32 order n = number_bytes order 4 n
 initial_length D64 order n = number_bytes order 4 0xffffffff ++ number_bytes order 8 n
 
--- The lengths that a format can say. The 32-bit numbers from 0xfffffff0 on are reserved.
+-- The lengths that a format can encode. The 32-bit numbers from 0xfffffff0 on are reserved.
 abbrev pub LengthFits : Format → ℕ → Type 0
 LengthFits D32 n = n < 0xfffffff0
 LengthFits D64 n = n < 2 ^ 64
 
--- The bytes spell the format and the length.
+-- The bytes encode the format and the length.
 pub record InitialBytes (order : Order) (initial : Format × ℕ) (bytes : List ℕ) : Type 0 where
   pub fits : LengthFits initial.0 initial.1
   pub spelled : bytes ≡ initial_length initial.0 order initial.1

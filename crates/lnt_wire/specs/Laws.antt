@@ -1,4 +1,4 @@
--- What is spelled is read again, whatever follows: of each kind of spelling none is the front of another, and each spells one value.
+-- What is encoded is read back, whatever follows: in each kind, no encoding is a prefix of another, and each encodes one value.
 use Rattle.std.specs.Prelude.{ℕ, ◌^◌, ◌<◌, List, ℤ, FitsSigned}
 use Rattle.std.specs.Int.{w64}
 use Rattle.lnt_wire.specs.declared.format.Order.{Order}
@@ -28,7 +28,7 @@ pub record OneLeb : Type 0 where
 abbrev pub OneValue : Type 0
 OneValue = (format : Format) (order : Order) (form : Form) → IsCode (ValueBytes format order form)
 
--- A LEB128 number has a spelling where it is in range, and a value exactly where it is one of its form that the format can say.
+-- A LEB128 number has an encoding if it is in range, and a value exactly when the format can encode it in its form.
 pub record SpelledValues : Type 0 where
   pub unsigned : (n : ℕ) → n < 2 ^ 64 → HasShortest UnsignedLeb n
   pub signed : (z : ℤ) → FitsSigned w64 z → HasShortest SignedLeb z

@@ -11,21 +11,21 @@ abbrev pub number_bytes : Order → ℕ → ℕ → List ℕ
 number_bytes Little size n = bytes_low_first 0 size n
 number_bytes Big size n = bytes_high_first size n
 
--- The bytes spell the unsigned number in size bytes.
+-- The bytes encode the unsigned number in size bytes.
 pub record NumberBytes (order : Order) (size n : ℕ) (bytes : List ℕ) : Type 0 where
   pub fits : n < 256 ^ size
   pub spelled : bytes ≡ number_bytes order size n
 
--- how many bytes an offset or a length has (DWARF 5, section 7.4)
+-- the number of bytes of an offset or a length (DWARF 5, section 7.4)
 abbrev pub offset_size : Format → ℕ
 offset_size D32 = 4
 offset_size D64 = 8
 
--- The bytes spell the offset in the format.
+-- The bytes encode the offset in the format.
 abbrev pub OffsetBytes : Format → Order → ℕ → List ℕ → Type 0
 OffsetBytes format order n bytes = NumberBytes order (offset_size format) n bytes
 
--- The offset is larger than the format can say.
+-- The offset is too large for the format.
 abbrev pub IsLargeOffset : Format → ℕ → Type 0
 IsLargeOffset D32 n = 2 ^ 32 ≤ n
 IsLargeOffset D64 n = ⊥

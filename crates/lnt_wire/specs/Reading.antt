@@ -1,4 +1,4 @@
--- What a read of a cursor does, and what is so where it is refused.
+-- What a read of a cursor does, and what holds if it fails.
 use Rattle.std.specs.Prelude.{◌≡◌, ◌≢◌, ℕ, ◌+◌, ◌<◌, List, ◌++◌, length}
 use Rattle.lnt_wire.specs.declared.fault.Fault.{Fault}
 use Rattle.lnt_wire.specs.declared.fault.Reason.{Reason}
@@ -6,7 +6,7 @@ use Rattle.lnt_wire.specs.declared.fault.Reason.TheVariants.{Truncated, Memory}
 use Rattle.lnt_wire.specs.At.{At}
 use Rattle.lnt_wire.specs.Bytes.{NoneSpelled}
 
--- The read gave v, and moved past bytes that spell it, and past no others. What follows them is left.
+-- The read returned v, and moved past bytes that encode it, and past no others. What follows them remains.
 pub record Reads {X : Type 0} (Spells : X → List ℕ → Type 0) (v : X) (old new : At) : Type 0 where
   pub spelling : List ℕ
   pub spelled : Spells v spelling
@@ -14,7 +14,7 @@ pub record Reads {X : Type 0} (Spells : X → List ℕ → Type 0) (v : X) (old 
   pub place : new.place ≡ old.place + length spelling
   pub order : new.order ≡ old.order
 
--- The read of a field was refused: the bytes that are left begin with no spelling of a value, and the reason is so of them. The
+-- The read of a field failed: the remaining bytes don't begin with the encoding of a value, and the reason holds for them. The
 -- fault's place is the field's first byte.
 pub record RefusesField {X : Type 0} (IsSo : Reason → List ℕ → Type 0) (Spells : X → List ℕ → Type 0) (old : At)
     (fault : Fault) : Type 0 where
@@ -22,12 +22,12 @@ pub record RefusesField {X : Type 0} (IsSo : Reason → List ℕ → Type 0) (Sp
   pub reason : IsSo fault.reason old.rest
   pub none : NoneSpelled Spells old.rest
 
--- The same, but where memory ran out, which says nothing of the bytes.
+-- The same, except if memory ran out, which is no verdict on the bytes.
 abbrev pub RefusesFieldOr : {X : Type 0} → (Reason → List ℕ → Type 0) → (X → List ℕ → Type 0) → At → Fault → Type 0
 RefusesFieldOr IsSo Spells old fault = fault.reason ≢ Memory → RefusesField IsSo Spells old fault
 
--- The read of several fields was refused: the bytes that are left begin with no spelling of a value. The fault's place lies in
--- them: the bytes `before` stand before it, and the reason is so of these and of the bytes from the place on (left).
+-- The read of several fields failed: the remaining bytes don't begin with the encoding of a value. The fault's place is in
+-- them: the bytes `before` precede it, and the reason holds for these and the bytes from the place on (left).
 pub record Refuses {X : Type 0} (IsSo : Reason → List ℕ → List ℕ → Type 0) (Spells : X → List ℕ → Type 0) (old : At)
     (fault : Fault) : Type 0 where
   pub before : List ℕ
@@ -37,7 +37,7 @@ pub record Refuses {X : Type 0} (IsSo : Reason → List ℕ → List ℕ → Typ
   pub reason : IsSo fault.reason before left
   pub none : NoneSpelled Spells old.rest
 
--- The same, but where memory ran out.
+-- The same, except if memory ran out.
 abbrev pub RefusesOr : {X : Type 0} → (Reason → List ℕ → List ℕ → Type 0) → (X → List ℕ → Type 0) → At → Fault → Type 0
 RefusesOr IsSo Spells old fault = fault.reason ≢ Memory → Refuses IsSo Spells old fault
 

@@ -4,7 +4,7 @@ use Rattle.std.specs.Option.{option_map}
 use Rattle.lnt_wire.specs.declared.form.FormValue.{FormValue}
 use Rattle.lnt_wire.specs.declared.form.FormValue.TheVariants.{Text, LineStrp, Strp}
 
--- The bytes before the first zero byte. None where no byte is zero.
+-- The bytes before the first zero byte. `None` if no byte is zero.
 abbrev pub up_to_zero : List ℕ → Option (List ℕ)
 up_to_zero [] = None
 up_to_zero (zero ∷ bytes) = Some []

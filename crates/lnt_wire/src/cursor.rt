@@ -10,9 +10,9 @@ use std::marker::Model;
 
 /// Reads fields one after another from a slice of a section. No read goes past the end of the slice.
 ///
-/// A read gives a value and moves past exactly the bytes that spell it. It refuses only where the bytes that are left
-/// begin with no spelling of a value, and then leaves the cursor as it was. The place of the fault is the offset in the
-/// section of the field's first byte.
+/// A read returns a value and moves past exactly the bytes that encode it. It fails only if the remaining bytes don't begin
+/// with the encoding of a value, and then leaves the cursor unchanged. The place of the fault is the offset in the section
+/// of the field's first byte.
 #[derive(Drop)]
 pub struct Cursor<'a> {
     rest: &'a [u8],
@@ -32,8 +32,8 @@ impl<'a> Model for Cursor<'a> {
 }
 
 impl<'a> Cursor<'a> {
-    /// A cursor before the first of these bytes, which stands at the offset `base` in the section. The caller sees to it
-    /// that the offset after the last byte is below 2^64.
+    /// A cursor before the first of these bytes, which is at the offset `base` in the section. The caller ensures that the
+    /// offset after the last byte is below 2^64.
     pub fn new(bytes: &'a [u8], base: u64, order: Order) -> Cursor<'a>
         requires { base + length bytes.now < 2 ^ 64 }
         ensures place { result.place ≡ base }
@@ -47,7 +47,7 @@ impl<'a> Cursor<'a> {
         }
     }
 
-    /// The offset in the section of the next byte, or of the end of the bytes where none is left.
+    /// The offset in the section of the next byte, or of the end of the bytes if none is left.
     pub fn place(&self) -> u64
         ensures value { result ≡ self.now.place }
         ensures room { self.now.place + length self.now.rest < 2 ^ 64 }
@@ -55,7 +55,7 @@ impl<'a> Cursor<'a> {
         self.place
     }
 
-    /// The bytes that are left, from the next one to the end. The cursor stays where it is.
+    /// The remaining bytes, from the next one to the end. The cursor doesn't move.
     pub fn rest(&self) -> &'a [u8]
         ensures { result.now ≡ self.now.rest }
     {
@@ -69,7 +69,7 @@ impl<'a> Cursor<'a> {
         self.order
     }
 
-    // Another cursor at the same place over the same bytes, so that fields can be read ahead and given up.
+    // Another cursor at the same place over the same bytes, so that a field can be read ahead and then dropped.
     pub(crate) fn fork(&self) -> Cursor<'a>
         ensures { result ≡ self.now }
     {
@@ -77,7 +77,7 @@ impl<'a> Cursor<'a> {
         Cursor { rest, place, order }
     }
 
-    // Moves past the next `n` bytes. The caller sees to it that so many are left.
+    // Moves past the next `n` bytes. The caller ensures that at least `n` are left.
     #[inline(always)]
     pub(crate) fn skip(&mut self, n: usize)
         requires { n ≤ length self.old.rest }
@@ -89,7 +89,7 @@ impl<'a> Cursor<'a> {
         *place += n as u64;
     }
 
-    /// The next `n` bytes, as they stand. It refuses with `Truncated` where fewer are left.
+    /// The next `n` bytes, unchanged. Fails with `Truncated` if fewer are left.
     #[inline(always)]
     #[tactic(auto, using(crate::proofs::ReadLemmas::refuses_short, crate::proofs::ReadLemmas::reads_taken))]
     pub fn take(&mut self, n: usize) -> Result<&'a [u8], Fault>

@@ -1,25 +1,25 @@
-//! Why bytes are refused, and at which offset.
+//! Why bytes are rejected, and at which offset.
 ghost use Rattle.std.specs.Prelude.{Some};
 ghost use Rattle.lnt_wire.specs.FaultTexts.{fault_text, reason_text};
 
 use std::error::Error;
 use std::fmt;
 
-/// What is wrong with bytes that are no line number section. Each reason has a number, from 1 to 15.
+/// What is wrong with bytes that aren't a line number section. Each reason has a number, from 1 to 15.
 #[derive(Clone, Copy, Debug, PartialEq, Eq)]
 pub enum Reason {
-    /// 1: the field isn't whole. The bytes end before it does: those of the section, of its unit, or of the part of the unit
-    /// that it stands in.
+    /// 1: the field is truncated: the section, its unit, or the part of the unit that contains it ends before the field
+    /// does.
     Truncated,
     /// 2: a 32-bit initial length from 0xfffffff0 to 0xfffffffe, which are reserved (DWARF 5, section 7.4).
     ReservedLength,
-    /// 3: the version of a unit is this one, and not 5 (DWARF 5, section 6.2.4).
+    /// 3: the unit has this version instead of 5 (DWARF 5, section 6.2.4).
     VersionNotFive(u16),
-    /// 4: the address size is this one, and none of 2, 4 and 8 bytes.
+    /// 4: the address size is this number of bytes, which isn't 2, 4 or 8.
     AddressSize(u8),
-    /// 5: the segment selector size is this one, and not 0 bytes.
+    /// 5: the segment selector size is this number of bytes, which isn't 0.
     SegmentSelector(u8),
-    /// 6: `header_length` counts more bytes than are left of the unit.
+    /// 6: `header_length` counts more bytes than remain in the unit.
     HeaderLength,
     /// 7: `maximum_operations_per_instruction` is 0.
     MaxOpsZero,
@@ -27,25 +27,25 @@ pub enum Reason {
     LineRangeZero,
     /// 9: `opcode_base` is 0.
     OpcodeBaseZero,
-    /// 10: `standard_opcode_lengths` has for this standard opcode, a known one, this number of operands, which isn't the
-    /// one that the opcode has (DWARF 5, section 6.2.5.2).
+    /// 10: `standard_opcode_lengths` gives this known standard opcode this number of operands, which isn't the number that
+    /// the standard gives it (DWARF 5, section 6.2.5.2).
     StandardLength(u8, u8),
-    /// 11: the format of a table of directories or files names the form of this code, which is none of those in `Form`.
+    /// 11: the format of a table of directories or files has this form code, which isn't one of those in `Form`.
     UnknownForm(u64),
     /// 12: a table of directories or files counts entries, and its entry format is empty.
     EmptyFormat,
-    /// 13: a LEB128 number that is whole, and doesn't fit 64 bits (DWARF 5, section 7.6).
+    /// 13: a complete LEB128 number doesn't fit in 64 bits (DWARF 5, section 7.6).
     LebTooLarge,
     /// 14: the length of an extended operation isn't that of its opcode and its operand (DWARF 5, section 6.2.5.3).
     ExtendedLength,
-    /// 15: memory ran out, which says nothing of the bytes.
+    /// 15: memory ran out. The bytes may be valid.
     Memory,
 }
 
-/// Bytes are refused: what is wrong, and where.
+/// Why bytes are rejected: what is wrong, and where.
 #[derive(Clone, Copy, Debug, PartialEq, Eq)]
 pub struct Fault {
-    /// The offset in the section, in bytes, of the first byte of the field at fault. With `Memory` it means nothing.
+    /// The offset in the section, in bytes, of the first byte of the field at fault. It is meaningless with `Memory`.
     pub place: u64,
     /// What is wrong there.
     pub reason: Reason,

@@ -5,7 +5,7 @@ ghost use Rattle.lnt_wire.specs.FormBytes.{form_code, form_of, IsUnknownForm, Ha
 use crate::items::Items;
 use crate::strings::text_size;
 
-/// A form that a value of a table may have. A table with values in any other form is refused, with `UnknownForm`.
+/// A form that a value of a table may have. A table with values in any other form is rejected, with `UnknownForm`.
 #[derive(Clone, Copy, Debug, PartialEq, Eq)]
 pub enum Form {
     /// `DW_FORM_data1`, 0x0b: a number of 1 byte.
@@ -37,7 +37,7 @@ pub enum Form {
 }
 
 impl Form {
-    /// The form of this code. None exactly where the code is none of those above.
+    /// The form with this code. `None` if and only if no form above has it.
     pub fn of(code: u64) -> Option<Form>
         ensures { MatchOption result (IsUnknownForm code) (λ form. form_code form ≡ code) }
     {
@@ -59,7 +59,7 @@ impl Form {
         }
     }
 
-    /// The code by which an entry format names the form (DWARF 5, section 7.5.6).
+    /// The code of the form in an entry format (DWARF 5, section 7.5.6).
     pub fn code(self) -> u64
         ensures { result ≡ form_code self }
     {
@@ -81,7 +81,7 @@ impl Form {
     }
 }
 
-/// A value in one of the forms, with bytes of its own. `ValueView` is the same over borrowed bytes.
+/// A value in one of the forms, which owns its bytes. `ValueView` borrows them.
 #[derive(Debug, Drop, PartialEq, Eq)]
 pub enum FormValue {
     /// The bytes before the zero byte.
@@ -90,15 +90,15 @@ pub enum FormValue {
     LineStrp(u64),
     /// An offset in bytes into the section `.debug_str`.
     Strp(u64),
-    /// The number, as in each of the next variants up to `Data8`.
+    /// The number. So are those of the next variants up to `Data8`.
     Udata(u64),
     Data1(u8),
     Data2(u16),
     Data4(u32),
     Data8(u64),
-    /// The bytes, in the order in which they stand in the section.
+    /// The bytes, in the order of the section.
     Data16([u8; 16]),
-    /// The bytes after the length, which says how many they are, as in each of the blocks below.
+    /// The bytes after the length, which counts them. So are those of the other blocks below.
     Block(Items<u8>),
     Block1(Items<u8>),
     Block2(Items<u8>),
@@ -106,7 +106,7 @@ pub enum FormValue {
 }
 
 impl FormValue {
-    /// The form that the value is in.
+    /// The form of the value.
     pub fn form(&self) -> Form
         ensures { result ≡ form_of self.now }
     {
@@ -127,9 +127,9 @@ impl FormValue {
         }
     }
 
-    /// Whether the value has a spelling in its form: a `Text` has no zero byte in it, and the number of bytes of a
-    /// `Block1`, `Block2` or `Block4` fits its 1, 2 or 4 bytes. Offsets are taken to be in the 64-bit format, which can say
-    /// each of them; `put_form` says which are too large in the 32-bit one.
+    /// Whether the value has an encoding in its form: a `Text` contains no zero byte, and the number of bytes of a
+    /// `Block1`, `Block2` or `Block4` fits in 1, 2 or 4 bytes. Offsets are taken to be in the 64-bit format, which has room
+    /// for each of them; `put_form` says which are too large for the 32-bit format.
     pub fn has_spelling(&self) -> bool
         ensures { IsTrue result ↔ HasSpelling self.now }
     {
@@ -143,7 +143,7 @@ impl FormValue {
     }
 }
 
-// How the length of a block is spelled: as an unsigned LEB128 number, or in 1, 2 or 4 bytes.
+// How the length of a block is encoded: as an unsigned LEB128 number, or in 1, 2 or 4 bytes.
 #[derive(Clone, Copy)]
 pub(crate) enum Prefix {
     Leb,

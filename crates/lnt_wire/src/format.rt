@@ -1,7 +1,7 @@
-//! How a section spells its numbers: the byte order, and the format of a unit.
+//! How the numbers of a section are encoded: the byte order, and the format of a unit.
 
-/// The order of the bytes of a fixed-width number. All units of a section have the same one, which the file says and not the
-/// section.
+/// The order of the bytes of a fixed-width number. All units of a section have the same one. The object file gives it, not
+/// the section.
 #[derive(Clone, Copy, Debug, PartialEq, Eq)]
 pub enum Order {
     /// Little-endian: the lowest byte first.
@@ -10,8 +10,8 @@ pub enum Order {
     Big,
 }
 
-/// The format of a unit, which its initial length shows and which says how wide its lengths and offsets are (DWARF 5,
-/// section 7.4).
+/// The format of a unit: its initial length determines it, and it determines the width of the unit's lengths and offsets
+/// (DWARF 5, section 7.4).
 #[derive(Clone, Copy, Debug, PartialEq, Eq)]
 pub enum Format {
     /// The 32-bit format: lengths and offsets have 4 bytes, and the initial length too.

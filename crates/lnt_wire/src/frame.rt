@@ -1,4 +1,5 @@
-//! Frames: the units of a section by their initial lengths and versions alone (DWARF 5, sections 6.2.4 and 7.4).
+//! Frames: the units of a section, delimited by their initial lengths, with their versions checked (DWARF 5, sections 6.2.4
+//! and 7.4).
 ghost use Rattle.std.specs.Prelude.{◌≡◌, IfOk, IfErr, OnErr};
 ghost use Rattle.lnt_wire.specs.FrameBytes.{FrameBytes, IsFrame};
 ghost use Rattle.lnt_wire.specs.FrameFaults.{IsFrameFault};
@@ -11,25 +12,24 @@ use crate::format::{Format, Order};
 use crate::initial::{begins_with_five, initial_length};
 use std::alloc::Global;
 
-/// A unit seen from outside: its initial length, and the body that it counts, of which the version, 5, is known and no more.
+/// A unit whose contents aren't parsed yet: its initial length, and its body, of which only the version, 5, was checked.
 #[derive(Clone, Copy, Debug)]
 pub struct Frame<'a> {
     /// The offset in the section of the first byte of the initial length.
     pub offset: u64,
-    /// The format of the unit, which the initial length shows.
+    /// The format of the unit, which the initial length determines.
     pub format: Format,
-    /// How many bytes the body has: the initial length as a number.
+    /// The number of bytes of the body: the value of the initial length.
     pub length: u64,
-    /// The bytes after the initial length, up to the end of the unit. The first two spell version 5.
+    /// The bytes after the initial length, up to the end of the unit. The first two encode version 5.
     pub body: &'a [u8],
 }
 
-/// The frame at the cursor, which moves past it, to the first byte after the unit.
+/// Reads the frame at the cursor, and moves to the first byte after the unit.
 ///
-/// It refuses only where no frame stands there, and then leaves the cursor as it was. The reasons are, at the place of
-/// the cursor, `Truncated` where the initial length is cut or counts more bytes than are left, and `ReservedLength`; and
-/// at the place of the version, the body's first byte, `Truncated` where the body has fewer than 2 bytes, and
-/// `VersionNotFive`.
+/// Fails only if there is no frame, and then leaves the cursor unchanged. At the place of the cursor, the reason is
+/// `Truncated` if the initial length is truncated or counts more bytes than remain, or else `ReservedLength`. At the place
+/// of the version, the body's first byte, it is `Truncated` if the body has fewer than 2 bytes, or else `VersionNotFive`.
 #[tactic(auto, using(crate::proofs::FrameReadingLaws::frame_exits))]
 pub fn take_frame<'a>(cursor: &mut Cursor<'a>) -> Result<Frame<'a>, Fault>
     ensures ok { IfOk result (λ frame. Reads (IsFrame cursor.old.order) frame cursor.old cursor.new) }
@@ -65,19 +65,19 @@ pub fn take_frame<'a>(cursor: &mut Cursor<'a>) -> Result<Frame<'a>, Fault>
     })
 }
 
-/// The frames of a section from its start on, and the fault of the bytes after them, where they don't reach its end.
+/// The frames at the start of a section, and the fault of the bytes after them if they don't reach its end.
 #[derive(Debug, Drop)]
 pub struct Framed<'a> {
     /// The frames in the order of their offsets. The first begins at offset 0, and each other where the one before it ends.
     pub frames: Vec<Frame<'a>>,
-    /// Why no frame begins after the last one. None where the section ends there.
+    /// Why no frame follows the last one. `None` if the section ends there.
     pub fault: Option<Fault>,
 }
 
-/// The frames of the section `bytes`, whose numbers are in this byte order: all of them, or those before the first fault.
+/// The frames of the section `bytes` in this byte order: all of them, or those before the first fault.
 ///
-/// The bytes of the frames one after another are the section, or, where there is a fault, the part of it before the bytes
-/// that no frame begins. A fault is an answer, and the frames before it stand. The only error is `Memory`.
+/// The frames are consecutive. Together they cover the section, or its part before the fault. A fault isn't an error of
+/// this call: the frames before it are valid. Fails only with `Memory`.
 #[tactic(auto, using(crate::proofs::FrameListLaws::frame_walk))]
 pub fn frames<'a>(alloc: Global, bytes: &'a [u8], order: Order) -> Result<Framed<'a>, Fault>
     ensures ok { IfOk result (λ framed. AreFrames order bytes.entry.now framed.frames.items framed.fault) }

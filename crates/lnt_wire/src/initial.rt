@@ -9,8 +9,8 @@ use crate::cursor::Cursor;
 use crate::fault::{Fault, Reason};
 use crate::format::{Format, Order};
 
-// The initial length at the cursor: the format, and how many bytes the unit has after it. It refuses with `Truncated` where
-// its 4 bytes, or the 8 after 0xffffffff, aren't there, and with `ReservedLength`. Then nothing is said of the cursor.
+// The initial length at the cursor: the format, and the number of bytes of the unit after it. Fails with `Truncated` if its
+// 4 bytes, or the 8 after 0xffffffff, are missing, and with `ReservedLength`. Then the cursor is unspecified.
 pub(crate) fn initial_length(cursor: &mut Cursor<'_>) -> Result<(Format, u64), Reason>
     ensures ok { IfOk result (λ initial. Reads (InitialBytes cursor.old.order) initial cursor.old cursor.new) }
     ensures err { IfErr result (λ reason. IsInitialFault cursor.old.order reason cursor.old.rest) }
@@ -30,8 +30,8 @@ pub(crate) fn initial_length(cursor: &mut Cursor<'_>) -> Result<(Format, u64), R
     }
 }
 
-// Tests that the body of a unit begins with version 5. Its first byte stands at the offset `place` in the section, which is
-// the place of the faults: `Truncated` where it has fewer than 2 bytes, and `VersionNotFive`.
+// Checks that the body of a unit begins with version 5. Its first byte is at the offset `place` in the section, which is
+// the place of the faults: `Truncated` if it has fewer than 2 bytes, and `VersionNotFive`.
 pub(crate) fn begins_with_five(body: &[u8], place: u64, order: Order) -> Result<(), Fault>
     requires { place + length body.now < 2 ^ 64 }
     ensures ok { OnOk result (BeginsWithFive order body.now) }

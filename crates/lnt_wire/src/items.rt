@@ -1,10 +1,10 @@
-//! A vector of which contracts see the values, and not the capacity.
+//! A vector whose contracts speak of its values, not of its capacity.
 ghost use Rattle.std.specs.Prelude.{◌≡◌};
 
 use std::marker::Model;
 
-/// A vector of values that a contract sees as the list of them, without its capacity. So two of them are equal in a
-/// contract exactly where they hold the same values.
+/// A vector that a contract sees as the list of its values, without its capacity. So two of them are equal in a contract
+/// exactly when they hold the same values.
 #[derive(Debug, Drop)]
 pub struct Items<T> {
     values: Vec<T>,
@@ -19,7 +19,7 @@ impl<T> Model for Items<T> {
 }
 
 impl<T> Items<T> {
-    /// The values of the vector, which isn't copied.
+    /// Takes the vector's values, without a copy.
     pub fn new(values: Vec<T>) -> Items<T>
         ensures { result ≡ values.items }
     {
@@ -33,7 +33,7 @@ impl<T> Items<T> {
         self.values.as_slice()
     }
 
-    /// The vector of the values, which isn't copied.
+    /// The values as a vector, without a copy.
     pub fn into_vec(self) -> Vec<T>
         ensures { result.items ≡ self }
     {

@@ -1,7 +1,7 @@
 //! Laws of the format. Each is the contract of a function that takes nothing and does nothing, so that it is proved.
 //!
-//! They say that what is written is read again: no spelling of a kind is the front of another one, and each spells one
-//! value. So a read of bytes that begin with a spelling gives the value that it spells, whatever follows.
+//! They say that what was written is read back: no encoding of a kind is a prefix of another, and each encodes one value.
+//! So reading bytes that begin with an encoding gives the value that it encodes, whatever follows.
 ghost use Rattle.lnt_wire.specs.Laws.{OneNumber, OneLeb, OneValue, SpelledValues};
 
 /// Fixed-width numbers and offsets, in either order and format (DWARF 5, sections 7.4 and 7.5.5).
@@ -21,8 +21,8 @@ pub fn one_value()
     ensures { OneValue }
 {}
 
-/// Which values have a spelling (DWARF 5, sections 7.5.6 and 7.6): LEB128 numbers of 64 bits, and a value exactly where its
-/// form can say it in the format.
+/// Which values have an encoding (DWARF 5, sections 7.5.6 and 7.6): LEB128 numbers of 64 bits, and a value exactly when its
+/// form has room for it in the format.
 #[tactic(auto, using(crate::proofs::SpelledLemmas::spelled_values))]
 pub fn spelled_values()
     ensures { SpelledValues }

@@ -1,4 +1,4 @@
-//! Reads of LEB128 numbers, which are spelled in groups of seven bits (DWARF 5, section 7.6).
+//! Reads LEB128 numbers, which are encoded in groups of seven bits (DWARF 5, section 7.6).
 ghost use Rattle.std.specs.Prelude.{◌≡◌, ◌+◌, ◌<◌, ◌≤◌, [], ◌∷◌};
 ghost use Rattle.std.specs.Prelude.{length, take, MatchOption, IfOk, IfErr, IfSome, OnErr};
 ghost use Rattle.lnt_wire.specs.Bytes.{NoneSpelled};
@@ -11,8 +11,8 @@ use crate::cursor::Cursor;
 use crate::fault::{Fault, Reason};
 
 impl<'a> Cursor<'a> {
-    /// The next unsigned LEB128 number, with or without groups of zeros at its end. It refuses with `Truncated` where its
-    /// last byte isn't there, and with `LebTooLarge` where it is, and the number is 2^64 or more.
+    /// The next unsigned LEB128 number, with or without groups of zeros at its end. Fails with `Truncated` if its last byte
+    /// is missing, and with `LebTooLarge` if the number is 2^64 or more.
     #[inline(always)]
     pub fn uleb(&mut self) -> Result<u64, Fault>
         ensures ok { IfOk result (λ v. Reads UnsignedLeb v self.old self.new) }
@@ -36,8 +36,8 @@ impl<'a> Cursor<'a> {
         }
     }
 
-    /// The next signed LEB128 number, with or without groups at its end that repeat the sign. It refuses with `Truncated`
-    /// where its last byte isn't there, and with `LebTooLarge` where it is, and the number is below -2^63, or 2^63 or more.
+    /// The next signed LEB128 number, with or without groups at its end that repeat the sign. Fails with `Truncated` if its
+    /// last byte is missing, and with `LebTooLarge` if the number is below -2^63, or 2^63 or more.
     #[inline(always)]
     #[tactic(auto, using(crate::proofs::ReadLemmas::reads_skipped))]
     pub fn sleb(&mut self) -> Result<i64, Fault>
@@ -63,19 +63,19 @@ impl<'a> Cursor<'a> {
     }
 }
 
-// The spelling of a number in at most 9 bytes. Its groups have at most 63 bits, so no sum of them overflows.
+// An encoding of a number in at most 9 bytes. Its groups have at most 63 bits, so no sum of them overflows.
 #[derive(Clone, Copy)]
 struct ShortLeb {
-    // How many bytes spell it.
+    // The number of bytes.
     size: usize,
-    // The number that the groups say, unsigned.
+    // The unsigned value of the groups.
     sum: u64,
-    // 128 to the power of `size`: one more than the greatest number that so many groups can say.
+    // 128 to the power of `size`: one more than the greatest number that `size` groups can encode.
     scale: u64,
 }
 
-// The unsigned number that the bytes begin with, and how many bytes spell it. It isn't inlined: it is for numbers of more
-// than one byte, which are few, and keeps the call above small.
+// The unsigned number that the bytes begin with, and how many bytes encode it. Not inlined: it handles numbers of more than
+// one byte, which are rare, and keeps its caller small.
 #[inline(never)]
 #[tactic(auto, using(crate::proofs::LebLemmas::short_unsigned, crate::proofs::LebLemmas::none_cut))]
 fn long_uleb(bytes: &[u8]) -> Result<(u64, usize), Reason>
@@ -95,7 +95,8 @@ fn long_uleb(bytes: &[u8]) -> Result<(u64, usize), Reason>
     }
 }
 
-// The signed number that the bytes begin with, and how many bytes spell it. It isn't inlined, as `long_uleb`.
+// The signed number that the bytes begin with, and how many bytes encode it. Not inlined, for the same reason as
+// `long_uleb`.
 #[inline(never)]
 #[tactic(auto, using(crate::proofs::LebLemmas::none_cut_signed))]
 fn long_sleb(bytes: &[u8]) -> Result<(i64, usize), Reason>
@@ -115,7 +116,7 @@ fn long_sleb(bytes: &[u8]) -> Result<(i64, usize), Reason>
     }
 }
 
-// The spelling that the bytes begin with, where it has at most 9 bytes. None says nothing: it may be longer, or cut.
+// The encoding that the bytes begin with, if it has at most 9 bytes. With `None` it may be longer or truncated.
 #[tactic(auto, using(crate::proofs::LebLemmas::few_groups))]
 fn short_leb(bytes: &[u8]) -> Option<ShortLeb>
     ensures { IfSome result (λ found. IsShortLeb found.size found.sum found.scale bytes.now) }
@@ -139,7 +140,7 @@ fn short_leb(bytes: &[u8]) -> Option<ShortLeb>
     None
 }
 
-// The signed number that this spelling at the front of the bytes says: bit 6 of its last byte is the sign.
+// The signed number that this encoding at the start of the bytes stands for: bit 6 of its last byte is the sign.
 fn short_sum(short: ShortLeb, bytes: &[u8]) -> i64
     requires { IsShortLeb short.size short.sum short.scale bytes.now }
     ensures { SignedLeb result (take short.size bytes.now) }
@@ -151,7 +152,7 @@ fn short_sum(short: ShortLeb, bytes: &[u8]) -> i64
     }
 }
 
-// What the last byte of a signed number says: its seven bits in two's complement, from -64 to 63.
+// The value of the last byte of a signed number: its seven bits in two's complement, from -64 to 63.
 #[tactic(auto, using(crate::proofs::LebLemmas::one_low, crate::proofs::LebLemmas::one_high))]
 fn last_group(byte: u8) -> i64
     requires { byte < 128 }
@@ -164,7 +165,7 @@ fn last_group(byte: u8) -> i64
     }
 }
 
-// How many bytes spell the number that the bytes begin with: up to the first below 128. None where there is no such byte.
+// How many bytes encode the number that the bytes begin with: up to the first below 128. `None` if there is no such byte.
 fn leb_size(bytes: &[u8]) -> Option<usize>
     ensures { MatchOption result (AreHigh bytes.now)
         (λ size. (size ≤ length bytes.now) × IsLeb (take size bytes.now)) }
@@ -177,7 +178,7 @@ fn leb_size(bytes: &[u8]) -> Option<usize>
     None
 }
 
-// The unsigned number that the whole slice spells, summed from its last byte to its first. None where it is 2^64 or more.
+// The unsigned number that the whole slice encodes, summed from its last byte to its first. `None` if it is 2^64 or more.
 fn group_sum(spelling: &[u8]) -> Option<u64>
     ensures { MatchOption result (IsLargeUnsigned spelling.now) (λ sum. sum ≡ groups spelling.now) }
 {
@@ -193,7 +194,7 @@ fn group_sum(spelling: &[u8]) -> Option<u64>
     Some(sum)
 }
 
-// The signed number that the whole slice spells, summed from its last byte to its first. None where it is below -2^63, or
+// The signed number that the whole slice encodes, summed from its last byte to its first. `None` if it is below -2^63, or
 // 2^63 or more.
 fn signed_sum(spelling: &[u8]) -> Option<i64>
     requires { IsLeb spelling.now }

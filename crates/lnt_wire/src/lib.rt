@@ -1,9 +1,9 @@
 //! The fields of DWARF 5 line number sections as bytes: numbers, values in a form, and the frames of units (sections 7.4 to 7.6).
-//! What is read moves past exactly the bytes that spell it, or is refused with a [`Fault`]: a reason, and the offset in the
-//! section of the field at which it holds. What is written is the shortest spelling.
+//! A read moves past exactly the bytes that encode its value, or fails with a [`Fault`]: a reason, and the offset in the section
+//! of the field at fault. A write produces the shortest encoding.
 //!
-//! Start with [`Cursor::new`] over some bytes; with [`frames`], which parts a section into its units by their initial
-//! lengths and versions alone; or with [`Counted::new`] for bytes that a reader gives some at a time.
+//! Start with [`Cursor::new`] over some bytes; with [`frames`], which divides a section into its units by their initial
+//! lengths alone; or with [`Counted::new`] for bytes from a reader.
 #![tactic(auto)]
 
 mod cursor;
@@ -21,10 +21,10 @@ mod strings;
 mod value;
 mod view;
 
-// Where bytes come from.
+// The source of the bytes.
 pub use lnt_input::{Counted, ReadFault, Source, Stop as SourceStop, read_all};
 
-// What they spell.
+// What they encode.
 pub use form::{Form, FormValue};
 pub use format::{Format, Order};
 pub use items::Items;

@@ -1,4 +1,4 @@
-//! Reads of fixed-width numbers in either byte order, and of offsets in either format (DWARF 5, sections 7.4 and 7.5.5).
+//! Reads fixed-width numbers in either byte order, and of offsets in either format (DWARF 5, sections 7.4 and 7.5.5).
 ghost use Rattle.std.specs.Prelude.{◌≡◌, length, IfOk, OnErr, IfErr};
 ghost use Rattle.lnt_wire.specs.Numbers.{NumberBytes, OffsetBytes, offset_size};
 ghost use Rattle.lnt_wire.specs.Reading.{Reads, RefusesField, IsCutShort};
@@ -9,7 +9,7 @@ use crate::format::{Format, Order};
 use byteorder::{BigEndian, ByteOrder, LittleEndian};
 
 impl<'a> Cursor<'a> {
-    /// The next byte as an unsigned number. It refuses with `Truncated` where none is left.
+    /// The next byte as an unsigned number. Fails with `Truncated` if none is left.
     #[inline(always)]
     #[tactic(auto, using(crate::proofs::NumberLaws::one_byte, crate::proofs::ReadLemmas::number_exits))]
     pub fn u8(&mut self) -> Result<u8, Fault>
@@ -21,7 +21,7 @@ impl<'a> Cursor<'a> {
         Ok(bytes[0])
     }
 
-    /// The unsigned number of the next 2 bytes, in the cursor's order. It refuses with `Truncated` where fewer are left.
+    /// The unsigned number of the next 2 bytes, in the cursor's order. Fails with `Truncated` if fewer are left.
     #[inline(always)]
     #[tactic(auto, using(crate::proofs::ReadLemmas::number_exits))]
     pub fn u16(&mut self) -> Result<u16, Fault>
@@ -34,7 +34,7 @@ impl<'a> Cursor<'a> {
         Ok(u16_of(order, bytes))
     }
 
-    /// The unsigned number of the next 4 bytes, in the cursor's order. It refuses with `Truncated` where fewer are left.
+    /// The unsigned number of the next 4 bytes, in the cursor's order. Fails with `Truncated` if fewer are left.
     #[inline(always)]
     #[tactic(auto, using(crate::proofs::ReadLemmas::number_exits))]
     pub fn u32(&mut self) -> Result<u32, Fault>
@@ -47,7 +47,7 @@ impl<'a> Cursor<'a> {
         Ok(u32_of(order, bytes))
     }
 
-    /// The unsigned number of the next 8 bytes, in the cursor's order. It refuses with `Truncated` where fewer are left.
+    /// The unsigned number of the next 8 bytes, in the cursor's order. Fails with `Truncated` if fewer are left.
     #[inline(always)]
     #[tactic(auto, using(crate::proofs::ReadLemmas::number_exits))]
     pub fn u64(&mut self) -> Result<u64, Fault>
@@ -60,8 +60,8 @@ impl<'a> Cursor<'a> {
         Ok(u64_of(order, bytes))
     }
 
-    /// The next offset or length, which has 4 bytes in the 32-bit format and 8 in the 64-bit one (DWARF 5, section 7.4). It
-    /// refuses with `Truncated` where fewer are left.
+    /// The next offset or length, which has 4 bytes in the 32-bit format and 8 in the 64-bit one (DWARF 5, section 7.4).
+    /// Fails with `Truncated` if fewer are left.
     #[inline(always)]
     pub fn offset(&mut self, format: Format) -> Result<u64, Fault>
         ensures ok { IfOk result (λ v. Reads (OffsetBytes format self.old.order) v self.old self.new) }
@@ -76,7 +76,7 @@ impl<'a> Cursor<'a> {
     }
 }
 
-// The number that these 2 bytes spell in the order.
+// The number that these 2 bytes encode in the order.
 #[tactic(auto, using(crate::proofs::NumberLaws::number_read_2))]
 fn u16_of(order: Order, bytes: &[u8]) -> u16
     requires { length bytes.now ≡ 2 }
@@ -88,7 +88,7 @@ fn u16_of(order: Order, bytes: &[u8]) -> u16
     }
 }
 
-// The number that these 4 bytes spell in the order.
+// The number that these 4 bytes encode in the order.
 #[tactic(auto, using(crate::proofs::NumberLaws::number_read_4))]
 fn u32_of(order: Order, bytes: &[u8]) -> u32
     requires { length bytes.now ≡ 4 }
@@ -100,7 +100,7 @@ fn u32_of(order: Order, bytes: &[u8]) -> u32
     }
 }
 
-// The number that these 8 bytes spell in the order.
+// The number that these 8 bytes encode in the order.
 #[tactic(auto, using(crate::proofs::NumberLaws::number_read_8))]
 fn u64_of(order: Order, bytes: &[u8]) -> u64
     requires { length bytes.now ≡ 8 }

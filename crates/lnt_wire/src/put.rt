@@ -1,5 +1,5 @@
-//! Numbers and values, written at the end of a vector (DWARF 5, sections 7.4, 7.5.6 and 7.6). A refused call leaves the vector
-//! as it was.
+//! Numbers and values, written at the end of a vector (DWARF 5, sections 7.4, 7.5.6 and 7.6). A failed call leaves the vector
+//! unchanged.
 ghost use Rattle.std.specs.Prelude.{◌≡◌, ◌<◌, ◌↔◌, Some, pos, length, take, IsErrOf, IfErr, OnOk, OnErr};
 ghost use Rattle.std.specs.Int.{int_rem_euclid};
 ghost use Rattle.lnt_wire.specs.Bytes.{Appends, Extends};
@@ -16,10 +16,10 @@ use std::alloc::{AllocError, AllocFailed};
 use std::error::Error;
 use std::fmt;
 
-/// Why a value, a header or a unit isn't written. Each function says what is then left in the output.
+/// Why a value, a header or a unit wasn't written. Each function says what the output then contains.
 #[derive(Clone, Copy, Debug, PartialEq, Eq)]
 pub enum EncodeFault {
-    /// 20: a length or an offset is larger than the 32-bit format can say.
+    /// 20: a length or an offset is too large for the 32-bit format.
     TooLarge,
     /// 21: memory ran out.
     Memory,
@@ -58,8 +58,8 @@ impl<T: Drop> From<AllocFailed<T>> for EncodeFault {
     }
 }
 
-/// Adds the number as an unsigned LEB128 number, in as few bytes as spell it. The one error is that memory ran out, and then
-/// `out` is as before.
+/// Adds the number as an unsigned LEB128 number, in as few bytes as possible. Fails only if memory runs out, and then leaves
+/// `out` unchanged.
 #[tactic(auto, using(crate::proofs::PutLemmas::taken_back))]
 pub fn append_uleb(out: &mut Vec<u8>, n: u64) -> Result<(), AllocError>
     ensures ok { OnOk result (Appends UnsignedLeb n out.old.items out.new.items) }
@@ -70,8 +70,8 @@ pub fn append_uleb(out: &mut Vec<u8>, n: u64) -> Result<(), AllocError>
     cut_back(out, start, ended)
 }
 
-/// Adds the number as a signed LEB128 number, in as few bytes as spell it. The one error is that memory ran out, and then `out`
-/// is as before.
+/// Adds the number as a signed LEB128 number, in as few bytes as possible. Fails only if memory runs out, and then leaves `out`
+/// unchanged.
 #[tactic(auto, using(crate::proofs::PutLemmas::taken_back))]
 pub fn append_sleb(out: &mut Vec<u8>, z: i64) -> Result<(), AllocError>
     ensures ok { OnOk result (Appends SignedLeb z out.old.items out.new.items) }
@@ -82,7 +82,7 @@ pub fn append_sleb(out: &mut Vec<u8>, z: i64) -> Result<(), AllocError>
     cut_back(out, start, ended)
 }
 
-/// Adds the number as `append_uleb` does. The one refusal is `Memory`.
+/// Adds the number as `append_uleb` does. Fails only with `Memory`.
 pub fn put_uleb(out: &mut Vec<u8>, n: u64) -> Result<(), EncodeFault>
     ensures ok { OnOk result (Appends UnsignedLeb n out.old.items out.new.items) }
     ensures err { IfErr result (λ fault. fault ≡ EncodeFault.Memory) }
@@ -91,7 +91,7 @@ pub fn put_uleb(out: &mut Vec<u8>, n: u64) -> Result<(), EncodeFault>
     Ok(append_uleb(out, n)?)
 }
 
-/// Adds the number as `append_sleb` does. The one refusal is `Memory`.
+/// Adds the number as `append_sleb` does. Fails only with `Memory`.
 pub fn put_sleb(out: &mut Vec<u8>, z: i64) -> Result<(), EncodeFault>
     ensures ok { OnOk result (Appends SignedLeb z out.old.items out.new.items) }
     ensures err { IfErr result (λ fault. fault ≡ EncodeFault.Memory) }
@@ -100,12 +100,12 @@ pub fn put_sleb(out: &mut Vec<u8>, z: i64) -> Result<(), EncodeFault>
     Ok(append_sleb(out, z)?)
 }
 
-/// Adds the value in its form, in the format and the order of its unit, each LEB128 number in as few bytes as spell it. The
-/// caller sees to it that a `Text` holds no zero byte, and that the length of a `Block1`, `Block2` or `Block4` fits its 1,
-/// 2 or 4 bytes, as `FormValue::has_spelling` tells.
+/// Adds the value in its form, in the format and the order of its unit, each LEB128 number in as few bytes as possible. The
+/// caller ensures that a `Text` contains no zero byte, and that the length of a `Block1`, `Block2` or `Block4` fits in 1, 2
+/// or 4 bytes (`FormValue::has_spelling`).
 ///
-/// It refuses with `TooLarge` exactly where the value is an offset of 2^32 or more and the format the 32-bit one, and else
-/// only with `Memory`. Then `out` is as before.
+/// Fails with `TooLarge` if and only if the value is an offset of 2^32 or more in the 32-bit format, and otherwise only
+/// with `Memory`. Then `out` is unchanged.
 #[tactic(auto, using(crate::proofs::PutLemmas::taken_back))]
 pub fn put_form(
     out: &mut Vec<u8>,
@@ -123,7 +123,7 @@ pub fn put_form(
     cut_back(out, start, ended)
 }
 
-/// Adds the number in 2 bytes, in this order. The one error is that memory ran out, and then `out` is as before.
+/// Adds the number in 2 bytes, in this order. Fails only if memory runs out, and then leaves `out` unchanged.
 pub fn put_u16(out: &mut Vec<u8>, n: u16, order: Order) -> Result<(), AllocError>
     ensures ok { OnOk result (Appends (NumberBytes order 2) n out.old.items out.new.items) }
     ensures unchanged { OnErr result (out.new.items ≡ out.old.items) }
@@ -136,7 +136,7 @@ pub fn put_u16(out: &mut Vec<u8>, n: u16, order: Order) -> Result<(), AllocError
     out.extend_from_slice(&bytes)
 }
 
-/// Adds the number in 4 bytes, in this order. The one error is that memory ran out, and then `out` is as before.
+/// Adds the number in 4 bytes, in this order. Fails only if memory runs out, and then leaves `out` unchanged.
 pub fn put_u32(out: &mut Vec<u8>, n: u32, order: Order) -> Result<(), AllocError>
     ensures ok { OnOk result (Appends (NumberBytes order 4) n out.old.items out.new.items) }
     ensures unchanged { OnErr result (out.new.items ≡ out.old.items) }
@@ -149,7 +149,7 @@ pub fn put_u32(out: &mut Vec<u8>, n: u32, order: Order) -> Result<(), AllocError
     out.extend_from_slice(&bytes)
 }
 
-/// Adds the number in 8 bytes, in this order. The one error is that memory ran out, and then `out` is as before.
+/// Adds the number in 8 bytes, in this order. Fails only if memory runs out, and then leaves `out` unchanged.
 pub fn put_u64(out: &mut Vec<u8>, n: u64, order: Order) -> Result<(), AllocError>
     ensures ok { OnOk result (Appends (NumberBytes order 8) n out.old.items out.new.items) }
     ensures unchanged { OnErr result (out.new.items ≡ out.old.items) }
@@ -164,8 +164,8 @@ pub fn put_u64(out: &mut Vec<u8>, n: u64, order: Order) -> Result<(), AllocError
 
 /// Adds the offset or length, in the 4 bytes of the 32-bit format or the 8 of the 64-bit one (DWARF 5, section 7.4).
 ///
-/// It refuses with `TooLarge` exactly where `n` is 2^32 or more and the format the 32-bit one, and else only with `Memory`.
-/// Then `out` is as before.
+/// Fails with `TooLarge` if and only if `n` is 2^32 or more in the 32-bit format, and otherwise only with `Memory`. Then
+/// `out` is unchanged.
 pub fn put_offset(
     out: &mut Vec<u8>,
     n: u64,
@@ -185,7 +185,7 @@ pub fn put_offset(
     }
 }
 
-// Hands on how a call ended that added bytes to `out` from index `start` on. Where it was refused, these bytes are removed first.
+// Returns the result of a call that appended bytes to `out` from index `start` on. If it failed, these bytes are removed first.
 fn cut_back<E>(out: &mut Vec<u8>, start: usize, ended: Result<(), E>) -> Result<(), E>
     ensures same { result ≡ ended }
     ensures ok { OnOk ended (out.new.items ≡ out.old.items) }
@@ -197,7 +197,7 @@ fn cut_back<E>(out: &mut Vec<u8>, start: usize, ended: Result<(), E>) -> Result<
     ended
 }
 
-// Adds the shortest unsigned LEB128 number. After a refusal a part of it may be there.
+// Adds the shortest unsigned LEB128 number. After an error a part of it may have been added.
 #[tactic(auto, using(crate::proofs::PutLemmas::unsigned_groups))]
 fn add_uleb(out: &mut Vec<u8>, n: u64) -> Result<(), AllocError>
     ensures ok { OnOk result (Appends UnsignedLeb n out.old.items out.new.items) }
@@ -212,7 +212,7 @@ fn add_uleb(out: &mut Vec<u8>, n: u64) -> Result<(), AllocError>
     Ok(())
 }
 
-// Adds the shortest signed LEB128 number. After a refusal a part of it may be there.
+// Adds the shortest signed LEB128 number. After an error a part of it may have been added.
 #[tactic(auto, using(crate::proofs::PutLemmas::begun_signed, crate::proofs::PutLemmas::begun_extends))]
 fn add_sleb(out: &mut Vec<u8>, z: i64) -> Result<(), AllocError>
     ensures ok { OnOk result (Appends SignedLeb z out.old.items out.new.items) }
@@ -235,7 +235,7 @@ fn low_group(z: i64) -> u8
     z.rem_euclid(128) as u8
 }
 
-// Adds the value in its form. After a refusal a part of it may be there.
+// Adds the value in its form. After an error a part of it may have been added.
 fn add_form(
     out: &mut Vec<u8>,
     value: &FormValue,
@@ -254,7 +254,7 @@ fn add_form(
     }
 }
 
-// Adds the value in its form, an offset as in the 64-bit format. After a refusal a part of it may be there.
+// Adds the value in its form, an offset as in the 64-bit format. After an error a part of it may have been added.
 fn add_wide(out: &mut Vec<u8>, value: &FormValue, order: Order) -> Result<(), AllocError>
     requires { HasSpelling value.now }
     ensures ok { OnOk result (Appends (FormBytes Format.D64 order) value.now out.old.items out.new.items) }
@@ -277,7 +277,7 @@ fn add_wide(out: &mut Vec<u8>, value: &FormValue, order: Order) -> Result<(), Al
     }
 }
 
-// Adds the text and a zero byte. After a refusal a part of it may be there.
+// Adds the text and a zero byte. After an error a part of it may have been added.
 fn add_text(out: &mut Vec<u8>, text: &[u8]) -> Result<(), AllocError>
     requires { HasNoZero text.now }
     ensures ok { OnOk result (Appends TextBytes text.now out.old.items out.new.items) }
@@ -287,7 +287,7 @@ fn add_text(out: &mut Vec<u8>, text: &[u8]) -> Result<(), AllocError>
     out.extend_from_slice(&[0])
 }
 
-// Adds the length of a block, spelled as `prefix` says, and its bytes. After a refusal a part of it may be there.
+// Adds the length of a block, encoded as `prefix` says, and its bytes. After an error a part of it may have been added.
 fn add_block(
     out: &mut Vec<u8>,
     block: &[u8],
@@ -303,7 +303,7 @@ fn add_block(
     out.extend_from_slice(block)
 }
 
-// Adds the length of a block, spelled as `prefix` says. A refused call leaves `out` as it was.
+// Adds the length of a block, encoded as `prefix` says. A failed call leaves `out` unchanged.
 fn add_length(
     out: &mut Vec<u8>,
     length: usize,

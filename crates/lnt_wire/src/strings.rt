@@ -1,4 +1,4 @@
-//! The texts of values: the string sections, and where in them an offset leads (DWARF 5, sections 7.5.5 and 7.5.6).
+//! The texts of values: the string sections, and what an offset into them refers to (DWARF 5, sections 7.5.5 and 7.5.6).
 ghost use Rattle.std.specs.Prelude.{◌≡◌, ◌<◌, length, take, drop, get_or, MatchOption};
 ghost use Rattle.std.specs.Option.{option_map};
 ghost use Rattle.lnt_wire.specs.Borrowed.{value_of};
@@ -8,12 +8,13 @@ ghost use Rattle.lnt_wire.specs.Texts.{text_of, up_to_zero};
 use crate::form::FormValue;
 use crate::view::ValueView;
 
-/// The string sections into which the offsets of values lead. Either may be empty, as where a file lacks it.
+/// The string sections that the offsets of values refer to. Either may be empty, for instance if the file has no such
+/// section.
 #[derive(Clone, Copy)]
 pub struct Strings<'a> {
-    /// The bytes of `.debug_line_str`, into which `DW_FORM_line_strp` leads.
+    /// The bytes of `.debug_line_str`, which `DW_FORM_line_strp` refers to.
     pub line: &'a [u8],
-    /// The bytes of `.debug_str`, into which `DW_FORM_strp` leads.
+    /// The bytes of `.debug_str`, which `DW_FORM_strp` refers to.
     pub general: &'a [u8],
 }
 
@@ -21,8 +22,8 @@ impl<'a> Strings<'a> {
     /// The text of the value, without its zero byte: a `Text`'s own bytes; for a `LineStrp` or a `Strp` those of its
     /// section from the offset up to the first zero byte.
     ///
-    /// None exactly where the offset is past the end of the section, no zero byte follows there, or the value is in a
-    /// form that is no string. The bytes are not copied, and need not be UTF-8.
+    /// `None` if and only if the offset is past the end of the section, no zero byte follows there, or the form of the
+    /// value isn't a string. The bytes are not copied, and need not be UTF-8.
     pub fn text<'s>(&'s self, value: &'s FormValue) -> Option<&'s [u8]>
         ensures { option_map (λ text. text.now) result ≡ text_of self.now.line.now self.now.general.now value.now }
     {
@@ -47,8 +48,8 @@ impl<'a> Strings<'a> {
     }
 }
 
-// The bytes of the section from the offset up to the first zero byte. None where the offset is past the end, or no zero
-// byte follows.
+// The bytes of the section from the offset up to the first zero byte. `None` if the offset is past the end or no zero byte
+// follows.
 #[tactic(auto, using(crate::proofs::TextLemmas::no_end, crate::proofs::TextLemmas::first_end))]
 fn text_at(section: &[u8], offset: u64) -> Option<&[u8]>
     ensures { option_map (λ text. text.now) result ≡ up_to_zero (drop offset section.now) }
@@ -64,7 +65,7 @@ fn text_at(section: &[u8], offset: u64) -> Option<&[u8]>
     Some(text)
 }
 
-// How many bytes stand before the first zero byte. None where there is none.
+// The number of bytes before the first zero byte. `None` if there is none.
 #[tactic(auto, using(crate::proofs::TextLemmas::no_zero_more))]
 pub(crate) fn text_size(bytes: &[u8]) -> Option<usize>
     ensures { MatchOption result (HasNoZero bytes.now)

@@ -1,4 +1,4 @@
-//! Reads of values in the forms of a table (DWARF 5, section 7.5.6).
+//! Reads values in the forms of a table (DWARF 5, section 7.5.6).
 ghost use Rattle.std.specs.Prelude.{◌≡◌, IfOk, IfErr, OnErr};
 ghost use Rattle.lnt_wire.specs.Borrowed.{value_of};
 ghost use Rattle.lnt_wire.specs.Bytes.{TakenBytes};
@@ -17,12 +17,11 @@ use crate::view::{ValueView, owned};
 use std::alloc::Global;
 
 impl<'a> Cursor<'a> {
-    /// The next value in the form, over the bytes of the section. Offsets have 4 bytes in the 32-bit format, and 8 in the
-    /// 64-bit one. It takes no memory.
+    /// The next value in the form. It borrows the bytes of the section. Offsets have 4 bytes in the 32-bit format, and 8 in
+    /// the 64-bit one. Allocates nothing.
     ///
-    /// It refuses only where no value in the form stands here: with `Truncated` where the bytes that are left don't hold
-    /// it whole, and with `LebTooLarge` where a LEB128 number in it doesn't fit 64 bits. The place of both is the value's
-    /// first byte.
+    /// Fails only if there is no value in the form here: with `Truncated` if it ends after the remaining bytes, and with
+    /// `LebTooLarge` if a LEB128 number in it doesn't fit in 64 bits. The place of both is the value's first byte.
     #[inline(always)]
     #[tactic(auto, using(crate::proofs::RefusedForms::value_refusals))]
     pub fn value(&mut self, form: Form, format: Format) -> Result<ValueView<'a>, Fault>
@@ -48,9 +47,9 @@ impl<'a> Cursor<'a> {
         }
     }
 
-    /// The next value in the form, with a copy of its bytes.
+    /// The next value in the form, which owns a copy of its bytes.
     ///
-    /// It refuses with `Memory` where there is none for the copy, and else as `value` does.
+    /// Fails with `Memory` if the copy can't be allocated, and otherwise as `value` does.
     #[inline(always)]
     pub fn form(&mut self, alloc: Global, form: Form, format: Format) -> Result<FormValue, Fault>
         ensures ok { IfOk result (λ v. Reads (ValueBytes format self.old.order form) v self.old self.new) }
@@ -71,7 +70,7 @@ impl<'a> Cursor<'a> {
         Ok(value)
     }
 
-    // The next 16 bytes, as they stand. It refuses with `Truncated` where fewer are left.
+    // The next 16 bytes, unchanged. Fails with `Truncated` if fewer are left.
     #[inline(always)]
     fn data16(&mut self) -> Result<[u8; 16], Fault>
         ensures ok { IfOk result (λ v. Reads (TakenBytes 16) v self.old self.new) }
@@ -83,8 +82,8 @@ impl<'a> Cursor<'a> {
         Ok(value)
     }
 
-    // The next bytes up to a zero byte, without it. The cursor moves past it too. It refuses with `Truncated` where none of
-    // the bytes that are left is zero.
+    // The next bytes up to a zero byte, without it. The cursor moves past it too. Fails with `Truncated` if no zero byte
+    // remains.
     #[inline(never)]
     fn text(&mut self) -> Result<&'a [u8], Fault>
         ensures ok { IfOk result (λ v. Reads TextBytes v.now self.old self.new) }
@@ -104,8 +103,8 @@ impl<'a> Cursor<'a> {
         Ok(text)
     }
 
-    // The next block as a value, in the form whose lengths are spelled as `prefix` says; such a form is the same in each format.
-    // It refuses as `block` does.
+    // The next block as a value, in the form whose lengths are encoded as `prefix` says. Such a form is the same in both
+    // formats. Fails as `block` does.
     #[inline(always)]
     fn prefixed(&mut self, prefix: Prefix) -> Result<ValueView<'a>, Fault>
         ensures ok { IfOk result (λ v. (format : Format) →
@@ -123,8 +122,8 @@ impl<'a> Cursor<'a> {
         }
     }
 
-    // The bytes of the next block, whose length is spelled as `prefix` says. It refuses with `Truncated` where the length isn't
-    // there, or counts more bytes than follow it, and with `LebTooLarge`. The place of each is the length's first byte.
+    // The bytes of the next block, whose length is encoded as `prefix` says. Fails with `Truncated` if the length is truncated
+    // or counts more bytes than follow it, and with `LebTooLarge`. The place of each is the length's first byte.
     #[inline(never)]
     fn block(&mut self, prefix: Prefix) -> Result<&'a [u8], Fault>
         ensures ok { IfOk result (λ v. Reads (BlockBytes (LengthBytes self.old.order prefix)) v.now self.old self.new) }
@@ -148,7 +147,7 @@ impl<'a> Cursor<'a> {
         Ok(block)
     }
 
-    // The next length of a block, spelled as `prefix` says.
+    // The next length of a block, encoded as `prefix` says.
     fn length(&mut self, prefix: Prefix) -> Result<u64, Fault>
         ensures ok { IfOk result (λ v. Reads (LengthBytes self.old.order prefix) v self.old self.new) }
         ensures err { IfErr result (λ fault.

@@ -1,4 +1,4 @@
-//! Values in the forms of a table, over the bytes of the section that spell them (DWARF 5, section 7.5.6).
+//! Values in the forms of a table, which borrow the bytes of the section (DWARF 5, section 7.5.6).
 ghost use Rattle.std.specs.Prelude.{◌≡◌, IfOk};
 ghost use Rattle.lnt_wire.specs.Borrowed.{value_of};
 
@@ -6,7 +6,7 @@ use crate::form::FormValue;
 use crate::items::Items;
 use std::alloc::{AllocError, Global};
 
-/// A value in one of the forms. Its bytes are those of the section, which aren't copied; `FormValue` has bytes of its own.
+/// A value in one of the forms. It borrows its bytes from the section; `FormValue` owns them.
 #[derive(Clone, Copy, Debug)]
 pub enum ValueView<'a> {
     /// The bytes before the zero byte.
@@ -15,22 +15,22 @@ pub enum ValueView<'a> {
     LineStrp(u64),
     /// An offset in bytes into the section `.debug_str`.
     Strp(u64),
-    /// The number, as in each of the next variants up to `Data8`.
+    /// The number. So are those of the next variants up to `Data8`.
     Udata(u64),
     Data1(u8),
     Data2(u16),
     Data4(u32),
     Data8(u64),
-    /// The bytes, in the order in which they stand in the section.
+    /// The bytes, in the order of the section.
     Data16([u8; 16]),
-    /// The bytes after the length, which says how many they are, as in each of the blocks below.
+    /// The bytes after the length, which counts them. So are those of the other blocks below.
     Block(&'a [u8]),
     Block1(&'a [u8]),
     Block2(&'a [u8]),
     Block4(&'a [u8]),
 }
 
-/// The value that the view stands for, with a copy of its bytes. The one error is that memory ran out.
+/// The value of the view, with a copy of its bytes. Fails only if memory runs out.
 #[inline(always)]
 pub(crate) fn owned(alloc: Global, view: ValueView<'_>) -> Result<FormValue, AllocError>
     ensures { IfOk result (λ value. value ≡ value_of view.entry) }
@@ -52,7 +52,7 @@ pub(crate) fn owned(alloc: Global, view: ValueView<'_>) -> Result<FormValue, All
     }
 }
 
-/// A copy of the bytes. The one error is that memory ran out.
+/// A copy of the bytes. Fails only if memory runs out.
 #[inline(never)]
 pub fn copied(alloc: Global, bytes: &[u8]) -> Result<Items<u8>, AllocError>
     ensures { IfOk result (λ items. items ≡ bytes.now) }

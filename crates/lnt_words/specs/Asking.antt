@@ -25,18 +25,18 @@ use Rattle.lnt_words.specs.Words.{linetab}
 abbrev pub IsWord : List Row → Text → Text → Type 0
 IsWord rows name word = first_of name rows ≡ Some word
 
--- The flag is set where clap's value for it is "true", and not set where it is "false" or where there is none.
+-- The flag is set if clap's value for it is "true", and not set if it is "false" or if there is none.
 pub record IsFlagGiven (rows : List Row) (name : Text) (is_set : Bool) : Type 0 where
   pub given : one_of name rows ≡ Some (codes "true") → is_set ≡ true
   pub not_given : one_of name rows ≡ Some (codes "false") → is_set ≡ false
   pub none : one_of name rows ≡ None → is_set ≡ false
 
--- Numbers are big-endian where the flag --big is set, and else little-endian.
+-- Numbers are big-endian if the flag --big is set, and otherwise little-endian.
 abbrev pub IsOrder : List Row → Order → Type 0
 IsOrder rows Big = IsFlagGiven rows (codes "big") true
 IsOrder rows Little = IsFlagGiven rows (codes "big") false
 
--- The marker of dead code is the address in the word of --dead; there is none where no such word was given.
+-- The address of dead code is that in the word of --dead; there is none if no such word was given.
 abbrev pub IsMarker : List Row → Option ℕ → Type 0
 IsMarker rows None = first_of (codes "dead") rows ≡ None
 IsMarker rows (Some address) = (word : Text) × IsWord rows (codes "dead") word × IsAddress word address
@@ -71,7 +71,7 @@ pub record AreTableFlags (rows : List Row) (wide paths lines : Bool) : Type 0 wh
   pub has_paths : IsFlagGiven rows (codes "paths") paths
   pub has_lines : IsFlagGiven rows (codes "lines") lines
 
--- These words spell these addresses, in their order.
+-- These words are texts of these addresses, in their order.
 abbrev pub AreAddresses : List Text → List ℕ → Type 0
 AreAddresses [] [] = Unit {0}
 AreAddresses (word ∷ words) (address ∷ addresses) = IsAddress word address × AreAddresses words addresses
@@ -132,11 +132,11 @@ abbrev pub IsHelp : Request → Type 0
 IsHelp (Help text) = Unit {0}
 IsHelp _ = ⊥
 
--- These words ask for help or for the version, by clap's rules. Nothing is said of its text.
+-- These words ask for help or for the version, by clap's rules. Its text is unspecified.
 abbrev pub AskForHelp : List Text → Type 0
 AskForHelp words = IsAmong DisplayHelp (fault_of linetab words) ⊎ IsAmong DisplayVersion (fault_of linetab words)
 
--- These words ask for this request. The first word is the program's own name. Where clap refuses none of them, the request is
+-- These words ask for this request. The first word is the program's own name. If clap accepts all of them, the request is
 -- that of the subcommand that they name.
 abbrev pub IsAskedBy : List Text → Asked → Type 0
 IsAskedBy words asked = (AskForHelp words × IsHelp asked.request)

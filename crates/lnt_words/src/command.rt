@@ -9,7 +9,7 @@ use crate::description::{ArgumentRule, Kind, SUBCOMMANDS, Subcommand, VERSION};
 use clap::{Arg, ArgAction, Command};
 use std::alloc::{AllocError, Global};
 
-/// The command with all its subcommands and arguments, for clap. Where `excludes` is set, clap also refuses arguments that
+/// The command with all its subcommands and arguments, for clap. If `excludes` is set, clap also rejects arguments that
 /// exclude one another.
 pub(crate) fn command_of<'a>(alloc: Global, excludes: bool) -> Result<Command<'a>, AllocError>
     ensures { IfOk result (λ command. excludes ≡ false → app_of command ≡ linetab) }
@@ -23,8 +23,9 @@ pub(crate) fn command_of<'a>(alloc: Global, excludes: bool) -> Result<Command<'a
     with_subcommands(alloc, command, &subcommands, excludes)
 }
 
-// Here and below a call's result goes right into the next call where it can, an error is met by `let else`, and what is let
-// go on the way out is dropped by name: moving or letting go a `Command` or an `Arg` in another way is costly to prove.
+// Here and below a call's result is passed directly to the next call if possible, an error is handled by `let else`, and
+// values are dropped by name before an early return: any other way to move or drop a `Command` or an `Arg` is costly to
+// prove.
 
 // The command with these subcommands too.
 fn with_subcommands<'a>(
@@ -103,7 +104,7 @@ fn with_arguments<'a>(
     Ok(command)
 }
 
-// The argument, and what it excludes where that is asked for.
+// The argument, and what it excludes if that is asked for.
 fn argument_of<'a>(
     alloc: Global,
     argument: &ArgumentRule,
@@ -118,7 +119,7 @@ fn argument_of<'a>(
     Ok(made)
 }
 
-// The argument alone, whatever it excludes.
+// The argument without what it excludes.
 fn free_argument<'a>(alloc: Global, argument: &ArgumentRule) -> Arg<'a>
     ensures { IsArgument (rule_in argument.now) result }
 {
@@ -131,7 +132,7 @@ fn free_argument<'a>(alloc: Global, argument: &ArgumentRule) -> Arg<'a>
     }
 }
 
-// The argument of this kind, refused beside those that it excludes, and required where it has to stand for another.
+// The argument of this kind, which conflicts with those that it excludes, and is required if it replaces another one.
 fn excluding<'a>(argument: Arg<'a>, kind: Kind) -> Result<Arg<'a>, AllocError> {
     match kind {
         Kind::WordsUnless(other) => {
@@ -151,7 +152,7 @@ fn excluding<'a>(argument: Arg<'a>, kind: Kind) -> Result<Arg<'a>, AllocError> {
     }
 }
 
-// The argument with its name and its help alone.
+// The argument with only its name and its help.
 fn named<'a>(alloc: Global, argument: &ArgumentRule) -> Arg<'a>
     ensures { IsArgument (new_rule argument.now.name.now) result }
 {

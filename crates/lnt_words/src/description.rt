@@ -31,13 +31,13 @@ pub(crate) struct ArgumentRule {
 pub(crate) enum Kind {
     /// One word, which is required.
     Word,
-    /// One or more words, required unless this option is given, and refused beside it.
+    /// One or more words, required unless this option is given, which conflicts with them.
     WordsUnless(&'static str),
     /// The flag `--name`.
     Flag,
-    /// The flag `--name`, which is refused beside this argument.
+    /// The flag `--name`, which conflicts with this argument.
     FlagWithout(&'static str),
-    /// The flag `--name`, which is refused beside either of these two.
+    /// The flag `--name`, which conflicts with either of these two.
     FlagWithoutBoth(&'static str, &'static str),
     /// The option `--name VALUE`; the text is what help calls the value.
     Valued(&'static str),
@@ -46,7 +46,7 @@ pub(crate) enum Kind {
 }
 
 // The version of the program, and the toolchain that it is proved with: the number of its kit and its logic, as `rt version`
-// prints them, but for the letter of the kit, which tells revisions that prove by the same logic.
+// prints them, without the letter of the kit, which distinguishes revisions that prove by the same logic.
 pub(crate) const VERSION: &str = "0.9.0 (rattle-kit-13 logic dac8208d650f15bf)";
 
 /// The subcommands, in the order in which help lists them.

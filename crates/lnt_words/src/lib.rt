@@ -1,6 +1,6 @@
 //! The words of the command `linetab`, and the request that they make.
 //!
-//! [`request_of`] reads the words, and gives what they ask for, a [`Request`], or why there is none. It opens and prints
+//! [`request_of`] reads the words, and returns what they ask for, a [`Request`], or why there is none. It opens and prints
 //! nothing.
 #![tactic(auto)]
 

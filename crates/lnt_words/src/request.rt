@@ -32,13 +32,13 @@ pub enum Request<'a> {
         /// What is asked of it.
         question: Question,
     },
-    /// What a good section answers at the positions that the lines of a file tell.
+    /// What a good section answers at the positions in the lines of a file.
     Addresses {
         /// The section.
         from: Judging<'a>,
         /// The file of the lines.
         file: &'a str,
-        /// The operation index where a line tells none.
+        /// The operation index for a line without one.
         op: u64,
     },
     /// Whether a table answers as a section does.
@@ -47,29 +47,29 @@ pub enum Request<'a> {
         from: Judging<'a>,
         /// The file of the table.
         table: &'a str,
-        /// Whether all places at which it doesn't are told, and not the first alone.
+        /// Whether all positions at which it doesn't are reported, instead of only the first.
         all: bool,
     },
 }
 
-/// A section that is judged: its file and those of its strings, and how it is to be read.
+/// A section that is judged: its file and those of its strings, and how it is read.
 #[derive(Clone, Copy)]
 pub struct Judging<'a> {
     /// The file of the section.
     pub section: &'a str,
-    /// The file of `.debug_line_str`, where one is named.
+    /// The file of `.debug_line_str`, if one is named.
     pub line_strings: Option<&'a str>,
-    /// The file of `.debug_str`, where one is named.
+    /// The file of `.debug_str`, if one is named.
     pub strings: Option<&'a str>,
     /// The order of the bytes of its numbers.
     pub order: Order,
-    /// The address at which sequences of dead code begin, where one is told.
+    /// The address at which sequences of dead code begin, if one is given.
     pub dead: Option<u64>,
     /// Whether copies are skipped.
     pub skip_copies: bool,
 }
 
-/// How a section is read, where its lines aren't judged.
+/// How a section is read if its lines aren't judged.
 #[derive(Clone, Copy)]
 pub enum Reading {
     /// A line for each unit.
@@ -83,9 +83,9 @@ pub enum Reading {
     },
     /// The section in another format and byte order.
     Convert {
-        /// The format that the section is to have.
+        /// The new format of the section.
         format: Format,
-        /// The byte order that its numbers are to have.
+        /// The new byte order of its numbers.
         to: Order,
     },
 }
@@ -103,7 +103,7 @@ pub enum Question {
     Table(Version),
     /// Its address table with the paths of files.
     TableByPath {
-        /// Whether columns are told too: version 3, else version 4.
+        /// Whether the table has columns: version 3 if so, version 4 if not.
         columns: bool,
     },
     /// Whether files have the sums that are listed.

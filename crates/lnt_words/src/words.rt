@@ -18,14 +18,14 @@ use lnt_text::{Argument, Shown};
 use lnt_wire::{Format, Order};
 use std::alloc::{AllocError, Global};
 
-/// What the words ask for, of which the first is the program's own name.
+/// What the words ask for. The first word is the program's own name.
 ///
-/// It stops by `Usage` where they ask for nothing that the command does, and then tells how it is used; by `BadWord`
-/// where one of them isn't what it has to be; and by `Memory`. What it gives names files by the words themselves.
+/// Stops with `Usage` if they aren't a valid request, and then says how the command is used; with `BadWord` if one of them
+/// isn't valid for its argument; and with `Memory`. The result names files by the words themselves.
 ///
-/// What it gives is what the words ask for (`IsAskedBy`): which subcommand they name, and what each of its arguments was
-/// given, follows from the words and from the command that `linetab` tells. It gives a text of help only where the words ask
-/// for help or for the version.
+/// The result is what the words ask for (`IsAskedBy`): which subcommand they name, and the value of each of its arguments,
+/// follows from the words and from the command that `linetab` describes. It is a text of help only if the words ask for help
+/// or for the version.
 pub fn request_of<'a>(alloc: Global, words: &'a [String]) -> Result<Asked<'a>, WordsStop>
     ensures { IfOk result (IsAskedBy (map string_bytes words.entry.now)) }
 {
@@ -35,7 +35,7 @@ pub fn request_of<'a>(alloc: Global, words: &'a [String]) -> Result<Asked<'a>, W
     }
 }
 
-// What clap says where it finds no matches: help, the version, or how the command is used.
+// What clap says if it finds no matches: help, the version, or how the command is used.
 fn help_in<'a>(alloc: Global, error: &Error, given: &[String]) -> Result<Asked<'a>, WordsStop>
     ensures { IfOk result (λ asked. IsHelp asked.request
         × ((kind_of error.now ≡ ErrorKind.DisplayHelp) ⊎ (kind_of error.now ≡ ErrorKind.DisplayVersion))) }
@@ -50,8 +50,7 @@ fn help_in<'a>(alloc: Global, error: &Error, given: &[String]) -> Result<Asked<'
     }
 }
 
-// What clap says of words that are refused. Its texts on arguments that exclude one another come from the command that tells
-// clap so.
+// What clap says of rejected words. Its texts on arguments that exclude one another come from the command in which they do.
 fn refusal(alloc: Global, given: &[String]) -> WordsStop {
     match refusal_text(alloc, given) {
         Ok(text) => WordsStop::Usage(text),
@@ -73,7 +72,7 @@ fn error_text(alloc: Global, error: &Error) -> Result<String, AllocError> {
     harmless(alloc, error.to_string(alloc)?)
 }
 
-// The text with the digits of each control character in its place, since a terminal would obey it. Lines stay.
+// The text with the digits of each control character instead of it, since a terminal would obey it. Line feeds stay.
 fn harmless(alloc: Global, text: String) -> Result<String, AllocError> {
     if !text.chars().any(is_obeyed) {
         return Ok(text);
@@ -83,7 +82,7 @@ fn harmless(alloc: Global, text: String) -> Result<String, AllocError> {
     shown
 }
 
-// The text so shown.
+// The text as it is shown.
 fn shown_of(alloc: Global, text: &str) -> Result<String, AllocError> {
     let mut shown = String::new(alloc);
     for character in text.chars() {
@@ -210,8 +209,8 @@ fn judge_in<'a>(
     })
 }
 
-// What the words of `lookup` ask for: either words are addresses, or a file has them. The addresses are parsed first, in their
-// order, and then the operation index: so the first bad word is told.
+// What the words of `lookup` ask for: the addresses are words, or are in a file. The addresses are parsed first, in their
+// order, and then the operation index: so the first bad word is reported.
 fn lookup_in<'a>(
     alloc: Global,
     words: &ArgMatches<'a>,
@@ -235,7 +234,7 @@ fn lookup_in<'a>(
     }
 }
 
-// The addresses that these words spell, in their order.
+// The addresses in these words, in their order.
 fn addresses_of(
     alloc: Global,
     words: &ArgMatches<'_>,
@@ -322,7 +321,7 @@ fn written_order_in(alloc: Global, words: &ArgMatches<'_>) -> Result<Order, Word
     }
 }
 
-// A section that is judged, with its strings, the marker of dead code, and what becomes of copies.
+// A section that is judged, with its strings, the address of dead code, and whether copies are skipped.
 fn judging_in<'a>(alloc: Global, words: &ArgMatches<'a>) -> Result<Judging<'a>, WordsStop>
     ensures { IfOk result (λ from. IsJudging (rows_in words.now) from) }
 {
@@ -357,7 +356,7 @@ fn str_in<'a>(words: &ArgMatches<'a>, name: &str) -> Option<&'a str>
     words.get_str(name)
 }
 
-// The words that were given for an argument which takes several, if any were.
+// The words that were given for an argument that takes several, if any were.
 fn strs_in<'w, 'a>(words: &'w ArgMatches<'a>, name: &str) -> Option<&'w [&'a str]>
     ensures { option_map (λ given. map (λ word. word.now) given.now) result ≡ all_of name.now (rows_in words.now) }
 {
@@ -403,7 +402,7 @@ fn number_of(alloc: Global, words: &ArgMatches<'_>, word: &str) -> Result<u64, W
     }
 }
 
-// What is said where a word is missing, or is unknown. Clap refuses such words, by what the command tells it.
+// What is printed if a word is missing or unknown. Clap rejects such words, by the description of the command.
 fn usage(alloc: Global, what: &str, name: &str) -> WordsStop {
     match format!(in alloc; "linetab: {what} {}\n", Shown(name)) {
         Ok(text) => WordsStop::Usage(text),
@@ -411,7 +410,7 @@ fn usage(alloc: Global, what: &str, name: &str) -> WordsStop {
     }
 }
 
-// A word isn't what this argument has to be.
+// A word isn't valid for this argument.
 fn bad_word(alloc: Global, words: &ArgMatches<'_>, word: &str, argument: Argument) -> WordsStop {
     match format!(in alloc; "linetab: bad word {}\n", Shown(word)) {
         Ok(text) => WordsStop::BadWord {

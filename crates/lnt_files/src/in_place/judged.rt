@@ -1,4 +1,4 @@
-//! What is wrong with the tables of a header, each of which is walked over once.
+//! What is wrong with the tables of a header. Each is walked once.
 ghost use Rattle.std.specs.Prelude.{◌≡◌, ◌<◌, ◌↔◌, IsTrue, MatchOption, length};
 ghost use Rattle.std.specs.List.{AllByRecursion};
 ghost use Rattle.lnt_header.specs.HeaderTests.{IsFirstNot};
@@ -11,14 +11,14 @@ use crate::walk::Entries;
 use lnt_header::EntryTable;
 use lnt_header_bytes::{EntryTableView, HeaderView};
 
-/// What is wrong with the directories and files of the header, if its tables aren't usable (DWARF 5, section 6.2.4.1).
-/// The first of these is told, each of the directories before the files: `EntryFormat`, `StringOutside`,
-/// `DirectoryNumber`. It takes no memory, and walks over each table once.
+/// What is wrong with the directories and files of the header, if its tables aren't usable (DWARF 5, section 6.2.4.1). The
+/// first of these is reported, each for the directories before the files: `EntryFormat`, `StringOutside`,
+/// `DirectoryNumber`. Allocates nothing, and walks each table once.
 ///
-/// In an entry the first component of a content type counts, and a file without a directory number has directory 0.
-/// A table with entries needs a path in the form `string`, `line_strp` or `strp`; a directory number, where it has
-/// one, has the form `udata`, `data1`, `data2`, `data4` or `data8`, and an MD5 sum `data16`. Other components may have
-/// any form. Each path's text is there, and each file's directory number is below the number of directories.
+/// In an entry the first component of a content type counts, and a file without a directory number has directory 0. A table
+/// with entries needs a path in the form `string`, `line_strp` or `strp`; a directory number, if it has one, has the form
+/// `udata`, `data1`, `data2`, `data4` or `data8`, and an MD5 sum `data16`. Other components may have any form. Each path
+/// has its text, and each file's directory number is below the number of directories.
 pub fn tables_fault(header: &HeaderView<'_>, ends: &StringEnds<'_>) -> Option<EntryTableFault>
     ensures { MatchOption result (AreUsableTables ends.now.line ends.now.general header.now)
         (λ fault. IsTablesFault ends.now.line ends.now.general header.now fault) }
@@ -44,7 +44,7 @@ fn has_usable_format(table: &EntryTableView<'_>) -> bool
     table.count() == 0 || is_usable_format(table.pairs())
 }
 
-// The first of the table's entries whose path's text isn't there.
+// The first of the table's entries whose path has no text.
 #[tactic(auto, using(crate::proofs::JudgedLemmas::all_begun, crate::proofs::JudgedLemmas::all_stepped, crate::proofs::JudgedLemmas::all_done, crate::proofs::JudgedLemmas::all_but, crate::proofs::JudgedLemmas::never_ends))]
 fn first_without_path(table: &EntryTableView<'_>, ends: &StringEnds<'_>) -> Option<u64>
     ensures { MatchOption result (AllByRecursion (HasPath ends.now.line ends.now.general table.now.pairs) table.now.entries)
@@ -63,7 +63,7 @@ fn first_without_path(table: &EntryTableView<'_>, ends: &StringEnds<'_>) -> Opti
     None
 }
 
-// What is wrong with the files of a header with so many directories, once the format of the files is known to be usable.
+// What is wrong with the files of a header with this many directories, if the format of the files is usable.
 #[tactic(auto, using(crate::proofs::JudgedLemmas::files_begun, crate::proofs::JudgedLemmas::files_stepped, crate::proofs::JudgedLemmas::files_never_end, crate::proofs::JudgedLemmas::files_but, crate::proofs::JudgedLemmas::files_sound, crate::proofs::JudgedLemmas::files_missing))]
 fn files_fault(
     files: &EntryTableView<'_>,
@@ -91,7 +91,7 @@ fn files_fault(
     }
 }
 
-// The first index that is missing, of those before `index` and of this one. `missing` is the first of those before it.
+// The first missing index among those up to `index`. `missing` is the first before it.
 #[inline(always)]
 fn first_missing(missing: Option<u64>, index: u64, is_there: bool) -> Option<u64>
     ensures { result ≡ first_missing missing index is_there }

@@ -1,4 +1,4 @@
-//! The paths and MD5 sums of files, each made when it is asked for (DWARF 5, section 6.2.4.1).
+//! The paths and MD5 sums of files, each built on request (DWARF 5, section 6.2.4.1).
 ghost use Rattle.std.specs.Prelude.{◌≡◌, ◌<◌, ◌↔◌, length, IfOk, IsSome};
 ghost use Rattle.std.specs.Option.{option_map};
 ghost use Rattle.lnt_header.specs.declared.header.Entry.{Entry};
@@ -15,15 +15,16 @@ use lnt_header_bytes::{EntryTableView, HeaderView};
 use lnt_wire::Strings;
 use std::alloc::{AllocError, Global};
 
-/// How many files the header has. It takes no memory.
+/// The number of files of the header. Allocates nothing.
 pub fn file_count(header: &HeaderView<'_>) -> u64
     ensures { result ≡ length header.now.files }
 {
     header.files().count()
 }
 
-/// The MD5 sum that is listed of the file, in the form `data16`. None where it lists none, or isn't there. Files count
-/// from 0. It takes no memory, and passes some files before it, as `path_of` does, unless none of them can list a sum.
+/// The MD5 sum that is listed for the file, in the form `data16`. `None` if it lists none, or if there is no such file.
+/// Files count from 0. Allocates nothing. Walks some of the files before it, as `path_of` does, unless no file can list a
+/// sum.
 #[tactic(auto, using(crate::proofs::AtLemmas::none_listed))]
 pub fn listed(header: &HeaderView<'_>, file: u64) -> Option<[u8; 16]>
     ensures { result ≡ listed_sum header.now file }
@@ -36,14 +37,13 @@ pub fn listed(header: &HeaderView<'_>, file: u64) -> Option<[u8; 16]>
     }
 }
 
-/// The path of the file: its text, below the path of its directory unless it begins with `/`. The path of a directory
-/// is its text, below directory 0 unless it is directory 0 or begins with `/`. A `/` stands between the two, unless
-/// the first is empty or ends with one. None exactly where the file isn't there. Files count from 0.
+/// The path of the file: its text, below the path of its directory unless it begins with `/`. The path of a directory is
+/// its text, below directory 0 unless it is directory 0 or begins with `/`. A `/` is between the two, unless the first is
+/// empty or ends with one. `None` if and only if there is no such file. Files count from 0.
 ///
-/// It passes the files before it, and the directories before its own; of a kept header fewer than 64 of each.
+/// It walks the files before it, and the directories before its own; for a kept header fewer than 64 of each.
 ///
-/// The caller sees to it that the header's tables are usable, which `tables_fault` tests. It refuses only where memory
-/// runs out.
+/// The caller ensures that the header's tables are usable, which `tables_fault` checks. Fails only if memory runs out.
 pub fn path_of(
     alloc: Global,
     header: &HeaderView<'_>,
@@ -71,7 +71,7 @@ pub fn path_of(
     }
 }
 
-// What the entry of this number says. None where it isn't there.
+// The components of the entry with this number. `None` if there is no such entry.
 #[tactic(auto, using(crate::proofs::AtLemmas::after_first, crate::proofs::AtLemmas::after_more, crate::proofs::AtLemmas::not_there, crate::proofs::AtLemmas::entry_is, crate::proofs::AtLemmas::there))]
 fn entry_at<'t>(table: &'t EntryTableView<'t>, number: u64) -> Option<EntryView<'t>>
     ensures { EntryAt table.entry.now number result }
@@ -88,7 +88,7 @@ fn entry_at<'t>(table: &'t EntryTableView<'t>, number: u64) -> Option<EntryView<
     entries.next_entry()
 }
 
-// The pieces of the path of the file whose entry says this. None where a text isn't there.
+// The pieces of the path of the file with these components. `None` if a text is missing.
 fn pieces_of<'s>(
     header: &'s HeaderView<'s>,
     strings: Strings<'s>,
@@ -130,7 +130,7 @@ fn directory_pieces<'s>(
     Some((first, directory))
 }
 
-// The text of the directory of this number.
+// The text of the directory with this number.
 #[tactic(auto, using(crate::proofs::AtLemmas::directory_text_is, crate::proofs::AtLemmas::no_directory_text))]
 fn directory_text<'s>(
     header: &'s HeaderView<'s>,

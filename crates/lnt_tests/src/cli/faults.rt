@@ -6,7 +6,7 @@ use lnt_cli::{CliStop, Status};
 use std::alloc::Global;
 use std::test::Fail;
 
-// Whether the command on the plain unit is stopped by this file, which fails after so many bytes, before it writes.
+// Whether the command on the plain unit is stopped by this file, which fails after this many bytes, before it writes.
 fn stops_reading(alloc: Global, line: &str, faulty: &str, good: usize) -> bool {
     let files = Files::failing(&PLAIN, faulty, good);
     let (ended, written) = ran(alloc, files, line, 1000);
@@ -29,7 +29,7 @@ fn failing_reads(rt: HostRuntime) {
     assert!(rt; stops_reading(alloc, "linetab lookup F --addresses A", "A", 6));
 }
 
-// What stands before the fault is written.
+// What precedes the fault is written.
 #[test]
 fn a_line_before_a_read_that_fails(rt: HostRuntime) {
     let mut section = [0; 142];
@@ -41,7 +41,7 @@ fn a_line_before_a_read_that_fails(rt: HostRuntime) {
     assert!(rt; matches!(ended, Err(CliStop::Read(_))));
 }
 
-// The lines that are whole before the fault are answered.
+// The complete lines before the fault are answered.
 #[test]
 fn lines_before_a_read_that_fails(rt: HostRuntime) {
     let files = Files::failing(&PLAIN, "A", 8);
@@ -60,7 +60,7 @@ fn a_source_that_fails(rt: HostRuntime) {
     assert!(rt; matches!(ended, Ok(Status::No)));
 }
 
-// Whether a writer with room for so many bytes of this text stops the command, and has taken these.
+// Whether a writer with room for this many bytes of this text stops the command, and has taken these.
 fn stops_writing(alloc: Global, line: &str, text: &[u8], room: usize) -> bool {
     let (ended, written) = ran(alloc, Files::new(&PLAIN), line, room);
     text.starts_with(written.as_slice())

@@ -5,7 +5,7 @@ use std::alloc::{AllocError, Global};
 use std::io;
 
 // Files by their names: a section F, its table T, lines of addresses A, and a source file, which holds `abc`. One of them
-// fails after so many bytes.
+// fails after this many bytes.
 #[derive(Clone, Copy)]
 pub(crate) struct Files<'a> {
     section: &'a [u8],
@@ -58,7 +58,7 @@ fn words(alloc: Global, line: &str) -> Result<Vec<String>, AllocError> {
     Ok(words)
 }
 
-// How the command ends over a writer with room for so many bytes, and what was written. Its notes go nowhere.
+// How the command ends over a writer with room for this many bytes, and what was written. Its notes are dropped.
 pub(crate) fn ran(
     alloc: Global,
     mut files: Files<'_>,

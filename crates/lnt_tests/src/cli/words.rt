@@ -5,7 +5,7 @@ use crate::samples::{LISTED, PLAIN, TABLE, WIDE};
 use lnt_cli::Status;
 use std::alloc::Global;
 
-// Whether the command writes this of a section, and ends so.
+// Whether the command writes this for a section, and ends like this.
 fn prints(alloc: Global, section: &[u8], line: &str, text: &[u8], status: Status) -> bool {
     let (ended, written) = ran(alloc, Files::new(section), line, 1000);
     written.as_slice() == text && matches!(ended, Ok(ended) if ended == status)

@@ -98,7 +98,7 @@ fn each_unit_as_a_section(rt: HostRuntime) {
     );
 }
 
-// So many units one after another, each with its code 16 bytes after that of the one before.
+// This many units one after another, each with its code 16 bytes after that of the one before.
 fn units_apart(alloc: Global, count: u64) -> Result<Vec<u8>, AllocError> {
     let mut section = Vec::new(alloc);
     let mut address: u64 = 0x1000;
@@ -111,7 +111,7 @@ fn units_apart(alloc: Global, count: u64) -> Result<Vec<u8>, AllocError> {
     Ok(section)
 }
 
-// Whether a section of so many units is longer than a mebibyte, and answers as its own table does.
+// Whether a section of this many units is longer than a mebibyte, and answers as its own table does.
 fn is_large_and_answers(alloc: Global, count: u64) -> bool {
     match units_apart(alloc, count) {
         Ok(section) => {

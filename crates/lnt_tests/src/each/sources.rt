@@ -3,7 +3,7 @@ use crate::samples::Pieces;
 use lnt_wire::{Counted, read_all};
 use std::alloc::{AllocError, Global};
 
-// So many bytes of different values.
+// This many bytes of different values.
 fn bytes_of(alloc: Global, count: usize) -> Result<Vec<u8>, AllocError> {
     let mut bytes = Vec::with_capacity(alloc, count)?;
     for number in 0..count {
@@ -12,7 +12,7 @@ fn bytes_of(alloc: Global, count: usize) -> Result<Vec<u8>, AllocError> {
     Ok(bytes)
 }
 
-// Whether all of so many bytes are read, of a reader that gives them in pieces.
+// Whether all of this many bytes are read, of a reader that gives them in pieces.
 fn is_read(alloc: Global, count: usize) -> bool {
     let Ok(bytes) = bytes_of(alloc, count) else {
         return false;

@@ -64,7 +64,7 @@ fn count_of(sequences: &[Sequence]) -> (usize, usize) {
     (sequences.len(), rows)
 }
 
-// Whether the unit that begins the bytes has so many sequences and rows, or doesn't run.
+// Whether the unit that begins the bytes has this many sequences and rows, or doesn't run.
 fn has_rows(alloc: Global, bytes: &[u8], order: Order, rows: Option<(usize, usize)>) -> bool {
     let Some(unit) = unit_in(alloc, bytes, order) else {
         return false;
@@ -97,7 +97,7 @@ fn is_same_in(alloc: Global, worked: Worked, layout: (Format, Order)) -> bool {
     }
 }
 
-// Whether it is so in each layout.
+// Whether this holds in each layout.
 fn is_same_in_each(alloc: Global, worked: Worked) -> bool {
     LAYOUTS
         .iter()

@@ -31,7 +31,7 @@ fn is_kept(alloc: Global, value: &FormValue) -> bool {
         .all(|layout| is_kept_in(alloc, value, *layout))
 }
 
-// Whether a value of two bytes is kept, made so.
+// Whether a value of two bytes, made like this, is kept.
 fn is_kept_of(alloc: Global, value: Result<FormValue, AllocError>) -> bool {
     match value {
         Ok(value) => is_kept(alloc, &value),

@@ -46,7 +46,7 @@ pub(crate) struct Pieces<'a> {
 }
 
 impl<'a> Pieces<'a> {
-    /// Gives `piece` bytes at a time at most. The first `sound` reads go well, and each one after them is interrupted.
+    /// Gives at most `piece` bytes at a time. The first `sound` reads succeed, and each one after them is interrupted.
     pub(crate) fn new(alloc: Global, bytes: &'a [u8], piece: usize, sound: u64) -> Pieces<'a> {
         Pieces {
             bytes,
@@ -77,10 +77,10 @@ impl Read for Pieces<'_> {
     }
 }
 
-/// Takes ten bytes at a time. After some writes it refuses each further one.
+/// Takes ten bytes at a time. After some writes it fails each further one.
 #[derive(Drop)]
 pub(crate) struct Refusing {
-    /// How many writes go well before the first that is refused.
+    /// The number of writes that succeed before the first that fails.
     pub(crate) writes_until_fault: u64,
 }
 
@@ -98,7 +98,7 @@ impl Write for Refusing {
     }
 }
 
-/// Takes one byte at a time, and so many in all.
+/// Takes one byte at a time, and this many in all.
 #[derive(Drop)]
 pub(crate) struct Narrow {
     taken: Vec<u8>,
@@ -106,7 +106,7 @@ pub(crate) struct Narrow {
 }
 
 impl Narrow {
-    /// A writer with room for so many bytes.
+    /// A writer with room for this many bytes.
     pub(crate) fn new(alloc: Global, room: usize) -> Narrow {
         Narrow {
             taken: Vec::new(alloc),

@@ -46,10 +46,10 @@ pub(crate) const OF_NOTHING: [u8; 16] = [
 /// A unit of 4 bytes after its length, which has a version and no whole header.
 pub(crate) const SHORT: [u8; 8] = [4, 0, 0, 0, 5, 0, 8, 9];
 
-/// A unit of 2^63 bytes, of which none is there.
+/// A unit of 2^63 bytes, all of which are missing.
 pub(crate) const ENDLESS: [u8; 12] = [0xff, 0xff, 0xff, 0xff, 0, 0, 0, 0, 0, 0, 0, 0x80];
 
-/// A unit without tables, in which each opcode is special. It makes a row, and ends nothing.
+/// A unit without tables, in which each opcode is special. It appends a row, and ends no sequence.
 #[rattlefmt::skip]
 pub(crate) const OPEN: [u8; 23] = [
     0x13, 0, 0, 0, 5, 0, 8, 0, 0x0a, 0, 0, 0, 1, 1, 1, 0xfb, 0x0e, 1, 0, 0, 0, 0, 7,

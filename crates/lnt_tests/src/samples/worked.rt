@@ -8,7 +8,7 @@ pub(crate) struct Worked {
     pub(crate) bytes: &'static [u8],
     /// The order of the bytes of its numbers.
     pub(crate) order: Order,
-    /// How many sequences and how many rows it has, where its program runs.
+    /// The numbers of its sequences and rows, if its program runs.
     pub(crate) rows: Option<(usize, usize)>,
     /// Whether it is a good section, with the line strings `/s`.
     pub(crate) is_good: bool,

@@ -39,7 +39,7 @@ const FALLING: &[u8] = b"low,high,path,line
 0x1003,0x1006,/s/a.c,4
 ";
 
-// What a check of the unit against a table tells of them by path.
+// What a check of the unit against a table reports by path.
 fn compared(alloc: Global, table: &[u8]) -> Option<ComparedByPath> {
     let mut section = Counted::new(whole(&PLAIN), 1000);
     let mut table = Counted::new(whole(table), 1000);

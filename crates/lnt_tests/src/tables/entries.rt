@@ -33,7 +33,7 @@ fn path_in(alloc: Global, kept: &KeptHeader, file: u64) -> Option<Option<Vec<u8>
     in_place::path_of(alloc, &view, STRINGS, file).ok()
 }
 
-// How many files the header has whose entries are at hand again.
+// The number of files of the header whose entries are in memory again.
 fn count_again(alloc: Global) -> Option<usize> {
     let kept = kept(alloc)?;
     let header = kept.view().to_header(alloc).ok();

@@ -18,7 +18,7 @@ pub(crate) const OPTIONS: Options = Options {
     skip_copies: false,
 };
 
-// What a section is judged to be, of a source that gives at most so many bytes.
+// What a section is judged to be, of a source that gives at most this many bytes.
 fn judged(alloc: Global, section: Reader<'_>, limit: u64) -> Result<Judged, Stop> {
     let mut source = Counted::new(section, limit);
     verify(alloc, &mut source, &STRINGS, &OPTIONS)
@@ -54,7 +54,7 @@ fn has_spans(lines: &Lines) -> bool {
     lines.spans() == [first, span(0x1004, 0x1006, wide(4, 0))].as_slice()
 }
 
-// Whether the lines, which are those of `PLAIN`, have its spans as version 1 of a table tells them.
+// Whether the lines, which are those of `PLAIN`, have its spans as version 1 of a table contains them.
 fn has_narrow_spans(alloc: Global, lines: &Lines) -> bool {
     let first = span(0x1000, 0x1004, narrow(3));
     let spans = [first, span(0x1004, 0x1006, narrow(4))];
@@ -131,7 +131,7 @@ fn is_bad_before_a_fault(alloc: Global, section: &[u8], no: No) -> bool {
     }
 }
 
-// What is wrong with a unit is told before later bytes are asked for.
+// What is wrong with a unit is reported before later bytes are asked for.
 #[test]
 fn a_unit_before_a_read_that_fails(rt: HostRuntime) {
     let mut directory = PLAIN;

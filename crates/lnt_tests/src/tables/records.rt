@@ -53,7 +53,7 @@ fn tables_compared(rt: HostRuntime) {
     assert!(rt; !agrees(rt.alloc(), &TABLE[..82]));
 }
 
-// Spans as version 1 tells them.
+// Spans as version 1 contains them.
 fn narrow_plain() -> [Span; 2]
     ensures order { AreInOrder result }
     ensures version { All (λ span. IsOfVersion version.One span.answer) result }
@@ -69,7 +69,7 @@ fn tables_written(rt: HostRuntime) {
     assert!(rt; out.as_slice() == TABLE);
 }
 
-// Whether a writer that refuses a certain write stops the table.
+// Whether a writer that fails a certain write stops the table.
 fn is_refused(alloc: Global, writes_until_fault: u64) -> bool {
     let mut out = Refusing { writes_until_fault };
     write_spans(alloc, &narrow_plain(), Version::One, &mut out) == Err(WriteStop::Write)

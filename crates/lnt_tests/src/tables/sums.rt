@@ -16,7 +16,7 @@ const OF_DIGITS: [u8; 16] = [
 const DIGITS: &[u8] =
     b"12345678901234567890123456789012345678901234567890123456789012345678901234567890";
 
-// The sum of a source that gives at most so many bytes.
+// The sum of a source that gives at most this many bytes.
 fn sum(source: Reader<'_>, limit: u64) -> Result<[u8; 16], Stop> {
     sum_of(&mut Counted::new(source, limit))
 }

@@ -10,7 +10,7 @@ use lnt_table::{
 };
 use std::alloc::Global;
 
-// What a check of two sources answers, of which each gives at most so many bytes.
+// What a check of two sources answers, of which each gives at most this many bytes.
 fn checked(
     alloc: Global,
     section: Reader<'_>,
@@ -41,7 +41,7 @@ fn is_too_long(alloc: Global, limits: (u64, u64)) -> bool {
 fn sections_checked(rt: HostRuntime) {
     let alloc = rt.alloc();
     assert!(rt; answers(alloc, whole(&PLAIN), whole(TABLE), Verdict::Yes));
-    // A table that fails isn't read where the section isn't good.
+    // A table that fails isn't read if the section isn't good.
     let mut directory = PLAIN;
     directory[52] = 5;
     let no = Verdict::No(TableNo::Section(No::DirectoryNumber(0, 1)));
@@ -53,13 +53,13 @@ fn sources_at_fault(rt: HostRuntime) {
     let alloc = rt.alloc();
     assert!(rt; stops(alloc, failing(&PLAIN[..1]), whole(TABLE), Stop::Read));
     assert!(rt; stops(alloc, whole(&PLAIN), failing(TABLE), Stop::Read));
-    // What is wrong with a table isn't told before the whole of it is read.
+    // What is wrong with a table isn't reported before all of it is read.
     assert!(rt; stops(alloc, whole(&PLAIN), failing(b"low\n"), Stop::Read));
     assert!(rt; is_too_long(alloc, (70, 1000)));
     assert!(rt; is_too_long(alloc, (1000, 70)));
 }
 
-// The first place at which a table answers otherwise than `PLAIN`, if it is told.
+// The first position at which the answers of a table and of `PLAIN` differ, if it is reported.
 fn first_difference(alloc: Global, table: &[u8]) -> Option<Difference> {
     let mut section = Counted::new(whole(&PLAIN), 1000);
     let mut table = Counted::new(whole(table), 1000);
@@ -97,7 +97,7 @@ fn is_written(alloc: Global) -> bool {
     }
 }
 
-// Whether a writer that refuses a certain write stops the table of `PLAIN`.
+// Whether a writer that fails a certain write stops the table of `PLAIN`.
 fn is_refused(alloc: Global, writes_until_fault: u64) -> bool {
     let mut out = Refusing { writes_until_fault };
     match lines_of(alloc, &PLAIN) {

@@ -25,7 +25,7 @@ fn answer(line: u64, more: Option<More>) -> Answer
     }
 }
 
-// The same as version 1 of a table tells it.
+// The same as version 1 of a table contains it.
 pub(crate) fn narrow(line: u64) -> Answer
     ensures { IsOfVersion version.One result }
 {

@@ -8,7 +8,7 @@ use std::test::Fail;
 
 const AMPLE: u64 = 1 << 30;
 
-// Whether the section has so many frames, and then this fault.
+// Whether the section has this many frames, and then this fault.
 fn has_frames(
     alloc: Global,
     bytes: &[u8],
@@ -44,7 +44,7 @@ fn is_unit(got: &Option<UnitBuffer>, offset: u64, bytes: &[u8]) -> bool {
     }
 }
 
-// Whether the next unit of the section has these bytes, and stands at the offset.
+// Whether the next unit of the section has these bytes, and is at the offset.
 fn gives(
     alloc: Global,
     reader: &mut SectionReader<'_, Counted<Pieces<'_>>>,
@@ -83,8 +83,8 @@ fn units_in_pieces(rt: HostRuntime) {
     assert!(rt; are_units(alloc, &PLAIN, &SHORT, 5));
 }
 
-// Why no unit comes of the bytes, under this limit and from a reader that fails after `sound` reads. None where a later
-// call isn't refused as it should be, or the source counts other failures than there were.
+// Why no unit comes from the bytes, under this limit and from a reader that fails after `sound` reads. `None` if a later
+// call doesn't fail as it should, or the source counts other failures than there were.
 fn stop_of(alloc: Global, bytes: &[u8], sound: u64, limit: u64) -> Option<SectionStop> {
     let mut source = Counted::new(Pieces::new(alloc, bytes, 100, sound), limit);
     let mut reader = SectionReader::new(&mut source, Order::Little);
@@ -169,8 +169,8 @@ fn long_unit(alloc: Global) -> Result<Vec<u8>, AllocError> {
     Ok(long)
 }
 
-// Reads the next unit into this memory, and gives the memory back, where the unit has the bytes that are wanted and the
-// memory hasn't grown.
+// Reads the next unit into this memory, and returns the memory, if the unit has the expected bytes and the memory hasn't
+// grown.
 fn read_into(
     reader: &mut SectionReader<'_, Counted<Pieces<'_>>>,
     room: Vec<u8>,
@@ -188,7 +188,7 @@ fn read_into(
     }
 }
 
-// Whether two units are read into one and the same memory.
+// Whether two units are read into the same memory.
 fn share_room(alloc: Global, first: &[u8], second: &[u8]) -> Option<bool> {
     let bytes = joined(alloc, first, second)?;
     let mut source = Counted::new(Pieces::new(alloc, bytes.as_slice(), 100, u64::MAX), AMPLE);

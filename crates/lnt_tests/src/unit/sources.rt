@@ -23,7 +23,7 @@ fn all_bytes_come(rt: HostRuntime) {
     assert!(rt; come_whole(alloc, 100, u64::MAX, (1 << 40) - 70));
 }
 
-// Whether reading the bytes stops for the reason that is wanted, and the source says the same.
+// Whether reading the bytes stops for the expected reason, and the source says the same.
 fn are_stopped(alloc: Global, piece: usize, sound: u64, limit: u64, want: Stop) -> bool {
     let mut source = Counted::new(Pieces::new(alloc, &BYTES, piece, sound), limit);
     let stop = read_all(alloc, &mut source).err();

@@ -52,7 +52,7 @@ fn is_converted(alloc: Global, bytes: &[u8], want: &[u8]) -> bool {
     }
 }
 
-// How many operations the unit in the buffer has, where it is one.
+// The number of operations of the unit in the buffer, if it is one.
 fn count_of(alloc: Global, unit: &UnitBuffer) -> Option<u64> {
     let view = UnitView::over(alloc, unit).ok()?;
     view.operation_count().ok()

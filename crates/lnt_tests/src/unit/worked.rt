@@ -9,7 +9,7 @@ pub(crate) fn unit_of(alloc: Global, bytes: &[u8]) -> Option<Unit> {
     decode_unit(alloc, &mut cursor, Order::Little).ok()
 }
 
-// The bytes of the one, and after them those of the other, where memory suffices.
+// The bytes of the one, and after them those of the other, if there is enough memory.
 pub(crate) fn joined(alloc: Global, front: &[u8], back: &[u8]) -> Option<Vec<u8>> {
     let mut bytes = Vec::from_slice(alloc, front).ok()?;
     bytes.extend_from_slice(back).ok()?;
