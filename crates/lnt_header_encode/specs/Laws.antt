@@ -1,4 +1,4 @@
--- What is allowed is spelled, and what is spelled is allowed.
+-- What is allowed has an encoding, and what has one is allowed.
 use Rattle.std.specs.Prelude.{◌≡◌, ℕ, List}
 use Rattle.lnt_wire.specs.declared.format.Format.TheVariants.{D64}
 use Rattle.lnt_wire.specs.Spelled.{HasShortest}
@@ -7,7 +7,7 @@ use Rattle.lnt_header_bytes.specs.HeaderBytes.{HeaderBytes, HeaderFieldsBytes}
 use Rattle.lnt_header.specs.HeaderRules.{IsHeader}
 use Rattle.lnt_header_encode.specs.Spelled.{FitsFields, HasSmallOffsets, LengthsFit}
 
--- A header that `Header::new` allows is spelled by some bytes, with a program, exactly where the format can say its offsets and its
+-- A header that `Header::new` allows has an encoding, with a program, exactly if the format can represent its offsets and its
 -- length. In the 64-bit format no offset is too large.
 pub record AllowedHeaderIsSpelled : Type 0 where
   pub fields : (h : HeaderParts) → IsHeader h → FitsFields h → HasSmallOffsets h → HasShortest HeaderFieldsBytes h

@@ -1,7 +1,7 @@
 //! Headers, written as the bytes of their units.
-ghost use Rattle.std.specs.Prelude.{◌≡◌, ◌⊎◌, ◌+◌, ◌++◌, [], length, IfOk, IfErr, OnOk};
+ghost use Rattle.std.specs.Prelude.{◌≡◌, ◌⊎◌, ◌+◌, ◌++◌, [], length, IfOk, IfErr, OnOk, OnErr};
 ghost use Rattle.std.specs.List.{AllByRecursion};
-ghost use Rattle.lnt_wire.specs.Bytes.{IsShortest, Appends};
+ghost use Rattle.lnt_wire.specs.Bytes.{IsShortest, Appends, Extends};
 ghost use Rattle.lnt_wire.specs.FormBytes.{HasSpelling, FormBytes};
 ghost use Rattle.lnt_wire.specs.InitialLength.{initial_length, LengthFits};
 ghost use Rattle.lnt_wire.specs.Numbers.{offset_size};
@@ -21,7 +21,7 @@ use lnt_wire::{
 use std::alloc::{AllocError, Global};
 
 /// The bytes of a unit with this header and this program, each LEB128 in its shortest spelling (DWARF 5, section 6.2.4). It
-/// refuses with `TooLarge` where nothing spells them in the header's format: an offset of the tables is 2^32 or more in the
+/// refuses with `TooLarge` if they have no encoding in the header's format: an offset of the tables is 2^32 or more in the
 /// 32-bit format, or the unit is longer than the format can say; and else only with `Memory`.
 pub fn encode_header(alloc: Global, header: &Header, program: &[u8]) -> Result<Vec<u8>, EncodeFault>
     ensures ok { IfOk result (λ bytes. IsShortest (HeaderBytesIn header.now.order) (header.now, program.now) bytes.items) }
@@ -65,6 +65,7 @@ pub(crate) fn add_around(
     ensures ok { OnOk result (AddsAround order format address_size fields.now program.now out.old.items out.new.items) }
     ensures err { IfErr result (λ fault. fault ≡ EncodeFault.TooLarge
         → LengthFits format (length (around order format address_size fields.now program.now)) → ⊥) }
+    ensures extends { OnErr result (Extends out.old.items out.new.items) }
 {
     let length = unit_length(format, fields.len(), program.len())?;
     add_initial_length(out, length, format, order)?;
@@ -76,7 +77,8 @@ pub(crate) fn add_around(
 
 // Adds the version, the address size and the segment selector size.
 fn add_version(out: &mut Vec<u8>, address_size: u8, order: Order) -> Result<(), AllocError>
-    ensures { OnOk result (AddsVersion order address_size out.old.items out.new.items) }
+    ensures ok { OnOk result (AddsVersion order address_size out.old.items out.new.items) }
+    ensures extends { OnErr result (Extends out.old.items out.new.items) }
 {
     put_u16(out, 5, order)?;
     out.push(address_size)?;
@@ -85,7 +87,8 @@ fn add_version(out: &mut Vec<u8>, address_size: u8, order: Order) -> Result<(), 
 
 // Adds the first bytes, and then the second.
 pub(crate) fn add_both(out: &mut Vec<u8>, first: &[u8], second: &[u8]) -> Result<(), AllocError>
-    ensures { OnOk result (out.new.items ≡ (out.old.items ++ first.now) ++ second.now) }
+    ensures ok { OnOk result (out.new.items ≡ (out.old.items ++ first.now) ++ second.now) }
+    ensures extends { OnErr result (Extends out.old.items out.new.items) }
 {
     out.extend_from_slice(first)?;
     out.extend_from_slice(second)
@@ -118,6 +121,7 @@ fn add_initial_length(
 ) -> Result<(), AllocError>
     requires { LengthFits format length }
     ensures ok { OnOk result (out.new.items ≡ out.old.items ++ initial_length format order length) }
+    ensures extends { OnErr result (Extends out.old.items out.new.items) }
 {
     match format {
         Format::D32 => put_u32(out, length as u32, order),

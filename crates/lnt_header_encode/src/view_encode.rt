@@ -1,6 +1,6 @@
 //! Headers whose entries stay where they lie, written in another format and byte order (DWARF 5, sections 6.2.4 and 7.4).
-ghost use Rattle.std.specs.Prelude.{◌≡◌, [], IfOk, IfErr, OnOk};
-ghost use Rattle.lnt_wire.specs.Bytes.{Appends, IsShortest, NoneSpelled};
+ghost use Rattle.std.specs.Prelude.{◌≡◌, [], IfOk, IfErr, OnOk, OnErr};
+ghost use Rattle.lnt_wire.specs.Bytes.{Appends, Extends, IsShortest, NoneSpelled};
 ghost use Rattle.lnt_header.specs.Conversion.{in_format};
 ghost use Rattle.lnt_header.specs.Encoding.{RefusedPut};
 ghost use Rattle.lnt_header_encode.specs.HeaderPuts.{EntryParts, AddsEntry, RefusesEntry};
@@ -18,8 +18,8 @@ use std::alloc::Global;
 /// Adds the bytes of a unit with this header in the format and order, and with this program, each LEB128 in its
 /// shortest spelling. The entries are read where they lie, and kept nowhere; it takes the memory of the header's bytes.
 ///
-/// It refuses with `TooLarge` where nothing spells them in the format, and else with `Memory`. Then a part of them may be
-/// there.
+/// It fails with `TooLarge` if they have no encoding in the format, and else with `Memory`. Then `out` may end with a
+/// part of them.
 #[tactic(auto, using(crate::proofs::ViewPutLemmas::view_put, crate::proofs::ViewPutLemmas::view_refused, crate::proofs::ViewPutLemmas::view_too_long))]
 pub fn put_header_view(
     alloc: Global,
@@ -31,6 +31,7 @@ pub fn put_header_view(
 ) -> Result<(), EncodeFault>
     ensures ok { OnOk result (Appends (HeaderBytesIn order) (in_format header.now format order, program.now) out.old.items out.new.items) }
     ensures err { IfErr result (λ fault. RefusedPut (HeaderBytesIn order) (in_format header.now format order, program.now) fault) }
+    ensures extends { OnErr result (Extends out.old.items out.new.items) }
 {
     let fields = fields_of(alloc, header, format, order)?;
     let address_size = header.numbers().address_size();

@@ -1,13 +1,16 @@
 -- Programs in another byte order, operation by operation.
 use Rattle.std.proofs.Common.{◌≡◌, ℕ, List, [], ◌∷◌, ◌++◌, sym, ap, subst, ◌∙◌, false}
-use Rattle.lnt_wire.specs.Bytes.{Appends}
+use Rattle.lnt_wire.specs.Bytes.{Appends, Extends}
 use Rattle.lnt_wire.specs.declared.format.Order.{Order}
 use Rattle.lnt_header.specs.declared.header.HeaderParts.{HeaderParts}
 use Rattle.lnt_header.specs.declared.op.Op.{Op}
 use Rattle.lnt_header.specs.declared.op.OpView.{OpView}
+use Rattle.lnt_header.specs.Conversion.{in_format}
 use Rattle.lnt_header.specs.Joins.{Each}
 use Rattle.lnt_header.specs.OpRules.{Admits}
 use Rattle.lnt_header.proofs.PutLaws.{each_begun, each_put}
+use Rattle.lnt_ops.proofs.LikeLaws.{like}
+use Rattle.lnt_ops.proofs.OpPutLemmas.{appended_extends}
 use Rattle.lnt_ops.proofs.ProgramLaws.{ops_none, walk_more, walk_done}
 use Rattle.lnt_ops.specs.OpBytes.{OpBytes}
 use Rattle.lnt_ops.specs.OpPuts.{IsOpOf, AddsView, IsLike, AddsOps}
@@ -68,3 +71,9 @@ pub converted_all : (h : HeaderParts) (place : ℕ) (program : List ℕ) (order 
     → ConvertedSoFar h place program order old walk new → Ends walk next → AddsOps h program order old new
 converted_all h place program order old new walk next so ends =
     record { ops = so.ops; spelled = walk_done h place program so.ops walk next so.going so.so ends; adds = so.adds }
+
+pub converted_extends : (h : HeaderParts) (place : ℕ) (program : List ℕ) (order : Order) (old new : List ℕ) (walk : Walk)
+    → ConvertedSoFar h place program order old walk new → Extends old new
+converted_extends h place program order old new walk so =
+    let other = in_format h h.format order in
+    appended_extends (Each (OpBytes other)) so.ops old new (so.adds other (like h h.format order))

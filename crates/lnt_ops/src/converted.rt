@@ -1,5 +1,6 @@
 //! Programs in another byte order.
-ghost use Rattle.std.specs.Prelude.{◌≢◌, ◌+◌, ◌^◌, ◌<◌, length, IfErr, OnOk};
+ghost use Rattle.std.specs.Prelude.{◌≢◌, ◌+◌, ◌^◌, ◌<◌, length, IfErr, OnOk, OnErr};
+ghost use Rattle.lnt_wire.specs.Bytes.{Extends};
 ghost use Rattle.lnt_ops.specs.OpPuts.{AddsOps};
 ghost use Rattle.lnt_ops.specs.Programs.{BrokenProgram};
 
@@ -13,7 +14,7 @@ use lnt_wire::{Fault, Order, Reason};
 /// `place` of the section, and the offset after its last byte is below 2^64. It takes no memory but that of `out`.
 ///
 /// It refuses only where no operations spell the program, with the fault of the first operation that isn't there, or
-/// with `Memory`. Then `out` may have gained the first of them, and a part of the next.
+/// with `Memory`. Then `out` may end with the first of them, and a part of the next.
 #[tactic(auto, using(crate::proofs::ConvertedLemmas::converted_none, crate::proofs::ConvertedLemmas::converted_more, crate::proofs::ConvertedLemmas::converted_all, crate::proofs::ConvertedLemmas::view_of_header))]
 pub fn convert_ops(
     out: &mut Vec<u8>,
@@ -25,6 +26,7 @@ pub fn convert_ops(
     requires { place + length program.now < 2 ^ 64 }
     ensures ok { OnOk result (AddsOps header.now program.now to out.old.items out.new.items) }
     ensures err { IfErr result (λ fault. fault.reason ≢ Reason.Memory → BrokenProgram header.now place program.now fault) }
+    ensures extends { OnErr result (Extends out.old.items out.new.items) }
 {
     let size = header.address_size();
     for view in Ops::new(header, program, place) {

@@ -1,5 +1,5 @@
 -- Units that are converted.
-use Rattle.std.proofs.Common.{◌≡◌, ◌≢◌, ℕ, ◌+◌, List, [], ◌++◌, length, refl, sym, ap, subst, ◌∙◌, true, false}
+use Rattle.std.proofs.Common.{◌≡◌, ◌≢◌, ℕ, ◌+◌, List, [], ◌++◌, length, sym, ap, subst, ◌∙◌, true, false}
 use Rattle.lnt_wire.specs.At.{At}
 use Rattle.lnt_wire.specs.Bytes.{Appends, IsShortest}
 use Rattle.lnt_wire.specs.FrameBytes.{frame_bytes, IsFrame}
@@ -16,17 +16,17 @@ use Rattle.lnt_header.specs.Conversion.{in_format, unit_in_format}
 use Rattle.lnt_header.specs.Encoding.{RefusedPut}
 use Rattle.lnt_header_bytes.specs.HeaderBytes.{HeaderBytesIn}
 use Rattle.lnt_header.specs.Joins.{Each}
-use Rattle.lnt_header.proofs.ConversionLaws.{op_in_format}
 use Rattle.lnt_header.specs.declared.header.HeaderParts.{HeaderParts}
 use Rattle.lnt_header.specs.declared.op.Op.{Op}
 use Rattle.lnt_ops.specs.OpBytes.{OpBytes}
-use Rattle.lnt_ops.specs.OpPuts.{AddsOps, IsLike}
+use Rattle.lnt_ops.specs.OpPuts.{AddsOps}
 use Rattle.lnt_ops.specs.Programs.{BrokenProgram}
 use Rattle.lnt_unit.specs.BrokenUnits.{BrokenUnit}
 use Rattle.lnt_unit_encode.specs.ConvertedUnits.{ConvertsUnit, IsLargeUnit, IsNextStop}
 use Rattle.lnt_unit_encode.specs.Stepping.{ConvertsBytes, IsLarge, IsToldAs, IsUnitStop, JudgesUnit}
 use Rattle.lnt_unit_encode.specs.declared.convert.ConvertFault.{ConvertFault}
 use Rattle.lnt_unit_encode.specs.declared.convert.ConvertFault.TheVariants as convert
+use Rattle.lnt_ops.proofs.LikeLaws.{like}
 use Rattle.lnt_ops.proofs.NumberLaws.{admits_by_numbers, ops_by_numbers, broken_by_numbers}
 use Rattle.lnt_unit.proofs.UnitLaws.{unit_found}
 use Rattle.lnt_header.specs.declared.unit_parts.UnitParts.{UnitParts}
@@ -37,9 +37,6 @@ use Rattle.lnt_unit.proofs.ReadLaws.{StandsAt, unit_read, frame_without_unit}
 
 parts_of : HeaderParts → List Op → UnitParts
 parts_of header ops = record { header = header; ops = ops }
-
-like : (h : HeaderParts) (format : Format) (to : Order) → IsLike h to (in_format h format to)
-like h format to = record { order_is = refl; size_is = refl; admits = λ op a. op_in_format h format to op a }
 
 -- the program in the other order, which was put into an empty vector
 program_is : (h : HeaderParts) (program old converted : List ℕ) (format : Format) (to : Order) → (p : AddsOps h program to old converted)

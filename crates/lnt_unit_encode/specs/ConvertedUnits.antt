@@ -22,14 +22,14 @@ pub record ConvertsUnit (order : Order) (format : Format) (to : Order) (old new 
   pub read : Reads (UnitBytesIn order) unit old new
   pub put : Appends (UnitBytesIn to) (unit_in_format unit format to) text_old text_new
 
--- A unit begins the bytes that are left, which nothing spells in this format and order.
+-- The bytes that are left begin with a unit that has no encoding in this format and order.
 pub record IsLargeUnit (order : Order) (format : Format) (to : Order) (at : At) : Type 0 where
   pub unit : UnitParts
   pub next : At
   pub read : Reads (UnitBytesIn order) unit at next
   pub none : NoSpelling (UnitBytesIn to) (unit_in_format unit format to)
 
--- Why the unit at a cursor isn't converted: no unit begins the bytes that are left, or nothing spells the one that does in this format
+-- Why the unit at a cursor isn't converted: the bytes that are left begin with no unit, or with one that has no encoding in this format
 -- and order. Want of memory says nothing.
 abbrev pub IsNextStop : Order → Format → Order → At → ConvertFault → Type 0
 IsNextStop order format to at (Malformed fault) = BrokenUnit order fault at.place at.rest

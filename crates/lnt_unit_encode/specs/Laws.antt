@@ -1,4 +1,4 @@
--- What is allowed is spelled.
+-- What is allowed has an encoding.
 use Rattle.std.specs.Prelude.{◌≡◌, ℕ, List}
 use Rattle.lnt_wire.specs.declared.format.Format.TheVariants.{D64}
 use Rattle.lnt_header_encode.specs.Spelled.{HasSmallOffsets}
@@ -7,7 +7,7 @@ use Rattle.lnt_unit.specs.UnitBytes.{UnitBytes}
 use Rattle.lnt_header.specs.UnitRules.{IsUnit}
 use Rattle.lnt_unit_encode.specs.Spelled.{FitsUnit, UnitLengthsFit}
 
--- A unit that `Unit::new` allows is spelled by some bytes exactly where its format can say its offsets and its length. In the 64-bit
+-- A unit that `Unit::new` allows has an encoding exactly if its format can represent its offsets and its length. In the 64-bit
 -- format no offset is too large.
 pub record AllowedUnitIsSpelled : Type 0 where
   pub spelled : (unit : UnitParts) → IsUnit unit → FitsUnit unit → HasSmallOffsets unit.header → UnitLengthsFit unit → (bytes : List ℕ)

@@ -24,13 +24,13 @@ pub record ConvertsBytes (order : Order) (format : Format) (to : Order) (bytes o
   pub spelled : UnitBytesIn order unit bytes
   pub put : Appends (UnitBytesIn to) (unit_in_format unit format to) old new
 
--- The bytes spell a unit, which nothing spells in this format and order.
+-- The bytes are those of a unit that has no encoding in this format and order.
 pub record IsLarge (order : Order) (format : Format) (to : Order) (bytes : List ℕ) : Type 0 where
   pub unit : UnitParts
   pub spelled : UnitBytesIn order unit bytes
   pub none : NoSpelling (UnitBytesIn to) (unit_in_format unit format to)
 
--- Why a unit isn't converted that stands in these bytes, from the offset on: no unit begins them, or nothing spells it. Want of
+-- Why a unit isn't converted that stands in these bytes, from the offset on: they begin with no unit, or it has no encoding. Want of
 -- memory says nothing.
 abbrev pub IsUnitStop : Order → Format → Order → ℕ → List ℕ → ConvertFault → Type 0
 IsUnitStop order format to offset bytes (Malformed fault) = BrokenUnit order fault offset bytes
@@ -42,7 +42,7 @@ abbrev pub IsSaid : Bool → Format → Order → UnitParts → Type 0
 IsSaid true format to unit = (bytes : List ℕ) × IsShortest (UnitBytesIn to) (unit_in_format unit format to) bytes
 IsSaid false format to unit = NoSpelling (UnitBytesIn to) (unit_in_format unit format to)
 
--- The read moved past the bytes of a unit, and it is told whether that has a spelling in this format and order.
+-- The read moved past the bytes of a unit, and it is known whether that has an encoding in this format and order.
 pub record JudgesUnit (order : Order) (format : Format) (to : Order) (converts : Bool) (old new : At) : Type 0 where
   pub unit : UnitParts
   pub read : Reads (UnitBytesIn order) unit old new
@@ -64,7 +64,7 @@ pub record ConvertedTo (order : Order) (section : List ℕ) (format : Format) (t
   pub order_is : at.order ≡ order
   pub put : Each (IsShortest (UnitBytesIn to)) (units_in_format units format to) bytes
 
--- the first of the units that nothing spells, if there is one
+-- the first of the units that has no encoding, if there is one
 abbrev pub IsConversionJudged : Format → Order → List (ℕ × UnitParts) → Option ℕ → Type 0
 IsConversionJudged format to units None = (bytes : List ℕ) × Each (IsShortest (UnitBytesIn to)) (units_in_format units format to) bytes
 IsConversionJudged format to units (Some offset) = IsFirstLarge format to units offset

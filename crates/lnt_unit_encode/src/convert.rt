@@ -41,7 +41,7 @@ impl Error for ConvertFault {}
 /// after the other, with these two changed and nothing else, each LEB128 in its shortest spelling.
 ///
 /// It refuses with `Malformed` where no units spell the section; with `TooLarge` and the offset of the first unit
-/// that nothing spells in the format, which is an offset in `bytes`; and else with `Memory`.
+/// that has no encoding in the format, which is an offset in `bytes`; and else with `Memory`.
 #[tactic(auto, using(crate::proofs::ConvertedLaws::converted_none, crate::proofs::ConvertedLaws::converted_all, crate::proofs::ConvertedLaws::converted_long))]
 pub fn convert_section(
     alloc: Global,
@@ -92,7 +92,7 @@ pub fn judge_conversion(
     }
 }
 
-// The offset of the first unit that nothing spells in the format: the one that was found before, or else that of the unit
+// The offset of the first unit that has no encoding in the format: the one that was found before, or else that of the unit
 // at `offset`, where it doesn't convert.
 fn first_of(first: Option<u64>, converts: bool, offset: u64) -> Option<u64>
     ensures { result ≡ first_large first converts offset }

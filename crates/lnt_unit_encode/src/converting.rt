@@ -1,5 +1,6 @@
 //! Units in another format and byte order, each from the bytes in which it stands (DWARF 5, sections 6.2.4 and 7.4).
 ghost use Rattle.std.specs.Prelude.{◌≡◌, ◌≢◌, ◌+◌, ◌<◌, ◌^◌, length, IfErr, IfOk, OnOk, OnErr};
+ghost use Rattle.lnt_wire.specs.Bytes.{Extends};
 ghost use Rattle.lnt_wire.specs.FrameBytes.{frame_bytes, IsPlacedFrame};
 ghost use Rattle.lnt_header_bytes.specs.HeaderBytes.{HeaderBytesIn};
 ghost use Rattle.lnt_unit.specs.BrokenUnits.{BrokenUnit};
@@ -18,8 +19,8 @@ use std::alloc::Global;
 /// are read where they lie, and written one by one: it takes the memory of the converted unit, and of its parts once more.
 ///
 /// It refuses with `Malformed` where no unit begins the bytes that are left, with the fault of `decode_unit`; with
-/// `TooLarge` and the unit's offset where nothing spells it in the format; and else with `Memory`. Then the cursor is as
-/// it was, and `out` may have gained a part of the unit.
+/// `TooLarge` and the unit's offset if it has no encoding in the format; and else with `Memory`. Then the cursor is as
+/// it was, and `out` may end with a part of the unit.
 #[tactic(auto, using(lnt_unit::proofs::ReadLaws::frame_placed, lnt_unit::proofs::ReadLaws::frame_end, crate::proofs::ConvertedLemmas::unit_converted))]
 pub fn convert_unit(
     alloc: Global,
@@ -32,6 +33,7 @@ pub fn convert_unit(
     requires { cursor.old.order ≡ order }
     ensures ok { OnOk result (ConvertsUnit order format to cursor.old cursor.new out.old.items out.new.items) }
     ensures err { IfErr result (IsNextStop order format to cursor.old) }
+    ensures extends { OnErr result (Extends out.old.items out.new.items) }
     ensures unchanged { OnErr result (cursor.new ≡ cursor.old) }
 {
     let mut ahead = Cursor::new(cursor.rest(), cursor.place(), order);
@@ -98,6 +100,7 @@ fn convert_frame(
     ensures ok { OnOk result (ConvertsBytes order format to (frame_bytes order frame.now.format frame.now.body.now) out.old.items
         out.new.items) }
     ensures err { IfErr result (IsUnitStop order format to frame.now.offset (frame_bytes order frame.now.format frame.now.body.now)) }
+    ensures extends { OnErr result (Extends out.old.items out.new.items) }
 {
     let (header, program) = match view_header(alloc, frame, order) {
         Ok(found) => found,
@@ -128,6 +131,7 @@ fn convert_parts(
         (frame_bytes header.now.order frame.now.format frame.now.body.now) out.old.items out.new.items) }
     ensures err { IfErr result (IsUnitStop header.now.order format to frame.now.offset
         (frame_bytes header.now.order frame.now.format frame.now.body.now)) }
+    ensures extends { OnErr result (Extends out.old.items out.new.items) }
 {
     let mut converted = Vec::new(alloc);
     if let Err(fault) = convert_ops(&mut converted, header.numbers(), program, place, to) {

@@ -1,8 +1,8 @@
 //! Laws of the format, each the contract of a function without parameters that does nothing.
 ghost use Rattle.lnt_unit_encode.specs.Laws.{AllowedUnitIsSpelled};
 
-/// Parts that `Unit::new` allows are spelled by some bytes exactly where their format can say each offset and the unit's
-/// length (DWARF 5, sections 6.2.4 and 7.4); and whatever unit is spelled is allowed. In the 64-bit format no offset is too
+/// Parts that `Unit::new` allows have an encoding exactly if their format can represent each offset and the unit's
+/// length (DWARF 5, sections 6.2.4 and 7.4); and every unit that has an encoding is allowed. In the 64-bit format no offset is too
 /// large.
 #[tactic(auto, using(crate::proofs::SpelledUnits::allowed_is_spelled))]
 pub fn allowed_is_spelled()

@@ -22,7 +22,7 @@ returns-clause-ok c =
     fields_put c.args.parts.now c.args.out.now.items _ c.add_both.new.out.items c.add_table.new.out.items c.add_table-2.new.out.items
     c.extend_from_slice.new.self.items c.as_slice.result.now c.as_slice-6.result.now _ _ _ _ c.requires.header c.requires.empty
     (ap (λ (z : List ℕ). c.args.out.now.items ++ z) c.single_fields.ensures)
-    c.as_slice.ensures c.in_ok-add_both.ensures c.as_slice-2.ensures c.as_slice-3.ensures c.in_ok-add_table.ensures.ok
+    c.as_slice.ensures c.in_ok-add_both.ensures.ok c.as_slice-2.ensures c.as_slice-3.ensures c.in_ok-add_table.ensures.ok
     c.as_slice-4.ensures c.as_slice-5.ensures c.in_ok-add_table-2.ensures.ok c.as_slice-6.ensures c.in_ok-extend_from_slice.ensures.items
 
 pub returns-in_err-add_table-clause-err : goal.returns-in_err-add_table-clause-err

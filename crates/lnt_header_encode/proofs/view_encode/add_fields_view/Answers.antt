@@ -31,7 +31,7 @@ returns-clause-ok c =
     c.standard_lengths.result.now c.extra.result.now _ _ _ _
     (header_in_format h c.args.format c.args.order c.numbers-numbers.ensures.header) c.requires
     (ap (λ (z : List ℕ). c.args.out.now.items ++ z) (c.single_fields.ensures ∙ ap six_bytes (c.parts.ensures.value ∙ numbers)))
-    (c.standard_lengths.ensures.value ∙ ap (λ (g : HeaderParts). g.standard_lengths) numbers) c.in_ok-add_both.ensures
+    (c.standard_lengths.ensures.value ∙ ap (λ (g : HeaderParts). g.standard_lengths) numbers) c.in_ok-add_both.ensures.ok
     c.directories.ensures.pairs c.directories.ensures.entries c.in_ok-add_table_view.ensures.ok
     c.files.ensures.pairs c.files.ensures.entries c.in_ok-add_table_view-2.ensures.ok c.extra.ensures
     c.in_ok-extend_from_slice.ensures.items

@@ -7,7 +7,8 @@ use Rattle.lnt_header.specs.declared.op.OpView.{OpView}
 use Rattle.lnt_ops.proofs.ProgramLaws.{walk_broken}
 use Rattle.lnt_ops.specs.Programs.{BrokenProgram}
 use Rattle.lnt_ops.specs.Walks.{Fails, GivesOperation, WalkStep}
-use Rattle.lnt_ops.proofs.ConvertedLemmas.{converted_more}
+use Rattle.lnt_ops.proofs.ConvertedLemmas.{converted_extends, converted_more}
+use Rattle.lnt_ops.proofs.OpPutLemmas.{extends_more}
 use Rattle.lnt_ops.proofs.converted.convert_ops.Goals as goal
 
 pub returns-in_err-view-clause-err : goal.returns-in_err-view-clause-err
@@ -34,3 +35,12 @@ loop-view-preserved c =
 
 pub returns-clause-ok : goal.returns-clause-ok
 returns-clause-ok c = grind (arith, common_steps)
+
+pub returns-in_err-view-clause-extends : goal.returns-in_err-view-clause-extends
+returns-in_err-view-clause-extends c =
+    let p = err_from_is_err_and c.from_residual.result c.from_residual.ensures.1 in
+    rw p.1 (converted_extends _ _ _ _ _ _ _ c.loop-view.invariant)
+
+pub returns-in_default-clause-extends : goal.returns-in_default-clause-extends
+returns-in_default-clause-extends c =
+    extends_more _ _ _ (converted_extends _ _ _ _ _ _ _ c.loop-view.invariant) c.in_default.ensures.extends
