@@ -5,7 +5,10 @@
  *
  * What the caller owes to each call: no pointer is null, also where its length is 0 (then it may be any other address, as
  * that of ""); each points to as many elements as its length says; what a call writes overlaps nothing else that it is
- * given; a bool is 0 or 1. What the bytes of sections and tables are is no matter. */
+ * given; a bool is 0 or 1. What the bytes of sections and tables are is no matter.
+ *
+ * What a call puts into a room stands at its front, and what is behind it stays as it was. A room that is too short stays as it
+ * was too, but for that of linetab_verify. */
 #ifndef LINETAB_H
 #define LINETAB_H
 
@@ -107,7 +110,8 @@ size_t linetab_verify(const struct linetab_section *section, struct linetab_span
 /* Whether the spans, as linetab_verify gave them, answer something at the position, and what; if not, answer stays as it was.
  * The address is one of the image as linked: of a running program, subtract where it was loaded. op is 0, but for machines
  * whose instructions hold several operations, where it is the index of one. It takes no memory and calls nothing, so it may
- * run in a signal handler. It always returns, whatever the spans are. */
+ * run in a signal handler. It always returns, whatever the spans are, and compares the position with at most as many of them
+ * as len has binary digits. */
 bool linetab_lookup(const struct linetab_span *spans, size_t len, uint64_t address, uint64_t op,
                     struct linetab_answer *answer);
 

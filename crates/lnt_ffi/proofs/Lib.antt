@@ -2,4 +2,5 @@ mod BracketLemmas
 mod IndexLemmas
 mod LookLemmas
 mod PutLemmas
+mod RoomLemmas
 mod ToldLemmas

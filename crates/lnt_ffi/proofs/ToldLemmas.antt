@@ -1,5 +1,5 @@
 -- What was judged of the bytes of a section is told of the section.
-use Rattle.std.proofs.Common.{◌≡◌, ℕ, List, length, subst}
+use Rattle.std.proofs.Common.{◌≡◌, ℕ, List, subst}
 use Rattle.lnt_lines.specs.declared.no.No.{No}
 use Rattle.lnt_lines.specs.declared.options.Options.{Options}
 use Rattle.lnt_lines.specs.declared.section.JudgedIndex.{JudgedIndex}
@@ -11,7 +11,7 @@ use Rattle.lnt_table.specs.AnyVersion.{IsTrueCheck}
 use Rattle.lnt_ffi.specs.declared.section.FlatSection.{FlatSection}
 use Rattle.lnt_ffi.specs.declared.verdict.FlatVerdict.{FlatVerdict}
 use Rattle.lnt_ffi.specs.Flat.{options_of}
-use Rattle.lnt_ffi.specs.Told.{HoldsAll, IsFound, IsToldOfPaths, IsToldOfTable}
+use Rattle.lnt_ffi.specs.Told.{IsFound, IsToldOfPaths, IsToldOfTable}
 
 pub no_of : (section : FlatSection) (line general : List ℕ) (options : Options) (bytes : List ℕ) (judged : JudgedIndex) (reason : No)
     → line ≡ section.line_str.now → general ≡ section.general.now → options ≡ options_of section → bytes ≡ section.line.now
@@ -35,14 +35,9 @@ found_is section line general options bytes text table found l g o b t h =
     (subst (λ (bs : List ℕ). IsTrueCheck line general options bs table found) b
     (subst (λ (ts : List ℕ). IsTrueCheck line general options bytes ts found) t h))))
 
--- what was put into a room, told of what it is
-pub put_of : (room : List ℕ) (count : ℕ) (bytes path : List ℕ) → count ≡ length bytes → bytes ≡ path → HoldsAll room count bytes
-    → HoldsAll room (length path) path
-put_of room count bytes path long is h =
-    subst (λ (list : List ℕ). HoldsAll room (length list) list) is (subst (λ (n : ℕ). HoldsAll room n bytes) long h)
-
 -- what is told with the paths, less these
-pub of_paths : (section : FlatSection) (text by_table by_section : List ℕ) (told : FlatVerdict)
-    → IsToldOfPaths section text by_table by_section told → IsToldOfTable section text told
-of_paths section text by_table by_section told (IsToldOfPaths.judged found is e first second) = IsToldOfTable.judged found is e
-of_paths section text by_table by_section told (IsToldOfPaths.stopped e) = IsToldOfTable.stopped e
+pub of_paths : (section : FlatSection) (text old_table new_table old_section new_section : List ℕ) (told : FlatVerdict)
+    → IsToldOfPaths section text old_table new_table old_section new_section told → IsToldOfTable section text told
+of_paths section text old_table new_table old_section new_section told (IsToldOfPaths.judged found is e first second) =
+    IsToldOfTable.judged found is e
+of_paths section text old_table new_table old_section new_section told (IsToldOfPaths.stopped e first second) = IsToldOfTable.stopped e

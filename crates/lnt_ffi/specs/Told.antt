@@ -1,5 +1,5 @@
 -- What C is told by each call.
-use Rattle.std.specs.Prelude.{◌≡◌, ◌≤◌, ℕ, Bool, true, false, if◌then◌else◌, Some, None, List, length, map, take}
+use Rattle.std.specs.Prelude.{◌≡◌, ◌≤◌, ℕ, Bool, nat_le, true, false, if◌then◌else◌, Some, None, List, ◌++◌, length, map, take, drop}
 use Rattle.std.specs.List.Sorted.{IsPermutation}
 use Rattle.lnt_header.specs.declared.unit_parts.UnitParts.{UnitParts}
 use Rattle.lnt_sequences.specs.RowSpans.{spans_of}
@@ -29,9 +29,9 @@ use Rattle.lnt_ffi.specs.Verdicts.{numbered, verdict_of_no, yes}
 abbrev pub memory : FlatVerdict
 memory = numbered 33 0
 
--- The front of the room is the list, where there is room for all of it.
-abbrev pub HoldsAll : {A : Type 0} → List A → ℕ → List A → Type 0
-HoldsAll room count list = count ≤ length room → take count room ≡ list
+-- the room with the list in the place of its front, where there is room for all of it, and else the room as it is
+abbrev pub with_front : {A : Type 0} → List A → List A → List A
+with_front list room = if nat_le (length list) (length room) then list ++ drop (length list) room else room
 
 -- ---- a section that isn't good, or that wasn't judged
 
@@ -62,10 +62,12 @@ pub record IsTableOfFlat (section : FlatSection) (version : Version) (bytes : Li
 
 -- ---- what each call tells
 
-pub data IsToldOfSpans (section : FlatSection) (count : ℕ) (room : List FlatSpan) (told : FlatVerdict) : Type 0 where
+-- What a room holds that is too short for the spans isn't said.
+pub data IsToldOfSpans (section : FlatSection) (count : ℕ) (old new : List FlatSpan) (told : FlatVerdict) : Type 0 where
   good : (spans : List Span) → AreSpansOf section spans → count ≡ length spans
-      → (count ≤ length room → map span_of (take count room) ≡ spans) → told ≡ yes → IsToldOfSpans section count room told
-  refused : IsRefused section told → count ≡ 0 → IsToldOfSpans section count room told
+      → (count ≤ length old → map span_of (take count new) ≡ spans) → drop count new ≡ drop count old → told ≡ yes
+      → IsToldOfSpans section count old new told
+  refused : IsRefused section told → count ≡ 0 → new ≡ old → IsToldOfSpans section count old new told
 
 -- what is so of the section and the bytes of a table of any version
 abbrev pub IsFound : FlatSection → List ℕ → Checked → Type 0
@@ -76,20 +78,21 @@ pub data IsToldOfTable (section : FlatSection) (text : List ℕ) (told : FlatVer
   stopped : told ≡ memory → IsToldOfTable section text told
 
 -- the same, with the paths of a difference by path in two rooms
-pub data IsToldOfPaths (section : FlatSection) (text by_table by_section : List ℕ) (told : FlatVerdict) : Type 0 where
+pub data IsToldOfPaths (section : FlatSection) (text old_table new_table old_section new_section : List ℕ) (told : FlatVerdict) : Type
+    0 where
   judged : (found : Checked) → IsFound section text found → told ≡ verdict_of_check found
-      → HoldsAll by_table (length (table_path found)) (table_path found)
-      → HoldsAll by_section (length (section_path found)) (section_path found)
-      → IsToldOfPaths section text by_table by_section told
-  stopped : told ≡ memory → IsToldOfPaths section text by_table by_section told
+      → new_table ≡ with_front (table_path found) old_table → new_section ≡ with_front (section_path found) old_section
+      → IsToldOfPaths section text old_table new_table old_section new_section told
+  stopped : told ≡ memory → new_table ≡ old_table → new_section ≡ old_section
+      → IsToldOfPaths section text old_table new_table old_section new_section told
 
 abbrev pub version_of : Bool → Version
 version_of is_wide = if is_wide then Two else One
 
-pub data IsToldOfWriting (section : FlatSection) (is_wide : Bool) (count : ℕ) (room : List ℕ) (told : FlatVerdict) : Type 0 where
-  good : (bytes : List ℕ) → IsTableOfFlat section (version_of is_wide) bytes → count ≡ length bytes → HoldsAll room count bytes
-      → told ≡ yes → IsToldOfWriting section is_wide count room told
-  refused : IsRefused section told → count ≡ 0 → IsToldOfWriting section is_wide count room told
+pub data IsToldOfWriting (section : FlatSection) (is_wide : Bool) (count : ℕ) (old new : List ℕ) (told : FlatVerdict) : Type 0 where
+  good : (bytes : List ℕ) → IsTableOfFlat section (version_of is_wide) bytes → count ≡ length bytes → new ≡ with_front bytes old
+      → told ≡ yes → IsToldOfWriting section is_wide count old new told
+  refused : IsRefused section told → count ≡ 0 → new ≡ old → IsToldOfWriting section is_wide count old new told
 
 -- ---- units and paths
 
@@ -97,17 +100,18 @@ pub data IsToldOfWriting (section : FlatSection) (is_wide : Bool) (count : ℕ) 
 abbrev pub unit_in : Indexed → ℕ → FlatUnit
 unit_in index offset = record { offset = offset; files = file_count_in index offset }
 
-pub data IsToldOfUnits (section : FlatSection) (count : ℕ) (room : List FlatUnit) (told : FlatVerdict) : Type 0 where
+pub data IsToldOfUnits (section : FlatSection) (count : ℕ) (old new : List FlatUnit) (told : FlatVerdict) : Type 0 where
   good : (index : Indexed) → IsIndexOfFlat section index → count ≡ length index.units
-      → HoldsAll room count (map (unit_in index) index.units)
-      → told ≡ yes → IsToldOfUnits section count room told
-  refused : IsRefused section told → count ≡ 0 → IsToldOfUnits section count room told
+      → new ≡ with_front (map (unit_in index) index.units) old
+      → told ≡ yes → IsToldOfUnits section count old new told
+  refused : IsRefused section told → count ≡ 0 → new ≡ old → IsToldOfUnits section count old new told
 
-pub data IsToldOfPath (section : FlatSection) (unit file : ℕ) (is_there : Bool) (count : ℕ) (room : List ℕ) (told : FlatVerdict) : Type
+pub data IsToldOfPath (section : FlatSection) (unit file : ℕ) (is_there : Bool) (count : ℕ) (old new : List ℕ) (told : FlatVerdict) : Type
     0 where
   found : (index : Indexed) → IsIndexOfFlat section index → (path : List ℕ) → file_path_in index unit file ≡ Some path
-      → is_there ≡ true → count ≡ length path → HoldsAll room count path → told ≡ yes
-      → IsToldOfPath section unit file is_there count room told
+      → is_there ≡ true → count ≡ length path → new ≡ with_front path old → told ≡ yes
+      → IsToldOfPath section unit file is_there count old new told
   nowhere : (index : Indexed) → IsIndexOfFlat section index → file_path_in index unit file ≡ None
-      → is_there ≡ false → count ≡ 0 → told ≡ yes → IsToldOfPath section unit file is_there count room told
-  refused : IsRefused section told → is_there ≡ false → count ≡ 0 → IsToldOfPath section unit file is_there count room told
+      → is_there ≡ false → count ≡ 0 → new ≡ old → told ≡ yes → IsToldOfPath section unit file is_there count old new told
+  refused : IsRefused section told → is_there ≡ false → count ≡ 0 → new ≡ old
+      → IsToldOfPath section unit file is_there count old new told

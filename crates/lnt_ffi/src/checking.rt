@@ -1,7 +1,7 @@
 //! Sections checked against address tables.
 ghost use Rattle.std.specs.Prelude.{◌≡◌, length};
 ghost use Rattle.lnt_ffi.specs.ByPath.{section_path, table_path, verdict_of_check};
-ghost use Rattle.lnt_ffi.specs.Told.{HoldsAll, IsToldOfPaths, IsToldOfTable};
+ghost use Rattle.lnt_ffi.specs.Told.{IsToldOfPaths, IsToldOfTable, with_front};
 
 use crate::by_path::{section_path, table_path, verdict_of_check};
 use crate::bytes::Bytes;
@@ -42,7 +42,7 @@ pub extern "C" fn linetab_check_paths(
 )
     ensures table_room { length by_table.new ≡ length by_table.old }
     ensures section_room { length by_section.new ≡ length by_section.old }
-    ensures told { IsToldOfPaths section.now table.now by_table.new by_section.new verdict.new }
+    ensures told { IsToldOfPaths section.now table.now by_table.old by_table.new by_section.old by_section.new verdict.new }
 {
     *verdict = check_into(alloc, section, table, by_table, by_section);
 }
@@ -57,7 +57,7 @@ fn check_into(
 ) -> FlatVerdict
     ensures table_room { length by_table.new ≡ length by_table.old }
     ensures section_room { length by_section.new ≡ length by_section.old }
-    ensures told { IsToldOfPaths section.now table.now by_table.new by_section.new result }
+    ensures told { IsToldOfPaths section.now table.now by_table.old by_table.new by_section.old by_section.new result }
 {
     let mut line = Bytes::of(section.line);
     let mut text = Bytes::of(table);
@@ -78,8 +78,8 @@ fn put_found(found: &Checked, by_table: &mut [u8], by_section: &mut [u8]) -> Fla
     ensures verdict { result ≡ verdict_of_check found.now }
     ensures table_room { length by_table.new ≡ length by_table.old }
     ensures section_room { length by_section.new ≡ length by_section.old }
-    ensures by_table { HoldsAll by_table.new (length (table_path found.now)) (table_path found.now) }
-    ensures by_section { HoldsAll by_section.new (length (section_path found.now)) (section_path found.now) }
+    ensures by_table { by_table.new ≡ with_front (table_path found.now) by_table.old }
+    ensures by_section { by_section.new ≡ with_front (section_path found.now) by_section.old }
 {
     put_bytes(table_path(found), by_table);
     put_bytes(section_path(found), by_section);

@@ -1,5 +1,5 @@
 //! Sections judged, and the spans of good ones.
-ghost use Rattle.std.specs.Prelude.{◌≡◌, ◌+◌, ◌^◌, ◌<◌, ◌≤◌, List, [], ◌∷◌, ◌++◌, IfErr, IfOk, length, map, take};
+ghost use Rattle.std.specs.Prelude.{◌≡◌, ◌+◌, ◌^◌, ◌<◌, ◌≤◌, List, [], ◌∷◌, ◌++◌, IfErr, IfOk, drop, length, map, take};
 ghost use Rattle.lnt_spans.specs.declared.span.Span as spec;
 ghost use Rattle.lnt_ffi.specs.Flat.{options_of, span_of};
 ghost use Rattle.lnt_ffi.specs.Told.{IsIndexOfFlat, IsRefused, IsToldOfSpans};
@@ -26,7 +26,7 @@ pub extern "C" fn linetab_verify(
     verdict: &mut FlatVerdict,
 ) -> usize
     ensures length { length spans.new ≡ length spans.old }
-    ensures told { IsToldOfSpans section.now result spans.new verdict.new }
+    ensures told { IsToldOfSpans section.now result spans.old spans.new verdict.new }
 {
     let index = match index_of(alloc, section) {
         Ok(index) => index,
@@ -63,6 +63,7 @@ fn put_spans<S: SpanSource + Drop>(spans: S, room: &mut [FlatSpan]) -> usize
     ensures count { (list : List spec.Span) → S.to_come spans list → result ≡ length list }
     ensures there { (list : List spec.Span) → S.to_come spans list → result ≤ length room.old
         → map span_of (take result room.new) ≡ list }
+    ensures behind { drop result room.new ≡ drop result room.old }
 {
     let mut spans = spans;
     let mut count: usize = 0;
@@ -74,10 +75,11 @@ fn put_spans<S: SpanSource + Drop>(spans: S, room: &mut [FlatSpan]) -> usize
 }
 
 // Puts a span at a place of the room, if there is one.
-#[tactic(auto, using(crate::proofs::PutLemmas::stored))]
+#[tactic(auto, using(crate::proofs::PutLemmas::stored, crate::proofs::RoomLemmas::behind_set))]
 fn put_span(span: &Span, place: usize, room: &mut [FlatSpan])
     ensures length { length room.new ≡ length room.old }
     ensures there { place < length room.old → map span_of (take (place + 1) room.new) ≡ map span_of (take place room.old) ++ span.now ∷ [] }
+    ensures behind { drop (place + 1) room.new ≡ drop (place + 1) room.old }
 {
     if place < room.len() {
         room[place] = flat_span(span);

@@ -1,18 +1,18 @@
 //! Answers looked up.
-ghost use Rattle.std.specs.Prelude.{◌≡◌, map, None, Some, false};
+ghost use Rattle.std.specs.Prelude.{◌≡◌, ◌+◌, ◌^◌, ◌<◌, ◌≤◌, ℕ, length, map, MatchOption, None, Some, false};
 ghost use Rattle.std.specs.Bool.{MatchBool};
 ghost use Rattle.lnt_spans.specs.Spans.{AreInOrder, span_answer};
 ghost use Rattle.lnt_ffi.specs.Flat.{answer_of, span_of};
 
 use crate::flat::{FlatAnswer, FlatSpan};
-use lnt_spans::Position;
+use lnt_spans::{Position, Probes, Side, probe};
 
 /// Whether something is answered at a position by spans in order, as `linetab_verify` gives them, and what. Where nothing
 /// is, `answer` stays as it was.
 ///
 /// It takes no memory, calls nothing, and writes nothing but the answer, so it may run in any thread and in a signal
 /// handler. It always returns, whatever the spans are; of spans out of order it says nothing. It compares the position
-/// with at most as many spans as their number has binary digits.
+/// with at most as many spans as their number has binary digits: `held` counts them.
 #[unsafe(no_mangle)]
 pub extern "C" fn linetab_lookup(
     spans: &[FlatSpan],
@@ -25,28 +25,39 @@ pub extern "C" fn linetab_lookup(
         (span_answer (map span_of spans.now) (record { address = address; op = op }) ≡ None) }
     ensures unchanged { result ≡ false → answer.new ≡ answer.old }
 {
-    let position = Position { address, op };
+    match held(spans, Position { address, op }, &mut Probes::new()) {
+        Some(found) => {
+            *answer = *found;
+            true
+        }
+        None => false,
+    }
+}
+
+// What the span answers that holds the position, or None where no span does. Whatever the spans are, `probes` rises by the
+// comparisons, which are at most as many as their number has binary digits.
+#[inline(always)]
+fn held<'a>(
+    spans: &'a [FlatSpan],
+    position: Position,
+    probes: &mut Probes,
+) -> Option<&'a FlatAnswer>
+    requires { probes.old ≤ 2 ^ 63 }
+    ensures answer { AreInOrder (map span_of spans.now) → MatchOption result (span_answer (map span_of spans.now) position ≡ None)
+        (λ found. span_answer (map span_of spans.now) position ≡ Some (answer_of found.now)) }
+    ensures rises { probes.old ≤ probes.new }
+    ensures counted { (digits : ℕ) → length spans.now < 2 ^ digits → probes.new ≤ probes.old + digits }
+{
     let mut low = 0;
     let mut high = spans.len();
     while low < high {
         let middle = low + (high - low) / 2;
         let span = &spans[middle];
-        let low_end = Position {
-            address: span.low,
-            op: span.low_op,
-        };
-        let high_end = Position {
-            address: span.high,
-            op: span.high_op,
-        };
-        if position.is_below(low_end) {
-            high = middle;
-        } else if position.is_below(high_end) {
-            *answer = span.answer;
-            return true;
-        } else {
-            low = middle + 1;
+        match probe(span.low_end(), span.high_end(), position, probes) {
+            Side::Below => high = middle,
+            Side::Inside => return Some(&span.answer),
+            Side::Above => low = middle + 1,
         }
     }
-    false
+    None
 }

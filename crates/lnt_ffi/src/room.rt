@@ -1,12 +1,14 @@
 //! Bytes put where the caller has room.
 ghost use Rattle.std.specs.Prelude.{◌≡◌, length};
-ghost use Rattle.lnt_ffi.specs.Told.{HoldsAll};
+ghost use Rattle.lnt_ffi.specs.Told.{with_front};
 
-// Puts the bytes into the front of the room, where there is room for all of them, and answers how many they are.
+// Puts the bytes into the front of the room, where there is room for all of them, and answers how many they are. It writes nothing
+// else there.
+#[tactic(auto, using(crate::proofs::RoomLemmas::fitting, crate::proofs::RoomLemmas::too_long))]
 pub(crate) fn put_bytes(bytes: &[u8], room: &mut [u8]) -> usize
     ensures count { result ≡ length bytes.now }
     ensures length { length room.new ≡ length room.old }
-    ensures there { HoldsAll room.new result bytes.now }
+    ensures there { room.new ≡ with_front bytes.now room.old }
 {
     let count = bytes.len();
     if count <= room.len() {

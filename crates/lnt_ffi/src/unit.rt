@@ -1,7 +1,7 @@
 //! The units of a section, and the paths of their files.
-ghost use Rattle.std.specs.Prelude.{◌≡◌, ◌≤◌, IfErr, IfOk, Some, length, map, take};
+ghost use Rattle.std.specs.Prelude.{◌≡◌, length, map};
 ghost use Rattle.lnt_lines.specs.Indexed.{file_path_in};
-ghost use Rattle.lnt_ffi.specs.Told.{HoldsAll, IsToldOfPath, IsToldOfUnits, unit_in};
+ghost use Rattle.lnt_ffi.specs.Told.{IsToldOfPath, IsToldOfUnits, unit_in, with_front};
 
 use crate::judging::index_of;
 use crate::room::put_bytes;
@@ -34,7 +34,7 @@ pub extern "C" fn linetab_units(
     verdict: &mut FlatVerdict,
 ) -> usize
     ensures length { length units.new ≡ length units.old }
-    ensures told { IsToldOfUnits section.now result units.new verdict.new }
+    ensures told { IsToldOfUnits section.now result units.old units.new verdict.new }
 {
     match index_of(alloc, section) {
         Ok(index) => {
@@ -49,10 +49,11 @@ pub extern "C" fn linetab_units(
 }
 
 // Puts the units into the front of the room, where there is room for all of them, and answers how many they are.
+#[tactic(auto, using(crate::proofs::RoomLemmas::filled, crate::proofs::RoomLemmas::too_long, crate::proofs::RoomLemmas::behind_set))]
 fn put_units(index: &Index<'_>, room: &mut [FlatUnit]) -> usize
     ensures count { result ≡ length index.now.units }
     ensures length { length room.new ≡ length room.old }
-    ensures there { HoldsAll room.new result (map (unit_in index.now) index.now.units) }
+    ensures there { room.new ≡ with_front (map (unit_in index.now) index.now.units) room.old }
 {
     let offsets = index.units();
     let count = offsets.len();
@@ -87,7 +88,7 @@ pub extern "C" fn linetab_path(
     verdict: &mut FlatVerdict,
 ) -> bool
     ensures room { length path.new ≡ length path.old }
-    ensures told { IsToldOfPath section.now unit file result count.new path.new verdict.new }
+    ensures told { IsToldOfPath section.now unit file result count.new path.old path.new verdict.new }
 {
     *count = 0;
     let found = match index_of(alloc, section) {

@@ -26,7 +26,7 @@ pub extern "C" fn linetab_table(
     verdict: &mut FlatVerdict,
 ) -> usize
     ensures length { length room.new ≡ length room.old }
-    ensures told { IsToldOfWriting section.now is_wide result room.new verdict.new }
+    ensures told { IsToldOfWriting section.now is_wide result room.old room.new verdict.new }
 {
     match table_of(alloc, section, is_wide) {
         Ok(table) => {

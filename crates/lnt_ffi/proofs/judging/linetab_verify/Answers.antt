@@ -4,7 +4,7 @@ use Rattle.lnt_ffi.specs.Told.{IsToldOfSpans}
 use Rattle.lnt_ffi.proofs.judging.linetab_verify.Goals as goal
 
 pub returns-in-Err-clause-told : goal.returns-in-Err-clause-told
-returns-in-Err-clause-told c = IsToldOfSpans.refused c.in-Err.ensures.refused refl
+returns-in-Err-clause-told c = IsToldOfSpans.refused c.in-Err.ensures.refused refl refl
 
 pub put_spans-requires : goal.put_spans-requires
 put_spans-requires c =
@@ -21,4 +21,4 @@ returns-clause-told c =
     (record { units = is.units; good = is.good; spans_are = all.spans_are; in_order = all.in_order; answers = all.answers })
     (c.put_spans.ensures.count all.spans all.to_come)
     (λ fits. c.put_spans.ensures.there all.spans all.to_come (omega (arith, fits, c.put_spans.ensures.length)))
-    refl
+    c.put_spans.ensures.behind refl
