@@ -8,6 +8,8 @@ import subprocess
 import sys
 import tempfile
 
+from line_writer import PLAIN, leb
+
 PROGRAM = "crates/linetab/out/linetab"
 TURNS = 5
 # Four times the work takes four times as long, and a machine that others use may double that; what grows with the square takes
@@ -15,17 +17,8 @@ TURNS = 5
 MOST_GROWTH, TICKS = 8, 0.012
 MOST_COPIES, OWN_MEMORY = 4, 8 << 20
 
-NUMBERS = bytes([1, 1, 1, 0xFB, 14, 13, 0, 1, 1, 1, 1, 0, 0, 0, 1, 0, 0, 1])
 ONE_DIRECTORY = bytes([1, 1, 8, 1]) + b"/s\0"
 TWO_FILES = bytes([2, 1, 8, 2, 0x0B, 2]) + b"a\0\0" * 2
-
-
-def leb(number):
-    out = bytearray()
-    while number > 127:
-        out.append(number & 127 | 128)
-        number >>= 7
-    return bytes(out + bytes([number]))
 
 
 def sequence(address, rows=b"\1"):
@@ -33,19 +26,12 @@ def sequence(address, rows=b"\1"):
     return b"\0\x09\x02" + address.to_bytes(8, "little") + rows + b"\2\x10\0\1\1"
 
 
-def unit(tables, program):
-    """A unit in the 64-bit format."""
-    header = NUMBERS + tables
-    rest = b"\5\0\x08\0" + len(header).to_bytes(8, "little") + header + program
-    return b"\xff" * 4 + len(rest).to_bytes(8, "little") + rest
-
-
 def sequences(places):
-    return unit(ONE_DIRECTORY + TWO_FILES, b"".join(sequence(0x1000 + 16 * place) for place in places))
+    return PLAIN.unit(ONE_DIRECTORY + TWO_FILES, b"".join(sequence(0x1000 + 16 * place) for place in places))
 
 
 def with_tables(tables):
-    return unit(tables, sequence(0x1000))
+    return PLAIN.unit(tables, sequence(0x1000))
 
 
 def one_directory(count):
@@ -73,16 +59,16 @@ def formats(count):
 
 def rows(count):
     """Special opcodes, each a row of its own."""
-    return unit(ONE_DIRECTORY + TWO_FILES, sequence(0x1000, b"\x20" * count))
+    return PLAIN.unit(ONE_DIRECTORY + TWO_FILES, sequence(0x1000, b"\x20" * count))
 
 
 def units(count):
-    return b"".join(unit(ONE_DIRECTORY + TWO_FILES, sequence(0x1000 + 16 * place)) for place in range(count))
+    return b"".join(PLAIN.unit(ONE_DIRECTORY + TWO_FILES, sequence(0x1000 + 16 * place)) for place in range(count))
 
 
 def one_sequence(tables, rows):
     """A section of one sequence with these rows, which ends an address after the last."""
-    return unit(tables, b"\0\x09\2" + (0x1000).to_bytes(8, "little") + rows + b"\2\1\0\1\1")
+    return PLAIN.unit(tables, b"\0\x09\2" + (0x1000).to_bytes(8, "little") + rows + b"\2\1\0\1\1")
 
 
 def long_directory(count):
@@ -145,12 +131,12 @@ def two_files(count):
 
 def overlap_of_many_files(count):
     """Two sequences of the same addresses, in a unit of many files without a name."""
-    return {"line": unit(bytes([1, 1, 8, 1, 0, 1, 1, 8]) + leb(count) + b"\0" * count, sequence(0x1000) * 2)}
+    return {"line": PLAIN.unit(bytes([1, 1, 8, 1, 0, 1, 1, 8]) + leb(count) + b"\0" * count, sequence(0x1000) * 2)}
 
 
 def short_sequences(count):
     """Sequences of five bytes each."""
-    return {"line": unit(ONE_DIRECTORY + TWO_FILES, b"\1\x08\0\1\1" * count)}
+    return {"line": PLAIN.unit(ONE_DIRECTORY + TWO_FILES, b"\1\x08\0\1\1" * count)}
 
 
 def short_units(count):
@@ -205,13 +191,17 @@ LARGE = {
     ),
     "many short units": (short_units, 140_000, "verify LINE", 0, lambda size, given: MOST_COPIES * given + 1024 * size),
     "a header of many fields": (fields, 8_000_000, "check LINE TABLE", 1, lambda size, given: MOST_COPIES * given),
-    "a record of many fields": (
-        lambda size: fields(size, b"low,high,path,line\n"),
-        8_000_000,
-        "check LINE TABLE",
-        1,
-        lambda size, given: 10 * given,
-    ),
+    **{
+        "a record of many fields, %s, %s" % (names, text): (
+            lambda size, names=names: fields(size, names.encode() + b"\n"),
+            8_000_000,
+            text,
+            1,
+            lambda size, given: MOST_COPIES * given,
+        )
+        for names in ("low,high,path,line", "low,low_op,high,high_op,unit,file,line,column,is_stmt")
+        for text in ("check LINE TABLE", "check LINE TABLE --all")
+    },
 }
 
 

@@ -176,8 +176,14 @@ second=0x1130,0,0x1137,0,0,1,1,36,1
 header="the table has to begin with $names or with this and ,isa,discriminator, or with low,high,path,line or with this and ,column"
 faulty 'no header' 'no 36 table header' "$header" ''
 faulty 'another header' 'no 36 table header' "$header" "$first\n"
-faulty 'too few fields' 'no 37 table fields record 2' 'line 3 of the table: each record has as many fields as the header has names' "$names\n$first\n0x1130,0\n"
+rule='each record has as many fields as the header has names'
 decimal='1 to 20 decimal digits, and below 2^64'
+faulty 'too few fields' 'no 37 table fields record 2' "line 3 of the table: $rule" "$names\n$first\n0x1130,0\n"
+many=$(head -c 200000 /dev/zero | tr '\0' ,)
+faulty 'very many fields' 'no 37 table fields record 1' "line 2 of the table: $rule" "$names\n$many\n$first\n"
+faulty 'very many fields at the end, after one in quotes' 'no 37 table fields record 2' "line 3 of the table: $rule" "$names\n\"0x1129\",${first#*,}\n$many"
+faulty 'very many fields after too few' 'no 37 table fields record 1' "line 2 of the table: $rule" "$names\n0x1129,0\n$many\n"
+faulty 'very many fields after one with many commas in quotes' 'no 38 table number record 1 column 1' "line 2 of the table: low_op is $decimal" "$names\n0x1129,\"$many\",${first#*,0,}\n$many\n"
 faulty 'a low that is no address' 'no 38 table number record 1 column 0' 'line 2 of the table: low is 0x and 1 to 16 hexadecimal digits' "$names\n1129${first#0x1129}\n"
 for ((column = 0; column < 9; column++)); do
   IFS=, read -ra fields <<<"$second"
@@ -204,7 +210,8 @@ for ((column = 0; column < 5; column++)); do
   faulty "by path, a bad ${titles[column]}" "no 38 table number record 1 column $column" "line 2 of the table: ${titles[column]} is $kind" \
     "low,high,path,line,column\n$(IFS=,; echo "${fields[*]}")\n"
 done
-faulty 'by path, too many fields' 'no 37 table fields record 1' 'line 2 of the table: each record has as many fields as the header has names' 'low,high,path,line\n0x1130,0x1137,a,b,1\n'
+faulty 'by path, too many fields' 'no 37 table fields record 1' "line 2 of the table: $rule" 'low,high,path,line\n0x1130,0x1137,a,b,1\n'
+faulty 'by path, very many fields' 'no 37 table fields record 2' "line 3 of the table: $rule" "low,high,path,line\n0x1129,0x1130,/w/src/small/a.c,1\n$many\n"
 faulty 'by path, an empty span' 'no 39 table order record 1' "line 2 of the table: each span ends above its low, which isn't below the high of the span before" 'low,high,path,line\n0x1130,0x1130,a,1\n'
 printf 'low,high,path,line\n' >"$work/table"
 notes 'by path, nothing held' 0 $'yes\n' '' "$nothing" check /dev/null "$work/table"
@@ -212,6 +219,8 @@ notes 'by path, nothing held, all places' 0 $'yes\n' '' "$nothing" check /dev/nu
 printf 'low,high,path,line\n0x1,2,a,1\n' >"$work/table"
 notes 'by path, a bad high, all places' 1 $'no 38 table number record 1 column 1\n' '' 'line 2 of the table: high is 0x and 1 to 16 hexadecimal digits' \
   check /dev/null "$work/table" --all
+printf 'low,high,path,line\n%s\n' "$many" >"$work/table"
+notes 'by path, very many fields, all places' 1 $'no 37 table fields record 1\n' '' "line 2 of the table: $rule" check /dev/null "$work/table" --all
 printf 'low,high\n' >"$work/table"
 notes 'another header, all places' 1 $'no 36 table header\n' '' "$header" check /dev/null "$work/table" --all
 faulty 'a field of two lines' 'no 38 table number record 3 column 1' "line 4 of the table: low_op is $decimal" "$names\n\"0x1129\",0,0x1130,0,0,1,1,27,1\n$second\n0x1137,\"x\n\",0x1139,0,0,1,1,50,1\n"

@@ -4,37 +4,36 @@ use lnt_text::Column;
 use std::alloc::Global;
 use std::io::Read;
 
-// The line, counted from 1, in which the record with this index, counted from 0, begins. `None` if the text has fewer
-// records. An error if the text can't be read that far, or memory ran out.
-pub(crate) fn line_of<R: Read + Drop>(
+// The line, counted from 1, in which the text continues after so many records. `None` if it has fewer. The next record may be
+// a very large one, and isn't read. An error if the text can't be read that far, or memory ran out.
+pub(crate) fn line_after<R: Read + Drop>(
     alloc: Global,
     text: R,
-    record: u64,
+    records: u64,
 ) -> Result<Option<u64>, csv::Error> {
     let mut reader = ReaderBuilder::new()
         .has_headers(false)
         .flexible(true)
         .from_reader(alloc, text);
     let mut row = ByteRecord::new(alloc);
-    if !reads(&mut reader, &mut row, record)? {
+    if !passes(&mut reader, &mut row, records)? {
         return Ok(None);
     }
-    Ok(row.position().map(|position| position.line()))
+    Ok(Some(reader.position().line()))
 }
 
-// Reads the records of a table up to the one with the index `record`, counted from 0, into `row`, one over the other, so that
-// `row` holds that one. False if there are fewer.
-fn reads<R: Read>(
+// Reads so many records into `row`, one over the other. False if there are fewer.
+fn passes<R: Read>(
     reader: &mut Reader<R>,
     row: &mut ByteRecord,
-    record: u64,
+    records: u64,
 ) -> Result<bool, csv::Error> {
-    for _ in 0..record {
+    for _ in 0..records {
         if !reader.read_byte_record(row)? {
             return Ok(false);
         }
     }
-    reader.read_byte_record(row)
+    Ok(true)
 }
 
 /// The columns that a table has.

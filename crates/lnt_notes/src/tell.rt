@@ -11,7 +11,7 @@ ghost use Rattle.lnt_notes.specs.Told.{AddsNotes};
 use crate::ends::end_alike;
 use crate::look::look_of;
 use crate::marks::may_be_mark;
-use crate::records::{Columns, column_at, line_of};
+use crate::records::{Columns, column_at, line_after};
 use crate::survey::{Survey, survey_of};
 use crate::texts::strings_of;
 use crate::watched::Seen;
@@ -311,8 +311,8 @@ pub fn tell_agreed<O: Opener, N: Write>(
     ensures { OnOk result (AddsNotes (N.contents notes.old) (N.contents notes.new)) }
 {
     let holds_nothing = opener.reader_again(table).is_some_and(|reader| {
-        // A table without a span gives no answers.
-        matches!(line_of(alloc, reader, 1), Ok(None))
+        // A table of its header alone answers nothing.
+        matches!(line_after(alloc, reader, 2), Ok(None))
     });
     print_where(holds_nothing, Note::HoldsNothing, notes)?;
     if given.dead.is_some() {
@@ -357,5 +357,5 @@ pub fn tell_table<O: Opener, N: Write>(
 }
 
 fn line_again<O: Opener>(alloc: Global, record: u64, table: &str, opener: &mut O) -> Option<u64> {
-    line_of(alloc, opener.reader_again(table)?, record).ok()?
+    line_after(alloc, opener.reader_again(table)?, record).ok()?
 }

@@ -14,10 +14,11 @@ use Rattle.csv.specs.declared.parser.State.{State}
 use Rattle.csv.specs.declared.parser.State.TheVariants as st
 use Rattle.csv.proofs.RoundTrip.{read-write}
 use Rattle.lnt_digits.specs.Digits.{IsAddress, IsDecimal}
-use Rattle.lnt_records.proofs.ReadingLaws.{no_record}
+use Rattle.lnt_records.proofs.BeginningLaws.{records_begin}
+use Rattle.lnt_records.proofs.ReadingLaws.{first_same, no_record}
 use Rattle.lnt_digits.specs.Delimited.{Begins}
 use Rattle.lnt_spans.specs.Remaining.{SpansAreLeft}
-use Rattle.lnt_records.specs.Reading.{BytesReader, HasRead}
+use Rattle.lnt_records.specs.Reading.{BytesReader, HasRead, IsNarrow}
 use Rattle.lnt_records.specs.Table.{BeginsWith, Fields, RecordsOf}
 use Rattle.lnt_spans.specs.declared.answer.Answer.{Answer}
 use Rattle.lnt_spans.specs.declared.span.Span.{Span}
@@ -28,12 +29,15 @@ use Rattle.lnt_paths.specs.declared.version.PathVersion.{PathVersion}
 use Rattle.lnt_paths.specs.declared.version.PathVersion.TheVariants.{Three, Four}
 use Rattle.lnt_paths.specs.Joining.{IsPlainByte}
 use Rattle.lnt_paths.specs.Merging.{IsMerged, JudgesByPath}
-use Rattle.lnt_paths.specs.Passing.{GoesOnAs, HasTaken, IsAfter, IsPathBefore, IsPathLine, IsPlace}
+use Rattle.lnt_paths.specs.Passing.{GoesOnAs, HasTaken, IsAfter, IsAfterFront, IsPathBefore, IsPathLine, IsPlace}
 use Rattle.lnt_paths.specs.PathAnswers.{PathAnswer}
 use Rattle.lnt_paths.specs.PathSpans.{PathSpan, whole}
-use Rattle.lnt_paths.specs.PathTables.{SaysPath, path_column_names}
+use Rattle.lnt_paths.specs.PathFaults.{IsFaultyRecord, IsPathFault}
+use Rattle.lnt_paths.specs.PathTables.{IsPathTable, SaysPath, path_column_names}
 use Rattle.lnt_paths.specs.Reading.{record_answer, record_span}
-use Rattle.lnt_paths.proofs.ComparisonLemmas.{begins, record_taken}
+use Rattle.lnt_records.specs.declared.fault.TableFault.{TableFault}
+use Rattle.lnt_paths.proofs.ComparisonLemmas.{begins, fault_told, record_taken}
+use Rattle.lnt_paths.proofs.FrontLemmas.{faulty_as, names_narrow, narrow, table_narrow}
 use Rattle.lnt_paths.proofs.LineLemmas.{line_fields, names_some, quiet_by_recursion}
 
 -- ---- parts of a line
@@ -248,9 +252,15 @@ reached_on bytes text records more first after left h r =
     reached_both st.StartRecord h.after after (strip_bom bytes) h.rest left records more h.goes_on.reached
     (after_first st.StartRecord h.after after (strip_bom text) h.rest left h.goes_on.last first more h.goes_on.text_reached r)
 
-pub all_on : (bytes text : List ℕ) (records more : List Fields) (first : Fields) → IsAfter bytes text records
-    → RecordsOf text (first ∷ more) → RecordsOf bytes (records ++ more)
-all_on bytes text records more first h all = (all.0, all.1, reached_on bytes text records more first all.0 all.1 h all.2, all.3)
+pub all_on : (bytes front : List ℕ) (records more : List Fields) (first : Fields) (version : PathVersion) (table : List PathSpan)
+    → IsAfterFront bytes front records → RecordsOf front (first ∷ more) → IsPathTable version (records ++ more) table
+    → RecordsOf bytes (records ++ more)
+all_on bytes front records more first version table h all is_table =
+    let last = h.2.goes_on.last in
+    let kept = h.1.first last h.2.goes_on.narrow (h.2.after, h.2.rest, h.2.goes_on.text_reached) in
+    let same : last ≡ first = first_same front last first kept (records_begin front first more all) in
+    let whole = h.1.all (first ∷ more) all (subst IsNarrow same h.2.goes_on.narrow, table_narrow version records more table is_table) in
+    (whole.0, whole.1, reached_on bytes h.0 records more first whole.0 whole.1 h.2 whole.2, whole.3)
 
 pub begins_on : (bytes text : List ℕ) (records more : List Fields) (first : Fields) → IsAfter bytes text records
     → BeginsWith text (first ∷ more) → BeginsWith bytes (records ++ more)
@@ -281,7 +291,7 @@ header_passed version bytes header rest e f =
     ap (λ (t : List ℕ). next_record default_config st.StartRecord [] [] t) plain ∙ read-write names rest
     ∙ ap (λ (r : Fields). Some (r, st.StartRecord, rest)) (sym (same_back names (names_some version))) in
     let reached = one_reached (strip_bom bytes) rest names read in
-    record { last = names; reached = reached; text_reached = reached }
+    record { last = names; reached = reached; text_reached = reached; narrow = names_narrow version }
 
 -- one more line was passed
 pub line_passed : (version : PathVersion) (said : PathRecord) (bytes text next rest : List ℕ) (records : List Fields)
@@ -293,6 +303,7 @@ line_passed version said bytes text next rest records h l =
       last = l.fields;
       reached = reached_both st.StartRecord st.StartRecord st.StartRecord (strip_bom bytes) next rest records (l.fields ∷ []) h.reached one;
       text_reached = rw (line_unmarked version said next rest l) one;
+      narrow = narrow version l.fields l.says.count;
     }
 
 -- ---- records that `csv` reads past the text's first one
@@ -310,20 +321,26 @@ pub judges_more : {S : Type 0} (to_come : S → List Span → Type 0) (tell : An
 judges_more to_come tell version comparison list records more fields j =
     subst (λ (r : List Fields). JudgesByPath to_come tell version comparison list r) (append_assoc records more (fields ∷ [])) j
 
-pub begins_more : (reader : BytesReader) (bytes text : List ℕ) (records more : List Fields) (first fields : Fields)
-    → IsAfter bytes text records → HasRead reader text (first ∷ (more ++ fields ∷ []))
-    → BeginsWith bytes ((records ++ more) ++ fields ∷ [])
-begins_more reader bytes text records more first fields past read =
-    subst (λ (r : List Fields). BeginsWith bytes r) (sym (append_assoc records more (fields ∷ [])))
-    (begins_on bytes text records (more ++ fields ∷ []) first past (begins reader text (first ∷ (more ++ fields ∷ [])) read))
+pub fault_on : (reader : BytesReader) (bytes front : List ℕ) (records more : List Fields) (first fields : Fields) (version : PathVersion)
+    (table : List PathSpan) (told : TableFault) → IsAfterFront bytes front records
+    → HasRead reader front (first ∷ (more ++ fields ∷ [])) → IsPathTable version (records ++ more) table
+    → IsFaultyRecord version table (length (records ++ more)) fields told → IsPathFault bytes told
+fault_on reader bytes front records more first fields version table told past read is_table faulty =
+    let begun = past.1.begins (first ∷ more) fields (begins reader front (first ∷ (more ++ fields ∷ [])) read) in
+    let all : BeginsWith bytes ((records ++ more) ++ begun.0 ∷ []) =
+    subst (λ (r : List Fields). BeginsWith bytes r) (sym (append_assoc records more (begun.0 ∷ [])))
+    (begins_on bytes past.0 records (more ++ begun.0 ∷ []) first past.2 begun.2) in
+    fault_told bytes version (records ++ more) begun.0 table told all is_table
+    (faulty_as version table (length (records ++ more)) fields begun.0 told begun.1 faulty)
 
 -- the text has a first record
-pub first_there : (reader : BytesReader) (bytes text : List ℕ) (records : List Fields) (fields : Fields) (found : Bool)
-    → IsAfter bytes text records
-    → MatchBool found (HasRead reader text (fields ∷ [])) (RecordsOf text []) → HasRead reader text (fields ∷ [])
-first_there reader bytes text records fields true b h = h
-first_there reader bytes text records fields false b h =
-    absurd (no_record text b.goes_on.last h (b.after, b.rest, b.goes_on.text_reached))
+pub first_there : (reader : BytesReader) (bytes front : List ℕ) (records : List Fields) (fields : Fields) (found : Bool)
+    → IsAfterFront bytes front records
+    → MatchBool found (HasRead reader front (fields ∷ [])) (RecordsOf front []) → HasRead reader front (fields ∷ [])
+first_there reader bytes front records fields true b h = h
+first_there reader bytes front records fields false b h =
+    absurd (no_record front b.2.goes_on.last h
+    (b.1.first b.2.goes_on.last b.2.goes_on.narrow (b.2.after, b.2.rest, b.2.goes_on.text_reached)))
 
 -- the text is a slice of the bytes
 pub after_slice : (bytes : List ℕ) (at : ℕ) (records : List Fields) → IsAfter bytes (drop at bytes) records

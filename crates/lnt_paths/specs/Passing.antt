@@ -7,6 +7,7 @@ use Rattle.csv.specs.declared.parser.State.{State}
 use Rattle.csv.specs.declared.parser.State.TheVariants as state
 use Rattle.lnt_digits.specs.Digits.{IsAddress, IsDecimal}
 use Rattle.lnt_digits.specs.Delimited.{Begins}
+use Rattle.lnt_records.specs.Reading.{IsNarrow, IsReadFor}
 use Rattle.lnt_records.specs.Table.{Fields}
 use Rattle.lnt_spans.specs.declared.answer.Answer.{Answer}
 use Rattle.lnt_spans.specs.declared.span.Span.{Span}
@@ -43,17 +44,22 @@ pub record IsPathLine (version : PathVersion) (said : PathRecord) (bytes rest : 
 -- ---- the lines so far
 
 -- `csv` reads these records from the bytes, and one record from the text, and continues from the same state with the same
--- rest.
+-- rest. The one record has few fields.
 pub record GoesOnAs (bytes text : List ℕ) (records : List Fields) (after : State) (rest : List ℕ) : Type 0 where
   pub last : Fields
   pub reached : Reached default_config state.StartRecord (strip_bom bytes) records after rest
   pub text_reached : Reached default_config state.StartRecord (strip_bom text) (last ∷ []) after rest
+  pub narrow : IsNarrow last
 
 -- The same, for some state and rest.
 pub record IsAfter (bytes text : List ℕ) (records : List Fields) : Type 0 where
   pub after : State
   pub rest : List ℕ
   pub goes_on : GoesOnAs bytes text records after rest
+
+-- The same for a text of which this prefix is read.
+abbrev pub IsAfterFront : List ℕ → List ℕ → List Fields → Type 0
+IsAfterFront bytes front records = (text : List ℕ) × IsReadFor front text × IsAfter bytes text records
 
 -- From the header on, the comparison took the records up to the text: one for each line.
 pub record HasTaken {S : Type 0} (to_come : S → List Span → Type 0) (tell : Answer → PathAnswer) (version : PathVersion)

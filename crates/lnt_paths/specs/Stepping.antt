@@ -1,5 +1,6 @@
 -- What the bodies of this crate say of one step on to where one of two answers ends. No public contract speaks of it.
-use Rattle.std.specs.Prelude.{List, [], ◌∷◌, ◌++◌, Option, Some, None, cond, ℕ}
+use Rattle.std.specs.Bool.{MatchBool}
+use Rattle.std.specs.Prelude.{◌≡◌, ◌≢◌, ◌⊎◌, Bool, List, [], ◌∷◌, ◌++◌, Option, Some, None, cond, ℕ}
 use Rattle.std.specs.Option.{option_copied, option_map}
 use Rattle.lnt_spans.specs.declared.answer.Answer.{Answer}
 use Rattle.lnt_spans.specs.declared.position.Position.{Position}
@@ -28,6 +29,12 @@ stretch_begun tell begun = record {
   by_section = option_map tell begun.by_section;
   by_table = option_map told_path_answer (option_copied begun.by_table);
 }
+
+-- Whether no stretch begins with these two answers: they are alike, or each is as it was before.
+abbrev pub IsKnown : Bool → Option PathAnswer → Option PathAnswer → Option PathAnswer → Option PathAnswer → Type 0
+IsKnown known section table section_before table_before = MatchBool known
+    ((section ≡ table) ⊎ (section ≡ section_before) × (table ≡ table_before))
+    ((table ≢ section) × (section ≡ section_before → table ≡ table_before → ⊥))
 
 -- what holds after one step, by what the step found
 abbrev pub Steps : {S : Type 0} → (S → List Span → Type 0) → (ℕ → ℕ → List ℕ) → DifferencesByPath S → (Position → Option PathAnswer)

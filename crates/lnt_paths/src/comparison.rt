@@ -10,7 +10,7 @@ ghost use Rattle.lnt_spans.specs.declared.span.Span as spec;
 ghost use Rattle.lnt_spans.specs.Spans.{AreInOrder};
 ghost use Rattle.lnt_paths.specs.declared.version.PathVersion.{PathVersion};
 ghost use Rattle.lnt_paths.specs.Merging.{AreKnownOf, IsMerged, JudgesByPath, table_side};
-ghost use Rattle.lnt_paths.specs.Passing.{IsAfter};
+ghost use Rattle.lnt_paths.specs.Passing.{IsAfter, IsAfterFront};
 ghost use Rattle.lnt_paths.specs.PathAnswers.{answer_told, path_answer, spans_by_path};
 ghost use Rattle.lnt_paths.specs.PathDifferences.{IsLeastPathDifference, IsPathComparison, told_path_answer};
 ghost use Rattle.lnt_paths.specs.PathFaults.{IsFaultyRecord};
@@ -26,7 +26,7 @@ use crate::paths::Paths;
 use crate::record::{PathRecord, record_after};
 use crate::version::PathVersion;
 use csv::{ByteRecord, Reader};
-use lnt_records::{TableFault, begins_wide, read_next, reader_of};
+use lnt_records::{TableFault, begins_wide, read_next, reader_of, up_to_wide};
 use lnt_spans::{Answer, SpanSource};
 use std::alloc::{AllocError, Global};
 
@@ -93,7 +93,7 @@ fn compare_after<S: SpanSource + Drop, P: Paths>(
         → JudgesByPath S.to_come (path_answer version (P.bytes_of paths.now)) version comparison list records
         → IsPathComparison bytes (λ version. spans_by_path version (P.bytes_of paths.now) list) compared) }
 {
-    let mut reader = reader_of(alloc, text);
+    let mut reader = reader_of(alloc, up_to_wide(alloc, text)?);
     let mut row = ByteRecord::new(alloc);
     compare_records(
         alloc,
@@ -115,10 +115,10 @@ fn compare_records<S: SpanSource + Drop, P: Paths>(
     paths: &P,
 ) -> Result<ComparedByPath, AllocError>
     requires known { AreKnownOf (P.bytes_of paths.now) comparison.old.known.slots.items }
-    requires past { (text bytes : List ℕ) × (records : List Fields) × HasRead reader.old text [] × IsAfter bytes text records
+    requires past { (text bytes : List ℕ) × (records : List Fields) × HasRead reader.old text [] × IsAfterFront bytes text records
         × (comparison.old.count + length text < 2 ^ 64 + 1) }
     ensures { IfOk result (λ compared. (text bytes : List ℕ) (records : List Fields) (list : List spec.Span)
-        → HasRead reader.old text [] → IsAfter bytes text records
+        → HasRead reader.old text [] → IsAfterFront bytes text records
         → JudgesByPath S.to_come (path_answer version (P.bytes_of paths.now)) version comparison.old list records
         → IsPathComparison bytes (λ version. spans_by_path version (P.bytes_of paths.now) list) compared) }
 {

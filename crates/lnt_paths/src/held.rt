@@ -15,7 +15,7 @@ use crate::header::read_header;
 use crate::record::record_after;
 use crate::version::PathVersion;
 use csv::{ByteRecord, Reader};
-use lnt_records::{TableFault, begins_wide, read_next, reader_of};
+use lnt_records::{TableFault, read_next, reader_of, up_to_wide};
 use std::alloc::{AllocError, Global};
 
 /// A span of a table by path, held in memory with its answer.
@@ -47,11 +47,8 @@ pub fn hold_table(alloc: Global, table: &[u8]) -> Result<HeldTable, AllocError>
     ensures held { IfOk result (λ held. IsHeld table.now held) }
     ensures in_order { IfOk result HoldsInOrder }
 {
-    if begins_wide(alloc, table)? {
-        return Ok(HeldTable::Fault(TableFault::Header));
-    }
     // The reader is large and the stack is short: no caller should hold it beside its own values.
-    let mut reader = reader_of(alloc, table);
+    let mut reader = reader_of(alloc, up_to_wide(alloc, table)?);
     let mut row = ByteRecord::new(alloc);
     hold_read(alloc, &mut reader, &mut row)
 }

@@ -16,7 +16,7 @@ ghost use Rattle.lnt_paths.specs.declared.answer.DifferenceByPath as spec_differ
 ghost use Rattle.lnt_paths.specs.declared.stretches.Step.TheVariants as step;
 ghost use Rattle.lnt_paths.specs.Compared.{AreCompared, AreTold};
 ghost use Rattle.lnt_paths.specs.Held.{held_span};
-ghost use Rattle.lnt_paths.specs.Stepping.{Steps, held_end, stretch_begun};
+ghost use Rattle.lnt_paths.specs.Stepping.{IsKnown, Steps, held_end, stretch_begun};
 ghost use Rattle.lnt_spans.specs.AnyStretches.{Stretch};
 ghost use Rattle.lnt_paths.specs.PathAnswers.{PathAnswer, answer_told, path_answer, spans_by_path};
 ghost use Rattle.lnt_paths.specs.PathDifferences.{told_path_answer};
@@ -156,16 +156,14 @@ impl<'t, S: SpanSource> DifferencesByPath<'t, S> {
         let Some(end) = earlier_end(section.end, table.end) else {
             return Ok(Step::Ended);
         };
+        let begun = Begun {
+            position: at,
+            by_section: section.answer,
+            by_table: table.answer,
+        };
         let mut told = self.told;
         let mut compared = self.compared;
-        let is_known = self.is_known(
-            alloc,
-            paths,
-            &mut told,
-            &mut compared,
-            section.answer,
-            table.answer,
-        )?;
+        let is_known = self.is_known(alloc, paths, &mut told, &mut compared, &begun)?;
         pass_section(&mut self.section, end);
         let rest = past_end(self.table, end);
         self.told = told_after(told, self.table, rest);
@@ -177,55 +175,38 @@ impl<'t, S: SpanSource> DifferencesByPath<'t, S> {
         if is_known {
             return Ok(Step::Known);
         }
-        Ok(Step::Told(Begun {
-            position: at,
-            by_section: section.answer,
-            by_table: table.answer,
-        }))
+        Ok(Step::Told(begun))
     }
 
-    // Whether no new stretch begins: both sides answer alike by path, or each answers as it did before.
+    // Whether no new stretch begins with these answers: both sides answer alike by path, or each answers as it did before.
     fn is_known<P: Paths>(
         &self,
         alloc: Global,
         paths: &P,
         told: &mut ToldFiles,
         compared: &mut ComparedPaths,
-        section: Option<Answer>,
-        table: Option<&AnswerByPath>,
+        begun: &Begun<'_>,
     ) -> Result<bool, AllocError>
-        requires told { IfSome (option_copied table) (λ held. AreTold (P.bytes_of paths.now) held.path.items told.old.slots) }
+        requires told { IfSome (option_copied begun.now.by_table) (λ held.
+            AreTold (P.bytes_of paths.now) held.path.items told.old.slots) }
         requires compared { AreCompared (P.bytes_of paths.now) compared.old.slots }
-        ensures told { OnOk result (MatchOption (option_copied table.entry) (told.new ≡ told.old)
+        ensures told { OnOk result (MatchOption (option_copied begun.now.by_table) (told.new ≡ told.old)
             (λ held. AreTold (P.bytes_of paths.now) held.path.items told.new.slots)) }
         ensures compared { OnOk result (AreCompared (P.bytes_of paths.now) compared.new.slots) }
-        ensures known { IfOk result (λ known. MatchBool known
-            ((option_map (path_answer self.now.version (P.bytes_of paths.now)) section
-            ≡ option_map told_path_answer (option_copied table.entry))
-            ⊎ (option_map (path_answer self.now.version (P.bytes_of paths.now)) section
-            ≡ option_map (path_answer self.now.version (P.bytes_of paths.now)) self.now.by_section)
-            × (option_map told_path_answer (option_copied table.entry) ≡ option_map told_path_answer (option_copied self.now.by_table)))
-            ((option_map told_path_answer (option_copied table.entry)
-            ≢ option_map (path_answer self.now.version (P.bytes_of paths.now)) section)
-            × (option_map (path_answer self.now.version (P.bytes_of paths.now)) section
-            ≡ option_map (path_answer self.now.version (P.bytes_of paths.now)) self.now.by_section
-            → option_map told_path_answer (option_copied table.entry) ≡ option_map told_path_answer (option_copied self.now.by_table)
-            → ⊥))) }
+        ensures known { IfOk result (λ known. IsKnown known
+            (option_map (path_answer self.now.version (P.bytes_of paths.now)) begun.now.by_section)
+            (option_map told_path_answer (option_copied begun.now.by_table))
+            (option_map (path_answer self.now.version (P.bytes_of paths.now)) self.now.by_section)
+            (option_map told_path_answer (option_copied self.now.by_table))) }
     {
-        if are_alike(alloc, paths, self.version, told, section, table)? {
+        let (section, before) = (begun.by_section, self.by_section);
+        if are_alike(alloc, paths, self.version, told, section, begun.by_table)? {
             return Ok(true);
         }
-        if !is_as_held(table, self.by_table) {
+        if !is_as_held(begun.by_table, self.by_table) {
             return Ok(false);
         }
-        is_as_before(
-            alloc,
-            paths,
-            self.version,
-            compared,
-            section,
-            self.by_section,
-        )
+        is_as_before(alloc, paths, self.version, compared, section, before)
     }
 }
 
@@ -341,7 +322,7 @@ fn told_after(told: ToldFiles, table: &[HeldSpan], rest: &[HeldSpan]) -> ToldFil
     }
 }
 
-// Whether a section's answer, told by path, is the table's. It is told of some files whether they have the table's path.
+// Whether a section's answer by path is the table's. For some files it is known whether they have the table's path.
 fn are_alike<P: Paths>(
     alloc: Global,
     paths: &P,
@@ -364,7 +345,7 @@ fn are_alike<P: Paths>(
     }
 }
 
-// Whether an answer of a section, told by path, is this one. It is told of some files whether they have its path.
+// Whether an answer of a section by path is this one. For some files it is known whether they have its path.
 fn is_told_so<P: Paths>(
     alloc: Global,
     paths: &P,
@@ -401,7 +382,7 @@ fn is_as_held(one: Option<&AnswerByPath>, other: Option<&AnswerByPath>) -> bool
     }
 }
 
-// Whether two answers of a section are told alike. Two units may name the same file by different numbers.
+// Whether two answers of a section are the same by path. Two units may name the same file by different numbers.
 fn is_as_before<P: Paths>(
     alloc: Global,
     paths: &P,
@@ -428,7 +409,7 @@ fn is_as_before<P: Paths>(
     }
 }
 
-// The difference at which a stretch begins, with both answers told by path.
+// The difference at which a stretch begins, with both answers by path.
 fn difference_at<P: Paths>(
     alloc: Global,
     paths: &P,

@@ -1,8 +1,9 @@
 -- What a comparison knows after one more record, and its result.
-use Rattle.std.proofs.Common.{◌≡◌, ◌∙◌, ℕ, ◌+◌, ◌^◌, ◌<◌, List, [], ◌∷◌, ◌++◌, append-nil, append_assoc, length, length-append, refl, subst}
-use Rattle.std.proofs.Common.{sym, arith}
+use Rattle.std.proofs.Common.{◌≡◌, ◌∙◌, ℕ, ◌+◌, ◌^◌, ◌<◌, List, [], ◌∷◌, ◌++◌, append-nil, append_assoc, inl, inr, length, length-append, refl}
+use Rattle.std.proofs.Common.{sym, subst, arith}
 use Rattle.std.specs.List.{AllZip}
 use Rattle.lnt_spans.specs.declared.answer.Version.{Version}
+use Rattle.lnt_spans.specs.declared.answer.Version.TheVariants.{One, Two}
 use Rattle.lnt_spans.specs.declared.position.Position.{Position}
 use Rattle.lnt_spans.specs.declared.difference.Difference.{Difference}
 use Rattle.lnt_spans.specs.declared.span.Span.{Span}
@@ -14,10 +15,11 @@ use Rattle.lnt_records.specs.declared.fault.TableFault.{TableFault}
 use Rattle.lnt_records.specs.declared.fault.TableFault.TheVariants as fault
 use Rattle.lnt_records.specs.Faults.{AnswersAs, DiffersSo, IsFault, IsFaulty}
 use Rattle.csv.specs.Reading.{reader_state}
-use Rattle.lnt_records.specs.Passing.{IsCut}
+use Rattle.lnt_records.specs.Passing.{IsCutFront}
 use Rattle.lnt_records.specs.Progress.{Judges}
-use Rattle.lnt_records.specs.Reading.{BytesReader, HasRead}
-use Rattle.lnt_records.specs.Table.{BeginsWith, Fields, IsSpanRecord, IsTable, RecordsOf, column_names}
+use Rattle.lnt_records.specs.Reading.{BytesReader, HasRead, IsNarrow, IsReadAs, IsReadFor}
+use Rattle.lnt_records.specs.Table.{BeginsWith, Fields, IsSpanRecord, IsTable, RecordsOf, column_count, column_names}
+use Rattle.lnt_records.proofs.FrontLaws.{all_narrow}
 
 -- ---- one more record
 
@@ -109,6 +111,34 @@ difference_told to_come bytes comparison list section records difference j all s
       };
     }
 
+-- ---- a record of which only the first fields were read
+
+narrow : (version : Version) (fields : Fields) → length fields ≡ column_count version → IsNarrow fields
+narrow One fields e = omega (arith, e)
+narrow Two fields e = omega (arith, e)
+
+names_count : (version : Version) → length (column_names version) ≡ column_count version
+names_count One = refl
+names_count Two = refl
+
+-- Its fault is that of the whole record.
+faulty_as : (version : Version) (table : List Span) (number : ℕ) (fields whole : Fields) (told : TableFault) → IsReadAs fields whole
+    → IsFaulty version table number fields told → IsFaulty version table number whole told
+faulty_as version table number fields whole told (inl same) f =
+    subst (λ (r : Fields). IsFaulty version table number r told) (sym same) f
+faulty_as version table number fields whole fault.Header (inr wide) f = absurd f
+faulty_as version table number fields whole (fault.Fields k) (inr wide) f =
+    (f.0, λ e. absurd (let few = narrow version whole e in omega (arith, few, wide.1)))
+faulty_as version table number fields whole (fault.Number k i) (inr wide) f =
+    absurd (let few = narrow version fields f.1 in omega (arith, few, wide.0))
+faulty_as version table number fields whole (fault.Order k) (inr wide) f =
+    absurd (let few = narrow version fields f.2.count in omega (arith, few, wide.0))
+
+-- The header is in the front that is read.
+pub header_kept : (front text : List ℕ) (version : Version) → IsReadFor front text → BeginsWith text (column_names version ∷ [])
+    → BeginsWith front (column_names version ∷ [])
+header_kept front text version r = r.first (column_names version) (narrow version (column_names version) (names_count version))
+
 -- ---- records after lines that were cut out
 
 -- These records were read after the header of a text, and took the comparison from one state to another.
@@ -161,17 +191,24 @@ compared_few to_come before after text version first now fields list passed h re
 pub fault_after : {S : Type 0} (to_come : S → List Span → Type 0) (before after : BytesReader) (text bytes : List ℕ) (version : Version)
     (first now : Comparison S) (fields : Fields) (passed : List Fields) (table : List Span) (told : TableFault)
     → (h : HasCompared to_come before text version first now) → HasRead after text (column_names version ∷ (h.more ++ fields ∷ []))
-    → IsCut version text bytes passed
+    → IsCutFront version text bytes passed
     → IsTable now.version (column_names version ∷ (passed ++ h.more)) table
     → IsFaulty now.version table (length (column_names version ∷ (passed ++ h.more))) fields told → IsFault bytes told
 fault_after to_come before after text bytes version first now fields passed table told h read cut is_table faulty =
     let names : Fields = column_names version in
-    let all = cut (h.more ++ fields ∷ []) (reader_state after) read.rest read.reached in
-    let begins : BeginsWith bytes (names ∷ (passed ++ h.more ++ fields ∷ [])) =
-    subst (λ (records : List Fields). BeginsWith bytes (names ∷ records)) (sym (append_assoc passed h.more (fields ∷ [])))
-    (reader_state after, read.rest, all) in
-    fault_told bytes now.version (names ∷ (passed ++ h.more)) fields table told begins is_table faulty
+    let begun = cut.1.begins (names ∷ h.more) fields (reader_state after, read.rest, read.reached) in
+    let all = cut.2 (h.more ++ begun.0 ∷ []) begun.2.0 begun.2.1 begun.2.2 in
+    let begins : BeginsWith bytes (names ∷ (passed ++ h.more ++ begun.0 ∷ [])) =
+    subst (λ (records : List Fields). BeginsWith bytes (names ∷ records)) (sym (append_assoc passed h.more (begun.0 ∷ [])))
+    (begun.2.0, begun.2.1, all) in
+    fault_told bytes now.version (names ∷ (passed ++ h.more)) begun.0 table told begins is_table
+    (faulty_as now.version table (length (names ∷ (passed ++ h.more))) fields begun.0 told begun.1 faulty)
 
-pub all_after : (text bytes : List ℕ) (version : Version) (passed more : List Fields) → IsCut version text bytes passed
-    → RecordsOf text (column_names version ∷ more) → RecordsOf bytes (column_names version ∷ (passed ++ more))
-all_after text bytes version passed more cut all = (all.0, all.1, cut more all.0 all.1 all.2, all.3)
+pub all_after : (text bytes : List ℕ) (version v : Version) (passed more : List Fields) (table : List Span)
+    → IsCutFront version text bytes passed → RecordsOf text (column_names version ∷ more)
+    → IsTable v (column_names version ∷ (passed ++ more)) table → RecordsOf bytes (column_names version ∷ (passed ++ more))
+all_after text bytes version v passed more table cut all is_table =
+    let names : Fields = column_names version in
+    let each = all_narrow (IsSpanRecord v) (λ fields span says. narrow v fields says.count) passed more table is_table.1.each in
+    let whole = cut.1.all (names ∷ more) all (narrow version names (names_count version), each) in
+    (whole.0, whole.1, cut.2 more whole.0 whole.1 whole.2, whole.3)

@@ -23,7 +23,7 @@ use Rattle.lnt_records.specs.declared.remaining.Remaining.{Remaining}
 use Rattle.lnt_records.specs.Differing.{IsDiffering, IsStarted}
 use Rattle.lnt_records.specs.Progress.{IsContinuedBy, IsGathered}
 use Rattle.lnt_records.specs.declared.comparison.Comparison.{Comparison}
-use Rattle.lnt_records.specs.Passing.{IsCut, LeavesOff}
+use Rattle.lnt_records.specs.Passing.{IsCut, IsCutFront, LeavesOff}
 use Rattle.lnt_records.specs.Progress.{Judges}
 use Rattle.lnt_records.specs.Reading.{BytesReader, HasRead}
 use Rattle.lnt_records.specs.Table.{BeginsWith, Fields, IsSpanRecord, IsTable, IsTableOf, RecordsOf, column_names}
@@ -47,7 +47,7 @@ pub record HasGathered {S : Type 0} (to_come : S → List Span → Type 0) (read
 pub gathered_all : {S : Type 0} (to_come : S → List Span → Type 0) (reader : BytesReader) (text bytes : List ℕ) (version : Version)
     (old new : Comparison S) (spans list : List Span) (passed : List Fields)
     → (h : HasGathered to_come reader text version old new spans) → (j : Judges to_come old list (column_names version ∷ passed))
-    → old.version ≡ version → IsCut version text bytes passed
+    → old.version ≡ version → IsCutFront version text bytes passed
     → RecordsOf text (column_names version ∷ h.compared.more) → IsTableOf version bytes (j.table ++ spans)
 gathered_all to_come reader text bytes version old new spans list passed h j same cut rest =
     let now = h.compared.judged list passed j in
@@ -58,7 +58,7 @@ gathered_all to_come reader text bytes version old new spans list passed h j sam
     let spans_are = one_spans version (passed ++ h.compared.more) now.table (j.table ++ spans) table.1.each
     (zip_both (IsSpanRecord version) passed h.compared.more j.table spans before.1.each h.each) in (
       column_names version ∷ (passed ++ h.compared.more),
-      all_after text bytes version passed h.compared.more cut rest,
+      all_after text bytes version version passed h.compared.more now.table cut rest table,
       subst (IsTable version (column_names version ∷ (passed ++ h.compared.more))) spans_are table,
     )
 

@@ -2,6 +2,7 @@ pub mod BeginningLaws
 pub mod BegunLaws
 pub mod ColumnLemmas
 pub mod ComparisonLemmas
+pub mod FrontLaws
 pub mod GatherLemmas
 pub mod HeaderLaws
 pub mod JoinedLemmas

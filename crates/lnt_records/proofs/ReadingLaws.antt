@@ -58,10 +58,10 @@ step_ends st.AfterCr c =
     by_test (c == 10) (st.StartRecord, act.Skip) (start_record default_config c) (λ e. absurd (cc e)) (start_record_ends c)
 
 -- the bytes that are left after a record
-record Left (s : State) (bytes : List ℕ) (p : Read) : Type 0 where
-  between : ends_at_end p.1 ≡ false
-  no_more : length p.2 ≤ length bytes
-  fewer : ends_at_end s ≡ false → length p.2 < length bytes
+pub record Left (s : State) (bytes : List ℕ) (p : Read) : Type 0 where
+  pub between : ends_at_end p.1 ≡ false
+  pub no_more : length p.2 ≤ length bytes
+  pub fewer : ends_at_end s ≡ false → length p.2 < length bytes
 
 left_some : (s : State) (bytes : List ℕ) (p q : Read) → q ≡ p → Left s bytes q → Left s bytes p
 left_some s bytes p q e h = subst (Left s bytes) e h
@@ -69,7 +69,7 @@ left_some s bytes p q e h = subst (Left s bytes) e h
 pub same_read : (p q : Read) → Some p ≡ Some q → p ≡ q
 same_read p q e = cc
 
-record_left : (s : State) (fields : Fields) (field bytes : List ℕ) (p : Read) → next_record default_config s fields field bytes ≡ Some p
+pub record_left : (s : State) (fields : Fields) (field bytes : List ℕ) (p : Read) → next_record default_config s fields field bytes ≡ Some p
     → Left s bytes p
 unfolding next_record
 record_left s fields field [] p e = by (ends_at_end s) refl e

@@ -1,6 +1,6 @@
 -- A text that is cut off in its first record: with more bytes that record keeps the fields that it has, or gets more.
 use Rattle.std.proofs.Common.{◌≡◌, ◌∙◌, ℕ, ◌+◌, ◌<◌, ◌≤◌, Bool, true, false, List, [], ◌∷◌, ◌++◌, Option, Some, None, length, take, drop}
-use Rattle.std.proofs.Common.{length-append, refl, sym, ap, subst, arith}
+use Rattle.std.proofs.Common.{length-append, refl, sym, ap, arith}
 use Rattle.std.specs.Prelude.{◌==◌, if◌then◌else◌}
 use Rattle.std.proofs.lemmas.List.{take-append-drop}
 use Rattle.csv.specs.Machine.{Read, after_end, ends_at_end, ends_with, field_after, fields_after, in_field, is_end, next_record}
@@ -31,7 +31,7 @@ in_record st.AfterQuote = true
 in_record st.InEscape = true
 
 -- whether the text isn't in a comment, of which tables have none
-abbrev outside_comment : State → Bool
+abbrev pub outside_comment : State → Bool
 outside_comment st.InComment = false
 outside_comment st.StartRecord = true
 outside_comment st.AfterCr = true
@@ -105,10 +105,10 @@ step_outside st.AfterQuote c t = by_test IsOutside (c == 34) (st.InQuoted, act.C
 -- ---- its fields
 
 -- A record is read, with at least so many fields.
-record GivesRecord (count : ℕ) (o : Option Read) : Type 0 where
-  read : Read
-  is : o ≡ Some read
-  fields : count ≤ length read.0
+pub record GivesRecord (count : ℕ) (o : Option Read) : Type 0 where
+  pub read : Read
+  pub is : o ≡ Some read
+  pub fields : count ≤ length read.0
 
 fields_kept : (a : Action) (fields : Fields) (field : List ℕ) → length fields ≤ length (fields_after a fields field)
 fields_kept act.Skip fields field = omega arith
@@ -180,7 +180,7 @@ begun_read s fields field (c ∷ bytes) t =
         (omega (arith, fields_kept (step default_config s c).1 fields field)) (on e)
 
 -- With more bytes the record has no fewer fields.
-more_read : (s : State) (fields : Fields) (field bytes more : List ℕ) (p : Read) → outside_comment s ≡ true
+pub more_read : (s : State) (fields : Fields) (field bytes more : List ℕ) (p : Read) → outside_comment s ≡ true
     → next_record default_config s fields field bytes ≡ Some p
     → GivesRecord (length p.0) (next_record default_config s fields field (bytes ++ more))
 unfolding next_record
@@ -229,7 +229,7 @@ pub no_front : (bytes : List ℕ) → IsFrontOf [] bytes
 no_front bytes = record { more = bytes; joined = refl }
 
 -- a byte order mark is in the front, if there is one
-stripped_front : (front more : List ℕ) → 3 ≤ length front → strip_bom (front ++ more) ≡ strip_bom front ++ more
+pub stripped_front : (front more : List ℕ) → 3 ≤ length front → strip_bom (front ++ more) ≡ strip_bom front ++ more
 unfolding strip_bom
 stripped_front [] more le = absurd (omega (arith, le))
 stripped_front (a ∷ []) more le = absurd (omega (arith, le))

@@ -10,6 +10,7 @@ use Rattle.lnt_spans.specs.declared.span.Span.{Span}
 use Rattle.lnt_spans.specs.Comparing.{Compares, IsTold, Merging, end_of}
 use Rattle.lnt_spans.specs.Spans.{AreInOrder, version_answer}
 use Rattle.lnt_input.specs.Pulling.{Pulls}
+use Rattle.lnt_records.specs.Reading.{IsReadFor}
 use Rattle.lnt_records.specs.Table.{Fields, IsSpanRecord, column_names}
 use Rattle.lnt_records.specs.Written.{lines_text}
 
@@ -78,3 +79,7 @@ abbrev pub IsCut : Version → List ℕ → List ℕ → List Fields → Type 0
 IsCut version text bytes passed = (more : List Fields) (after : State) (rest : List ℕ)
     → Reached default_config state.StartRecord (strip_bom text) (column_names version ∷ more) after rest
     → Reached default_config state.StartRecord (strip_bom bytes) (column_names version ∷ (passed ++ more)) after rest
+
+-- The same for a text of which this prefix is read.
+abbrev pub IsCutFront : Version → List ℕ → List ℕ → List Fields → Type 0
+IsCutFront version front bytes passed = (text : List ℕ) × IsReadFor front text × IsCut version text bytes passed

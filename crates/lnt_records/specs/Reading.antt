@@ -1,12 +1,13 @@
 -- A reader of the records in some bytes in memory: what it has read, and what it has left.
-use Rattle.std.specs.Prelude.{◌≡◌, ℕ, ◌+◌, ◌≤◌, ◌++◌, true, false, List, Option, Some, None, length}
+use Rattle.std.specs.Prelude.{◌≡◌, ◌⊎◌, ℕ, ◌+◌, ◌<◌, ◌≤◌, [], ◌∷◌, ◌++◌, true, false, List, Option, Some, None, length}
+use Rattle.std.specs.List.{AllByRecursion}
 use Rattle.std.proofs.Common.{Bor}
 use Rattle.csv.specs.Machine.{ends_at_end}
 use Rattle.csv.specs.Reading.{Reached, Ready, default_config, is_flexible, reader_config, reader_state, reader_trim, source_of, strip_bom}
 use Rattle.csv.specs.declared.parser.State.TheVariants as state
 use Rattle.csv.specs.declared.reader.Reader.{Reader}
 use Rattle.csv.specs.declared.reader.Trim.TheVariants as trim
-use Rattle.lnt_records.specs.Table.{Fields}
+use Rattle.lnt_records.specs.Table.{BeginsWith, Fields, RecordsOf}
 
 -- a reader of bytes in memory
 abbrev pub BytesReader : Type 0
@@ -36,3 +37,27 @@ pub record HasRead (reader : BytesReader) (bytes : List ℕ) (records : List Fie
   pub left : bytes_left reader ≡ Some rest
   pub reached : Reached default_config state.StartRecord (strip_bom bytes) records (reader_state reader) rest
   pub few : length records + length rest ≤ length bytes
+
+-- ---- a record with more fields than any table has columns, of which only the first are read
+
+-- The last record of the bytes is such a record.
+pub record EndsWide (bytes : List ℕ) : Type 0 where
+  pub records : List Fields
+  pub last : Fields
+  pub all : RecordsOf bytes (records ++ last ∷ [])
+  pub wide : 11 < length last
+
+-- A record that was read in the place of another: it is the same, or both are such records.
+abbrev pub IsReadAs : Fields → Fields → Type 0
+IsReadAs fields whole = (whole ≡ fields) ⊎ (11 < length fields) × (11 < length whole)
+
+abbrev pub IsNarrow : Fields → Type 0
+IsNarrow fields = length fields ≤ 11
+
+-- The records of the prefix are those of the bytes, up to such a record if the prefix isn't all of them.
+pub record IsReadFor (front bytes : List ℕ) : Type 0 where
+  pub few : length front ≤ length bytes
+  pub first : (fields : Fields) → IsNarrow fields → BeginsWith bytes (fields ∷ []) → BeginsWith front (fields ∷ [])
+  pub begins : (records : List Fields) (fields : Fields) → BeginsWith front (records ++ fields ∷ [])
+      → (whole : Fields) × IsReadAs fields whole × BeginsWith bytes (records ++ whole ∷ [])
+  pub all : (records : List Fields) → RecordsOf front records → AllByRecursion IsNarrow records → RecordsOf bytes records

@@ -5,7 +5,7 @@ ghost use Rattle.lnt_spans.specs.declared.span.Span.{Span};
 ghost use Rattle.lnt_spans.specs.declared.position.Position.{Position};
 ghost use Rattle.lnt_spans.specs.Spans.{AreInOrder, version_answer};
 ghost use Rattle.lnt_records.specs.Faults.{IsComparison, IsFaulty};
-ghost use Rattle.lnt_records.specs.Passing.{IsCut};
+ghost use Rattle.lnt_records.specs.Passing.{IsCut, IsCutFront};
 ghost use Rattle.lnt_records.specs.Progress.{Judges};
 ghost use Rattle.lnt_records.specs.Reading.{HasRead};
 ghost use Rattle.lnt_records.specs.Table.{BeginsWith, Fields, IsSpanRecord, IsTable, column_names};
@@ -13,7 +13,7 @@ ghost use Rattle.lnt_records.specs.Table.{BeginsWith, Fields, IsSpanRecord, IsTa
 use crate::fault::TableFault;
 use crate::reading::{read_header, read_next, reader_of};
 use crate::record::{RecordFault, span_of};
-use crate::wide::begins_wide;
+use crate::wide::{begins_wide, up_to_wide};
 use csv::{ByteRecord, Reader};
 use lnt_spans::{Difference, Merge, Span, SpanSlice, SpanSource, Version};
 use std::alloc::{AllocError, Global};
@@ -93,7 +93,7 @@ pub(crate) fn compare_after<S: SpanSource + Drop>(
         → IsCut version text.now bytes passed → ((p : Position) → version_answer version list p ≡ version_answer version section p)
         → IsComparison bytes section compared) }
 {
-    let mut reader = reader_of(alloc, text);
+    let mut reader = reader_of(alloc, up_to_wide(alloc, text)?);
     let mut row = ByteRecord::new(alloc);
     let comparison = Comparison {
         merge,
@@ -115,7 +115,7 @@ fn compare_rest<S: SpanSource + Drop>(
         × Judges S.to_come comparison list (column_names comparison.version ∷ passed) }
     ensures { IfOk result (λ compared. (text : List ℕ) (list section : List Span) (passed : List Fields) (bytes : List ℕ)
         → HasRead reader.old text [] → BeginsWith text (column_names comparison.version ∷ [])
-        → Judges S.to_come comparison list (column_names comparison.version ∷ passed) → IsCut comparison.version text bytes passed
+        → Judges S.to_come comparison list (column_names comparison.version ∷ passed) → IsCutFront comparison.version text bytes passed
         → ((p : Position) → version_answer comparison.version list p ≡ version_answer comparison.version section p)
         → IsComparison bytes section compared) }
 {

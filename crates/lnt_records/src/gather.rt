@@ -2,7 +2,7 @@
 ghost use Rattle.std.specs.Prelude.{◌+◌, ◌^◌, ◌<◌, ℕ, List, [], ◌∷◌, length, IfOk};
 ghost use Rattle.lnt_spans.specs.declared.span.Span.{Span};
 ghost use Rattle.lnt_records.specs.Progress.{IsGathered};
-ghost use Rattle.lnt_records.specs.Passing.{IsCut};
+ghost use Rattle.lnt_records.specs.Passing.{IsCut, IsCutFront};
 ghost use Rattle.lnt_records.specs.Progress.{Judges};
 ghost use Rattle.lnt_records.specs.Reading.{HasRead};
 ghost use Rattle.lnt_records.specs.Table.{BeginsWith, Fields, column_names};
@@ -10,6 +10,7 @@ ghost use Rattle.lnt_records.specs.Table.{BeginsWith, Fields, column_names};
 use crate::comparison::Comparison;
 use crate::fault::TableFault;
 use crate::reading::{read_next, reader_of};
+use crate::wide::up_to_wide;
 use csv::{ByteRecord, Reader};
 use lnt_spans::{Merge, Span, SpanSource, Version};
 use std::alloc::{AllocError, Global};
@@ -42,7 +43,7 @@ pub(crate) fn gather_after<S: SpanSource + Drop>(
         → (j : Judges S.to_come (record { merge = merge; version = version; count = count }) list (column_names version ∷ passed))
         → IsCut version text.now bytes passed → IsGathered bytes version j.table gathered) }
 {
-    let mut reader = reader_of(alloc, text);
+    let mut reader = reader_of(alloc, up_to_wide(alloc, text)?);
     let mut row = ByteRecord::new(alloc);
     let mut comparison = Comparison {
         merge,
@@ -66,7 +67,7 @@ fn gather_rest<S: SpanSource + Drop>(
     ensures { IfOk result (λ gathered. (text : List ℕ) (list : List Span) (passed : List Fields) (bytes : List ℕ)
         → HasRead reader.old text [] → BeginsWith text (column_names comparison.old.version ∷ [])
         → (j : Judges S.to_come comparison.old list (column_names comparison.old.version ∷ passed))
-        → IsCut comparison.old.version text bytes passed → IsGathered bytes comparison.old.version j.table gathered) }
+        → IsCutFront comparison.old.version text bytes passed → IsGathered bytes comparison.old.version j.table gathered) }
 {
     read_next(reader, row)?;
     let mut spans = Vec::new(alloc);

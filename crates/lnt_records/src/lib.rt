@@ -34,5 +34,5 @@ pub use fault::{TableFault, WriteStop};
 pub use reading::{read_first, read_next, reader_of};
 pub use remaining::Remaining;
 pub use stream::{TableRead, compare_or_take, compare_table};
-pub use wide::begins_wide;
+pub use wide::{begins_wide, up_to_wide};
 pub use write::write_spans;

@@ -1,6 +1,6 @@
-//! Bytes whose record 0 has more fields than any table has columns, told without that record being held.
+//! Records with more fields than any table has columns: no such record is held whole.
 ghost use Rattle.std.specs.Prelude.{◌<◌, ◌++◌, IsTrue, IfOk, ℕ, List, [], ◌∷◌, length};
-ghost use Rattle.lnt_records.specs.Reading.{IsFrontOf};
+ghost use Rattle.lnt_records.specs.Reading.{EndsWide, IsFrontOf, IsReadFor};
 ghost use Rattle.lnt_records.specs.Table.{BeginsWith, Fields};
 
 use crate::reading::{read_next, reader_of};
@@ -9,6 +9,12 @@ use std::alloc::{AllocError, Global};
 
 // The most columns that a table of any version has.
 const MOST: usize = 11;
+
+// The number of bytes in a block. A record without quotes that fills none has less than twice as many.
+const LONG: usize = 1 << 16;
+
+// A byte order mark, which `csv` passes.
+const MARK: &[u8] = b"\xEF\xBB\xBF";
 
 // Where the next byte stands in a field, as `csv` reads it.
 #[derive(Clone, Copy)]
@@ -29,7 +35,7 @@ enum Place {
 pub fn begins_wide(alloc: Global, bytes: &[u8]) -> Result<bool, AllocError>
     ensures { IfOk result (λ wide. IsTrue wide → (fields : Fields) → BeginsWith bytes.now (fields ∷ []) → 11 < length fields) }
 {
-    let front = front_of(bytes);
+    let front = front_of(bytes, true);
     if front.len() < 3 {
         return Ok(false);
     }
@@ -41,16 +47,74 @@ pub fn begins_wide(alloc: Global, bytes: &[u8]) -> Result<bool, AllocError>
     Ok(row.len() > MOST)
 }
 
-// The bytes before the comma with which record 0 gets too many fields. None of them where it has no such comma.
+/// The bytes to read records from in place of these: all of them, or a prefix that ends within a record with too many fields,
+/// none of which the caller needs. So that record isn't held whole. Fails only if memory runs out.
+pub fn up_to_wide<'a>(alloc: Global, bytes: &'a [u8]) -> Result<&'a [u8], AllocError>
+    ensures { IfOk result (λ front. IsReadFor front.now bytes.now) }
+{
+    if !may_be_long(bytes) {
+        return Ok(bytes);
+    }
+    let front = front_of(bytes, false);
+    if front.len() < 3 || !ends_wide(alloc, front)? {
+        return Ok(bytes);
+    }
+    Ok(front)
+}
+
+// Whether a record may be long: one with quotes, or one that fills a block. Others, with too many fields or not, are held.
+fn may_be_long(bytes: &[u8]) -> bool {
+    if bytes.contains(&b'"') {
+        return true;
+    }
+    for block in bytes.chunks(LONG) {
+        if block.len() == LONG && !block.contains(&b'\n') {
+            return true;
+        }
+    }
+    false
+}
+
+// Whether the last record of these bytes has more fields than any table has columns.
+#[inline(never)]
+fn ends_wide(alloc: Global, bytes: &[u8]) -> Result<bool, AllocError>
+    ensures { IfOk result (λ wide. IsTrue wide → EndsWide bytes.now) }
+{
+    let mut reader = reader_of(alloc, bytes);
+    let mut row = ByteRecord::new(alloc);
+    let mut fields = 0;
+    while read_next(&mut reader, &mut row)? {
+        fields = row.len();
+    }
+    Ok(fields > MOST)
+}
+
+// The bytes before the comma with which a record gets too many fields: the first such record, or record 0 alone. None if
+// there is no such comma.
 #[tactic(auto, using(crate::proofs::WideLemmas::front_taken, crate::proofs::WideLemmas::no_front))]
-fn front_of(bytes: &[u8]) -> &[u8]
+fn front_of(bytes: &[u8], is_first_alone: bool) -> &[u8]
     ensures { IsFrontOf result.now bytes.entry.now }
 {
     let mut commas = 0;
     let mut place = Place::Start;
+    let mark = if bytes.starts_with(MARK) {
+        MARK.len()
+    } else {
+        0
+    };
     for (i, byte) in bytes.iter().enumerate() {
+        if i < mark {
+            continue;
+        }
+        if *byte > b',' && matches!(place, Place::Start | Place::Plain) {
+            place = Place::Plain;
+            continue;
+        }
         if commas > 0 && ends_record(place, *byte) {
-            return &[];
+            if is_first_alone {
+                return &[];
+            }
+            commas = 0;
         }
         if ends_field(place, *byte) {
             if commas == MOST {

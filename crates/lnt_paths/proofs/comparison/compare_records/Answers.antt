@@ -1,8 +1,8 @@
 use Rattle.std.proofs.Common.{◌∷◌, [], ◌++◌, arith, length-append}
 use Rattle.csv.specs.Records.{fields_of}
 use Rattle.lnt_paths.specs.PathAnswers.{path_answer}
-use Rattle.lnt_paths.proofs.ComparisonLemmas.{difference_told, fault_told, same_told}
-use Rattle.lnt_paths.proofs.PassingLemmas.{all_on, begins_more, first_there, judges_more, judges_nil}
+use Rattle.lnt_paths.proofs.ComparisonLemmas.{difference_told, same_told}
+use Rattle.lnt_paths.proofs.PassingLemmas.{all_on, fault_on, first_there, judges_more, judges_nil}
 use Rattle.lnt_paths.proofs.comparison.compare_records.Goals as goal
 
 pub loop-comparison-init : goal.loop-comparison-init
@@ -36,10 +36,8 @@ returns-in-Some g c text bytes records list none past j =
     let inv = c.loop-comparison.invariant in
     let now = rw c.if-branch.true at c.in_ok-read_next-2.ensures.read text (inv.0 ∷ inv.1) (inv.2 text bytes records none past) in
     let stops = rw c.in-Some.is at c.in-Ok.ensures.judged list (records ++ inv.1) (inv.5 list records j) in
-    fault_told bytes c.args.version (records ++ inv.1) (fields_of c.read_next-in-loop-comparison.new.row) stops.0 c.in-Some.fault
-    (begins_more c.read_next-in-loop-comparison.new.reader bytes text records inv.1 inv.0
-    (fields_of c.read_next-in-loop-comparison.new.row) past now)
-    stops.1 stops.2
+    fault_on c.read_next-in-loop-comparison.new.reader bytes text records inv.1 inv.0
+    (fields_of c.read_next-in-loop-comparison.new.row) c.args.version stops.0 c.in-Some.fault past now stops.1 stops.2
 
 pub loop-comparison-preserved : goal.loop-comparison-preserved
 loop-comparison-preserved g c =
@@ -67,7 +65,8 @@ returns-in-Ok-Some g c text bytes records list none past judged =
     let j = inv.5 list records judged in
     difference_told g.S.SpanSource.to_come (λ version. path_answer version (g.P.Paths.bytes_of c.args.paths.now)) c.args.version
     c.loop-comparison.comparison
-    bytes list (records ++ inv.1) c.in-Ok-Some.difference j (all_on bytes text records inv.1 inv.0 past rest)
+    bytes list (records ++ inv.1) c.in-Ok-Some.difference j
+    (all_on bytes text records inv.1 inv.0 c.args.version j.table past rest j.is_table)
     (rw c.in-Ok-Some.field-0-is at c.in-Ok-Some.ensures list j.table j.merged)
 
 pub returns-in-Ok-None : goal.returns-in-Ok-None
@@ -77,5 +76,5 @@ returns-in-Ok-None g c text bytes records list none past judged =
     let j = inv.5 list records judged in
     same_told g.S.SpanSource.to_come (λ version. path_answer version (g.P.Paths.bytes_of c.args.paths.now)) c.args.version
     c.loop-comparison.comparison
-    bytes list (records ++ inv.1) j (all_on bytes text records inv.1 inv.0 past rest)
+    bytes list (records ++ inv.1) j (all_on bytes text records inv.1 inv.0 c.args.version j.table past rest j.is_table)
     (rw c.in-Ok-None.field-0-is at c.in-Ok-None.ensures list j.table j.merged)

@@ -3,13 +3,13 @@ use Rattle.lnt_records.specs.Reading.{HasRead, bytes_left, known_length}
 use Rattle.lnt_records.specs.Table.{Fields}
 use Rattle.lnt_spans.specs.declared.span.Span.{Span}
 use Rattle.lnt_paths.specs.Merging.{AreKnownOf, JudgesByPath}
-use Rattle.lnt_paths.specs.Passing.{IsAfter}
+use Rattle.lnt_paths.specs.Passing.{IsAfterFront}
 use Rattle.lnt_paths.specs.PathAnswers.{path_answer}
 use Rattle.lnt_paths.proofs.comparison.compare_records.Given as goal
 
 abbrev pub invariant-loop-comparison : goal.invariant-loop-comparison
 invariant-loop-comparison g l = (first : Fields) × (more : List Fields)
-    × ((text bytes : List ℕ) (records : List Fields) → HasRead l.fn.reader text [] → IsAfter bytes text records
+    × ((text bytes : List ℕ) (records : List Fields) → HasRead l.fn.reader text [] → IsAfterFront bytes text records
     → HasRead l.reader text (first ∷ more))
     × AreKnownOf (g.P.Paths.bytes_of l.paths) l.comparison.known.slots.items
     × (l.comparison.count ≡ l.fn.comparison.count + length more)

@@ -54,8 +54,8 @@ returns-in-Some-finish g c text list section passed bytes none begins j cut same
     let version = c.args.comparison.version in
     let h = c.loop-comparison.invariant text none begins in
     let rest = rw c.if-branch.false at c.in_ok-read_next-2.ensures.read text (column_names version ∷ h.more) h.read in
-    let all = all_after text bytes version passed h.more cut rest in
     let now = h.judged list passed j in
+    let all = all_after text bytes version _ passed h.more now.table cut rest now.is_table in
     let so : AnswersSo c.loop-comparison.comparison.version list section = rw h.version_is same in
     difference_told g.S.SpanSource.to_come bytes c.loop-comparison.comparison list section _ c.in-Some-finish.difference now all so
     (c.in-Some-finish.ensures list now.table now.compares)
@@ -65,8 +65,8 @@ returns-in-None g c text list section passed bytes none begins j cut same =
     let version = c.args.comparison.version in
     let h = c.loop-comparison.invariant text none begins in
     let rest = rw c.if-branch.false at c.in_ok-read_next-2.ensures.read text (column_names version ∷ h.more) h.read in
-    let all = all_after text bytes version passed h.more cut rest in
     let now = h.judged list passed j in
+    let all = all_after text bytes version _ passed h.more now.table cut rest now.is_table in
     let so : AnswersSo c.loop-comparison.comparison.version list section = rw h.version_is same in
     same_told g.S.SpanSource.to_come bytes c.loop-comparison.comparison list section _ now all so
     (c.in-None.ensures list now.table now.compares)
