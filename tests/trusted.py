@@ -1,5 +1,5 @@
-"""Finds the definitions that the contract of `lnt_table::check` leads to, name by name, and compares their files with those of
-docs/TRUSTED.md: which they are, that each stands after those that it needs, and how many lines they have, also of a Yes alone.
+"""Finds the definitions that the contract of `lnt_cli::run` leads to for a `check`, name by name, and compares their files with those
+of docs/TRUSTED.md: which they are, that each stands after those that it needs, and how many lines they have, also of a Yes alone.
 And looks whether each file of specs/ begins with a sentence that says what it defines, which `docs/list definitions` prints."""
 
 import glob
@@ -8,9 +8,22 @@ import re
 import sys
 
 TOP = os.path.dirname(os.path.dirname(os.path.abspath(__file__)))
-CONTRACT = "crates/lnt_table/src/checking.rt", "check"
-# What the contract says where the answer is Yes.
-HEADLINE = ("Rattle.lnt_table.specs.Headline", "AnswersRight")
+CONTRACT = "crates/lnt_cli/src/program.rt", "run"
+# The clause of the contract that answers come by, what it says of a check, and what that says where the answer is `yes`.
+CLAUSE = ("Rattle.lnt_cli.specs.Runs", "AnswersWords")
+ASKED = ("Rattle.lnt_words.specs.Asking", "IsAskedBy")
+CHECK = [ASKED, ("Rattle.lnt_cli.specs.Answered", "AnswersCheck")]
+YES = [
+    ASKED,
+    ("Rattle.lnt_cli.specs.Answered", "AreTextsOf"),
+    ("Rattle.lnt_cli.specs.Answered", "options_in"),
+    ("Rattle.lnt_table.specs.Headline", "AnswersRight"),
+    ("Rattle.lnt_lines.specs.Good", "IsGood"),
+    ("Rattle.lnt_records.specs.Table", "BeginsWith"),
+    ("Rattle.lnt_records.specs.Table", "column_names"),
+    ("Rattle.lnt_paths.specs.PathDifferences", "AnswersByPath"),
+    ("Rattle.lnt_table.specs.ByPath", "answer_by_path"),
+]
 COUNTS = r"(\d+) lines of definitions in (\d+) files"
 COUNTS_OF_YES = r"(\d+) lines in (\d+) files for a Yes"
 WORDS = r"(?:(?:abbrev|unfoldable|opaque|pub|record|data) )+"
@@ -56,14 +69,15 @@ def contract():
     with open(os.path.join(TOP, CONTRACT[0]), encoding="utf-8") as file:
         text = file.read()
     head = re.search(r"(?ms)^pub fn %s\b.*?^\{$" % CONTRACT[1], text)[0]
-    words = set(re.split(r"[\s(){},.;:]+", re.sub(r"(?m)^ *//.*", "", head[head.index("    requires ") :])))
+    words = set(re.split(r"[\s(){},.;:]+", re.sub(r"(?m)^ *//.*", "", head[head.index("    ensures ") :])))
     uses = re.findall(r"(?m)^ghost use (Rattle\.lnt_\w+\.specs\.[\w.]+)\.\{(.*)\};", text)
     named = [(place, name.strip()) for place, names in uses for name in names.split(",")]
     return [(place, name) for place, name in named if ".declared." not in place and name in words]
 
 
 def closure(starts):
-    """The files that some definitions lead to, each with the number of its lines that they need, and with the files that these name."""
+    """The files that some definitions lead to, each with the number of its lines that they need, and with the files that these name;
+    and all names that they lead to."""
     texts, seen, left, lines, needs = {}, set(), list(starts), {}, {}
     while left:
         module, name = left.pop()
@@ -82,7 +96,7 @@ def closure(starts):
         others = [place_of for other, place_of in brought.items() if is_named(other, words)]
         needs.setdefault(place, set()).update(file_of(other) for other, _ in others if ".declared." not in other)
         left += others + [(module, other) for other in defined if other != name and is_named(other, words)]
-    return lines, needs
+    return lines, needs, seen
 
 
 def said(page, pattern, lines):
@@ -105,17 +119,26 @@ def undescribed():
     return len(files - wrong), ["%s doesn't begin with a sentence that says what it defines" % name for name in sorted(wrong)]
 
 
+def leads():
+    """Whether the contract leads to what is said of a check, and that to what is said of a yes."""
+    of_contract = contract()
+    if CLAUSE not in of_contract:
+        return ["the contract of %s names no %s" % (CONTRACT[1], CLAUSE[1])]
+    _, _, named = closure([CLAUSE])
+    _, _, of_check = closure(CHECK)
+    return ["%s doesn't lead to %s" % (CLAUSE[1], name) for module, name in CHECK if (module, name) not in named] + [
+        "nothing that is said of a check leads to %s" % name for module, name in YES if (module, name) not in of_check
+    ]
+
+
 def main():
-    starts = contract()
-    if HEADLINE[0] not in [place for place, _ in starts]:
-        sys.exit("failed: %s names nothing of %s" % (CONTRACT[0], HEADLINE[0]))
-    lines, needs = closure(starts)
-    of_yes, _ = closure([HEADLINE])
+    lines, needs, _ = closure(CHECK)
+    of_yes, _, _ = closure(YES)
     with open(os.path.join(TOP, "docs", "TRUSTED.md"), encoding="utf-8") as file:
         page = file.read()
     listed = re.findall(r"\]\(\.\./(crates/\w+/specs/[\w/]+\.antt)\)", page.partition("\n## The contract\n")[0])
     passed = sum(listed.count(name) == 1 for name in lines)
-    wrong = ["%s isn't listed, or twice" % name for name in lines if listed.count(name) != 1]
+    wrong = leads() + ["%s isn't listed, or twice" % name for name in lines if listed.count(name) != 1]
     wrong += ["%s is listed, and nothing leads to it" % name for name in listed if name not in lines]
     for at, name in enumerate(listed):
         late = [other for other in needs.get(name, ()) if other != name and other not in listed[:at]]
@@ -125,7 +148,7 @@ def main():
     for text in ["docs/TRUSTED.md: " + text for text in wrong] + unsaid:
         print("failed: " + text)
     crates = {name.split("/")[1] for name in lines}
-    names = ", ".join(name for _, name in starts)
+    names = ", ".join(name for _, name in CHECK)
     print("%s lead to %d lines in %d files of %d crates" % (names, sum(lines.values()), len(lines), len(crates)))
     print("%d passed, %d failed" % (passed + described, len(wrong) + len(unsaid)))
     sys.exit(1 if wrong or unsaid else 0)

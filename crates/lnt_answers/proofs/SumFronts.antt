@@ -12,7 +12,8 @@ use Rattle.lnt_sources.specs.Files.{TellsNoMore}
 use Rattle.lnt_sources.specs.declared.status.Status.{Status}
 use Rattle.lnt_sums.specs.declared.sums.Agreement.{Agreement}
 use Rattle.lnt_text.specs.Quotes.{quoted_text}
-use Rattle.lnt_lines.specs.Indexed.{file_path_in, file_sum_in, Indexed, path_or_empty}
+use Rattle.lnt_lines.specs.Indexed.{file_path_in, file_sum_in, Indexed}
+use Rattle.lnt_files.specs.Paths.{path_or_empty}
 use Rattle.lnt_answers.specs.SumLines.{AreSumsTold, Finding, IsTrueOfFile, IsTrueFinding, found_status, found_text, head_text}
 use Rattle.lnt_answers.specs.SumLines.{listed_at, listed_below, listed_in, file_of, sum_line, sums_status}
 use Rattle.lnt_answers.proofs.SumLaws.{true_later}

@@ -4,7 +4,8 @@ use Rattle.std.specs.List.{AllByRecursion}
 use Rattle.lnt_sources.specs.Files.{TellsNoMore}
 use Rattle.lnt_sources.specs.declared.status.Status.{Status}
 use Rattle.lnt_sums.specs.declared.sums.Agreement.{Agreement}
-use Rattle.lnt_lines.specs.Indexed.{file_path_in, file_sum_in, Indexed, path_or_empty}
+use Rattle.lnt_lines.specs.Indexed.{file_path_in, file_sum_in, Indexed}
+use Rattle.lnt_files.specs.Paths.{path_or_empty}
 use Rattle.lnt_answers.specs.SumLines.{AreSumsTold, Finding, IsTrueOfFile, IsTrueFinding}
 
 found_later : (tells tells' : Option (List ℕ) → Type 0) (listed : List ℕ) (found : Option Agreement)

@@ -13,7 +13,8 @@ use Rattle.lnt_sources.specs.declared.status.Status.TheVariants.{Done, No}
 use Rattle.lnt_sums.specs.declared.sums.Agreement.{Agreement}
 use Rattle.lnt_sums.specs.declared.sums.Agreement.TheVariants.{Same, Differs}
 use Rattle.lnt_text.specs.Quotes.{quoted_text}
-use Rattle.lnt_lines.specs.Indexed.{file_path_in, file_sum_in, Indexed, path_or_empty}
+use Rattle.lnt_lines.specs.Indexed.{file_path_in, file_sum_in, Indexed}
+use Rattle.lnt_files.specs.Paths.{path_or_empty}
 use Rattle.lnt_answers.proofs.SumLaws.{true_later}
 use Rattle.lnt_answers.specs.SumLines.{AreSumsTold, Finding, IsTrueFinding, IsTrueOfFile, both, file_of, found_status, found_text}
 use Rattle.lnt_answers.specs.SumLines.{head_text, listed_at, listed_below, listed_in, sum_line, sums_status}

@@ -3,7 +3,8 @@ use Rattle.std.specs.Prelude.{ℕ, List, [], ◌∷◌, ◌++◌, Option, None, 
 use Rattle.std.specs.List.{flat_map}
 use Rattle.csv.specs.Writing.{default_writer, row_text}
 use Rattle.hex.specs.Hex.{encode_lower}
-use Rattle.lnt_lines.specs.Indexed.{file_count_in, file_path_in, file_sum_in, Indexed, path_or_empty}
+use Rattle.lnt_lines.specs.Indexed.{file_count_in, file_path_in, file_sum_in, Indexed}
+use Rattle.lnt_files.specs.Paths.{path_or_empty}
 
 -- the hexadecimal digits of a sum; empty if none is listed
 abbrev pub sum_field : Option (List ℕ) → List ℕ

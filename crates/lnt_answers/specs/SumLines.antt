@@ -12,7 +12,8 @@ use Rattle.lnt_sums.specs.declared.sums.Agreement.{Agreement}
 use Rattle.lnt_sums.specs.declared.sums.Agreement.TheVariants.{Same, Differs}
 use Rattle.lnt_sums.specs.Agreements.{Agrees}
 use Rattle.lnt_text.specs.Quotes.{quoted_text}
-use Rattle.lnt_lines.specs.Indexed.{file_count_in, file_path_in, file_sum_in, Indexed, path_or_empty}
+use Rattle.lnt_lines.specs.Indexed.{file_count_in, file_path_in, file_sum_in, Indexed}
+use Rattle.lnt_files.specs.Paths.{path_or_empty}
 
 -- ---- the files with a listed sum, each by its unit's offset and its index, in the order of the section
 

@@ -5,7 +5,8 @@ ghost use Rattle.csv.specs.Writing as csv;
 ghost use Rattle.lnt_output.specs.Fronts.{AppendsFront};
 ghost use Rattle.lnt_sources.specs.declared.status.Status.TheVariants.{Done};
 ghost use Rattle.lnt_sources.specs.Halts.{IsPrinting};
-ghost use Rattle.lnt_lines.specs.Indexed.{file_count_in, file_path_in, file_sum_in, path_or_empty};
+ghost use Rattle.lnt_lines.specs.Indexed.{file_count_in, file_path_in, file_sum_in};
+ghost use Rattle.lnt_files.specs.Paths.{path_or_empty};
 ghost use Rattle.lnt_answers.specs.FileLines.{file_record, files_text, sum_field, unit_records};
 
 use csv::Writer;

@@ -1,6 +1,6 @@
 -- The full paths of files (DWARF 5, section 6.2.4.1). Directory 0 is the compilation directory.
 --     line, general   the bytes of .debug_line_str and of .debug_str
-use Rattle.std.specs.Prelude.{ℕ, ◌-◌, ◌==◌, ◌||◌, Bool, false, cond, List, ◌∷◌, ◌++◌, length, Option, Some, None}
+use Rattle.std.specs.Prelude.{ℕ, ◌-◌, ◌==◌, ◌||◌, Bool, false, cond, List, [], ◌∷◌, ◌++◌, length, Option, Some, None}
 use Rattle.std.specs.List.{slice_get}
 use Rattle.std.specs.Option.{option_map, option_and_then}
 use Rattle.lnt_header.specs.declared.header.Entry.{Entry}
@@ -53,6 +53,11 @@ file_path line general h file =
 -- the path of the file with this number
 abbrev pub path_bytes : List ℕ → List ℕ → HeaderParts → ℕ → Option (List ℕ)
 path_bytes line general h number = option_and_then (file_path line general h) (slice_get h.files number)
+
+-- what is written for a path in a field of a record; empty if there is none, but each counted file has one
+abbrev pub path_or_empty : Option (List ℕ) → List ℕ
+path_or_empty (Some path) = path
+path_or_empty None = []
 
 -- the MD5 sum that is listed for the file with this number
 abbrev pub listed_sum : HeaderParts → ℕ → Option (List ℕ)

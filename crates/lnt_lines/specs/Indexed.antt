@@ -1,5 +1,5 @@
 -- What is kept of a good section by its sequences: the place of each, the programs of their units, and the string sections.
-use Rattle.std.specs.Prelude.{◌≡◌, ◌<◌, ◌==◌, Bool, ℕ, List, [], length, map, get_or, Option, None, Some}
+use Rattle.std.specs.Prelude.{◌≡◌, ◌<◌, ◌==◌, Bool, ℕ, List, length, map, get_or, Option, Some}
 use Rattle.std.specs.List.{AllByRecursion, AllZip, position, slice_get}
 use Rattle.std.specs.List.Sorted.{IsPermutation}
 use Rattle.std.specs.Option.{option_and_then, option_map, option_map_or}
@@ -69,11 +69,6 @@ file_count_in index unit = option_map_or (λ header. length header.files) (heade
 -- the path of one of its files, if it exists
 abbrev pub file_path_in : Indexed → ℕ → ℕ → Option (List ℕ)
 file_path_in index unit file = option_and_then (λ header. path_bytes index.line index.general header file) (header_in index unit)
-
--- what is written for a path in a field of a record; empty if there is none, but each counted file has one
-abbrev pub path_or_empty : Option (List ℕ) → List ℕ
-path_or_empty (Some path) = path
-path_or_empty None = []
 
 -- the MD5 sum that is listed for one of its files
 abbrev pub file_sum_in : Indexed → ℕ → ℕ → Option (List ℕ)

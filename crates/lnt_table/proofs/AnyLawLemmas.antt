@@ -1,5 +1,6 @@
 -- Which answers of `check_any` can be true of one section and one table.
 use Rattle.std.proofs.Common.{◌≡◌, ℕ, List, length, refl, sym, ap, arith}
+use Rattle.lnt_header.specs.declared.unit_parts.UnitParts.{UnitParts}
 use Rattle.lnt_spans.specs.declared.answer.Version.{Version}
 use Rattle.lnt_spans.specs.declared.answer.Version.TheVariants.{One, Two}
 use Rattle.lnt_records.specs.declared.fault.TableFault.TheVariants as fault
@@ -12,8 +13,7 @@ use Rattle.lnt_paths.proofs.BeginningLaws.{path_table_begins}
 use Rattle.lnt_paths.specs.PathTables.{path_column_names}
 use Rattle.lnt_paths.specs.Written.{IsCanonicalPathTable}
 use Rattle.lnt_lines.specs.declared.options.Options.{Options}
-use Rattle.lnt_lines.specs.Drafts.{IsIndexOfSection}
-use Rattle.lnt_lines.specs.Indexed.{Indexed}
+use Rattle.lnt_lines.specs.Good.{IsGood}
 use Rattle.lnt_lines.specs.Laws.{GoodHasNoFlaw}
 use Rattle.lnt_table.specs.declared.by_path.Checked.{Checked}
 use Rattle.lnt_table.specs.declared.by_path.Checked.TheVariants.{Numbered, ByPath}
@@ -21,7 +21,7 @@ use Rattle.lnt_table.specs.declared.verdict.TableNo.TheVariants as no
 use Rattle.lnt_table.specs.declared.verdict.Verdict.{Verdict}
 use Rattle.lnt_table.specs.declared.verdict.Verdict.TheVariants.{Yes, No}
 use Rattle.lnt_table.specs.AnyVersion.{IsTrueCheck}
-use Rattle.lnt_table.specs.ByPath.{told_path}
+use Rattle.lnt_table.specs.ByPath.{answer_by_path}
 use Rattle.lnt_table.specs.Laws.{OneNumbered, OneVerdict, OwnTableByPath}
 
 -- ---- a verdict
@@ -35,7 +35,7 @@ by_number verdicts flawless line general options section table verdict (Numbered
 by_number verdicts flawless line general options section table Yes (ByPath compared) h k =
     absurd (k.told.unnumbered h.0.version (table_begins table h.0.version h.0.spans h.0.is_table))
 by_number verdicts flawless line general options section table (No (no.Section reason)) (ByPath compared) h k =
-    absurd (flawless line general options section k.of_section.units reason k.of_section.good h.0)
+    absurd (flawless line general options section k.units reason k.good h.0)
 by_number verdicts flawless line general options section table (No no.TableHeader) (ByPath compared) h k = absurd (h.1 refl)
 by_number verdicts flawless line general options section table (No (no.TableFields n)) (ByPath compared) h k =
     absurd (k.told.unnumbered h.0.faulty.version (faulty_begins table (fault.Fields n) h.0.faulty))
@@ -57,13 +57,13 @@ names_differ One Four e = let count = ap length e in omega (arith, count)
 names_differ Two Three e = let count = ap length e in omega (arith, count)
 names_differ Two Four e = let count = ap length e in omega (arith, count)
 
-own : (line general : List ℕ) (options : Options) (section table : List ℕ) (index : Indexed) (version : PathVersion)
-    → (i : IsIndexOfSection line general options section index)
-    → IsCanonicalPathTable version (told_path version index options.dead options.skip_copies i.units) table
+own : (line general : List ℕ) (options : Options) (section table : List ℕ) (units : List (ℕ × UnitParts)) (version : PathVersion)
+    → IsGood line general options section units
+    → IsCanonicalPathTable version (answer_by_path version line general options.dead options.skip_copies units) table
     → IsTrueCheck line general options section table (ByPath Same)
-own line general options section table index version i w = record {
-  index = index;
-  of_section = i;
+own line general options section table units version good w = record {
+  units = units;
+  good = good;
   told = record {
     unnumbered = λ v begins.
         names_differ v version
@@ -78,7 +78,7 @@ none_numbered verdict e = cc
 pub own_table_by_path : OneNumbered → OwnTableByPath
 own_table_by_path numbers = record {
   same = own;
-  no_verdict = λ line general options section table index version verdict i w v.
+  no_verdict = λ line general options section table units version verdict good w v.
       none_numbered verdict
-      (numbers.one line general options section table verdict (ByPath Same) v (own line general options section table index version i w));
+      (numbers.one line general options section table verdict (ByPath Same) v (own line general options section table units version good w));
 }

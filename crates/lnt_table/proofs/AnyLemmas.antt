@@ -1,6 +1,5 @@
 -- What a comparison of a table of any version with a good section says of the two.
-use Rattle.std.proofs.Common.{◌≡◌, ◌≢◌, ◌∙◌, Bool, ℕ, List, [], ◌∷◌, Option, Some, None, IfSome, sym, ap, refl, subst}
-use Rattle.std.specs.Option.{option_map}
+use Rattle.std.proofs.Common.{◌≡◌, ◌≢◌, ◌∙◌, Bool, ℕ, List, [], ◌∷◌, Option, Some, None, IfSome, sym, refl, subst}
 use Rattle.lnt_header.specs.declared.unit_parts.UnitParts.{UnitParts}
 use Rattle.lnt_spans.specs.declared.answer.Version.{Version}
 use Rattle.lnt_spans.specs.declared.position.Position.{Position}
@@ -15,7 +14,7 @@ use Rattle.lnt_records.specs.Table.{BeginsWith, column_names}
 use Rattle.lnt_paths.specs.declared.answer.ComparedByPath.{ComparedByPath}
 use Rattle.lnt_paths.specs.declared.answer.ComparedByPath.TheVariants.{Same, Fault, Differs}
 use Rattle.lnt_paths.specs.declared.version.PathVersion.{PathVersion}
-use Rattle.lnt_paths.specs.PathAnswers.{PathAnswer, path_answer, spans_by_path}
+use Rattle.lnt_paths.specs.PathAnswers.{PathAnswer, spans_by_path}
 use Rattle.lnt_paths.specs.PathDifferences.{IsPathComparison}
 use Rattle.lnt_lines.specs.declared.no.No.{No as SectionNo}
 use Rattle.lnt_lines.specs.declared.options.Options.{Options}
@@ -27,10 +26,11 @@ use Rattle.lnt_table.specs.declared.verdict.TableNo.TheVariants as no
 use Rattle.lnt_table.specs.declared.verdict.Verdict.{Verdict}
 use Rattle.lnt_table.specs.declared.verdict.Verdict.TheVariants.{No}
 use Rattle.lnt_table.specs.AnyVersion.{IsComparedByPath, IsTrueCheck, IsTrueCheckOfSection}
-use Rattle.lnt_table.specs.ByPath.{path_at, told_path}
+use Rattle.lnt_table.specs.ByPath.{indexed_path, told_path}
 use Rattle.lnt_table.specs.Headline.{IsTrueOfSection, IsTrueVerdict}
 use Rattle.lnt_table.specs.Stepping.{IsCheckedWith, IsComparedWith, IsOfGood, verdict_of}
 use Rattle.lnt_table.proofs.CheckLemmas.{compared_told, good_told}
+use Rattle.lnt_table.proofs.UnitPathLemmas.{told_by_units}
 
 -- a comparison with the answers of `f` is one with the same answers given by `g`
 pub compared_so : (bytes : List ℕ) (f g : PathVersion → Position → Option PathAnswer) (compared : ComparedByPath)
@@ -52,18 +52,19 @@ compared_so bytes f g (Differs difference) e h = record {
 }
 
 pub path_told : (text : Option (List ℕ)) (taken : List ℕ) (index : Indexed) (dead : Option ℕ) (skip : Bool) (units : List (ℕ × UnitParts))
-    (spans : List Span) (compared : ComparedByPath)
+    (spans : List Span) (compared : ComparedByPath) → IsIndexOf dead skip units index
     → IfSome text (λ bytes. (taken ≡ bytes) × ((version : Version) → BeginsWith bytes (column_names version ∷ []) → ⊥))
     → ((p : Position) → span_answer spans p ≡ line_answer dead skip units p)
-    → IsPathComparison taken (λ version. spans_by_path version (path_at index) spans) compared
-    → IfSome text (λ bytes. IsComparedByPath index dead skip units bytes compared)
-path_told None taken index dead skip units spans compared other answers h = tt
-path_told (Some bytes) taken index dead skip units spans compared other answers h = record {
+    → IsPathComparison taken (λ version. spans_by_path version (indexed_path index) spans) compared
+    → IfSome text (λ bytes. IsComparedByPath index.line index.general dead skip units bytes compared)
+path_told None taken index dead skip units spans compared is other answers h = tt
+path_told (Some bytes) taken index dead skip units spans compared is other answers h = record {
   unnumbered = other.1;
-  comparison = subst (λ (b : List ℕ). IsPathComparison b (λ version. told_path version index dead skip units) compared) other.0
-      (compared_so taken (λ version. spans_by_path version (path_at index) spans) (λ version. told_path version index dead skip units)
-      compared
-      (λ version p. ap (option_map (path_answer version (path_at index))) (answers p)) h);
+  comparison =
+      subst (λ (b : List ℕ). IsPathComparison b (λ version. told_path version index dead skip units) compared) other.0
+      (compared_so taken (λ version. spans_by_path version (indexed_path index) spans)
+      (λ version. told_path version index dead skip units) compared
+      (λ version. told_by_units version index dead skip units spans is answers) h);
 }
 
 -- The verdict is `Header` only where the comparison found that fault.
@@ -94,7 +95,12 @@ check_told line general options section table index (Numbered verdict) i h = (
       (compared_told line general options section table index h.1.spans h.0 i h.1.answers h.1.comparison),
   h.3,
 )
-check_told line general options section table index (ByPath compared) i h = record { index = index; of_section = i; told = h }
+check_told line general options section table index (ByPath compared) i h = record {
+  units = i.units;
+  good = i.good;
+  told = subst (λ (l : List ℕ). IsComparedByPath l general options.dead options.skip_copies i.units table compared) i.line_is
+      (subst (λ (g : List ℕ). IsComparedByPath index.line g options.dead options.skip_copies i.units table compared) i.general_is h);
+}
 
 pub any_told : (line general : List ℕ) (options : Options) (section table : Option (List ℕ)) (index : Indexed) (checked : Checked)
     → IfSome section (λ bytes. IsIndexOfSection line general options bytes index)

@@ -3,6 +3,7 @@ mod CheckLemmas
 mod LawLemmas
 mod PathLemmas
 mod StretchLemmas
+mod UnitPathLemmas
 mod WriteLemmas
 pub mod OneVerdictLemmas
 pub mod OneWrittenLemmas

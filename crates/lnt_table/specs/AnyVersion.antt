@@ -8,28 +8,27 @@ use Rattle.lnt_records.specs.Table.{BeginsWith, column_names}
 use Rattle.lnt_paths.specs.declared.answer.ComparedByPath.{ComparedByPath}
 use Rattle.lnt_paths.specs.PathDifferences.{IsPathComparison}
 use Rattle.lnt_lines.specs.declared.options.Options.{Options}
-use Rattle.lnt_lines.specs.Drafts.{IsIndexOfSection}
-use Rattle.lnt_lines.specs.Indexed.{Indexed}
+use Rattle.lnt_lines.specs.Good.{IsGood}
 use Rattle.lnt_table.specs.declared.by_path.Checked.{Checked}
 use Rattle.lnt_table.specs.declared.by_path.Checked.TheVariants.{Numbered, ByPath}
 use Rattle.lnt_table.specs.declared.verdict.TableNo.TheVariants as no
 use Rattle.lnt_table.specs.declared.verdict.Verdict.TheVariants.{No}
-use Rattle.lnt_table.specs.ByPath.{told_path}
+use Rattle.lnt_table.specs.ByPath.{answer_by_path}
 use Rattle.lnt_table.specs.Headline.{IsGoodSection, IsTrueOfSection, IsTrueVerdict}
 
 -- The table begins with the header of neither version 1 nor 2. `compared` is true of the table and of the answers of the
 -- units' rows, with the full path of each file, in the fields of versions 3 and 4: `Fault` of the header if the table
 -- begins with that of neither of these.
-pub record IsComparedByPath (index : Indexed) (dead : Option ℕ) (skip : Bool) (units : List (ℕ × UnitParts)) (table : List ℕ)
+pub record IsComparedByPath (line general : List ℕ) (dead : Option ℕ) (skip : Bool) (units : List (ℕ × UnitParts)) (table : List ℕ)
     (compared : ComparedByPath) : Type 0 where
   pub unnumbered : (version : Version) → BeginsWith table (column_names version ∷ []) → ⊥
-  pub comparison : IsPathComparison table (λ version. told_path version index dead skip units) compared
+  pub comparison : IsPathComparison table (λ version. answer_by_path version line general dead skip units) compared
 
--- The section is good, and `compared` is true of the table and of an index of the section.
+-- The section is good, and `compared` is true of the table and of the section's units.
 pub record IsTrueByPath (line general : List ℕ) (options : Options) (section table : List ℕ) (compared : ComparedByPath) : Type 0 where
-  pub index : Indexed
-  pub of_section : IsIndexOfSection line general options section index
-  pub told : IsComparedByPath index options.dead options.skip_copies of_section.units table compared
+  pub units : List (ℕ × UnitParts)
+  pub good : IsGood line general options section units
+  pub told : IsComparedByPath line general options.dead options.skip_copies units table compared
 
 -- The answer is true, and a reason that it gives is the first. If the section is good and the table begins with the header of
 -- neither version 1 nor 2, it is an answer by path, not a verdict.

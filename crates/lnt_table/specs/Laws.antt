@@ -5,9 +5,8 @@ use Rattle.lnt_spans.specs.declared.answer.Version.{Version}
 use Rattle.lnt_spans.specs.declared.position.Position.{Position}
 use Rattle.lnt_lines.specs.declared.options.Options.{Options}
 use Rattle.lnt_lines.specs.Contents.{Contents}
-use Rattle.lnt_lines.specs.Drafts.{AreLinesOf, IsIndexOfSection}
+use Rattle.lnt_lines.specs.Drafts.{AreLinesOf}
 use Rattle.lnt_lines.specs.Good.{IsGood}
-use Rattle.lnt_lines.specs.Indexed.{file_path_in, Indexed}
 use Rattle.lnt_paths.specs.declared.answer.ComparedByPath.TheVariants.{Same}
 use Rattle.lnt_paths.specs.declared.version.PathVersion.{PathVersion}
 use Rattle.lnt_paths.specs.Laws.{told_by_path}
@@ -16,7 +15,7 @@ use Rattle.lnt_paths.specs.Written.{IsCanonicalPathTable}
 use Rattle.lnt_table.specs.declared.by_path.Checked.{Checked}
 use Rattle.lnt_table.specs.declared.by_path.Checked.TheVariants.{Numbered, ByPath}
 use Rattle.lnt_table.specs.AnyVersion.{IsTrueCheck}
-use Rattle.lnt_table.specs.ByPath.{told_path}
+use Rattle.lnt_table.specs.ByPath.{answer_by_path}
 use Rattle.lnt_table.specs.declared.verdict.Verdict.{Verdict}
 use Rattle.lnt_table.specs.declared.verdict.Verdict.TheVariants.{Yes}
 use Rattle.lnt_table.specs.Headline.{AnswersRight, IsTrueVerdict}
@@ -62,12 +61,6 @@ pub record OneNumbered : Type 0 where
       → IsTrueCheck line general options section table (Numbered verdict) → IsTrueCheck line general options section table checked
       → checked ≡ Numbered verdict
 
--- Two indexes of one section give the same path for each file.
-pub record OnePath : Type 0 where
-  pub one : (line general : List ℕ) (options : Options) (section : List ℕ) (one other : Indexed) (unit file : ℕ)
-      → IsIndexOfSection line general options section one → IsIndexOfSection line general options section other
-      → file_path_in one unit file ≡ file_path_in other unit file
-
 -- Two answers say the same: the same verdict, or the same by path.
 abbrev pub SayTheSame : Checked → Checked → Type 0
 SayTheSame (Numbered one) (Numbered other) = one ≡ other
@@ -79,15 +72,14 @@ pub record OneCheck : Type 0 where
   pub one : (line general : List ℕ) (options : Options) (section table : List ℕ) (one other : Checked)
       → IsTrueCheck line general options section table one → IsTrueCheck line general options section table other → SayTheSame one other
 
--- For a good section, and the table by path that was written from its index, `ByPath Same` is a true answer, and no verdict
--- is.
+-- For a good section and the table by path of its units' answers, `ByPath Same` is a true answer, and no verdict is.
 pub record OwnTableByPath : Type 0 where
-  pub same : (line general : List ℕ) (options : Options) (section table : List ℕ) (index : Indexed) (version : PathVersion)
-      → (i : IsIndexOfSection line general options section index)
-      → IsCanonicalPathTable version (told_path version index options.dead options.skip_copies i.units) table
+  pub same : (line general : List ℕ) (options : Options) (section table : List ℕ) (units : List (ℕ × UnitParts)) (version : PathVersion)
+      → IsGood line general options section units
+      → IsCanonicalPathTable version (answer_by_path version line general options.dead options.skip_copies units) table
       → IsTrueCheck line general options section table (ByPath Same)
-  pub no_verdict : (line general : List ℕ) (options : Options) (section table : List ℕ) (index : Indexed) (version : PathVersion)
-      (verdict : Verdict)
-      → (i : IsIndexOfSection line general options section index)
-      → IsCanonicalPathTable version (told_path version index options.dead options.skip_copies i.units) table
+  pub no_verdict : (line general : List ℕ) (options : Options) (section table : List ℕ) (units : List (ℕ × UnitParts))
+      (version : PathVersion) (verdict : Verdict)
+      → IsGood line general options section units
+      → IsCanonicalPathTable version (answer_by_path version line general options.dead options.skip_copies units) table
       → IsTrueCheck line general options section table (Numbered verdict) → ⊥

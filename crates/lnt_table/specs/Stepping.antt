@@ -38,7 +38,8 @@ pub record IsComparedWith (dead : Option ℕ) (skip : Bool) (units : List (ℕ �
 abbrev pub IsCheckedWith : Indexed → Option ℕ → Bool → List (ℕ × UnitParts) → List ℕ → Checked → Type 0
 IsCheckedWith index dead skip units table (Numbered verdict) =
     (compared : Compared) × IsComparedWith dead skip units table compared × (verdict ≡ verdict_of compared) × (verdict ≢ No no.TableHeader)
-IsCheckedWith index dead skip units table (ByPath compared) = IsComparedByPath index dead skip units table compared
+IsCheckedWith index dead skip units table (ByPath compared) =
+    IsComparedByPath index.line index.general dead skip units table compared
 
 -- A verdict is that of a comparison, not one on the section.
 abbrev pub IsOfGood : Checked → Type 0

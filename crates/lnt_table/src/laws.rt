@@ -1,6 +1,6 @@
 //! Laws of answers and verdicts, each the contract of a function without parameters that does nothing.
 ghost use Rattle.lnt_spans.specs.Laws.{Borders};
-ghost use Rattle.lnt_table.specs.Laws.{OneCheck, OneNumbered, OnePath, OneVerdict, OneWritten, OnlyYes};
+ghost use Rattle.lnt_table.specs.Laws.{OneCheck, OneNumbered, OneVerdict, OneWritten, OnlyYes};
 ghost use Rattle.lnt_table.specs.Laws.{OwnTable, OwnTableByPath, OwnTableOfUnits};
 
 /// If two lists of spans, each in order and without empty spans, give the same answer at each position where a span of
@@ -68,19 +68,14 @@ pub fn one_numbered()
     lnt_lines::laws::good_has_no_flaw();
 }
 
-/// For a good section, and the table that `write_paths` wrote of its index in either version, `ByPath(Same)` is a true answer
-/// of `check_any`, and `Numbered` of no verdict is.
+/// For a good section, and the table by path of its units' answers in either version, which `write_paths` writes,
+/// `ByPath(Same)` is a true answer of `check_any`, and `Numbered` of no verdict is.
 #[tactic(auto, using(crate::proofs::AnyLawLemmas::own_table_by_path))]
 pub fn own_table_by_path()
     ensures { OwnTableByPath }
 {
     one_numbered();
 }
-
-/// Two indexes of one section, made with the same string sections and options, give the same path for each file of each unit.
-pub fn one_path()
-    ensures { OnePath }
-{}
 
 /// For one section, table of any version and choice of options all true answers of `check_any` say the same. So if it
 /// doesn't stop, its answer is determined: the fault that it names, or the position, the two answers there and the bytes of
@@ -90,6 +85,5 @@ pub fn one_check()
 {
     one_verdict();
     one_numbered();
-    one_path();
     lnt_paths::laws::one_comparison();
 }

@@ -3,7 +3,7 @@ ghost use Rattle.std.specs.Prelude.{◌≡◌, Bool, ℕ, List, Option, IfOk, On
 ghost use Rattle.lnt_header.specs.declared.unit_parts.UnitParts.{UnitParts};
 ghost use Rattle.lnt_lines.specs.Indexed.{IsIndexOf};
 ghost use Rattle.lnt_paths.specs.Written.{HasBecome};
-ghost use Rattle.lnt_table.specs.ByPath.{path_at, told_path};
+ghost use Rattle.lnt_table.specs.ByPath.{indexed_path, told_path};
 ghost use Rattle.lnt_table.specs.Written.{BeginsPaths};
 
 use lnt_lines::Index;
@@ -21,19 +21,19 @@ pub struct IndexPaths<'i, 'a> {
 impl<'i, 'a> IndexPaths<'i, 'a> {
     /// The full paths of the files that the units of this index name: the directory joined with the name, byte for byte.
     pub fn of(index: &'i Index<'a>) -> IndexPaths<'i, 'a>
-        ensures { ⟦<IndexPaths<'i, 'a> as Paths>⟧.bytes_of result ≡ path_at index.entry.now }
+        ensures { ⟦<IndexPaths<'i, 'a> as Paths>⟧.bytes_of result ≡ indexed_path index.entry.now }
     {
         IndexPaths { index }
     }
 }
 
 impl<'i, 'a> Paths for IndexPaths<'i, 'a> {
-    ghost bytes_of = { λ paths unit file. path_at paths.index.now unit file };
+    ghost bytes_of = { λ paths unit file. indexed_path paths.index.now unit file };
 
     fn path_of(&self, alloc: Global, unit: u64, file: u64) -> Result<Vec<u8>, AllocError> {
         match self.index.path_of(alloc, unit, file)? {
             Some(path) => Ok(path),
-            // For numbers that no answer of the index has: then there is no such file (`path_at`).
+            // For numbers that no answer of the index has: then there is no such file (`indexed_path`).
             None => Ok(Vec::new(alloc)),
         }
     }

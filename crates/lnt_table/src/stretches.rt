@@ -8,7 +8,7 @@ ghost use Rattle.lnt_paths.specs.Held.{held_span};
 ghost use Rattle.lnt_paths.specs.PathAnswers.{PathAnswer};
 ghost use Rattle.lnt_paths.specs.PathSpans.{StandInOrder, path_span_answer};
 ghost use Rattle.lnt_paths.specs.Stretching.{HasToldByPath};
-ghost use Rattle.lnt_table.specs.ByPath.{path_at, told_path};
+ghost use Rattle.lnt_table.specs.ByPath.{indexed_path, told_path};
 ghost use Rattle.lnt_table.specs.Headline.{IsFoundTooLong};
 ghost use Rattle.lnt_table.specs.Stretches.{IsAnyDiffering, IsDifferingFrom, IsStartedAny};
 ghost use Rattle.lnt_header.specs.declared.unit_parts.UnitParts.{UnitParts};
@@ -102,11 +102,11 @@ pub fn differences_by_path<'t, 'i>(
 ) -> DifferencesByPath<'t, Spans<'i>>
     ensures told { (dead : Option ℕ) (skip : Bool) (units : List (ℕ × UnitParts)) → IsIndexOf dead skip units index.entry.now
         → StandInOrder (map held_span spans.entry.now)
-        → HasToldByPath ⟦<Spans<'i> as SpanSource>⟧.to_come (path_at index.entry.now) result
+        → HasToldByPath ⟦<Spans<'i> as SpanSource>⟧.to_come (indexed_path index.entry.now) result
         (told_path version index.entry.now dead skip units) (path_span_answer (map held_span spans.entry.now)) [] }
     ensures started { StandInOrder (map held_span spans.entry.now)
         → (by_section : Position → Option PathAnswer) × (by_table : Position → Option PathAnswer)
-        × HasToldByPath ⟦<Spans<'i> as SpanSource>⟧.to_come (path_at index.entry.now) result by_section by_table [] }
+        × HasToldByPath ⟦<Spans<'i> as SpanSource>⟧.to_come (indexed_path index.entry.now) result by_section by_table [] }
 {
     DifferencesByPath::of(index.spans(), spans, version)
 }

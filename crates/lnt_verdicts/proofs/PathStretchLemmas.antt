@@ -26,7 +26,7 @@ use Rattle.lnt_paths.specs.PathStretches.{ArePathStretches, stretch_of, stretche
 use Rattle.lnt_paths.specs.PathTables.{IsPathTableOf}
 use Rattle.lnt_paths.specs.Stretching.{HasToldByPath}
 use Rattle.lnt_paths.proofs.CompletionLaws.{path_stretches_on}
-use Rattle.lnt_table.specs.ByPath.{path_at, told_path}
+use Rattle.lnt_table.specs.ByPath.{indexed_path, told_path}
 use Rattle.lnt_verdicts.specs.Stretches.{ArePathDifferencesBegun, AreStretchesBegun, AreToldByPath}
 use Rattle.lnt_verdicts.specs.Verdicts.{path_stretch_line, path_stretches_status, path_stretches_text}
 
@@ -82,11 +82,11 @@ PrintsByPath to_come path differences old new status =
 -- The slice has the held spans, and the paths are those of the index.
 pub told_by_path : {S : Type 0} (to_come : S → List Span → Type 0) (index : Indexed) (path : ℕ → ℕ → List ℕ)
     (differences : DifferencesByPath S) (version : PathVersion) (spans slice : List HeldSpan) (dead : Option ℕ) (skip : Bool)
-    (units : List (ℕ × UnitParts)) (table old new : Option (List ℕ)) (status : Status) → slice ≡ spans → path ≡ path_at index
+    (units : List (ℕ × UnitParts)) (table old new : Option (List ℕ)) (status : Status) → slice ≡ spans → path ≡ indexed_path index
     → IfSome table (λ text. ((numbered : Version) → BeginsWith text (column_names numbered ∷ []) → ⊥)
     × IsPathTableOf version text (map held_span spans))
     → StandInOrder (map held_span spans)
-    → (StandInOrder (map held_span slice) → HasToldByPath to_come (path_at index) differences (told_path version index dead skip units)
+    → (StandInOrder (map held_span slice) → HasToldByPath to_come (indexed_path index) differences (told_path version index dead skip units)
     (path_span_answer (map held_span slice)) [])
     → PrintsByPath to_come path differences old new status
     → IfSome table (λ text. AreToldByPath index dead skip units text old new status)
@@ -94,7 +94,7 @@ told_by_path to_come index path differences version spans slice dead skip units 
 told_by_path to_come index path differences version spans slice dead skip units (Some text) old new status same by is order told p =
     let begun =
     subst (λ (l : List HeldSpan). StandInOrder (map held_span l)
-    → HasToldByPath to_come (path_at index) differences (told_path version index dead skip units) (path_span_answer (map held_span l)) [])
+    → HasToldByPath to_come (indexed_path index) differences (told_path version index dead skip units) (path_span_answer (map held_span l)) [])
     same told order in
     let printed =
     subst (λ (q : ℕ → ℕ → List ℕ). PrintsByPath to_come q differences old new status) by p
@@ -181,11 +181,11 @@ BeginsByPath to_come path differences old new =
 -- The slice has the held spans, and the paths are those of the index.
 pub begun_by_path : {S : Type 0} (to_come : S → List Span → Type 0) (index : Indexed) (path : ℕ → ℕ → List ℕ)
     (differences : DifferencesByPath S) (version : PathVersion) (spans slice : List HeldSpan) (dead : Option ℕ) (skip : Bool)
-    (units : List (ℕ × UnitParts)) (table old new : Option (List ℕ)) → slice ≡ spans → path ≡ path_at index
+    (units : List (ℕ × UnitParts)) (table old new : Option (List ℕ)) → slice ≡ spans → path ≡ indexed_path index
     → IfSome table (λ text. ((numbered : Version) → BeginsWith text (column_names numbered ∷ []) → ⊥)
     × IsPathTableOf version text (map held_span spans))
     → StandInOrder (map held_span spans)
-    → (StandInOrder (map held_span slice) → HasToldByPath to_come (path_at index) differences (told_path version index dead skip units)
+    → (StandInOrder (map held_span slice) → HasToldByPath to_come (indexed_path index) differences (told_path version index dead skip units)
     (path_span_answer (map held_span slice)) [])
     → BeginsByPath to_come path differences old new
     → IfSome table (λ text. AreStretchesBegun index dead skip units text old new)
@@ -193,7 +193,7 @@ begun_by_path to_come index path differences version spans slice dead skip units
 begun_by_path to_come index path differences version spans slice dead skip units (Some text) old new same by is order told p =
     let none =
     subst (λ (l : List HeldSpan). StandInOrder (map held_span l)
-    → HasToldByPath to_come (path_at index) differences (told_path version index dead skip units) (path_span_answer (map held_span l)) [])
+    → HasToldByPath to_come (indexed_path index) differences (told_path version index dead skip units) (path_span_answer (map held_span l)) [])
     same told order in
     inr (inr (inr (record {
       version = version;

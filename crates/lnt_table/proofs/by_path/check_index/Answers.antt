@@ -18,6 +18,6 @@ pub returns-in-Ok-clause-ok : goal.returns-in-Ok-clause-ok
 returns-in-Ok-clause-ok g c dead skip units is =
     let one = c.spans.ensures.gives dead skip units is in
     let all = c.spans-2.ensures.gives dead skip units is in
-    path_told (g.T.Source.remaining c.args.table.now) c.in-Other.text.items c.args.index.now dead skip units all.spans c.in-Ok.compared
+    path_told (g.T.Source.remaining c.args.table.now) c.in-Other.text.items c.args.index.now dead skip units all.spans c.in-Ok.compared is
     (rw c.in-Other.is at c.in_ok-read.ensures.ok one.spans one.to_come one.in_order) all.answers
     (rw c.deref.ensures.value at c.in-Ok.ensures all.spans all.to_come all.in_order)

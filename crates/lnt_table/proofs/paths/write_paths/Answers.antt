@@ -1,10 +1,10 @@
-use Rattle.std.proofs.Common.{◌∙◌, ap, sym}
-use Rattle.std.specs.Option.{option_map}
+use Rattle.std.proofs.Common.{◌∙◌, sym}
 use Rattle.std.proofs.lemmas.Result.{IfOk-weaker, on_err_weaker}
 use Rattle.lnt_paths.specs.declared.version.PathTable.TheVariants.{Written}
-use Rattle.lnt_paths.specs.PathAnswers.{path_answer, spans_by_path}
-use Rattle.lnt_table.specs.ByPath.{path_at, told_path}
+use Rattle.lnt_paths.specs.PathAnswers.{spans_by_path}
+use Rattle.lnt_table.specs.ByPath.{indexed_path, told_path}
 use Rattle.lnt_table.proofs.PathLemmas.{becomes_so, paths_begun}
+use Rattle.lnt_table.proofs.UnitPathLemmas.{told_by_units}
 use Rattle.lnt_output.proofs.FrontLaws.{so_stopped}
 use Rattle.lnt_table.proofs.paths.write_paths.Goals as goal
 
@@ -13,10 +13,10 @@ returns-clause-table g c = IfOk-weaker c.write_by_path.result _ _
     (λ table become dead skip units is.
     let judged = c.spans-2.ensures.gives dead skip units is in
     let all = c.spans-3.ensures.gives dead skip units is in
-    becomes_so c.args.version (spans_by_path c.args.version (path_at c.args.index.now) all.spans)
+    becomes_so c.args.version (spans_by_path c.args.version (indexed_path c.args.index.now) all.spans)
     (told_path c.args.version c.args.index.now dead skip units)
     (g.W.Write.contents c.args.out.now) (g.W.Write.contents c.write_by_path.new.out) table
-    (λ p. ap (option_map (path_answer c.args.version (path_at c.args.index.now))) (all.answers p))
+    (told_by_units c.args.version c.args.index.now dead skip units all.spans is all.answers)
     (become all.spans judged.spans judged.to_come all.to_come judged.in_order all.in_order (λ p. judged.answers p ∙ sym (all.answers p))))
     c.write_by_path.ensures.table
 
@@ -24,10 +24,10 @@ pub returns-then-has_single_operations-clause-table : goal.returns-then-has_sing
 returns-then-has_single_operations-clause-table g c dead skip units is =
     let all = c.spans.ensures.gives dead skip units is in
     let single = c.has_single_operations.ensures.spans c.if-has_single_operations.true dead skip units all.spans is all.spans_are in
-    becomes_so c.args.version (spans_by_path c.args.version (path_at c.args.index.now) all.spans)
+    becomes_so c.args.version (spans_by_path c.args.version (indexed_path c.args.index.now) all.spans)
     (told_path c.args.version c.args.index.now dead skip units)
     (g.W.Write.contents c.args.out.now) (g.W.Write.contents c.write_instructions_by_path.new.out) Written
-    (λ p. ap (option_map (path_answer c.args.version (path_at c.args.index.now))) (all.answers p))
+    (told_by_units c.args.version c.args.index.now dead skip units all.spans is all.answers)
     (c.in_ok-write_instructions_by_path.ensures.table all.spans all.to_come all.in_order single)
 
 pub returns-clause-begun : goal.returns-clause-begun
@@ -36,9 +36,9 @@ returns-clause-begun g c =
     (λ begun dead skip units is.
     let judged = c.spans-2.ensures.gives dead skip units is in
     let all = c.spans-3.ensures.gives dead skip units is in
-    paths_begun c.args.version (path_at c.args.index.now) all.spans (told_path c.args.version c.args.index.now dead skip units)
+    paths_begun c.args.version (indexed_path c.args.index.now) all.spans (told_path c.args.version c.args.index.now dead skip units)
     (g.W.Write.contents c.args.out.now) (g.W.Write.contents c.write_by_path.new.out) all.in_order all.fits
-    (λ p. ap (option_map (path_answer c.args.version (path_at c.args.index.now))) (all.answers p))
+    (told_by_units c.args.version c.args.index.now dead skip units all.spans is all.answers)
     (begun all.spans judged.spans judged.to_come all.to_come judged.in_order all.in_order (λ p. judged.answers p ∙ sym (all.answers p))))
     c.write_by_path.ensures.begun
 
@@ -48,7 +48,7 @@ returns-in_err-write_instructions_by_path-clause-begun g c =
     (λ dead skip units is.
     let all = c.spans.ensures.gives dead skip units is in
     let single = c.has_single_operations.ensures.spans c.if-has_single_operations.true dead skip units all.spans is all.spans_are in
-    paths_begun c.args.version (path_at c.args.index.now) all.spans (told_path c.args.version c.args.index.now dead skip units)
+    paths_begun c.args.version (indexed_path c.args.index.now) all.spans (told_path c.args.version c.args.index.now dead skip units)
     (g.W.Write.contents c.args.out.now) (g.W.Write.contents c.write_instructions_by_path.new.out) all.in_order all.fits
-    (λ p. ap (option_map (path_answer c.args.version (path_at c.args.index.now))) (all.answers p))
+    (told_by_units c.args.version c.args.index.now dead skip units all.spans is all.answers)
     (c.in_err-write_instructions_by_path.ensures.begun all.spans all.to_come all.in_order single))
