@@ -12,7 +12,7 @@ use Rattle.lnt_words.specs.declared.request.Judging.{Judging}
 use Rattle.lnt_words.specs.declared.request.Question.{Question}
 use Rattle.lnt_words.specs.declared.request.Question.TheVariants.{Verify, Lookup, Files, Table, TableByPath, Md5}
 use Rattle.lnt_table.specs.declared.by_path.Checked.{Checked}
-use Rattle.lnt_table.specs.AnyVersion.{IsTrueCheck}
+use Rattle.lnt_table.specs.AnyVersion.{IsTrueCheck, IsTrueCheckOfSection}
 use Rattle.lnt_verdicts.specs.Verdicts.{checked_line}
 use Rattle.lnt_answers.specs.SumLines.{listed_files}
 use Rattle.lnt_answers.proofs.SumLaws.{sums_later}
@@ -99,9 +99,10 @@ pub checked_of : {E : Type 0} (tells : List ℕ → Option (List ℕ) → Type 0
     → AreTextsOf tells from line general → tells from.section.now section → tells table text
     → IfOk ended (λ checked. IfSome section (λ bytes. IfSome text (λ text.
     IsTrueCheck line general (options_in from) bytes text checked)))
+    → IfOk ended (λ checked. IfSome section (λ bytes. IsTrueCheckOfSection line general (options_in from) bytes checked))
     → IfOk ended (λ checked. (old new : Option (List ℕ)) → Appends old new (checked_line checked)
     → IsChecked tells from table old new checked)
-checked_of tells from table line general section text (Ok checked) texts of_section of_table so =
+checked_of tells from table line general section text (Ok checked) texts of_section of_table so so_of_section =
     λ old new printed. record {
       line = line;
       general = general;
@@ -111,6 +112,7 @@ checked_of tells from table line general section text (Ok checked) texts of_sect
       table_bytes = text;
       of_table = of_table;
       is_true = so;
+      is_true_of_section = so_of_section;
       printed = printed;
     }
-checked_of tells from table line general section text (Err stop) texts of_section of_table so = so
+checked_of tells from table line general section text (Err stop) texts of_section of_table so so_of_section = tt

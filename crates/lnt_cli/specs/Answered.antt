@@ -1,5 +1,5 @@
 -- The answers to requests, and the bytes of which they are true.
---     tells       what an opener may tell of the file of a name, as the run begins
+--     tells       what the opener may give for the file with a name, as the run begins
 --     old, new    what the writer of the answer holds before and afterwards
 use Rattle.std.specs.Prelude.{◌≡◌, ℕ, List, [], Option, None, Some, IfSome, true, false, string_bytes}
 use Rattle.std.specs.Option.{option_copied}
@@ -17,7 +17,7 @@ use Rattle.lnt_words.specs.declared.request.Reading.{Reading}
 use Rattle.lnt_words.specs.declared.request.Request.{Request}
 use Rattle.lnt_words.specs.declared.request.Request.TheVariants.{Help, Read, Judge, Addresses, Check}
 use Rattle.lnt_table.specs.declared.by_path.Checked.{Checked}
-use Rattle.lnt_table.specs.AnyVersion.{IsTrueCheck}
+use Rattle.lnt_table.specs.AnyVersion.{IsTrueCheck, IsTrueCheckOfSection}
 use Rattle.lnt_verdicts.specs.Verdicts.{checked_line, checked_status}
 use Rattle.lnt_cli.specs.Places.{ArePlacesTold}
 use Rattle.lnt_cli.specs.Questions.{AnswersAddressesJudged, AnswersJudged}
@@ -27,7 +27,7 @@ use Rattle.lnt_cli.specs.Readings.{AnswersReading}
 abbrev pub options_in : Judging → Options
 options_in from = record { order = from.order; dead = from.dead; skip_copies = from.skip_copies }
 
--- the bytes of a string section: those of its file; empty where no file is named
+-- the bytes of a string section: those of its file; empty if no file is named
 abbrev pub AreStringsOf : (List ℕ → Option (List ℕ) → Type 0) → Option (List ℕ) → List ℕ → Type 0
 AreStringsOf tells None bytes = bytes ≡ []
 AreStringsOf tells (Some name) bytes = AreBytesOf (tells name) bytes
@@ -37,8 +37,8 @@ pub record AreTextsOf (tells : List ℕ → Option (List ℕ) → Type 0) (from 
   pub line_is : AreStringsOf tells (option_copied from.line_strings) line
   pub general_is : AreStringsOf tells (option_copied from.strings) general
 
--- The check's answer is true of the section and of the table, of any version, in the named files, and the writer has gained its
--- line and nothing else.
+-- The check's answer is true of the section and of the table, of any version, in the named files, and its line was written, and
+-- nothing else. What it says of the section is true even if nothing is known of the table's bytes.
 pub record IsChecked (tells : List ℕ → Option (List ℕ) → Type 0) (from : Judging) (table : List ℕ)
     (old new : Option (List ℕ)) (checked : Checked) : Type 0 where
   pub line : List ℕ
@@ -50,9 +50,10 @@ pub record IsChecked (tells : List ℕ → Option (List ℕ) → Type 0) (from :
   pub of_table : tells table table_bytes
   pub is_true : IfSome section_bytes (λ section. IfSome table_bytes (λ text.
       IsTrueCheck line general (options_in from) section text checked))
+  pub is_true_of_section : IfSome section_bytes (λ section. IsTrueCheckOfSection line general (options_in from) section checked)
   pub printed : Appends old new (checked_line checked)
 
--- The writer has gained the line of such an answer, and the run ends with that answer's status.
+-- The line of such an answer was written, and the run ends with that answer's status.
 pub record AnswersCheck (tells : List ℕ → Option (List ℕ) → Type 0) (from : Judging) (table : List ℕ)
     (old new : Option (List ℕ)) (status : Status) : Type 0 where
   pub checked : Checked
@@ -61,8 +62,8 @@ pub record AnswersCheck (tells : List ℕ → Option (List ℕ) → Type 0) (fro
 
 -- ---- sections that are judged
 
--- The judgement of the section in the named file is true, and what is told of it is so.
---     IsTold    what is told, of a judgement
+-- The judgement of the section in the named file is true, and a statement about that judgement holds.
+--     IsTold    the statement
 pub record IsOfSection (tells : List ℕ → Option (List ℕ) → Type 0) (from : Judging) (IsTold : JudgedIndex → Type 0) : Type 0 where
   pub line : List ℕ
   pub general : List ℕ
@@ -73,35 +74,34 @@ pub record IsOfSection (tells : List ℕ → Option (List ℕ) → Type 0) (from
   pub is_true : IfSome section_bytes (λ section. IsJudgedIndex line general (options_in from) section judged)
   pub told : IsTold judged
 
--- The writer has gained the answer to the question.
+-- The answer to the question was written.
 abbrev pub AnswersQuestion : (List ℕ → Option (List ℕ) → Type 0) → Judging → Question → Option (List ℕ) → Option (List ℕ) → Status
     → Type 0
 AnswersQuestion tells from question old new status =
     IsOfSection tells from (λ judged. AnswersJudged tells (options_in from) question judged old new status)
 
--- The same of what is told of the section and of the bytes of another file.
---     IsTold    what is told, of a judgement and the other file's bytes
+-- The same for a statement about the judgement and the bytes of another file.
 pub record IsOfFile (tells : List ℕ → Option (List ℕ) → Type 0) (from : Judging) (file : List ℕ)
     (IsTold : JudgedIndex → Option (List ℕ) → Type 0) : Type 0 where
   pub file_bytes : Option (List ℕ)
   pub of_file : tells file file_bytes
   pub so : IsOfSection tells from (λ judged. IsTold judged file_bytes)
 
--- The writer has gained the answers to the positions in the lines of the file of this name, or why the section isn't good.
+-- The answers to the positions in the lines of the file with this name were written, or why the section isn't good.
 abbrev pub AnswersAddresses : (List ℕ → Option (List ℕ) → Type 0) → Judging → List ℕ → ℕ → Option (List ℕ) → Option (List ℕ) → Status
     → Type 0
 AnswersAddresses tells from file op old new status =
     IsOfFile tells from file (λ judged text. AnswersAddressesJudged judged op text old new status)
 
--- The writer has gained the lines of the places at which the table in the file of this name answers otherwise, or why the section
--- isn't good.
+-- The lines of the places at which the table in the file with this name answers otherwise were written, or why the section isn't
+-- good.
 abbrev pub AnswersPlaces : (List ℕ → Option (List ℕ) → Type 0) → Judging → List ℕ → Option (List ℕ) → Option (List ℕ) → Status → Type 0
 AnswersPlaces tells from table old new status =
     IsOfFile tells from table (λ judged text. ArePlacesTold (options_in from) judged text old new status)
 
 -- ---- sections that are read
 
--- The writer has gained the answer of this reading, for the section in the named file.
+-- The answer of this reading was written, for the section in the named file.
 pub record AnswersRead (tells : List ℕ → Option (List ℕ) → Type 0) (section : List ℕ) (order : Order) (reading : Reading)
     (old new : Option (List ℕ)) (status : Status) : Type 0 where
   pub section_bytes : Option (List ℕ)

@@ -9,7 +9,7 @@ use Rattle.lnt_verdicts.specs.declared.stretches.Stretches.{Stretches}
 use Rattle.lnt_verdicts.specs.Stretches.{AreStretchesOf, IsFaultTold, told_status}
 use Rattle.lnt_cli.specs.Questions.{ForUnitsOf, IsNoTold}
 
--- What is told of a good section with this index and of a table: its first fault, or all places where the two differ.
+-- What is written for a good section with this index and a table: the table's first fault, or all places where the two differ.
 pub record AreTableTold (options : Options) (index : Indexed) (table old new : Option (List ℕ)) (status : Status) : Type 0 where
   pub told : Stretches
   pub fault : IsFaultTold told old new
@@ -17,7 +17,7 @@ pub record AreTableTold (options : Options) (index : Indexed) (table old new : O
   pub so : ForUnitsOf options index (λ units. IfSome table
       (λ text. AreStretchesOf index options.dead options.skip_copies units text old new told))
 
--- What is told of a section that was judged so and of a table.
+-- What is written for a section with this judgement and a table.
 abbrev pub ArePlacesTold : Options → JudgedIndex → Option (List ℕ) → Option (List ℕ) → Option (List ℕ) → Status → Type 0
 ArePlacesTold options (Good index) table old new status = AreTableTold options index table old new status
 ArePlacesTold options (Bad reason) table old new status = IsNoTold reason old new status

@@ -1,5 +1,5 @@
 -- The answer to a question about a section that was judged.
---     tells       what an opener may tell of the file of a name
+--     tells       what the opener may give for the file with a name
 --     old, new    what the writer of the answer holds before and afterwards
 use Rattle.std.specs.Prelude.{◌≡◌, ℕ, List, ◌++◌, Option, true, false, codes}
 use Rattle.std.specs.List.{flat_map}
@@ -27,7 +27,7 @@ use Rattle.lnt_answers.specs.SumLines.{AreSumsTold, listed_files}
 use Rattle.lnt_lines.specs.FaultTexts.{no_text}
 use Rattle.lnt_verdicts.specs.PathTables.{IsPrintedTable}
 
--- It holds for all units that the index may have been made of, with these options.
+-- It holds for all units of which, with these options, the index may have been made.
 abbrev pub ForUnitsOf : Options → Indexed → (List (ℕ × UnitParts) → Type 0) → Type 0
 ForUnitsOf options index IsSo = (units : List (ℕ × UnitParts)) → IsIndexOf options.dead options.skip_copies units index → IsSo units
 
@@ -42,7 +42,7 @@ IsTableTold version options index old new =
     (bytes : List ℕ) × Appends old new bytes × ForUnitsOf options index
     (λ units. IsTableOfUnits version options.dead options.skip_copies units bytes)
 
--- The same for the table by path; or the line that there can't be one.
+-- The same for the table by path; or for the line that says that there can't be one.
 abbrev pub IsPathTableTold : PathVersion → Options → Indexed → Option (List ℕ) → Option (List ℕ) → Status → Type 0
 IsPathTableTold version options index old new status =
     ForUnitsOf options index (λ units. IsPrintedTable version (told_path version index options.dead options.skip_copies units) old new
@@ -60,7 +60,7 @@ AnswersGood tells options (TableByPath true) index old new status = IsPathTableT
 AnswersGood tells options (TableByPath false) index old new status = IsPathTableTold Four options index old new status
 AnswersGood tells options Md5 index old new status = AreSumsTold tells index (listed_files index) old new status
 
--- The line of why the section isn't good was printed, and nothing else, and the run ends with No.
+-- The line that says why the section isn't good was printed, and nothing else, and the run ends with No.
 abbrev pub IsNoTold : No → Option (List ℕ) → Option (List ℕ) → Status → Type 0
 IsNoTold reason old new status = Appends old new (no_text reason ++ codes "\n") × (status ≡ ending.No)
 

@@ -1,4 +1,4 @@
--- The answer where a section is read and its lines aren't judged.
+-- The answer if a section is read and its lines aren't judged.
 use Rattle.std.specs.Prelude.{ℕ, List, Option, Some}
 use Rattle.lnt_output.specs.Fronts.{HasBegun}
 use Rattle.lnt_sources.specs.declared.status.Status.{Status}
@@ -8,16 +8,16 @@ use Rattle.lnt_words.specs.declared.request.Reading.TheVariants.{Convert, Units}
 use Rattle.lnt_dump.specs.Printed.{IsConversionTold}
 use Rattle.lnt_dump.specs.Units.{AreBytes, AreUnitsTold}
 
--- A writer that held these bytes has gained the answer, and nothing else. For Units, that is the lines of the section's frames
--- and of its first fault; for Convert, the section in another format and order, or the line that says why there is none. Of
--- dumps nothing is said.
+-- The answer was appended to these bytes, and nothing else. For Units, that is the lines of the section's frames and of its first
+-- fault; for Convert, the section in another format and order, or the line that says why there is none. Nothing is stated for
+-- dumps.
 abbrev pub AnswersReading : Order → Reading → List ℕ → Option (List ℕ) → Option (List ℕ) → Status → Type 0
 AnswersReading order Units bytes old new status = AreUnitsTold order (Some bytes) old new status
 AnswersReading order (Convert format to) bytes old new status = IsConversionTold order bytes format to old new status
 AnswersReading order other bytes old new status = Unit {0}
 
--- A writer that held these bytes has gained a front of that answer, and nothing else. For a list of units this is said only
--- where `bytes` are numbers below 256, as the bytes of each file are.
+-- A prefix of that answer was appended to these bytes, and nothing else. For a list of units this is stated only if `bytes` are
+-- numbers below 256, as the bytes of each file are.
 abbrev pub BeginsReading : Order → Reading → List ℕ → Option (List ℕ) → Option (List ℕ) → Type 0
 BeginsReading order Units bytes old new = AreBytes bytes → HasBegun (AnswersReading order Units bytes old) old new
 BeginsReading order (Convert format to) bytes old new = HasBegun (AnswersReading order (Convert format to) bytes old) old new

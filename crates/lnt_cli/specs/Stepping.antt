@@ -10,8 +10,8 @@ use Rattle.lnt_cli.specs.declared.judge.Places.TheVariants.{Section, Table}
 use Rattle.lnt_cli.specs.declared.stop.CliStop.{CliStop}
 use Rattle.lnt_cli.specs.declared.stop.CliStop.TheVariants.{Read, TooLong, Write, Memory}
 
--- The stop of a run where the work on the file of this name was stopped. Where the stop has the name, it may be Memory instead,
--- since memory may run out for a copy of the name.
+-- The stop of a run if the work on the file with this name was stopped. Instead of a stop with the name it may be Memory, since
+-- memory may run out for the copy of the name.
 abbrev pub IsFileStop : Halt → List ℕ → CliStop → Type 0
 IsFileStop halt.Read name (Read told) = string_bytes told ≡ name
 IsFileStop halt.Read name stop = stop ≡ Memory
@@ -20,7 +20,13 @@ IsFileStop halt.TooLong name stop = stop ≡ Memory
 IsFileStop halt.Write name stop = stop ≡ Write
 IsFileStop halt.Memory name stop = stop ≡ Memory
 
--- how a run ends where this was printed of a section and a table
+-- The file that a stop names is one that failed, or one that was found too long.
+abbrev pub IsOfCause : (List ℕ → Type 0) → (List ℕ → Type 0) → CliStop → Type 0
+IsOfCause HasFailed IsLong (Read told) = HasFailed (string_bytes told)
+IsOfCause HasFailed IsLong (TooLong told) = IsLong (string_bytes told)
+IsOfCause HasFailed IsLong _ = Unit {0}
+
+-- how a run ends if this was printed for a section and a table
 abbrev pub places_status : Places → Status
 places_status (Section reason) = ending.No
 places_status (Table told) = told_status told

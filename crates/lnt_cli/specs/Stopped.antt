@@ -1,5 +1,5 @@
--- What the writer of the answer has gained where the answer to a request was stopped: nothing, or a front of an answer.
---     tells       what an opener may tell of the file of a name, as the run begins
+-- What was written if the answer to a request was stopped: nothing, or a prefix of an answer.
+--     tells       what the opener may give for the file with a name, as the run begins
 --     old, new    what that writer holds before and afterwards
 use Rattle.std.specs.Prelude.{ℕ, List, ◌++◌, ◌⊎◌, Option, IfSome, true, false, codes, string_bytes}
 use Rattle.std.specs.List.{flat_map}
@@ -33,12 +33,12 @@ use Rattle.lnt_cli.specs.Readings.{BeginsReading}
 
 -- ---- sections that are judged
 
--- a front of the table by path of the units' answers, or of the line that there can't be one
+-- a prefix of the table by path of the units' answers, or of the line that says that there can't be one
 abbrev pub BeginsPathTableText : PathVersion → Options → Indexed → Option (List ℕ) → Option (List ℕ) → Type 0
 BeginsPathTableText version options index old new =
     ForUnitsOf options index (λ units. BeginsPrintedTable version (told_path version index options.dead options.skip_copies units) old new)
 
--- A front of the answer for a good section with this index.
+-- A prefix of the answer for a good section with this index.
 abbrev pub BeginsGood : (List ℕ → Option (List ℕ) → Type 0) → Options → Question → Indexed → Option (List ℕ) → Option (List ℕ) → Type 0
 BeginsGood tells options Verify index old new = AppendsFront old new (codes "yes\n")
 BeginsGood tells options (Lookup positions) index old new =
@@ -51,38 +51,38 @@ BeginsGood tells options (Table version) index old new =
 BeginsGood tells options (TableByPath true) index old new = BeginsPathTableText Three options index old new
 BeginsGood tells options (TableByPath false) index old new = BeginsPathTableText Four options index old new
 
--- A front of the answer for a section with this judgement.
+-- A prefix of the answer for a section with this judgement.
 abbrev pub BeginsJudged : (List ℕ → Option (List ℕ) → Type 0) → Options → Question → JudgedIndex → Option (List ℕ) → Option (List ℕ)
     → Type 0
 BeginsJudged tells options question (Good index) old new = BeginsGood tells options question index old new
 BeginsJudged tells options question (Bad reason) old new = AppendsFront old new (no_text reason ++ codes "\n")
 
--- The judgement of the section in the named file is true, and the writer has gained a front of the answer to the question.
+-- The judgement of the section in the named file is true, and a prefix of the answer to the question was written.
 abbrev pub BeginsQuestion : (List ℕ → Option (List ℕ) → Type 0) → Judging → Question → Option (List ℕ) → Option (List ℕ) → Type 0
 BeginsQuestion tells from question old new = IsOfSection tells from (λ judged. BeginsJudged tells (options_in from) question judged old new)
 
--- A front of the answers to all lines of a text of positions, for a section with this judgement.
+-- A prefix of the answers to all lines of a text of positions, for a section with this judgement.
 abbrev pub BeginsAddressesJudged : JudgedIndex → ℕ → Option (List ℕ) → Option (List ℕ) → Option (List ℕ) → Type 0
 BeginsAddressesJudged (Good index) op text old new = AreAddressesBegun index op text old new
 BeginsAddressesJudged (Bad reason) op text old new = AppendsFront old new (no_text reason ++ codes "\n")
 
--- A front of the lines of all places at which a table answers otherwise than a section with this judgement.
+-- A prefix of the lines of all places at which a table answers otherwise than a section with this judgement.
 abbrev pub ArePlacesBegun : Options → JudgedIndex → Option (List ℕ) → Option (List ℕ) → Option (List ℕ) → Type 0
 ArePlacesBegun options (Good index) table old new = ForUnitsOf options index (λ units. IfSome table
     (λ text. AreStretchesBegun index options.dead options.skip_copies units text old new))
 ArePlacesBegun options (Bad reason) table old new = AppendsFront old new (no_text reason ++ codes "\n")
 
--- The writer has gained a front of the answers to all lines of the file of this name, also to those that weren't read yet.
+-- A prefix of the answers to all lines of the file with this name was written. Lines that weren't read yet count among them.
 abbrev pub BeginsAddresses : (List ℕ → Option (List ℕ) → Type 0) → Judging → List ℕ → ℕ → Option (List ℕ) → Option (List ℕ) → Type 0
 BeginsAddresses tells from file op old new = IsOfFile tells from file (λ judged text. BeginsAddressesJudged judged op text old new)
 
--- The writer has gained a front of the lines of all places at which the table in the file of this name answers otherwise.
+-- A prefix of the lines of all places at which the table in the file with this name answers otherwise was written.
 abbrev pub BeginsPlaces : (List ℕ → Option (List ℕ) → Type 0) → Judging → List ℕ → Option (List ℕ) → Option (List ℕ) → Type 0
 BeginsPlaces tells from table old new = IsOfFile tells from table (λ judged text. ArePlacesBegun (options_in from) judged text old new)
 
 -- ---- sections that are read
 
--- The writer has gained a front of the answer of this reading, for the section in the named file.
+-- A prefix of the answer of this reading was written, for the section in the named file.
 pub record StopsRead (tells : List ℕ → Option (List ℕ) → Type 0) (section : List ℕ) (order : Order) (reading : Reading)
     (old new : Option (List ℕ)) : Type 0 where
   pub section_bytes : Option (List ℕ)
@@ -91,7 +91,7 @@ pub record StopsRead (tells : List ℕ → Option (List ℕ) → Type 0) (sectio
 
 -- ---- requests
 
--- What the writer has gained where the answer to this request was stopped. Nothing is said of dumps.
+-- What was written if the answer to this request was stopped. Nothing is stated for dumps.
 abbrev pub IsStopped : (List ℕ → Option (List ℕ) → Type 0) → Request → Option (List ℕ) → Option (List ℕ) → Type 0
 IsStopped tells (Help text) old new = AppendsFront old new (string_bytes text)
 IsStopped tells (Read section order reading) old new = Keeps old new ⊎ StopsRead tells section.now order reading old new

@@ -1,10 +1,10 @@
 //! The files that a run reads.
-ghost use Rattle.std.specs.Prelude.{◌≡◌, IfErr, IfOk, IsErr, Ok, OnErr};
+ghost use Rattle.std.specs.Prelude.{◌≡◌, ◌⊎◌, ℕ, List, IfErr, IfOk, IsErr, Ok, OnErr, Some};
 ghost use Rattle.std.specs.Option.{option_copied};
 ghost use Rattle.lnt_sources.specs.Files.{TellsNoMore};
 ghost use Rattle.lnt_cli.specs.Answered.{AreStringsOf, AreTextsOf};
 ghost use Rattle.lnt_cli.specs.Stepping.{IsFileStop};
-ghost use Rattle.lnt_cli.specs.Stops.{IsUsage};
+ghost use Rattle.lnt_cli.specs.Stops.{IsFileOf, IsUsage, TellsFile};
 
 use crate::stop::CliStop;
 use lnt_input::{Counted, Source};
@@ -38,11 +38,12 @@ impl Texts {
     }
 }
 
-// The result of the work on a file, with the file's name in a stop.
+// The result of the work on a file. A stop has the file's name.
 pub(crate) fn of_file<T>(alloc: Global, name: &str, ended: Result<T, Halt>) -> Result<T, CliStop>
     ensures ok { IfOk result (λ value. ended ≡ Ok value) }
     ensures told { IfErr result (λ stop. IfErr ended (λ halt. IsFileStop halt name.now stop)) }
     ensures err { OnErr result (IsErr ended) }
+    ensures named { IfErr result (λ stop. (told : List ℕ) → TellsFile stop told → name.now ≡ told) }
     ensures usage { IfErr result (λ stop. IsUsage stop → ⊥) }
 {
     match ended {
@@ -51,7 +52,7 @@ pub(crate) fn of_file<T>(alloc: Global, name: &str, ended: Result<T, Halt>) -> R
     }
 }
 
-// Opens the section in the file of this name. `seen` keeps what notes need of its bytes.
+// Opens the section in the file with this name. `seen` keeps what notes need of its bytes.
 pub(crate) fn open_section<'c, O: Opener>(
     alloc: Global,
     opener: &mut O,
@@ -85,6 +86,7 @@ pub(crate) fn open_judged<'c, O: Opener>(
     seen: &'c Cell<Seen>,
 ) -> Result<Opened<Section<'c, O::Reader>>, CliStop>
     ensures usage { IfErr result (λ stop. IsUsage stop → ⊥) }
+    ensures named { IfErr result (λ stop. (name : List ℕ) → TellsFile stop name → IsFileOf from.now name) }
     ensures texts { IfOk result (λ opened.
         AreTextsOf (O.tells opener.old) from.now opened.texts.line.items opened.texts.general.items) }
     ensures failures { IfOk result (λ opened.
@@ -99,19 +101,20 @@ pub(crate) fn open_judged<'c, O: Opener>(
     Ok(Opened { texts, section })
 }
 
-// Opens the file of this name.
+// Opens the file with this name.
 pub(crate) fn open<O: Opener>(
     alloc: Global,
     opener: &mut O,
-    name: &str,
+    file: &str,
 ) -> Result<Counted<BufReader<O::Reader>>, CliStop>
     ensures usage { IfErr result (λ stop. IsUsage stop → ⊥) }
+    ensures named { IfErr result (λ stop. (name : List ℕ) → TellsFile stop name → file.now ≡ name) }
     ensures failures { IfOk result (λ source. ⟦<Counted<BufReader<O::Reader>> as Source>⟧.failures source ≡ 0) }
     ensures told { IfOk result (λ source.
-        O.tells opener.old name.now (⟦<Counted<BufReader<O::Reader>> as Source>⟧.remaining source)) }
+        O.tells opener.old file.now (⟦<Counted<BufReader<O::Reader>> as Source>⟧.remaining source)) }
     ensures later { TellsNoMore (O.tells opener.old) (O.tells opener.new) }
 {
-    of_file(alloc, name, open_file(alloc, opener, name))
+    of_file(alloc, file, open_file(alloc, opener, file))
 }
 
 // The open files of a section that is to be judged, and another open file.
@@ -122,16 +125,17 @@ pub(crate) struct OpenedBoth<S, F> {
     pub(crate) file: F,
 }
 
-// Opens the files of a section that is to be judged and then the file of this name, before the first read of the section or
+// Opens the files of a section that is to be judged and then the file with this name, before the first read of the section or
 // of that file.
 pub(crate) fn open_both<'c, O: Opener>(
     alloc: Global,
     opener: &mut O,
     from: &Judging<'_>,
-    name: &str,
+    file: &str,
     seen: &'c Cell<Seen>,
 ) -> Result<OpenedBoth<Section<'c, O::Reader>, Counted<BufReader<O::Reader>>>, CliStop>
     ensures usage { IfErr result (λ stop. IsUsage stop → ⊥) }
+    ensures named { IfErr result (λ stop. (name : List ℕ) → TellsFile stop name → IsFileOf from.now name ⊎ (file.now ≡ name)) }
     ensures texts { IfOk result (λ opened.
         AreTextsOf (O.tells opener.old) from.now opened.texts.line.items opened.texts.general.items) }
     ensures section_fails { IfOk result (λ opened.
@@ -140,10 +144,10 @@ pub(crate) fn open_both<'c, O: Opener>(
         (⟦<Counted<BufReader<WatchedReader<'c, O::Reader>>> as Source>⟧.remaining opened.section)) }
     ensures file_fails { IfOk result (λ opened. ⟦<Counted<BufReader<O::Reader>> as Source>⟧.failures opened.file ≡ 0) }
     ensures file_told { IfOk result (λ opened.
-        O.tells opener.old name.now (⟦<Counted<BufReader<O::Reader>> as Source>⟧.remaining opened.file)) }
+        O.tells opener.old file.now (⟦<Counted<BufReader<O::Reader>> as Source>⟧.remaining opened.file)) }
 {
     let judged = open_judged(alloc, opener, from, seen)?;
-    let file = open(alloc, opener, name)?;
+    let file = open(alloc, opener, file)?;
     Ok(OpenedBoth {
         texts: judged.texts,
         section: judged.section,
@@ -151,13 +155,14 @@ pub(crate) fn open_both<'c, O: Opener>(
     })
 }
 
-// The bytes of both string sections; empty where no file is named.
+// The bytes of both string sections; empty if no file is named.
 pub(crate) fn read_texts<O: Opener>(
     alloc: Global,
     opener: &mut O,
     from: &Judging<'_>,
 ) -> Result<Texts, CliStop>
     ensures usage { IfErr result (λ stop. IsUsage stop → ⊥) }
+    ensures named { IfErr result (λ stop. (name : List ℕ) → TellsFile stop name → IsFileOf from.now name) }
     ensures texts { IfOk result (λ texts. AreTextsOf (O.tells opener.old) from.now texts.line.items texts.general.items) }
     ensures later { TellsNoMore (O.tells opener.old) (O.tells opener.new) }
 {
@@ -166,17 +171,18 @@ pub(crate) fn read_texts<O: Opener>(
     Ok(Texts { line, general })
 }
 
-// All bytes of the file of this name; empty without a name.
+// All bytes of the file with this name; empty without a name.
 fn read_strings<O: Opener>(
     alloc: Global,
     opener: &mut O,
-    name: Option<&str>,
+    file: Option<&str>,
 ) -> Result<Vec<u8>, CliStop>
     ensures usage { IfErr result (λ stop. IsUsage stop → ⊥) }
-    ensures strings { IfOk result (λ bytes. AreStringsOf (O.tells opener.old) (option_copied name.entry) bytes.items) }
+    ensures named { IfErr result (λ stop. (name : List ℕ) → TellsFile stop name → option_copied file.entry ≡ Some name) }
+    ensures strings { IfOk result (λ bytes. AreStringsOf (O.tells opener.old) (option_copied file.entry) bytes.items) }
     ensures later { TellsNoMore (O.tells opener.old) (O.tells opener.new) }
 {
-    match name {
+    match file {
         Some(name) => of_file(alloc, name, bytes_of_file(alloc, opener, name)),
         None => Ok(Vec::new(alloc)),
     }

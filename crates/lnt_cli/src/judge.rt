@@ -1,24 +1,24 @@
 //! The subcommand `check`, and the notes to answers about a section that is judged.
-ghost use Rattle.std.specs.Prelude.{◌≡◌, ◌-◌, ◌^◌, ◌<◌, ◌⊎◌, ℕ, List, Option, IfErr, IfOk, IfSome, OnErr};
+ghost use Rattle.std.specs.Prelude.{◌≡◌, ◌-◌, ◌^◌, ◌<◌, ◌⊎◌, ℕ, List, Option, IfErr, IfOk, IfSome, IsTrue, OnErr};
 ghost use Rattle.std.specs.Io.KnownBytes.{Appends, Keeps};
 ghost use Rattle.lnt_output.specs.Fronts.{HasBegun};
 ghost use Rattle.lnt_cli.specs.Answered.{AnswersCheck, AnswersPlaces, IsChecked, options_in};
 ghost use Rattle.lnt_cli.specs.Places.{ArePlacesTold};
-ghost use Rattle.lnt_cli.specs.Stepping.{places_status};
+ghost use Rattle.lnt_cli.specs.Stepping.{IsOfCause, places_status};
 ghost use Rattle.lnt_cli.specs.Stopped.{ArePlacesBegun, BeginsPlaces};
-ghost use Rattle.lnt_cli.specs.Stops.{IsUsage};
+ghost use Rattle.lnt_cli.specs.Stops.{IsFileOf, IsUsage, TellsFile};
 ghost use Rattle.lnt_lines.specs.Drafts.{IsJudgedIndex};
 ghost use Rattle.lnt_lines.specs.declared.options.Options.{Options as OptionsSpec};
 ghost use Rattle.lnt_lines.specs.declared.section.JudgedIndex.{JudgedIndex};
 ghost use Rattle.lnt_lines.specs.declared.section.JudgedIndex.TheVariants.{Good};
-ghost use Rattle.lnt_table.specs.AnyVersion.{IsTrueCheck};
+ghost use Rattle.lnt_table.specs.AnyVersion.{IsTrueCheck, IsTrueCheckOfSection};
 ghost use Rattle.lnt_verdicts.specs.Verdicts.{checked_line, checked_status, compared_status, verdict_status};
 
 use crate::inputs::{OpenedBoth, of_file, open_both};
 use crate::question::judge;
 use crate::session::Session;
 use crate::stop::CliStop;
-use lnt_input::Source;
+use lnt_input::{Source, Stop};
 use lnt_lines::{Index, JudgedIndex, No, Options};
 use lnt_notes::{Columns, Given, Hints, Seen, tell_agreed, tell_bad, tell_good, tell_table};
 use lnt_paths::ComparedByPath;
@@ -55,9 +55,10 @@ fn given_of<'a>(from: &Judging<'a>) -> Given<'a> {
 }
 
 impl<O: Opener, W: Write, N: Write> Session<'_, '_, '_, O, W, N> {
-    // Answers whether the table in the file of this name answers as the section does.
+    // Answers whether the table in the file with this name answers as the section does.
     pub(crate) fn check_table(&mut self, from: &Judging<'_>, table: &str) -> Result<Status, CliStop>
         ensures usage { IfErr result (λ stop. IsUsage stop → ⊥) }
+        ensures named { IfErr result (λ stop. (name : List ℕ) → TellsFile stop name → IsFileOf from.now name ⊎ (table.now ≡ name)) }
         ensures answer { IfOk result (λ status. AnswersCheck (O.tells self.old.opener.now) from.now table.now
             (W.contents self.old.out.now) (W.contents self.new.out.now) status) }
         ensures stopped { OnErr result (Keeps (W.contents self.old.out.now) (W.contents self.new.out.now)
@@ -73,7 +74,7 @@ impl<O: Opener, W: Write, N: Write> Session<'_, '_, '_, O, W, N> {
     }
 }
 
-// Judges whether the table in the file of this name, of any version, answers as the section does. The result is the answer to
+// Judges whether the table in the file with this name, of any version, answers as the section does. The result is the answer to
 // the check once its line is printed. `seen` keeps what notes need of the section's bytes.
 fn judge_table<O: Opener>(
     alloc: Global,
@@ -83,6 +84,7 @@ fn judge_table<O: Opener>(
     seen: &Cell<Seen>,
 ) -> Result<Checked, CliStop>
     ensures usage { IfErr result (λ stop. IsUsage stop → ⊥) }
+    ensures named { IfErr result (λ stop. (name : List ℕ) → TellsFile stop name → IsFileOf from.now name ⊎ (table.now ≡ name)) }
     ensures checked { IfOk result (λ checked. (old new : Option (List ℕ)) → Appends old new (checked_line checked)
         → IsChecked (O.tells opener.old) from.now table.now old new checked) }
 {
@@ -97,11 +99,19 @@ fn judge_table_of<S: Source, F: Source>(
     table: &str,
     files: &mut OpenedBoth<S, F>,
 ) -> Result<Checked, CliStop>
-    requires section { S.failures files.old.section < 2 ^ 64 - 1 }
-    requires table { F.failures files.old.file < 2 ^ 64 - 1 }
+    requires section { S.failures files.old.section ≡ 0 }
+    requires table { F.failures files.old.file ≡ 0 }
     ensures usage { IfErr result (λ stop. IsUsage stop → ⊥) }
+    ensures named { IfErr result (λ stop. (name : List ℕ) → TellsFile stop name → IsFileOf from.now name ⊎ (table.now ≡ name)) }
     ensures checked { IfOk result (λ checked. IfSome (S.remaining files.old.section) (λ bytes. IfSome (F.remaining files.old.file) (λ text.
         IsTrueCheck files.old.texts.line.items files.old.texts.general.items (options_in from.now) bytes text checked))) }
+    ensures of_section { IfOk result (λ checked. IfSome (S.remaining files.old.section) (λ bytes.
+        IsTrueCheckOfSection files.old.texts.line.items files.old.texts.general.items (options_in from.now) bytes checked)) }
+    ensures cause { IfErr result (IsOfCause
+        (λ name. ((name ≡ from.now.section.now) × (0 < S.failures files.new.section))
+        ⊎ ((name ≡ table.now) × (0 < F.failures files.new.file)))
+        (λ name. ((name ≡ from.now.section.now) × IsTrue (S.too_long files.new.section))
+        ⊎ ((name ≡ table.now) × IsTrue (F.too_long files.new.file)))) }
 {
     let strings = files.texts.strings();
     match check_any(
@@ -112,16 +122,30 @@ fn judge_table_of<S: Source, F: Source>(
         &options_of(from),
     ) {
         Ok(checked) => Ok(checked),
-        // The section is read first: where it caused the stop, the table wasn't read.
         Err(stop) => {
-            let of_section = files.section.failures() > 0 || files.section.too_long();
-            let name = if of_section { from.section } else { table };
+            let name = cause_of(&files.section, stop, from.section, table);
             Err(CliStop::of_file(alloc, name, Halt::from(stop)))
         }
     }
 }
 
-// What was printed about a section and a table, where all places are asked for.
+// The name of the file that caused the stop of a check, of the section or of the table. The section is read first: if it
+// caused the stop, the table wasn't read.
+fn cause_of<'n, S: Source>(section: &S, stop: Stop, name: &'n str, table: &'n str) -> &'n str
+    ensures named { (result.now ≡ name.now) ⊎ (result.now ≡ table.now) }
+    ensures read { stop ≡ Stop.Read → ((result.now ≡ name.now) × (0 < S.failures section.now))
+        ⊎ ((result.now ≡ table.now) × (S.failures section.now ≡ 0)) }
+    ensures too_long { stop ≡ Stop.TooLong → ((result.now ≡ name.now) × IsTrue (S.too_long section.now))
+        ⊎ ((result.now ≡ table.now) × (IsTrue (S.too_long section.now) → ⊥)) }
+{
+    let of_section = match stop {
+        Stop::Read => section.failures() > 0,
+        Stop::TooLong | Stop::Memory => section.too_long(),
+    };
+    if of_section { name } else { table }
+}
+
+// What was printed about a section and a table if all places are asked for.
 #[derive(Drop)]
 pub(crate) enum Places {
     // The section isn't good, for this reason.
@@ -132,9 +156,10 @@ pub(crate) enum Places {
 
 // All places at which a table answers otherwise.
 impl<O: Opener, W: Write, N: Write> Session<'_, '_, '_, O, W, N> {
-    // Prints all places at which the table in the file of this name answers otherwise than the section, or that there is none.
+    // Prints all places at which the table in the file with this name answers otherwise than the section, or that there is none.
     pub(crate) fn check_all(&mut self, from: &Judging<'_>, table: &str) -> Result<Status, CliStop>
         ensures usage { IfErr result (λ stop. IsUsage stop → ⊥) }
+        ensures named { IfErr result (λ stop. (name : List ℕ) → TellsFile stop name → IsFileOf from.now name ⊎ (table.now ≡ name)) }
         ensures answer { IfOk result (λ status. AnswersPlaces (O.tells self.old.opener.now) from.now table.now
             (W.contents self.old.out.now) (W.contents self.new.out.now) status) }
         ensures stopped { OnErr result (Keeps (W.contents self.old.out.now) (W.contents self.new.out.now)
@@ -148,7 +173,7 @@ impl<O: Opener, W: Write, N: Write> Session<'_, '_, '_, O, W, N> {
     }
 }
 
-// Prints all places at which the table in the file of this name answers otherwise than the section. `seen` keeps what notes
+// Prints all places at which the table in the file with this name answers otherwise than the section. `seen` keeps what notes
 // need of the section's bytes.
 fn judge_places<O: Opener, W: Write>(
     alloc: Global,
@@ -159,6 +184,7 @@ fn judge_places<O: Opener, W: Write>(
     out: &mut W,
 ) -> Result<Places, CliStop>
     ensures usage { IfErr result (λ stop. IsUsage stop → ⊥) }
+    ensures named { IfErr result (λ stop. (name : List ℕ) → TellsFile stop name → IsFileOf from.now name ⊎ (table.now ≡ name)) }
     ensures answer { IfOk result (λ places. AnswersPlaces (O.tells opener.old) from.now table.now
         (W.contents out.old) (W.contents out.new) (places_status places)) }
     ensures stopped { OnErr result (Keeps (W.contents out.old) (W.contents out.new)
@@ -168,7 +194,7 @@ fn judge_places<O: Opener, W: Write>(
     judge_places_of(alloc, from, table, &mut files, out)
 }
 
-// Prints all places at which the table in the file of this name answers otherwise than the section. The files are open.
+// Prints all places at which the table in the file with this name answers otherwise than the section. The files are open.
 fn judge_places_of<S: Source, F: Source, W: Write>(
     alloc: Global,
     from: &Judging<'_>,
@@ -179,6 +205,7 @@ fn judge_places_of<S: Source, F: Source, W: Write>(
     requires section { S.failures files.old.section < 2 ^ 64 - 1 }
     requires table { F.failures files.old.file < 2 ^ 64 - 1 }
     ensures usage { IfErr result (λ stop. IsUsage stop → ⊥) }
+    ensures named { IfErr result (λ stop. (name : List ℕ) → TellsFile stop name → IsFileOf from.now name ⊎ (table.now ≡ name)) }
     ensures answer { IfOk result (λ places. (judged : JudgedIndex)
         × IfSome (S.remaining files.old.section) (λ bytes.
         IsJudgedIndex files.old.texts.line.items files.old.texts.general.items (options_in from.now) bytes judged)
@@ -195,7 +222,7 @@ fn judge_places_of<S: Source, F: Source, W: Write>(
     }
 }
 
-// Prints all places at which the table in the file of this name answers otherwise than a good section.
+// Prints all places at which the table in the file with this name answers otherwise than a good section.
 fn print_places<T: Source, W: Write>(
     alloc: Global,
     index: &Index<'_>,
@@ -205,6 +232,7 @@ fn print_places<T: Source, W: Write>(
 ) -> Result<Places, CliStop>
     requires { T.failures records.old < 2 ^ 64 - 1 }
     ensures usage { IfErr result (λ stop. IsUsage stop → ⊥) }
+    ensures named { IfErr result (λ stop. (name : List ℕ) → TellsFile stop name → table.now ≡ name) }
     ensures answer { IfOk result (λ places. (options : OptionsSpec) → ArePlacesTold options (Good index.now) (T.remaining records.old)
         (W.contents out.old) (W.contents out.new) (places_status places)) }
     ensures stopped { OnErr result (Keeps (W.contents out.old) (W.contents out.new) ⊎ ((options : OptionsSpec)
@@ -214,7 +242,7 @@ fn print_places<T: Source, W: Write>(
     Ok(Places::Table(of_file(alloc, table, printed)?))
 }
 
-// The notes to answers. None is written where the words ask for none, and a failure to write one doesn't stop a run.
+// The notes to answers. None is written if the words ask for none, and a failure to write one doesn't stop a run.
 impl<O: Opener, W: Write, N: Write> Session<'_, '_, '_, O, W, N> {
     pub(crate) fn tell_good(&mut self, hints: &Hints, from: &Judging<'_>)
         ensures { self.new.out ≡ self.old.out }
@@ -233,7 +261,7 @@ impl<O: Opener, W: Write, N: Write> Session<'_, '_, '_, O, W, N> {
         }
     }
 
-    // Writes the notes to what a check answers, and gives the status with which the run ends.
+    // Writes the notes to the answer of a check, and returns the status with which the run ends.
     fn tell_checked(
         &mut self,
         checked: &Checked,
@@ -250,7 +278,7 @@ impl<O: Opener, W: Write, N: Write> Session<'_, '_, '_, O, W, N> {
         }
     }
 
-    // The same of all places.
+    // The same for all places.
     fn tell_places(
         &mut self,
         places: &Places,
@@ -279,7 +307,7 @@ impl<O: Opener, W: Write, N: Write> Session<'_, '_, '_, O, W, N> {
         }
     }
 
-    // The same of what a check of a table by path answers.
+    // The same for a check of a table by path.
     fn tell_compared(
         &mut self,
         compared: &ComparedByPath,
@@ -296,7 +324,7 @@ impl<O: Opener, W: Write, N: Write> Session<'_, '_, '_, O, W, N> {
         }
     }
 
-    // The same of what a check of a table of version 1 or 2 answers.
+    // The same for a check of a table of version 1 or 2.
     fn tell_verdict(
         &mut self,
         verdict: &Verdict,
@@ -321,7 +349,7 @@ impl<O: Opener, W: Write, N: Write> Session<'_, '_, '_, O, W, N> {
         }
     }
 
-    // The same where the table answers as the section does.
+    // The same if the table answers as the section does.
     fn tell_agreed(&mut self, from: &Judging<'_>, table: &str) -> Status
         ensures status { result ≡ Status.Done }
         ensures same { self.new.out ≡ self.old.out }
@@ -333,7 +361,7 @@ impl<O: Opener, W: Write, N: Write> Session<'_, '_, '_, O, W, N> {
         Status::Done
     }
 
-    // The same of a fault of the table.
+    // The same for a fault of the table.
     fn tell_fault(&mut self, fault: TableFault, columns: Columns, table: &str) -> Status
         ensures status { result ≡ Status.No }
         ensures same { self.new.out ≡ self.old.out }

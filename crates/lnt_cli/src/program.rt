@@ -1,10 +1,11 @@
 //! One run of the command.
-ghost use Rattle.std.specs.Prelude.{◌⊎◌, map, string_bytes, IfErr, IfOk, OnErr};
+ghost use Rattle.std.specs.Prelude.{◌⊎◌, ℕ, List, map, string_bytes, IfErr, IfOk, OnErr};
 ghost use Rattle.std.specs.Io.KnownBytes.{Keeps};
 ghost use Rattle.lnt_cli.specs.Answered.{IsAnswered};
-ghost use Rattle.lnt_cli.specs.Runs.{AnswersWords, StopsWords};
+ghost use Rattle.lnt_cli.specs.Runs.{AnswersWords, NameFile, StopsWords};
 ghost use Rattle.lnt_cli.specs.Stopped.{IsStopped};
-ghost use Rattle.lnt_cli.specs.Stops.{IsUsage};
+ghost use Rattle.lnt_cli.specs.Stops.{IsFileIn, IsUsage, TellsFile};
+ghost use Rattle.lnt_words.specs.Asking.{AskForNothing};
 
 use crate::session::Session;
 use crate::stop::CliStop;
@@ -17,14 +18,14 @@ use std::io::{self, Write};
 
 /// Runs the command that the words give, and writes its answer to `out`. The first word is the program's own name.
 ///
-/// `out` isn't flushed, except where the lines of a file of addresses are answered. A run is stopped by `Usage` before a file
-/// is opened, and `out` has then gained nothing; by `Read` or `TooLong` for a file that the words name; by `Write` where
-/// `out` failed, and then it holds a front of the text; and by `Memory`. Else the words ask for a request, by
-/// `lnt_words::request_of`, and it is answered as by [`answer`] (`AnswersWords`). Where that is stopped, `out` has gained what
-/// [`answer`] says (`StopsWords`).
+/// `out` isn't flushed, except after each answered block of lines of a file of addresses. A run stops with `Usage` only if the
+/// words ask for nothing (`AskForNothing`), before a file is opened and with nothing written; with `Read` or `TooLong` for a
+/// file that the words name (`NameFile`); with `Write` if `out` failed, after a prefix of the text; and with `Memory`.
+/// Otherwise the words ask for a request, by `lnt_words::request_of`, and it is answered as by [`answer`] (`AnswersWords`).
+/// If that stops, what [`answer`] states was written (`StopsWords`).
 ///
-/// Advice for a person is written to `notes`, a line for each note, to be shown after the answer; nothing where the words ask
-/// for no notes. A run isn't stopped where `notes` fails.
+/// Advice for a person is written to `notes`, a line for each note, to be shown after the answer; nothing if the words ask for
+/// no notes. A run doesn't stop if `notes` fails.
 pub fn run_with_notes<O: Opener, W: Write, N: Write>(
     alloc: Global,
     words: Vec<String>,
@@ -32,7 +33,9 @@ pub fn run_with_notes<O: Opener, W: Write, N: Write>(
     out: &mut W,
     notes: &mut N,
 ) -> Result<Status, CliStop>
-    ensures usage { IfErr result (λ stop. IsUsage stop → Keeps (W.contents out.old) (W.contents out.new)) }
+    ensures usage { IfErr result (λ stop. IsUsage stop → AskForNothing (map string_bytes words.items)
+        × Keeps (W.contents out.old) (W.contents out.new)) }
+    ensures named { IfErr result (λ stop. (name : List ℕ) → TellsFile stop name → NameFile (map string_bytes words.items) name) }
     ensures answer { IfOk result (λ status. AnswersWords (O.tells opener.old) (map string_bytes words.items)
         (W.contents out.old) (W.contents out.new) status) }
     ensures stopped { OnErr result (Keeps (W.contents out.old) (W.contents out.new)
@@ -48,14 +51,16 @@ pub fn run_with_notes<O: Opener, W: Write, N: Write>(
     answer(alloc, &asked, opener, out, notes)
 }
 
-/// Runs the command as [`run_with_notes`] does, and gives its notes up.
+/// Runs the command as [`run_with_notes`] does, and drops its notes.
 pub fn run<O: Opener, W: Write>(
     alloc: Global,
     words: Vec<String>,
     opener: &mut O,
     out: &mut W,
 ) -> Result<Status, CliStop>
-    ensures usage { IfErr result (λ stop. IsUsage stop → Keeps (W.contents out.old) (W.contents out.new)) }
+    ensures usage { IfErr result (λ stop. IsUsage stop → AskForNothing (map string_bytes words.items)
+        × Keeps (W.contents out.old) (W.contents out.new)) }
+    ensures named { IfErr result (λ stop. (name : List ℕ) → TellsFile stop name → NameFile (map string_bytes words.items) name) }
     ensures answer { IfOk result (λ status. AnswersWords (O.tells opener.old) (map string_bytes words.items)
         (W.contents out.old) (W.contents out.new) status) }
     ensures stopped { OnErr result (Keeps (W.contents out.old) (W.contents out.new)
@@ -66,22 +71,20 @@ pub fn run<O: Opener, W: Write>(
 
 /// Answers a request: writes the answer to `out`, and its notes to `notes`.
 ///
-/// For a check of a table, `out` has gained one line, and nothing else: `yes`, where all that `check_any` of `lnt_table` says
-/// of a yes is true of the bytes that the opener tells of the files; or the first thing that is wrong, which is true of these
-/// bytes (`AnswersCheck`). It answers `Done` exactly where that line is `yes`, and else `No`. For all places at which a table
-/// answers otherwise, `out` has gained a line for each of them, or `yes` where there is none (`AnswersPlaces`).
+/// For a check of a table, one line is written, and nothing else: `yes`, if all that `check_any` of `lnt_table` states for a
+/// yes is true of the bytes that the opener gives for the files; or the first thing that is wrong, which is true of these
+/// bytes (`AnswersCheck`). It returns `Done` exactly if that line is `yes`, and otherwise `No`. For all places at which a table
+/// answers otherwise, a line is written for each of them, or `yes` if there is none (`AnswersPlaces`).
 ///
-/// For a question about a section that isn't good, `out` has gained the line of a true reason, and it answers `No`; for one
-/// about a good section, what the section's rows and headers say (`AnswersQuestion`). For a conversion, `out` has gained the
-/// converted section, or the line that says why there is none; for a list of units, the lines of the section's frames and of
-/// its first fault (`AnswersRead`). For the lines of a file, `out` has gained a line for each of them (`AnswersAddresses`).
+/// For a question about a section that isn't good, the line of a true reason is written, and it returns `No`; for one about a
+/// good section, what the section's rows and headers say (`AnswersQuestion`). For a conversion, the converted section is
+/// written, or the line that says why there is none; for a list of units, the lines of the section's frames and of its first
+/// fault (`AnswersRead`). For the lines of a file, a line is written for each of them (`AnswersAddresses`).
 ///
-/// Where it stops, and the request was for help, a list of units, a conversion, a check of a table, all places at which a table
-/// answers otherwise, a question about a section, or the lines of a file, `out` has gained a front of an answer, and nothing
-/// else (`IsStopped`): there is such an answer also where the run stopped before its end. It stops as `run` does, and never by
-/// `Usage`.
+/// If it stops, a prefix of an answer has been written, and nothing else (`IsStopped`), for each request but a dump. It stops as
+/// `run` does, with the name of a file that the request has, and never with `Usage`.
 ///
-/// Nothing is said of what dumps print.
+/// Nothing is stated for what dumps print.
 pub fn answer<O: Opener, W: Write, N: Write>(
     alloc: Global,
     asked: &Asked<'_>,
@@ -90,6 +93,7 @@ pub fn answer<O: Opener, W: Write, N: Write>(
     notes: &mut N,
 ) -> Result<Status, CliStop>
     ensures usage { IfErr result (λ stop. IsUsage stop → ⊥) }
+    ensures named { IfErr result (λ stop. (name : List ℕ) → TellsFile stop name → IsFileIn asked.now.request name) }
     ensures answer { IfOk result (λ status.
         IsAnswered (O.tells opener.old) asked.now.request (W.contents out.old) (W.contents out.new) status) }
     ensures stopped { OnErr result (IsStopped (O.tells opener.old) asked.now.request (W.contents out.old) (W.contents out.new)) }

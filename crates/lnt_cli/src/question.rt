@@ -1,12 +1,12 @@
 //! Questions about a good section.
-ghost use Rattle.std.specs.Prelude.{◌≡◌, ◌-◌, ◌^◌, ◌<◌, ◌⊎◌, IfErr, IfOk, IfSome, OnErr};
+ghost use Rattle.std.specs.Prelude.{◌≡◌, ◌-◌, ◌^◌, ◌<◌, ◌⊎◌, ℕ, List, IfErr, IfOk, IfSome, OnErr};
 ghost use Rattle.std.specs.Io.KnownBytes.{Keeps};
 ghost use Rattle.lnt_answers.specs.AddressLines.{AreAddressesBegun, AreAddressesTold};
 ghost use Rattle.lnt_answers.specs.Lines.{HasBegunLine, IsIndexGiven, IsReasonTold};
 ghost use Rattle.lnt_cli.specs.Answered.{AnswersAddresses, AnswersQuestion, options_in};
 ghost use Rattle.lnt_cli.specs.Questions.{AnswersAddressesJudged, AnswersGood, AnswersJudged};
 ghost use Rattle.lnt_cli.specs.Stopped.{BeginsAddresses, BeginsAddressesJudged, BeginsGood, BeginsJudged, BeginsQuestion};
-ghost use Rattle.lnt_cli.specs.Stops.{IsUsage};
+ghost use Rattle.lnt_cli.specs.Stops.{IsFileOf, IsUsage, TellsFile};
 ghost use Rattle.lnt_lines.specs.Drafts.{IsJudgedIndex};
 ghost use Rattle.lnt_lines.specs.declared.options.Options.{Options as OptionsSpec};
 ghost use Rattle.lnt_lines.specs.declared.section.JudgedIndex.{JudgedIndex};
@@ -52,6 +52,7 @@ impl<O: Opener, W: Write, N: Write> Session<'_, '_, '_, O, W, N> {
         question: &Question,
     ) -> Result<Status, CliStop>
         ensures usage { IfErr result (λ stop. IsUsage stop → ⊥) }
+        ensures named { IfErr result (λ stop. (name : List ℕ) → TellsFile stop name → IsFileOf from.now name) }
         ensures answer { IfOk result (λ status. AnswersQuestion (O.tells self.old.opener.now) from.now question.now
             (W.contents self.old.out.now) (W.contents self.new.out.now) status) }
         ensures stopped { OnErr result (Keeps (W.contents self.old.out.now) (W.contents self.new.out.now)
@@ -65,7 +66,7 @@ impl<O: Opener, W: Write, N: Write> Session<'_, '_, '_, O, W, N> {
         Ok(answered.status)
     }
 
-    // Answers the lines of the file of this name, or prints the line that says why the section isn't good.
+    // Answers the lines of the file with this name, or prints the line that says why the section isn't good.
     pub(crate) fn answer_addresses(
         &mut self,
         from: &Judging<'_>,
@@ -73,6 +74,7 @@ impl<O: Opener, W: Write, N: Write> Session<'_, '_, '_, O, W, N> {
         op: u64,
     ) -> Result<Status, CliStop>
         ensures usage { IfErr result (λ stop. IsUsage stop → ⊥) }
+        ensures named { IfErr result (λ stop. (name : List ℕ) → TellsFile stop name → IsFileOf from.now name ⊎ (file.now ≡ name)) }
         ensures answer { IfOk result (λ status. AnswersAddresses (O.tells self.old.opener.now) from.now file.now op
             (W.contents self.old.out.now) (W.contents self.new.out.now) status) }
         ensures stopped { OnErr result (Keeps (W.contents self.old.out.now) (W.contents self.new.out.now)
@@ -106,6 +108,7 @@ fn answer_alone<O: Opener, W: Write>(
     out: &mut W,
 ) -> Result<Answered, CliStop>
     ensures usage { IfErr result (λ stop. IsUsage stop → ⊥) }
+    ensures named { IfErr result (λ stop. (name : List ℕ) → TellsFile stop name → IsFileOf from.now name) }
     ensures answer { IfOk result (λ answered. AnswersQuestion (O.tells opener.old) from.now question.now
         (W.contents out.old) (W.contents out.new) answered.status) }
     ensures stopped { OnErr result (Keeps (W.contents out.old) (W.contents out.new)
@@ -126,6 +129,7 @@ fn answer_opened<S: Source, O: Opener, W: Write>(
 ) -> Result<Answered, CliStop>
     requires { S.failures files.old.section < 2 ^ 64 - 1 }
     ensures usage { IfErr result (λ stop. IsUsage stop → ⊥) }
+    ensures named { IfErr result (λ stop. (name : List ℕ) → TellsFile stop name → IsFileOf from.now name) }
     ensures answer { IfOk result (λ answered. (judged : JudgedIndex)
         × IfSome (S.remaining files.old.section) (λ bytes.
         IsJudgedIndex files.old.texts.line.items files.old.texts.general.items (options_in from.now) bytes judged)
@@ -152,6 +156,7 @@ fn answer_good<O: Opener, W: Write>(
     out: &mut W,
 ) -> Result<Answered, CliStop>
     ensures usage { IfErr result (λ stop. IsUsage stop → ⊥) }
+    ensures named { IfErr result (λ stop. (name : List ℕ) → TellsFile stop name → section.now ≡ name) }
     ensures answer { IfOk result (λ answered. (options : OptionsSpec)
         → AnswersGood (O.tells opener.old) options question.now index.now (W.contents out.old) (W.contents out.new) answered.status) }
     ensures stopped { OnErr result ((options : OptionsSpec)
@@ -174,6 +179,7 @@ fn answer_lines<O: Opener, W: Write>(
     out: &mut W,
 ) -> Result<Answered, CliStop>
     ensures usage { IfErr result (λ stop. IsUsage stop → ⊥) }
+    ensures named { IfErr result (λ stop. (name : List ℕ) → TellsFile stop name → IsFileOf from.now name ⊎ (file.now ≡ name)) }
     ensures answer { IfOk result (λ answered. AnswersAddresses (O.tells opener.old) from.now file.now op
         (W.contents out.old) (W.contents out.new) answered.status) }
     ensures stopped { OnErr result (Keeps (W.contents out.old) (W.contents out.new)
@@ -183,7 +189,7 @@ fn answer_lines<O: Opener, W: Write>(
     answer_lines_of(alloc, from, file, op, &mut files, out)
 }
 
-// Answers the lines of the file of this name. That file and the section's files are open.
+// Answers the lines of the file with this name. That file and the section's files are open.
 fn answer_lines_of<S: Source, F: Source, W: Write>(
     alloc: Global,
     from: &Judging<'_>,
@@ -195,6 +201,7 @@ fn answer_lines_of<S: Source, F: Source, W: Write>(
     requires section { S.failures files.old.section < 2 ^ 64 - 1 }
     requires lines { F.failures files.old.file < 2 ^ 64 - 1 }
     ensures usage { IfErr result (λ stop. IsUsage stop → ⊥) }
+    ensures named { IfErr result (λ stop. (name : List ℕ) → TellsFile stop name → IsFileOf from.now name ⊎ (file.now ≡ name)) }
     ensures answer { IfOk result (λ answered. (judged : JudgedIndex)
         × IfSome (S.remaining files.old.section) (λ bytes.
         IsJudgedIndex files.old.texts.line.items files.old.texts.general.items (options_in from.now) bytes judged)
@@ -210,7 +217,7 @@ fn answer_lines_of<S: Source, F: Source, W: Write>(
     }
 }
 
-// Prints the answers of a good section to the lines of the file of this name.
+// Prints the answers of a good section to the lines of the file with this name.
 fn print_lines<T: Source, W: Write>(
     alloc: Global,
     index: &Index<'_>,
@@ -221,6 +228,7 @@ fn print_lines<T: Source, W: Write>(
 ) -> Result<Answered, CliStop>
     requires { T.failures lines.old < 2 ^ 64 - 1 }
     ensures usage { IfErr result (λ stop. IsUsage stop → ⊥) }
+    ensures named { IfErr result (λ stop. (name : List ℕ) → TellsFile stop name → file.now ≡ name) }
     ensures answer { IfOk result (λ answered. AreAddressesTold index.now op (T.remaining lines.old)
         (W.contents out.old) (W.contents out.new) answered.status) }
     ensures stopped { OnErr result (AreAddressesBegun index.now op (T.remaining lines.old)
@@ -232,7 +240,7 @@ fn print_lines<T: Source, W: Write>(
     Ok(Answered { status, occasion })
 }
 
-// Judges the section, and where it isn't good, prints the line that says why.
+// Judges the section, and if it isn't good, prints the line that says why.
 pub(crate) fn judge<'t, R: Source, W: Write>(
     alloc: Global,
     section: &mut R,
@@ -242,6 +250,7 @@ pub(crate) fn judge<'t, R: Source, W: Write>(
 ) -> Result<JudgedIndex<'t>, CliStop>
     requires { R.failures section.old < 2 ^ 64 - 1 }
     ensures usage { IfErr result (λ stop. IsUsage stop → ⊥) }
+    ensures named { IfErr result (λ stop. (name : List ℕ) → TellsFile stop name → from.now.section.now ≡ name) }
     ensures judged { IfOk result (λ judged. IfSome (R.remaining section.old) (λ bytes.
         IsJudgedIndex texts.now.line.items texts.now.general.items (options_in from.now) bytes judged)) }
     ensures told { IfOk result (λ judged. IsReasonTold judged (W.contents out.old) (W.contents out.new)) }
@@ -255,7 +264,7 @@ pub(crate) fn judge<'t, R: Source, W: Write>(
     of_file(alloc, from.section, judged)
 }
 
-// The answer where the section isn't good.
+// The answer if the section isn't good.
 fn refused(no: No) -> Answered
     ensures { result.status ≡ Status.No }
 {

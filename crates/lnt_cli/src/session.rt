@@ -1,10 +1,10 @@
 //! The files and writers of a run, and how it answers a request.
-ghost use Rattle.std.specs.Prelude.{◌≡◌, ◌-◌, ◌^◌, ◌<◌, ◌⊎◌, IfErr, IfOk, IfSome, OnErr};
+ghost use Rattle.std.specs.Prelude.{◌≡◌, ◌-◌, ◌^◌, ◌<◌, ◌⊎◌, ℕ, List, IfErr, IfOk, IfSome, OnErr};
 ghost use Rattle.std.specs.Io.KnownBytes.{Keeps};
 ghost use Rattle.lnt_cli.specs.Answered.{AnswersRead, IsAnswered};
 ghost use Rattle.lnt_cli.specs.Readings.{AnswersReading, BeginsReading};
 ghost use Rattle.lnt_cli.specs.Stopped.{IsStopped, StopsRead};
-ghost use Rattle.lnt_cli.specs.Stops.{IsUsage};
+ghost use Rattle.lnt_cli.specs.Stops.{IsFileIn, IsUsage, TellsFile};
 
 use crate::inputs::{of_file, open_section};
 use crate::stop::CliStop;
@@ -30,9 +30,10 @@ pub(crate) struct Session<'o, 'w, 'n, O, W, N> {
 }
 
 impl<O: Opener, W: Write, N: Write> Session<'_, '_, '_, O, W, N> {
-    // Answers a request. Where a file can't be read, it writes the system's reason as a note.
+    // Answers a request. If a file can't be read, it writes the system's reason as a note.
     pub(crate) fn answer(&mut self, request: &Request<'_>) -> Result<Status, CliStop>
         ensures usage { IfErr result (λ stop. IsUsage stop → ⊥) }
+        ensures named { IfErr result (λ stop. (name : List ℕ) → TellsFile stop name → IsFileIn request.now name) }
         ensures answer { IfOk result (λ status. IsAnswered (O.tells self.old.opener.now) request.now
             (W.contents self.old.out.now) (W.contents self.new.out.now) status) }
         ensures stopped { OnErr result (IsStopped (O.tells self.old.opener.now) request.now
@@ -48,6 +49,7 @@ impl<O: Opener, W: Write, N: Write> Session<'_, '_, '_, O, W, N> {
 
     fn answer_request(&mut self, request: &Request<'_>) -> Result<Status, CliStop>
         ensures usage { IfErr result (λ stop. IsUsage stop → ⊥) }
+        ensures named { IfErr result (λ stop. (name : List ℕ) → TellsFile stop name → IsFileIn request.now name) }
         ensures answer { IfOk result (λ status. IsAnswered (O.tells self.old.opener.now) request.now
             (W.contents self.old.out.now) (W.contents self.new.out.now) status) }
         ensures stopped { OnErr result (IsStopped (O.tells self.old.opener.now) request.now
@@ -124,7 +126,7 @@ impl<O: Opener, W: Write, N: Write> Session<'_, '_, '_, O, W, N> {
     }
 }
 
-// Prints what this reading of the section in the file of this name asks for. `seen` keeps what notes need of its bytes.
+// Prints what this reading of the section in the file with this name asks for. `seen` keeps what notes need of its bytes.
 fn print_section<O: Opener, W: Write>(
     alloc: Global,
     section: &str,

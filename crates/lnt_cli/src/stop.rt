@@ -1,8 +1,9 @@
 //! Why a run is stopped.
-ghost use Rattle.std.specs.Prelude.{◌≡◌, IfOk, OnErr};
+ghost use Rattle.std.specs.Prelude.{◌≡◌, ◌≢◌, ℕ, List, IfOk, OnErr};
 ghost use Rattle.lnt_cli.specs.Stepping.{IsFileStop};
-ghost use Rattle.lnt_cli.specs.Stops.{IsUsage};
+ghost use Rattle.lnt_cli.specs.Stops.{IsUsage, TellsFile};
 ghost use Rattle.lnt_cli.specs.declared.stop.CliStop.TheVariants.{Memory, Write};
+ghost use Rattle.lnt_words.specs.declared.stop.WordsStop.TheVariants as words;
 
 use lnt_sources::Halt;
 use lnt_text::Shown;
@@ -18,10 +19,10 @@ pub enum CliStop {
     /// bad, and ends in a line feed.
     #[error("{0}")]
     Usage(String),
-    /// The file of this name can't be opened or read. A name with control characters is shown between quotes.
+    /// The file with this name can't be opened or read. A name with control characters is shown between quotes.
     #[error("linetab: cannot read {}", Shown(.0))]
     Read(String),
-    /// The file of this name has more bytes than are read of a file, 2^40.
+    /// The file with this name has more bytes than are read of a file, 2^40.
     #[error("linetab: {} is too long", Shown(.0))]
     TooLong(String),
     /// The writer failed.
@@ -33,10 +34,11 @@ pub enum CliStop {
 }
 
 impl CliStop {
-    // The stop of a run where the work on the file of this name was stopped. `Memory` also where it ran out for a copy of the name.
+    // The stop of a run if the work on the file with this name was stopped. `Memory` also if it ran out for a copy of the name.
     pub(crate) fn of_file(alloc: Global, name: &str, halt: Halt) -> CliStop
         ensures told { IsFileStop halt name.now result }
         ensures usage { IsUsage result → ⊥ }
+        ensures named { (told : List ℕ) → TellsFile result told → name.now ≡ told }
     {
         match CliStop::with_name(alloc, name, halt) {
             Ok(stop) => stop,
@@ -48,6 +50,7 @@ impl CliStop {
     fn with_name(alloc: Global, name: &str, halt: Halt) -> Result<CliStop, AllocError>
         ensures told { IfOk result (IsFileStop halt name.now) }
         ensures usage { IfOk result (λ stop. IsUsage stop → ⊥) }
+        ensures named { IfOk result (λ stop. (told : List ℕ) → TellsFile stop told → name.now ≡ told) }
         ensures err { OnErr result (IsFileStop halt name.now Memory) }
     {
         Ok(match halt {
@@ -60,6 +63,8 @@ impl CliStop {
 }
 
 impl From<WordsStop> for CliStop {
+    ghost from_gives = { λ stop made. (IsUsage made → stop ≢ words.Memory) × ((name : List ℕ) → TellsFile made name → ⊥) };
+
     fn from(stop: WordsStop) -> CliStop {
         match stop {
             WordsStop::Usage(text) | WordsStop::BadWord { text, .. } => CliStop::Usage(text),

@@ -1,8 +1,10 @@
 -- The requests that words make. clap's result is a function of the words and of the command (`linetab`): the subcommand's name,
 -- and a row for each of its arguments, with the values that it was given or has by default.
-use Rattle.std.specs.Prelude.{◌≡◌, ◌⊎◌, Bool, true, false, ℕ, map, List, [], ◌∷◌, Option, Some, None, codes, IsSomeAnd, MatchOption}
+use Rattle.std.specs.Prelude.{◌≡◌, ◌≢◌, ◌↔◌, ◌⊎◌, Bool, IsTrue, true, false, ℕ, map, List, [], ◌∷◌}
+use Rattle.std.specs.Prelude.{Option, Some, None, codes, IsSomeAnd, MatchOption}
 use Rattle.std.specs.Option.{option_copied}
-use Rattle.clap.specs.Words.{IsAmong, Row, Text, all_of, fault_of, first_of, one_of, subcommand_of}
+use Rattle.clap.specs.Words.{IsAmong, Row, Text, all_of, fault_of, first_of, subcommand_of}
+use Rattle.clap.specs.declared.error.kind.ErrorKind.{ErrorKind}
 use Rattle.clap.specs.declared.error.kind.ErrorKind.TheVariants.{DisplayHelp, DisplayVersion}
 use Rattle.lnt_digits.specs.Digits.{IsAddress, IsDecimal}
 use Rattle.lnt_spans.specs.declared.answer.Version.TheVariants.{One, Two}
@@ -25,11 +27,9 @@ use Rattle.lnt_words.specs.Words.{linetab}
 abbrev pub IsWord : List Row → Text → Text → Type 0
 IsWord rows name word = first_of name rows ≡ Some word
 
--- The flag is set if clap's value for it is "true", and not set if it is "false" or if there is none.
-pub record IsFlagGiven (rows : List Row) (name : Text) (is_set : Bool) : Type 0 where
-  pub given : one_of name rows ≡ Some (codes "true") → is_set ≡ true
-  pub not_given : one_of name rows ≡ Some (codes "false") → is_set ≡ false
-  pub none : one_of name rows ≡ None → is_set ≡ false
+-- The flag is set exactly if clap's value for it is "true".
+abbrev pub IsFlagGiven : List Row → Text → Bool → Type 0
+IsFlagGiven rows name is_set = IsTrue is_set ↔ (first_of name rows ≡ Some (codes "true"))
 
 -- Numbers are big-endian if the flag --big is set, and otherwise little-endian.
 abbrev pub IsOrder : List Row → Order → Type 0
@@ -141,3 +141,10 @@ AskForHelp words = IsAmong DisplayHelp (fault_of linetab words) ⊎ IsAmong Disp
 abbrev pub IsAskedBy : List Text → Asked → Type 0
 IsAskedBy words asked = (AskForHelp words × IsHelp asked.request)
     ⊎ ((fault_of linetab words ≡ []) × IsAskedOf (subcommand_of linetab words) asked)
+
+-- These words ask for nothing that the command does: by clap's rules they are refused, and not for help or the version; or they
+-- name a subcommand, and it asks for no request.
+abbrev pub AskForNothing : List Text → Type 0
+AskForNothing words =
+    ((kind : ErrorKind) × IsAmong kind (fault_of linetab words) × (kind ≢ DisplayHelp) × (kind ≢ DisplayVersion))
+    ⊎ ((fault_of linetab words ≡ []) × ((asked : Asked) → IsAskedOf (subcommand_of linetab words) asked → ⊥))

@@ -1,11 +1,17 @@
 //! What the words of the command ask for.
-ghost use Rattle.std.specs.Prelude.{◌≡◌, ◌⊎◌, ℕ, List, codes, map, option_map, string_bytes, IfOk};
-ghost use Rattle.clap.specs.Words.{Row, all_of, first_of, kind_of};
+ghost use Rattle.std.specs.Prelude.{◌≡◌, ◌≢◌, ◌⊎◌, ℕ, IfErr, List, codes, map, option_map, string_bytes, IfOk};
+ghost use Rattle.clap.specs.Words.{Row, all_of, first_of, kind_of, subcommand_rows_of};
 ghost use Rattle.lnt_words.specs.Described.{IsAskedOfMatches, rows_in};
 ghost use Rattle.lnt_digits.specs.Digits.{IsAddress, IsDecimal};
-ghost use Rattle.lnt_words.specs.Asking.{AreAddresses, AreAddressesIn, ArePositionsIn, IsAskedBy, IsAskedIn, IsFlagGiven, IsHelp};
-ghost use Rattle.lnt_words.specs.Asking.{IsJudging, IsOp};
+ghost use Rattle.lnt_words.specs.Asking.{AreAddresses, AreAddressesIn, ArePositionsIn, AskForNothing, IsAskedBy, IsAskedIn};
+ghost use Rattle.lnt_words.specs.Asking.{IsAskedOf, IsFlagGiven, IsHelp, IsJudging, IsOp};
 ghost use Rattle.lnt_words.specs.Asking.{IsOrder, IsQuestion, IsReading, IsWord, IsWrittenFormat, IsWrittenOrder};
+ghost use Rattle.lnt_words.specs.declared.request.Asked.{Asked as AskedSpec};
+ghost use Rattle.lnt_words.specs.declared.request.Judging.{Judging as JudgingSpec};
+ghost use Rattle.lnt_words.specs.declared.request.Question.{Question as QuestionSpec};
+ghost use Rattle.lnt_words.specs.declared.request.Request.{Request as RequestSpec};
+ghost use Rattle.lnt_wire.specs.declared.format.Format.{Format as FormatSpec};
+ghost use Rattle.lnt_wire.specs.declared.format.Order.{Order as OrderSpec};
 
 use crate::command::command_of;
 use crate::request::{Asked, Judging, Question, Reading, Request};
@@ -21,13 +27,15 @@ use std::alloc::{AllocError, Global};
 /// What the words ask for. The first word is the program's own name.
 ///
 /// Stops with `Usage` if they aren't a valid request, and then says how the command is used; with `BadWord` if one of them
-/// isn't valid for its argument; and with `Memory`. The result names files by the words themselves.
+/// isn't valid for its argument; and with `Memory`. With the first two it stops only if the words ask for nothing
+/// (`AskForNothing`). The result names files by the words themselves.
 ///
 /// The result is what the words ask for (`IsAskedBy`): which subcommand they name, and the value of each of its arguments,
 /// follows from the words and from the command that `linetab` describes. It is a text of help only if the words ask for help
 /// or for the version.
 pub fn request_of<'a>(alloc: Global, words: &'a [String]) -> Result<Asked<'a>, WordsStop>
-    ensures { IfOk result (IsAskedBy (map string_bytes words.entry.now)) }
+    ensures asked { IfOk result (IsAskedBy (map string_bytes words.entry.now)) }
+    ensures refused { IfErr result (λ stop. (stop ≢ WordsStop.Memory) → AskForNothing (map string_bytes words.entry.now)) }
 {
     match command_of(alloc, false)?.try_get_matches_from(words) {
         Ok(matches) => asked_in(alloc, &matches, words),
@@ -37,8 +45,10 @@ pub fn request_of<'a>(alloc: Global, words: &'a [String]) -> Result<Asked<'a>, W
 
 // What clap says if it finds no matches: help, the version, or how the command is used.
 fn help_in<'a>(alloc: Global, error: &Error, given: &[String]) -> Result<Asked<'a>, WordsStop>
-    ensures { IfOk result (λ asked. IsHelp asked.request
+    ensures asked { IfOk result (λ asked. IsHelp asked.request
         × ((kind_of error.now ≡ ErrorKind.DisplayHelp) ⊎ (kind_of error.now ≡ ErrorKind.DisplayVersion))) }
+    ensures refused { IfErr result (λ stop. (stop ≢ WordsStop.Memory) → (kind_of error.now ≢ ErrorKind.OutOfMemory)
+        × (kind_of error.now ≢ ErrorKind.DisplayHelp) × (kind_of error.now ≢ ErrorKind.DisplayVersion)) }
 {
     match error.kind() {
         ErrorKind::OutOfMemory => Err(WordsStop::Memory),
@@ -114,7 +124,9 @@ fn asked_in<'a>(
     matches: &ArgMatches<'a>,
     given: &[String],
 ) -> Result<Asked<'a>, WordsStop>
-    ensures { IfOk result (IsAskedOfMatches matches.now) }
+    ensures asked { IfOk result (IsAskedOfMatches matches.now) }
+    ensures refused { IfErr result (λ stop. (stop ≢ WordsStop.Memory)
+        → (asked : AskedSpec) → IsAskedOf (subcommand_rows_of matches.now) asked → ⊥) }
 {
     let Some((name, words)) = matches.subcommand() else {
         return Err(usage(alloc, "no word for", "SUBCOMMAND"));
@@ -131,7 +143,9 @@ fn request_in<'a>(
     words: &ArgMatches<'a>,
     given: &[String],
 ) -> Result<Request<'a>, WordsStop>
-    ensures { IfOk result (λ request. IsAskedIn name.now (rows_in words.now) request) }
+    ensures asked { IfOk result (λ request. IsAskedIn name.now (rows_in words.now) request) }
+    ensures refused { IfErr result (λ stop. (stop ≢ WordsStop.Memory)
+        → (request : RequestSpec) → IsAskedIn name.now (rows_in words.now) request → ⊥) }
 {
     match name {
         "units" => read_in(alloc, words, Reading::Units),
@@ -139,20 +153,6 @@ fn request_in<'a>(
         "convert" => convert_in(alloc, words),
         "check" => check_in(alloc, words),
         "lookup" => lookup_in(alloc, words, given),
-        _ => question_in(alloc, name, words, given),
-    }
-}
-
-// What the words of any other subcommand ask for: one question about a good section.
-fn question_in<'a>(
-    alloc: Global,
-    name: &str,
-    words: &ArgMatches<'a>,
-    given: &[String],
-) -> Result<Request<'a>, WordsStop>
-    ensures { IfOk result (λ request. IsAskedIn name.now (rows_in words.now) request) }
-{
-    match name {
         "verify" => judge_in(alloc, words, Question::Verify),
         "files" => judge_in(alloc, words, Question::Files),
         "table" => judge_in(alloc, words, table_in(alloc, words, given)?),
@@ -171,7 +171,8 @@ fn dump_in(words: &ArgMatches<'_>) -> Reading
 }
 
 fn check_in<'a>(alloc: Global, words: &ArgMatches<'a>) -> Result<Request<'a>, WordsStop>
-    ensures { IfOk result (λ request. IsAskedIn (codes "check") (rows_in words.now) request) }
+    ensures asked { IfOk result (λ request. IsAskedIn (codes "check") (rows_in words.now) request) }
+    ensures refused { IfErr result (λ _. (request : RequestSpec) → IsAskedIn (codes "check") (rows_in words.now) request → ⊥) }
 {
     Ok(Request::Check {
         from: judging_in(alloc, words)?,
@@ -185,8 +186,9 @@ fn read_in<'a>(
     words: &ArgMatches<'a>,
     reading: Reading,
 ) -> Result<Request<'a>, WordsStop>
-    ensures { IfOk result (λ request. (name : List ℕ) → IsReading name (rows_in words.now) reading
+    ensures asked { IfOk result (λ request. (name : List ℕ) → IsReading name (rows_in words.now) reading
         → IsAskedIn name (rows_in words.now) request) }
+    ensures refused { IfErr result (λ _. (word : List ℕ) → IsWord (rows_in words.now) (codes "SECTION") word → ⊥) }
 {
     Ok(Request::Read {
         section: word_in(alloc, words, "SECTION")?,
@@ -200,8 +202,9 @@ fn judge_in<'a>(
     words: &ArgMatches<'a>,
     question: Question,
 ) -> Result<Request<'a>, WordsStop>
-    ensures { IfOk result (λ request. (name : List ℕ) → IsQuestion name (rows_in words.now) question
+    ensures asked { IfOk result (λ request. (name : List ℕ) → IsQuestion name (rows_in words.now) question
         → IsAskedIn name (rows_in words.now) request) }
+    ensures refused { IfErr result (λ _. (from : JudgingSpec) → IsJudging (rows_in words.now) from → ⊥) }
 {
     Ok(Request::Judge {
         from: judging_in(alloc, words)?,
@@ -216,7 +219,9 @@ fn lookup_in<'a>(
     words: &ArgMatches<'a>,
     given: &[String],
 ) -> Result<Request<'a>, WordsStop>
-    ensures { IfOk result (λ request. IsAskedIn (codes "lookup") (rows_in words.now) request) }
+    ensures asked { IfOk result (λ request. IsAskedIn (codes "lookup") (rows_in words.now) request) }
+    ensures refused { IfErr result (λ stop. (stop ≢ WordsStop.Memory)
+        → (request : RequestSpec) → IsAskedIn (codes "lookup") (rows_in words.now) request → ⊥) }
 {
     match (strs_in(words, "ADDRESS"), str_in(words, "addresses")) {
         (Some(addresses), None) => {
@@ -240,7 +245,9 @@ fn addresses_of(
     words: &ArgMatches<'_>,
     given: &[&str],
 ) -> Result<Vec<u64>, WordsStop>
-    ensures { IfOk result (λ addresses. AreAddresses (map (λ word. word.now) given.now) addresses.items) }
+    ensures asked { IfOk result (λ addresses. AreAddresses (map (λ word. word.now) given.now) addresses.items) }
+    ensures refused { IfErr result (λ stop. (stop ≢ WordsStop.Memory)
+        → (addresses : List ℕ) → AreAddresses (map (λ word. word.now) given.now) addresses → ⊥) }
 {
     let mut addresses = Vec::new(alloc);
     for word in given {
@@ -269,7 +276,8 @@ fn positions_at(alloc: Global, addresses: &[u64], op: u64) -> Result<Vec<Positio
 
 // The operation index that the words give, or 0.
 fn op_in(alloc: Global, words: &ArgMatches<'_>) -> Result<u64, WordsStop>
-    ensures { IfOk result (λ op. IsOp (rows_in words.now) op) }
+    ensures asked { IfOk result (λ op. IsOp (rows_in words.now) op) }
+    ensures refused { IfErr result (λ _. (op : ℕ) → IsOp (rows_in words.now) op → ⊥) }
 {
     match str_in(words, "op") {
         Some(word) => number_of(alloc, words, word),
@@ -279,7 +287,8 @@ fn op_in(alloc: Global, words: &ArgMatches<'_>) -> Result<u64, WordsStop>
 
 // Which table is asked for: at most one of the three flags may be given.
 fn table_in(alloc: Global, words: &ArgMatches<'_>, given: &[String]) -> Result<Question, WordsStop>
-    ensures { IfOk result (IsQuestion (codes "table") (rows_in words.now)) }
+    ensures asked { IfOk result (IsQuestion (codes "table") (rows_in words.now)) }
+    ensures refused { IfErr result (λ _. (question : QuestionSpec) → IsQuestion (codes "table") (rows_in words.now) question → ⊥) }
 {
     let wide = flag_in(words, "wide");
     let paths = flag_in(words, "paths");
@@ -289,12 +298,13 @@ fn table_in(alloc: Global, words: &ArgMatches<'_>, given: &[String]) -> Result<Q
         (true, false, false) => Ok(Question::Table(Version::Two)),
         (false, true, false) => Ok(Question::TableByPath { columns: true }),
         (false, false, true) => Ok(Question::TableByPath { columns: false }),
-        _ => Err(refusal(alloc, given)),
+        (true, true, _) | (true, false, true) | (false, true, true) => Err(refusal(alloc, given)),
     }
 }
 
 fn convert_in<'a>(alloc: Global, words: &ArgMatches<'a>) -> Result<Request<'a>, WordsStop>
-    ensures { IfOk result (λ request. IsAskedIn (codes "convert") (rows_in words.now) request) }
+    ensures asked { IfOk result (λ request. IsAskedIn (codes "convert") (rows_in words.now) request) }
+    ensures refused { IfErr result (λ _. (request : RequestSpec) → IsAskedIn (codes "convert") (rows_in words.now) request → ⊥) }
 {
     let format = format_in(alloc, words)?;
     let to = written_order_in(alloc, words)?;
@@ -302,7 +312,8 @@ fn convert_in<'a>(alloc: Global, words: &ArgMatches<'a>) -> Result<Request<'a>, 
 }
 
 fn format_in(alloc: Global, words: &ArgMatches<'_>) -> Result<Format, WordsStop>
-    ensures { IfOk result (IsWrittenFormat (rows_in words.now)) }
+    ensures asked { IfOk result (IsWrittenFormat (rows_in words.now)) }
+    ensures refused { IfErr result (λ _. (format : FormatSpec) → IsWrittenFormat (rows_in words.now) format → ⊥) }
 {
     match word_in(alloc, words, "format")? {
         "32" => Ok(Format::D32),
@@ -312,7 +323,8 @@ fn format_in(alloc: Global, words: &ArgMatches<'_>) -> Result<Format, WordsStop>
 }
 
 fn written_order_in(alloc: Global, words: &ArgMatches<'_>) -> Result<Order, WordsStop>
-    ensures { IfOk result (IsWrittenOrder (rows_in words.now)) }
+    ensures asked { IfOk result (IsWrittenOrder (rows_in words.now)) }
+    ensures refused { IfErr result (λ _. (order : OrderSpec) → IsWrittenOrder (rows_in words.now) order → ⊥) }
 {
     match word_in(alloc, words, "order")? {
         "little" => Ok(Order::Little),
@@ -323,7 +335,8 @@ fn written_order_in(alloc: Global, words: &ArgMatches<'_>) -> Result<Order, Word
 
 // A section that is judged, with its strings, the address of dead code, and whether copies are skipped.
 fn judging_in<'a>(alloc: Global, words: &ArgMatches<'a>) -> Result<Judging<'a>, WordsStop>
-    ensures { IfOk result (λ from. IsJudging (rows_in words.now) from) }
+    ensures asked { IfOk result (λ from. IsJudging (rows_in words.now) from) }
+    ensures refused { IfErr result (λ _. (from : JudgingSpec) → IsJudging (rows_in words.now) from → ⊥) }
 {
     let dead = match str_in(words, "dead") {
         Some(word) => Some(address_of(alloc, words, word, Argument::Dead)?),
@@ -341,7 +354,8 @@ fn judging_in<'a>(alloc: Global, words: &ArgMatches<'a>) -> Result<Judging<'a>, 
 
 // The word of a required argument.
 fn word_in<'a>(alloc: Global, words: &ArgMatches<'a>, name: &str) -> Result<&'a str, WordsStop>
-    ensures { IfOk result (λ word. IsWord (rows_in words.now) name.now word.now) }
+    ensures asked { IfOk result (λ word. IsWord (rows_in words.now) name.now word.now) }
+    ensures refused { IfErr result (λ _. (word : List ℕ) → IsWord (rows_in words.now) name.now word → ⊥) }
 {
     match str_in(words, name) {
         Some(word) => Ok(word),
@@ -366,7 +380,7 @@ fn strs_in<'w, 'a>(words: &'w ArgMatches<'a>, name: &str) -> Option<&'w [&'a str
 fn flag_in(words: &ArgMatches<'_>, name: &str) -> bool
     ensures { IsFlagGiven (rows_in words.now) name.now result }
 {
-    words.get_flag(name)
+    matches!(str_in(words, name), Some("true"))
 }
 
 fn order_in(words: &ArgMatches<'_>) -> Order
@@ -385,7 +399,8 @@ fn address_of(
     word: &str,
     argument: Argument,
 ) -> Result<u64, WordsStop>
-    ensures { IfOk result (λ address. IsAddress word.now address) }
+    ensures asked { IfOk result (λ address. IsAddress word.now address) }
+    ensures refused { IfErr result (λ _. (address : ℕ) → IsAddress word.now address → ⊥) }
 {
     match address(word.as_bytes()) {
         Some(address) => Ok(address),
@@ -394,7 +409,8 @@ fn address_of(
 }
 
 fn number_of(alloc: Global, words: &ArgMatches<'_>, word: &str) -> Result<u64, WordsStop>
-    ensures { IfOk result (λ number. IsDecimal word.now number) }
+    ensures asked { IfOk result (λ number. IsDecimal word.now number) }
+    ensures refused { IfErr result (λ _. (number : ℕ) → IsDecimal word.now number → ⊥) }
 {
     match decimal(word.as_bytes()) {
         Some(number) => Ok(number),

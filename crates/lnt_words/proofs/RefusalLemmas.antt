@@ -1,0 +1,47 @@
+-- Words that ask for nothing: no request fits them.
+use Rattle.std.proofs.Common.{◌≡◌, ◌<◌, ◌⊎◌, ℕ, zero, suc, arith, List, [], ◌∷◌, Option, Some, None, Result, Ok, Err, codes, get_or}
+use Rattle.std.proofs.Common.{inl, inr, length, subst}
+use Rattle.std.specs.Prelude.{◌≢◌, IfErr}
+use Rattle.std.specs.Borrow.{Bor}
+use Rattle.clap.specs.Words.{HasKind, IsAmong, Kinds, Row, Text, first_of, kind_of}
+use Rattle.clap.specs.declared.error.Error.{Error}
+use Rattle.clap.specs.declared.error.kind.ErrorKind.TheVariants.{OutOfMemory}
+use Rattle.lnt_digits.specs.Digits.{IsAddress}
+use Rattle.lnt_words.specs.Asking.{AreAddresses, IsMarker, IsWord}
+use Rattle.lnt_words.proofs.WordLemmas.{texts_of}
+
+-- what is true of each stop
+pub err_all : {T E : Type 0} (ended : Result T E) (P : E → Type 0) → ((stop : E) → P stop) → IfErr ended P
+err_all (Ok given) P so = tt
+err_all (Err stop) P so = so stop
+
+-- an error that doesn't say that memory ran out has a kind that clap's rules allow
+pub kind_among : (kinds : Kinds) (error : Error) → HasKind kinds error → (kind_of error ≢ OutOfMemory) → IsAmong (kind_of error) kinds
+kind_among kinds error (inl memory) other = absurd (other memory)
+kind_among kinds error (inr among) other = among
+
+-- ---- words that are no addresses
+
+address_of_first : (word : Text) (words : List Text) (addresses : List ℕ) → AreAddresses (word ∷ words) addresses
+    → (address : ℕ) × IsAddress word address
+address_of_first word words [] so = absurd so
+address_of_first word words (address ∷ addresses) so = (address, so.0)
+
+-- a word that is no address is none of words that spell addresses
+pub no_addresses : (given : List (Bor Text)) (i : ℕ) (d : Bor Text) (addresses : List ℕ) → i < length given
+    → ((address : ℕ) → IsAddress (get_or given i d).now address → ⊥) → AreAddresses (texts_of given) addresses → ⊥
+no_addresses [] i d addresses lt bad so = absurd (omega arith)
+no_addresses (word ∷ given) zero d addresses lt bad so =
+    let one = address_of_first word.now (texts_of given) addresses so in bad one.0 one.1
+no_addresses (word ∷ given) (suc i) d [] lt bad so = absurd so
+no_addresses (word ∷ given) (suc i) d (address ∷ addresses) lt bad so = no_addresses given i d addresses (omega arith) bad so.1
+
+two_words : (rows : List Row) (name first second : Text) → IsWord rows name first → IsWord rows name second → first ≡ second
+two_words rows name first second is_first is_second = cc
+
+-- a word that is no address tells no marker
+pub no_marker : (rows : List Row) (word : Text) → first_of (codes "dead") rows ≡ Some word → ((address : ℕ) → IsAddress word address → ⊥)
+    → (dead : Option ℕ) → IsMarker rows dead → ⊥
+no_marker rows word is bad None so = cc
+no_marker rows word is bad (Some address) so =
+    bad address (subst (λ (w : Text). IsAddress w address) (two_words rows (codes "dead") so.0 word so.1 is) so.2)

@@ -1,0 +1,8 @@
+use Rattle.std.proofs.Common.{subst, sym}
+use Rattle.clap.specs.Words.{Text}
+use Rattle.lnt_digits.specs.Digits.{IsAddress}
+use Rattle.lnt_words.proofs.words.address_of.Goals as goal
+
+pub returns-in-None-clause-refused : goal.returns-in-None-clause-refused
+returns-in-None-clause-refused c = λ address so.
+    c.in-None.ensures address (subst (λ (w : Text). IsAddress w address) (sym c.as_bytes.ensures.value) so)
