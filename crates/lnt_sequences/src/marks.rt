@@ -97,8 +97,10 @@ impl<'a> Marks<'a> {
         }
     }
 
-    /// Whether there are none.
-    pub fn is_empty(&self) -> bool {
+    /// Whether there are none. Then they are marks in the rows of any sequence.
+    pub fn is_empty(&self) -> bool
+        ensures { result ≡ true → (rows : List spec.Row) → AreMarksIn rows self.now }
+    {
         self.marks.is_empty()
     }
 
