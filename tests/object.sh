@@ -12,9 +12,10 @@ says=linetab-object:
 image() { # FORMAT NAME WORD..: a file of that name, in the folder of the test
   python3 tests/images.py "$1" "$work/$2" "${@:3}" || exit 1
 }
-# A folder with the script and the program alone, as they are installed: the launcher would take as long as the rest.
-mkdir "$work/bin"
+# A folder with the script, its modules and the program alone, as they are installed: the launcher would take as long as the rest.
+mkdir -p "$work/bin" "$work/share/linetab"
 cp linetab-object "$work/bin"
+cp -r share/object "$work/share/linetab"
 ln -s "$PWD/crates/linetab/out/linetab" "$work/bin/linetab"
 linetab=$work/bin/linetab
 object() { # WORD..
@@ -60,17 +61,162 @@ words() {
   expect 'a conversion' 0 '' '' bash -c 'object convert "$0" --format 32 --order little | cmp - examples/hello.debug_line' "$work/elf32"
   expect 'strings of the words' 0 "$lookup" '' object lookup "$work/other" 0x1137 --line-str examples/hello.debug_line_str
   expect 'an order of the words' 1 $'no 25 malformed at 0x0: truncated\n' '' object units "$work/elf64" --big
-  expect 'an unknown word' 2 '' "$("$linetab" tables 2>&1)"$'\n' object tables "$work/elf64"
-  expect 'a missing word' 2 '' "$("$linetab" lookup --line-str x x 2>&1)"$'\n' object lookup "$work/elf64"
-  expect 'no file' 2 '' $'linetab-object: a word of linetab and a file are wanted\n\nusage: linetab-object WORD FILE [WORDS..]\n' object \
-    table
-  expect 'help' 0 $'usage: linetab-object WORD FILE [WORDS..]\n' '' bash -c 'object --help | grep usage'
-  expect 'a link to it' 0 "$table" '' bash -c 'ln -s "$PWD/linetab-object" "$0/link" && "$0/link" table "$0/elf64"' "$work"
+  expect 'a link to it' 0 "$table" '' bash -c 'ln -s "$0/bin/linetab-object" "$0/link" && "$0/link" table "$0/elf64"' "$work"
   expect 'no room for its sections' 3 "$says $work/elf64: its sections can't be written to a temporary file: none"$'\n' '' \
-    bash -c 'set -o pipefail; (ulimit -f 0; object table "$work/elf64") 2>&1 | sed "s/: No usable.*/: none/"'
+    bash -c 'set -o pipefail; (ulimit -f 0; object table "$work/elf64") 2>&1 | sed "s/: File too large$/: none/"'
   expect 'no program beside it' 3 '' "$says the program linetab has to lie beside this one, and $work/alone/linetab isn't there"$'\n' \
     bash -c 'mkdir "$0/alone" && cp linetab-object "$0/alone" && "$0/alone/linetab-object" table "$0/elf64"' "$work"
-  expect 'a full device' 3 '' $'linetab: cannot write\n' bash -c 'object table "$0" >/dev/full' "$work/elf64"
+  expect 'a full device' 3 '' "$says cannot write"$'\n' bash -c 'object table "$0" >/dev/full' "$work/elf64"
+}
+
+# What the words say of themselves, wherever options stand, by the name that is typed.
+usage() {
+  local more=$'\n\nFor more information, try \'--help\'.\n' word text
+  expect 'an unknown word' 2 '' "$("$linetab" tables 2>&1 | sed 's/^Usage: linetab /Usage: linetab-object /')"$'\n' object tables "$work/elf64"
+  expect 'a missing word' 2 '' $'error: the following required arguments were not provided:\n  <ADDRESS>...\n\n'\
+"Usage: linetab-object lookup <FILE> <ADDRESS>...$more" object lookup "$work/elf64"
+  expect 'no file' 2 '' $'error: the following required arguments were not provided:\n  <FILE>\n\n'"Usage: linetab-object table --lines <FILE>$more" \
+    object table --lines
+  expect 'an unknown option' 2 '' $'error: unexpected argument \'--line\' found\n\n  tip: a similar argument exists: \'--lines\'\n\n'\
+"Usage: linetab-object table --lines <FILE>$more" object table --line "$work/elf64"
+  expect 'a bad word' 2 '' $'linetab: bad word here\n' object lookup "$work/elf64" here
+  expect 'no word' 2 '' $'linetab-object: a word of linetab and a file are wanted\n\nusage: linetab-object WORD [OPTIONS] FILE..\n' object
+  expect 'an option in the place of the word' 2 '' \
+    $'linetab-object: a word of linetab and a file are wanted\n\nusage: linetab-object WORD [OPTIONS] FILE..\n' object --lines table
+  expect 'an option without its value' 2 '' $'error: -o wants a value\n\nUsage: linetab-object table [OPTIONS] <FILE>...'"$more" \
+    object table "$work/elf64" -o
+  expect 'one with a value that it has not' 2 '' $'error: --recursive takes no value\n\nUsage: linetab-object table [OPTIONS] <FILE>...'"$more" \
+    object table "$work/elf64" --recursive=yes
+  expect 'help' 0 $'usage: linetab-object WORD [OPTIONS] FILE..\n' '' bash -c 'object --help | grep usage'
+  for word in units dump check verify lookup files table convert md5; do
+    text=$(object "$word" --help)
+    expect "the help of $word" 0 "$text"$'\n' '' object help "$word"
+    expect "the help of $word, behind a file" 0 "$text"$'\n' '' object "$word" "$work/elf64" -h
+    expect "every option of $word" 0 '' '' bash -c 'grep -oE -- "--[a-z0-9-]+" <("$0" "$1" --help) | grep -vFf <(echo "$2"); [ $? -eq 1 ]' "$linetab" "$word" "$text"
+    expect "$word in the help" 0 "  $word"$'\n' '' bash -c 'object --help | grep -oE "^  $0\b"' "$word"
+    grep -qE "^Usage: linetab-object $word .*<FILE>" <<<"$text" || expect "the usage of $word" 0 'linetab-object' '' echo "$text"
+  done
+  expect 'the version' 0 "$("$linetab" --version | sed 's/^linetab /linetab-object /')"$'\n' '' object --version
+  expect 'the version, in short' 0 "$(object --version)"$'\n' '' object -V
+  expect 'an option before the file' 0 "$(object table "$work/elf64" --lines)"$'\n' '' object table --lines "$work/elf64"
+  expect 'options around the file' 0 "$(object lookup "$work/elf64" 0x1137)"$'\n' '' object lookup --op 0 "$work/elf64" --quiet 0x1137
+  expect 'an option that is joined to its value' 0 "$(object lookup "$work/elf64" 0x1137)"$'\n' '' object lookup --op=0 "$work/elf64" 0x1137
+  cp "$work/elf64" "$work/-v"
+  expect 'a name that begins as options do' 0 $'yes\n' '' bash -c 'cd "$0" && object verify -- -v' "$work"
+  expect 'its modules are missing' 1 '' "$says its modules have to lie in $work/off/share/linetab/object, and aren't there"$'\n' \
+    bash -c 'mkdir -p "$0/off/bin" && cp linetab-object "$0/off/bin" && "$0/off/bin/linetab-object" verify x' "$work"
+}
+
+# Standard input as a file.
+standard_input() {
+  expect 'standard input, a file' 0 "$table" '' object table - <"$work/elf64"
+  expect 'standard input, a pipe' 0 "$table" '' bash -c 'cat "$0" | object table -' "$work/elf64"
+  expect 'a pipe with a Mach-O file' 0 "$table" '' bash -c 'cat "$0" | object table -' "$work/macho"
+  expect 'a check of it' 0 $'yes\n' '' object check - examples/hello.csv <"$work/pe"
+  expect 'standard input that is no program' 3 '' "$says -: it is a script: take the program that it runs"$'\n' object verify - <linetab
+  expect 'an empty standard input' 3 '' "$says -: it is none of ELF, PE, Mach-O and WebAssembly; a raw section is for linetab itself"$'\n' \
+    object verify - </dev/null
+  expect 'a closed one' 3 '' "$says -: standard input can't be read: Is a directory"$'\n' bash -c 'object verify - <&-'
+  expect 'standard input twice' 3 '' "$says -: standard input is read once"$'\n' object check - - <"$work/elf64"
+  expect 'standard input twice, by an option' 3 '' "$says -: standard input is read once"$'\n' object lookup - --addresses - <"$work/elf64"
+  image elf64 app id=00112233445566778899 link=app.debug,/dev/null
+  expect 'a pipe with a stripped program' 3 '' "$says -: it has no .debug_line: it is stripped, and its debug information isn't in \
+/usr/lib/debug/.build-id/00/112233445566778899.debug; install the package with the debug symbols (Debian: -dbgsym or -dbg), or take the \
+file before it was stripped; its build id is 00112233445566778899"$'\n' bash -c 'cat "$0" | object verify -' "$work/app"
+}
+
+# Files that are written whole, or not at all.
+outputs() {
+  local no=$'no 25 malformed at 0x0: truncated\n'
+  mkdir "$work/o"
+  image elf64 "o/app" "${hello[@]}"
+  expect 'an output' 0 '' '' object table "$work/o/app" -o "$work/o/app.csv"
+  expect 'which is the table' 0 "$table" '' cat "$work/o/app.csv"
+  expect 'an output, joined' 0 '' '' object units "$work/o/app" -o"$work/o/units" --quiet
+  expect 'which is the units' 0 $'0x0 32 156\n' '' cat "$work/o/units"
+  expect 'a refused one' 1 "$no" '' object units "$work/o/app" --big --output="$work/o/app.csv"
+  expect 'which changes nothing' 0 "$table" '' cat "$work/o/app.csv"
+  expect 'a refused one that is new' 1 "$no" '' object units "$work/o/app" --big -o "$work/o/new"
+  expect 'one of a file that is not there' 3 '' "$says $work/none: cannot read it: No such file or directory"$'\n' \
+    object table "$work/none" -o "$work/o/new"
+  expect 'one in a folder that is not there' 3 '' "$says $work/none/x: cannot write it: No such file or directory"$'\n' \
+    object table "$work/o/app" -o "$work/none/x"
+  expect 'a folder as output' 3 '' "$says $work/o: cannot write it: Is a directory"$'\n' object table "$work/o/app" -o "$work/o"
+  expect 'no room for it' 3 '' "$says $work/o/new: cannot write it: File too large"$'\n' \
+    bash -c 'ulimit -f 1; object dump --rows --ops "$0/o/app" -o "$0/o/new"' "$work"
+  expect 'a full device as output' 3 '' "$says /dev/full: cannot write it: No space left on device"$'\n' object table "$work/o/app" -o /dev/full
+  expect 'a device, which stays' 0 $'crw\n' '' bash -c 'object table "$0" -o /dev/null && stat -c %A /dev/null | cut -c 1-3 | tr -d -- -' "$work/o/app"
+  chmod 640 "$work/o/units" && ln -s units "$work/o/link"
+  expect 'a link to a file, whose mode stays' 0 $'640\nlink\n' '' \
+    bash -c 'object units "$0/o/app" -o "$0/o/link" && stat -c %a "$0/o/units" && [ -L "$0/o/link" ] && echo link' "$work"
+  expect 'the umask' 0 $'604\n' '' bash -c 'umask 062; object units "$0/o/app" -o "$0/o/mask" && stat -c %a "$0/o/mask"' "$work"
+  rm "$work/o/mask"
+  expect 'nothing else' 0 $'app\napp.csv\nlink\nunits\n' '' ls "$work/o"
+}
+
+# Several files, and all in folders.
+several() {
+  local all=$work/tree
+  mkdir -p "$all/one/two" "$all/empty"
+  image elf64 tree/a "${hello[@]}"
+  image pe tree/one/b "${hello[@]}"
+  image macho tree/one/two/c "${hello[@]}"
+  image elf64 tree/one/object "${hello[@]}" object
+  image elf64 tree/one/stripped code=0x1000,0x1000
+  cp examples/hello.debug_line "$all/one/text"
+  ln -s a "$all/link" && mkfifo "$all/pipe"
+  expect 'several files' 0 "$all/a: yes"$'\n'"$all/one/b: yes"$'\n2 files: 2 yes, 0 no, 0 not judged\n' '' object verify "$all/a" "$all/one/b"
+  expect 'their units' 0 "$all/a:"$'\n0x0 32 156\n\n'"$all/one/b:"$'\n0x0 32 156\n\n2 files: 2 done, 0 no, 0 not judged\n' '' \
+    object units "$all/a" "$all/one/b"
+  expect 'one that is not there' 3 "$all/a: yes"$'\n2 files: 1 yes, 0 no, 1 not judged\n' \
+    "$says $all/none: cannot read it: No such file or directory"$'\n' object verify "$all/none" "$all/a"
+  expect 'one that is named, and has nothing' 3 "$all/a: yes"$'\n2 files: 1 yes, 0 no, 1 not judged\n' \
+    "$says $all/one/text: it is none of ELF, PE, Mach-O and WebAssembly; a raw section is for linetab itself"$'\n' \
+    object verify "$all/one/text" "$all/a"
+  expect 'a folder' 0 "$all/a: yes"$'\n'"$all/one/b: yes"$'\n'"$all/one/two/c: yes"$'\n3 files: 3 yes, 0 no, 0 not judged, 3 passed over\n' '' \
+    object verify -r "$all"
+  expect 'a folder that is named without -r' 3 "$all/a: yes"$'\n2 files: 1 yes, 0 no, 1 not judged\n' \
+    "$says $all: it is a folder, and no .dSYM of one program; -r takes all programs in it"$'\n' object verify "$all/a" "$all"
+  expect 'a folder of nothing' 3 $'0 files: 0 yes, 0 no, 0 not judged, 0 passed over\n' '' object verify --recursive "$all/empty"
+  expect 'a folder that is not there' 3 $'1 file: 0 yes, 0 no, 1 not judged, 0 passed over\n' \
+    "$says $all/none: cannot read it: No such file or directory"$'\n' object verify -r "$all/none"
+  image elf64 tree/one/worse .debug_line=examples/hello.debug_line
+  head -c 70 "$all/a" >"$all/one/cut"
+  expect_notes 'a no' 1 "$all/a: yes"$'\n'"$all/one/b: yes"$'\n'"$all/one/worse: no 28 string outside unit 0x0 directories entry 0"$'\n'\
+"$all/one/two/c: yes"$'\n5 files: 3 yes, 1 no, 1 not judged, 3 passed over\n' \
+    "$says $all/one/cut: its headers reach past the end of the file, or aren't whole: it is cut or damaged"$'\n'\
+"$says note: $all/one/worse: the file has no .debug_line_str and no .debug_str, in which the text may be"$'\n' object verify -r "$all"
+  expect 'a usage that is told once' 2 '' "$(object verify --nothing "$all/a" 2>&1)"$'\n' object verify --nothing "$all/a" "$all/one/b"
+  expect 'one output of several files' 2 '' $'error: --output takes the answer about one FILE\n\nUsage: linetab-object verify [OPTIONS] <FILE>...\n'\
+$'\nFor more information, try \'--help\'.\n' object verify "$all/a" "$all/one/b" -o "$work/out.csv"
+  expect 'a full device' 3 '' "$says cannot write"$'\n' bash -c 'object verify "$0" "$0" >/dev/full' "$all/a"
+  expect 'a word that takes one' 2 '' "$("$linetab" convert x --format 32 --order big "$all/one/b" 2>&1 |
+    sed 's/^Usage: linetab /Usage: linetab-object /; s/<SECTION>/<FILE>/')"$'\n' object convert "$all/a" --format 32 --order big "$all/one/b"
+  cp "$all/a" "$all/"$'\e[31m'
+  expect 'a name with an escape' 0 "\"$all/\\x1b[31m\": yes"$'\n'"$all/a: yes"$'\n2 files: 2 yes, 0 no, 0 not judged\n' '' \
+    object verify "$all/"$'\e[31m' "$all/a"
+}
+
+# Files that are of other kinds, and what is said of each.
+kinds() {
+  local perf='it is a recording of perf: perf buildid-list -i FILE lists the programs in it; take one of them'
+  printf 'PERFILE2' >"$work/no" && refuses 'a recording of perf' no "$perf"
+  printf 'MDMP\x93\xa7' >"$work/no" && refuses 'a minidump' no 'it is a minidump, which has no line numbers: minidump_stackwalk FILE '\
+'lists the programs in it; take one of them, or its debug information'
+  printf 'MODULE Linux x86_64 0 a\n' >"$work/no" && refuses 'a file of Breakpad' no 'it is a symbol file of Breakpad, which is a table: '\
+'linetab-table breakpad FILE | linetab-object check PROGRAM - compares it with the program that it was made of'
+  printf 'PK\x03\x04' >"$work/no" && refuses 'a zip archive' no \
+    'it is a zip archive, as APK, JAR and wheel files are: unpack it, and take a program in it'
+  printf '!<arch>\ndebian-binary   ' >"$work/no" && refuses 'a package of Debian' no 'it is a package of Debian: dpkg-deb -x FILE FOLDER unpacks it'
+  printf '\xed\xab\xee\xdb' >"$work/no" && refuses 'an RPM package' no 'it is an RPM package: rpm2cpio FILE | cpio -idm unpacks it'
+  python3 tests/gsym_file.py little "$work/no" && refuses 'a table of llvm-gsymutil' no 'it is a table of llvm-gsymutil: linetab-table gsym '\
+'FILE | linetab-object check PROGRAM - compares it with the program that it was made of'
+  image elf64 no "${hello[@]}" object && printf '\xf7' | dd of="$work/no" bs=1 seek=18 conv=notrunc status=none && refuses 'a BPF object' no \
+    'it is a BPF object, which is linked when it is loaded: bpftool prog dump xlated id ID linum tells its lines then'
+  # A PE file without a table of symbols.
+  image pe no code=0x1000,0x1000 && printf '\0\0\0\0' | dd of="$work/no" bs=1 seek=76 conv=notrunc status=none &&
+    refuses 'a stripped PE file' no 'it has no .debug_line: it was stripped, or made by a compiler that writes a PDB, which has no DWARF: '\
+'take the file before it was stripped, or compile with -gdwarf-5 by gcc or clang for mingw'
 }
 
 packed() {
@@ -120,12 +266,12 @@ discarded() {
   expect 'sequences at 0, in words that take no marker' 0 "$("$linetab" units examples/gc-sections.debug_line)"$'\n' '' object units \
     "$work/dead"
   expect 'a marker of the words' 1 \
-    "$("$linetab" table examples/gc-sections.debug_line --line-str examples/gc-sections.debug_line_str)"$'\n' \
+    "$("$linetab" table examples/gc-sections.debug_line --line-str examples/gc-sections.debug_line_str --quiet)"$'\n' \
     "$says note: sequences overlap at 0x0; if the linker left those of discarded functions there, --dead 0x0 leaves them out"$'\n' \
     object table "$work/dead" --dead 0x1
   image elf64 live "${dead[@]}" code=0x0,0x100000
   expect 'sequences at 0, where code is' 1 \
-    "$("$linetab" table examples/gc-sections.debug_line --line-str examples/gc-sections.debug_line_str)"$'\n' \
+    "$("$linetab" table examples/gc-sections.debug_line --line-str examples/gc-sections.debug_line_str --quiet)"$'\n' \
     "$says note: sequences overlap at 0x0; if the linker left those of discarded functions there, --dead 0x0 leaves them out"$'\n' \
     object table "$work/live"
   python3 -c \
@@ -169,9 +315,8 @@ once() {
   (bytes "43000000 $start $header 0009020000000000000000 144b0202 000101") >"$work/unnamed"
   local version="$says note: 1 of its 2 units, of src/a.c, is of version 4; linetab reads DWARF 5 alone: compile with -gdwarf-5"$'\n'
   cat "$work/named" "$work/old4" >"$work/mixed" && image elf64 dead .debug_line="$work/mixed"
-  expect_notes 'discarded code, without which another fault is told' 1 $'no 25 malformed at 0x4d: version 4\n' \
-    "$says note: sequences begin at 0x0, where $work/dead has no code: the linker left those of discarded functions there; "\
-"--dead 0x0 leaves them out"$'\n'"$version" object verify "$work/dead"
+  expect_notes 'discarded code, without which another fault is told' 1 $'no 25 malformed at 0x4d: version 4\n' "$version" \
+    object verify "$work/dead"
   cat "$work/unnamed" "$work/old4" >"$work/mixed" && image elf64 dead .debug_line="$work/mixed"
   expect_notes 'discarded code, without which the same fault is told' 1 $'no 25 malformed at 0x4b: version 4\n' "$version" \
     object verify "$work/dead"
@@ -194,15 +339,12 @@ for version in (2, 3, 4):
             file.write(struct.pack(order + "I", len(inner)) + inner)
 END
   local rust='rustc takes -C dwarf-version=5, and -O -C lto=fat for its standard library, which is of version 4'
-  local copies='GNU ld and gold resolve the line numbers of a discarded copy of an inline function to the copy that they kept, '
-  copies+='and --icf folds functions into one; --skip-copies leaves such copies out; or link by lld or mold without --icf, '
-  copies+='or compile with -flto'
   local version order
   for order in '' -big; do
     for version in 2 3; do
       image elf64$order unit .debug_line="$work/old$version${order#-}"
       expect "version $version$order" 1 "no 25 malformed at 0x4: version $version"$'\n' \
-        "$says note: its unit, of src/a.c, is of version $version; $hint -gdwarf-5 -Wa,--gdwarf-5, as it is the assembler's"$'\n' \
+        "$says note: its unit, of src/a.c, is of version $version; $hint -gdwarf-5 -Wa,--gdwarf-5, as it is the assembler's; as itself takes --gdwarf-5"$'\n' \
           object table "$work/unit"
     done
     image elf64$order unit .debug_line="$work/old4${order#-}"
@@ -212,22 +354,63 @@ END
   cat "$work/old2" examples/hello.debug_line "$work/old4" "$work/old4" >"$work/mixed"
   image elf64 unit .debug_line="$work/mixed" "${hello[1]}"
   expect 'versions 2 and 4' 1 $'no 25 malformed at 0x4: version 2\n' \
-    "$says note: 3 of its 4 units, the first of src/a.c, are of version 2 and 4; $hint -gdwarf-5 -Wa,--gdwarf-5, as it is the assembler's"$'\n' \
+    "$says note: 3 of its 4 units, the first of src/a.c, are of version 2 and 4; $hint -gdwarf-5 -Wa,--gdwarf-5, as it is the assembler's; as itself takes --gdwarf-5"$'\n' \
     object table "$work/unit"
+  local said advised
+  while IFS='|' read -r said advised; do
+    echo "$said" >"$work/said"
+    image elf64 unit .debug_line="$work/old3" .debug_str="$work/said"
+    expect "version 3, by $said" 1 $'no 25 malformed at 0x4: version 3\n' \
+      "$says note: its unit, of src/a.c, is of version 3; ${hint% compile with} $advised"$'\n' object table "$work/unit"
+  done <<'END'
+NASM 2.16.01|nasm writes none later than 3; GNU as takes --gdwarf-5
+yasm 1.3.0|yasm writes none later than 2; GNU as takes --gdwarf-5
+The Glorious Glasgow Haskell Compilation System 9.0.2|ghc takes -opta-Wa,--gdwarf-5
+camlStd_exit__entry|ocamlopt has no option for it
+GNU AS 2.40|compile with -gdwarf-5 -Wa,--gdwarf-5, as it is the assembler's; as itself takes --gdwarf-5
+END
   cat examples/hello.debug_line "$work/old4" >"$work/mixed"
   echo 'clang LLVM (rustc version 1.95.0)' >"$work/said"
   image elf64 unit .debug_line="$work/mixed" "${hello[1]}" z:.debug_str="$work/said"
   expect 'version 4 after version 5, by rustc' 1 $'no 25 malformed at 0xa4: version 4\n' \
     "$says note: 1 of its 2 units, of src/a.c, is of version 4; ${hint% compile with} $rust"$'\n' \
     object table "$work/unit"
+}
+
+# Sequences that hold the same positions are copies, which are left out; others aren't.
+copies() {
+  local told="$says note: sequences of $work/unit hold the same positions, the first of them 0x1129: the linker kept one of several \
+copies of a function, or folded functions into one (--icf); --skip-copies leaves out the others"$'\n'
+  local lookup='0x1137,0 unit 0 file 1 line 1 column 50 stmt 1 path "/w/src/small/a.c"'$'\n'
   cat examples/hello.debug_line examples/hello.debug_line >"$work/twice"
   image elf64 unit .debug_line="$work/twice" "${hello[1]}"
-  expect 'two copies' 1 $'no 32 overlap 0x0:0 0xa0:0 at 0x1129,0\n' \
-    "$says note: two sequences hold 0x1129: $copies"$'\n' \
-    object table "$work/unit"
-  expect_notes 'two copies, told once' 1 $'no 32 overlap 0x0:0 0xa0:0 at 0x1129,0\n' \
-    "$says note: two sequences hold 0x1129: $copies"$'\n' object verify "$work/unit"
-  expect 'two copies, one skipped' 0 $'yes\n' '' object verify "$work/unit" --skip-copies
+  expect_notes 'two copies' 0 $'yes\n' "$told" object verify "$work/unit"
+  expect_notes 'a table of them' 0 "$table" "$told" object table "$work/unit"
+  expect_notes 'a lookup in them' 0 "$lookup" "$told" object lookup "$work/unit" 0x1137
+  expect_notes 'lookups in them' 0 "$lookup" "$told" bash -c 'echo 0x1137 | object lookup "$0" --addresses -' "$work/unit"
+  expect_notes 'a check of standard input' 0 $'yes\n' "$told" bash -c 'cat examples/hello.csv | object check "$0" -' "$work/unit"
+  expect_notes 'two copies, quiet' 0 $'yes\n' '' object verify "$work/unit" --quiet
+  expect_notes 'copies that are skipped anyway' 0 $'yes\n' '' object verify "$work/unit" --skip-copies
+  expect_notes 'words that judge nothing' 0 $'0x0 32 156\n0xa0 32 156\n' '' object units "$work/unit"
+  # One sequence of 6 bytes, and one of 4 bytes at the same address.
+  (bytes "43000000 $start $header 0009020010000000000000 144b0202 000101" "43000000 $start $header 0009020010000000000000 144b0200 000101") \
+    >"$work/sizes"
+  image elf64 unit .debug_line="$work/sizes"
+  expect_notes 'no copies' 1 $'no 32 overlap 0x0:0 0x47:0 at 0x1000,0\n' "$says note: two sequences hold 0x1000, and aren't of one size: \
+GNU ld and gold lead the line numbers of a discarded copy of an inline function to the copy that they kept, also where it is another \
+one, and --icf folds functions into one; link by lld or mold without --icf, or compile with -flto"$'\n' object verify "$work/unit"
+  expect_notes 'no copies, quiet' 1 $'no 32 overlap 0x0:0 0x47:0 at 0x1000,0\n' '' object verify "$work/unit" --quiet
+  # Both, and discarded code.
+  cat examples/hello.debug_line "$work/sizes" examples/hello.debug_line >"$work/both"
+  image elf64 unit .debug_line="$work/both" "${hello[1]}"
+  expect 'copies, and others' 1 "$("$linetab" verify "$work/both" --line-str examples/hello.debug_line_str --skip-copies)"$'\n' \
+    "$says note: two sequences hold 0x1000, and aren't of one size: GNU ld and gold lead the line numbers of a discarded copy of an \
+inline function to the copy that they kept, also where it is another one, and --icf folds functions into one; link by lld or mold \
+without --icf, or compile with -flto"$'\n' object verify "$work/unit"
+  cat "$work/twice" examples/gc-sections.debug_line >"$work/both"
+  image elf64 unit .debug_line="$work/both" "${dead[1]}" code=0x1000,0x100000
+  expect_notes 'copies and discarded code' 0 $'0x10,0 none\n' "$says note: sequences begin at 0x0, where $work/unit has no code: the linker \
+left those of discarded functions there; --dead 0x0 leaves them out"$'\n'"$told" object lookup "$work/unit" 0x10
 }
 
 apart() {
@@ -275,10 +458,13 @@ refusals() {
   image elf64 no "${hello[@]}" dwo && refuses 'split debug information' no \
     'it is split debug information: the line number section is in the linked program'
   image elf64 no "${hello[@]}" module && refuses 'a kernel module' no \
-    "it is a kernel module, whose addresses aren't final before it is loaded"
+    "it is a kernel module, whose addresses aren't final before it is loaded: ld -Ttext=ADDRESS --unresolved-symbols=ignore-all \
+-e 0 -o LINKED FILE makes a file that has them, with ADDRESS of /sys/module/NAME/sections/.text"
   image elf64 no "${hello[@]}" core && refuses 'a core file' no 'it is a core file: take the program that it is of'
   image elf64 no code=0x1000,0x1000 && refuses 'no debug information' no \
     "it has no .debug_line: compile and link it with -gdwarf-5, and don't strip it"
+  image elf64 no .stab=tests/images.py code=0x1000,0x1000 && refuses 'stabs alone' no \
+    'it has no .debug_line: its debug information is of the kind stabs; compile it by a compiler that writes DWARF 5'
   image pe no code=0x1000,0x1000 && refuses 'none in PE' no \
     'it has no .debug_line: compile with -gdwarf-5 by gcc or clang for mingw; a PDB has no DWARF'
   image fat no "${hello[@]}" machine machine && refuses 'two machines' no \
@@ -297,7 +483,7 @@ refusals() {
     refuses "a cut file, $format" no "$cut"
   done
   refuses 'a file that is not there' nothing 'cannot read it: No such file or directory'
-  refuses 'a folder' .debug 'it is a folder, and no .dSYM of one program'
+  refuses 'a folder' .debug 'it is a folder, and no .dSYM of one program; -r takes all programs in it'
   expect 'a name with an escape' 3 '' "$says "'"no\x1b[31m": cannot read it: No such file or directory'$'\n' object table $'no\e[31m'
   image elf64 kept "${hello[@]}" && cp -p "$work/kept" "$work/same" && chmod 400 "$work/kept"
   agrees 'a file that may only be read' kept hello ''
@@ -388,7 +574,7 @@ streams() {
   expect 'a full standard error, and a note' 0 "$left" '' bash -c 'object verify "$0" 2>/dev/full' "$work/dead"
   expect 'a full standard error, and a refusal' 3 '' '' bash -c 'object verify "$0" 2>/dev/full' "$work/nothing"
   expect 'a closed standard error, and a refusal' 3 '' '' bash -c 'object verify "$0" 2>&-' "$work/nothing"
-  expect 'a closed standard output' 3 '' $'linetab: cannot write\n' bash -c 'object table "$0" >&-' "$work/elf64"
+  expect 'a closed standard output' 3 '' "$says cannot write"$'\n' bash -c 'object table "$0" >&-' "$work/elf64"
   expect 'a closed standard input' 0 "$table" '' bash -c 'object table "$0" <&-' "$work/elf64"
   expect 'a table of a closed standard input' 3 '' $'linetab: cannot read -\n' bash -c 'object check "$0" - <&-' "$work/elf64"
   expect 'no standard stream' 3 '' '' bash -c 'object table "$0" <&- >&- 2>&-' "$work/elf64"
@@ -399,7 +585,7 @@ streams() {
   expect 'a program that is killed' 0 $'-9\n' '' python3 -c 'import subprocess, sys; print(subprocess.call(sys.argv[1:]))' \
     "$work/killed/linetab-object" table "$work/elf64"
   echo none >"$work/killed/linetab"
-  expect 'a program that is none' 3 '' "$says $work/elf64: the program linetab can't be run: Exec format error"$'\n' \
+  expect 'a program that is none' 3 '' "$says the program linetab can't be run: Exec format error"$'\n' \
     "$work/killed/linetab-object" table "$work/elf64"
   expect 'a closed pipe' 0 $'3\n' '' bash -c '{ sleep 1; object table "$0"; echo $? >"$0.status"; } | true; cat "$0.status"' "$work/elf64"
 }
@@ -456,9 +642,15 @@ installed() {
 PATH=$(dirname "$(python3 -c 'import sys; print(sys.executable)')"):$PATH
 formats
 words
+usage
+standard_input
+outputs
+several
+kinds
 packed
 discarded
 versions
+copies
 once
 apart
 refusals
