@@ -24,8 +24,10 @@ paths() {
   expect "the paths of $1" 0 "$(./linetab files "${from[@]}" --quiet | sed '1d; s/,[^,]*$//')"$'\n' '' "$work/calls" files "${from[@]}"
 }
 
-./library "$prefix" 2>"$work/log" || { cat "$work/log"; exit 1; }
-expect 'beside the programs' 0 '' '' ./install --library "$work/installed"
+./library "$prefix" >"$work/log" 2>&1 || { cat "$work/log"; exit 1; }
+expect 'beside the programs' 0 "install: linetab $(<VERSION) is under $work/installed: the programs in bin, man pages, completions and documents in share, the library in lib, include and share; \`./install --uninstall $work/installed\` removes it"$'\n' '' \
+  ./install --library "$work/installed"
+expect 'each file is listed' 0 '' '' bash -c 'cd "$0" && cat share/linetab/*.files | sort -u | diff - <(find . -type f -printf "%P\n" | sort)' "$work/installed"
 expect 'in a release' 0 "linetab-$(<VERSION)-x86_64-linux/lib/liblinetab.a"$'\n' '' \
   bash -c './release --library "$0" >"$0/sum" && tar --list --file="$(echo "$0"/linetab-*.tar.gz)" | grep "[.]a$"' "$work"
 expect 'the same library there' 0 '' '' cmp "$work/installed/lib/liblinetab.a" "$prefix/lib/liblinetab.a"
@@ -52,6 +54,14 @@ expect 'C: lookups' 0 "$wanted" '' "$work/lookup" "${hello[@]}" 0x1129 0x1137 0x
 expect 'C: a static program' 0 "$wanted" '' \
   bash -c 'cc -static -I"$1/include" -o "$2/static" examples/c/lookup.c "$1/share/linetab/linetab_heap.c" "$1/lib/liblinetab.a" && "$2/static" "${@:3}"' \
   '' "$prefix" "$work" "${hello[@]}" 0x1129 0x1137 0x1
+expect 'C, by the names of folders' 0 "$wanted" '' \
+  bash -c 'cc -I"$1/include" -o "$2/by_names" examples/c/lookup.c "$1/share/linetab/linetab_heap.c" -L"$1/lib" -llinetab && "$2/by_names" "${@:3}"' \
+  '' "$prefix" "$work" "${hello[@]}" 0x1129 0x1137 0x1
+if here 'C, by pkg-config' pkg-config; then
+  expect 'C, by pkg-config' 0 "$wanted" '' bash -c 'export PKG_CONFIG_PATH=$1/lib/pkgconfig
+    cc $(pkg-config --cflags linetab) -o "$2/by_pkg_config" examples/c/lookup.c "$(pkg-config --variable=heap linetab)" $(pkg-config --libs linetab) &&
+    "$2/by_pkg_config" "${@:3}"' '' "$prefix" "$work" "${hello[@]}" 0x1129 0x1137 0x1
+fi
 sed -n '/^```c$/,/^```$/{/^```/!p}' docs/EMBEDDING.md >"$work/page.h"
 expect 'the page compiles' 0 '' '' cc "${strict[@]}" -I"$work" -std=c11 -o "$work/page" tests/embedding/page.c "$heap" "$library"
 expect 'what the page prints' 0 $'/w/src/small/a.c:1\n' '' "$work/page" "${hello[@]}" 0x1137

@@ -1,28 +1,38 @@
 #!/usr/bin/env bash
 # What install puts under a prefix: programs that run, man pages and completions of each word and option that the program's help
-# has; and the archive of release, which is the same twice, and runs where nothing but the C library is. What words neither takes, and
-# what they leave where something is in the way.
+# has, and documents; and the archive of release, which is the same twice, and runs where nothing but the C library is. What words
+# neither takes, what they leave where something is in the way, and that all is removed again.
 cd "$(dirname "$(readlink -f -- "$0")")/.." || exit 1
 . tests/check.bash
 prefix=$work/prefix
 linetab=$prefix/bin/linetab
 hello=(examples/hello.debug_line examples/hello.csv --line-str examples/hello.debug_line_str)
+# Else Python keeps what it compiled beside the modules that are installed.
+export PYTHONDONTWRITEBYTECODE=1
 
 # The words of the help, and the options of one of them, or of none, each on a line, in order.
 words() {
   "$linetab" --help | sed -n '/^Commands:/,/^$/s/^  \([a-z0-9]*\) .*/\1/p' | sort
 }
-options() { # [WORD]
-  "$linetab" $1 --help | sed -nE 's/^ +(-[a-zA-Z], )?(--[a-z0-9-]+).*/\2/p' | sort
+options() { # [WORD [PROGRAM]]
+  "$prefix/bin/${2:-linetab}" $1 --help | sed -nE 's/^ +(-[a-zA-Z], )?(--[a-z0-9-]+).*/\2/p' | sort
+}
+# Those of linetab-object, which has one more.
+object_words() {
+  { words; echo symbolize; } | sort
 }
 # Both are the same, and not empty.
 same() { # NAME WANTED GIVEN
   expect "$1" 0 "${2:?}"$'\n' '' echo "$3"
 }
 
-expect 'a prefix' 0 '' '' ./install "$prefix"
-for words in '' "''" --libary '-- x' 'x y' '--library'; do
-  expect "no prefix: $words" 2 '' $'usage: ./install [--library] PREFIX\n' unwritten bash -c "./install $words"
+# The last line of install.
+installed() { # PREFIX
+  echo "install: linetab $(<VERSION) is under $1: the programs in bin, man pages, completions and documents in share; \`./install --uninstall $1\` removes it"
+}
+expect 'a prefix' 0 "$(installed "$prefix")"$'\n' '' ./install "$prefix"
+for words in '' "''" --libary '-- x' 'x y' --library --uninstall '--uninstall --library x'; do
+  expect "no prefix: $words" 2 '' $'usage: ./install [--library] PREFIX\n       ./install --uninstall PREFIX\n' unwritten bash -c "./install $words"
 done
 expect 'the program' 0 $'yes\n' '' "$linetab" check "${hello[@]}"
 python3 tests/images.py elf64 "$work/app" .debug_line=examples/hello.debug_line .debug_line_str=examples/hello.debug_line_str
@@ -31,6 +41,51 @@ expect 'by a link' 0 $'yes\n' '' \
   bash -c 'ln -s "$0/bin/linetab-object" "$1/link" && "$1/link" check "$1/app" examples/hello.csv' "$prefix" "$work"
 expect 'linetab-table beside it' 0 $'low,high,path,line\n0x1000,0x1004,/w/a.c,3\n' '' bash -c '"$0/bin/linetab-table" breakpad -' "$prefix" \
   < <(printf 'MODULE Linux x86_64 0 a\nFILE 0 /w/a.c\nFUNC 1000 4 0 main\n1000 4 3 0\n')
+documents() {
+  local pages=(*.md LICENSE-* docs/*.md docs/*.svg bench/*.md)
+  same 'documents' "$(printf '%s\n' "${pages[@]}" | LC_ALL=C sort)" \
+    "$(cd "$prefix/share/doc/linetab" && find . -type f -printf '%P\n' | LC_ALL=C sort)"
+  expect 'links between them' 0 '' '' python3 - "$prefix/share/doc/linetab" <<'END'
+import os, re, sys
+for at, _, names in os.walk(sys.argv[1]):
+    for name in names:
+        with open(os.path.join(at, name)) as page:
+            for _, link in re.findall(r"(\]\(|(?:src|srcset|href)=\")([^)\s#\":]+)(?=[)#\"])", page.read() if name.endswith(".md") else ""):
+                os.path.exists(os.path.join(at, link)) or print("%s: %s isn't there" % (name, link))
+END
+  # Sources aren't installed, so a link to one is its text.
+  printf '%s\n' '[a](docs/TABLES.md#b), [`c`](crates.txt), ![d](https://e.f/g), [h [i]](docs/../LICENSE-MIT)' >"$work/page.md"
+  expect 'a page with links' 0 $'[a](docs/TABLES.md#b), `c`, ![d](https://e.f/g), [h [i]](docs/../LICENSE-MIT)\n' '' python3 -B -c 'import importlib.machinery, sys
+pages = importlib.machinery.SourceFileLoader("pages", "share/pages").load_module()
+sys.stdout.write(pages.installed("page.md", open(sys.argv[1]).read(), ["docs/TABLES.md", "LICENSE-MIT"]))' "$work/page.md"
+}
+
+lists() {
+  same 'each file is listed' "$(cd "$prefix" && find . -type f -printf '%P\n' | LC_ALL=C sort)" "$(<"$prefix/share/linetab/programs.files")"
+  cp -r "$prefix" "$work/removed"
+  echo mine >"$work/removed/share/man/man1/mine.1"
+  # Python keeps what it compiled.
+  expect 'its linetab-object' 0 $'yes\n' '' env -u PYTHONDONTWRITEBYTECODE "$work/removed/bin/linetab-object" verify "$work/app"
+  expect 'it is uninstalled' 0 "install: removed $(($(find "$prefix" -type f | wc -l) - 1)) files that were put under $work/removed"$'\n' '' \
+    ./install --uninstall "$work/removed"
+  expect 'but not what was there before' 0 $'bin\nshare\nshare/man\nshare/man/man1\nshare/man/man1/mine.1\n' '' \
+    bash -c 'cd "$0" && find . -mindepth 1 -printf "%P\n" | LC_ALL=C sort' "$work/removed"
+  expect 'only once' 1 '' "install: nothing is installed under $work/removed: it has no share/linetab/*.files"$'\n' ./install --uninstall "$work/removed"
+  # What an earlier version had put there is removed too; what a list names elsewhere is no file of it.
+  mkdir -p "$work/removed/share/linetab"
+  printf '%s\n' bin/old share/man/man1/mine.1 >"$work/removed/share/linetab/programs.files"
+  : >"$work/removed/bin/old"
+  expect 'over an earlier one' 0 "$(installed "$work/removed")"$'\n' '' ./install "$work/removed"
+  expect 'the earlier one too' 0 '' '' bash -c './install --uninstall "$0" >/dev/null && find "$0" -type f' "$work/removed"
+  mkdir -p "$work/removed/share/linetab"
+  for words in ../outside /outside a//b ''; do
+    printf '%s\n' bin/old "$words" >"$work/removed/share/linetab/programs.files"
+    : >"$work/removed/bin/old"
+    expect "a list with '$words'" 1 '' "install: a list names what isn't below $work/removed: $words"$'\n' ./install --uninstall "$work/removed"
+    expect 'which removes nothing' 0 '' '' test -e "$work/removed/bin/old"
+  done
+}
+
 expect 'no file that all may write' 0 '' '' find "$prefix" -perm /022
 expect 'licences' 0 '' '' \
   bash -c 'for file in LICENSE-APACHE LICENSE-MIT; do cmp $file "$0/share/doc/linetab/$file" || exit; done' "$prefix"
@@ -39,9 +94,11 @@ in_the_way() {
   local there=$work/in\ the\ way before
   mkdir -p "$there/elsewhere/a prefix"
   # The same, by a relative name, where CDPATH has such a folder too; and by two at once.
-  expect 'a relative prefix' 0 '' '' bash -c 'cd "$1" && CDPATH=$1/elsewhere "$0/install" "a prefix" && diff -r "a prefix" "$2"' \
+  expect 'a relative prefix' 0 '' '' \
+    bash -c 'cd "$1" && CDPATH=$1/elsewhere "$0/install" "a prefix" >/dev/null && diff -r "a prefix" "$2"' \
     "$top" "$there" "$prefix"
-  expect 'two at once' 0 '' '' bash -c './install "$0/both" & ./install "$0/both" && wait "$!" && diff -r "$0/both" "$1"' "$there" "$prefix"
+  expect 'two at once' 0 '' '' \
+    bash -c '{ ./install "$0/both" & ./install "$0/both" && wait "$!"; } >/dev/null && diff -r "$0/both" "$1"' "$there" "$prefix"
   : >"$there/file"
   for before in "$there/file" "$there/file/within" /proc/none; do
     expect "nothing can be written: $before" 1 '' "install: nothing can be written to $before/bin"$'\n' last_line ./install "$before"
@@ -78,11 +135,11 @@ manual() {
 }
 
 in_bash() {
-  local file=$prefix/share/bash-completion/completions/linetab word
+  local folder=$prefix/share/bash-completion/completions word
   # What is offered after these words.
-  offered() {
-    bash -c 'complete() { :; }; . "$0"; COMP_WORDS=("$@") COMP_CWORD=$(($# - 1)); _linetab
-      printf "%s\n" "${COMPREPLY[@]}" | sort' "$file" "$@"
+  offered() { # PROGRAM WORD..
+    bash -c 'complete() { :; }; . "$0/$1"; COMP_WORDS=("$@") COMP_CWORD=$(($# - 1)); "_${1//-/_}"
+      printf "%s\n" "${COMPREPLY[@]}" | sort' "$folder" "$@"
   }
   same 'words in bash' "$(words)" "$(offered linetab '' | grep -v '^-')"
   for word in $(words | grep -vx help); do
@@ -92,7 +149,10 @@ in_bash() {
   same 'the beginning of a word in bash' convert "$(offered linetab con)"
   same 'a choice in bash' $'32\n64' "$(offered linetab convert --format '')"
   made_in_bash
-  same 'for linetab-object in bash' $'--format\n--help\n--order' "$(offered linetab-object convert file -- | grep -vxE -- '--(big|quiet)')"
+  same 'words of linetab-object in bash' "$(object_words)" "$(offered linetab-object '' | grep -v '^-')"
+  for word in $(object_words | grep -vx help); do
+    same "the options of linetab-object $word in bash" "$(options "$word" linetab-object)" "$(offered linetab-object "$word" file --)"
+  done
 }
 
 # Makers and options of linetab-table's help.
@@ -131,7 +191,7 @@ in_fish() {
   same 'a choice in fish' $'big\nlittle' "$(offered 'linetab convert --order ')"
   same 'makers in fish' "$(makers)" "$(cd "$work/none" && HOME=$work fish --no-config -c "
     source '$prefix/share/fish/vendor_completions.d/linetab-table.fish'; complete -C 'linetab-table '" | cut -f 1 | sort -u)"
-  same 'words of linetab-object in fish' "$(words)" "$(offered 'linetab-object ')"
+  same 'words of linetab-object in fish' "$(object_words)" "$(offered 'linetab-object ')"
 }
 
 in_zsh() {
@@ -153,7 +213,7 @@ in_zsh() {
       "$prefix/share/zsh/site-functions/_linetab" | sort)"
   same 'makers in zsh' "$(makers)" "$(zsh -fc '_arguments() { print -rl -- "$@" | sed -n "s/^1:maker:(\(.*\))/\1/p" }; . $1' zsh \
     "$prefix/share/zsh/site-functions/_linetab-table" | tr ' ' '\n' | sort)"
-  expect 'its commands in zsh' 0 $'_linetab _linetab\n' '' zsh -fc 'fpath=($1 $fpath); autoload -Uz compinit; compinit -D -u
+  expect 'its commands in zsh' 0 $'_linetab _linetab-object\n' '' zsh -fc 'fpath=($1 $fpath); autoload -Uz compinit; compinit -D -u
     print $_comps[linetab] $_comps[linetab-object]' zsh "$prefix/share/zsh/site-functions"
 }
 
@@ -174,8 +234,10 @@ release() {
   expect 'a time that is none' 2 '' $'release: SOURCE_DATE_EPOCH is a number of seconds, and not today\n' \
     env SOURCE_DATE_EPOCH=today ./release "$work/two"
   expect 'its sum' 0 "$name.tar.gz: OK"$'\n' '' bash -c 'cd "$0" && sha256sum -c "$1.tar.gz.sha256"' "$work/one" "$name"
-  expect 'the same as under a prefix' 0 '' '' bash -c 'tar xzf "$0" -C "$1/unpacked" && diff -r "$1/unpacked/$2" "$1/prefix"' \
+  expect 'the same as under a prefix' 0 '' '' \
+    bash -c 'tar xzf "$0" -C "$1/unpacked" && diff -r --exclude README "$1/unpacked/$2" "$1/prefix"' \
     "$work/one/$name.tar.gz" "$work" "$name"
+  needs "$work/unpacked/$name"
   # A root of nothing but the program, what it is linked with, and a section.
   local root=$work/root file enter=(chroot)
   [ "$(id -u)" -eq 0 ] || enter=(unshare -r chroot)
@@ -190,15 +252,38 @@ release() {
   expect 'under a bare root' 0 $'yes\n' '' "${enter[@]}" "$root" /opt/bin/linetab check "${hello[@]}"
 }
 
-# The head of each script, where its help is asked for.
+# What the page at the top of the archive says that it needs, and how it is copied and removed.
+needs() { # FOLDER
+  local at
+  same 'it names linetab, its version and the system' "linetab $(<VERSION) for Linux on x86-64" "$(head -n 1 "$1/README")"
+  if here 'the C library that the release needs' readelf; then
+    at=$(LC_ALL=C readelf --version-info --wide "$1/bin/linetab" | grep -o 'GLIBC_[0-9.]*' | sort -uV | tail -n 1)
+    same 'the C library that it needs' "GNU C library, version ${at#GLIBC_} or later" "$(grep -o 'GNU C library, .* later' "$1/README")"
+  fi
+  expect 'and python3' 0 '' '' grep -q '^linetab-object and linetab-table need python3' "$1/README"
+  mkdir "$work/copied"
+  expect 'copied as it says' 0 $'yes\n' '' bash -c 'cd "$1" &&
+    eval "$(sed -n "s,^ *\(cp .*\) /usr/local$,\1 \"\$2\",p" README)" && cd "$0" &&
+    "$2/bin/linetab" check "${@:3}"' "$top" "$1" "$work/copied" "${hello[@]}"
+  expect 'and removed as it says' 0 '' '' \
+    bash -c 'cd "$1" && eval "$(sed -n "s,^ *cd /usr/local && ,,p" "$0/README")" && find . -type f' "$1" "$work/copied"
+}
+
+# The head of each script, where its help is asked for, also behind other words. It begins with the line that other words get.
 helps() {
   local script
-  for script in install library release test must-fail/try bench/peers/build share/prove share/build tests/install.sh; do
-    expect "the help of $script" 0 "$(sed -n '2s/^# //p' "$script")"$'\n' '' bash -c '"./$0" --help | head -n 1' "$script"
+  for script in install library release test must-fail/try bench/peers/build share/prove share/build; do
+    expect "the help of $script" 0 "$(sed -n '2s/^# usage: /usage: /p' "$script")"$'\n' '' bash -c '"./$0" x --help | head -n 1' "$script"
+    expect "the help of $script in short" 0 "$(sed -n '2,/^[^#]/s/^# //p' "$script")"$'\n' '' "./$script" -h
+    [[ $script == */try ]] ||
+      expect "other words to $script" 2 '' "$(sed -nE '2,/^[^#]/s/^# ((usage:|      ) .*)/\1/p' "$script")"$'\n' "./$script" --other x
   done
+  expect 'the help of a test' 0 "$(sed -n '2s/^# //p' tests/install.sh)"$'\n' '' bash -c 'tests/install.sh --help | head -n 1'
 }
 
 in_the_way
+documents
+lists
 helps
 manual
 in_bash
