@@ -1,13 +1,11 @@
 """changed.py COUNT FILE..: does as linetab-object does with each FILE, COUNT times with some bytes that are others. Each run ends with a
 status or a refusal, within a second and 64 MB. Anything else is told. The program isn't started: its answers are made up."""
 
-import importlib.machinery
-import importlib.util
+import importlib
 import os
 import random
 import resource
 import signal
-import subprocess
 import sys
 import tempfile
 
@@ -20,6 +18,7 @@ LINES = (
     b"no 28 string outside unit 0x0 directories entry 0\n",
     b"no 32 overlap 0x0:0 0xa0:0 at 0x1129,0\n",
 )
+NOTES = (b"", b"linetab: note: no sequence begins at 0x0,\n", b"linetab: note: the two hold the same positions, as where\n")
 
 
 class Late(BaseException):
@@ -52,30 +51,46 @@ def changed(whole, chance):
     return bytes(data)
 
 
+HELP = "Tells whether\n\nUsage: linetab verify [OPTIONS] <SECTION>\n\nArguments:\n  <SECTION>  It\n\nOptions:\n" + "".join(
+    "      %s  It\n" % option for option in ("--big", "--dead <A>", "--line-str <F>", "--str <F>", "--skip-copies"))
+
+
 def loaded(chance):
-    """linetab-object as a module, without its program and what it tells."""
-    sys.dont_write_bytecode = True
-    loader = importlib.machinery.SourceFileLoader("linetab_object", os.path.join(TOP, "linetab-object"))
-    module = importlib.util.module_from_spec(importlib.util.spec_from_loader("linetab_object", loader))
-    loader.exec_module(module)
+    """The function by which linetab-object answers about a file, without its program and what it tells."""
+    sys.path.insert(0, os.path.join(TOP, "share", "object"))
+    folder = os.listdir(sys.path[0])
+    modules = {name[:-3]: importlib.import_module(name[:-3]) for name in folder if name.endswith(".py")}
 
-    def ran(words, **_):
-        if words[-1] == "--help":
-            return subprocess.CompletedProcess(words, 0, b"  --big\n  --dead\n  --line-str\n  --str\n", b"")
-        line, note = chance.choice(LINES), chance.choice((b"", b"linetab: note: no sequence begins at 0x0,\n"))
-        return subprocess.CompletedProcess(words, line != b"yes\n", line, note)
+    class Made(modules["program"].Run):
+        def __init__(self, *_, **__):
+            self.output = self.input = self.said = None
+            self.head, self.notes = chance.choice(LINES), chance.choice(NOTES)
+            self.status = int(self.head != b"yes\n")
 
-    module.ran = ran
-    module.put_error = lambda content: None
-    return module
+    modules["program"].Run = Made
+    os.dup2(os.open(os.devnull, os.O_WRONLY), 2)
+    words = modules["words"]
+    word = words.Word("verify", HELP)
+    given = words.Given(word, [])
+    return modules["bounded"].Refusal, lambda path: modules["command"].answer(word, given, path, Nowhere())
 
 
-def tried(module, path, seed):
+class Nowhere:
+    """What is written there is lost."""
+
+    def write(self, piece):
+        pass
+
+    def end(self, status):
+        pass
+
+
+def tried(refusal, answer, path, seed):
     """Runs a word on the file."""
     signal.setitimer(signal.ITIMER_REAL, 1)
     try:
-        module.run("verify", path, [])
-    except module.Refusal:
+        answer(path)
+    except refusal:
         pass
     except BaseException as error:
         print("%s, seed %d: %r" % (sys.argv[2], seed, error))
@@ -86,7 +101,7 @@ def tried(module, path, seed):
 
 def main():
     chance = random.Random()
-    module = loaded(chance)
+    refusal, answer = loaded(chance)
     signal.signal(signal.SIGALRM, late)
     with open("/proc/self/statm", "rb") as statm:
         limit = int(statm.read().split()[0]) * resource.getpagesize() + (64 << 20)
@@ -100,7 +115,7 @@ def main():
                 path = os.path.join(folder, "file")
                 with open(path, "wb") as file:
                     file.write(changed(whole, chance))
-                tried(module, path, seed)
+                tried(refusal, answer, path, seed)
     print("%d files" % (int(sys.argv[1]) * len(sys.argv[2:])))
 
 

@@ -8,11 +8,11 @@ import subprocess
 import sys
 import tempfile
 
+from line_writer import PLAIN
+
 PROGRAM = "crates/linetab/out/linetab"
 
-NUMBERS = bytes([1, 1, 1, 0xFB, 14, 13, 0, 1, 1, 1, 1, 0, 0, 0, 1, 0, 0, 1])
 TABLES = bytes([1, 1, 8, 1]) + b"/s\0" + bytes([1, 1, 8, 2]) + b"a\0b\0"
-LINE_BASE, LINE_RANGE, OPCODE_BASE = -5, 14, 13
 # The greatest line, whose digits all fit.
 MOST = 60_000
 
@@ -24,16 +24,9 @@ def sequence(picked, address, count):
         # Several rows may stand at one address, of which the last one answers.
         step, lines = picked.choice((0, 0, 1, 1, 2, 3)), picked.randrange(0, 8)
         address, line = address + step, line + lines
-        program.append(lines - LINE_BASE + LINE_RANGE * step + OPCODE_BASE)
+        program.append(PLAIN.numbers.special(step, lines))
         rows.append((address, line))
     return bytes(program) + b"\2\5\0\1\1", rows, address + 5
-
-
-def unit(program):
-    """A unit in the 64-bit format."""
-    header = NUMBERS + TABLES
-    rest = b"\5\0\x08\0" + len(header).to_bytes(8, "little") + header + program
-    return b"\xff" * 4 + len(rest).to_bytes(8, "little") + rest
 
 
 def answer(sequences, address):
@@ -65,7 +58,7 @@ def main():
     with tempfile.TemporaryDirectory() as folder:
         name = os.path.join(folder, "section")
         with open(name, "wb") as file:
-            file.write(unit(b"".join(program for program, _, _ in sequences)))
+            file.write(PLAIN.unit(TABLES, b"".join(program for program, _, _ in sequences)))
         for order, asked in orders.items():
             if not is_answered(name, sequences, asked):
                 failed += 1

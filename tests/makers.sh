@@ -171,6 +171,7 @@ answerer() { # NAME ANSWERS
 }
 points() {
   cp linetab-object "$work/bin"
+  mkdir -p "$work/share/linetab" && cp -r share/object "$work/share/linetab"
   python3 tests/images.py elf64 "$work/app" .debug_line=examples/hello.debug_line code=0x1000,0x8
   answerer addr2line 'a < "1002" { print "??:0" } a >= "1002" && a < "1005" { print "/w/a:b.c:7 (discriminator 3)" } a == "1005" { print "/w/a.c:?" } a > "1005" { print "crtstuff.c:?" }'
   expect 'points by addr2line' 0 "$three"$'0x1002,0x1005,/w/a:b.c,7\n0x1005,0x1006,/w/a.c,0\n' '' \
