@@ -1,0 +1,11 @@
+pub mod EntryLemmas
+pub mod FieldLemmas
+pub mod FrontLemmas
+pub mod HeaderLemmas
+pub mod ListFaultLemmas
+pub mod ListLemmas
+pub mod NumberLemmas
+pub mod SoundLemmas
+pub mod TableLemmas
+pub mod UnitLemmas
+pub mod UpgradeLemmas

@@ -1,0 +1,242 @@
+//! Older units, written anew in version 5 (DWARF 5, section 6.2.4).
+ghost use Rattle.std.specs.Prelude.{◌≡◌, ◌+◌, ◌*◌, ◌<◌, ◌≤◌, ◌^◌, ◌∷◌, ◌++◌, [], length, IfErr, IfOk, OnOk};
+ghost use Rattle.lnt_wire.specs.FormBytes.{HasNoZero};
+ghost use Rattle.lnt_wire.specs.InitialLength.{initial_length, LengthFits};
+ghost use Rattle.lnt_wire.specs.Numbers.{offset_size};
+ghost use Rattle.lnt_header.specs.HeaderRules.{IsAddressSize};
+ghost use Rattle.lnt_older.specs.OlderFields.{number_fields};
+ghost use Rattle.lnt_older.specs.OlderUnits.{IsOlderUnit};
+ghost use Rattle.lnt_older.specs.Upgrading.{AddsAround, AddsFiles, AddsTable, AddsUpgraded, AddsVersion, AreUpgradedFields, directory_head};
+ghost use Rattle.lnt_older.specs.Upgrading.{IsCountFromZero, IsFileZero, IsTooLong};
+ghost use Rattle.lnt_older.specs.declared.version.OlderVersion.TheVariants.{Four};
+
+use crate::header::OlderHeader;
+use crate::lists::{FILE_PAIRS, pass_entry};
+use crate::unit::OlderUnit;
+use lnt_header_bytes::EntriesInPlace;
+use lnt_wire::{
+    Cursor, EncodeFault, Format, Order, append_uleb, put_offset, put_u16, put_u32, put_u64,
+};
+use std::alloc::{AllocError, Global};
+
+/// Adds the unit of version 5 that says what the older unit says, in the same format and order. Its directory 0 is the one that is
+/// given, and its file 0 is the first file once more, where there is one; each other directory and file has the number that it had.
+/// Its address size is the one that is given. The entries, the program and `extra` are copied.
+///
+/// It refuses with `TooLarge` where that unit is longer than its format can say, and else only with `Memory`. Then a part of it may be
+/// there. It takes the memory of the new unit's header. The caller gives a unit as `take_any_unit` gives it.
+#[tactic(auto, using(crate::proofs::UpgradeLemmas::unit_added, crate::proofs::UpgradeLemmas::unit_too_long))]
+pub fn append_upgraded_unit(
+    alloc: Global,
+    out: &mut Vec<u8>,
+    unit: &OlderUnit<'_>,
+    address_size: u8,
+    directory: &[u8],
+) -> Result<(), EncodeFault>
+    requires size { IsAddressSize address_size }
+    requires directory { HasNoZero directory.now }
+    requires unit { IsOlderUnit unit.now }
+    ensures ok { OnOk result (AddsUpgraded unit.now address_size directory.now out.old.items out.new.items) }
+    ensures err { IfErr result (λ fault. fault ≡ EncodeFault.TooLarge → IsTooLong unit.now address_size directory.now) }
+{
+    let fields = upgraded_fields(alloc, unit, directory)?;
+    add_around(
+        out,
+        &fields,
+        unit.program,
+        address_size,
+        unit.format,
+        unit.order,
+    )
+}
+
+// The fields that header_length counts.
+#[tactic(auto, using(crate::proofs::UpgradeLemmas::fields_upgraded, crate::proofs::UpgradeLemmas::directories_few, crate::proofs::UpgradeLemmas::files_few))]
+fn upgraded_fields(
+    alloc: Global,
+    unit: &OlderUnit<'_>,
+    directory: &[u8],
+) -> Result<Vec<u8>, AllocError>
+    requires directory { HasNoZero directory.now }
+    requires unit { IsOlderUnit unit.now }
+    ensures { IfOk result (λ fields. AreUpgradedFields unit.now directory.now fields.items) }
+{
+    let OlderHeader {
+        directories,
+        files,
+        extra,
+        ..
+    } = unit.header;
+    let first = file_zero(unit);
+    let mut out = Vec::new(alloc);
+    add_numbers(&mut out, &unit.header)?;
+    add_directories(&mut out, directories, directory)?;
+    add_files(&mut out, files, first)?;
+    out.extend_from_slice(extra)?;
+    Ok(out)
+}
+
+// Adds the fields of one byte.
+fn add_numbers(out: &mut Vec<u8>, header: &OlderHeader<'_>) -> Result<(), AllocError>
+    ensures { OnOk result (out.new.items
+        ≡ (out.old.items ++ number_fields Four header.now.numbers) ++ header.now.standard_lengths.now) }
+{
+    let numbers = header.numbers;
+    let fields = [
+        numbers.minimum_instruction_length,
+        numbers.max_ops,
+        numbers.default_is_stmt,
+        numbers.line_base.cast_unsigned(),
+        numbers.line_range,
+        numbers.opcode_base,
+    ];
+    add_both(out, &fields, header.standard_lengths)
+}
+
+// Adds the table of the directories: the format `path:string`, how many there are, directory 0, and those listed.
+#[tactic(auto, using(crate::proofs::UpgradeLemmas::directories_added))]
+fn add_directories(
+    out: &mut Vec<u8>,
+    listed: EntriesInPlace<'_>,
+    directory: &[u8],
+) -> Result<(), AllocError>
+    requires { 2 * listed.count ≤ length listed.bytes.now }
+    ensures { OnOk result (AddsTable directory_head (listed.count + 1) ((directory.now ++ 0 ∷ []) ++ listed.bytes.now) out.old.items
+        out.new.items) }
+{
+    let size = listed.bytes.len();
+    prove!(size as u64 / 2 >= listed.count);
+    out.extend_from_slice(&[1, 1, 8])?;
+    append_uleb(out, listed.count + 1)?;
+    out.extend_from_slice(directory)?;
+    out.push(0)?;
+    out.extend_from_slice(listed.bytes)
+}
+
+// Adds the table of the files: the format `path:string, directory_index:udata, timestamp:udata, size:udata`, how many there are,
+// file 0, where there is one, and those listed.
+#[tactic(auto, using(crate::proofs::UpgradeLemmas::files_added))]
+fn add_files(
+    out: &mut Vec<u8>,
+    listed: EntriesInPlace<'_>,
+    file_zero: &[u8],
+) -> Result<(), AllocError>
+    requires { 2 * listed.count ≤ length listed.bytes.now }
+    ensures { OnOk result (AddsFiles listed.count (file_zero.now ++ listed.bytes.now) out.old.items out.new.items) }
+{
+    let size = listed.bytes.len();
+    prove!(size as u64 / 2 >= listed.count);
+    out.extend_from_slice(&[4, 1, 8, 2, 15, 3, 15, 4, 15])?;
+    append_uleb(out, count_from_zero(listed.count))?;
+    out.extend_from_slice(file_zero)?;
+    out.extend_from_slice(listed.bytes)
+}
+
+// How many files there are with file 0, where so many are listed.
+#[tactic(auto, using(crate::proofs::TableLemmas::none_from_zero, crate::proofs::TableLemmas::some_from_zero))]
+fn count_from_zero(count: u64) -> u64
+    requires { count + 1 < 2 ^ 64 }
+    ensures { IsCountFromZero count result }
+{
+    if count == 0 { 0 } else { count + 1 }
+}
+
+// The bytes of the first file, as the list spells it; none where there is no file.
+#[tactic(auto, using(crate::proofs::TableLemmas::no_file_zero, crate::proofs::TableLemmas::first_file_zero, crate::proofs::TableLemmas::first_file_there))]
+fn file_zero<'a>(unit: &OlderUnit<'a>) -> &'a [u8]
+    requires { IsOlderUnit unit.now }
+    ensures { IsFileZero unit.now result.now }
+{
+    let listed = unit.header.files;
+    if listed.count == 0 {
+        return listed.bytes;
+    }
+    let mut cursor = Cursor::new(listed.bytes, 0, unit.order);
+    match pass_entry(&mut cursor, unit.format, &FILE_PAIRS) {
+        Ok(()) => {
+            let (first, _) = listed
+                .bytes
+                .split_at(listed.bytes.len() - cursor.rest().len());
+            first
+        }
+        // The first file is there.
+        Err(_) => unreachable!(),
+    }
+}
+
+// Adds the bytes of a unit of version 5 with these fields, which header_length counts, and this program. After a refusal a part of
+// it may be there.
+#[tactic(auto, using(crate::proofs::UpgradeLemmas::around_put, crate::proofs::UpgradeLemmas::offset_fits))]
+fn add_around(
+    out: &mut Vec<u8>,
+    fields: &[u8],
+    program: &[u8],
+    address_size: u8,
+    format: Format,
+    order: Order,
+) -> Result<(), EncodeFault>
+    ensures ok { OnOk result (AddsAround order format address_size fields.now program.now out.old.items out.new.items) }
+    ensures err { IfErr result (λ fault. fault ≡ EncodeFault.TooLarge
+        → LengthFits format (4 + offset_size format + length fields.now + length program.now) → ⊥) }
+{
+    let length = unit_length(format, fields.len(), program.len())?;
+    add_initial_length(out, length, format, order)?;
+    add_version(out, address_size, order)?;
+    put_offset(out, fields.len() as u64, format, order)?;
+    add_both(out, fields, program)?;
+    Ok(())
+}
+
+// Adds the version, the address size and the segment selector size.
+fn add_version(out: &mut Vec<u8>, address_size: u8, order: Order) -> Result<(), AllocError>
+    ensures { OnOk result (AddsVersion order address_size out.old.items out.new.items) }
+{
+    put_u16(out, 5, order)?;
+    out.push(address_size)?;
+    Ok(out.push(0)?)
+}
+
+// Adds the first bytes, and then the second.
+fn add_both(out: &mut Vec<u8>, first: &[u8], second: &[u8]) -> Result<(), AllocError>
+    ensures { OnOk result (out.new.items ≡ (out.old.items ++ first.now) ++ second.now) }
+{
+    out.extend_from_slice(first)?;
+    out.extend_from_slice(second)
+}
+
+// How many bytes a unit has after its initial length.
+fn unit_length(format: Format, fields: usize, program: usize) -> Result<u64, EncodeFault>
+    ensures ok { IfOk result (λ length. (length ≡ 4 + offset_size format + fields + program) × LengthFits format length) }
+    ensures err { IfErr result (λ fault. (fault ≡ EncodeFault.TooLarge)
+        × (LengthFits format (4 + offset_size format + fields + program) → ⊥)) }
+{
+    let (offset_size, limit) = match format {
+        Format::D32 => (4, 0xffff_fff0),
+        Format::D64 => (8, 1 << 64),
+    };
+    let length = 4 + offset_size + fields as u128 + program as u128;
+    if length < limit {
+        Ok(length as u64)
+    } else {
+        Err(EncodeFault::TooLarge)
+    }
+}
+
+// Adds an initial length.
+fn add_initial_length(
+    out: &mut Vec<u8>,
+    length: u64,
+    format: Format,
+    order: Order,
+) -> Result<(), AllocError>
+    requires { LengthFits format length }
+    ensures ok { OnOk result (out.new.items ≡ out.old.items ++ initial_length format order length) }
+{
+    match format {
+        Format::D32 => put_u32(out, length as u32, order),
+        Format::D64 => {
+            put_u32(out, u32::MAX, order)?;
+            put_u64(out, length, order)
+        }
+    }
+}
