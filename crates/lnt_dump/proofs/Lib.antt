@@ -2,6 +2,7 @@ pub mod Entries
 pub mod FrameFronts
 pub mod Frames
 pub mod FramesAhead
+pub mod Lines
 pub mod Operands
 pub mod RowLemmas
 pub mod SectionFronts

@@ -1,3 +1,5 @@
+pub mod Headers
+pub mod Numbered
 pub mod Printed
 pub mod Rows
 pub mod Stepping
