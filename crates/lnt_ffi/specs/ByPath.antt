@@ -20,7 +20,7 @@ abbrev pub path_in : Option AnswerByPath → List ℕ
 path_in None = []
 path_in (Some answer) = answer.path.items
 
--- its line, and its column where that is told, else 0
+-- its line, and its column if the table's version has one, else 0
 abbrev pub flat_place : Option AnswerByPath → FlatAnswer
 flat_place None = nothing
 flat_place (Some answer) = record nothing { line = answer.line; column = unwrap_or answer.column 0 }

@@ -45,7 +45,7 @@ abbrev pub narrow_answer : Answer → FlatAnswer
 narrow_answer answer =
     record nothing { unit = answer.unit; file = answer.file; line = answer.line; column = answer.column; is_stmt = answer.is_stmt }
 
--- with the instruction set and the discriminator where they are told
+-- with the instruction set and the discriminator if they are known
 abbrev pub widened : FlatAnswer → Option More → FlatAnswer
 widened flat None = flat
 widened flat (Some more) = record flat { isa = more.isa; discriminator = more.discriminator; is_wide = true }

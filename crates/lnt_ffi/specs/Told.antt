@@ -1,4 +1,4 @@
--- What C is told by each call.
+-- What each call returns and writes for C.
 use Rattle.std.specs.Prelude.{◌≡◌, ◌≤◌, ℕ, Bool, nat_le, true, false, if◌then◌else◌, Some, None, List, ◌++◌, length, map, take, drop}
 use Rattle.std.specs.List.Sorted.{IsPermutation}
 use Rattle.lnt_header.specs.declared.unit_parts.UnitParts.{UnitParts}
@@ -29,7 +29,7 @@ use Rattle.lnt_ffi.specs.Verdicts.{numbered, verdict_of_no, yes}
 abbrev pub memory : FlatVerdict
 memory = numbered 33 0
 
--- the room with the list in the place of its front, where there is room for all of it, and else the room as it is
+-- the room with the list at its beginning if there is room for all of it, and otherwise the room as it is
 abbrev pub with_front : {A : Type 0} → List A → List A → List A
 with_front list room = if nat_le (length list) (length room) then list ++ drop (length list) room else room
 
@@ -60,7 +60,7 @@ pub record IsTableOfFlat (section : FlatSection) (version : Version) (bytes : Li
   pub good : IsGood section.line_str.now section.general.now (options_of section) section.line.now units
   pub table : IsTableOfUnits version (options_of section).dead section.skip_copies units bytes
 
--- ---- what each call tells
+-- ---- each call
 
 -- What a room holds that is too short for the spans isn't said.
 pub data IsToldOfSpans (section : FlatSection) (count : ℕ) (old new : List FlatSpan) (told : FlatVerdict) : Type 0 where

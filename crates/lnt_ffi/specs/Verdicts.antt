@@ -46,7 +46,7 @@ verdict_of_stop stop.TooLong = numbered 35 0
 
 -- ---- of a section
 
--- the number of the reason, and the numbers that it tells
+-- the number of the reason, and the numbers in it
 abbrev pub reason_numbers : Reason → ℕ × ℕ × ℕ
 reason_numbers reason.Truncated = (1, 0, 0)
 reason_numbers reason.ReservedLength = (2, 0, 0)
@@ -69,7 +69,7 @@ of_malformed fault =
     record (numbered 25 (reason_numbers fault.reason).0)
     { offset = fault.place; index = (reason_numbers fault.reason).1; value = (reason_numbers fault.reason).2 }
 
--- the number of the fault, and the operation that it tells
+-- the number of the fault, and the operation in it
 abbrev pub run_numbers : RunFault → ℕ × ℕ
 run_numbers (run.LineOutOfRange op) = (22, op)
 run_numbers run.OpenSequence = (23, 0)

@@ -1,4 +1,4 @@
-//! What is told of a table of any version, as C sees it.
+//! The verdict on a table of any version, as C sees it.
 ghost use Rattle.std.specs.Prelude.{◌≡◌};
 ghost use Rattle.lnt_ffi.specs.ByPath.{flat_place, of_difference, path_in, section_path, table_path, tells_column, verdict_of_check};
 
@@ -21,7 +21,7 @@ pub(crate) fn verdict_of_check(found: &Checked) -> FlatVerdict
     }
 }
 
-// Where a table by path and a section answer differently: all but the paths, of which it tells how long they are.
+// Where a table by path and a section answer differently: all but the paths, with how long these are.
 fn of_difference(difference: &DifferenceByPath) -> FlatVerdict
     ensures { result ≡ of_difference difference.now }
 {
@@ -43,7 +43,7 @@ fn of_difference(difference: &DifferenceByPath) -> FlatVerdict
     }
 }
 
-// The line of one side of a difference by path, which may answer nothing, and its column, where the table's version tells it.
+// The line of one side of a difference by path, which may answer nothing, and its column if the table's version has one.
 fn flat_place(answer: &Option<AnswerByPath>) -> FlatAnswer
     ensures { result ≡ flat_place answer.now }
 {
@@ -57,7 +57,7 @@ fn flat_place(answer: &Option<AnswerByPath>) -> FlatAnswer
     }
 }
 
-// Whether one side tells a column, as version 3 does.
+// Whether one side has a column, as in version 3.
 fn tells_column(answer: &Option<AnswerByPath>) -> bool
     ensures { result ≡ tells_column answer.now }
 {

@@ -27,7 +27,7 @@ pub extern "C" fn linetab_check(
 }
 
 /// Checks as `linetab_check` does, with the same verdict. Where the two differ by path (40), the path that the table answers is put
-/// into the front of `by_table`, and that of the section into the front of `by_section`, each where there is room for all of it.
+/// at the beginning of `by_table`, and that of the section at that of `by_section`, each if there is room for all of it.
 ///
 /// `index` and `value` of the verdict say how many bytes they have. Where these are more than there is room for, nothing is put
 /// there, and the caller may ask again with more room.

@@ -16,13 +16,13 @@ pub struct FlatAnswer {
     pub line: u64,
     /// The column in the line: 1 is the first, and 0 is the line's left edge.
     pub column: u64,
-    /// The instruction set, where `is_wide` says that it is told; else 0.
+    /// The instruction set if `is_wide` is set; else 0.
     pub isa: u64,
-    /// Which of the blocks of one source line it is, where `is_wide` says that it is told; else 0.
+    /// Which of the blocks of one source line it is if `is_wide` is set; else 0.
     pub discriminator: u64,
     /// Whether it is a good place for a breakpoint.
     pub is_stmt: bool,
-    /// Whether the instruction set and the discriminator are told. A section tells them; a table of version 1 doesn't.
+    /// Whether the instruction set and the discriminator are known. A section has them; a table of version 1 hasn't.
     pub is_wide: bool,
 }
 

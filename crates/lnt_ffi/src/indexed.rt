@@ -10,7 +10,7 @@ use crate::flat::{FlatAnswer, FlatSpan};
 use crate::looking::linetab_lookup;
 use lnt_spans::Position;
 
-/// Gives the same as `linetab_lookup`, and sooner where `index` is what `linetab_index` made of these spans. Any other
+/// Returns the same as `linetab_lookup`, faster if `index` is what `linetab_index` made of these spans. Any other
 /// index, such as that of other spans, costs time alone: no more than about twice that of `linetab_lookup`.
 ///
 /// It takes no memory, calls nothing, and writes nothing but the answer. It always returns, whatever the spans are.

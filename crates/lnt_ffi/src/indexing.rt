@@ -1,6 +1,6 @@
 //! An index over spans, by which `linetab_lookup_indexed` begins near the span that holds an address.
 //!
-//! The addresses from the first span on are cut into buckets of as many each, a power of two. The index tells of each
+//! The addresses from the first span on are cut into buckets of as many each, a power of two. The index says for each
 //! bucket how many spans begin below it, so those that begin in it lie between its number and the next one's.
 ghost use Rattle.std.specs.Prelude.{◌≡◌, ◌+◌, ◌-◌, ◌/◌, ◌^◌, ◌<◌, ◌≤◌, ℕ, length, min};
 ghost use Rattle.lnt_ffi.specs.Index.{IsBucketIndex, begins_below, first_low, last_low, spans_below};
@@ -8,7 +8,7 @@ ghost use Rattle.lnt_ffi.specs.Index.{IsBucketIndex, begins_below, first_low, la
 use crate::flat::FlatSpan;
 
 /// Fills the whole of `index` with an index over the spans, for `linetab_lookup_indexed`. It may have any length: the longer it
-/// is, the sooner an answer is found, up to about one entry for each span. It takes no memory and calls nothing.
+/// is, the faster a lookup is, up to about one entry for each span. It allocates nothing and calls nothing.
 #[unsafe(no_mangle)]
 pub extern "C" fn linetab_index(spans: &[FlatSpan], index: &mut [u32])
     ensures length { length index.new ≡ length index.old }

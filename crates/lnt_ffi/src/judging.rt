@@ -12,7 +12,7 @@ use lnt_lines::{Index, JudgedIndex, index_section};
 use lnt_spans::{Span, SpanSource};
 use std::alloc::Global;
 
-/// Judges a section, and puts the spans of a good one into the front of `spans`, where there is room for all of them.
+/// Judges a section, and writes the spans of a good one to the beginning of `spans` if there is room for all of them.
 ///
 /// It answers how many there are: one for each two rows of a kept sequence that follow one another at different
 /// positions, in order, none empty. Where they are more than `spans` has room for, what that then holds isn't said, and
@@ -55,7 +55,7 @@ pub(crate) fn index_of<'a>(
     }
 }
 
-// Puts the spans into the front of the room, as far as it goes, and answers how many they are. The caller sees to it that they
+// Writes the spans to the beginning of the room, as far as it goes, and returns how many they are. The caller ensures that they
 // are fewer than 2^64: a section has no more spans than bytes.
 fn put_spans<S: SpanSource + Drop>(spans: S, room: &mut [FlatSpan]) -> usize
     requires few { (list : List spec.Span) × S.to_come spans list × (length list < 2 ^ 64) }

@@ -2,7 +2,7 @@
 ghost use Rattle.std.specs.Prelude.{◌≡◌, length};
 ghost use Rattle.lnt_ffi.specs.Told.{with_front};
 
-// Puts the bytes into the front of the room, where there is room for all of them, and answers how many they are. It writes nothing
+// Writes the bytes to the beginning of the room if there is room for all of them, and returns how many they are. It writes nothing
 // else there.
 #[tactic(auto, using(crate::proofs::RoomLemmas::fitting, crate::proofs::RoomLemmas::too_long))]
 pub(crate) fn put_bytes(bytes: &[u8], room: &mut [u8]) -> usize

@@ -21,7 +21,7 @@ pub struct FlatUnit {
     pub files: u64,
 }
 
-/// Puts the units of a good section into the front of `units`, where there is room for all of them, in their order.
+/// Writes the units of a good section to the beginning of `units` if there is room for all of them, in their order.
 ///
 /// It answers how many there are. Where they are more than there is room for, nothing is put there, and the caller may
 /// ask again with more room. Where the section isn't good, or memory ran out, it answers 0, and `verdict` says why; else
@@ -48,7 +48,7 @@ pub extern "C" fn linetab_units(
     }
 }
 
-// Puts the units into the front of the room, where there is room for all of them, and answers how many they are.
+// Writes the units to the beginning of the room if there is room for all of them, and returns how many they are.
 #[tactic(auto, using(crate::proofs::RoomLemmas::filled, crate::proofs::RoomLemmas::too_long, crate::proofs::RoomLemmas::behind_set))]
 fn put_units(index: &Index<'_>, room: &mut [FlatUnit]) -> usize
     ensures count { result ≡ length index.now.units }
@@ -71,12 +71,12 @@ fn put_units(index: &Index<'_>, room: &mut [FlatUnit]) -> usize
     count
 }
 
-/// Whether the unit at this offset of a good section has this file. Where it does, the file's whole path is put into the
-/// front of `path`, where there is room for all of it, and `count` is how many bytes the path has; else that is 0.
+/// Whether the unit at this offset of a good section has this file. If so, the file's full path is written to the
+/// beginning of `path` if there is room for all of it, and `count` is how many bytes the path has; else that is 0.
 ///
-/// Where they are more than there is room for, nothing is put there, and the caller may ask again with more room. Where
-/// the section isn't good, or memory ran out, the file isn't there, and `verdict` says why; else that is yes. The section
-/// is judged by each call, so a caller keeps the paths that it was given.
+/// If they are more than there is room for, nothing is written, and the caller may ask again with more room. If the section
+/// isn't good, or memory ran out, the file isn't there, and `verdict` says why; else that is yes. The section is judged by
+/// each call, so a caller keeps the paths that it was given.
 #[unsafe(no_mangle)]
 pub extern "C" fn linetab_path(
     alloc: Global,

@@ -13,7 +13,7 @@ use lnt_spans::Position;
 use lnt_table::{TableNo, Verdict};
 use lnt_wire::{Fault, Reason};
 
-/// What was found: `struct linetab_verdict`. `include/linetab.h` says of each number which fields tell what; the others
+/// What was found: `struct linetab_verdict`. `include/linetab.h` says for each number which fields it has; the others
 /// are 0.
 #[repr(C)]
 #[derive(Clone, Copy)]
@@ -47,7 +47,7 @@ pub struct FlatVerdict {
     pub path_version: u32,
     /// What the table answers there.
     pub by_table: FlatAnswer,
-    /// What the section answers there, as the version of the table tells it.
+    /// What the section answers there, in the fields of the table's version.
     pub by_section: FlatAnswer,
 }
 

@@ -11,7 +11,7 @@ use lnt_spans::Version;
 use lnt_table::write_index;
 use std::alloc::Global;
 
-/// Puts the address table of a good section into the front of `room`, where there is room for all of it: the one shortest
+/// Writes the address table of a good section to the beginning of `room` if there is room for all of it: the one shortest
 /// table that answers as the section does, in version 2 where `is_wide` is true, else in version 1.
 ///
 /// It answers how many bytes the table has. Where they are more than there is room for, nothing is put there, and the
