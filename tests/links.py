@@ -14,7 +14,7 @@ PAGES = ["*.md", "docs/*.md", "bench/*.md", "examples/*.md", "tests/*/README.md"
 # What names pages of docs/ beside them.
 NAMING = ["*", "bench/*", "crates/*/src/*.rt", "include/*", "must-fail/*", "share/*", "tests/*", "tests/*/*"]
 # Pages that the program's help names, and that lead on to another one.
-NOT_LISTED = {"README.md", "HEADERS.md", "PROGRAMS.md"}
+NOT_LISTED = {"README.md"}
 LONGEST = {"README.md": 6144, "docs/*.md": 130000}
 
 

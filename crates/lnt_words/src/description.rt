@@ -248,8 +248,8 @@ const SKIP_COPIES: ArgumentRule = ArgumentRule {
 
 // What the numbers in the lines `no ..` of `check` mean.
 const NUMBERS: &str = "Lines that begin with no, and the document that says more:
-  25  no unit stands where one has to, for the fault that is named (docs/SPECIFICATION.md, HEADERS.md, PROGRAMS.md)
-  26  the program of a unit doesn't run (docs/PROGRAMS.md)
+  25  no unit stands where one has to, for the fault that is named (docs/SPECIFICATION.md)
+  26  the program of a unit doesn't run (docs/SPECIFICATION.md)
   27  a table of directories or files has no path, or one in a form that it may not have (docs/LINES.md)
   28  the path of a directory or file has no text; --line-str and --str name the sections of strings (docs/LINES.md)
   29  the directory of a file isn't there (docs/LINES.md)
@@ -264,7 +264,7 @@ const NUMBERS: &str = "Lines that begin with no, and the document that says more
 
 // What the line `no 43` of `table` means.
 const WHOLE: &str = "With --paths or --lines a table says whole instructions alone. \
-Where its spans can't be told so, the line 'no 43 operation index at 0xA,OP' says the first place where one begins or ends \
+Where its spans can't be written so, the line 'no 43 operation index at 0xA,OP' says the first place where one begins or ends \
 within an instruction, and the status is 1 (docs/TABLES.md).";
 
 // What the words `same`, `differs` and `unreadable` in the lines of `md5` mean.
