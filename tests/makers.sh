@@ -210,7 +210,7 @@ whole_paths() {
   sed 's/c\.h/e.h/' "$work/readelf" >"$work/other"
   expect 'a path that the program has not' 0 "$says note: e.h stays as it is: no path of app ends so"$'\n' '' \
     bash -c 'table readelf "$work/other" --paths-of app 2>&1 >/dev/null'
-  expect 'a program that tells none' 3 '' "$says $work/readelf: linetab-object files none: it tells no paths"$'\n' \
+  expect 'a program that tells none' 3 '' "$says $work/readelf: linetab-object files none: it lists no paths"$'\n' \
     table readelf "$work/readelf" --paths-of none
 }
 

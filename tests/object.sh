@@ -212,7 +212,7 @@ kinds() {
   python3 tests/gsym_file.py little "$work/no" && refuses 'a table of llvm-gsymutil' no 'it is a table of llvm-gsymutil: linetab-table gsym '\
 'FILE | linetab-object check PROGRAM - compares it with the program that it was made of'
   image elf64 no "${hello[@]}" object && printf '\xf7' | dd of="$work/no" bs=1 seek=18 conv=notrunc status=none && refuses 'a BPF object' no \
-    'it is a BPF object, which is linked when it is loaded: bpftool prog dump xlated id ID linum tells its lines then'
+    'it is a BPF object, which is linked when it is loaded: bpftool prog dump xlated id ID linum prints its lines then'
   # A PE file without a table of symbols.
   image pe no code=0x1000,0x1000 && printf '\0\0\0\0' | dd of="$work/no" bs=1 seek=76 conv=notrunc status=none &&
     refuses 'a stripped PE file' no 'it has no .debug_line: it was stripped, or made by a compiler that writes a PDB, which has no DWARF: '\

@@ -15,7 +15,7 @@ TEXTS = "its text lies in "  # how a note of the program begins that is told her
 
 
 def versions(section, big):
-    """The version of each unit and where it begins, as far as lengths tell units apart."""
+    """The version of each unit and where it begins, as far as lengths separate units."""
     order, at = ">" if big else "<", 0
     while at + 6 <= section.size:
         (length,) = section.numbers(order + "I", at)

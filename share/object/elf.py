@@ -54,7 +54,7 @@ def loose_elf(image, machine):
     if image.has(".modinfo"):
         return MODULE
     if machine == BPF:
-        return "it is a BPF object, which is linked when it is loaded: bpftool prog dump xlated id ID linum tells its lines then"
+        return "it is a BPF object, which is linked when it is loaded: bpftool prog dump xlated id ID linum prints its lines then"
     return OBJECT
 
 

@@ -31,12 +31,12 @@ class Answers:
             "" if self.passed is None else ", %d passed over" % self.passed)
 
     def status(self):
-        """A no is told before what couldn't be judged, and that before what could."""
+        """A no comes before what couldn't be judged, and that before what could."""
         return 1 if 1 in self.statuses else max(self.statuses, default=3)
 
 
 def below(folder, answers):
-    """The programs in a folder and in those in it, by their names. What can't be read is told, and counted."""
+    """The programs in a folder and in those in it, by their names. What can't be read is reported, and counted."""
     waiting = [folder]
     while waiting:
         place = waiting.pop()

@@ -1,10 +1,10 @@
-"""What is left out of a section, because the linker discarded it, and what is told beside an answer."""
+"""What is left out of a section, because the linker discarded it, and the notes beside an answer."""
 
 import os
 
 from telling import shown
 
-# How notes of the program begin that are told here in other words.
+# How notes of the program begin that are given here in other words.
 NONE = "no sequence begins at %s,"
 DEAD, COPIES = "sequences begin at ", "the two hold the same positions"
 
@@ -40,7 +40,7 @@ def is_version(line):
 
 def is_left_out(marker, line, run, question, copies):
     """Whether --dead with this marker left anything out: by the program's own notes, and where it doesn't come to them, by whether
-    the section is refused otherwise without it. Of a version that is refused whatever is left out it isn't told."""
+    the section is refused otherwise without it. For a version that is refused whatever is left out there is none."""
     if is_version(line):
         return False
     if line[:5] in ("no 25", "no 26", "no 27", "no 28", "no 29"):

@@ -36,7 +36,7 @@ class Run:
                 os.close(descriptor)
 
     def feed(self, content):
-        """Writes to its standard input. Where it reads no more, what it answers tells why."""
+        """Writes to its standard input. Where it reads no more, its answer says why."""
         try:
             if content:
                 put_whole(self.input, content)

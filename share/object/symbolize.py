@@ -36,7 +36,7 @@ def lines(pieces):
 
 
 def place_in(answer):
-    """The path, line and column that an answer tells, or None where it tells none."""
+    """The path, line and column in an answer, or None where it has none."""
     start, is_known, path = answer.partition(b' path "')
     if not is_known:
         return None

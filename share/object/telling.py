@@ -1,4 +1,4 @@
-"""What is told on standard error."""
+"""What is written to standard error."""
 
 import os
 import sys
