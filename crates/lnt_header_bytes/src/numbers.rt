@@ -74,7 +74,7 @@ fn known_end(opcode_base: u8) -> u8
 /// Reads the lengths of the standard opcodes, `opcode_base - 1` bytes, which are borrowed. Fails at the first one that
 /// isn't the length of its known opcode, and, with `Truncated`, at the end of the bytes if there are fewer.
 #[tactic(auto, using(crate::proofs::HeaderReaders::refuses_length, crate::proofs::HeaderReaders::cut_lengths, crate::proofs::HeaderReaders::reads_lengths))]
-pub(crate) fn read_lengths<'a>(cursor: &mut Cursor<'a>, opcode_base: u8) -> Result<&'a [u8], Fault>
+pub fn read_lengths<'a>(cursor: &mut Cursor<'a>, opcode_base: u8) -> Result<&'a [u8], Fault>
     requires { 0 < opcode_base }
     ensures ok { IfOk result (λ lengths. Reads (LengthsBytes opcode_base) lengths.now cursor.old cursor.new) }
     ensures err { IfErr result (λ fault. Refuses (IsLengthsFault opcode_base) (LengthsBytes opcode_base) cursor.old fault) }

@@ -69,9 +69,10 @@ fn read_selector_size(cursor: &mut Cursor<'_>) -> Result<u8, Fault>
     }
 }
 
-// The bytes that header_length counts.
+/// Reads `header_length`, and the bytes that it counts, which are borrowed (DWARF 5, section 6.2.4). Fails at the number if it
+/// isn't there whole, and with `HeaderLength` if fewer bytes follow than it says.
 #[tactic(auto, using(crate::proofs::StartReaders::reads_counted, crate::proofs::StartReaders::refuses_length, crate::proofs::StartReaders::refuses_counted))]
-fn read_counted<'a>(cursor: &mut Cursor<'a>, format: Format) -> Result<&'a [u8], Fault>
+pub fn read_counted<'a>(cursor: &mut Cursor<'a>, format: Format) -> Result<&'a [u8], Fault>
     ensures ok { IfOk result (λ counted. Reads (CountedBytes format cursor.old.order) counted.now cursor.old cursor.new) }
     ensures err { IfErr result (λ fault. RefusesField (IsCountedFault format cursor.old.order) (CountedBytes format cursor.old.order)
         cursor.old fault) }

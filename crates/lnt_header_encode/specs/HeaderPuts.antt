@@ -1,4 +1,4 @@
--- What the private functions write of a header, and why they don't. No public contract speaks of these.
+-- What is written of a header, and why it is not.
 use Rattle.std.specs.Prelude.{◌≡◌, ℕ, List, [], ◌∷◌, ◌++◌, length}
 use Rattle.lnt_wire.specs.At.{At}
 use Rattle.lnt_wire.specs.Bytes.{Appends}

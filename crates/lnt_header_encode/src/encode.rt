@@ -51,10 +51,10 @@ fn encode_parts(alloc: Global, parts: &HeaderParts, program: &[u8]) -> Result<Ve
     Ok(out)
 }
 
-// Adds the bytes of a unit with these fields, which header_length counts, and this program. After a refusal a part of
-// it may be there.
+/// Adds the bytes of a unit of version 5 with these fields, which `header_length` counts, and this program. Fails with `TooLarge`
+/// if the unit is longer than the format can say, and else only with `Memory`. Then a part of the unit may be there.
 #[tactic(auto, using(crate::proofs::EncodeLemmas::around_put, crate::proofs::EncodeLemmas::offset_fits))]
-pub(crate) fn add_around(
+pub fn add_around(
     out: &mut Vec<u8>,
     fields: &[u8],
     program: &[u8],
@@ -85,8 +85,8 @@ fn add_version(out: &mut Vec<u8>, address_size: u8, order: Order) -> Result<(), 
     Ok(out.push(0)?)
 }
 
-// Adds the first bytes, and then the second.
-pub(crate) fn add_both(out: &mut Vec<u8>, first: &[u8], second: &[u8]) -> Result<(), AllocError>
+/// Adds the first bytes, and then the second. After a refusal a part of them may be there.
+pub fn add_both(out: &mut Vec<u8>, first: &[u8], second: &[u8]) -> Result<(), AllocError>
     ensures ok { OnOk result (out.new.items ≡ (out.old.items ++ first.now) ++ second.now) }
     ensures extends { OnErr result (Extends out.old.items out.new.items) }
 {

@@ -6,5 +6,5 @@ mod encode;
 pub mod laws;
 mod view_encode;
 
-pub use encode::encode_header;
+pub use encode::{add_around, add_both, encode_header};
 pub use view_encode::put_header_view;

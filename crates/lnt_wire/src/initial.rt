@@ -9,9 +9,11 @@ use crate::cursor::Cursor;
 use crate::fault::{Fault, Reason};
 use crate::format::{Format, Order};
 
-// The initial length at the cursor: the format, and the number of bytes of the unit after it. Fails with `Truncated` if its
-// 4 bytes, or the 8 after 0xffffffff, are missing, and with `ReservedLength`. Then the cursor is unspecified.
-pub(crate) fn initial_length(cursor: &mut Cursor<'_>) -> Result<(Format, u64), Reason>
+/// The initial length at the cursor: the format, and the number of bytes of the unit after it (DWARF 5, section 7.4).
+///
+/// Fails with `Truncated` if its 4 bytes, or the 8 after 0xffffffff, are missing, and with `ReservedLength`. Then the cursor is
+/// unspecified.
+pub fn initial_length(cursor: &mut Cursor<'_>) -> Result<(Format, u64), Reason>
     ensures ok { IfOk result (λ initial. Reads (InitialBytes cursor.old.order) initial cursor.old cursor.new) }
     ensures err { IfErr result (λ reason. IsInitialFault cursor.old.order reason cursor.old.rest) }
 {

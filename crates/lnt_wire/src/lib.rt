@@ -35,6 +35,7 @@ pub use view::{ValueView, copied};
 pub use cursor::Cursor;
 pub use fault::{Fault, Reason};
 pub use frame::{Frame, Framed, frames, take_frame};
+pub use initial::initial_length;
 
 // Writing.
 pub use put::{
