@@ -1,0 +1,137 @@
+-- The fields that header_length counts, which are read, and the first that isn't there.
+use Rattle.std.proofs.Common.{◌≡◌, ℕ, List, [], ◌∷◌, ◌++◌, length, refl, sym, ap, ◌∙◌, append_assoc, arith}
+use Rattle.lnt_wire.specs.At.{At}
+use Rattle.lnt_wire.specs.Bytes.{IsCode}
+use Rattle.lnt_wire.specs.Reading.{Reads, Refuses}
+use Rattle.lnt_wire.specs.declared.fault.Fault.{Fault}
+use Rattle.lnt_wire.specs.declared.format.Format.{Format}
+use Rattle.lnt_wire.specs.declared.format.Order.{Order}
+use Rattle.lnt_wire.proofs.LengthLaws.{same_front, same_rest}
+use Rattle.lnt_header.proofs.ReaderLaws.{first_refused, second_refused, reads_both}
+use Rattle.lnt_header.specs.declared.header.Entry.{Entry}
+use Rattle.lnt_header.specs.declared.header.Pair.{Pair}
+use Rattle.lnt_header_bytes.specs.HeaderFaults.{LengthsBytes, IsLengthsFault}
+use Rattle.lnt_older.specs.ListFaults.{IsListFault}
+use Rattle.lnt_older.specs.OlderBytes.{BeginsEntry, directory_pairs, file_pairs, ListBytes}
+use Rattle.lnt_older.specs.OlderFields.{AfterNumbers, AfterNumbersFault, FieldsOf, IsFieldsFault, IsSoundFault, NumbersBytes, TwoLists}
+use Rattle.lnt_older.specs.OlderFields.{TwoListsFault, zero_reasons}
+use Rattle.lnt_older.specs.declared.numbers.OlderNumbers.{OlderNumbers}
+use Rattle.lnt_older.specs.declared.version.OlderVersion.{OlderVersion}
+use Rattle.lnt_older.proofs.ListFaultLemmas.{ends_here, listed_code}
+use Rattle.lnt_older.proofs.NumberLemmas.{numbers_code}
+
+-- ---- one value for its bytes
+
+pub lengths_code : (opcode_base : ℕ) → IsCode (LengthsBytes opcode_base)
+lengths_code opcode_base = record {
+  one = λ s t x y r q p p' e.
+      let size : length x ≡ length y = omega (arith, ap length p.2, ap length p'.2, p.0, p'.0) in
+      let same : x ≡ y = same_front x y r q size e in
+      (sym p.2 ∙ same ∙ p'.2, same);
+}
+
+-- a list that isn't empty begins with an entry
+begins_list : (format : Format) (order : Order) (pairs : List Pair) (v : Entry) (vs : List Entry) (y : List ℕ)
+    → ListBytes format order pairs (v ∷ vs) y → (rest : List ℕ) → BeginsEntry (y ++ rest)
+begins_list format order pairs v vs y q rest =
+    let b = q.first.first.some in
+    record {
+      first = b.first;
+      more = ((b.more ++ q.first.back) ++ q.back) ++ rest;
+      some = b.some;
+      joined = ap (λ (z : List ℕ). z ++ rest) (q.joined ∙ ap (λ (z : List ℕ). z ++ q.back)
+          (q.first.joined ∙ ap (λ (z : List ℕ). z ++ q.first.back) b.joined));
+    }
+
+end_of : (format : Format) (order : Order) (pairs : List Pair) (x : List ℕ) → ListBytes format order pairs [] x → x ≡ 0 ∷ []
+end_of format order pairs x p = p.joined ∙ ap (λ (z : List ℕ). z ++ p.back) p.first ∙ p.second
+
+same_list : (format : Format) (order : Order) (pairs : List Pair) (us vs : List Entry) (x y r s : List ℕ)
+    → ListBytes format order pairs us x → ListBytes format order pairs vs y → x ++ r ≡ y ++ s → (us ≡ vs) × (x ≡ y)
+same_list format order pairs [] [] x y r s p q e =
+    (refl, end_of format order pairs x p ∙ sym (end_of format order pairs y q))
+same_list format order pairs [] (v ∷ vs) x y r s p q e =
+    absurd (ends_here x r (y ++ s) (end_of format order pairs x p) e (begins_list format order pairs v vs y q s))
+same_list format order pairs (u ∷ us) [] x y r s p q e =
+    absurd (ends_here y s (x ++ r) (end_of format order pairs y q) (sym e) (begins_list format order pairs u us x p r))
+same_list format order pairs (u ∷ us) (v ∷ vs) x y r s p q e =
+    let left : x ≡ p.first.front ++ (p.first.back ++ p.back) =
+    p.joined ∙ ap (λ (z : List ℕ). z ++ p.back) p.first.joined ∙ append_assoc p.first.front p.first.back p.back in
+    let right : y ≡ q.first.front ++ (q.first.back ++ q.back) =
+    q.joined ∙ ap (λ (z : List ℕ). z ++ q.back) q.first.joined ∙ append_assoc q.first.front q.first.back q.back in
+    let whole : p.first.front ++ ((p.first.back ++ p.back) ++ r) ≡ q.first.front ++ ((q.first.back ++ q.back) ++ s) =
+    sym (append_assoc p.first.front (p.first.back ++ p.back) r) ∙ ap (λ (z : List ℕ). z ++ r) (sym left) ∙ e
+    ∙ ap (λ (z : List ℕ). z ++ s) right ∙ append_assoc q.first.front (q.first.back ++ q.back) s in
+    let one = (listed_code format order pairs).one u v p.first.front q.first.front ((p.first.back ++ p.back) ++ r)
+    ((q.first.back ++ q.back) ++ s) p.first.first q.first.first whole in
+    let past : (p.first.back ++ p.back) ++ r ≡ (q.first.back ++ q.back) ++ s =
+    same_rest p.first.front q.first.front ((p.first.back ++ p.back) ++ r) ((q.first.back ++ q.back) ++ s) one.1 whole in
+    let rest = same_list format order pairs us vs (p.first.back ++ p.back) (q.first.back ++ q.back) r s
+    (record { front = p.first.back; back = p.back; first = p.first.second; second = p.second; joined = refl })
+    (record { front = q.first.back; back = q.back; first = q.first.second; second = q.second; joined = refl }) past in
+    let heads : u ≡ v = one.0 in
+    let tails : us ≡ vs = rest.0 in
+    let fronts = one.1 in
+    let backs = rest.1 in
+    (cc (heads, tails), cc (left, right, fronts, backs))
+
+pub list_code : (format : Format) (order : Order) (pairs : List Pair) → IsCode (ListBytes format order pairs)
+list_code format order pairs = record { one = same_list format order pairs }
+
+-- ---- the fields
+
+pub numbers_missing : (version : OlderVersion) (format : Format) (old : At) (fault : Fault)
+    → Refuses (IsSoundFault (zero_reasons version)) (NumbersBytes version) old fault
+    → Refuses (IsFieldsFault version format old.order) (FieldsOf version format old.order) old fault
+numbers_missing version format old fault r = first_refused (NumbersBytes version) (AfterNumbers format old.order) old fault r
+
+after_numbers : (version : OlderVersion) (format : Format) (n : OlderNumbers) (old m1 : At) (fault : Fault)
+    → Reads (NumbersBytes version) n old m1
+    → Refuses (AfterNumbersFault format m1.order n) (AfterNumbers format m1.order n) m1 fault
+    → Refuses (IsFieldsFault version format old.order) (FieldsOf version format old.order) old fault
+after_numbers version format n old m1 fault r t =
+    second_refused (AfterNumbersFault format) (NumbersBytes version) (AfterNumbers format) n old m1 fault (numbers_code version) r t
+
+pub lengths_missing : (version : OlderVersion) (format : Format) (n : OlderNumbers) (old m1 : At) (fault : Fault)
+    → Reads (NumbersBytes version) n old m1
+    → Refuses (IsLengthsFault n.opcode_base) (LengthsBytes n.opcode_base) m1 fault
+    → Refuses (IsFieldsFault version format old.order) (FieldsOf version format old.order) old fault
+lengths_missing version format n old m1 fault r t =
+    after_numbers version format n old m1 fault r
+    (first_refused (LengthsBytes n.opcode_base) (λ _. TwoLists format m1.order) m1 fault t)
+
+after_lengths : (version : OlderVersion) (format : Format) (n : OlderNumbers) (ls : List ℕ) (old m1 m2 : At) (fault : Fault)
+    → Reads (NumbersBytes version) n old m1 → Reads (LengthsBytes n.opcode_base) ls m1 m2
+    → Refuses (TwoListsFault format m2.order) (TwoLists format m2.order) m2 fault
+    → Refuses (IsFieldsFault version format old.order) (FieldsOf version format old.order) old fault
+after_lengths version format n ls old m1 m2 fault r t u =
+    after_numbers version format n old m1 fault r (second_refused (λ order _. TwoListsFault format order) (LengthsBytes n.opcode_base)
+    (λ order _. TwoLists format order) ls m1 m2 fault (lengths_code n.opcode_base) t u)
+
+pub directories_missing : (version : OlderVersion) (format : Format) (n : OlderNumbers) (ls : List ℕ) (old m1 m2 : At) (fault : Fault)
+    → Reads (NumbersBytes version) n old m1 → Reads (LengthsBytes n.opcode_base) ls m1 m2
+    → Refuses (IsListFault format m2.order directory_pairs) (ListBytes format m2.order directory_pairs) m2 fault
+    → Refuses (IsFieldsFault version format old.order) (FieldsOf version format old.order) old fault
+directories_missing version format n ls old m1 m2 fault r t u =
+    after_lengths version format n ls old m1 m2 fault r t
+    (first_refused (ListBytes format m2.order directory_pairs) (λ _. ListBytes format m2.order file_pairs) m2 fault u)
+
+pub files_missing : (version : OlderVersion) (format : Format) (n : OlderNumbers) (ls : List ℕ) (directories : List Entry)
+    (old m1 m2 m3 : At) (fault : Fault) → Reads (NumbersBytes version) n old m1 → Reads (LengthsBytes n.opcode_base) ls m1 m2
+    → Reads (ListBytes format m2.order directory_pairs) directories m2 m3
+    → Refuses (IsListFault format m3.order file_pairs) (ListBytes format m3.order file_pairs) m3 fault
+    → Refuses (IsFieldsFault version format old.order) (FieldsOf version format old.order) old fault
+files_missing version format n ls directories old m1 m2 m3 fault r t u v =
+    after_lengths version format n ls old m1 m2 fault r t
+    (second_refused (λ order _. IsListFault format order file_pairs) (ListBytes format m2.order directory_pairs)
+    (λ order _. ListBytes format order file_pairs) directories m2 m3 fault (list_code format m2.order directory_pairs) u v)
+
+pub fields_read : (version : OlderVersion) (format : Format) (n : OlderNumbers) (ls : List ℕ) (directories files : List Entry)
+    (old m1 m2 m3 new : At) → Reads (NumbersBytes version) n old m1 → Reads (LengthsBytes n.opcode_base) ls m1 m2
+    → Reads (ListBytes format m2.order directory_pairs) directories m2 m3 → Reads (ListBytes format m3.order file_pairs) files m3 new
+    → Reads (FieldsOf version format old.order) (n, (ls, (directories, files))) old new
+fields_read version format n ls directories files old m1 m2 m3 new r t u v =
+    let lists = reads_both (ListBytes format m2.order directory_pairs) (λ order _. ListBytes format order file_pairs) directories files m2
+    m3 new u v in
+    let past = reads_both (LengthsBytes n.opcode_base) (λ order _. TwoLists format order) ls (directories, files) m1 m2 new t lists in
+    reads_both (NumbersBytes version) (AfterNumbers format) n (ls, (directories, files)) old m1 new r past

@@ -1,0 +1,174 @@
+-- The front of a unit that is read, and the faults of it.
+use Rattle.std.proofs.Common.{◌≡◌, ◌≢◌, ℕ, ◌+◌, ◌-◌, ◌<◌, ◌^◌, List, ◌++◌, length, take, refl, sym, ap, subst, ◌∙◌, append_assoc, arith}
+use Rattle.std.proofs.Math.Seq.{take-append_seam}
+use Rattle.std.proofs.lemmas.List.{length-append}
+use Rattle.lnt_wire.specs.At.{At}
+use Rattle.lnt_wire.specs.Bytes.{NoneSpelled, TakenBytes}
+use Rattle.lnt_wire.specs.FrameBytes.{FrameBytes, frame_bytes}
+use Rattle.lnt_wire.specs.FrameFaults.{IsFrameFault}
+use Rattle.lnt_wire.specs.InitialFaults.{IsInitialFault, IsVersionFault}
+use Rattle.lnt_wire.specs.InitialLength.{initial_length, InitialBytes, LengthFits}
+use Rattle.lnt_wire.specs.Numbers.{NumberBytes, number_bytes}
+use Rattle.lnt_wire.specs.Reading.{Reads, RefusesField, Refuses, IsCutShort}
+use Rattle.lnt_wire.specs.declared.fault.Fault.{Fault}
+use Rattle.lnt_wire.specs.declared.fault.Reason.{Reason}
+use Rattle.lnt_wire.specs.declared.fault.Reason.TheVariants.{Truncated, ReservedLength, VersionNotFive}
+use Rattle.lnt_wire.specs.declared.format.Format.{Format}
+use Rattle.lnt_wire.specs.declared.format.Order.{Order}
+use Rattle.lnt_wire.proofs.LengthLaws.{length-number_bytes}
+use Rattle.lnt_wire.proofs.FrameReadingLaws.{refuses_initial, refuses_long, refuses_version}
+use Rattle.lnt_older.specs.OlderUnits.{AnyBytes, IsAnyFault, ReadsFive}
+use Rattle.lnt_older.specs.OlderUnits.IsAnyFault.{frame}
+use Rattle.lnt_older.specs.UnitReading.{front_body, ReadsFront, unit_number}
+use Rattle.lnt_older.specs.Versions.{version_number}
+use Rattle.lnt_older.specs.declared.front.Front.{Front}
+use Rattle.lnt_older.specs.declared.front.UnitVersion.{UnitVersion}
+use Rattle.lnt_older.specs.declared.front.UnitVersion.TheVariants.{Five, Older}
+use Rattle.lnt_older.proofs.NoUnitLemmas.{IsNoOlder, none_in_frame}
+
+-- ---- faults
+
+frame_fault : (old : At) (fault : Fault) → IsNoOlder fault.reason
+    → Refuses (IsFrameFault old.order) (FrameBytes old.order) old fault → Refuses (IsAnyFault old.order) (AnyBytes old.order) old fault
+frame_fault old fault other r = record {
+  before = r.before;
+  left = r.left;
+  split = r.split;
+  place = r.place;
+  reason = frame other r.reason;
+  none = subst (λ (z : List ℕ). NoneSpelled (AnyBytes old.order) z) (sym r.split)
+      (none_in_frame old.order fault.reason r.before r.left other r.reason);
+}
+
+truncated_other : (reason : Reason) → reason ≡ Truncated → IsNoOlder reason
+truncated_other reason is version e = let both = sym is ∙ e in absurd cc
+
+initial_other : (order : Order) (reason : Reason) (bytes : List ℕ) → IsInitialFault order reason bytes → IsNoOlder reason
+initial_other order Truncated bytes h version e = absurd cc
+initial_other order ReservedLength bytes h version e = absurd cc
+initial_other order reason bytes h version e = absurd h
+
+pub initial_missing : (old : At) (fault : Fault) → fault.place ≡ old.place → IsInitialFault old.order fault.reason old.rest
+    → Refuses (IsAnyFault old.order) (AnyBytes old.order) old fault
+initial_missing old fault place h =
+    frame_fault old fault (initial_other old.order fault.reason old.rest h) (refuses_initial old fault place h)
+
+pub body_missing : (old ahead : At) (initial : Format × ℕ) (fault later : Fault) → Reads (InitialBytes old.order) initial old ahead
+    → RefusesField (IsCutShort initial.1) (TakenBytes initial.1) ahead later
+    → fault.place ≡ old.place → fault.reason ≡ Truncated → Refuses (IsAnyFault old.order) (AnyBytes old.order) old fault
+body_missing old ahead initial fault later r q place reason =
+    frame_fault old fault (truncated_other fault.reason reason) (refuses_long old ahead initial fault later r q place reason)
+
+pub version_cut : (old ahead new inside : At) (initial : Format × ℕ) (body : List ℕ) (fault : Fault)
+    → Reads (InitialBytes old.order) initial old ahead → Reads (TakenBytes initial.1) body ahead new
+    → inside.rest ≡ body → inside.place ≡ ahead.place
+    → RefusesField (IsCutShort 2) (NumberBytes inside.order 2) inside fault → Refuses (IsAnyFault old.order) (AnyBytes old.order) old fault
+version_cut old ahead new inside initial body fault r q rest_is place_is s =
+    let short : IsVersionFault old.order Truncated body = omega (arith, s.reason.short, ap length rest_is) in
+    frame_fault old fault (truncated_other fault.reason s.reason.reason_is)
+    (refuses_version old ahead new initial body fault r q (s.place ∙ place_is)
+    (subst (λ (c : Reason). IsVersionFault old.order c body) (sym s.reason.reason_is) short))
+
+pub version_unknown : (old ahead new inside after : At) (initial : Format × ℕ) (number : ℕ) (body : List ℕ) (fault : Fault)
+    → Reads (InitialBytes old.order) initial old ahead → Reads (TakenBytes initial.1) body ahead new
+    → inside.rest ≡ body → inside.order ≡ old.order → Reads (NumberBytes inside.order 2) number inside after
+    → ((version : UnitVersion) → unit_number version ≢ number) → fault.place ≡ ahead.place → fault.reason ≡ VersionNotFive number
+    → Refuses (IsAnyFault old.order) (AnyBytes old.order) old fault
+version_unknown old ahead new inside after initial number body fault r q rest_is order_is s none place reason =
+    let joined : body ≡ number_bytes old.order 2 number ++ after.rest =
+    sym rest_is ∙ s.whole ∙ ap (λ (z : List ℕ). z ++ after.rest) (s.spelled.spelled
+    ∙ ap (λ (o : Order). number_bytes o 2 number) order_is) in
+    let unknown : IsVersionFault old.order (VersionNotFive number) body =
+    (after.rest, omega (arith, s.spelled.fits), (λ e. none Five (sym e)), joined) in
+    let other : IsNoOlder fault.reason =
+    λ version e.
+    let both : VersionNotFive number ≡ VersionNotFive (version_number version) = sym reason ∙ e in
+    let same : number ≡ version_number version = cc in
+    none (Older version) (sym same) in
+    frame_fault old fault other (refuses_version old ahead new initial body fault r q place
+    (subst (λ (c : Reason). IsVersionFault old.order c body) (sym reason) unknown))
+
+-- ---- what is read
+
+pub front_read : (old ahead new inside after : At) (initial : Format × ℕ) (number : ℕ) (body : List ℕ) (front : Front)
+    → Reads (InitialBytes old.order) initial old ahead → Reads (TakenBytes initial.1) body ahead new
+    → inside.rest ≡ body → inside.order ≡ old.order → Reads (NumberBytes inside.order 2) number inside after
+    → front.format ≡ initial.0 → unit_number front.version ≡ number → front.place ≡ ahead.place → front.past.now ≡ after.rest
+    → ReadsFront front old new
+front_read old ahead new inside after initial number body front r q rest_is order_is s format_is number_is place past =
+    let whole = front_body old.order front in
+    let counted : initial.1 ≡ length body = sym q.spelled.count_is ∙ ap length (sym q.spelled.taken_is) in
+    let digits : s.spelling ≡ number_bytes old.order 2 (unit_number front.version) =
+    s.spelled.spelled ∙ ap (λ (o : Order). number_bytes o 2 number) order_is ∙ ap (number_bytes old.order 2) (sym number_is) in
+    let body_is : body ≡ whole =
+    sym rest_is ∙ s.whole ∙ ap (λ (z : List ℕ). z ++ after.rest) digits
+    ∙ ap (λ (z : List ℕ). number_bytes old.order 2 (unit_number front.version) ++ z) (sym past) in
+    let count : initial.1 ≡ length whole = counted ∙ ap length body_is in
+    let head : r.spelling ≡ initial_length front.format old.order (length whole) =
+    r.spelled.spelled ∙ ap (λ (n : ℕ). initial_length initial.0 old.order n) count
+    ∙ ap (λ (f : Format). initial_length f old.order (length whole)) (sym format_is) in
+    let tail : q.spelling ≡ whole = sym q.spelled.taken_is ∙ body_is in
+    let joined : r.spelling ++ q.spelling ≡ frame_bytes old.order front.format whole =
+    ap (λ (z : List ℕ). z ++ q.spelling) head
+    ∙ ap (λ (z : List ℕ). initial_length front.format old.order (length whole) ++ z) tail in
+    record {
+      fits = subst (λ (f : Format). LengthFits f (length whole)) (sym format_is) (subst (LengthFits initial.0) count r.spelled.fits);
+      whole = r.whole ∙ ap (λ (z : List ℕ). r.spelling ++ z) q.whole ∙ sym (append_assoc r.spelling q.spelling new.rest)
+          ∙ ap (λ (z : List ℕ). z ++ new.rest) joined;
+      body_place = place ∙ r.place ∙ ap (λ (z : List ℕ). old.place + length z) head;
+      place = omega (arith, q.place, r.place, length-append r.spelling q.spelling, ap length joined);
+      order = q.order ∙ r.order;
+    }
+
+-- the bytes after the version end below 2 ^ 64
+pub front_room : (front : Front) (old new : At) → ReadsFront front old new → old.place + length old.rest < 2 ^ 64
+    → front.place + 2 + length front.past.now < 2 ^ 64
+front_room front old new r room =
+    let body = front_body old.order front in
+    let initial = initial_length front.format old.order (length body) in
+    let digits = number_bytes old.order 2 (unit_number front.version) in
+    omega (
+      arith,
+      room,
+      r.body_place,
+      ap length r.whole,
+      length-append (initial ++ body) new.rest,
+      length-append initial body,
+      length-append digits front.past.now,
+      length-number_bytes old.order 2 (unit_number front.version),
+    )
+
+front_is : (x y z : List ℕ) → z ≡ x ++ y → take (length z - length y) z ≡ x
+front_is x y z e =
+    let size : length z - length y ≡ length x = omega (arith, ap length e, length-append x y) in
+    ap (λ (n : ℕ). take n z) size ∙ ap (take (length x)) e ∙ take-append_seam x y
+
+-- a unit of version 5
+pub five_read : (front : Front) (bytes all left : List ℕ) (old new : At) → ReadsFront front old new → front.version ≡ Five
+    → all ≡ old.rest → left ≡ new.rest → bytes ≡ take (length all - length left) all → ReadsFive bytes old new
+five_read front bytes all left old new r version_is all_is left_is bytes_are =
+    let whole = front_body old.order front in
+    record {
+      format = front.format;
+      body = whole;
+      read = record {
+        spelling = frame_bytes old.order front.format whole;
+        spelled = record {
+          fits = r.fits;
+          version = record {
+            past = front.past.now;
+            joined = ap (λ (v : UnitVersion). number_bytes old.order 2 (unit_number v) ++ front.past.now) version_is;
+          };
+          joined = refl;
+        };
+        whole = r.whole;
+        place = r.place;
+        order = r.order;
+      };
+      bytes_are = bytes_are ∙ ap (λ (z : List ℕ). take (length z - length left) z) all_is
+          ∙ ap (λ (z : List ℕ). take (length old.rest - length z) old.rest) left_is
+          ∙ front_is (frame_bytes old.order front.format whole) new.rest old.rest r.whole;
+    }
+
+-- what the reader of a front cites
+pub ruleset front_exits = (initial_missing, body_missing, version_cut, version_unknown, front_read)

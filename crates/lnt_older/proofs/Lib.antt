@@ -1,0 +1,15 @@
+pub mod CopiedLemmas
+pub mod EntryLemmas
+pub mod FieldLemmas
+pub mod FrontLemmas
+pub mod HeaderLemmas
+pub mod ListFaultLemmas
+pub mod ListLemmas
+pub mod NoUnitLemmas
+pub mod NumberLemmas
+pub mod SameUnitLemmas
+pub mod SoundLemmas
+pub mod TableLemmas
+pub mod UnitLemmas
+pub mod UpgradeLaws
+pub mod UpgradeLemmas

@@ -1,0 +1,160 @@
+-- Lists of older units.
+use Rattle.std.proofs.Common.{◌≡◌, ℕ, ◌+◌, ◌<◌, ◌≤◌, ◌-◌, zero, suc, List, [], ◌∷◌, ◌++◌, length, take, refl, sym, ap, subst, ◌∙◌, append_assoc, arith}
+use Rattle.std.proofs.Math.Seq.{take-append_seam}
+use Rattle.std.proofs.lemmas.List.{length-append}
+use Rattle.lnt_wire.specs.At.{At}
+use Rattle.lnt_wire.specs.FormBytes.{FormBytes, form_of}
+use Rattle.lnt_wire.specs.Numbers.{NumberBytes}
+use Rattle.lnt_wire.specs.Reading.{Reads}
+use Rattle.lnt_wire.specs.declared.form.Form.TheVariants as forms
+use Rattle.lnt_wire.specs.declared.form.FormValue.{FormValue}
+use Rattle.lnt_wire.specs.declared.form.FormValue.TheVariants.{Text}
+use Rattle.lnt_wire.specs.declared.format.Format.{Format}
+use Rattle.lnt_wire.specs.declared.format.Order.{Order}
+use Rattle.lnt_header.specs.Joins.{Each}
+use Rattle.lnt_header.specs.declared.header.Entry.{Entry}
+use Rattle.lnt_header.specs.declared.header.Pair.{Pair}
+use Rattle.lnt_header.proofs.ByteLaws.{one_digit}
+use Rattle.lnt_header.proofs.ReaderLaws.{reads_none, reads_more}
+use Rattle.lnt_older.specs.OlderBytes.{BeginsEntry, ListedBytes}
+use Rattle.lnt_older.specs.ListReading.{BeginsWithPath, PassesList}
+use Rattle.lnt_header_bytes.specs.Stepping.{Passes}
+use Rattle.lnt_header_bytes.specs.TableBytes.{ValuesBytes, EntryBytes}
+
+-- a text has a byte
+text_long : (format : Format) (order : Order) (value : FormValue) (bytes : List ℕ) → form_of value ≡ forms.Text
+    → FormBytes format order value bytes → 0 < length bytes
+text_long format order (Text b) bytes is p = omega (arith, ap length p.joined, length-append b (0 ∷ []))
+text_long format order value bytes is p = absurd cc
+
+-- and so has an entry that begins with one
+values_long : (format : Format) (order : Order) (pair : Pair) (past : List Pair) (values : List FormValue) (bytes : List ℕ)
+    → pair.form ≡ forms.Text → ValuesBytes format order (pair ∷ past) values bytes → 0 < length bytes
+values_long format order pair past [] bytes is p = absurd p
+values_long format order pair past (v ∷ vs) bytes is p =
+    omega (
+      arith,
+      text_long format order v p.1.front (p.0 ∙ is) p.1.first,
+      ap length p.1.joined,
+      length-append p.1.front p.1.back,
+    )
+
+entry_long : (format : Format) (order : Order) (pairs : List Pair) (entry : Entry) (bytes : List ℕ) → BeginsWithPath pairs
+    → EntryBytes format order pairs entry bytes → 0 < length bytes
+entry_long format order pairs entry bytes b p =
+    values_long format order b.pair b.past entry.values bytes b.is_text
+    (subst (λ (ps : List Pair). ValuesBytes format order ps entry.values bytes) b.joined p)
+
+-- the first byte of what is read is that of what is left
+same_first : (x rest : List ℕ) (first : ℕ) (more : List ℕ) → 0 < length x → x ++ rest ≡ first ∷ more
+    → (past : List ℕ) × (x ≡ first ∷ past)
+same_first [] rest first more some e = absurd (omega (arith, some))
+same_first (b ∷ x) rest first more some e = (x, cc)
+
+pub one_listed : (format : Format) (pairs : List Pair) (entry : Entry) (old new : At) → BeginsWithPath pairs → BeginsEntry old.rest
+    → Reads (EntryBytes format old.order pairs) entry old new → Reads (ListedBytes format old.order pairs) entry old new
+one_listed format pairs entry old new path begins r =
+    let found = same_first r.spelling new.rest begins.first begins.more
+    (entry_long format old.order pairs entry r.spelling path r.spelled) (sym r.whole ∙ begins.joined) in
+    record {
+      spelling = r.spelling;
+      spelled = record {
+        some = record { first = begins.first; more = found.0; some = begins.some; joined = found.1 };
+        spelled = r.spelled;
+      };
+      whole = r.whole;
+      place = r.place;
+      order = r.order;
+    }
+
+-- So many entries were read.
+pub record ListedSoFar (format : Format) (pairs : List Pair) (count : ℕ) (old now : At) : Type 0 where
+  pub entries : List Entry
+  pub count_is : length entries ≡ count
+  pub few : count ≤ length old.rest
+  pub shorter : count + length now.rest ≤ length old.rest
+  pub read : Reads (Each (ListedBytes format old.order pairs)) entries old now
+
+pub none_listed : (format : Format) (pairs : List Pair) (at : At) → ListedSoFar format pairs 0 at at
+none_listed format pairs at = record {
+  entries = [];
+  count_is = refl;
+  few = omega arith;
+  shorter = omega arith;
+  read = reads_none (ListedBytes format at.order pairs) at;
+}
+
+pub one_more_listed : (format : Format) (pairs : List Pair) (count : ℕ) (old middle new : At) → BeginsWithPath pairs
+    → ListedSoFar format pairs count old middle → BeginsEntry middle.rest → Passes (EntryBytes format middle.order pairs) middle new
+    → ListedSoFar format pairs (count + 1) old new
+one_more_listed format pairs count old middle new path so_far begins p =
+    let long = entry_long format middle.order pairs p.value p.read.spelling path p.read.spelled in
+    let size : length middle.rest ≡ length p.read.spelling + length new.rest =
+    ap length p.read.whole ∙ length-append p.read.spelling new.rest in
+    record {
+      entries = so_far.entries ++ p.value ∷ [];
+      count_is = length-append so_far.entries (p.value ∷ []) ∙ omega (arith, so_far.count_is);
+      few = omega (arith, so_far.shorter, size, long);
+      shorter = omega (arith, so_far.shorter, size, long);
+      read = reads_more (λ order. ListedBytes format order pairs) so_far.entries p.value old middle new so_far.read
+          (one_listed format pairs p.value middle new path begins p.read);
+    }
+
+-- an entry has a byte, so the walk ends
+pub list_shorter : (format : Format) (pairs : List Pair) (old new : At) → BeginsWithPath pairs
+    → Passes (EntryBytes format old.order pairs) old new → length new.rest < length old.rest
+list_shorter format pairs old new path p =
+    omega (
+      arith,
+      entry_long format old.order pairs p.value p.read.spelling path p.read.spelled,
+      ap length p.read.whole,
+      length-append p.read.spelling new.rest,
+    )
+
+-- the byte that ends a list is zero
+zero_read : (order : Order) (n : ℕ) (bytes rest whole : List ℕ) → NumberBytes order 1 n bytes → whole ≡ bytes ++ rest
+    → (BeginsEntry whole → ⊥) → bytes ≡ 0 ∷ []
+zero_read order zero bytes rest whole p e none = p.spelled ∙ one_digit order 0 (omega arith)
+zero_read order (suc n) bytes rest whole p e none =
+    let digit : bytes ≡ suc n ∷ [] = p.spelled ∙ one_digit order (suc n) (omega (arith, p.fits)) in
+    absurd (none (record {
+      first = suc n;
+      more = rest;
+      some = omega arith;
+      joined = e ∙ ap (λ (z : List ℕ). z ++ rest) digit;
+    }))
+
+front_taken : (front back all : List ℕ) → all ≡ front ++ back → take (length all - length back) all ≡ front
+front_taken front back all e =
+    ap (λ (z : List ℕ). take (length z - length back) z) e
+    ∙ ap (λ (k : ℕ). take k (front ++ back)) (omega (arith, length-append front back)) ∙ take-append_seam front back
+
+pub list_ended : (format : Format) (pairs : List Pair) (count n : ℕ) (bytes all left : List ℕ) (old middle new : At)
+    → ListedSoFar format pairs count old middle → (BeginsEntry middle.rest → ⊥) → Reads (NumberBytes middle.order 1) n middle new
+    → all ≡ old.rest → left ≡ middle.rest → bytes ≡ take (length all - length left) all
+    → PassesList format pairs count bytes old new
+list_ended format pairs count n bytes all left old middle new so_far none r all_is left_is bytes_are =
+    let front : bytes ≡ so_far.read.spelling = bytes_are ∙ ap (λ (z : List ℕ). take (length z - length left) z) all_is
+    ∙ ap (λ (z : List ℕ). take (length old.rest - length z) old.rest) left_is
+    ∙ front_taken so_far.read.spelling middle.rest old.rest so_far.read.whole in
+    let ended = zero_read middle.order n r.spelling new.rest middle.rest r.spelled r.whole none in
+    record {
+      entries = so_far.entries;
+      count_is = so_far.count_is;
+      each = subst (λ (z : List ℕ). Each (ListedBytes format old.order pairs) so_far.entries z) (sym front) so_far.read.spelled;
+      read = record {
+        spelling = so_far.read.spelling ++ r.spelling;
+        spelled = record { front = so_far.read.spelling; back = r.spelling; first = so_far.read.spelled; second = ended; joined = refl };
+        whole = so_far.read.whole ∙ ap (λ (z : List ℕ). so_far.read.spelling ++ z) r.whole
+            ∙ sym (append_assoc so_far.read.spelling r.spelling new.rest);
+        place = omega (arith, r.place, so_far.read.place, length-append so_far.read.spelling r.spelling);
+        order = r.order ∙ so_far.read.order;
+      };
+      joined = so_far.read.whole
+          ∙ ap (λ (z : List ℕ). so_far.read.spelling ++ z) (r.whole ∙ ap (λ (z : List ℕ). z ++ new.rest) ended)
+          ∙ sym (append_assoc so_far.read.spelling (0 ∷ []) new.rest)
+          ∙ ap (λ (z : List ℕ). (z ++ 0 ∷ []) ++ new.rest) (sym front);
+    }
+
+-- what the walk cites
+pub ruleset list_walk = (none_listed, one_more_listed, list_shorter, list_ended)

@@ -1,0 +1,301 @@
+-- Units that were read from the same bytes have the same parts.
+use Rattle.std.proofs.Common.{◌≡◌, ℕ, ◌^◌, ◌<◌, ◌≤◌, List, [], ◌∷◌, ◌++◌, length, refl, sym, ap, subst, ◌∙◌, append_assoc, arith}
+use Rattle.std.proofs.lemmas.List.{append_cancel_right, length-append}
+use Rattle.lnt_wire.specs.At.{At}
+use Rattle.lnt_wire.specs.FrameBytes.{frame_bytes}
+use Rattle.lnt_wire.specs.InitialLength.{initial_length, LengthFits}
+use Rattle.lnt_wire.specs.Numbers.{number_bytes, offset_size}
+use Rattle.lnt_wire.specs.declared.format.Format.{Format}
+use Rattle.lnt_wire.specs.declared.format.Format.TheVariants.{D32, D64}
+use Rattle.lnt_wire.specs.declared.format.Order.{Order}
+use Rattle.lnt_wire.proofs.LengthLaws.{length-number_bytes, same_front, same_number_front, same_rest, width_2}
+use Rattle.lnt_wire.proofs.ValueLaws.{offset_width}
+use Rattle.lnt_header.specs.HeaderRules.{IsAddressSize}
+use Rattle.lnt_header.specs.Joins.{Each}
+use Rattle.lnt_header.specs.declared.header.Entry.{Entry}
+use Rattle.lnt_header.specs.declared.header.Pair.{Pair}
+use Rattle.lnt_header_bytes.specs.HeaderFaults.{LengthsBytes}
+use Rattle.lnt_header_bytes.proofs.HeaderLaws.{below}
+use Rattle.lnt_older.specs.OlderBytes.{body_bytes, directory_pairs, file_pairs, ListBytes, ListedBytes, SaysOperations}
+use Rattle.lnt_older.specs.OlderFields.{header_of, header_spelling, ListsLie, NumbersBytes, number_fields}
+use Rattle.lnt_older.specs.OlderUnits.{ReadsOlder, unit_header}
+use Rattle.lnt_older.specs.Versions.{version_number}
+use Rattle.lnt_older.specs.declared.header.OlderHeader.{OlderHeader}
+use Rattle.lnt_older.specs.declared.numbers.OlderNumbers.{OlderNumbers}
+use Rattle.lnt_older.specs.declared.unit.OlderUnit.{OlderUnit}
+use Rattle.lnt_older.specs.declared.version.OlderVersion.{OlderVersion}
+use Rattle.lnt_older.proofs.FieldLemmas.{lengths_code, list_code}
+use Rattle.lnt_older.proofs.HeaderLemmas.{to_right}
+use Rattle.lnt_older.proofs.NoUnitLemmas.{one_body, same_version, small_version}
+use Rattle.lnt_older.proofs.NumberLemmas.{numbers_code}
+
+-- ---- bodies
+
+-- Two bodies say the same.
+record SameBody (v w : OlderVersion) (fields other program past : List ℕ) : Type 0 where
+  pub version : v ≡ w
+  pub fields_are : fields ≡ other
+  pub program_is : program ≡ past
+
+fields_fit : (format : Format) (order : Order) (v : OlderVersion) (fields program : List ℕ)
+    → LengthFits format (length (body_bytes format order v fields program)) → length fields < 256 ^ offset_size format
+fields_fit format order v fields program fits =
+    let digits = number_bytes order 2 (version_number v) in
+    let number = number_bytes order (offset_size format) (length fields) in
+    let few : length fields ≤ length (body_bytes format order v fields program) =
+    omega (arith, length-append ((digits ++ number) ++ fields) program, length-append (digits ++ number) fields) in
+    below format (length (body_bytes format order v fields program)) (length fields) fits few
+
+one_version : (format : Format) (order : Order) (v w : OlderVersion) (fields other program past : List ℕ)
+    → body_bytes format order v fields program ≡ body_bytes format order w other past
+    → (v ≡ w) × (number_bytes order (offset_size format) (length fields) ++ (fields ++ program)
+    ≡ number_bytes order (offset_size format) (length other) ++ (other ++ past))
+one_version format order v w fields other program past e =
+    let size = offset_size format in
+    let number = number_bytes order size (length fields) in
+    let number' = number_bytes order size (length other) in
+    let found = same_number_front order 2 width_2 (version_number v) (version_number w) (number ++ (fields ++ program))
+    (number' ++ (other ++ past)) (small_version v) (small_version w)
+    (sym (to_right (number_bytes order 2 (version_number v)) number fields program) ∙ e
+    ∙ to_right (number_bytes order 2 (version_number w)) number' other past) in
+    (same_version v w found.0, found.1)
+
+same_body : (format : Format) (order : Order) (v w : OlderVersion) (fields other program past : List ℕ)
+    → LengthFits format (length (body_bytes format order v fields program))
+    → LengthFits format (length (body_bytes format order w other past))
+    → body_bytes format order v fields program ≡ body_bytes format order w other past → SameBody v w fields other program past
+same_body format order v w fields other program past fits fits' e =
+    let versions = one_version format order v w fields other program past e in
+    let counts = same_number_front order (offset_size format) (offset_width format) (length fields) (length other) (fields ++ program)
+    (other ++ past) (fields_fit format order v fields program fits) (fields_fit format order w other past fits') versions.1 in
+    let fields_are : fields ≡ other = same_front fields other program past counts.0 counts.1 in
+    record {
+      version = versions.0;
+      fields_are = fields_are;
+      program_is = same_rest fields other program past fields_are counts.1;
+    }
+
+-- ---- headers
+
+-- Two headers say the same.
+pub record SameHeader (o p : OlderHeader) : Type 0 where
+  pub numbers : o.numbers ≡ p.numbers
+  pub lengths : o.standard_lengths.now ≡ p.standard_lengths.now
+  pub directory_count : o.directories.count ≡ p.directories.count
+  pub directories : o.directories.bytes.now ≡ p.directories.bytes.now
+  pub file_count : o.files.count ≡ p.files.count
+  pub files : o.files.bytes.now ≡ p.files.bytes.now
+  pub extra : o.extra.now ≡ p.extra.now
+
+-- The parts of a header are those that its bytes are joined from.
+record HasParts (version : OlderVersion) (format : Format) (order : Order) (o : OlderHeader) : Type 0 where
+  pub directories : List Entry
+  pub files : List Entry
+  pub lie : ListsLie format order o directories files
+  pub numbers : NumbersBytes version o.numbers (number_fields version o.numbers)
+  pub lengths : LengthsBytes o.numbers.opcode_base o.standard_lengths.now o.standard_lengths.now
+
+-- Two lists that begin the same bytes are one, and so is what follows them.
+record SameList (entries others : List Entry) (x y r s : List ℕ) : Type 0 where
+  pub count : length entries ≡ length others
+  pub bytes : x ≡ y
+  pub past : r ≡ s
+
+same_listed : (format : Format) (order : Order) (pairs : List Pair) (entries others : List Entry) (x y r s : List ℕ)
+    → Each (ListedBytes format order pairs) entries x → Each (ListedBytes format order pairs) others y
+    → (x ++ 0 ∷ []) ++ r ≡ (y ++ 0 ∷ []) ++ s → SameList entries others x y r s
+same_listed format order pairs entries others x y r s p q e =
+    let first : ListBytes format order pairs entries (x ++ 0 ∷ []) =
+    record { front = x; back = 0 ∷ []; first = p; second = refl; joined = refl } in
+    let second : ListBytes format order pairs others (y ++ 0 ∷ []) =
+    record { front = y; back = 0 ∷ []; first = q; second = refl; joined = refl } in
+    let found = (list_code format order pairs).one entries others (x ++ 0 ∷ []) (y ++ 0 ∷ []) r s first second e in
+    record {
+      count = ap length found.0;
+      bytes = append_cancel_right x y (0 ∷ []) found.1;
+      past = same_rest (x ++ 0 ∷ []) (y ++ 0 ∷ []) r s found.1 e;
+    }
+
+nested : (a b c d e : List ℕ) → a ++ b ++ c ++ d ++ e ≡ a ++ (b ++ (c ++ (d ++ e)))
+nested a b c d e = simp append_assoc
+
+same_header : (version : OlderVersion) (format : Format) (order : Order) (o p : OlderHeader) → HasParts version format order o
+    → HasParts version format order p → header_spelling version o ≡ header_spelling version p → SameHeader o p
+same_header version format order o p a b e =
+    let n = number_fields version o.numbers in
+    let m = number_fields version p.numbers in
+    let l = o.standard_lengths.now in
+    let k = p.standard_lengths.now in
+    let d = o.directories.bytes.now ++ 0 ∷ [] in
+    let c = p.directories.bytes.now ++ 0 ∷ [] in
+    let f = o.files.bytes.now ++ 0 ∷ [] in
+    let g = p.files.bytes.now ++ 0 ∷ [] in
+    let x = o.extra.now in
+    let y = p.extra.now in
+    let all : n ++ (l ++ (d ++ (f ++ x))) ≡ m ++ (k ++ (c ++ (g ++ y))) = sym (nested n l d f x) ∙ e ∙ nested m k c g y in
+    let numbers = (numbers_code version).one o.numbers p.numbers n m (l ++ (d ++ (f ++ x))) (k ++ (c ++ (g ++ y))) a.numbers b.numbers
+    all in
+    let past = same_rest n m (l ++ (d ++ (f ++ x))) (k ++ (c ++ (g ++ y))) numbers.1 all in
+    let base : o.numbers.opcode_base ≡ p.numbers.opcode_base = ap (λ q. q.opcode_base) numbers.0 in
+    let others : LengthsBytes o.numbers.opcode_base k k = subst (λ (i : ℕ). LengthsBytes i k k) (sym base) b.lengths in
+    let lengths = (lengths_code o.numbers.opcode_base).one l k l k (d ++ (f ++ x)) (c ++ (g ++ y)) a.lengths others past in
+    let lists = same_rest l k (d ++ (f ++ x)) (c ++ (g ++ y)) lengths.1 past in
+    let directories = same_listed format order directory_pairs a.directories b.directories o.directories.bytes.now
+    p.directories.bytes.now (f ++ x) (g ++ y) a.lie.directories_lie b.lie.directories_lie lists in
+    let files = same_listed format order file_pairs a.files b.files o.files.bytes.now p.files.bytes.now x y a.lie.files_lie
+    b.lie.files_lie directories.past in
+    record {
+      numbers = numbers.0;
+      lengths = lengths.1;
+      directory_count = sym a.lie.directory_count ∙ directories.count ∙ b.lie.directory_count;
+      directories = directories.bytes;
+      file_count = sym a.lie.file_count ∙ files.count ∙ b.lie.file_count;
+      files = files.bytes;
+      extra = files.past;
+    }
+
+-- ---- units
+
+-- Two units say the same.
+pub record SameUnit (u v : OlderUnit) : Type 0 where
+  pub format_is : u.format ≡ v.format
+  pub order_is : u.order ≡ v.order
+  pub header : SameHeader u.header v.header
+  pub program_is : u.program.now ≡ v.program.now
+
+-- The bytes of a unit are joined from its parts.
+record IsJoined (unit : OlderUnit) (order : Order) (bytes : List ℕ) : Type 0 where
+  pub version : OlderVersion
+  pub order_is : unit.order ≡ order
+  pub parts : HasParts version unit.format order unit.header
+  pub fits : LengthFits unit.format
+      (length (body_bytes unit.format order version (header_spelling version unit.header) unit.program.now))
+  pub joined : bytes ≡ frame_bytes order unit.format
+      (body_bytes unit.format order version (header_spelling version unit.header) unit.program.now)
+
+initial_size : (format : Format) (order : Order) (m n : ℕ)
+    → length (initial_length format order m) ≡ length (initial_length format order n)
+initial_size D32 order m n = length-number_bytes order 4 m ∙ sym (length-number_bytes order 4 n)
+initial_size D64 order m n =
+    omega (
+      arith,
+      length-append (number_bytes order 4 0xffffffff) (number_bytes order 8 m),
+      length-append (number_bytes order 4 0xffffffff) (number_bytes order 8 n),
+      length-number_bytes order 8 m,
+      length-number_bytes order 8 n,
+    )
+
+-- in one format and order the bytes of a frame are those of one body
+frame_body : (format : Format) (order : Order) (body other : List ℕ) → frame_bytes order format body ≡ frame_bytes order format other
+    → body ≡ other
+frame_body format order body other e =
+    let first = initial_length format order (length body) in
+    let second = initial_length format order (length other) in
+    same_rest first second body other (same_front first second body other (initial_size format order (length body) (length other)) e) e
+
+joined_here : (unit : OlderUnit) (size : ℕ) (at next : At) (bytes : List ℕ) → IsAddressSize size → ReadsOlder unit at next
+    → at.rest ≡ bytes ++ next.rest → IsJoined unit unit.order bytes
+joined_here unit size at next bytes is_size r whole =
+    let s = r.read size is_size in
+    let q = s.spelled.spelled in
+    let n = unit.header.numbers in
+    let fields = header_spelling r.version unit.header in
+    let program = unit.program.now in
+    let body = body_bytes unit.format unit.order r.version fields program in
+    let other = body_bytes unit.format unit.order q.version q.fields program in
+    let here : bytes ≡ frame_bytes unit.order unit.format body =
+    append_cancel_right bytes (frame_bytes unit.order unit.format body) next.rest (sym whole ∙ r.joined) in
+    let there : bytes ≡ s.spelling = append_cancel_right bytes s.spelling next.rest (sym whole ∙ s.whole) in
+    let bodies : body ≡ other = frame_body unit.format unit.order body other (sym here ∙ there ∙ q.joined) in
+    let versions = one_version unit.format unit.order r.version q.version fields q.fields program program bodies in
+    let some : 0 < n.opcode_base = omega (arith, q.counted.numbers.opcode_base) in
+    record {
+      version = r.version;
+      order_is = refl;
+      parts = record {
+        directories = r.directories;
+        files = r.files;
+        lie = r.lie;
+        numbers = record {
+          spelled = refl;
+          operations = subst (λ (w : OlderVersion). SaysOperations w n.max_ops) (sym versions.0) q.counted.operations;
+          line_base = q.counted.numbers.line_base;
+          max_ops = q.counted.numbers.max_ops;
+          line_range = q.counted.numbers.line_range;
+          opcode_base = some;
+        };
+        lengths = (q.counted.numbers.opcode_base, q.counted.numbers.lengths, refl);
+      };
+      fits = subst (λ (z : List ℕ). LengthFits unit.format (length z)) (sym bodies) q.fits;
+      joined = here;
+    }
+
+unit_joined : (unit : OlderUnit) (size : ℕ) (order : Order) (at next : At) (bytes : List ℕ) → IsAddressSize size → at.order ≡ order
+    → ReadsOlder unit at next → at.rest ≡ bytes ++ next.rest → IsJoined unit order bytes
+unit_joined unit size order at next bytes is_size order_is r whole =
+    subst (λ (k : Order). IsJoined unit k bytes) (r.order_is ∙ order_is) (joined_here unit size at next bytes is_size r whole)
+
+joined_once : (u v : OlderUnit) (order : Order) (bytes : List ℕ) → IsJoined u order bytes → IsJoined v order bytes → SameUnit u v
+joined_once u v order bytes a b =
+    let fields = header_spelling a.version u.header in
+    let others = header_spelling b.version v.header in
+    let program = u.program.now in
+    let past = v.program.now in
+    let body = body_bytes u.format order a.version fields program in
+    let other = body_bytes v.format order b.version others past in
+    let found = one_body order u.format v.format body other [] [] (bytes ++ []) a.fits b.fits (ap (λ (z : List ℕ). z ++ []) a.joined)
+    (ap (λ (z : List ℕ). z ++ []) (sym b.joined)) in
+    let fits : LengthFits u.format (length (body_bytes u.format order b.version others past)) =
+    subst (λ (f : Format). LengthFits f (length (body_bytes f order b.version others past))) found.0 b.fits in
+    let same = same_body u.format order a.version b.version fields others program past a.fits fits
+    (sym found.1 ∙ ap (λ (f : Format). body_bytes f order b.version others past) found.0) in
+    let parts : HasParts a.version u.format order v.header =
+    subst (λ (f : Format). HasParts a.version f order v.header) found.0
+    (subst (λ (w : OlderVersion). HasParts w v.format order v.header) (sym same.version) b.parts) in
+    record {
+      format_is = sym found.0;
+      order_is = a.order_is ∙ sym b.order_is;
+      header = same_header a.version u.format order u.header v.header a.parts parts
+          (same.fields_are ∙ ap (λ (w : OlderVersion). header_spelling w v.header) (sym same.version));
+      program_is = same.program_is;
+    }
+
+pub same_unit : (u v : OlderUnit) (size : ℕ) (order : Order) (at next bt after : At) (bytes : List ℕ) → IsAddressSize size
+    → at.order ≡ order → bt.order ≡ order → ReadsOlder u at next → at.rest ≡ bytes ++ next.rest → ReadsOlder v bt after
+    → bt.rest ≡ bytes ++ after.rest → SameUnit u v
+same_unit u v size order at next bt after bytes is_size here there r first s second =
+    joined_once u v order bytes (unit_joined u size order at next bytes is_size here r first)
+    (unit_joined v size order bt after bytes is_size there s second)
+
+-- with the same directories and files both have one header
+pub one_header : (u v : OlderUnit) (size : ℕ) (directories files : List Entry) → SameUnit u v
+    → unit_header v size directories files ≡ unit_header u size directories files
+one_header u v size directories files s =
+    let formats : v.format ≡ u.format = sym s.format_is in
+    let orders : v.order ≡ u.order = sym s.order_is in
+    let numbers : v.header.numbers ≡ u.header.numbers = sym s.header.numbers in
+    let lengths : v.header.standard_lengths.now ≡ u.header.standard_lengths.now = sym s.header.lengths in
+    let extra : v.header.extra.now ≡ u.header.extra.now = sym s.header.extra in
+    ap (λ (f : Format). header_of f v.order size v.header.numbers v.header.standard_lengths.now directories files v.header.extra.now)
+    formats
+    ∙ ap (λ (o : Order). header_of u.format o size v.header.numbers v.header.standard_lengths.now directories files v.header.extra.now)
+    orders
+    ∙ ap (λ (n : OlderNumbers). header_of u.format u.order size n v.header.standard_lengths.now directories files v.header.extra.now)
+    numbers
+    ∙ ap (λ (l : List ℕ). header_of u.format u.order size u.header.numbers l directories files v.header.extra.now) lengths
+    ∙ ap (λ (x : List ℕ). header_of u.format u.order size u.header.numbers u.header.standard_lengths.now directories files x) extra
+
+-- what lies in the lists of one unit lies in those of the other
+pub lies_in : (u v : OlderUnit) (directories files : List Entry) → SameUnit u v
+    → ListsLie v.format v.order v.header directories files → ListsLie u.format u.order u.header directories files
+lies_in u v directories files s lie =
+    let there : ListsLie u.format u.order v.header directories files =
+    subst (λ (o : Order). ListsLie u.format o v.header directories files) (sym s.order_is)
+    (subst (λ (f : Format). ListsLie f v.order v.header directories files) (sym s.format_is) lie) in
+    record {
+      directory_count = there.directory_count ∙ sym s.header.directory_count;
+      file_count = there.file_count ∙ sym s.header.file_count;
+      directories_lie = subst (Each (ListedBytes u.format u.order directory_pairs) directories) (sym s.header.directories)
+          there.directories_lie;
+      files_lie = subst (Each (ListedBytes u.format u.order file_pairs) files) (sym s.header.files) there.files_lie;
+    }

@@ -1,0 +1,226 @@
+-- The tables of version 5 that say what the lists of an older unit say.
+use Rattle.std.proofs.Common.{◌≡◌, ◌≢◌, ℕ, ◌+◌, ◌*◌, ◌-◌, ◌<◌, ◌≤◌, List, [], ◌∷◌, ◌++◌, length, take, refl, sym, ap, subst, ◌∙◌, append_assoc, arith}
+use Rattle.std.proofs.Math.Seq.{take-append_seam}
+use Rattle.std.proofs.lemmas.List.{length-append, append-nil}
+use Rattle.lnt_wire.specs.At.{At}
+use Rattle.lnt_wire.specs.Bytes.{NoneSpelled}
+use Rattle.lnt_wire.specs.FormBytes.{form_code, form_of, FormBytes, HasNoZero}
+use Rattle.lnt_wire.specs.Leb128.{UnsignedLeb}
+use Rattle.lnt_wire.specs.declared.form.Form.TheVariants as forms
+use Rattle.lnt_wire.specs.declared.form.FormValue.{FormValue}
+use Rattle.lnt_wire.specs.declared.form.FormValue.TheVariants.{Text}
+use Rattle.lnt_wire.specs.declared.format.Format.{Format}
+use Rattle.lnt_wire.specs.declared.format.Order.{Order}
+use Rattle.lnt_header.specs.Joins.{Each}
+use Rattle.lnt_header.specs.declared.header.Entry.{Entry}
+use Rattle.lnt_header.specs.declared.header.Pair.{Pair}
+use Rattle.lnt_header_bytes.specs.Layouts.{entry_of}
+use Rattle.lnt_header_bytes.specs.Stepping.{Passes}
+use Rattle.lnt_header_bytes.specs.TableBytes.{PairBytes, EntryBytes, TableBytes, ValuesBytes}
+use Rattle.lnt_header_bytes.proofs.TableLaws.{entry_code}
+use Rattle.lnt_older.specs.OlderBytes.{directory_pairs, file_pairs, ListedBytes}
+use Rattle.lnt_older.specs.Upgraded.{CountedTable}
+use Rattle.lnt_older.specs.Upgrading.{HasFiles, IsCountFromZero, IsFileZero}
+
+-- ---- tables
+
+-- a number below 128 is its own spelling
+one_byte_leb : (n : ℕ) → n < 128 → UnsignedLeb n (n ∷ [])
+one_byte_leb n lt = record { shape = lt; value = omega (arith, lt); fits = omega (arith, lt) }
+
+pair_spelled : (content code : ℕ) (pair : Pair) → pair.content ≡ content → form_code pair.form ≡ code → content < 128 → code < 128
+    → PairBytes pair (content ∷ code ∷ [])
+pair_spelled content code pair content_is code_is lt lu = record {
+  front = content ∷ [];
+  back = code ∷ [];
+  first = subst (λ (k : ℕ). UnsignedLeb k (content ∷ [])) (sym content_is) (one_byte_leb content lt);
+  second = subst (λ (k : ℕ). UnsignedLeb k (code ∷ [])) (sym code_is) (one_byte_leb code lu);
+  joined = refl;
+}
+
+pub one_pair : Each PairBytes directory_pairs (1 ∷ 8 ∷ [])
+one_pair = record {
+  front = 1 ∷ 8 ∷ [];
+  back = [];
+  first = pair_spelled 1 8 (record { content = 1; form = forms.Text }) refl refl (omega arith) (omega arith);
+  second = refl;
+  joined = refl;
+}
+
+number_pair : (content : ℕ) → content < 128 → PairBytes (record { content = content; form = forms.Udata }) (content ∷ 15 ∷ [])
+number_pair content lt = pair_spelled content 15 (record { content = content; form = forms.Udata }) refl refl lt (omega arith)
+
+pub four_pairs : Each PairBytes file_pairs (1 ∷ 8 ∷ 2 ∷ 15 ∷ 3 ∷ 15 ∷ 4 ∷ 15 ∷ [])
+four_pairs = record {
+  front = 1 ∷ 8 ∷ [];
+  back = 2 ∷ 15 ∷ 3 ∷ 15 ∷ 4 ∷ 15 ∷ [];
+  first = pair_spelled 1 8 (record { content = 1; form = forms.Text }) refl refl (omega arith) (omega arith);
+  second = record {
+    front = 2 ∷ 15 ∷ [];
+    back = 3 ∷ 15 ∷ 4 ∷ 15 ∷ [];
+    first = number_pair 2 (omega arith);
+    second = record {
+      front = 3 ∷ 15 ∷ [];
+      back = 4 ∷ 15 ∷ [];
+      first = number_pair 3 (omega arith);
+      second = record { front = 4 ∷ 15 ∷ []; back = []; first = number_pair 4 (omega arith); second = refl; joined = refl };
+      joined = refl;
+    };
+    joined = refl;
+  };
+  joined = refl;
+}
+
+pub table_spelled : (format : Format) (order : Order) (pairs : List Pair) (pair_bytes entries_bytes bytes : List ℕ) (entries : List Entry)
+    → length pairs < 256 → pairs ≢ [] → Each PairBytes pairs pair_bytes
+    → CountedTable (length pairs ∷ pair_bytes) (length entries) entries_bytes bytes
+    → Each (EntryBytes format order pairs) entries entries_bytes → TableBytes format order pairs entries bytes
+table_spelled format order pairs pair_bytes entries_bytes bytes entries few some spelled table each = record {
+  few_pairs = few;
+  none_without_pairs = λ e. absurd (some e);
+  spelled = record {
+    front = length pairs ∷ [];
+    back = pair_bytes ++ (table.size ++ entries_bytes);
+    first = refl;
+    second = record {
+      front = pair_bytes;
+      back = table.size ++ entries_bytes;
+      first = spelled;
+      second = record { front = table.size; back = entries_bytes; first = table.counted.spelled; second = each; joined = refl };
+      joined = refl;
+    };
+    joined = table.joined;
+  };
+}
+
+-- ---- entries
+
+-- listed entries are entries
+pub each_listed : (format : Format) (order : Order) (pairs : List Pair) (entries : List Entry) (bytes : List ℕ)
+    → Each (ListedBytes format order pairs) entries bytes → Each (EntryBytes format order pairs) entries bytes
+each_listed format order pairs [] bytes p = p
+each_listed format order pairs (entry ∷ entries) bytes p = record {
+  front = p.front;
+  back = p.back;
+  first = p.first.spelled;
+  second = each_listed format order pairs entries p.back p.second;
+  joined = p.joined;
+}
+
+text_long : (format : Format) (order : Order) (value : FormValue) (front back : List ℕ) (first : ℕ) (more : List ℕ)
+    → form_of value ≡ forms.Text → FormBytes format order value front → front ++ back ≡ first ∷ more → 0 < first → 2 ≤ length front
+text_long format order (Text []) front back first more is p e some =
+    let whole : 0 ∷ back ≡ first ∷ more = ap (λ (z : List ℕ). z ++ back) (sym p.joined) ∙ e in
+    let same : 0 ≡ first = cc in
+    absurd (omega (arith, same, some))
+text_long format order (Text (c ∷ text)) front back first more is p e some =
+    omega (arith, ap length p.joined, length-append (c ∷ text) (0 ∷ []))
+text_long format order value front back first more is p e some = absurd cc
+
+path_long : (format : Format) (order : Order) (pair : Pair) (past : List Pair) (values : List FormValue) (bytes : List ℕ) (first : ℕ)
+    (more : List ℕ) → pair.form ≡ forms.Text → ValuesBytes format order (pair ∷ past) values bytes → bytes ≡ first ∷ more → 0 < first
+    → 2 ≤ length bytes
+path_long format order pair past [] bytes first more is p e some = absurd p
+path_long format order pair past (v ∷ values) bytes first more is p e some =
+    omega (
+      arith,
+      text_long format order v p.1.front p.1.back first more (p.0 ∙ is) p.1.first (sym p.1.joined ∙ e) some,
+      ap length p.1.joined,
+      length-append p.1.front p.1.back,
+    )
+
+-- each entry has a path that isn't empty, and the zero byte after it
+pub listed_few : (format : Format) (order : Order) (pair : Pair) (past : List Pair) (entries : List Entry) (bytes : List ℕ)
+    → pair.form ≡ forms.Text → Each (ListedBytes format order (pair ∷ past)) entries bytes → 2 * length entries ≤ length bytes
+listed_few format order pair past [] bytes is p = omega arith
+listed_few format order pair past (entry ∷ entries) bytes is p =
+    let begins = p.first.some in
+    omega (
+      arith,
+      listed_few format order pair past entries p.back is p.second,
+      ap length p.joined,
+      length-append p.front p.back,
+      path_long format order pair past entry.values p.front begins.first begins.more is p.first.spelled begins.joined begins.some,
+    )
+
+pub each_append : {X : Type 0} (P : X → List ℕ → Type 0) (us vs : List X) (x y : List ℕ) → Each P us x → Each P vs y
+    → Each P (us ++ vs) (x ++ y)
+each_append P [] vs x y p q = subst (Each P vs) (ap (λ (z : List ℕ). z ++ y) (sym p)) q
+each_append P (u ∷ us) vs x y p q = record {
+  front = p.front;
+  back = p.back ++ y;
+  first = p.first;
+  second = each_append P us vs p.back y p.second q;
+  joined = ap (λ (z : List ℕ). z ++ y) p.joined ∙ append_assoc p.front p.back y;
+}
+
+pub directory_spelled : (format : Format) (order : Order) (text : List ℕ) → HasNoZero text
+    → EntryBytes format order directory_pairs (entry_of (Text text ∷ [])) (text ++ 0 ∷ [])
+directory_spelled format order text none = (
+  refl,
+  record {
+    front = text ++ 0 ∷ [];
+    back = [];
+    first = record { no_zero = none; joined = refl };
+    second = refl;
+    joined = sym (append-nil (text ++ 0 ∷ []));
+  },
+)
+
+-- ---- file 0
+
+pub none_from_zero : (count : ℕ) → count ≡ 0 → IsCountFromZero count 0
+none_from_zero count is [] e = refl
+none_from_zero count is (file ∷ files) e = omega (arith, is, e)
+
+pub some_from_zero : (count : ℕ) → count ≢ 0 → IsCountFromZero count (count + 1)
+some_from_zero count some [] e = absurd (omega (arith, some, e))
+some_from_zero count some (file ∷ files) e = omega (arith, e)
+
+pub no_file_zero : (format : Format) (order : Order) (count : ℕ) (listed bytes : List ℕ) → count ≡ 0 → bytes ≡ listed
+    → IsFileZero format order count listed bytes
+no_file_zero format order count listed bytes none same [] count_is lie =
+    record { others = []; joined = sym same ∙ sym (append-nil bytes); spelled = same ∙ lie }
+no_file_zero format order count listed bytes none same (file ∷ files) count_is lie = absurd (omega (arith, none, count_is))
+
+front_is : (x y z : List ℕ) → z ≡ x ++ y → take (length z - length y) z ≡ x
+front_is x y z e =
+    let size : length z - length y ≡ length x = omega (arith, ap length e, length-append x y) in
+    ap (λ (n : ℕ). take n z) size ∙ ap (take (length x)) e ∙ take-append_seam x y
+
+pub first_file_zero : (format : Format) (order : Order) (count : ℕ) (listed bytes left : List ℕ) (old new : At) → count ≢ 0
+    → old.rest ≡ listed → old.order ≡ order → Passes (EntryBytes format old.order file_pairs) old new → left ≡ new.rest
+    → bytes ≡ take (length listed - length left) listed → IsFileZero format order count listed bytes
+first_file_zero format order count listed bytes left old new some rest_is order_is p left_is bytes_are [] count_is lie =
+    absurd (some (sym count_is))
+first_file_zero format order count listed bytes left old new some rest_is order_is p left_is bytes_are (file ∷ files) count_is each =
+    let spelled : EntryBytes format order file_pairs p.value p.read.spelling =
+    subst (λ (o : Order). EntryBytes format o file_pairs p.value p.read.spelling) order_is p.read.spelled in
+    let whole : listed ≡ p.read.spelling ++ new.rest = sym rest_is ∙ p.read.whole in
+    let same = (entry_code format order file_pairs).one file p.value each.front p.read.spelling each.back new.rest
+    each.first.spelled spelled (sym each.joined ∙ whole) in
+    let here : bytes ≡ each.front =
+    bytes_are ∙ ap (λ (z : List ℕ). take (length listed - length z) listed) left_is ∙ front_is p.read.spelling new.rest listed whole
+    ∙ sym same.1 in
+    record {
+      others = each.back;
+      joined = each.joined ∙ ap (λ (z : List ℕ). z ++ each.back) (sym here);
+      spelled = record {
+        front = each.front;
+        back = [];
+        first = each.first.spelled;
+        second = refl;
+        joined = here ∙ sym (append-nil each.front);
+      };
+    }
+
+pub first_file_there : (format : Format) (order : Order) (count : ℕ) (listed : List ℕ) (old : At) → HasFiles format order count listed
+    → count ≢ 0 → old.rest ≡ listed → old.order ≡ order → NoneSpelled (EntryBytes format old.order file_pairs) old.rest → ⊥
+first_file_there format order count listed old has some rest_is order_is none = at has.files has.count_is has.lie
+  where
+    at : (files : List Entry) → length files ≡ count → Each (ListedBytes format order file_pairs) files listed → ⊥
+    at [] count_is lie = some (sym count_is)
+    at (file ∷ files) count_is each =
+        none file each.front each.back
+        (subst (λ (o : Order). EntryBytes format o file_pairs file each.front) (sym order_is) each.first.spelled)
+        (sym each.joined ∙ sym rest_is)

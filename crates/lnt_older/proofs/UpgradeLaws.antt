@@ -1,0 +1,188 @@
+-- What a unit says that was read where it lies and written anew, by the bytes of both; and that the bytes of a place are those of one
+-- unit.
+use Rattle.std.proofs.Common.{◌≡◌, ℕ, ◌<◌, List, [], ◌++◌, length, refl, sym, ap, subst, ◌∙◌, inr, arith}
+use Rattle.std.proofs.lemmas.List.{append_cancel_right, length-append}
+use Rattle.lnt_wire.specs.At.{At}
+use Rattle.lnt_wire.specs.FrameBytes.{FrameBytes, frame_bytes}
+use Rattle.lnt_wire.specs.InitialLength.{initial_length, LengthFits}
+use Rattle.lnt_wire.specs.Numbers.{number_bytes, offset_size}
+use Rattle.lnt_wire.specs.Reading.{Reads}
+use Rattle.lnt_wire.specs.declared.format.Format.{Format}
+use Rattle.lnt_wire.specs.declared.format.Order.{Order}
+use Rattle.lnt_wire.proofs.LengthLaws.{length-initial, same_number_front, width_2}
+use Rattle.lnt_header.specs.HeaderRules.{IsAddressSize}
+use Rattle.lnt_header.specs.declared.header.Entry.{Entry}
+use Rattle.lnt_header.specs.declared.header.HeaderParts.{HeaderParts}
+use Rattle.lnt_header_bytes.specs.HeaderBytes.{HeaderBytesIn, unit_body}
+use Rattle.lnt_older.specs.OlderBytes.{older_body, OlderBytes}
+use Rattle.lnt_older.specs.OlderFields.{ListsLie}
+use Rattle.lnt_older.specs.OlderUnits.{AnyBytes, AnyParts, ReadsAny, ReadsFive, ReadsOlder, unit_header}
+use Rattle.lnt_older.specs.OlderUnits.AnyParts.{five_parts, older_parts}
+use Rattle.lnt_older.specs.Upgraded.{CopiedFields, IsUpgradedUnit, upgraded}
+use Rattle.lnt_older.specs.Upgrading.{AddsUpgraded, IsTooLong}
+use Rattle.lnt_older.specs.Versions.{version_number}
+use Rattle.lnt_older.specs.declared.unit.AnyUnit.{AnyUnit}
+use Rattle.lnt_older.specs.declared.unit.AnyUnit.TheVariants.{Five, Older}
+use Rattle.lnt_older.specs.declared.unit.OlderUnit.{OlderUnit}
+use Rattle.lnt_older.proofs.CopiedLemmas.{one_length, same_body_length}
+use Rattle.lnt_older.proofs.HeaderLemmas.{to_right}
+use Rattle.lnt_older.proofs.NoUnitLemmas.{not_five, one_body, small_version}
+use Rattle.lnt_older.proofs.SameUnitLemmas.{lies_in, one_header, same_unit}
+
+-- ---- the bytes of a unit
+
+-- An initial length, and the bytes that it counts.
+record IsCounted (order : Order) (bytes : List ℕ) : Type 0 where
+  pub format : Format
+  pub body : List ℕ
+  pub fits : LengthFits format (length body)
+  pub joined : bytes ≡ frame_bytes order format body
+
+counted : (order : Order) (parts : AnyParts) (x : List ℕ) → AnyBytes order parts x → IsCounted order x
+counted order (five_parts format body) x p = record { format = format; body = body; fits = p.fits; joined = p.joined }
+counted order (older_parts h program) x p =
+    let q = p.1 in
+    let body = older_body q.version h q.fields program in
+    record { format = h.format; body = body; fits = q.fits; joined = q.joined ∙ ap (λ (o : Order). frame_bytes o h.format body) p.0 }
+
+-- a unit has bytes
+some_bytes : (order : Order) (parts : AnyParts) (x : List ℕ) → AnyBytes order parts x → 0 < length x
+some_bytes order parts x p =
+    let c = counted order parts x p in
+    let initial = initial_length c.format order (length c.body) in
+    omega (arith, ap length c.joined, length-append initial c.body, length-initial c.format order (length c.body))
+
+-- Two units that begin the same bytes have the same bytes.
+pub any_once : (order : Order) (u v : AnyParts) (x y m n : List ℕ) → AnyBytes order u x → AnyBytes order v y → x ++ m ≡ y ++ n → x ≡ y
+any_once order u v x y m n p q e =
+    let a = counted order u x p in
+    let b = counted order v y q in
+    let found = one_body order a.format b.format a.body b.body m n (x ++ m) a.fits b.fits (ap (λ (z : List ℕ). z ++ m) a.joined)
+    (ap (λ (z : List ℕ). z ++ n) (sym b.joined) ∙ sym e) in
+    a.joined ∙ ap (λ (f : Format). frame_bytes order f a.body) (sym found.0) ∙ ap (frame_bytes order b.format) (sym found.1)
+    ∙ sym b.joined
+
+-- One format and one body have the same bytes.
+pub frame_once : (order : Order) (format : Format) (body x y : List ℕ) → FrameBytes order (format, body) x
+    → FrameBytes order (format, body) y → x ≡ y
+frame_once order format body x y p q = p.joined ∙ sym q.joined
+
+-- No unit of version 5 is an older one.
+pub five_not_older : (order : Order) (format : Format) (body : List ℕ) (h : HeaderParts) (program x : List ℕ)
+    → AnyBytes order (five_parts format body) x → AnyBytes order (older_parts h program) x → ⊥
+five_not_older order format body h program x five older =
+    let p : FrameBytes h.order (format, body) x = subst (λ (o : Order). FrameBytes o (format, body) x) (sym older.0) five in
+    let q = older.1 in
+    let other = older_body q.version h q.fields program in
+    let digits = number_bytes h.order 2 (version_number q.version) in
+    let number = number_bytes h.order (offset_size h.format) (length q.fields) in
+    let found = one_body h.order format h.format body other [] [] (x ++ []) p.fits q.fits (ap (λ (z : List ℕ). z ++ []) p.joined)
+    (ap (λ (z : List ℕ). z ++ []) (sym q.joined)) in
+    let same = same_number_front h.order 2 width_2 5 (version_number q.version) p.version.past (number ++ (q.fields ++ program))
+    (omega arith) (small_version q.version)
+    (sym p.version.joined ∙ sym found.1 ∙ to_right digits number q.fields program) in
+    not_five q.version same.0
+
+-- ---- what was read
+
+-- These parts and these bytes are of the unit that was read: of one of version 5 the bytes are known; of an older one its header, at
+-- this address size, with directories and files that lie in its lists, and its program.
+abbrev pub SaysParts : AnyUnit → ℕ → AnyParts → List ℕ → Type 0
+SaysParts (Five bytes) size parts x = (format : Format) × (body : List ℕ) × (parts ≡ five_parts format body) × (bytes.now ≡ x)
+SaysParts (Older unit) size parts x =
+    (directories : List Entry) × (files : List Entry) × ListsLie unit.format unit.order unit.header directories files
+    × (parts ≡ older_parts (unit_header unit size directories files) unit.program.now)
+
+-- The read moved past the bytes of a unit, of which there are some.
+pub record ReadsUnit (unit : AnyUnit) (size : ℕ) (old new : At) : Type 0 where
+  pub parts : AnyParts
+  pub read : Reads (AnyBytes old.order) parts old new
+  pub says : SaysParts unit size parts read.spelling
+  pub some : 0 < length read.spelling
+
+-- What was read is a unit, whatever size addresses have.
+pub read_spelled : (unit : AnyUnit) (size : ℕ) (old new : At) → IsAddressSize size → ReadsAny unit old new → ReadsUnit unit size old new
+read_spelled (Five bytes) size old new is_size r =
+    let parts = five_parts r.format r.body in
+    let read : Reads (AnyBytes old.order) parts old new = record {
+      spelling = r.read.spelling;
+      spelled = r.read.spelled;
+      whole = r.read.whole;
+      place = r.read.place;
+      order = r.read.order;
+    } in
+    record {
+      parts = parts;
+      read = read;
+      says = (r.format, r.body, refl, r.bytes_are);
+      some = some_bytes old.order parts r.read.spelling r.read.spelled;
+    }
+read_spelled (Older unit) size old new is_size r =
+    let s = r.read size is_size in
+    let parts = older_parts (unit_header unit size r.directories r.files) unit.program.now in
+    let spelled : AnyBytes old.order parts s.spelling = (s.spelled.order_is, s.spelled.spelled) in
+    let read : Reads (AnyBytes old.order) parts old new =
+    record { spelling = s.spelling; spelled = spelled; whole = s.whole; place = s.place; order = s.order } in
+    record {
+      parts = parts;
+      read = read;
+      says = (r.directories, r.files, r.lie, refl);
+      some = some_bytes old.order parts s.spelling spelled;
+    }
+
+-- Where a unit of version 5 was read, no older one is read from the same bytes.
+pub only_five : (order : Order) (bytes five : List ℕ) (v : OlderUnit) (at next bt after : At) → at.order ≡ order → bt.order ≡ order
+    → ReadsFive five at next → at.rest ≡ bytes ++ next.rest → ReadsOlder v bt after → bt.rest ≡ bytes ++ after.rest → ⊥
+only_five order bytes five v at next bt after here there r first s second =
+    let p = r.read in
+    let q = s.read 8 (inr (inr refl)) in
+    let same : p.spelling ≡ bytes = append_cancel_right p.spelling bytes next.rest (sym p.whole ∙ first) in
+    let other : q.spelling ≡ bytes = append_cancel_right q.spelling bytes after.rest (sym q.whole ∙ second) in
+    let h = unit_header v 8 s.directories s.files in
+    five_not_older order r.format r.body h v.program.now bytes
+    (subst (λ (z : List ℕ). FrameBytes order (r.format, r.body) z) same
+    (subst (λ (o : Order). FrameBytes o (r.format, r.body) p.spelling) here p.spelled))
+    (q.spelled.order_is ∙ there, subst (λ (z : List ℕ). OlderBytes h v.program.now z) other q.spelled.spelled)
+
+-- ---- what was written anew
+
+-- What was added is the unit of version 5 that says what the unit says that was passed.
+pub unit_upgraded : (unit : OlderUnit) (size : ℕ) (directory old_text new_text : List ℕ) (old new : At) (is_size : IsAddressSize size)
+    (r : ReadsOlder unit old new) → AddsUpgraded unit size directory old_text new_text
+    → (bytes : List ℕ) × (new_text ≡ old_text ++ bytes) × IsUpgradedUnit old.order size directory (r.read size is_size).spelling bytes
+unit_upgraded unit size directory old_text new_text old new is_size r a =
+    let u = a r.directories r.files r.lie in
+    let h = unit_header unit size r.directories r.files in (
+      u.bytes,
+      u.joined,
+      record {
+        header = h;
+        program = unit.program.now;
+        older = (r.read size is_size).spelled;
+        newer = subst (λ (o : Order). HeaderBytesIn o (upgraded directory h, unit.program.now) u.bytes) r.order_is u.spelled;
+      },
+    )
+
+-- What was added for a unit fits its format, however the unit is read again from the same bytes.
+pub one_fit : (order : Order) (u v : OlderUnit) (at next bt after : At) (size : ℕ) (directory old new bytes : List ℕ) → at.order ≡ order
+    → bt.order ≡ order → IsAddressSize size → ReadsOlder u at next → at.rest ≡ bytes ++ next.rest → ReadsOlder v bt after
+    → bt.rest ≡ bytes ++ after.rest → AddsUpgraded u size directory old new → IsTooLong v size directory → ⊥
+one_fit order u v at next bt after size directory old new bytes here there is_size r first s second adds long =
+    let same = same_unit u v size order at next bt after bytes is_size here there r first s second in
+    let added = adds long.directories long.files (lies_in u v long.directories long.files same long.lie) in
+    let h = unit_header u size long.directories long.files in
+    let k = unit_header v size long.directories long.files in
+    let b = added.spelled.spelled in
+    let headers : k ≡ h = one_header u v size long.directories long.files same in
+    let copied : CopiedFields h directory u.header.directories.bytes.now u.header.files.bytes.now long.fields =
+    subst (λ (f : List ℕ). CopiedFields h directory u.header.directories.bytes.now f long.fields) (sym same.header.files)
+    (subst (λ (d : List ℕ). CopiedFields h directory d v.header.files.bytes.now long.fields) (sym same.header.directories)
+    (subst (λ (g : HeaderParts). CopiedFields g directory v.header.directories.bytes.now v.header.files.bytes.now long.fields) headers
+    long.copied)) in
+    let size_is = one_length h directory u.header.directories.bytes.now u.header.files.bytes.now b.fields long.fields added.copied
+    copied in
+    let bodies = same_body_length (upgraded directory h) (upgraded directory k) b.fields long.fields u.program.now v.program.now
+    same.format_is size_is same.program_is in
+    let fits : LengthFits v.format (length (unit_body (upgraded directory h) b.fields u.program.now)) =
+    subst (λ (f : Format). LengthFits f (length (unit_body (upgraded directory h) b.fields u.program.now))) same.format_is b.fits in
+    long.too_long (subst (LengthFits v.format) bodies fits)

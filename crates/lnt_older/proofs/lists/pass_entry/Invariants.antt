@@ -1,0 +1,5 @@
+use Rattle.lnt_older.proofs.EntryLemmas.{ArePassed}
+use Rattle.lnt_older.proofs.lists.pass_entry.Given as goal
+
+abbrev pub invariant-loop-pair : goal.invariant-loop-pair
+invariant-loop-pair l = ArePassed l.fn.format l.fn.pairs l.pair-index l.fn.cursor l.cursor

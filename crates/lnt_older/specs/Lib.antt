@@ -1,0 +1,11 @@
+pub mod ByteReading
+pub mod FieldReading
+pub mod ListFaults
+pub mod ListReading
+pub mod OlderBytes
+pub mod OlderFields
+pub mod OlderUnits
+pub mod UnitReading
+pub mod Upgraded
+pub mod Upgrading
+pub mod Versions

@@ -1,0 +1,20 @@
+-- What is wrong where a list of an older unit isn't read: its first entry that isn't there whole, where the first byte isn't zero; or
+-- the zero byte after them.
+--     before   the bytes from the list's first one up to the place of the fault
+--     left     the bytes from the place on, up to the end of the header
+use Rattle.std.specs.Prelude.{◌≡◌, ℕ, List, [], ◌++◌}
+use Rattle.lnt_wire.specs.declared.fault.Reason.{Reason}
+use Rattle.lnt_wire.specs.declared.fault.Reason.TheVariants.{Truncated}
+use Rattle.lnt_wire.specs.declared.format.Format.{Format}
+use Rattle.lnt_wire.specs.declared.format.Order.{Order}
+use Rattle.lnt_header.specs.Joins.{Each}
+use Rattle.lnt_header.specs.declared.header.Entry.{Entry}
+use Rattle.lnt_header.specs.declared.header.Pair.{Pair}
+use Rattle.lnt_header_bytes.specs.TableFaults.{IsEntryFault}
+use Rattle.lnt_older.specs.OlderBytes.{BeginsEntry, ListedBytes}
+
+pub data IsListFault (format : Format) (order : Order) (pairs : List Pair) (reason : Reason) (before left : List ℕ) : Type 0 where
+  no_entry : (entries : List Entry) (front past : List ℕ) → Each (ListedBytes format order pairs) entries front → before ≡ front ++ past
+      → BeginsEntry (past ++ left) → IsEntryFault format order pairs reason past left → IsListFault format order pairs reason before left
+  no_end : (entries : List Entry) → Each (ListedBytes format order pairs) entries before → left ≡ [] → reason ≡ Truncated
+      → IsListFault format order pairs reason before left

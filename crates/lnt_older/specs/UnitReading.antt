@@ -1,0 +1,82 @@
+-- What the front of a unit gives, up to its version. No public contract speaks of it.
+use Rattle.std.specs.Prelude.{◌≡◌, ℕ, ◌+◌, ◌^◌, ◌<◌, List, [], ◌++◌, length}
+use Rattle.lnt_wire.specs.At.{At}
+use Rattle.lnt_wire.specs.FrameBytes.{frame_bytes}
+use Rattle.lnt_wire.specs.InitialLength.{initial_length, LengthFits}
+use Rattle.lnt_wire.specs.Numbers.{number_bytes, offset_size}
+use Rattle.lnt_wire.specs.Reading.{Refuses}
+use Rattle.lnt_wire.specs.declared.fault.Fault.{Fault}
+use Rattle.lnt_wire.specs.declared.fault.Reason.{Reason}
+use Rattle.lnt_wire.specs.declared.format.Format.{Format}
+use Rattle.lnt_wire.specs.declared.format.Order.{Order}
+use Rattle.lnt_header.specs.declared.header.HeaderParts.{HeaderParts}
+use Rattle.lnt_header_bytes.specs.HeaderReading.{standing}
+use Rattle.lnt_header_bytes.specs.StartFaults.{IsCountedFault}
+use Rattle.lnt_older.specs.OlderBytes.{OlderFieldsBytes}
+use Rattle.lnt_older.specs.OlderFields.{IsFieldsFault, IsReadHeader}
+use Rattle.lnt_older.specs.Versions.{version_number}
+use Rattle.lnt_older.specs.declared.front.Front.{Front}
+use Rattle.lnt_older.specs.declared.front.UnitVersion.{UnitVersion}
+use Rattle.lnt_older.specs.declared.front.UnitVersion.TheVariants.{Five, Older}
+use Rattle.lnt_older.specs.declared.unit.AnyUnit.{AnyUnit}
+use Rattle.lnt_older.specs.declared.unit.AnyUnit.TheVariants as units
+use Rattle.lnt_older.specs.declared.unit.OlderUnit.{OlderUnit}
+use Rattle.lnt_older.specs.declared.version.OlderVersion.{OlderVersion}
+
+abbrev pub unit_number : UnitVersion → ℕ
+unit_number Five = 5
+unit_number (Older version) = version_number version
+
+-- the body of a unit, by its version and what stands after that
+abbrev pub front_body : Order → Front → List ℕ
+front_body order front = number_bytes order 2 (unit_number front.version) ++ front.past.now
+
+-- The read moved past a unit of this front.
+pub record ReadsFront (front : Front) (old new : At) : Type 0 where
+  pub fits : LengthFits front.format (length (front_body old.order front))
+  pub whole : old.rest ≡ frame_bytes old.order front.format (front_body old.order front) ++ new.rest
+  pub body_place : front.place ≡ old.place + length (initial_length front.format old.order (length (front_body old.order front)))
+  pub place : new.place ≡ old.place + length (frame_bytes old.order front.format (front_body old.order front))
+  pub order : new.order ≡ old.order
+
+-- What stands after the version spells an older unit's header and program.
+pub record IsUnitOf (front : Front) (version : OlderVersion) (order : Order) (unit : OlderUnit) : Type 0 where
+  pub format_is : unit.format ≡ front.format
+  pub order_is : unit.order ≡ order
+  pub counted : List ℕ
+  pub header : IsReadHeader version front.format order counted unit.header
+  pub small : length counted < 256 ^ offset_size front.format
+  pub joined : front.past.now ≡ number_bytes order (offset_size front.format) (length counted) ++ (counted ++ unit.program.now)
+
+-- What stands after the version of an older unit: header_length, the fields that it counts, and the program.
+pub record PastBytes (format : Format) (version : OlderVersion) (order : Order) (unit : HeaderParts × List ℕ) (bytes : List ℕ) : Type 0
+  where
+    pub fields : List ℕ
+    pub format_is : unit.0.format ≡ format
+    pub order_is : unit.0.order ≡ order
+    pub counted : OlderFieldsBytes version unit.0 fields
+    pub small : length fields < 256 ^ offset_size format
+    pub joined : bytes ≡ number_bytes order (offset_size format) (length fields) ++ (fields ++ unit.1)
+
+-- Why nothing such stands there: the length of the header, or one of the fields that this counts.
+pub data IsPastFault (format : Format) (version : OlderVersion) (order : Order) (reason : Reason) (before from : List ℕ) : Type 0 where
+  of_length : before ≡ [] → IsCountedFault format order reason from → IsPastFault format version order reason before from
+  of_field : (fields left program : List ℕ)
+      → before ≡ number_bytes order (offset_size format) (length (fields ++ left)) ++ fields → from ≡ left ++ program
+      → IsFieldsFault version format order reason fields left → IsPastFault format version order reason before from
+
+-- a fault of what stands after the version, which has 2 bytes
+abbrev pub IsBodyFault : Front → OlderVersion → Order → Fault → Type 0
+IsBodyFault front version order fault =
+    Refuses (IsPastFault front.format version order) (PastBytes front.format version order) (standing (front.place + 2) front.past.now order)
+    fault
+
+-- the unit of a front and of these bytes: one of version 5, or an older one
+abbrev pub IsAnyOf : Front → List ℕ → Order → AnyUnit → Type 0
+IsAnyOf front bytes order (units.Five five) = (front.version ≡ Five) × (five.now ≡ bytes)
+IsAnyOf front bytes order (units.Older unit) =
+    (version : OlderVersion) × (front.version ≡ Older version) × IsUnitOf front version order unit
+
+-- a fault of an older one
+abbrev pub IsAnyBodyFault : Front → Order → Fault → Type 0
+IsAnyBodyFault front order fault = (version : OlderVersion) × (front.version ≡ Older version) × IsBodyFault front version order fault

@@ -1,0 +1,23 @@
+//! Units of versions 2, 3 and 4 (DWARF 2, 3 and 4, section 6.2.4), and the units of version 5 that say the same. An entry of an
+//! older list of directories or files is spelled byte for byte as one of version 5, and so is a program: what is written anew
+//! is the header around them.
+#![tactic(auto)]
+
+mod front;
+mod header;
+mod lists;
+mod numbers;
+#[cfg(test)]
+mod tests;
+mod unit;
+#[cfg(test)]
+mod unit_tests;
+mod upgrade;
+mod version;
+
+pub use header::{OlderHeader, read_older_header};
+pub use lists::{DIRECTORY_PAIRS, FILE_PAIRS, pass_listed};
+pub use numbers::OlderNumbers;
+pub use unit::{AnyUnit, OlderUnit, take_any_unit};
+pub use upgrade::append_upgraded_unit;
+pub use version::OlderVersion;

@@ -1,0 +1,103 @@
+//! Units of versions 2 to 5, one after another.
+ghost use Rattle.std.specs.Prelude.{◌≡◌, ◌+◌, ◌<◌, ◌^◌, length, IfErr, IfOk, OnErr};
+ghost use Rattle.lnt_wire.specs.Reading.{Refuses};
+ghost use Rattle.lnt_older.specs.OlderUnits.{AnyBytes, IsAnyFault, IsSoundUnit, ReadsAny};
+ghost use Rattle.lnt_older.specs.UnitReading.{IsAnyBodyFault, IsAnyOf, IsBodyFault, IsUnitOf};
+
+use crate::front::{Front, UnitVersion, take_front};
+use crate::header::{OlderHeader, read_older_header};
+use crate::version::OlderVersion;
+use lnt_header_bytes::read_counted;
+use lnt_wire::{Cursor, Fault, Format, Order};
+
+/// A unit of version 2, 3 or 4: its header, whose directories and files stay where they lie, and its program.
+#[derive(Clone, Copy, Debug)]
+pub struct OlderUnit<'a> {
+    /// The format of the unit.
+    pub format: Format,
+    /// The order of the bytes of its numbers.
+    pub order: Order,
+    /// The header.
+    pub header: OlderHeader<'a>,
+    /// The bytes of the program.
+    pub program: &'a [u8],
+}
+
+/// A unit of version 2 to 5.
+#[derive(Clone, Copy, Debug)]
+pub enum AnyUnit<'a> {
+    /// The bytes of a unit of version 5. Its initial length and its version are sound, and no more of it is judged.
+    Five(&'a [u8]),
+    /// A unit of version 2, 3 or 4. Its header is sound, and its program isn't judged.
+    Older(OlderUnit<'a>),
+}
+
+/// The unit at the cursor, which moves past it. It takes no memory.
+///
+/// It refuses only with a fault that is so: of the initial length; of the version, where that is none of 2 to 5; or, of an older
+/// unit, of the first field of its header that isn't there whole, or has a value that none may have. Then the cursor is as it was.
+#[tactic(auto, using(crate::proofs::UnitLemmas::reads_there, crate::proofs::UnitLemmas::fault_there))]
+pub fn take_any_unit<'a>(cursor: &mut Cursor<'a>) -> Result<AnyUnit<'a>, Fault>
+    ensures ok { IfOk result (λ unit. ReadsAny unit cursor.old cursor.new) }
+    ensures sound { IfOk result IsSoundUnit }
+    ensures err { IfErr result (λ fault. Refuses (IsAnyFault cursor.old.order) (AnyBytes cursor.old.order) cursor.old fault) }
+    ensures unchanged { OnErr result (cursor.new ≡ cursor.old) }
+{
+    let mut ahead = Cursor::new(cursor.rest(), cursor.place(), cursor.order());
+    let unit = read_any_unit(&mut ahead)?;
+    *cursor = ahead;
+    Ok(unit)
+}
+
+// The same, where nothing is said of the cursor after a refusal.
+#[tactic(auto, using(crate::proofs::UnitLemmas::any_read, crate::proofs::UnitLemmas::any_sound, crate::proofs::UnitLemmas::any_missing, crate::proofs::FrontLemmas::front_room))]
+fn read_any_unit<'a>(cursor: &mut Cursor<'a>) -> Result<AnyUnit<'a>, Fault>
+    ensures ok { IfOk result (λ unit. ReadsAny unit cursor.old cursor.new) }
+    ensures sound { IfOk result IsSoundUnit }
+    ensures err { IfErr result (λ fault. Refuses (IsAnyFault cursor.old.order) (AnyBytes cursor.old.order) cursor.old fault) }
+{
+    let _place = cursor.place();
+    let order = cursor.order();
+    let all = cursor.rest();
+    let front = take_front(cursor)?;
+    let (bytes, _) = all.split_at(all.len() - cursor.rest().len());
+    any_unit(&front, bytes, order)
+}
+
+// The unit of a front, whose bytes these are.
+fn any_unit<'a>(front: &Front<'a>, bytes: &'a [u8], order: Order) -> Result<AnyUnit<'a>, Fault>
+    requires { front.now.place + 2 + length front.now.past.now < 2 ^ 64 }
+    ensures ok { IfOk result (λ unit. IsAnyOf front.now bytes.entry.now order unit) }
+    ensures err { IfErr result (λ fault. IsAnyBodyFault front.now order fault) }
+{
+    match front.version {
+        UnitVersion::Five => Ok(AnyUnit::Five(bytes)),
+        UnitVersion::Older(version) => match older_unit(front, version, order) {
+            Ok(unit) => Ok(AnyUnit::Older(unit)),
+            Err(fault) => Err(fault),
+        },
+    }
+}
+
+// The older unit of a front.
+#[tactic(auto, using(crate::proofs::UnitLemmas::unit_found, crate::proofs::UnitLemmas::length_missing, crate::proofs::UnitLemmas::field_missing))]
+fn older_unit<'a>(
+    front: &Front<'a>,
+    version: OlderVersion,
+    order: Order,
+) -> Result<OlderUnit<'a>, Fault>
+    requires { front.now.place + 2 + length front.now.past.now < 2 ^ 64 }
+    ensures ok { IfOk result (λ unit. IsUnitOf front.now version order unit) }
+    ensures err { IfErr result (λ fault. IsBodyFault front.now version order fault) }
+{
+    let mut cursor = Cursor::new(front.past, front.place + 2, order);
+    let counted = read_counted(&mut cursor, front.format)?;
+    let place = cursor.place() - counted.len() as u64;
+    let header = read_older_header(counted, place, version, front.format, order)?;
+    Ok(OlderUnit {
+        format: front.format,
+        order,
+        header,
+        program: cursor.rest(),
+    })
+}

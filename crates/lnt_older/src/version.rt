@@ -1,0 +1,41 @@
+//! The versions before 5.
+ghost use Rattle.std.specs.Prelude.{◌≡◌, ◌≢◌, MatchOption};
+ghost use Rattle.lnt_older.specs.declared.version.OlderVersion.{OlderVersion};
+ghost use Rattle.lnt_older.specs.Versions.{version_number};
+
+/// The version of an older unit.
+#[derive(Clone, Copy, Debug, PartialEq, Eq)]
+pub enum OlderVersion {
+    /// Version 2, of DWARF 2.
+    Two,
+    /// Version 3, of DWARF 3.
+    Three,
+    /// Version 4, of DWARF 4, from which on a header has `maximum_operations_per_instruction`.
+    Four,
+}
+
+impl OlderVersion {
+    /// The version of this number. None exactly where that is none of 2, 3 and 4.
+    pub fn of(number: u16) -> Option<OlderVersion>
+        ensures { MatchOption result ((version : OlderVersion) → version_number version ≢ number)
+            (λ version. version_number version ≡ number) }
+    {
+        match number {
+            2 => Some(OlderVersion::Two),
+            3 => Some(OlderVersion::Three),
+            4 => Some(OlderVersion::Four),
+            _ => None,
+        }
+    }
+
+    /// The number by which a unit names the version.
+    pub fn number(self) -> u16
+        ensures { result ≡ version_number self }
+    {
+        match self {
+            OlderVersion::Two => 2,
+            OlderVersion::Three => 3,
+            OlderVersion::Four => 4,
+        }
+    }
+}
