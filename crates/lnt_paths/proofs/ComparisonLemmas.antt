@@ -1,14 +1,14 @@
 -- The records of a table by path are compared with a section one after another.
-use Rattle.std.proofs.Common.{◌≡◌, ℕ, ◌+◌, ◌<◌, ◌≤◌, List, [], ◌∷◌, ◌++◌, None, length, length-append, refl, subst, sym, arith, ⊎_elim}
-use Rattle.std.specs.List.{AllZip}
+use Rattle.std.proofs.Common.{◌≡◌, ℕ, ◌+◌, ◌<◌, ◌≤◌, List, [], ◌∷◌, ◌++◌, Option, None, Some, length, length-append}
+use Rattle.std.proofs.Common.{refl, subst, sym, arith, ⊎_elim}
+use Rattle.std.specs.Prelude.{MatchOption}
 use Rattle.std.proofs.lemmas.Bool.{cases_lt}
 use Rattle.lnt_digits.specs.Digits.{IsAddress, IsDecimal}
-use Rattle.lnt_records.specs.declared.fault.TableFault.{TableFault}
 use Rattle.lnt_records.specs.declared.fault.TableFault.TheVariants as fault
 use Rattle.lnt_spans.specs.Remaining.{SpansAreLeft}
-use Rattle.lnt_records.specs.Reading.{BytesReader, HasRead}
+use Rattle.lnt_records.specs.declared.fault.TableFault.{TableFault}
+use Rattle.lnt_records.specs.Reading.{IsReadAs}
 use Rattle.lnt_records.specs.Table.{BeginsWith, Fields, RecordsOf}
-use Rattle.csv.specs.Reading.{reader_state}
 use Rattle.lnt_spans.specs.declared.answer.Answer.{Answer}
 use Rattle.lnt_spans.specs.declared.position.Position.{Position}
 use Rattle.lnt_spans.specs.declared.span.Span.{Span}
@@ -23,9 +23,12 @@ use Rattle.lnt_paths.specs.PathAnswers.{PathAnswer, answer_told}
 use Rattle.lnt_paths.specs.PathDifferences.{AnswersByPath, DiffersByPath, IsLeastPathDifference}
 use Rattle.lnt_paths.specs.PathFaults.{IsFaultyRecord, IsPathFault}
 use Rattle.lnt_paths.specs.PathSpans.{PathSpan, StandInOrder, path_span_answer, whole}
-use Rattle.lnt_paths.specs.PathTables.{IsPathRecord, IsPathTable, SaysPath, path_column_names}
+use Rattle.lnt_paths.specs.PathTables.{IsPathRecord, IsPathTable, SaysPath, by_path, path_column_names}
 use Rattle.lnt_paths.specs.Reading.{record_answer, record_span}
 use Rattle.lnt_paths.proofs.MergingLemmas.{low_high, merged_none, origin_first}
+use Rattle.lnt_paths.proofs.OneTableLemmas.{path_refused}
+use Rattle.lnt_records.proofs.TableLaws as any
+use Rattle.lnt_records.proofs.TableLaws.{table_order}
 
 -- ---- the order
 
@@ -48,25 +51,12 @@ holds_some low high b = ⊎_elim (λ (h : low < high). h) (λ (h : high ≤ low)
 
 -- ---- one more record
 
-zip_push : {A B : Type 0} (R : A → B → Type 0) (xs : List A) (ys : List B) (x : A) (y : B) → AllZip R xs ys → R x y
-    → AllZip R (xs ++ x ∷ []) (ys ++ y ∷ [])
-zip_push R [] [] x y z h = (h, tt)
-zip_push R [] (b ∷ ys) x y z h = absurd z
-zip_push R (a ∷ xs) [] x y z h = absurd z
-zip_push R (a ∷ xs) (b ∷ ys) x y z h = (z.0, zip_push R xs ys x y z.1 h)
-
 pub table_push : (version : PathVersion) (records : List Fields) (table : List PathSpan) (fields : Fields) (span : PathSpan)
-    → IsPathTable version records table
-    → IsPathRecord version fields span → IsAtMost (path_end table) span.low → IsBelow span.low span.high
-    → IsPathTable version (records ++ fields ∷ []) (table ++ span ∷ [])
-table_push version [] table fields span t s le lt = absurd t
-table_push version (first ∷ records) table fields span t s le lt = (
-  t.0,
-  record {
-    each = zip_push (IsPathRecord version) records table fields span t.1.each s;
-    in_order = order_push table span t.1.in_order le lt;
-  },
-)
+    → IsPathTable version records table → IsPathRecord version fields span → IsAtMost (path_end table) span.low
+    → IsBelow span.low span.high → IsPathTable version (records ++ fields ∷ []) (table ++ span ∷ [])
+table_push version records table fields span t s le lt =
+    any.table_push by_path version records table fields span t s
+    (order_push table span (table_order by_path version records table t) le lt)
 
 pub says_span : (version : PathVersion) (fields : Fields) (said : PathRecord)
     → SaysPath IsAddress IsDecimal version fields said.low said.high (record_answer said)
@@ -111,22 +101,6 @@ order_fault version table at number fields said end says not = (
 
 -- ---- what is told
 
-pub fault_told : (bytes : List ℕ) (version : PathVersion) (records : List Fields) (fields : Fields) (table : List PathSpan)
-    (told : TableFault)
-    → BeginsWith bytes (records ++ fields ∷ []) → IsPathTable version records table
-    → IsFaultyRecord version table (length records) fields told
-    → IsPathFault bytes told
-fault_told bytes version records fields table fault.Header h t f = absurd f
-fault_told bytes version records fields table (fault.Fields k) h t f =
-    record { version = version; records = records; spans = table; fields = fields; begins = h; table = t; faulty = f }
-fault_told bytes version records fields table (fault.Number k i) h t f =
-    record { version = version; records = records; spans = table; fields = fields; begins = h; table = t; faulty = f }
-fault_told bytes version records fields table (fault.Order k) h t f =
-    record { version = version; records = records; spans = table; fields = fields; begins = h; table = t; faulty = f }
-
-pub begins : (reader : BytesReader) (bytes : List ℕ) (records : List Fields) → HasRead reader bytes records → BeginsWith bytes records
-begins reader bytes records h = (reader_state reader, h.rest, h.reached)
-
 -- after the header alone
 pub judges_none : {S : Type 0} (to_come : S → List Span → Type 0) (tell : Answer → PathAnswer) (version : PathVersion)
     (comparison : PathComparison S)
@@ -157,3 +131,12 @@ pub difference_told : {S : Type 0} (to_come : S → List Span → Type 0) (tell 
     → DiffersByPath bytes (λ version. answer_told (tell version) list) difference
 difference_told to_come tell version comparison bytes list records difference j all least =
     record { version = version; table = j.table; is_table = (records, all, j.is_table); least = least }
+
+-- a record was taken, or its fault is that of the bytes
+pub found_in : (version : PathVersion) (records : List Fields) (fields : Fields) (found : Option TableFault) (Taken : Type 0)
+    → MatchOption found Taken (λ fault. (table : List PathSpan) × IsPathTable version records table
+    × IsFaultyRecord version table (length records) fields fault)
+    → MatchOption found Taken (λ fault. (whole : Fields) (bytes : List ℕ) → IsReadAs fields whole
+    → BeginsWith bytes (records ++ whole ∷ []) → IsPathFault bytes fault)
+found_in version records fields None Taken h = h
+found_in version records fields (Some fault) Taken h = path_refused version records h.0 fields fault h.1 h.2

@@ -1,12 +1,16 @@
 -- The spans of a table by path are held one after another.
-use Rattle.std.proofs.Common.{◌≡◌, ◌∙◌, ℕ, ◌+◌, ◌-◌, ◌<◌, ◌≤◌, List, [], ◌∷◌, ◌++◌, Some, ap, length, map, refl, suc}
+use Rattle.std.proofs.Common.{◌≡◌, ◌∙◌, ℕ, ◌+◌, ◌-◌, ◌<◌, ◌≤◌, List, [], ◌∷◌, ◌++◌, Option, Some, None, ap, length, map, refl, suc}
+use Rattle.std.specs.Prelude.{MatchOption}
 use Rattle.std.proofs.Common.{subst, sym, arith}
 use Rattle.std.proofs.lemmas.List.{length-map, map-append}
 use Rattle.std.proofs.lemmas.Option.{slice_get_within}
 use Rattle.std.specs.List.{AllZip, slice_get}
 use Rattle.lnt_digits.specs.Digits.{IsAddress, IsDecimal}
 use Rattle.lnt_records.specs.declared.fault.TableFault.{TableFault}
-use Rattle.lnt_records.specs.Table.{Fields}
+use Rattle.lnt_records.specs.Reading.{IsReadAs}
+use Rattle.lnt_records.specs.Table.{BeginsWith, Fields}
+use Rattle.lnt_paths.proofs.OneTableLemmas.{path_refused}
+use Rattle.lnt_records.proofs.TableLaws.{table_order}
 use Rattle.lnt_spans.specs.declared.position.Position.{Position}
 use Rattle.lnt_spans.specs.Positions.{IsAtMost}
 use Rattle.lnt_paths.specs.declared.answer.AnswerByPath.{AnswerByPath}
@@ -17,9 +21,9 @@ use Rattle.lnt_paths.specs.Held.{held_span}
 use Rattle.lnt_paths.specs.Merging.{path_end}
 use Rattle.lnt_paths.specs.PathAnswers.{PathAnswer}
 use Rattle.lnt_paths.specs.PathDifferences.{told_path_answer}
-use Rattle.lnt_paths.specs.PathFaults.{IsFaultyRecord}
-use Rattle.lnt_paths.specs.PathSpans.{PathSpan, whole}
-use Rattle.lnt_paths.specs.PathTables.{IsPathRecord, IsPathTable, SaysPath}
+use Rattle.lnt_paths.specs.PathFaults.{IsFaultyRecord, IsPathFault}
+use Rattle.lnt_paths.specs.PathSpans.{PathSpan, StandInOrder, whole}
+use Rattle.lnt_paths.specs.PathTables.{IsPathRecord, IsPathTable, SaysPath, by_path, path_column_names}
 use Rattle.lnt_paths.specs.Reading.{record_answer, record_span}
 use Rattle.lnt_paths.proofs.ComparisonLemmas.{says_span, table_push}
 use Rattle.lnt_paths.proofs.MergingLemmas.{low_high}
@@ -83,3 +87,23 @@ pub record_fault : (version : PathVersion) (records : List Fields) (fields : Fie
 record_fault version records fields spans number fault table is faulty =
     subst (λ (n : ℕ). IsFaultyRecord version (map held_span spans) n fields fault) (is ∙ sym (table_length version records spans table))
     faulty
+
+-- ---- a whole table
+
+pub held_none : (version : PathVersion) (spans : List HeldSpan) → spans ≡ []
+    → IsPathTable version (path_column_names version ∷ []) (map held_span spans)
+held_none version spans none = rw none (refl, record { each = tt; in_order = tt })
+
+pub table_in_order : (version : PathVersion) (records : List Fields) (spans : List HeldSpan)
+    → IsPathTable version records (map held_span spans) → StandInOrder (map held_span spans)
+table_in_order version records spans t = table_order by_path version records (map held_span spans) t
+
+-- a record was held, or its fault is that of the bytes
+pub found_held : (version : PathVersion) (records : List Fields) (old new : List HeldSpan) (fields : Fields) (found : Option TableFault)
+    → IsPathTable version records (map held_span old)
+    → MatchOption found (IsPathTable version (records ++ fields ∷ []) (map held_span new))
+    (λ fault. IsFaultyRecord version (map held_span old) (length records) fields fault)
+    → MatchOption found (IsPathTable version (records ++ fields ∷ []) (map held_span new))
+    (λ fault. (whole : Fields) (bytes : List ℕ) → IsReadAs fields whole → BeginsWith bytes (records ++ whole ∷ []) → IsPathFault bytes fault)
+found_held version records old new fields None t h = h
+found_held version records old new fields (Some fault) t h = path_refused version records (map held_span old) fields fault t h

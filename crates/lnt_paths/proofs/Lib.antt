@@ -1,10 +1,7 @@
-pub mod BeginningLaws
 pub mod BorderLemmas
 pub mod ComparisonLemmas
 pub mod CompletionLaws
-pub mod FrontLemmas
 pub mod HeldLemmas
-pub mod HeldOrderLemmas
 pub mod JoiningLemmas
 pub mod LineLemmas
 pub mod MergingLemmas

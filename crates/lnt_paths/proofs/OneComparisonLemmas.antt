@@ -1,97 +1,17 @@
--- At most one fault is the first of some bytes, and a comparison with a section's answers has only one possible result.
-use Rattle.std.proofs.Common.{◌≡◌, ◌∙◌, ℕ, ◌<◌, List, [], ◌∷◌, Option, length, refl, sym, ap, subst, inl, inr}
+-- A comparison with a section's answers has only one possible result.
+use Rattle.std.proofs.Common.{◌≡◌, ◌∙◌, ℕ, List, Option, refl, sym, ap, subst, inl, inr}
 use Rattle.std.specs.Option.{option_map}
 use Rattle.lnt_spans.specs.declared.position.Position.{Position}
 use Rattle.lnt_spans.proofs.PositionLaws.{order_three}
 use Rattle.lnt_spans.specs.Positions.{IsBelow}
-use Rattle.lnt_records.specs.declared.fault.TableFault.{TableFault}
-use Rattle.lnt_records.specs.declared.fault.TableFault.TheVariants as fault
-use Rattle.lnt_records.proofs.RecordLaws.{one_end, same_least, stands_before}
-use Rattle.lnt_records.specs.Table.{BeginsWith, Fields}
 use Rattle.lnt_paths.specs.declared.answer.ComparedByPath.TheVariants.{Same, Fault, Differs}
 use Rattle.lnt_paths.specs.declared.answer.DifferenceByPath.{DifferenceByPath}
 use Rattle.lnt_paths.specs.declared.version.PathVersion.{PathVersion}
 use Rattle.lnt_paths.specs.Laws.{NoPathFault, OneLeastPathDifference, OnePathComparison, OnePathFault, OnePathTable, tells_difference}
 use Rattle.lnt_paths.specs.Laws.{tells_fault}
-use Rattle.lnt_paths.proofs.BeginningLaws.{faulty_path_begins}
 use Rattle.lnt_paths.specs.PathAnswers.{PathAnswer}
 use Rattle.lnt_paths.specs.PathDifferences.{AnswersByPath, DifferFirst, DiffersByPath, IsLeastPathDifference, told_path_answer}
-use Rattle.lnt_paths.specs.PathFaults.{HasFaultyPathRecord, IsFaultyRecord}
 use Rattle.lnt_paths.specs.PathSpans.{PathSpan, path_span_answer}
-use Rattle.lnt_paths.specs.PathTables.{IsPathTable, path_column_names}
-use Rattle.lnt_paths.proofs.OneTableLemmas.{faulty_none, one_of, sound_field}
-
--- ---- one record
-
-one_faulty : (version : PathVersion) (spans : List PathSpan) (number : ℕ) (fields : Fields) (told other : TableFault)
-    → IsFaultyRecord version spans number fields told → IsFaultyRecord version spans number fields other → told ≡ other
-one_faulty version spans number fields fault.Header other f g = absurd f
-one_faulty version spans number fields (fault.Fields k) fault.Header f g = absurd g
-one_faulty version spans number fields (fault.Fields k) (fault.Fields l) f g = ap fault.Fields (f.0 ∙ sym g.0)
-one_faulty version spans number fields (fault.Fields k) (fault.Number l j) f g = absurd (f.1 g.1)
-one_faulty version spans number fields (fault.Fields k) (fault.Order l) f g = absurd (f.1 g.2.says.count)
-one_faulty version spans number fields (fault.Number k i) fault.Header f g = absurd g
-one_faulty version spans number fields (fault.Number k i) (fault.Fields l) f g = absurd (g.1 f.1)
-one_faulty version spans number fields (fault.Number k i) (fault.Number l j) f g =
-    let column : i ≡ j = same_least i j (λ lt. f.2.faulty (g.2.before i lt)) (λ lt. g.2.faulty (f.2.before j lt)) in
-    ap (λ (n : ℕ). fault.Number n i) (f.0 ∙ sym g.0) ∙ ap (fault.Number l) column
-one_faulty version spans number fields (fault.Number k i) (fault.Order l) f g =
-    let count = f.1 in
-    let there = f.2.there in
-    absurd (f.2.faulty (sound_field version fields g.1 g.2 i (subst (λ (n : ℕ). i < n) count there)))
-one_faulty version spans number fields (fault.Order k) fault.Header f g = absurd g
-one_faulty version spans number fields (fault.Order k) (fault.Fields l) f g = absurd (g.1 f.2.says.count)
-one_faulty version spans number fields (fault.Order k) (fault.Number l j) f g =
-    let count = g.1 in
-    let there = g.2.there in
-    absurd (g.2.faulty (sound_field version fields f.1 f.2 j (subst (λ (n : ℕ). j < n) count there)))
-one_faulty version spans number fields (fault.Order k) (fault.Order l) f g = ap fault.Order (f.0 ∙ sym g.0)
-
--- ---- all records
-
--- a record with a lower number isn't faulty
-not_earlier : (bytes : List ℕ) (told other : TableFault) → (f : HasFaultyPathRecord bytes told) → (g : HasFaultyPathRecord bytes other)
-    → length f.records < length g.records → ⊥
-not_earlier bytes told other f g lt =
-    let front = stands_before bytes f.records g.records f.fields g.fields f.begins g.begins lt in
-    faulty_none f.version g.version f.records front.0 f.fields f.spans g.spans told f.table f.faulty
-    (subst (λ (records : List Fields). IsPathTable g.version records g.spans) front.1 g.table)
-
-one_record : (bytes : List ℕ) (told other : TableFault) → HasFaultyPathRecord bytes told → HasFaultyPathRecord bytes other → told ≡ other
-one_record bytes told other f g =
-    let number : length f.records ≡ length g.records = same_least (length f.records) (length g.records)
-    (λ lt. not_earlier bytes told other f g lt) (λ lt. not_earlier bytes other told g f lt) in
-    let same = one_end bytes f.records g.records f.fields g.fields f.begins g.begins number in
-    let tables = one_of g.records f.version g.version f.spans g.spans
-    (subst (λ (records : List Fields). IsPathTable f.version records f.spans) same.0 f.table) g.table in
-    let moved : IsFaultyRecord g.version g.spans (length g.records) g.fields told =
-    subst (λ (v : PathVersion). IsFaultyRecord v g.spans (length g.records) g.fields told) tables.0
-    (subst (λ (spans : List PathSpan). IsFaultyRecord f.version spans (length g.records) g.fields told) tables.1
-    (subst (λ (fields : Fields). IsFaultyRecord f.version f.spans (length g.records) fields told) same.1
-    (subst (λ (n : ℕ). IsFaultyRecord f.version f.spans n f.fields told) number f.faulty))) in
-    one_faulty g.version g.spans (length g.records) g.fields told other moved g.faulty
-
-no_header : (bytes : List ℕ) (told : TableFault) → ((version : PathVersion) → BeginsWith bytes (path_column_names version ∷ []) → ⊥)
-    → HasFaultyPathRecord bytes told → ⊥
-no_header bytes told none f = none f.version (faulty_path_begins bytes told f)
-
-pub one_fault : OnePathFault
-one_fault bytes fault.Header fault.Header f g = refl
-one_fault bytes fault.Header (fault.Fields l) f g = absurd (no_header bytes (fault.Fields l) f g)
-one_fault bytes fault.Header (fault.Number l j) f g = absurd (no_header bytes (fault.Number l j) f g)
-one_fault bytes fault.Header (fault.Order l) f g = absurd (no_header bytes (fault.Order l) f g)
-one_fault bytes (fault.Fields k) fault.Header f g = absurd (no_header bytes (fault.Fields k) g f)
-one_fault bytes (fault.Fields k) (fault.Fields l) f g = one_record bytes (fault.Fields k) (fault.Fields l) f g
-one_fault bytes (fault.Fields k) (fault.Number l j) f g = one_record bytes (fault.Fields k) (fault.Number l j) f g
-one_fault bytes (fault.Fields k) (fault.Order l) f g = one_record bytes (fault.Fields k) (fault.Order l) f g
-one_fault bytes (fault.Number k i) fault.Header f g = absurd (no_header bytes (fault.Number k i) g f)
-one_fault bytes (fault.Number k i) (fault.Fields l) f g = one_record bytes (fault.Number k i) (fault.Fields l) f g
-one_fault bytes (fault.Number k i) (fault.Number l j) f g = one_record bytes (fault.Number k i) (fault.Number l j) f g
-one_fault bytes (fault.Number k i) (fault.Order l) f g = one_record bytes (fault.Number k i) (fault.Order l) f g
-one_fault bytes (fault.Order k) fault.Header f g = absurd (no_header bytes (fault.Order k) g f)
-one_fault bytes (fault.Order k) (fault.Fields l) f g = one_record bytes (fault.Order k) (fault.Fields l) f g
-one_fault bytes (fault.Order k) (fault.Number l j) f g = one_record bytes (fault.Order k) (fault.Number l j) f g
-one_fault bytes (fault.Order k) (fault.Order l) f g = one_record bytes (fault.Order k) (fault.Order l) f g
 
 -- ---- the least difference
 

@@ -29,15 +29,15 @@ use Rattle.lnt_paths.specs.declared.version.PathVersion.{PathVersion}
 use Rattle.lnt_paths.specs.declared.version.PathVersion.TheVariants.{Three, Four}
 use Rattle.lnt_paths.specs.Joining.{IsPlainByte}
 use Rattle.lnt_paths.specs.Merging.{IsMerged, JudgesByPath}
-use Rattle.lnt_paths.specs.Passing.{GoesOnAs, HasTaken, IsAfter, IsAfterFront, IsPathBefore, IsPathLine, IsPlace}
+use Rattle.lnt_paths.specs.Passing.{GoesOnAs, HasTaken, IsAfter, IsPathBefore, IsPathLine, IsPlace}
 use Rattle.lnt_paths.specs.PathAnswers.{PathAnswer}
 use Rattle.lnt_paths.specs.PathSpans.{PathSpan, whole}
 use Rattle.lnt_paths.specs.PathFaults.{IsFaultyRecord, IsPathFault}
-use Rattle.lnt_paths.specs.PathTables.{IsPathTable, SaysPath, path_column_names}
+use Rattle.lnt_paths.specs.PathTables.{IsPathTable, SaysPath, by_path, path_column_names}
 use Rattle.lnt_paths.specs.Reading.{record_answer, record_span}
 use Rattle.lnt_records.specs.declared.fault.TableFault.{TableFault}
-use Rattle.lnt_paths.proofs.ComparisonLemmas.{begins, fault_told, record_taken}
-use Rattle.lnt_paths.proofs.FrontLemmas.{faulty_as, names_narrow, narrow, table_narrow}
+use Rattle.lnt_paths.proofs.ComparisonLemmas.{record_taken}
+use Rattle.lnt_paths.proofs.OneTableLemmas.{pathed}
 use Rattle.lnt_paths.proofs.LineLemmas.{line_fields, names_some, quiet_by_recursion}
 
 -- ---- parts of a line
@@ -252,20 +252,6 @@ reached_on bytes text records more first after left h r =
     reached_both st.StartRecord h.after after (strip_bom bytes) h.rest left records more h.goes_on.reached
     (after_first st.StartRecord h.after after (strip_bom text) h.rest left h.goes_on.last first more h.goes_on.text_reached r)
 
-pub all_on : (bytes front : List ℕ) (records more : List Fields) (first : Fields) (version : PathVersion) (table : List PathSpan)
-    → IsAfterFront bytes front records → RecordsOf front (first ∷ more) → IsPathTable version (records ++ more) table
-    → RecordsOf bytes (records ++ more)
-all_on bytes front records more first version table h all is_table =
-    let last = h.2.goes_on.last in
-    let kept = h.1.first last h.2.goes_on.narrow (h.2.after, h.2.rest, h.2.goes_on.text_reached) in
-    let same : last ≡ first = first_same front last first kept (records_begin front first more all) in
-    let whole = h.1.all (first ∷ more) all (subst IsNarrow same h.2.goes_on.narrow, table_narrow version records more table is_table) in
-    (whole.0, whole.1, reached_on bytes h.0 records more first whole.0 whole.1 h.2 whole.2, whole.3)
-
-pub begins_on : (bytes text : List ℕ) (records more : List Fields) (first : Fields) → IsAfter bytes text records
-    → BeginsWith text (first ∷ more) → BeginsWith bytes (records ++ more)
-begins_on bytes text records more first h b = (b.0, b.1, reached_on bytes text records more first b.0 b.1 h b.2)
-
 -- ---- the lines so far
 
 header_mark : (version : PathVersion) (rest : List ℕ) → strip_bom (row_text default_writer (path_column_names version) ++ rest)
@@ -291,7 +277,7 @@ header_passed version bytes header rest e f =
     ap (λ (t : List ℕ). next_record default_config st.StartRecord [] [] t) plain ∙ read-write names rest
     ∙ ap (λ (r : Fields). Some (r, st.StartRecord, rest)) (sym (same_back names (names_some version))) in
     let reached = one_reached (strip_bom bytes) rest names read in
-    record { last = names; reached = reached; text_reached = reached; narrow = names_narrow version }
+    record { last = names; reached = reached; text_reached = reached; narrow = pathed.narrow version }
 
 -- one more line was passed
 pub line_passed : (version : PathVersion) (said : PathRecord) (bytes text next rest : List ℕ) (records : List Fields)
@@ -303,44 +289,10 @@ line_passed version said bytes text next rest records h l =
       last = l.fields;
       reached = reached_both st.StartRecord st.StartRecord st.StartRecord (strip_bom bytes) next rest records (l.fields ∷ []) h.reached one;
       text_reached = rw (line_unmarked version said next rest l) one;
-      narrow = narrow version l.fields l.says.count;
+      narrow = let few = pathed.narrow version in omega (arith, few, l.says.count);
     }
 
--- ---- records that `csv` reads past the text's first one
-
-pub judges_nil : {S : Type 0} (to_come : S → List Span → Type 0) (tell : Answer → PathAnswer) (version : PathVersion)
-    (comparison : PathComparison S) (list : List Span) (records : List Fields) → JudgesByPath to_come tell version comparison list records
-    → JudgesByPath to_come tell version comparison list (records ++ [])
-judges_nil to_come tell version comparison list records j =
-    subst (λ (r : List Fields). JudgesByPath to_come tell version comparison list r) (sym (append-nil records)) j
-
-pub judges_more : {S : Type 0} (to_come : S → List Span → Type 0) (tell : Answer → PathAnswer) (version : PathVersion)
-    (comparison : PathComparison S) (list : List Span) (records more : List Fields) (fields : Fields)
-    → JudgesByPath to_come tell version comparison list ((records ++ more) ++ fields ∷ [])
-    → JudgesByPath to_come tell version comparison list (records ++ (more ++ fields ∷ []))
-judges_more to_come tell version comparison list records more fields j =
-    subst (λ (r : List Fields). JudgesByPath to_come tell version comparison list r) (append_assoc records more (fields ∷ [])) j
-
-pub fault_on : (reader : BytesReader) (bytes front : List ℕ) (records more : List Fields) (first fields : Fields) (version : PathVersion)
-    (table : List PathSpan) (told : TableFault) → IsAfterFront bytes front records
-    → HasRead reader front (first ∷ (more ++ fields ∷ [])) → IsPathTable version (records ++ more) table
-    → IsFaultyRecord version table (length (records ++ more)) fields told → IsPathFault bytes told
-fault_on reader bytes front records more first fields version table told past read is_table faulty =
-    let begun = past.1.begins (first ∷ more) fields (begins reader front (first ∷ (more ++ fields ∷ [])) read) in
-    let all : BeginsWith bytes ((records ++ more) ++ begun.0 ∷ []) =
-    subst (λ (r : List Fields). BeginsWith bytes r) (sym (append_assoc records more (begun.0 ∷ [])))
-    (begins_on bytes past.0 records (more ++ begun.0 ∷ []) first past.2 begun.2) in
-    fault_told bytes version (records ++ more) begun.0 table told all is_table
-    (faulty_as version table (length (records ++ more)) fields begun.0 told begun.1 faulty)
-
--- the text has a first record
-pub first_there : (reader : BytesReader) (bytes front : List ℕ) (records : List Fields) (fields : Fields) (found : Bool)
-    → IsAfterFront bytes front records
-    → MatchBool found (HasRead reader front (fields ∷ [])) (RecordsOf front []) → HasRead reader front (fields ∷ [])
-first_there reader bytes front records fields true b h = h
-first_there reader bytes front records fields false b h =
-    absurd (no_record front b.2.goes_on.last h
-    (b.1.first b.2.goes_on.last b.2.goes_on.narrow (b.2.after, b.2.rest, b.2.goes_on.text_reached)))
+-- ---- the text that is left for `csv`
 
 -- the text is a slice of the bytes
 pub after_slice : (bytes : List ℕ) (at : ℕ) (records : List Fields) → IsAfter bytes (drop at bytes) records
@@ -401,28 +353,3 @@ stands_more to_come tell version old now new table before at next last said h li
       within = omega (arith, shorter, length-drop at table);
       plain = plain;
     }
-
--- ---- the version whose columns record 0 names
-
-pub header_found : (found : Option PathVersion) (bytes : List ℕ) (fields : Fields) (reader : BytesReader)
-    → HasRead reader bytes (fields ∷ []) × ((other : Fields) → BeginsWith bytes (other ∷ []) → other ≡ fields)
-    → MatchOption found ((v : PathVersion) → fields ≢ path_column_names v) (λ v. fields ≡ path_column_names v)
-    → MatchOption found ((v : PathVersion) → BeginsWith bytes (path_column_names v ∷ []) → ⊥)
-    (λ v. HasRead reader bytes (path_column_names v ∷ []))
-header_found None bytes fields reader first other = λ v x. other v (sym (first.1 (path_column_names v) x))
-header_found (Some v) bytes fields reader first same =
-    subst (λ (names : Fields). HasRead reader bytes (names ∷ [])) same first.0
-
--- bytes whose record 0 has more fields than any table has columns
-pub wide_header : (bytes : List ℕ) → ((fields : Fields) → BeginsWith bytes (fields ∷ []) → 11 < length fields) → (v : PathVersion)
-    → BeginsWith bytes (path_column_names v ∷ []) → ⊥
-wide_header bytes wide Three begins = absurd (omega (arith, wide (path_column_names Three) begins))
-wide_header bytes wide Four begins = absurd (omega (arith, wide (path_column_names Four) begins))
-
-pub header_begins : (found : Option PathVersion) (bytes : List ℕ) (reader : BytesReader)
-    → MatchOption found ((v : PathVersion) → BeginsWith bytes (path_column_names v ∷ []) → ⊥)
-    (λ v. HasRead reader bytes (path_column_names v ∷ []))
-    → MatchOption found ((v : PathVersion) → BeginsWith bytes (path_column_names v ∷ []) → ⊥)
-    (λ v. BeginsWith bytes (path_column_names v ∷ []))
-header_begins None bytes reader none = none
-header_begins (Some v) bytes reader read = begins reader bytes (path_column_names v ∷ []) read

@@ -7,7 +7,7 @@ use Rattle.csv.specs.declared.parser.State.{State}
 use Rattle.csv.specs.declared.parser.State.TheVariants as state
 use Rattle.lnt_digits.specs.Digits.{IsAddress, IsDecimal}
 use Rattle.lnt_digits.specs.Delimited.{Begins}
-use Rattle.lnt_records.specs.Reading.{IsNarrow, IsReadFor}
+use Rattle.lnt_records.specs.Reading.{IsNarrow}
 use Rattle.lnt_records.specs.Table.{Fields}
 use Rattle.lnt_spans.specs.declared.answer.Answer.{Answer}
 use Rattle.lnt_spans.specs.declared.span.Span.{Span}
@@ -56,10 +56,6 @@ pub record IsAfter (bytes text : List ℕ) (records : List Fields) : Type 0 wher
   pub after : State
   pub rest : List ℕ
   pub goes_on : GoesOnAs bytes text records after rest
-
--- The same for a text of which this prefix is read.
-abbrev pub IsAfterFront : List ℕ → List ℕ → List Fields → Type 0
-IsAfterFront bytes front records = (text : List ℕ) × IsReadFor front text × IsAfter bytes text records
 
 -- From the header on, the comparison took the records up to the text: one for each line.
 pub record HasTaken {S : Type 0} (to_come : S → List Span → Type 0) (tell : Answer → PathAnswer) (version : PathVersion)

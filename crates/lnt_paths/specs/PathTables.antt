@@ -1,8 +1,8 @@
 -- An address table by path, in terms of the records that `csv` reads from its bytes.
 use Rattle.std.specs.Prelude.{◌≡◌, ℕ, List, [], ◌∷◌, Option, Some, None, length, get_or, codes}
-use Rattle.std.specs.List.{AllZip}
 use Rattle.lnt_digits.specs.Digits.{IsAddress, IsDecimal}
-use Rattle.lnt_records.specs.Table.{Fields, RecordsOf}
+use Rattle.lnt_records.specs.Table.Kind.{address, decimal, text}
+use Rattle.lnt_records.specs.Table.{Fields, IsTableIn, IsTableOfIn, Kind, TableFormat}
 use Rattle.lnt_paths.specs.declared.version.PathVersion.{PathVersion}
 use Rattle.lnt_paths.specs.declared.version.PathVersion.TheVariants.{Three, Four}
 use Rattle.lnt_paths.specs.PathAnswers.{PathAnswer}
@@ -14,8 +14,10 @@ path_column_names Three = codes "low" ∷ codes "high" ∷ codes "path" ∷ code
 path_column_names Four = codes "low" ∷ codes "high" ∷ codes "path" ∷ codes "line" ∷ []
 
 abbrev pub path_column_count : PathVersion → ℕ
-path_column_count Three = 5
-path_column_count Four = 4
+path_column_count version = length (path_column_names version)
+
+abbrev pub path_kinds : List Kind
+path_kinds = address ∷ address ∷ text ∷ decimal ∷ decimal ∷ []
 
 -- the column, which only version 3 has
 abbrev pub SaysColumn : (List ℕ → ℕ → Type 0) → PathVersion → Fields → Option ℕ → Type 0
@@ -44,16 +46,12 @@ IsPathRecord version fields span = SaysPathSpan IsAddress IsDecimal version fiel
 
 -- ---- a table
 
--- each record is that of its span, and the spans are in order, none empty
-pub record ArePathSpans (version : PathVersion) (records : List Fields) (spans : List PathSpan) : Type 0 where
-  pub each : AllZip (IsPathRecord version) records spans
-  pub in_order : StandInOrder spans
+abbrev pub by_path : TableFormat PathVersion PathSpan
+by_path = record { names = path_column_names; columns = path_kinds; Says = IsPathRecord; InOrder = StandInOrder }
 
--- the header, and a record for each span
 abbrev pub IsPathTable : PathVersion → List Fields → List PathSpan → Type 0
-IsPathTable version [] spans = ⊥
-IsPathTable version (first ∷ records) spans = (first ≡ path_column_names version) × ArePathSpans version records spans
+IsPathTable version records spans = IsTableIn by_path version records spans
 
 -- The bytes are a table of these spans.
 abbrev pub IsPathTableOf : PathVersion → List ℕ → List PathSpan → Type 0
-IsPathTableOf version bytes spans = (records : List Fields) × RecordsOf bytes records × IsPathTable version records spans
+IsPathTableOf version bytes spans = IsTableOfIn by_path version bytes spans

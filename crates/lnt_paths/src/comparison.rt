@@ -3,14 +3,14 @@ ghost use Rattle.std.specs.Prelude.{◌≡◌, ◌+◌, ◌^◌, ◌<◌, ◌≤
 ghost use Rattle.std.specs.Option.{option_map};
 ghost use Rattle.csv.specs.Records.{fields_of};
 ghost use Rattle.lnt_spans.specs.Remaining.{SpansAreLeft};
-ghost use Rattle.lnt_records.specs.Reading.{HasRead};
+ghost use Rattle.lnt_records.specs.Reading.{IsNarrow};
 ghost use Rattle.lnt_records.specs.Table.{BeginsWith, Fields};
 ghost use Rattle.lnt_spans.specs.declared.position.Position as position;
 ghost use Rattle.lnt_spans.specs.declared.span.Span as spec;
 ghost use Rattle.lnt_spans.specs.Spans.{AreInOrder};
 ghost use Rattle.lnt_paths.specs.declared.version.PathVersion.{PathVersion};
 ghost use Rattle.lnt_paths.specs.Merging.{AreKnownOf, IsMerged, JudgesByPath, table_side};
-ghost use Rattle.lnt_paths.specs.Passing.{IsAfter, IsAfterFront};
+ghost use Rattle.lnt_paths.specs.Passing.{IsAfter};
 ghost use Rattle.lnt_paths.specs.PathAnswers.{answer_told, path_answer, spans_by_path};
 ghost use Rattle.lnt_paths.specs.PathDifferences.{IsLeastPathDifference, IsPathComparison, told_path_answer};
 ghost use Rattle.lnt_paths.specs.PathFaults.{IsFaultyRecord};
@@ -19,14 +19,13 @@ ghost use Rattle.lnt_paths.specs.PathTables.{IsPathTable, path_column_names};
 ghost use Rattle.lnt_paths.specs.Reading.{record_answer, record_span};
 
 use crate::answer::{AnswerByPath, ComparedByPath, DifferenceByPath};
-use crate::header::read_header;
 use crate::known::KnownPaths;
 use crate::merge::{Apart, Section, column_in, first_apart};
 use crate::paths::Paths;
 use crate::record::{PathRecord, record_after};
 use crate::version::PathVersion;
-use csv::{ByteRecord, Reader};
-use lnt_records::{TableFault, begins_wide, read_next, reader_of, up_to_wide};
+use csv::ByteRecord;
+use lnt_records::{TableFault, TakesRecords, header_of, take_records};
 use lnt_spans::{Answer, SpanSource};
 use std::alloc::{AllocError, Global};
 
@@ -49,7 +48,7 @@ pub fn compare_by_path<S: SpanSource + Drop, P: Paths>(
     ensures { IfOk result (λ compared. (list : List spec.Span) → S.to_come spans list → AreInOrder list
         → IsPathComparison table.now (λ version. spans_by_path version (P.bytes_of paths.now) list) compared) }
 {
-    let Some(version) = header_of(alloc, table)? else {
+    let Some(version) = header_of::<PathVersion>(alloc, table)? else {
         return Ok(ComparedByPath::Fault(TableFault::Header));
     };
     let Ok(mut comparison) = PathComparison::new(alloc, spans) else {
@@ -61,24 +60,7 @@ pub fn compare_by_path<S: SpanSource + Drop, P: Paths>(
     compare_after(alloc, &table[at..], version, comparison, paths)
 }
 
-// The version whose columns record 0 names, if it is a header. A function of its own, never inlined: a reader of records is
-// large, the stack is short, and no caller should hold it beside its own values.
-#[inline(never)]
-fn header_of(alloc: Global, table: &[u8]) -> Result<Option<PathVersion>, AllocError>
-    ensures { IfOk result (λ found. MatchOption found ((v : PathVersion) → BeginsWith table.now (path_column_names v ∷ []) → ⊥)
-        (λ v. BeginsWith table.now (path_column_names v ∷ []))) }
-{
-    if begins_wide(alloc, table)? {
-        return Ok(None);
-    }
-    let mut reader = reader_of(alloc, table);
-    let mut row = ByteRecord::new(alloc);
-    read_header(&mut reader, &mut row)
-}
-
-// Compares the records of a text after its first one, as `csv` reads them, with the spans that a section has left. Not
-// inlined, since it holds a reader, as `header_of` does.
-#[inline(never)]
+// Compares the records of a text after its first one, as `csv` reads them, with the spans that a section has left.
 fn compare_after<S: SpanSource + Drop, P: Paths>(
     alloc: Global,
     text: &[u8],
@@ -93,48 +75,49 @@ fn compare_after<S: SpanSource + Drop, P: Paths>(
         → JudgesByPath S.to_come (path_answer version (P.bytes_of paths.now)) version comparison list records
         → IsPathComparison bytes (λ version. spans_by_path version (P.bytes_of paths.now) list) compared) }
 {
-    let mut reader = reader_of(alloc, up_to_wide(alloc, text)?);
-    let mut row = ByteRecord::new(alloc);
-    compare_records(
+    let taker = PathTaker {
         alloc,
-        &mut reader,
-        &mut row,
-        version,
-        &mut comparison,
         paths,
-    )
-}
-
-// Compares the remaining records of the reader except the first one, each read into `row`.
-fn compare_records<S: SpanSource + Drop, P: Paths>(
-    alloc: Global,
-    reader: &mut Reader<&[u8]>,
-    row: &mut ByteRecord,
-    version: PathVersion,
-    comparison: &mut PathComparison<S>,
-    paths: &P,
-) -> Result<ComparedByPath, AllocError>
-    requires known { AreKnownOf (P.bytes_of paths.now) comparison.old.known.slots.items }
-    requires past { (text bytes : List ℕ) × (records : List Fields) × HasRead reader.old text [] × IsAfterFront bytes text records
-        × (comparison.old.count + length text < 2 ^ 64 + 1) }
-    ensures { IfOk result (λ compared. (text bytes : List ℕ) (records : List Fields) (list : List spec.Span)
-        → HasRead reader.old text [] → IsAfterFront bytes text records
-        → JudgesByPath S.to_come (path_answer version (P.bytes_of paths.now)) version comparison.old list records
-        → IsPathComparison bytes (λ version. spans_by_path version (P.bytes_of paths.now) list) compared) }
-{
-    read_next(reader, row)?;
-    while read_next(reader, row)? {
-        let Ok(found) = comparison.take_record(alloc, paths, version, row) else {
-            return Err(AllocError);
-        };
-        if let Some(fault) = found {
-            return Ok(ComparedByPath::Fault(fault));
-        }
+        version,
+    };
+    if let Some(fault) = take_records(alloc, text, &taker, &mut comparison)? {
+        return Ok(ComparedByPath::Fault(fault));
     }
     match comparison.finish(alloc, paths, version) {
         Ok(Some(difference)) => Ok(ComparedByPath::Differs(difference)),
         Ok(None) => Ok(ComparedByPath::Same),
         Err(_) => Err(AllocError),
+    }
+}
+
+// How the records of a table by path are taken: for a section with these paths, and in this version.
+#[derive(Drop)]
+struct PathTaker<'a, P> {
+    alloc: Global,
+    paths: &'a P,
+    version: PathVersion,
+}
+
+impl<'a, S: SpanSource + Drop, P: Paths> TakesRecords<PathComparison<S>> for PathTaker<'a, P> {
+    ghost use Rattle.std.specs.Prelude.{◌≡◌};
+    ghost use Rattle.lnt_paths.specs.Merging.{AreKnownOf, JudgesByPath};
+    ghost use Rattle.lnt_paths.specs.PathAnswers.{path_answer};
+    ghost use Rattle.lnt_paths.specs.PathFaults.{IsPathFault};
+
+    ghost has_taken = { λ taker comparison count. AreKnownOf (P.bytes_of taker.paths.now) comparison.known.slots.items
+        × (comparison.count ≡ count) };
+
+    ghost judges = { λ taker comparison section records.
+        JudgesByPath S.to_come (path_answer taker.version (P.bytes_of taker.paths.now)) taker.version comparison section records };
+
+    ghost is_fault = { λ taker bytes fault. IsPathFault bytes fault };
+
+    fn take(
+        &self,
+        comparison: &mut PathComparison<S>,
+        row: &ByteRecord,
+    ) -> Result<Option<TableFault>, AllocError> {
+        comparison.take_record(self.alloc, self.paths, self.version, row)
     }
 }
 
@@ -218,6 +201,7 @@ impl<S: SpanSource + Drop> PathComparison<S> {
         requires known { AreKnownOf (P.bytes_of paths.now) self.old.known.slots.items }
         requires few { self.old.count + 1 < 2 ^ 64 }
         ensures known { OnOk result (AreKnownOf (P.bytes_of paths.now) self.new.known.slots.items) }
+        ensures narrow { IfOk result (λ found. MatchOption found (IsNarrow (fields_of row.now)) (λ _. Unit {0})) }
         ensures judged { IfOk result (λ found. (list : List spec.Span) (records : List Fields)
             → JudgesByPath S.to_come (path_answer version (P.bytes_of paths.now)) version self.old list records
             → MatchOption found (JudgesByPath S.to_come (path_answer version (P.bytes_of paths.now)) version self.new list

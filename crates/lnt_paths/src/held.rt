@@ -2,20 +2,19 @@
 ghost use Rattle.std.specs.Prelude.{◌≡◌, ℕ, List, [], ◌∷◌, ◌++◌, length, map, IfOk, MatchOption};
 ghost use Rattle.csv.specs.Records.{fields_of};
 ghost use Rattle.lnt_paths.specs.PathSpans.{whole};
-ghost use Rattle.lnt_records.specs.Reading.{HasRead};
+ghost use Rattle.lnt_records.specs.Reading.{IsNarrow};
 ghost use Rattle.lnt_records.specs.Table.{Fields};
 ghost use Rattle.lnt_paths.specs.Held.{HoldsInOrder, IsHeld, held_span};
 ghost use Rattle.lnt_paths.specs.Merging.{path_end};
 ghost use Rattle.lnt_paths.specs.PathFaults.{IsFaultyRecord};
-ghost use Rattle.lnt_paths.specs.PathTables.{IsPathTable, path_column_names};
+ghost use Rattle.lnt_paths.specs.PathTables.{IsPathTable};
 
 use crate::answer::AnswerByPath;
 use crate::comparison::said_of;
-use crate::header::read_header;
 use crate::record::record_after;
 use crate::version::PathVersion;
-use csv::{ByteRecord, Reader};
-use lnt_records::{TableFault, read_next, reader_of, up_to_wide};
+use csv::ByteRecord;
+use lnt_records::{TableFault, TakesRecords, header_of, take_records};
 use std::alloc::{AllocError, Global};
 
 /// A span of a table by path, held in memory with its answer.
@@ -42,52 +41,47 @@ pub enum HeldTable {
 /// `Table`: the bytes are a table by path of that version, and these are all of its spans. `Fault`: the bytes are not such a
 /// table; the first faulty record is reported, as `compare_by_path` reports it. All records are read by `csv`. The spans
 /// held are in order. Fails only if memory runs out; then nothing is held.
-#[inline(never)]
 pub fn hold_table(alloc: Global, table: &[u8]) -> Result<HeldTable, AllocError>
     ensures held { IfOk result (λ held. IsHeld table.now held) }
     ensures in_order { IfOk result HoldsInOrder }
 {
-    // The reader is large and the stack is short: no caller should hold it beside its own values.
-    let mut reader = reader_of(alloc, up_to_wide(alloc, table)?);
-    let mut row = ByteRecord::new(alloc);
-    hold_read(alloc, &mut reader, &mut row)
-}
-
-// Holds the table of a reader that has read nothing yet, each record read into `row`.
-fn hold_read(
-    alloc: Global,
-    reader: &mut Reader<&[u8]>,
-    row: &mut ByteRecord,
-) -> Result<HeldTable, AllocError>
-    requires { (bytes : List ℕ) × HasRead reader.old bytes [] }
-    ensures { IfOk result (λ held. (bytes : List ℕ) → HasRead reader.old bytes [] → IsHeld bytes held) }
-{
-    let Some(version) = read_header(reader, row)? else {
+    let Some(version) = header_of::<PathVersion>(alloc, table)? else {
         return Ok(HeldTable::Fault(TableFault::Header));
     };
-    hold_records(alloc, reader, row, version)
+    let mut spans = Vec::new(alloc);
+    let holder = Holder { alloc, version };
+    match take_records(alloc, table, &holder, &mut spans)? {
+        Some(fault) => Ok(HeldTable::Fault(fault)),
+        None => Ok(HeldTable::Table(version, spans)),
+    }
 }
 
-// Holds the records that the reader has left after the header.
-fn hold_records(
+// How the records of a table by path are held: those of this version.
+#[derive(Drop)]
+struct Holder {
     alloc: Global,
-    reader: &mut Reader<&[u8]>,
-    row: &mut ByteRecord,
     version: PathVersion,
-) -> Result<HeldTable, AllocError>
-    requires { (text : List ℕ) × HasRead reader.old text (path_column_names version ∷ []) }
-    ensures { IfOk result (λ held. (text : List ℕ) → HasRead reader.old text (path_column_names version ∷ []) → IsHeld text held) }
-{
-    let mut spans = Vec::new(alloc);
-    while read_next(reader, row)? {
-        let Ok(found) = hold_record(alloc, &mut spans, version, row) else {
-            return Err(AllocError);
-        };
-        if let Some(fault) = found {
-            return Ok(HeldTable::Fault(fault));
-        }
+}
+
+impl TakesRecords<Vec<HeldSpan>> for Holder {
+    ghost use Rattle.std.specs.Prelude.{map};
+    ghost use Rattle.lnt_paths.specs.Held.{held_span};
+    ghost use Rattle.lnt_paths.specs.PathFaults.{IsPathFault};
+    ghost use Rattle.lnt_paths.specs.PathTables.{IsPathTable};
+
+    ghost has_taken = { λ holder spans count. Unit {0} };
+
+    ghost judges = { λ holder spans section records. IsPathTable holder.version records (map held_span spans.items) };
+
+    ghost is_fault = { λ holder bytes fault. IsPathFault bytes fault };
+
+    fn take(
+        &self,
+        spans: &mut Vec<HeldSpan>,
+        row: &ByteRecord,
+    ) -> Result<Option<TableFault>, AllocError> {
+        hold_record(self.alloc, spans, self.version, row)
     }
-    Ok(HeldTable::Table(version, spans))
 }
 
 // Holds the span of the next record after those of these spans, or gives its fault.
@@ -97,7 +91,8 @@ fn hold_record(
     version: PathVersion,
     row: &ByteRecord,
 ) -> Result<Option<TableFault>, AllocError>
-    ensures { IfOk result (λ found. (records : List Fields) → IsPathTable version records (map held_span spans.old.items)
+    ensures narrow { IfOk result (λ found. MatchOption found (IsNarrow (fields_of row.now)) (λ _. Unit {0})) }
+    ensures held { IfOk result (λ found. (records : List Fields) → IsPathTable version records (map held_span spans.old.items)
         → MatchOption found (IsPathTable version (records ++ fields_of row.now ∷ []) (map held_span spans.new.items))
         (λ fault. IsFaultyRecord version (map held_span spans.old.items) (length records) (fields_of row.now) fault)) }
 {

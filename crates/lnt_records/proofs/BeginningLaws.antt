@@ -4,11 +4,9 @@ use Rattle.csv.specs.Machine.{Read}
 use Rattle.csv.specs.Reading.{Reached, default_config, strip_bom}
 use Rattle.csv.specs.declared.parser.State.{State}
 use Rattle.csv.specs.declared.parser.State.TheVariants as state
-use Rattle.lnt_spans.specs.declared.answer.Version.{Version}
-use Rattle.lnt_spans.specs.declared.span.Span.{Span}
 use Rattle.lnt_records.specs.declared.fault.TableFault.{TableFault}
-use Rattle.lnt_records.specs.Faults.{HasFaultyRecord}
-use Rattle.lnt_records.specs.Table.{BeginsWith, Fields, IsTable, IsTableOf, RecordsOf, column_names}
+use Rattle.lnt_records.specs.Faults.{HasFaultyRecordIn}
+use Rattle.lnt_records.specs.Table.{BeginsWith, Fields, IsTableIn, IsTableOfIn, RecordsOf, TableFormat}
 
 -- a state reached after several records was reached through the first of them
 first_reached : (bytes : List ℕ) (first : Fields) (more : List Fields) (after : State) (left : List ℕ)
@@ -38,19 +36,21 @@ pub one_beginning : (bytes : List ℕ) (one other : Fields) → BeginsWith bytes
 one_beginning bytes one other h k = same_first (strip_bom bytes) one other h.0 k.0 h.1 k.1 h.2 k.2
 
 -- A table begins with the header of its version.
-pub table_begins : (bytes : List ℕ) (version : Version) (spans : List Span) → IsTableOf version bytes spans
-    → BeginsWith bytes (column_names version ∷ [])
-table_begins bytes version spans table = by table.0 table.1 table.2
+pub table_begins : {V X : Type 0} (format : TableFormat V X) (bytes : List ℕ) (version : V) (spans : List X)
+    → IsTableOfIn format version bytes spans → BeginsWith bytes (format.names version ∷ [])
+table_begins format bytes version spans table = by table.0 table.1 table.2
   where
-    by : (records : List Fields) → RecordsOf bytes records → IsTable version records spans → BeginsWith bytes (column_names version ∷ [])
+    by : (records : List Fields) → RecordsOf bytes records → IsTableIn format version records spans
+        → BeginsWith bytes (format.names version ∷ [])
     by [] r t = absurd t
     by (first ∷ records) r t = subst (λ (f : Fields). BeginsWith bytes (f ∷ [])) t.0 (records_begin bytes first records r)
 
 -- Bytes with a faulty record begin with a header too.
-pub faulty_begins : (bytes : List ℕ) (told : TableFault) → (h : HasFaultyRecord bytes told) → BeginsWith bytes (column_names h.version ∷ [])
-faulty_begins bytes told h = by h.records h.begins h.table
+pub faulty_begins : {V X : Type 0} (format : TableFormat V X) (bytes : List ℕ) (told : TableFault)
+    → (h : HasFaultyRecordIn format bytes told) → BeginsWith bytes (format.names h.version ∷ [])
+faulty_begins format bytes told h = by h.records h.begins h.table
   where
-    by : (records : List Fields) → BeginsWith bytes (records ++ h.fields ∷ []) → IsTable h.version records h.spans
-        → BeginsWith bytes (column_names h.version ∷ [])
+    by : (records : List Fields) → BeginsWith bytes (records ++ h.fields ∷ []) → IsTableIn format h.version records h.spans
+        → BeginsWith bytes (format.names h.version ∷ [])
     by [] b t = absurd t
     by (first ∷ records) b t = subst (λ (f : Fields). BeginsWith bytes (f ∷ [])) t.0 (first_begins bytes first (records ++ h.fields ∷ []) b)

@@ -1,7 +1,7 @@
 -- A front of some bytes that ends in a record with too many fields: its other records are those of the bytes.
 use Rattle.std.proofs.Common.{◌≡◌, ◌⊎◌, ◌∙◌, ℕ, ◌<◌, ◌≤◌, Bool, true, false, List, [], ◌∷◌, ◌++◌, Some, None, length}
 use Rattle.std.proofs.Common.{length-append, refl, sym, ap, subst, arith, inl, inr}
-use Rattle.std.specs.List.{AllByRecursion, AllZip}
+use Rattle.std.specs.List.{AllByRecursion}
 use Rattle.std.specs.Prelude.{if◌then◌else◌}
 use Rattle.csv.specs.Machine.{Read, ends_at_end, field_after, fields_after, is_end, next_record, step}
 use Rattle.csv.specs.Reading.{Reached, default_config, strip_bom}
@@ -213,15 +213,6 @@ front_read front bytes f long ends = record {
       omega (arith, ends.wide, last_narrow ends.records ends.last (subst (AllByRecursion IsNarrow) same narrow))
       );
 }
-
--- the records of a table
-pub all_narrow : {X : Type 0} (Says : Fields → X → Type 0) → ((fields : Fields) (x : X) → Says fields x → IsNarrow fields)
-    → (passed more : List Fields) (xs : List X) → AllZip Says (passed ++ more) xs → AllByRecursion IsNarrow more
-all_narrow Says few [] [] xs z = tt
-all_narrow Says few [] (fields ∷ more) [] z = absurd z
-all_narrow Says few [] (fields ∷ more) (x ∷ xs) z = (few fields x z.0, all_narrow Says few [] more xs z.1)
-all_narrow Says few (fields ∷ passed) more [] z = absurd z
-all_narrow Says few (fields ∷ passed) more (x ∷ xs) z = all_narrow Says few passed more xs z.1
 
 -- ---- the last record so far
 

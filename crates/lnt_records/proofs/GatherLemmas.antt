@@ -23,78 +23,41 @@ use Rattle.lnt_records.specs.declared.remaining.Remaining.{Remaining}
 use Rattle.lnt_records.specs.Differing.{IsDiffering, IsStarted}
 use Rattle.lnt_records.specs.Progress.{IsContinuedBy, IsGathered}
 use Rattle.lnt_records.specs.declared.comparison.Comparison.{Comparison}
-use Rattle.lnt_records.specs.Passing.{IsCut, IsCutFront, LeavesOff}
-use Rattle.lnt_records.specs.Progress.{Judges}
+use Rattle.lnt_records.specs.Passing.{IsCut, LeavesOff}
+use Rattle.lnt_records.specs.Progress.{Gathers, Judges}
 use Rattle.lnt_records.specs.Reading.{BytesReader, HasRead}
-use Rattle.lnt_records.specs.Table.{BeginsWith, Fields, IsSpanRecord, IsTable, IsTableOf, RecordsOf, column_names}
-use Rattle.lnt_records.proofs.ComparisonLemmas.{HasCompared, Judged, all_after, zip_push}
-use Rattle.lnt_records.proofs.LawLemmas.{one_spans}
+use Rattle.lnt_records.specs.Table.{BeginsWith, Fields, IsSpanRecord, IsTable, IsTableOf, RecordsOf, by_number, column_names}
 use Rattle.lnt_records.proofs.PassingLemmas.{all_told, version_same}
+use Rattle.lnt_records.proofs.TableLaws.{table_order}
 
-zip_both : {A B : Type 0} (R : A → B → Type 0) (xs xs' : List A) (ys ys' : List B) → AllZip R xs ys → AllZip R xs' ys'
-    → AllZip R (xs ++ xs') (ys ++ ys')
-zip_both R [] xs' [] ys' z h = h
-zip_both R [] xs' (b ∷ ys) ys' z h = absurd z
-zip_both R (a ∷ xs) xs' [] ys' z h = absurd z
-zip_both R (a ∷ xs) xs' (b ∷ ys) ys' z h = (z.0, zip_both R xs xs' ys ys' z.1 h)
+-- ---- the records of a text
 
--- the spans of the records read after the header
-pub record HasGathered {S : Type 0} (to_come : S → List Span → Type 0) (reader : BytesReader) (text : List ℕ) (version : Version)
-    (old new : Comparison S) (spans : List Span) : Type 0 where
-  pub compared : HasCompared to_come reader text version old new
-  pub each : AllZip (IsSpanRecord version) compared.more spans
+-- no span was gathered yet
+pub gathers_none : {S : Type 0} (to_come : S → List Span → Type 0) (comparison : Comparison S) (list : List Span) (records : List Fields)
+    (spans : List Span) → (j : Judges to_come comparison list records) → spans ≡ [] → Gathers to_come comparison spans j.table records
+gathers_none to_come comparison list records spans j none =
+    record { section = list; judged = j; table_is = rw none (sym (append-nil j.table)) }
 
-pub gathered_all : {S : Type 0} (to_come : S → List Span → Type 0) (reader : BytesReader) (text bytes : List ℕ) (version : Version)
-    (old new : Comparison S) (spans list : List Span) (passed : List Fields)
-    → (h : HasGathered to_come reader text version old new spans) → (j : Judges to_come old list (column_names version ∷ passed))
-    → old.version ≡ version → IsCutFront version text bytes passed
-    → RecordsOf text (column_names version ∷ h.compared.more) → IsTableOf version bytes (j.table ++ spans)
-gathered_all to_come reader text bytes version old new spans list passed h j same cut rest =
-    let now = h.compared.judged list passed j in
-    let table : IsTable version (column_names version ∷ (passed ++ h.compared.more)) now.table =
-    subst (λ (v : Version). IsTable v (column_names version ∷ (passed ++ h.compared.more)) now.table) h.compared.version_is now.is_table in
-    let before : IsTable version (column_names version ∷ passed) j.table =
-    subst (λ (v : Version). IsTable v (column_names version ∷ passed) j.table) same j.is_table in
-    let spans_are = one_spans version (passed ++ h.compared.more) now.table (j.table ++ spans) table.1.each
-    (zip_both (IsSpanRecord version) passed h.compared.more j.table spans before.1.each h.each) in (
-      column_names version ∷ (passed ++ h.compared.more),
-      all_after text bytes version version passed h.compared.more now.table cut rest table,
-      subst (IsTable version (column_names version ∷ (passed ++ h.compared.more))) spans_are table,
-    )
-
-pub gathered_more : {S : Type 0} (to_come : S → List Span → Type 0) (before after : BytesReader) (text : List ℕ) (version : Version)
-    (first old new : Comparison S) (fields : Fields) (spans : List Span) (span : Span)
-    → (h : HasGathered to_come before text version first old spans)
-    → HasRead after text (column_names version ∷ (h.compared.more ++ fields ∷ [])) → new.version ≡ old.version
-    → Judged to_come old new fields
-    → IsSpanRecord old.version fields span → HasGathered to_come after text version first new (spans ++ span ∷ [])
-gathered_more to_come before after text version first old new fields spans span h read same step says = record {
-  compared = record {
-    more = h.compared.more ++ fields ∷ [];
-    read = read;
-    version_is = same ∙ h.compared.version_is;
-    judged = λ list passed j.
-        subst (λ (records : List Fields). Judges to_come new list (column_names version ∷ records))
-        (append_assoc passed h.compared.more (fields ∷ []))
-        (step list (column_names version ∷ (passed ++ h.compared.more)) (h.compared.judged list passed j));
-  };
-  each = zip_push (IsSpanRecord version) h.compared.more spans fields span h.each
-      (subst (λ (v : Version). IsSpanRecord v fields span) h.compared.version_is says);
+pub gathers_more : {S : Type 0} (to_come : S → List Span → Type 0) (old new : Comparison S) (spans pushed before : List Span)
+    (records : List Fields) (fields : Fields) (span : Span) → (h : Gathers to_come old spans before records)
+    → (j : Judges to_come new h.section (records ++ fields ∷ [])) → j.table ≡ h.judged.table ++ span ∷ [] → pushed ≡ spans ++ span ∷ []
+    → Gathers to_come new pushed before (records ++ fields ∷ [])
+gathers_more to_come old new spans pushed before records fields span h j table is = record {
+  section = h.section;
+  judged = j;
+  table_is = table ∙ ap (λ (t : List Span). t ++ span ∷ []) h.table_is ∙ append_assoc before spans (span ∷ [])
+      ∙ ap (λ (t : List Span). before ++ t) (sym is);
 }
 
-pub gathered_none : {S : Type 0} (to_come : S → List Span → Type 0) (reader : BytesReader) (text : List ℕ) (version : Version)
-    (comparison : Comparison S) (spans : List Span) → HasRead reader text (column_names version ∷ [])
-    → comparison.version ≡ version → spans ≡ [] → HasGathered to_come reader text version comparison comparison spans
-gathered_none to_come reader text version comparison spans read same none = rw none (record {
-  compared = record {
-    more = [];
-    read = read;
-    version_is = same;
-    judged = λ list passed j. subst (λ (records : List Fields). Judges to_come comparison list (column_names version ∷ records))
-        (sym (append-nil passed)) j;
-  };
-  each = tt;
-})
+pub gathered_all : {S : Type 0} (to_come : S → List Span → Type 0) (bytes : List ℕ) (version : Version) (comparison : Comparison S)
+    (spans before : List Span) (records : List Fields) → RecordsOf bytes records → comparison.version ≡ version
+    → Gathers to_come comparison spans before records → IsTableOf version bytes (before ++ spans)
+gathered_all to_come bytes version comparison spans before records all same h = (
+  records,
+  all,
+  subst (λ (v : Version). IsTable v records (before ++ spans)) same
+      (subst (IsTable comparison.version records) h.table_is h.judged.is_table),
+)
 
 -- ---- the stretches after the records that both sides begin with
 
@@ -107,11 +70,7 @@ version_told version bytes table t = by_records t.0 t.2
     by_records (first ∷ records) t = all_told version records table t.1.each
 
 pub version_order : (version : Version) (bytes : List ℕ) (table : List Span) → IsTableOf version bytes table → AreInOrder table
-version_order version bytes table t = by_records t.0 t.2
-  where
-    by_records : (records : List Fields) → IsTable version records table → AreInOrder table
-    by_records [] t = absurd t
-    by_records (first ∷ records) t = t.1.in_order
+version_order version bytes table t = table_order by_number version t.0 table t.2
 
 -- A merge that was given only the spans of the first lines has judged the records of these lines.
 pub judges_off : {S : Type 0} (to_come : S → List Span → Type 0) (P : List Span → Type 0) (merge : Merging S) (version : Version)

@@ -8,7 +8,6 @@ pub mod HeaderLaws
 pub mod JoinedLemmas
 pub mod LawLemmas
 pub mod LineLemmas
-pub mod OneFaultLemmas
 pub mod OneWrittenLaws
 pub mod PassingLemmas
 pub mod QuotingLaws
@@ -17,6 +16,8 @@ pub mod RecordLaws
 pub mod RecordLemmas
 pub mod SaidLemmas
 pub mod StreamLemmas
+pub mod TableLaws
+pub mod TakingLemmas
 pub mod TextLemmas
 pub mod VersionLaws
 pub mod WideLemmas

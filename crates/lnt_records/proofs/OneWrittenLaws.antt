@@ -73,7 +73,7 @@ same_column version xs ys span a b (suc (suc (suc (suc (suc (suc (suc (suc (suc 
 same_column version xs ys span a b (suc (suc (suc (suc (suc (suc (suc (suc (suc (suc zero)))))))))) lt =
     (same_more version xs ys span.answer.more a.more b.more (omega (arith, lt))).1
 same_column version xs ys span a b (suc (suc (suc (suc (suc (suc (suc (suc (suc (suc (suc i))))))))))) lt =
-    absurd (omega (arith, count_at_most version _ lt))
+    absurd (let few = count_at_most version in omega (arith, few, lt))
 
 pub one_plain_record : (version : Version) → HasOneRecord (IsPlainRecord version)
 one_plain_record version xs ys span a b =

@@ -25,7 +25,7 @@ use Rattle.lnt_records.specs.Passing.{AreLines, Ends, HasPassed, LeavesOff, Pass
 use Rattle.lnt_records.specs.Remaining.{AreLeft}
 use Rattle.lnt_records.specs.Table.{Fields, IsSpanRecord}
 use Rattle.lnt_records.specs.Written.{line_text, lines_text}
-use Rattle.lnt_records.proofs.ComparisonLemmas.{zip_push}
+use Rattle.lnt_records.proofs.TableLaws.{zip_push}
 use Rattle.lnt_records.proofs.LineLemmas.{line_some}
 use Rattle.lnt_records.proofs.WriteLemmas.{lines_append}
 

@@ -13,9 +13,8 @@ use Rattle.csv.specs.declared.parser.State.{State}
 use Rattle.csv.specs.declared.parser.State.TheVariants as st
 use Rattle.csv.specs.declared.parser.Terminator.TheVariants as term
 use Rattle.csv.proofs.ReadFacts.{rows-end, rows-more}
-use Rattle.lnt_spans.specs.declared.answer.Version.{Version}
 use Rattle.lnt_records.specs.Reading.{BytesReader, HasRead, bytes_left, known_length}
-use Rattle.lnt_records.specs.Table.{BeginsWith, Fields, RecordsOf, column_names}
+use Rattle.lnt_records.specs.Table.{BeginsWith, Fields, RecordsOf}
 
 -- ---- a record takes at least one byte
 
@@ -164,7 +163,7 @@ mark_stripped (a ∷ b ∷ c ∷ rest) = by (is_bom a b c)
 
 -- ---- record 0
 
-begins : (reader : BytesReader) (bytes : List ℕ) (records : List Fields) → HasRead reader bytes records → BeginsWith bytes records
+pub begins : (reader : BytesReader) (bytes : List ℕ) (records : List Fields) → HasRead reader bytes records → BeginsWith bytes records
 begins reader bytes records h = (reader_state reader, h.rest, h.reached)
 
 -- the same bytes have the same first record
@@ -185,37 +184,11 @@ no_record bytes fields none x =
     let some = first.1 in
     cc (last, some)
 
--- record 0, and that it is the only one
-pub first_read : (found : Bool) (reader : BytesReader) (bytes : List ℕ) (fields : Fields)
-    → MatchBool found (HasRead reader bytes (fields ∷ [])) (RecordsOf bytes [])
-    → MatchBool found (HasRead reader bytes (fields ∷ []) × ((other : Fields) → BeginsWith bytes (other ∷ []) → other ≡ fields))
-    ((other : Fields) → BeginsWith bytes (other ∷ []) → ⊥)
-first_read true reader bytes fields h = (h, λ other x. first_same bytes other fields x (begins reader bytes (fields ∷ []) h))
-first_read false reader bytes fields h = λ other x. no_record bytes other h x
-
-pub no_header : (reader : BytesReader) (bytes : List ℕ) (fields : Fields) → HasRead reader bytes (fields ∷ [])
-    → ((version : Version) → fields ≢ column_names version)
-    → (version : Version) → BeginsWith bytes (column_names version ∷ []) → ⊥
-no_header reader bytes fields h other version x =
-    other version (first_same bytes fields (column_names version) (begins reader bytes (fields ∷ []) h) x)
-
 -- the version whose columns record 0 names, if it is a header
-pub header_read : (found : Option Version) (reader : BytesReader) (bytes : List ℕ) (fields : Fields) → HasRead reader bytes (fields ∷ [])
-    → MatchOption found ((v : Version) → fields ≢ column_names v) (λ v. fields ≡ column_names v)
-    → MatchOption found ((v : Version) → BeginsWith bytes (column_names v ∷ []) → ⊥) (λ v. HasRead reader bytes (column_names v ∷ []))
-header_read None reader bytes fields h other = no_header reader bytes fields h other
-header_read (Some v) reader bytes fields h same = subst (λ (names : Fields). HasRead reader bytes (names ∷ [])) same h
-
-pub begins_found : (found : Option Version) (reader : BytesReader) (bytes : List ℕ)
-    → MatchOption found ((v : Version) → BeginsWith bytes (column_names v ∷ []) → ⊥) (λ v. HasRead reader bytes (column_names v ∷ []))
-    → MatchOption found ((v : Version) → BeginsWith bytes (column_names v ∷ []) → ⊥) (λ v. BeginsWith bytes (column_names v ∷ []))
-begins_found None reader bytes h = h
-begins_found (Some v) reader bytes h = begins reader bytes (column_names v ∷ []) h
-
--- reading the header of a text that begins with one
-pub header_passed : (reader : BytesReader) (text : List ℕ) (fields : Fields) (found : Bool) (version : Version)
-    → BeginsWith text (column_names version ∷ [])
-    → MatchBool found (HasRead reader text (fields ∷ [])) (RecordsOf text []) → HasRead reader text (column_names version ∷ [])
-header_passed reader text fields true version b h = subst (λ (names : Fields). HasRead reader text (names ∷ []))
-    (first_same text fields (column_names version) (begins reader text (fields ∷ []) h) b) h
-header_passed reader text fields false version b h = absurd (no_record text (column_names version) h b)
+pub header_found : {V : Type 0} (names : V → Fields) (found : Option V) (reader : BytesReader) (bytes : List ℕ) (fields : Fields)
+    → HasRead reader bytes (fields ∷ []) → MatchOption found ((v : V) → fields ≢ names v) (λ v. fields ≡ names v)
+    → MatchOption found ((v : V) → BeginsWith bytes (names v ∷ []) → ⊥) (λ v. BeginsWith bytes (names v ∷ []))
+header_found names None reader bytes fields h other =
+    λ v x. other v (first_same bytes fields (names v) (begins reader bytes (fields ∷ []) h) x)
+header_found names (Some v) reader bytes fields h same =
+    subst (λ (first : Fields). BeginsWith bytes (first ∷ [])) same (begins reader bytes (fields ∷ []) h)

@@ -1,5 +1,5 @@
 -- What the columns of a record say when taken together.
-use Rattle.std.proofs.Common.{◌≡◌, ◌≤◌, length, arith}
+use Rattle.std.proofs.Common.{◌≡◌, ◌≤◌, ℕ, List, length, arith}
 use Rattle.lnt_spans.specs.declared.answer.Answer.{Answer}
 use Rattle.lnt_spans.specs.declared.answer.Version.{Version}
 use Rattle.lnt_spans.specs.declared.answer.Version.TheVariants.{One, Two}
@@ -7,14 +7,14 @@ use Rattle.lnt_spans.specs.declared.position.Position.{Position}
 use Rattle.lnt_records.specs.declared.record.RecordFault.{RecordFault}
 use Rattle.lnt_records.specs.declared.record.RecordFault.TheVariants as fault
 use Rattle.lnt_records.specs.Progress.{AreSoundBefore, IsColumnFault, IsRecordFault, SaysAnswer, SaysPosition}
-use Rattle.lnt_records.specs.Table.{Fields, IsSpanRecord, column_count}
+use Rattle.lnt_records.specs.Table.{Fields, IsSpanRecord, Kind, column_count}
 
 pub common_columns : (version : Version) → 9 ≤ column_count version
 common_columns One = omega arith
 common_columns Two = omega arith
 
-pub none_before : (fields : Fields) → AreSoundBefore fields 0
-none_before fields k lt = absurd (omega (arith, lt))
+pub none_before : (columns : List Kind) (fields : Fields) → AreSoundBefore columns fields 0
+none_before columns fields k lt = absurd (omega (arith, lt))
 
 pub says_span : (version : Version) (fields : Fields) (low high : Position) (answer : Answer) → length fields ≡ column_count version
     → SaysPosition fields 0 low → SaysPosition fields 2 high → SaysAnswer version fields answer
@@ -33,7 +33,7 @@ says_span version fields low high answer count l h a = record {
   more = a.more;
 }
 
-pub column_fault : (version : Version) (fields : Fields) (told : RecordFault) → length fields ≡ column_count version
-    → IsColumnFault fields told → IsRecordFault version fields told
-column_fault version fields fault.Fields count h = absurd h
-column_fault version fields (fault.Number i) count h = (count, h)
+pub column_fault : (columns : List Kind) (count : ℕ) (fields : Fields) (told : RecordFault) → length fields ≡ count
+    → IsColumnFault columns fields told → IsRecordFault columns count fields told
+column_fault columns count fields fault.Fields same h = absurd h
+column_fault columns count fields (fault.Number i) same h = (same, h)

@@ -1,5 +1,5 @@
 -- What each column of a span's record holds, and that it is the record of one span only.
-use Rattle.std.proofs.Common.{◌≡◌, ◌∙◌, ℕ, zero, suc, ◌<◌, Bool, true, false, List, [], ◌∷◌, Option, Some, None, get_or, refl, sym, ap}
+use Rattle.std.proofs.Common.{◌≡◌, ◌∙◌, ℕ, zero, suc, ◌<◌, ◌≤◌, Bool, true, false, List, [], ◌∷◌, Option, Some, None, get_or, refl, sym, ap}
 use Rattle.std.proofs.Common.{arith}
 use Rattle.std.specs.List.{AllZip}
 use Rattle.lnt_digits.specs.Digits.{IsAddress, IsDecimal, IsPlainDecimal}
@@ -9,16 +9,16 @@ use Rattle.lnt_spans.specs.declared.answer.Version.{Version}
 use Rattle.lnt_spans.specs.declared.answer.Version.TheVariants.{One, Two}
 use Rattle.lnt_spans.specs.declared.span.Span.{Span}
 use Rattle.lnt_records.specs.Table.{AreMore, Fields, IsFlag, IsOfColumn, IsOfKind, IsSpanRecord, Kind, SaysSpan, address, column_count}
-use Rattle.lnt_records.specs.Table.{decimal, flag, kinds}
+use Rattle.lnt_records.specs.Table.{decimal, flag, kinds, text}
 use Rattle.lnt_records.specs.Written.{IsPlainRecord}
 
 -- ---- each column
 
 -- The property `Is` holds of every address, number and flag, by kind.
 pub record Holds (Address Number : List ℕ → ℕ → Type 0) (Is : Kind → List ℕ → Type 0) : Type 0 where
-  pub of_address : (text : List ℕ) (n : ℕ) → Address text n → Is address text
-  pub of_number : (text : List ℕ) (n : ℕ) → Number text n → Is decimal text
-  pub of_flag : (text : List ℕ) (on : Bool) → IsFlag text on → Is flag text
+  pub of_address : (field : List ℕ) (n : ℕ) → Address field n → Is address field
+  pub of_number : (field : List ℕ) (n : ℕ) → Number field n → Is decimal field
+  pub of_flag : (field : List ℕ) (on : Bool) → IsFlag field on → Is flag field
 
 more_hold : (Address Number : List ℕ → ℕ → Type 0) (Is : Kind → List ℕ → Type 0) (version : Version) (fields : Fields) (more : Option More)
     → Holds Address Number Is
@@ -27,13 +27,13 @@ more_hold Address Number Is One fields more h m lt = absurd (omega (arith, lt))
 more_hold Address Number Is Two fields None h m lt = absurd m
 more_hold Address Number Is Two fields (Some more) h m lt = (h.of_number _ _ m.0, h.of_number _ _ m.1)
 
-pub count_at_most : (version : Version) (i : ℕ) → i < column_count version → i < 11
-count_at_most One i lt = omega (arith, lt)
-count_at_most Two i lt = omega (arith, lt)
+pub count_at_most : (version : Version) → column_count version ≤ 11
+count_at_most One = omega arith
+count_at_most Two = omega arith
 
 pub each_holds : (Address Number : List ℕ → ℕ → Type 0) (Is : Kind → List ℕ → Type 0) (version : Version) (fields : Fields) (span : Span)
     → Holds Address Number Is
-    → SaysSpan Address Number version fields span → (i : ℕ) → i < column_count version → Is (get_or kinds i decimal) (get_or fields i [])
+    → SaysSpan Address Number version fields span → (i : ℕ) → i < column_count version → Is (get_or kinds i text) (get_or fields i [])
 each_holds Address Number Is version fields span h s zero lt = h.of_address _ _ s.low
 each_holds Address Number Is version fields span h s (suc zero) lt = h.of_number _ _ s.low_op
 each_holds Address Number Is version fields span h s (suc (suc zero)) lt = h.of_address _ _ s.high
@@ -48,13 +48,13 @@ each_holds Address Number Is version fields span h s (suc (suc (suc (suc (suc (s
 each_holds Address Number Is version fields span h s (suc (suc (suc (suc (suc (suc (suc (suc (suc (suc zero)))))))))) lt =
     (more_hold Address Number Is version fields span.answer.more h s.more (omega (arith, lt))).1
 each_holds Address Number Is version fields span h s (suc (suc (suc (suc (suc (suc (suc (suc (suc (suc (suc i))))))))))) lt =
-    absurd (omega (arith, count_at_most version _ lt))
+    absurd (let few = count_at_most version in omega (arith, few, lt))
 
 pub sound_column : (version : Version) (fields : Fields) (span : Span) → IsSpanRecord version fields span → (i : ℕ)
-    → i < column_count version → IsOfColumn fields i
+    → i < column_count version → IsOfColumn kinds fields i
 sound_column version fields span s i lt =
     each_holds IsAddress IsDecimal IsOfKind version fields span
-    (record { of_address = λ text n h. (n, h); of_number = λ text n h. (n, h); of_flag = λ text on h. (on, h) }) s i lt
+    (record { of_address = λ field n h. (n, h); of_number = λ field n h. (n, h); of_flag = λ field on h. (on, h) }) s i lt
 
 -- ---- a record is of one span
 

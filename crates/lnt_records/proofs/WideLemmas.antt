@@ -254,9 +254,3 @@ front_fields reader front bytes found h f le fields begins =
     let other : BeginsWith bytes (whole.read.0 ∷ []) = (whole.read.1, whole.read.2, (whole.read, is, refl, (refl, refl))) in
     let same : whole.read.0 ≡ fields = first_same bytes whole.read.0 fields other begins in
     omega (arith, whole.fields, ap (λ (r : Fields). length r) same, ap (λ (r : Fields). length r) first.2)
-
--- Such bytes begin with no header.
-pub wide_header : (bytes : List ℕ) → ((fields : Fields) → BeginsWith bytes (fields ∷ []) → 11 < length fields) → (version : Version)
-    → BeginsWith bytes (column_names version ∷ []) → ⊥
-wide_header bytes wide One begins = absurd (omega (arith, wide (column_names One) begins))
-wide_header bytes wide Two begins = absurd (omega (arith, wide (column_names Two) begins))

@@ -4,49 +4,58 @@ use Rattle.lnt_spans.specs.declared.answer.Version.{Version}
 use Rattle.lnt_spans.specs.declared.difference.Difference.{Difference}
 use Rattle.lnt_spans.specs.declared.span.Span.{Span}
 use Rattle.lnt_spans.specs.Differences.{Agree, IsLeastDifference}
-use Rattle.lnt_spans.specs.Spans.{AreInOrder, span_answer, version_answer}
+use Rattle.lnt_spans.specs.Spans.{span_answer, version_answer}
 use Rattle.lnt_records.specs.declared.comparison.Compared.{Compared}
 use Rattle.lnt_records.specs.declared.comparison.Compared.TheVariants.{Same, Fault, Differs}
 use Rattle.lnt_records.specs.declared.stream.TableRead.{TableRead}
 use Rattle.lnt_records.specs.declared.stream.TableRead.TheVariants.{Compared as Read, Other}
 use Rattle.lnt_records.specs.declared.fault.TableFault.{TableFault}
 use Rattle.lnt_records.specs.declared.fault.TableFault.TheVariants as fault
-use Rattle.lnt_records.specs.Table.{BeginsWith, Fields, IsOfColumn, IsSpanRecord, IsTable, IsTableOf, column_count, column_names}
+use Rattle.lnt_records.specs.Table.{BeginsWith, Fields, IsOfColumn, IsTableIn, IsTableOf, Kind, TableFormat, by_number, column_names}
 
 -- ---- one record
 
 -- column i is the first whose field isn't of its kind
-pub record IsFaultyColumn (fields : Fields) (i : ℕ) : Type 0 where
+pub record IsFaultyColumn (columns : List Kind) (fields : Fields) (i : ℕ) : Type 0 where
   pub there : i < length fields
-  pub before : (k : ℕ) → k < i → IsOfColumn fields k
-  pub faulty : IsOfColumn fields i → ⊥
+  pub before : (k : ℕ) → k < i → IsOfColumn columns fields k
+  pub faulty : IsOfColumn columns fields i → ⊥
 
 -- After the records of these spans, the record with this number and these fields has this fault.
-abbrev pub IsFaulty : Version → List Span → ℕ → Fields → TableFault → Type 0
-IsFaulty version spans number fields fault.Header = ⊥
-IsFaulty version spans number fields (fault.Fields k) = (k ≡ number) × (length fields ≢ column_count version)
-IsFaulty version spans number fields (fault.Number k i) = (k ≡ number) × (length fields ≡ column_count version) × IsFaultyColumn fields i
-IsFaulty version spans number fields (fault.Order k) =
-    (k ≡ number) × (span : Span) × IsSpanRecord version fields span × (AreInOrder (spans ++ span ∷ []) → ⊥)
+abbrev pub IsFaultyIn : {V X : Type 0} → TableFormat V X → V → List X → ℕ → Fields → TableFault → Type 0
+IsFaultyIn format version spans number fields fault.Header = ⊥
+IsFaultyIn format version spans number fields (fault.Fields k) = (k ≡ number) × (length fields ≢ length (format.names version))
+IsFaultyIn format version spans number fields (fault.Number k i) =
+    (k ≡ number) × (length fields ≡ length (format.names version)) × IsFaultyColumn format.columns fields i
+IsFaultyIn {V} {X} format version spans number fields (fault.Order k) =
+    (k ≡ number) × (span : X) × format.Says version fields span × (format.InOrder (spans ++ span ∷ []) → ⊥)
 
 -- ---- all records
 
 -- A faulty record after records that are a table.
-pub record HasFaultyRecord (bytes : List ℕ) (told : TableFault) : Type 0 where
-  pub version : Version
+pub record HasFaultyRecordIn {V X : Type 0} (format : TableFormat V X) (bytes : List ℕ) (told : TableFault) : Type 0 where
+  pub version : V
   pub records : List Fields
-  pub spans : List Span
+  pub spans : List X
   pub fields : Fields
   pub begins : BeginsWith bytes (records ++ fields ∷ [])
-  pub table : IsTable version records spans
-  pub faulty : IsFaulty version spans (length records) fields told
+  pub table : IsTableIn format version records spans
+  pub faulty : IsFaultyIn format version spans (length records) fields told
 
 -- This is the first fault of the bytes.
+abbrev pub IsFaultIn : {V X : Type 0} → TableFormat V X → List ℕ → TableFault → Type 0
+IsFaultIn {V} format bytes fault.Header = (version : V) → BeginsWith bytes (format.names version ∷ []) → ⊥
+IsFaultIn format bytes (fault.Fields k) = HasFaultyRecordIn format bytes (fault.Fields k)
+IsFaultIn format bytes (fault.Number k i) = HasFaultyRecordIn format bytes (fault.Number k i)
+IsFaultIn format bytes (fault.Order k) = HasFaultyRecordIn format bytes (fault.Order k)
+
+-- ---- a table by number
+
+abbrev pub IsFaulty : Version → List Span → ℕ → Fields → TableFault → Type 0
+IsFaulty version spans number fields told = IsFaultyIn by_number version spans number fields told
+
 abbrev pub IsFault : List ℕ → TableFault → Type 0
-IsFault bytes fault.Header = (version : Version) → BeginsWith bytes (column_names version ∷ []) → ⊥
-IsFault bytes (fault.Fields k) = HasFaultyRecord bytes (fault.Fields k)
-IsFault bytes (fault.Number k i) = HasFaultyRecord bytes (fault.Number k i)
-IsFault bytes (fault.Order k) = HasFaultyRecord bytes (fault.Order k)
+IsFault bytes told = IsFaultIn by_number bytes told
 
 -- ---- a comparison
 

@@ -10,7 +10,6 @@ use Rattle.lnt_spans.specs.declared.span.Span.{Span}
 use Rattle.lnt_spans.specs.Comparing.{Compares, IsTold, Merging, end_of}
 use Rattle.lnt_spans.specs.Spans.{AreInOrder, version_answer}
 use Rattle.lnt_input.specs.Pulling.{Pulls}
-use Rattle.lnt_records.specs.Reading.{IsReadFor}
 use Rattle.lnt_records.specs.Table.{Fields, IsSpanRecord, column_names}
 use Rattle.lnt_records.specs.Written.{lines_text}
 
@@ -73,13 +72,12 @@ pub record LeavesOff (ToCome : List Span → Type 0) (version : Version) (sectio
 
 -- ---- a text with the lines that were passed cut out
 
--- Whatever records `csv` reads from the text after the header, it also reads from the bytes, after the header and the
--- records in `passed`.
-abbrev pub IsCut : Version → List ℕ → List ℕ → List Fields → Type 0
-IsCut version text bytes passed = (more : List Fields) (after : State) (rest : List ℕ)
-    → Reached default_config state.StartRecord (strip_bom text) (column_names version ∷ more) after rest
-    → Reached default_config state.StartRecord (strip_bom bytes) (column_names version ∷ (passed ++ more)) after rest
+-- Whatever records `csv` reads from the text after its first one, `first`, it also reads from the bytes after those in `passed`.
+abbrev pub IsCutAfter : Fields → List ℕ → List ℕ → List Fields → Type 0
+IsCutAfter first text bytes passed = (more : List Fields) (after : State) (rest : List ℕ)
+    → Reached default_config state.StartRecord (strip_bom text) (first ∷ more) after rest
+    → Reached default_config state.StartRecord (strip_bom bytes) (passed ++ more) after rest
 
--- The same for a text of which this prefix is read.
-abbrev pub IsCutFront : Version → List ℕ → List ℕ → List Fields → Type 0
-IsCutFront version front bytes passed = (text : List ℕ) × IsReadFor front text × IsCut version text bytes passed
+-- The same for a text that begins with the header: the bytes have the records in `passed` after it.
+abbrev pub IsCut : Version → List ℕ → List ℕ → List Fields → Type 0
+IsCut version text bytes passed = IsCutAfter (column_names version) text bytes (column_names version ∷ passed)

@@ -16,27 +16,27 @@ use Rattle.lnt_records.specs.declared.gather.Gathered.TheVariants as gathered
 use Rattle.lnt_records.specs.declared.record.RecordFault.{RecordFault}
 use Rattle.lnt_records.specs.declared.record.RecordFault.TheVariants as record_fault
 use Rattle.lnt_records.specs.Faults.{IsFaultyColumn, IsFault}
-use Rattle.lnt_records.specs.Table.{AreMore, Fields, IsFlag, IsOfColumn, IsTable, IsTableOf, Kind, column_count, decimal, kinds}
+use Rattle.lnt_records.specs.Table.{AreMore, Fields, IsFlag, IsOfColumn, IsTable, IsTableOf, Kind, text}
 use Rattle.lnt_records.specs.Written.{IsPlainRecord, line_text, lines_text}
 
 -- ---- one record
 
-abbrev pub IsColumnOf : Kind → ℕ → Type 0
-IsColumnOf kind i = get_or kinds i decimal ≡ kind
+abbrev pub IsColumnOf : List Kind → Kind → ℕ → Type 0
+IsColumnOf columns kind i = get_or columns i text ≡ kind
 
 -- each field before column i is of its column's kind
-abbrev pub AreSoundBefore : Fields → ℕ → Type 0
-AreSoundBefore fields i = (k : ℕ) → k < i → IsOfColumn fields k
+abbrev pub AreSoundBefore : List Kind → Fields → ℕ → Type 0
+AreSoundBefore columns fields i = (k : ℕ) → k < i → IsOfColumn columns fields k
 
 -- the fault names the first column whose field isn't of its kind
-abbrev pub IsColumnFault : Fields → RecordFault → Type 0
-IsColumnFault fields record_fault.Fields = ⊥
-IsColumnFault fields (record_fault.Number i) = IsFaultyColumn fields i
+abbrev pub IsColumnFault : List Kind → Fields → RecordFault → Type 0
+IsColumnFault columns fields record_fault.Fields = ⊥
+IsColumnFault columns fields (record_fault.Number i) = IsFaultyColumn columns fields i
 
--- either that, or the number of the record's fields isn't that of the version's columns
-abbrev pub IsRecordFault : Version → Fields → RecordFault → Type 0
-IsRecordFault version fields record_fault.Fields = length fields ≢ column_count version
-IsRecordFault version fields (record_fault.Number i) = (length fields ≡ column_count version) × IsFaultyColumn fields i
+-- either that, or the number of the record's fields isn't that of the columns
+abbrev pub IsRecordFault : List Kind → ℕ → Fields → RecordFault → Type 0
+IsRecordFault columns count fields record_fault.Fields = length fields ≢ count
+IsRecordFault columns count fields (record_fault.Number i) = (length fields ≡ count) × IsFaultyColumn columns fields i
 
 -- the position in columns i and i + 1
 pub record SaysPosition (fields : Fields) (i : ℕ) (position : Position) : Type 0 where
@@ -62,6 +62,13 @@ pub record Judges {S : Type 0} (to_come : S → List Span → Type 0) (compariso
   pub count : comparison.count ≡ length records
   pub version : comparison.merge.version ≡ comparison.version
   pub compares : Compares to_come comparison.merge section table
+
+-- These records are a table so far, of the spans in `before` and then the gathered ones, which were compared with a section's spans.
+pub record Gathers {S : Type 0} (to_come : S → List Span → Type 0) (comparison : Comparison S) (spans before : List Span)
+    (records : List Fields) : Type 0 where
+  pub section : List Span
+  pub judged : Judges to_come comparison section records
+  pub table_is : judged.table ≡ before ++ spans
 
 -- ---- lines that are added
 

@@ -1,4 +1,4 @@
--- An address table, in terms of the records that `csv` reads from its bytes.
+-- An address table, in terms of the records that `csv` reads from its bytes: first of any format, then by number.
 use Rattle.std.specs.Prelude.{◌≡◌, ℕ, Bool, true, false, List, [], ◌∷◌, ◌++◌, Option, Some, None, length, get_or, codes, suc}
 use Rattle.std.specs.List.{AllZip}
 use Rattle.csv.specs.Reading.{AreRecords, Reached, default_config, strip_bom}
@@ -15,7 +15,68 @@ use Rattle.lnt_spans.specs.Spans.{AreInOrder}
 abbrev pub Fields : Type 0
 Fields = List (List ℕ)
 
--- ---- the columns
+-- these are all records of the bytes
+abbrev pub RecordsOf : List ℕ → List Fields → Type 0
+RecordsOf bytes records = AreRecords default_config state.StartRecord (strip_bom bytes) records
+
+-- the records of the bytes begin with these
+abbrev pub BeginsWith : List ℕ → List Fields → Type 0
+BeginsWith bytes records = (after : State) × (rest : List ℕ) × Reached default_config state.StartRecord (strip_bom bytes) records after rest
+
+-- the fields from column i on are these names
+abbrev pub AreNamed : ℕ → Fields → Fields → Type 0
+AreNamed i [] fields = Unit {0}
+AreNamed i (name ∷ names) fields = (get_or fields i [] ≡ name) × AreNamed (suc i) names fields
+
+-- ---- columns
+
+-- the kinds of columns
+pub data Kind : Type 0 where
+  address : Kind
+  decimal : Kind
+  flag : Kind
+  text : Kind
+
+-- 0 or 1
+abbrev pub IsFlag : List ℕ → Bool → Type 0
+IsFlag field false = field ≡ codes "0"
+IsFlag field true = field ≡ codes "1"
+
+abbrev pub IsOfKind : Kind → List ℕ → Type 0
+IsOfKind address field = (n : ℕ) × IsAddress field n
+IsOfKind decimal field = (n : ℕ) × IsDecimal field n
+IsOfKind flag field = (on : Bool) × IsFlag field on
+IsOfKind text field = Unit {0}
+
+-- the field in column i is of the column's kind
+abbrev pub IsOfColumn : List Kind → Fields → ℕ → Type 0
+IsOfColumn columns fields i = IsOfKind (get_or columns i text) (get_or fields i [])
+
+-- ---- a table of any format
+
+-- The format of a table with versions `V` and spans `X`: the header of each version, the kinds of the columns, which spans records
+-- are of, and when spans are in order.
+pub record TableFormat (V X : Type 0) : Type 1 where
+  pub names : V → Fields
+  pub columns : List Kind
+  pub Says : V → Fields → X → Type 0
+  pub InOrder : List X → Type 0
+
+-- each record is that of its span, and the spans are in order, none empty
+pub record AreRecordsOf {V X : Type 0} (format : TableFormat V X) (version : V) (records : List Fields) (spans : List X) : Type 0 where
+  pub each : AllZip (format.Says version) records spans
+  pub in_order : format.InOrder spans
+
+-- the header, and a record for each span
+abbrev pub IsTableIn : {V X : Type 0} → TableFormat V X → V → List Fields → List X → Type 0
+IsTableIn format version [] spans = ⊥
+IsTableIn format version (first ∷ records) spans = (first ≡ format.names version) × AreRecordsOf format version records spans
+
+-- The bytes are a table of these spans.
+abbrev pub IsTableOfIn : {V X : Type 0} → TableFormat V X → V → List ℕ → List X → Type 0
+IsTableOfIn format version bytes spans = (records : List Fields) × RecordsOf bytes records × IsTableIn format version records spans
+
+-- ---- the columns of a table by number
 
 abbrev pub common_names : Fields
 common_names =
@@ -28,36 +89,10 @@ column_names One = common_names
 column_names Two = common_names ++ codes "isa" ∷ codes "discriminator" ∷ []
 
 abbrev pub column_count : Version → ℕ
-column_count One = 9
-column_count Two = 11
-
--- the fields from column i on are these names
-abbrev pub AreNamed : ℕ → Fields → Fields → Type 0
-AreNamed i [] fields = Unit {0}
-AreNamed i (name ∷ names) fields = (get_or fields i [] ≡ name) × AreNamed (suc i) names fields
-
--- the kinds of columns
-pub data Kind : Type 0 where
-  address : Kind
-  decimal : Kind
-  flag : Kind
+column_count version = length (column_names version)
 
 abbrev pub kinds : List Kind
 kinds = address ∷ decimal ∷ address ∷ decimal ∷ decimal ∷ decimal ∷ decimal ∷ decimal ∷ flag ∷ decimal ∷ decimal ∷ []
-
--- 0 or 1
-abbrev pub IsFlag : List ℕ → Bool → Type 0
-IsFlag text false = text ≡ codes "0"
-IsFlag text true = text ≡ codes "1"
-
-abbrev pub IsOfKind : Kind → List ℕ → Type 0
-IsOfKind address text = (n : ℕ) × IsAddress text n
-IsOfKind decimal text = (n : ℕ) × IsDecimal text n
-IsOfKind flag text = (on : Bool) × IsFlag text on
-
--- the field in column i is of the column's kind
-abbrev pub IsOfColumn : Fields → ℕ → Type 0
-IsOfColumn fields i = IsOfKind (get_or kinds i decimal) (get_or fields i [])
 
 -- ---- a span's record
 
@@ -85,28 +120,14 @@ pub record SaysSpan (Address Number : List ℕ → ℕ → Type 0) (version : Ve
 abbrev pub IsSpanRecord : Version → Fields → Span → Type 0
 IsSpanRecord version fields span = SaysSpan IsAddress IsDecimal version fields span
 
--- ---- a table
+-- ---- a table by number
 
--- each record is that of its span, and the spans are in order, none empty
-pub record AreSpans (version : Version) (records : List Fields) (spans : List Span) : Type 0 where
-  pub each : AllZip (IsSpanRecord version) records spans
-  pub in_order : AreInOrder spans
+abbrev pub by_number : TableFormat Version Span
+by_number = record { names = column_names; columns = kinds; Says = IsSpanRecord; InOrder = AreInOrder }
 
--- the header, and a record for each span
 abbrev pub IsTable : Version → List Fields → List Span → Type 0
-IsTable version [] spans = ⊥
-IsTable version (first ∷ records) spans = (first ≡ column_names version) × AreSpans version records spans
-
--- ---- the bytes of a table
-
--- these are all records of the bytes
-abbrev pub RecordsOf : List ℕ → List Fields → Type 0
-RecordsOf bytes records = AreRecords default_config state.StartRecord (strip_bom bytes) records
-
--- the records of the bytes begin with these
-abbrev pub BeginsWith : List ℕ → List Fields → Type 0
-BeginsWith bytes records = (after : State) × (rest : List ℕ) × Reached default_config state.StartRecord (strip_bom bytes) records after rest
+IsTable version records spans = IsTableIn by_number version records spans
 
 -- The bytes are a table of these spans.
 abbrev pub IsTableOf : Version → List ℕ → List Span → Type 0
-IsTableOf version bytes spans = (records : List Fields) × RecordsOf bytes records × IsTable version records spans
+IsTableOf version bytes spans = IsTableOfIn by_number version bytes spans

@@ -10,6 +10,23 @@ ghost use Rattle.lnt_records.specs.Table as table;
 use crate::record::RecordFault;
 use csv::ByteRecord;
 
+/// The columns of a table. Contracts see their kinds, `columns`; at run time there is nothing of them.
+pub trait Columns {
+    ghost use Rattle.std.specs.Prelude.{List};
+    ghost use Rattle.lnt_records.specs.Table.{Kind};
+
+    ghost columns: { List Kind };
+}
+
+/// The columns of a table by number.
+pub enum ByNumber {}
+
+impl Columns for ByNumber {
+    ghost use Rattle.lnt_records.specs.Table.{kinds};
+
+    ghost columns = { kinds };
+}
+
 /// The field in column `i` of a record. The caller makes sure that the record has that column.
 #[tactic(auto, using(crate::proofs::ColumnLemmas::field_is, crate::proofs::ColumnLemmas::field_there))]
 pub fn field(row: &ByteRecord, i: usize) -> &[u8]
@@ -30,16 +47,16 @@ pub fn is_field(row: &ByteRecord, i: usize, text: &[u8]) -> bool
     field(row, i) == text
 }
 
-// Reads the address in column `i`. The caller makes sure that the fields before it are of their columns' kinds, so that a
-// fault here is the first.
+/// Reads the address in column `i`. The caller makes sure that this is a column of addresses, that the record has it, and that
+/// the fields before it are of their columns' kinds. So the fault, `Number`, names the first column whose field isn't of its kind.
 #[tactic(auto, using(crate::proofs::ColumnLemmas::sound_address, crate::proofs::ColumnLemmas::no_address))]
-pub(crate) fn address_at(row: &ByteRecord, i: usize) -> Result<u64, RecordFault>
+pub fn address_at<C: Columns>(row: &ByteRecord, i: usize) -> Result<u64, RecordFault>
     requires there { i < length (fields_of row.now) }
-    requires kind { IsColumnOf table.address i }
-    requires before { AreSoundBefore (fields_of row.now) i }
+    requires kind { IsColumnOf C.columns table.address i }
+    requires before { AreSoundBefore C.columns (fields_of row.now) i }
     ensures ok { IfOk result (λ n. IsAddress (get_or (fields_of row.now) i []) n) }
-    ensures after { OnOk result (AreSoundBefore (fields_of row.now) (i + 1)) }
-    ensures err { IfErr result (λ fault. IsColumnFault (fields_of row.now) fault) }
+    ensures after { OnOk result (AreSoundBefore C.columns (fields_of row.now) (i + 1)) }
+    ensures err { IfErr result (λ fault. IsColumnFault C.columns (fields_of row.now) fault) }
 {
     match lnt_digits::address(field(row, i)) {
         Some(address) => Ok(address),
@@ -47,15 +64,15 @@ pub(crate) fn address_at(row: &ByteRecord, i: usize) -> Result<u64, RecordFault>
     }
 }
 
-// Reads the decimal number in column `i`, as `address_at` reads an address.
+/// Reads the decimal number in column `i`, as [`address_at`] reads an address.
 #[tactic(auto, using(crate::proofs::ColumnLemmas::sound_decimal, crate::proofs::ColumnLemmas::no_decimal))]
-pub(crate) fn decimal_at(row: &ByteRecord, i: usize) -> Result<u64, RecordFault>
+pub fn decimal_at<C: Columns>(row: &ByteRecord, i: usize) -> Result<u64, RecordFault>
     requires there { i < length (fields_of row.now) }
-    requires kind { IsColumnOf table.decimal i }
-    requires before { AreSoundBefore (fields_of row.now) i }
+    requires kind { IsColumnOf C.columns table.decimal i }
+    requires before { AreSoundBefore C.columns (fields_of row.now) i }
     ensures ok { IfOk result (λ n. IsDecimal (get_or (fields_of row.now) i []) n) }
-    ensures after { OnOk result (AreSoundBefore (fields_of row.now) (i + 1)) }
-    ensures err { IfErr result (λ fault. IsColumnFault (fields_of row.now) fault) }
+    ensures after { OnOk result (AreSoundBefore C.columns (fields_of row.now) (i + 1)) }
+    ensures err { IfErr result (λ fault. IsColumnFault C.columns (fields_of row.now) fault) }
 {
     match lnt_digits::decimal(field(row, i)) {
         Some(number) => Ok(number),
@@ -65,13 +82,13 @@ pub(crate) fn decimal_at(row: &ByteRecord, i: usize) -> Result<u64, RecordFault>
 
 // Reads the flag in column `i`, as `address_at` reads an address.
 #[tactic(auto, using(crate::proofs::ColumnLemmas::sound_flag, crate::proofs::ColumnLemmas::no_flag))]
-pub(crate) fn flag_at(row: &ByteRecord, i: usize) -> Result<bool, RecordFault>
+pub(crate) fn flag_at<C: Columns>(row: &ByteRecord, i: usize) -> Result<bool, RecordFault>
     requires there { i < length (fields_of row.now) }
-    requires kind { IsColumnOf table.flag i }
-    requires before { AreSoundBefore (fields_of row.now) i }
+    requires kind { IsColumnOf C.columns table.flag i }
+    requires before { AreSoundBefore C.columns (fields_of row.now) i }
     ensures ok { IfOk result (λ on. IsFlag (get_or (fields_of row.now) i []) on) }
-    ensures after { OnOk result (AreSoundBefore (fields_of row.now) (i + 1)) }
-    ensures err { IfErr result (λ fault. IsColumnFault (fields_of row.now) fault) }
+    ensures after { OnOk result (AreSoundBefore C.columns (fields_of row.now) (i + 1)) }
+    ensures err { IfErr result (λ fault. IsColumnFault C.columns (fields_of row.now) fault) }
 {
     match flag(field(row, i)) {
         Some(on) => Ok(on),

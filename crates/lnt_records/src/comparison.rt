@@ -5,16 +5,15 @@ ghost use Rattle.lnt_spans.specs.declared.span.Span.{Span};
 ghost use Rattle.lnt_spans.specs.declared.position.Position.{Position};
 ghost use Rattle.lnt_spans.specs.Spans.{AreInOrder, version_answer};
 ghost use Rattle.lnt_records.specs.Faults.{IsComparison, IsFaulty};
-ghost use Rattle.lnt_records.specs.Passing.{IsCut, IsCutFront};
+ghost use Rattle.lnt_records.specs.Passing.{IsCut};
 ghost use Rattle.lnt_records.specs.Progress.{Judges};
-ghost use Rattle.lnt_records.specs.Reading.{HasRead};
 ghost use Rattle.lnt_records.specs.Table.{BeginsWith, Fields, IsSpanRecord, IsTable, column_names};
 
 use crate::fault::TableFault;
-use crate::reading::{read_header, read_next, reader_of};
+use crate::header::header_of;
 use crate::record::{RecordFault, span_of};
-use crate::wide::{begins_wide, up_to_wide};
-use csv::{ByteRecord, Reader};
+use crate::taking::{TakesRecords, take_records};
+use csv::ByteRecord;
 use lnt_spans::{Difference, Merge, Span, SpanSlice, SpanSource, Version};
 use std::alloc::{AllocError, Global};
 
@@ -54,25 +53,10 @@ pub(crate) fn compare_records<S: SpanSource + Drop>(
     requires { (list : List Span) × S.to_come spans list × AreInOrder list }
     ensures { IfOk result (λ compared. (list : List Span) → S.to_come spans list → AreInOrder list → IsComparison table.now list compared) }
 {
-    let Some(version) = header_of(alloc, table)? else {
+    let Some(version) = header_of::<Version>(alloc, table)? else {
         return Ok(Compared::Fault(TableFault::Header));
     };
     compare_after(alloc, table, Merge::new(spans, version), version, 1)
-}
-
-// The version whose columns record 0 names, if it is a header. A function of its own, never inlined: a reader of records is
-// large, and no caller should hold it on the stack.
-#[inline(never)]
-pub(crate) fn header_of(alloc: Global, table: &[u8]) -> Result<Option<Version>, AllocError>
-    ensures { IfOk result (λ found. MatchOption found ((v : Version) → BeginsWith table.now (column_names v ∷ []) → ⊥)
-        (λ v. BeginsWith table.now (column_names v ∷ []))) }
-{
-    if begins_wide(alloc, table)? {
-        return Ok(None);
-    }
-    let mut reader = reader_of(alloc, table);
-    let mut row = ByteRecord::new(alloc);
-    read_header(&mut reader, &mut row)
 }
 
 // Compares the rest of a table. `text` is the table's header with the records after it, without those that the merge has
@@ -93,37 +77,13 @@ pub(crate) fn compare_after<S: SpanSource + Drop>(
         → IsCut version text.now bytes passed → ((p : Position) → version_answer version list p ≡ version_answer version section p)
         → IsComparison bytes section compared) }
 {
-    let mut reader = reader_of(alloc, up_to_wide(alloc, text)?);
-    let mut row = ByteRecord::new(alloc);
-    let comparison = Comparison {
+    let mut comparison = Comparison {
         merge,
         version,
         count,
     };
-    compare_rest(&mut reader, &mut row, comparison)
-}
-
-// Compares the records after the header, each read into `row`. The reader must have read nothing yet.
-fn compare_rest<S: SpanSource + Drop>(
-    reader: &mut Reader<&[u8]>,
-    row: &mut ByteRecord,
-    mut comparison: Comparison<S>,
-) -> Result<Compared, AllocError>
-    requires read { (text : List ℕ) × HasRead reader.old text [] × BeginsWith text (column_names comparison.version ∷ [])
-        × (comparison.count + length text < 2 ^ 64 + 1) }
-    requires judged { (list : List Span) × (passed : List Fields)
-        × Judges S.to_come comparison list (column_names comparison.version ∷ passed) }
-    ensures { IfOk result (λ compared. (text : List ℕ) (list section : List Span) (passed : List Fields) (bytes : List ℕ)
-        → HasRead reader.old text [] → BeginsWith text (column_names comparison.version ∷ [])
-        → Judges S.to_come comparison list (column_names comparison.version ∷ passed) → IsCutFront comparison.version text bytes passed
-        → ((p : Position) → version_answer comparison.version list p ≡ version_answer comparison.version section p)
-        → IsComparison bytes section compared) }
-{
-    read_next(reader, row)?;
-    while read_next(reader, row)? {
-        if let Some(fault) = comparison.take_record(row) {
-            return Ok(Compared::Fault(fault));
-        }
+    if let Some(fault) = take_records(alloc, text, &version, &mut comparison)? {
+        return Ok(Compared::Fault(fault));
     }
     match comparison.merge.finish() {
         Some(difference) => Ok(Compared::Differs(difference)),
@@ -141,30 +101,14 @@ pub(crate) struct Comparison<S> {
 }
 
 impl<S: SpanSource + Drop> Comparison<S> {
-    // Compares the next record, or gives its fault.
-    fn take_record(&mut self, row: &ByteRecord) -> Option<TableFault>
-        requires { (section : List Span) × (records : List Fields) × Judges S.to_come self.old section records
-            × (length records + 1 < 2 ^ 64) }
-        ensures version { self.new.version ≡ self.old.version }
-        ensures judged { (section : List Span) (records : List Fields) → Judges S.to_come self.old section records
-            → MatchOption result (Judges S.to_come self.new section (records ++ fields_of row.now ∷ []))
-            (λ fault. (table : List Span) × IsTable self.old.version records table
-            × IsFaulty self.old.version table (length records) (fields_of row.now) fault) }
-    {
-        match self.take_span(row) {
-            Ok(_) => None,
-            Err(fault) => Some(fault),
-        }
-    }
-
     // Compares the next record and gives its span, or its fault.
     pub(crate) fn take_span(&mut self, row: &ByteRecord) -> Result<Span, TableFault>
         requires { (section : List Span) × (records : List Fields) × Judges S.to_come self.old section records
             × (length records + 1 < 2 ^ 64) }
         ensures version { self.new.version ≡ self.old.version }
         ensures says { IfOk result (λ span. IsSpanRecord self.old.version (fields_of row.now) span) }
-        ensures taken { OnOk result ((section : List Span) (records : List Fields) → Judges S.to_come self.old section records
-            → Judges S.to_come self.new section (records ++ fields_of row.now ∷ [])) }
+        ensures taken { IfOk result (λ span. (section : List Span) (records : List Fields) → (j : Judges S.to_come self.old section records)
+            → (k : Judges S.to_come self.new section (records ++ fields_of row.now ∷ [])) × (k.table ≡ j.table ++ span ∷ [])) }
         ensures faulty { IfErr result (λ fault. (section : List Span) (records : List Fields) → Judges S.to_come self.old section records
             → (table : List Span) × IsTable self.old.version records table
             × IsFaulty self.old.version table (length records) (fields_of row.now) fault) }
@@ -182,5 +126,31 @@ impl<S: SpanSource + Drop> Comparison<S> {
         self.merge.push(&span);
         self.count += 1;
         Ok(span)
+    }
+}
+
+impl<S: SpanSource + Drop> TakesRecords<Comparison<S>> for Version {
+    ghost use Rattle.std.specs.Prelude.{◌≡◌, List, length};
+    ghost use Rattle.lnt_spans.specs.declared.span.Span.{Span};
+    ghost use Rattle.lnt_records.specs.Faults.{IsFault};
+    ghost use Rattle.lnt_records.specs.Progress.{Judges};
+    ghost use Rattle.lnt_records.specs.Table.{Fields};
+
+    ghost has_taken = { λ version comparison count. (section : List Span) × (records : List Fields)
+        × Judges S.to_come comparison section records × (length records ≡ count) };
+
+    ghost judges = { λ version comparison section records. (comparison.version ≡ version) × Judges S.to_come comparison section records };
+
+    ghost is_fault = { λ version bytes fault. IsFault bytes fault };
+
+    fn take(
+        &self,
+        comparison: &mut Comparison<S>,
+        row: &ByteRecord,
+    ) -> Result<Option<TableFault>, AllocError> {
+        match comparison.take_span(row) {
+            Ok(_) => Ok(None),
+            Err(fault) => Ok(Some(fault)),
+        }
     }
 }

@@ -9,10 +9,9 @@ ghost use Rattle.lnt_records.specs.Differing.{IsDiffering, IsDifferingRead, IsSt
 ghost use Rattle.lnt_records.specs.Progress.{IsContinuedBy, IsGathered};
 ghost use Rattle.lnt_records.specs.Table.{BeginsWith, column_names};
 
-use crate::comparison::header_of;
 use crate::fault::{TableFault, told};
 use crate::gather::{Gathered, gather_after};
-use crate::header::header_line;
+use crate::header::{header_line, header_of};
 use crate::lines::pass_header;
 use crate::passing::pass_spans;
 use crate::remaining::Remaining;
@@ -122,7 +121,7 @@ fn differ_taken<S: SpanSource + Drop>(
     ensures started { IfOk result (λ read. IsStartedRead ⟦<Remaining<S> as SpanSource>⟧.to_come ⟦<SpanList as SpanSource>⟧.to_come
         read) }
 {
-    match header_of(alloc, &text)? {
+    match header_of::<Version>(alloc, &text)? {
         Some(version) => differ_text(alloc, &text, spans, version).map(DifferingRead::Differing),
         None => Ok(DifferingRead::Other(text)),
     }

@@ -2,16 +2,14 @@
 ghost use Rattle.std.specs.Prelude.{◌+◌, ◌^◌, ◌<◌, ℕ, List, [], ◌∷◌, length, IfOk};
 ghost use Rattle.lnt_spans.specs.declared.span.Span.{Span};
 ghost use Rattle.lnt_records.specs.Progress.{IsGathered};
-ghost use Rattle.lnt_records.specs.Passing.{IsCut, IsCutFront};
+ghost use Rattle.lnt_records.specs.Passing.{IsCut};
 ghost use Rattle.lnt_records.specs.Progress.{Judges};
-ghost use Rattle.lnt_records.specs.Reading.{HasRead};
 ghost use Rattle.lnt_records.specs.Table.{BeginsWith, Fields, column_names};
 
 use crate::comparison::Comparison;
 use crate::fault::TableFault;
-use crate::reading::{read_next, reader_of};
-use crate::wide::up_to_wide;
-use csv::{ByteRecord, Reader};
+use crate::taking::{TakesRecords, take_records};
+use csv::ByteRecord;
 use lnt_spans::{Merge, Span, SpanSource, Version};
 use std::alloc::{AllocError, Global};
 
@@ -25,9 +23,7 @@ pub(crate) enum Gathered {
 }
 
 // Gathers the spans of the rest of a table. `text` is the table's header with the records after it, without those that the
-// merge has already compared with spans; `count` is the number of these, including the header. Not inlined: a reader of
-// records is large, the stack is short, and no caller should hold it.
-#[inline(never)]
+// merge has already compared with spans; `count` is the number of these, including the header.
 pub(crate) fn gather_after<S: SpanSource + Drop>(
     alloc: Global,
     text: &[u8],
@@ -43,42 +39,53 @@ pub(crate) fn gather_after<S: SpanSource + Drop>(
         → (j : Judges S.to_come (record { merge = merge; version = version; count = count }) list (column_names version ∷ passed))
         → IsCut version text.now bytes passed → IsGathered bytes version j.table gathered) }
 {
-    let mut reader = reader_of(alloc, up_to_wide(alloc, text)?);
-    let mut row = ByteRecord::new(alloc);
-    let mut comparison = Comparison {
+    let comparison = Comparison {
         merge,
         version,
         count,
     };
-    gather_rest(alloc, &mut reader, &mut row, &mut comparison)
+    let mut gathering = Gathering {
+        comparison,
+        spans: Vec::new(alloc),
+    };
+    match take_records(alloc, text, &version, &mut gathering)? {
+        Some(fault) => Ok(Gathered::Fault(fault)),
+        None => Ok(Gathered::Spans(gathering.spans)),
+    }
 }
 
-// Gathers the spans of the records after the header, each read into `row`. The reader must have read nothing yet.
-fn gather_rest<S: SpanSource + Drop>(
-    alloc: Global,
-    reader: &mut Reader<&[u8]>,
-    row: &mut ByteRecord,
-    comparison: &mut Comparison<S>,
-) -> Result<Gathered, AllocError>
-    requires read { (text : List ℕ) × HasRead reader.old text [] × BeginsWith text (column_names comparison.old.version ∷ [])
-        × (comparison.old.count + length text < 2 ^ 64 + 1) }
-    requires judged { (list : List Span) × (passed : List Fields)
-        × Judges S.to_come comparison.old list (column_names comparison.old.version ∷ passed) }
-    ensures { IfOk result (λ gathered. (text : List ℕ) (list : List Span) (passed : List Fields) (bytes : List ℕ)
-        → HasRead reader.old text [] → BeginsWith text (column_names comparison.old.version ∷ [])
-        → (j : Judges S.to_come comparison.old list (column_names comparison.old.version ∷ passed))
-        → IsCutFront comparison.old.version text bytes passed → IsGathered bytes comparison.old.version j.table gathered) }
-{
-    read_next(reader, row)?;
-    let mut spans = Vec::new(alloc);
-    while read_next(reader, row)? {
-        let span = match comparison.take_span(row) {
+// The state of a comparison, and the spans of the records that it took.
+#[derive(Drop)]
+pub(crate) struct Gathering<S> {
+    comparison: Comparison<S>,
+    spans: Vec<Span>,
+}
+
+impl<S: SpanSource + Drop> TakesRecords<Gathering<S>> for Version {
+    ghost use Rattle.std.specs.Prelude.{◌≡◌, ◌++◌, List, length};
+    ghost use Rattle.lnt_spans.specs.declared.span.Span.{Span};
+    ghost use Rattle.lnt_records.specs.Faults.{IsFault};
+    ghost use Rattle.lnt_records.specs.Progress.{Gathers, Judges};
+    ghost use Rattle.lnt_records.specs.Table.{Fields};
+
+    ghost has_taken = { λ version gathering count. (section : List Span) × (records : List Fields)
+        × Judges S.to_come gathering.comparison section records × (length records ≡ count) };
+
+    ghost judges = { λ version gathering before records. (gathering.comparison.version ≡ version)
+        × Gathers S.to_come gathering.comparison gathering.spans.items before records };
+
+    ghost is_fault = { λ version bytes fault. IsFault bytes fault };
+
+    fn take(
+        &self,
+        gathering: &mut Gathering<S>,
+        row: &ByteRecord,
+    ) -> Result<Option<TableFault>, AllocError> {
+        let span = match gathering.comparison.take_span(row) {
             Ok(span) => span,
-            Err(fault) => return Ok(Gathered::Fault(fault)),
+            Err(fault) => return Ok(Some(fault)),
         };
-        let Ok(()) = spans.push(span) else {
-            return Err(AllocError);
-        };
+        gathering.spans.push(span)?;
+        Ok(None)
     }
-    Ok(Gathered::Spans(spans))
 }

@@ -12,7 +12,7 @@ pub fn no_fault()
 {}
 
 /// At most one fault is the first of some bytes.
-#[tactic(auto, using(crate::proofs::OneFaultLemmas::one_fault))]
+#[tactic(auto, using(crate::proofs::LawLemmas::one_fault))]
 pub fn one_fault()
     ensures { OneFault }
 {}

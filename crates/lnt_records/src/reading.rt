@@ -1,14 +1,11 @@
 //! Reads the records of a table one by one.
-ghost use Rattle.std.specs.Prelude.{◌≡◌, ◌<◌, ℕ, true, List, [], ◌∷◌, ◌++◌, IfOk, MatchOption};
+ghost use Rattle.std.specs.Prelude.{◌≡◌, ◌<◌, ℕ, true, List, [], ◌∷◌, ◌++◌, IfOk};
 ghost use Rattle.std.specs.Bool.{MatchBool};
 ghost use Rattle.csv.specs.Records.{fields_of};
-ghost use Rattle.lnt_spans.specs.declared.answer.Version.{Version};
 ghost use Rattle.lnt_records.specs.Reading.{HasRead, bytes_left, known_length};
-ghost use Rattle.lnt_records.specs.Table.{BeginsWith, Fields, RecordsOf, column_names};
+ghost use Rattle.lnt_records.specs.Table.{Fields, RecordsOf};
 
-use crate::header::version_of;
 use csv::{ByteRecord, Reader, ReaderBuilder};
-use lnt_spans::Version;
 use std::alloc::{AllocError, Global};
 
 /// A reader of the records in some bytes. It treats no record as a header, and a record may have any number of fields.
@@ -33,31 +30,4 @@ pub fn read_next(reader: &mut Reader<&[u8]>, row: &mut ByteRecord) -> Result<boo
         return Err(AllocError);
     };
     Ok(found)
-}
-
-/// Reads record 0 into `row`, and gives whether there is one. The reader must come from `reader_of` and have read nothing
-/// yet. The bytes begin with no other record than that. Fails only if memory runs out, as in `read_next`.
-pub fn read_first(reader: &mut Reader<&[u8]>, row: &mut ByteRecord) -> Result<bool, AllocError>
-    requires { (bytes : List ℕ) × HasRead reader.old bytes [] }
-    ensures { IfOk result (λ found. (bytes : List ℕ) → HasRead reader.old bytes [] → MatchBool found
-        (HasRead reader.new bytes (fields_of row.new ∷ []) × ((other : Fields) → BeginsWith bytes (other ∷ []) → other ≡ fields_of row.new))
-        ((other : Fields) → BeginsWith bytes (other ∷ []) → ⊥)) }
-{
-    read_next(reader, row)
-}
-
-// The version whose columns record 0 names, if it is a header.
-pub(crate) fn read_header(
-    reader: &mut Reader<&[u8]>,
-    row: &mut ByteRecord,
-) -> Result<Option<Version>, AllocError>
-    requires { (bytes : List ℕ) × HasRead reader.old bytes [] }
-    ensures { IfOk result (λ found. (bytes : List ℕ) → HasRead reader.old bytes []
-        → MatchOption found ((v : Version) → BeginsWith bytes (column_names v ∷ []) → ⊥)
-        (λ v. HasRead reader.new bytes (column_names v ∷ []))) }
-{
-    if !read_next(reader, row)? {
-        return Ok(None);
-    }
-    Ok(version_of(row))
 }

@@ -3,17 +3,17 @@ ghost use Rattle.std.specs.Prelude.{◌≡◌, ◌+◌, ◌<◌, length, IfOk, I
 ghost use Rattle.csv.specs.Records.{fields_of};
 ghost use Rattle.lnt_digits.specs.Digits.{IsDecimal};
 ghost use Rattle.lnt_records.specs.Progress.{AreSoundBefore, IsColumnFault, IsColumnOf, IsRecordFault, SaysAnswer, SaysPosition};
-ghost use Rattle.lnt_records.specs.Table.{AreMore, IsSpanRecord, column_count};
+ghost use Rattle.lnt_records.specs.Table.{AreMore, IsSpanRecord, column_count, kinds};
 ghost use Rattle.lnt_records.specs.Table as table;
 
-use crate::column::{address_at, decimal_at, flag_at};
+use crate::column::{ByNumber, address_at, decimal_at, flag_at};
 use crate::header::columns;
 use csv::ByteRecord;
 use lnt_spans::{Answer, More, Position, Span, Version};
 
 /// Why a record has no span.
-#[derive(Clone, Copy)]
-pub(crate) enum RecordFault {
+#[derive(Clone, Copy, Debug, PartialEq, Eq)]
+pub enum RecordFault {
     /// The number of its fields isn't the number of columns.
     Fields,
     /// This column is the first whose field isn't of its kind.
@@ -23,7 +23,7 @@ pub(crate) enum RecordFault {
 // The span of a record, or why it has none.
 pub(crate) fn span_of(row: &ByteRecord, version: Version) -> Result<Span, RecordFault>
     ensures ok { IfOk result (λ span. IsSpanRecord version (fields_of row.now) span) }
-    ensures err { IfErr result (λ fault. IsRecordFault version (fields_of row.now) fault) }
+    ensures err { IfErr result (λ fault. IsRecordFault kinds (column_count version) (fields_of row.now) fault) }
 {
     if row.len() != columns(version) {
         return Err(RecordFault::Fields);
@@ -35,7 +35,7 @@ pub(crate) fn span_of(row: &ByteRecord, version: Version) -> Result<Span, Record
 fn span_in(row: &ByteRecord, version: Version) -> Result<Span, RecordFault>
     requires { length (fields_of row.now) ≡ column_count version }
     ensures ok { IfOk result (λ span. IsSpanRecord version (fields_of row.now) span) }
-    ensures err { IfErr result (λ fault. IsRecordFault version (fields_of row.now) fault) }
+    ensures err { IfErr result (λ fault. IsRecordFault kinds (column_count version) (fields_of row.now) fault) }
 {
     let low = position_at(row, 0)?;
     let high = position_at(row, 2)?;
@@ -46,15 +46,15 @@ fn span_in(row: &ByteRecord, version: Version) -> Result<Span, RecordFault>
 // The position in columns `i` and `i + 1`. The caller makes sure that the fields before them are of their kinds.
 fn position_at(row: &ByteRecord, i: usize) -> Result<Position, RecordFault>
     requires there { i + 1 < length (fields_of row.now) }
-    requires address { IsColumnOf table.address i }
-    requires op { IsColumnOf table.decimal (i + 1) }
-    requires before { AreSoundBefore (fields_of row.now) i }
+    requires address { IsColumnOf kinds table.address i }
+    requires op { IsColumnOf kinds table.decimal (i + 1) }
+    requires before { AreSoundBefore kinds (fields_of row.now) i }
     ensures ok { IfOk result (λ position. SaysPosition (fields_of row.now) i position) }
-    ensures after { OnOk result (AreSoundBefore (fields_of row.now) (i + 2)) }
-    ensures err { IfErr result (λ fault. IsColumnFault (fields_of row.now) fault) }
+    ensures after { OnOk result (AreSoundBefore kinds (fields_of row.now) (i + 2)) }
+    ensures err { IfErr result (λ fault. IsColumnFault kinds (fields_of row.now) fault) }
 {
-    let address = address_at(row, i)?;
-    let op = decimal_at(row, i + 1)?;
+    let address = address_at::<ByNumber>(row, i)?;
+    let op = decimal_at::<ByNumber>(row, i + 1)?;
     Ok(Position { address, op })
 }
 
@@ -62,15 +62,15 @@ fn position_at(row: &ByteRecord, i: usize) -> Result<Position, RecordFault>
 #[tactic(auto, using(crate::proofs::RecordLemmas::common_columns))]
 fn answer_in(row: &ByteRecord, version: Version) -> Result<Answer, RecordFault>
     requires count { length (fields_of row.now) ≡ column_count version }
-    requires before { AreSoundBefore (fields_of row.now) 4 }
+    requires before { AreSoundBefore kinds (fields_of row.now) 4 }
     ensures ok { IfOk result (λ answer. SaysAnswer version (fields_of row.now) answer) }
-    ensures err { IfErr result (λ fault. IsColumnFault (fields_of row.now) fault) }
+    ensures err { IfErr result (λ fault. IsColumnFault kinds (fields_of row.now) fault) }
 {
-    let unit = decimal_at(row, 4)?;
-    let file = decimal_at(row, 5)?;
-    let line = decimal_at(row, 6)?;
-    let column = decimal_at(row, 7)?;
-    let is_stmt = flag_at(row, 8)?;
+    let unit = decimal_at::<ByNumber>(row, 4)?;
+    let file = decimal_at::<ByNumber>(row, 5)?;
+    let line = decimal_at::<ByNumber>(row, 6)?;
+    let column = decimal_at::<ByNumber>(row, 7)?;
+    let is_stmt = flag_at::<ByNumber>(row, 8)?;
     let more = more_in(row, version)?;
     Ok(Answer {
         unit,
@@ -85,15 +85,15 @@ fn answer_in(row: &ByteRecord, version: Version) -> Result<Answer, RecordFault>
 // What only version 2 has: the instruction set and the discriminator.
 fn more_in(row: &ByteRecord, version: Version) -> Result<Option<More>, RecordFault>
     requires count { length (fields_of row.now) ≡ column_count version }
-    requires before { AreSoundBefore (fields_of row.now) 9 }
+    requires before { AreSoundBefore kinds (fields_of row.now) 9 }
     ensures ok { IfOk result (λ more. AreMore IsDecimal version (fields_of row.now) more) }
-    ensures err { IfErr result (λ fault. IsColumnFault (fields_of row.now) fault) }
+    ensures err { IfErr result (λ fault. IsColumnFault kinds (fields_of row.now) fault) }
 {
     match version {
         Version::One => Ok(None),
         Version::Two => {
-            let isa = decimal_at(row, 9)?;
-            let discriminator = decimal_at(row, 10)?;
+            let isa = decimal_at::<ByNumber>(row, 9)?;
+            let discriminator = decimal_at::<ByNumber>(row, 10)?;
             Ok(Some(More { isa, discriminator }))
         }
     }

@@ -5,14 +5,14 @@ ghost use Rattle.lnt_spans.specs.Spans.{AreInOrder};
 ghost use Rattle.lnt_input.specs.Pulling.{HasMoreThan};
 ghost use Rattle.lnt_records.specs.Faults.{IsComparison, IsTableRead};
 
-use crate::comparison::{Compared, compare_after, compare_records, header_of};
+use crate::comparison::{Compared, compare_after, compare_records};
 use crate::fault::{TableFault, told};
-use crate::header::header_line;
+use crate::header::{header_line, header_of};
 use crate::lines::{pass_header, push_lines};
 use crate::passing::pass_spans;
 use crate::window::Window;
 use lnt_input::{Source, Stop};
-use lnt_spans::{Merge, SpanSource};
+use lnt_spans::{Merge, SpanSource, Version};
 use std::alloc::{AllocError, Global};
 
 /// Compares the table of a source with the spans of a section, as both come.
@@ -100,7 +100,7 @@ fn compare_taken<S: SpanSource + Drop>(
     requires { (list : List Span) × S.to_come spans list × AreInOrder list }
     ensures { IfOk result (λ read. (list : List Span) → S.to_come spans list → AreInOrder list → IsTableRead text.items list read) }
 {
-    match header_of(alloc, &text)? {
+    match header_of::<Version>(alloc, &text)? {
         Some(_) => compare_records(alloc, &text, spans).map(TableRead::Compared),
         None => Ok(TableRead::Other(text)),
     }

@@ -5,11 +5,12 @@ use Rattle.lnt_spans.specs.declared.answer.Version.{Version}
 use Rattle.lnt_spans.specs.declared.answer.Version.TheVariants.{One, Two}
 use Rattle.lnt_records.specs.declared.fault.TableFault.TheVariants as fault
 use Rattle.lnt_records.proofs.BeginningLaws.{faulty_begins, one_beginning, table_begins}
+use Rattle.lnt_records.specs.Table as numbered
 use Rattle.lnt_records.specs.Table.{column_names}
 use Rattle.lnt_paths.specs.declared.version.PathVersion.{PathVersion}
 use Rattle.lnt_paths.specs.declared.version.PathVersion.TheVariants.{Three, Four}
 use Rattle.lnt_paths.specs.declared.answer.ComparedByPath.TheVariants.{Same}
-use Rattle.lnt_paths.proofs.BeginningLaws.{path_table_begins}
+use Rattle.lnt_paths.specs.PathTables as pathed
 use Rattle.lnt_paths.specs.PathTables.{path_column_names}
 use Rattle.lnt_paths.specs.Written.{IsCanonicalPathTable}
 use Rattle.lnt_lines.specs.declared.options.Options.{Options}
@@ -33,18 +34,18 @@ by_number : OneVerdict → GoodHasNoFlaw
 by_number verdicts flawless line general options section table verdict (Numbered other) h k =
     ap Numbered (verdicts.one line general options section table other verdict k.0 h.0)
 by_number verdicts flawless line general options section table Yes (ByPath compared) h k =
-    absurd (k.told.unnumbered h.0.version (table_begins table h.0.version h.0.spans h.0.is_table))
+    absurd (k.told.unnumbered h.0.version (table_begins numbered.by_number table h.0.version h.0.spans h.0.is_table))
 by_number verdicts flawless line general options section table (No (no.Section reason)) (ByPath compared) h k =
     absurd (flawless line general options section k.units reason k.good h.0)
 by_number verdicts flawless line general options section table (No no.TableHeader) (ByPath compared) h k = absurd (h.1 refl)
 by_number verdicts flawless line general options section table (No (no.TableFields n)) (ByPath compared) h k =
-    absurd (k.told.unnumbered h.0.faulty.version (faulty_begins table (fault.Fields n) h.0.faulty))
+    absurd (k.told.unnumbered h.0.faulty.version (faulty_begins numbered.by_number table (fault.Fields n) h.0.faulty))
 by_number verdicts flawless line general options section table (No (no.TableNumber n i)) (ByPath compared) h k =
-    absurd (k.told.unnumbered h.0.faulty.version (faulty_begins table (fault.Number n i) h.0.faulty))
+    absurd (k.told.unnumbered h.0.faulty.version (faulty_begins numbered.by_number table (fault.Number n i) h.0.faulty))
 by_number verdicts flawless line general options section table (No (no.TableOrder n)) (ByPath compared) h k =
-    absurd (k.told.unnumbered h.0.faulty.version (faulty_begins table (fault.Order n) h.0.faulty))
+    absurd (k.told.unnumbered h.0.faulty.version (faulty_begins numbered.by_number table (fault.Order n) h.0.faulty))
 by_number verdicts flawless line general options section table (No (no.Differs position by_table by_section)) (ByPath compared) h k =
-    absurd (k.told.unnumbered h.0.version (table_begins table h.0.version h.0.spans h.0.is_table))
+    absurd (k.told.unnumbered h.0.version (table_begins numbered.by_number table h.0.version h.0.spans h.0.is_table))
 
 pub one_numbered : OneVerdict → GoodHasNoFlaw → OneNumbered
 one_numbered verdicts flawless = record { one = by_number verdicts flawless }
@@ -67,7 +68,7 @@ own line general options section table units version good w = record {
   told = record {
     unnumbered = λ v begins.
         names_differ v version
-        (one_beginning table (column_names v) (path_column_names version) begins (path_table_begins table version w.spans w.table));
+        (one_beginning table (column_names v) (path_column_names version) begins (table_begins pathed.by_path table version w.spans w.table));
     comparison = record { version = version; table = w.spans; is_table = w.table; agree = λ p. sym (w.canonical.same p) };
   };
 }

@@ -1,21 +1,36 @@
-use Rattle.std.proofs.Common.{arith}
-use Rattle.std.proofs.lemmas.Result.{IfOk-weaker}
+use Rattle.std.proofs.Common.{◌++◌, refl}
+use Rattle.lnt_paths.specs.PathAnswers.{path_answer}
+use Rattle.lnt_paths.proofs.ComparisonLemmas.{difference_told, same_told}
+use Rattle.lnt_paths.proofs.PassingLemmas.{reached_on}
 use Rattle.lnt_paths.proofs.comparison.compare_after.Goals as goal
 
-pub compare_records-requires-clause-past : goal.compare_records-requires-clause-past
-compare_records-requires-clause-past g c =
-    let known = c.requires.past in (
-      c.in_ok-up_to_wide.field-0.now,
-      known.0,
-      known.1,
-      c.reader_of-reader.ensures,
-      (c.args.text.now, c.in_ok-up_to_wide.ensures, known.2),
-      omega (arith, c.in_ok-up_to_wide.ensures.few, c.requires.few),
-    )
+pub take_records-requires-clause-first : goal.take_records-requires-clause-first
+take_records-requires-clause-first g c =
+    let past = c.requires.past.2 in (past.goes_on.last, past.goes_on.narrow, (past.after, past.rest, past.goes_on.text_reached))
 
-pub returns : goal.returns
-returns g c =
-    IfOk-weaker c.compare_records.result _ _
-    (λ compared is bytes records list past j. is c.in_ok-up_to_wide.field-0.now bytes records list c.reader_of-reader.ensures
-    (c.args.text.now, c.in_ok-up_to_wide.ensures, past) j)
-    c.compare_records.ensures
+pub take_records-requires-clause-few : goal.take_records-requires-clause-few
+take_records-requires-clause-few g c = (c.args.comparison.count, (c.requires.known, refl), c.requires.few)
+
+pub returns-in-Some : goal.returns-in-Some
+returns-in-Some g c bytes records list past j =
+    rw c.in-Some.is at c.in_ok-fault.ensures past.goes_on.last list records bytes past.goes_on.narrow
+    (past.after, past.rest, past.goes_on.text_reached)
+    (λ more after rest r. reached_on bytes c.args.text.now records more past.goes_on.last after rest past r) j
+
+pub returns-in-Ok-Some : goal.returns-in-Ok-Some
+returns-in-Ok-Some g c bytes records list past j =
+    let now = rw c.in_default.is at c.in_ok-fault.ensures past.goes_on.last list records bytes past.goes_on.narrow
+    (past.after, past.rest, past.goes_on.text_reached)
+    (λ more after rest r. reached_on bytes c.args.text.now records more past.goes_on.last after rest past r) j in
+    difference_told g.S.SpanSource.to_come (λ version. path_answer version (g.P.Paths.bytes_of c.args.paths.now)) c.args.version
+    c.take_records.new.state bytes list (records ++ now.0) c.in-Ok-Some.difference now.2 now.1
+    (rw c.in-Ok-Some.field-0-is at c.in-Ok-Some.ensures list now.2.table now.2.merged)
+
+pub returns-in-Ok-None : goal.returns-in-Ok-None
+returns-in-Ok-None g c bytes records list past j =
+    let now = rw c.in_default.is at c.in_ok-fault.ensures past.goes_on.last list records bytes past.goes_on.narrow
+    (past.after, past.rest, past.goes_on.text_reached)
+    (λ more after rest r. reached_on bytes c.args.text.now records more past.goes_on.last after rest past r) j in
+    same_told g.S.SpanSource.to_come (λ version. path_answer version (g.P.Paths.bytes_of c.args.paths.now)) c.args.version
+    c.take_records.new.state bytes list (records ++ now.0) now.2 now.1
+    (rw c.in-Ok-None.field-0-is at c.in-Ok-None.ensures list now.2.table now.2.merged)

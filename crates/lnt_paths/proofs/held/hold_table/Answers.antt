@@ -1,17 +1,28 @@
-use Rattle.std.proofs.lemmas.Result.{IfOk-weaker}
-use Rattle.lnt_paths.proofs.FrontLemmas.{front_held}
-use Rattle.lnt_paths.proofs.HeldOrderLemmas.{in_order}
+use Rattle.std.proofs.Common.{◌∷◌, ◌++◌, []}
+use Rattle.lnt_paths.specs.PathTables.{path_column_names}
+use Rattle.lnt_paths.proofs.HeldLemmas.{held_none, table_in_order}
+use Rattle.lnt_paths.proofs.OneTableLemmas.{pathed}
 use Rattle.lnt_paths.proofs.held.hold_table.Goals as goal
 
-pub returns-clause-held : goal.returns-clause-held
-returns-clause-held c =
-    IfOk-weaker c.hold_read.result _ _
-    (λ held is. front_held c.in_ok-up_to_wide.field-0.now c.args.table.now held c.in_ok-up_to_wide.ensures
-    (is c.in_ok-up_to_wide.field-0.now c.reader_of-reader.ensures))
-    c.hold_read.ensures
+pub returns-in-Some-2-clause-held : goal.returns-in-Some-2-clause-held
+returns-in-Some-2-clause-held c =
+    let version = c.in-Some.version in
+    let names = path_column_names version in
+    rw c.in-Some-2.is at c.in_ok-fault.ensures names [] (names ∷ []) c.args.table.now (pathed.narrow version)
+    (rw c.in-Some.is at c.in_ok-version.ensures) (λ more after rest r. r) (held_none version _ c.new-spans.ensures.items)
 
-pub returns-clause-in_order : goal.returns-clause-in_order
-returns-clause-in_order c =
-    IfOk-weaker c.hold_read.result _ _
-    (λ held is. in_order c.in_ok-up_to_wide.field-0.now held (is c.in_ok-up_to_wide.field-0.now c.reader_of-reader.ensures))
-    c.hold_read.ensures
+pub returns-in-None-clause-held : goal.returns-in-None-clause-held
+returns-in-None-clause-held c =
+    let version = c.in-Some.version in
+    let names = path_column_names version in
+    let now = rw c.in-None.is at c.in_ok-fault.ensures names [] (names ∷ []) c.args.table.now (pathed.narrow version)
+    (rw c.in-Some.is at c.in_ok-version.ensures) (λ more after rest r. r) (held_none version _ c.new-spans.ensures.items) in
+    (names ∷ now.0, now.1, now.2)
+
+pub returns-in-None-clause-in_order : goal.returns-in-None-clause-in_order
+returns-in-None-clause-in_order c =
+    let version = c.in-Some.version in
+    let names = path_column_names version in
+    let now = rw c.in-None.is at c.in_ok-fault.ensures names [] (names ∷ []) c.args.table.now (pathed.narrow version)
+    (rw c.in-Some.is at c.in_ok-version.ensures) (λ more after rest r. r) (held_none version _ c.new-spans.ensures.items) in
+    table_in_order version (names ∷ now.0) _ now.2

@@ -1,20 +1,37 @@
-use Rattle.std.proofs.Common.{arith}
-use Rattle.std.proofs.lemmas.Result.{IfOk-weaker}
-use Rattle.lnt_records.proofs.ComparisonLemmas.{header_kept}
+use Rattle.std.proofs.Common.{◌∷◌, refl, sym}
+use Rattle.lnt_records.specs.Table.{column_names}
+use Rattle.lnt_records.proofs.ComparisonLemmas.{AnswersSo, difference_told, same_told}
+use Rattle.lnt_records.proofs.LawLemmas.{numbered}
 use Rattle.lnt_records.proofs.comparison.compare_after.Goals as goal
 
-pub compare_rest-requires-clause-read : goal.compare_rest-requires-clause-read
-compare_rest-requires-clause-read g c = (
-  c.in_ok-up_to_wide.field-0.now,
-  c.reader_of-reader.ensures,
-  header_kept c.in_ok-up_to_wide.field-0.now c.args.text.now c.args.version c.in_ok-up_to_wide.ensures c.requires.begins,
-  omega (arith, c.in_ok-up_to_wide.ensures.few, c.requires.few),
-)
+pub take_records-requires-clause-first : goal.take_records-requires-clause-first
+take_records-requires-clause-first g c = (column_names c.args.version, numbered.narrow c.args.version, c.requires.begins)
 
-pub returns : goal.returns
-returns g c =
-    IfOk-weaker c.compare_rest.result _ _
-    (λ compared is list section passed bytes j cut. is c.in_ok-up_to_wide.field-0.now list section passed bytes c.reader_of-reader.ensures
-    (header_kept c.in_ok-up_to_wide.field-0.now c.args.text.now c.args.version c.in_ok-up_to_wide.ensures c.requires.begins) j
-    (c.args.text.now, c.in_ok-up_to_wide.ensures, cut))
-    c.compare_rest.ensures
+pub take_records-requires-clause-few : goal.take_records-requires-clause-few
+take_records-requires-clause-few g c =
+    let known = c.requires.judged in
+    (c.args.count, (known.0, column_names c.args.version ∷ known.1, known.2, sym known.2.count), c.requires.few)
+
+pub returns-in-Some : goal.returns-in-Some
+returns-in-Some g c list section passed bytes j cut same =
+    let names = column_names c.args.version in
+    rw c.in-Some.is at c.in_ok-fault.ensures names list (names ∷ passed) bytes (numbered.narrow c.args.version) c.requires.begins
+    cut (refl, j)
+
+pub returns-in-Some-finish : goal.returns-in-Some-finish
+returns-in-Some-finish g c list section passed bytes j cut same =
+    let names = column_names c.args.version in
+    let now = rw c.in_default.is at c.in_ok-fault.ensures names list (names ∷ passed) bytes (numbered.narrow c.args.version)
+    c.requires.begins cut (refl, j) in
+    let so : AnswersSo c.take_records.new.state.version list section = rw now.2.0 same in
+    difference_told g.S.SpanSource.to_come bytes c.take_records.new.state list section _ c.in-Some-finish.difference now.2.1 now.1 so
+    (c.in-Some-finish.ensures list now.2.1.table now.2.1.compares)
+
+pub returns-in-None : goal.returns-in-None
+returns-in-None g c list section passed bytes j cut same =
+    let names = column_names c.args.version in
+    let now = rw c.in_default.is at c.in_ok-fault.ensures names list (names ∷ passed) bytes (numbered.narrow c.args.version)
+    c.requires.begins cut (refl, j) in
+    let so : AnswersSo c.take_records.new.state.version list section = rw now.2.0 same in
+    same_told g.S.SpanSource.to_come bytes c.take_records.new.state list section _ now.2.1 now.1 so
+    (c.in-None.ensures list now.2.1.table now.2.1.compares)

@@ -3,7 +3,11 @@ use Rattle.csv.specs.Records.{fields_of}
 use Rattle.lnt_paths.specs.PathAnswers.{path_answer}
 use Rattle.lnt_paths.specs.PathFaults.{IsFaultyRecord}
 use Rattle.lnt_paths.proofs.ComparisonLemmas.{record_taken}
+use Rattle.lnt_paths.proofs.OneTableLemmas.{says_narrow}
 use Rattle.lnt_paths.proofs.comparison.PathComparison.take_record.Goals as goal
+
+pub returns-clause-narrow : goal.returns-clause-narrow
+returns-clause-narrow g c = says_narrow c.args.version _ _ _ _ c.in-Ok.ensures.ok
 
 pub returns-in-Err-clause-judged : goal.returns-in-Err-clause-judged
 returns-in-Err-clause-judged g c list records j = (

@@ -1,0 +1,76 @@
+//! Takes the records of a table one after another, as `csv` reads them.
+ghost use Rattle.std.specs.Prelude.{◌≡◌, ◌+◌, ◌^◌, ◌<◌, ◌++◌, ◌∷◌, ℕ, List, [], length, IfOk, MatchOption};
+ghost use Rattle.csv.specs.Records.{fields_of};
+ghost use Rattle.lnt_spans.specs.declared.span.Span.{Span};
+ghost use Rattle.lnt_records.specs.Passing.{IsCutAfter};
+ghost use Rattle.lnt_records.specs.Reading.{IsNarrow, IsReadAs};
+ghost use Rattle.lnt_records.specs.Table.{BeginsWith, Fields, RecordsOf};
+
+use crate::fault::TableFault;
+use crate::reading::{read_next, reader_of};
+use crate::wide::up_to_wide;
+use csv::ByteRecord;
+use std::alloc::{AllocError, Global};
+
+/// Takes the records of a table one after another. `C` is the state after those that were taken so far.
+///
+/// Contracts see it by three ghost members: `has_taken`, whether a state is one after so many records; `judges`, what is known of a
+/// state and some spans after these records; and `is_fault`, whether this is the first fault of these bytes.
+pub trait TakesRecords<C> {
+    ghost use Rattle.std.specs.Prelude.{◌≡◌, ◌+◌, ◌^◌, ◌<◌, ◌++◌, ◌∷◌, ℕ, List, [], IfOk, MatchOption};
+    ghost use Rattle.csv.specs.Records.{fields_of};
+    ghost use Rattle.lnt_spans.specs.declared.span.Span.{Span};
+    ghost use Rattle.lnt_records.specs.declared.fault.TableFault.{TableFault as SpecFault};
+    ghost use Rattle.lnt_records.specs.Reading.{IsNarrow, IsReadAs};
+    ghost use Rattle.lnt_records.specs.Table.{BeginsWith, Fields};
+
+    ghost has_taken: { Self → C → ℕ → Type 0 };
+
+    ghost judges: { Self → C → List Span → List Fields → Type 0 };
+
+    ghost is_fault: { Self → List ℕ → SpecFault → Type 0 };
+
+    /// Takes one more record, or gives its fault, which then is the first of all bytes that begin with the records so far and this
+    /// one. Fails only if memory runs out.
+    fn take(&self, state: &mut C, row: &ByteRecord) -> Result<Option<TableFault>, AllocError>
+        requires { (count : ℕ) × has_taken self.now state.old count × (count + 1 < 2 ^ 64) }
+        ensures counted { IfOk result (λ found. (count : ℕ) → has_taken self.now state.old count
+            → MatchOption found (has_taken self.now state.new (count + 1)) (λ _. Unit {0})) }
+        ensures narrow { IfOk result (λ found. MatchOption found (IsNarrow (fields_of row.now)) (λ _. Unit {0})) }
+        ensures taken { IfOk result (λ found. (spans : List Span) (records : List Fields) → judges self.now state.old spans records
+            → MatchOption found (judges self.now state.new spans (records ++ fields_of row.now ∷ []))
+            (λ fault. (whole : Fields) (bytes : List ℕ) → IsReadAs (fields_of row.now) whole → BeginsWith bytes (records ++ whole ∷ [])
+            → is_fault self.now bytes fault)) };
+}
+
+/// Takes the records of a text after its first one, up to the first that is faulty, whose fault it gives. No record with more fields
+/// than any table has columns is held whole.
+///
+/// The bytes of the table may have other records in place of the text's first one: those that were taken before. The caller makes sure
+/// that the text has a first record, with no more fields than that. Fails only if memory runs out. Not inlined: a reader of records is
+/// large, the stack is short, and no caller should hold it.
+#[inline(never)]
+pub fn take_records<C, T: TakesRecords<C>>(
+    alloc: Global,
+    text: &[u8],
+    taker: &T,
+    state: &mut C,
+) -> Result<Option<TableFault>, AllocError>
+    requires first { (first : Fields) × IsNarrow first × BeginsWith text.now (first ∷ []) }
+    requires few { (count : ℕ) × T.has_taken taker.now state.old count × (count + length text.now < 2 ^ 64 + 1) }
+    ensures { IfOk result (λ found. (first : Fields) (spans : List Span) (passed : List Fields) (bytes : List ℕ) → IsNarrow first
+        → BeginsWith text.now (first ∷ []) → IsCutAfter first text.now bytes passed → T.judges taker.now state.old spans passed
+        → MatchOption found ((more : List Fields) × RecordsOf bytes (passed ++ more) × T.judges taker.now state.new spans (passed ++ more))
+        (λ fault. T.is_fault taker.now bytes fault)) }
+{
+    let front = up_to_wide(alloc, text)?;
+    let mut reader = reader_of(alloc, front);
+    let mut row = ByteRecord::new(alloc);
+    read_next(&mut reader, &mut row)?;
+    while read_next(&mut reader, &mut row)? {
+        if let Some(fault) = taker.take(state, &row)? {
+            return Ok(Some(fault));
+        }
+    }
+    Ok(None)
+}
