@@ -10,6 +10,7 @@ use Rattle.lnt_sources.specs.declared.status.Status.TheVariants.{Done, No}
 use Rattle.lnt_unit.specs.Converting.{IsConverted}
 use Rattle.lnt_words.specs.declared.request.Reading.{Reading}
 use Rattle.lnt_words.specs.declared.request.Reading.TheVariants.{Convert, Dump, Units}
+use Rattle.lnt_dump.specs.Dumps.{IsDumpBegun, IsDumped}
 use Rattle.lnt_dump.specs.Printed.{IsPrintedIn, IsRefusalTold}
 use Rattle.lnt_dump.specs.Units.{AreBytes, AreUnitsTold}
 use Rattle.lnt_cli.specs.Answered.{AnswersRead}
@@ -24,12 +25,13 @@ units_told order None old new (Ok status) told = tt
 units_told order (Some bytes) old new (Ok status) told = told
 units_told order section old new (Err halt) told = tt
 
--- a dump, of which nothing is said
+-- the lines of a section's units
 pub dump_told : (order : Order) (ops rows : Bool) (section old new : Option (List ℕ)) (printed : Result Status Halt)
+    → IfOk printed (IsDumped order (record { ops = ops; rows = rows }) section old new)
     → IfOk printed (λ status. IfSome section (λ bytes. AnswersReading order (Dump ops rows) bytes old new status))
-dump_told order ops rows None old new (Ok status) = tt
-dump_told order ops rows (Some bytes) old new (Ok status) = tt
-dump_told order ops rows section old new (Err halt) = tt
+dump_told order ops rows None old new (Ok status) told = tt
+dump_told order ops rows (Some bytes) old new (Ok status) told = told
+dump_told order ops rows section old new (Err halt) told = tt
 
 -- the conversion of a section, whichever way it ends
 pub conversion_told : (order : Order) (format : Format) (to : Order) (section old new : Option (List ℕ)) (printed : Result Status Halt)
@@ -52,10 +54,11 @@ units_stopped order None old new (Err halt) begun = tt
 units_stopped order (Some bytes) old new (Err halt) begun = inr begun
 
 pub dump_stopped : (order : Order) (ops rows : Bool) (section old new : Option (List ℕ)) (printed : Result Status Halt)
+    → OnErr printed (IsDumpBegun order (record { ops = ops; rows = rows }) section old new)
     → OnErr printed (IfSome section (λ bytes. Keeps old new ⊎ BeginsReading order (Dump ops rows) bytes old new))
-dump_stopped order ops rows section old new (Ok status) = tt
-dump_stopped order ops rows None old new (Err halt) = tt
-dump_stopped order ops rows (Some bytes) old new (Err halt) = inr tt
+dump_stopped order ops rows section old new (Ok status) begun = tt
+dump_stopped order ops rows None old new (Err halt) begun = tt
+dump_stopped order ops rows (Some bytes) old new (Err halt) begun = inr begun
 
 -- a front of the answer for the section's bytes is one for the named file
 begun_read : (tells : List ℕ → Option (List ℕ) → Type 0) (name : List ℕ) (order : Order) (reading : Reading)

@@ -15,10 +15,12 @@ use Rattle.lnt_words.specs.declared.request.Judging.{Judging}
 use Rattle.lnt_words.specs.declared.request.Question.{Question}
 use Rattle.lnt_words.specs.declared.request.Reading.{Reading}
 use Rattle.lnt_words.specs.declared.request.Request.{Request}
-use Rattle.lnt_words.specs.declared.request.Request.TheVariants.{Help, Read, Judge, Addresses, Check}
+use Rattle.lnt_words.specs.declared.request.Request.TheVariants.{Help, Read, Upgrade, Judge, Addresses, Check}
 use Rattle.lnt_table.specs.declared.by_path.Checked.{Checked}
 use Rattle.lnt_table.specs.AnyVersion.{IsTrueCheck, IsTrueCheckOfSection}
 use Rattle.lnt_verdicts.specs.Verdicts.{checked_line, checked_status}
+use Rattle.lnt_words.specs.Sizes.{size_bytes}
+use Rattle.lnt_dump.specs.Upgraded.{IsUpgradeTold}
 use Rattle.lnt_cli.specs.Places.{ArePlacesTold}
 use Rattle.lnt_cli.specs.Questions.{AnswersAddressesJudged, AnswersJudged}
 use Rattle.lnt_cli.specs.Readings.{AnswersReading}
@@ -108,12 +110,32 @@ pub record AnswersRead (tells : List ℕ → Option (List ℕ) → Type 0) (sect
   pub of_section : tells section section_bytes
   pub answered : IfSome section_bytes (λ bytes. AnswersReading order reading bytes old new status)
 
+-- the bytes of a file that is named, or not
+abbrev pub IsTextOf : (List ℕ → Option (List ℕ) → Type 0) → Option (List ℕ) → Option (List ℕ) → Type 0
+IsTextOf tells None None = Unit {0}
+IsTextOf tells None (Some text) = ⊥
+IsTextOf tells (Some name) None = ⊥
+IsTextOf tells (Some name) (Some text) = AreBytesOf (tells name) text
+
+-- The section in the named file was written with its older units anew, or why it can't be.
+--     size          how many bytes an address of these units has
+--     directories   the file of their directories, if one is named
+pub record AnswersUpgrade (tells : List ℕ → Option (List ℕ) → Type 0) (section : List ℕ) (order : Order) (size : ℕ)
+    (directories : Option (List ℕ)) (old new : Option (List ℕ)) (status : Status) : Type 0 where
+  pub bytes : List ℕ
+  pub of_section : AreBytesOf (tells section) bytes
+  pub text : Option (List ℕ)
+  pub of_directories : IsTextOf tells directories text
+  pub answered : IsUpgradeTold order size bytes text old new status
+
 -- ---- requests
 
 -- The answer to a request.
 abbrev pub IsAnswered : (List ℕ → Option (List ℕ) → Type 0) → Request → Option (List ℕ) → Option (List ℕ) → Status → Type 0
 IsAnswered tells (Help text) old new status = Appends old new (string_bytes text) × (status ≡ Done)
 IsAnswered tells (Read section order reading) old new status = AnswersRead tells section.now order reading old new status
+IsAnswered tells (Upgrade section order size directories) old new status =
+    AnswersUpgrade tells section.now order (size_bytes size) (option_copied directories) old new status
 IsAnswered tells (Judge from question) old new status = AnswersQuestion tells from question old new status
 IsAnswered tells (Addresses from file op) old new status = AnswersAddresses tells from file.now op old new status
 IsAnswered tells (Check from table false) old new status = AnswersCheck tells from table.now old new status

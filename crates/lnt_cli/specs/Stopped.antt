@@ -3,6 +3,7 @@
 --     old, new    what that writer holds before and afterwards
 use Rattle.std.specs.Prelude.{ℕ, List, ◌++◌, ◌⊎◌, Option, IfSome, true, false, codes, string_bytes}
 use Rattle.std.specs.List.{flat_map}
+use Rattle.std.specs.Option.{option_copied}
 use Rattle.std.specs.Io.KnownBytes.{Keeps}
 use Rattle.lnt_output.specs.Fronts.{AppendsFront, HasBegun}
 use Rattle.lnt_wire.specs.declared.format.Order.{Order}
@@ -19,7 +20,7 @@ use Rattle.lnt_words.specs.declared.request.Question.{Question}
 use Rattle.lnt_words.specs.declared.request.Question.TheVariants.{Verify, Lookup, Files, Table, TableByPath, Md5}
 use Rattle.lnt_words.specs.declared.request.Reading.{Reading}
 use Rattle.lnt_words.specs.declared.request.Request.{Request}
-use Rattle.lnt_words.specs.declared.request.Request.TheVariants.{Help, Read, Judge, Addresses, Check}
+use Rattle.lnt_words.specs.declared.request.Request.TheVariants.{Help, Read, Upgrade, Judge, Addresses, Check}
 use Rattle.lnt_answers.specs.AddressLines.{AreAddressesBegun}
 use Rattle.lnt_answers.specs.FileLines.{files_text}
 use Rattle.lnt_answers.specs.Lines.{lookup_line}
@@ -27,7 +28,10 @@ use Rattle.lnt_answers.specs.SumLines.{AreSumsTold, listed_files}
 use Rattle.lnt_lines.specs.FaultTexts.{no_text}
 use Rattle.lnt_verdicts.specs.PathTables.{BeginsPrintedTable}
 use Rattle.lnt_verdicts.specs.Stretches.{AreStretchesBegun}
-use Rattle.lnt_cli.specs.Answered.{AnswersCheck, IsOfFile, IsOfSection, options_in}
+use Rattle.lnt_sources.specs.Files.{AreBytesOf}
+use Rattle.lnt_words.specs.Sizes.{size_bytes}
+use Rattle.lnt_dump.specs.Upgraded.{IsUpgradeBegun}
+use Rattle.lnt_cli.specs.Answered.{AnswersCheck, IsOfFile, IsOfSection, IsTextOf, options_in}
 use Rattle.lnt_cli.specs.Questions.{ForUnitsOf}
 use Rattle.lnt_cli.specs.Readings.{BeginsReading}
 
@@ -89,12 +93,23 @@ pub record StopsRead (tells : List ℕ → Option (List ℕ) → Type 0) (sectio
   pub of_section : tells section section_bytes
   pub begun : IfSome section_bytes (λ bytes. BeginsReading order reading bytes old new)
 
+-- A prefix of the section with its older units anew, or of the line that says why there is none, was written.
+pub record StopsUpgrade (tells : List ℕ → Option (List ℕ) → Type 0) (section : List ℕ) (order : Order) (size : ℕ)
+    (directories : Option (List ℕ)) (old new : Option (List ℕ)) : Type 0 where
+  pub bytes : List ℕ
+  pub of_section : AreBytesOf (tells section) bytes
+  pub text : Option (List ℕ)
+  pub of_directories : IsTextOf tells directories text
+  pub begun : IsUpgradeBegun order size bytes text old new
+
 -- ---- requests
 
--- What was written if the answer to this request was stopped. Nothing is stated for dumps.
+-- What was written if the answer to this request was stopped.
 abbrev pub IsStopped : (List ℕ → Option (List ℕ) → Type 0) → Request → Option (List ℕ) → Option (List ℕ) → Type 0
 IsStopped tells (Help text) old new = AppendsFront old new (string_bytes text)
 IsStopped tells (Read section order reading) old new = Keeps old new ⊎ StopsRead tells section.now order reading old new
+IsStopped tells (Upgrade section order size directories) old new =
+    Keeps old new ⊎ StopsUpgrade tells section.now order (size_bytes size) (option_copied directories) old new
 IsStopped tells (Judge from question) old new = Keeps old new ⊎ BeginsQuestion tells from question old new
 IsStopped tells (Addresses from file op) old new = Keeps old new ⊎ BeginsAddresses tells from file.now op old new
 IsStopped tells (Check from table false) old new = Keeps old new ⊎ HasBegun (AnswersCheck tells from table.now old) old new

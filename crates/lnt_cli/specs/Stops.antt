@@ -3,7 +3,7 @@ use Rattle.std.specs.Prelude.{◌≡◌, ◌⊎◌, ℕ, List, Some, string_byte
 use Rattle.std.specs.Option.{option_copied}
 use Rattle.lnt_words.specs.declared.request.Judging.{Judging}
 use Rattle.lnt_words.specs.declared.request.Request.{Request}
-use Rattle.lnt_words.specs.declared.request.Request.TheVariants.{Help, Read as ReadSection, Judge, Addresses, Check}
+use Rattle.lnt_words.specs.declared.request.Request.TheVariants.{Help, Read as ReadSection, Upgrade, Judge, Addresses, Check}
 use Rattle.lnt_cli.specs.declared.stop.CliStop.{CliStop}
 use Rattle.lnt_cli.specs.declared.stop.CliStop.TheVariants.{Read, TooLong, Usage}
 
@@ -26,6 +26,7 @@ IsFileOf from name = (from.section.now ≡ name) ⊎ (option_copied from.line_st
 abbrev pub IsFileIn : Request → List ℕ → Type 0
 IsFileIn (Help text) name = ⊥
 IsFileIn (ReadSection section order reading) name = section.now ≡ name
+IsFileIn (Upgrade section order size directories) name = (section.now ≡ name) ⊎ (option_copied directories ≡ Some name)
 IsFileIn (Judge from question) name = IsFileOf from name
 IsFileIn (Addresses from file op) name = IsFileOf from name ⊎ (file.now ≡ name)
 IsFileIn (Check from table all) name = IsFileOf from name ⊎ (table.now ≡ name)

@@ -1,13 +1,13 @@
 //! The files that a run reads.
-ghost use Rattle.std.specs.Prelude.{◌≡◌, ◌⊎◌, ℕ, List, IfErr, IfOk, IsErr, Ok, OnErr, Some};
+ghost use Rattle.std.specs.Prelude.{◌≡◌, ◌⊎◌, ℕ, List, IfErr, IfOk, IsErr, Ok, OnErr, Some, option_map};
 ghost use Rattle.std.specs.Option.{option_copied};
-ghost use Rattle.lnt_sources.specs.Files.{TellsNoMore};
-ghost use Rattle.lnt_cli.specs.Answered.{AreStringsOf, AreTextsOf};
+ghost use Rattle.lnt_sources.specs.Files.{AreBytesOf, TellsNoMore};
+ghost use Rattle.lnt_cli.specs.Answered.{AreStringsOf, AreTextsOf, IsTextOf};
 ghost use Rattle.lnt_cli.specs.Stepping.{IsFileStop};
 ghost use Rattle.lnt_cli.specs.Stops.{IsFileOf, IsUsage, TellsFile};
 
 use crate::stop::CliStop;
-use lnt_input::{Counted, Source};
+use lnt_input::{Counted, Source, read_all};
 use lnt_notes::{Seen, WatchedReader};
 use lnt_sources::{Halt, Opener, bytes_of_file, open_file, source_of};
 use lnt_wire::Strings;
@@ -153,6 +153,37 @@ pub(crate) fn open_both<'c, O: Opener>(
         section: judged.section,
         file,
     })
+}
+
+// All bytes of the section in the file with this name. `seen` keeps what notes need of them.
+pub(crate) fn read_whole<O: Opener>(
+    alloc: Global,
+    opener: &mut O,
+    name: &str,
+    seen: &Cell<Seen>,
+) -> Result<Vec<u8>, Halt>
+    ensures bytes { IfOk result (λ bytes. AreBytesOf (O.tells opener.old name.now) bytes.items) }
+    ensures later { TellsNoMore (O.tells opener.old) (O.tells opener.new) }
+{
+    let mut source = open_section(alloc, opener, name, seen)?;
+    Ok(read_all(alloc, &mut source)?)
+}
+
+// All bytes of the file with this name, if one is named.
+pub(crate) fn read_named<O: Opener>(
+    alloc: Global,
+    opener: &mut O,
+    file: Option<&str>,
+) -> Result<Option<Vec<u8>>, CliStop>
+    ensures usage { IfErr result (λ stop. IsUsage stop → ⊥) }
+    ensures named { IfErr result (λ stop. (name : List ℕ) → TellsFile stop name → option_copied file.entry ≡ Some name) }
+    ensures text { IfOk result (λ text.
+        IsTextOf (O.tells opener.old) (option_copied file.entry) (option_map (λ bytes. bytes.items) text)) }
+{
+    match file {
+        Some(name) => Ok(Some(of_file(alloc, name, bytes_of_file(alloc, opener, name))?)),
+        None => Ok(None),
+    }
 }
 
 // The bytes of both string sections; empty if no file is named.

@@ -79,12 +79,11 @@ pub fn run<O: Opener, W: Write>(
 /// For a question about a section that isn't good, the line of a true reason is written, and it returns `No`; for one about a
 /// good section, what the section's rows and headers say (`AnswersQuestion`). For a conversion, the converted section is
 /// written, or the line that says why there is none; for a list of units, the lines of the section's frames and of its first
-/// fault (`AnswersRead`). For the lines of a file, a line is written for each of them (`AnswersAddresses`).
+/// fault; for a dump, those of its units and of its first fault (`AnswersRead`). For the lines of a file, a line is written for
+/// each of them (`AnswersAddresses`).
 ///
-/// If it stops, a prefix of an answer has been written, and nothing else (`IsStopped`), for each request but a dump. It stops as
-/// `run` does, with the name of a file that the request has, and never with `Usage`.
-///
-/// Nothing is stated for what dumps print.
+/// If it stops, a prefix of an answer has been written, and nothing else (`IsStopped`). It stops as `run` does, with the name
+/// of a file that the request has, and never with `Usage`.
 pub fn answer<O: Opener, W: Write, N: Write>(
     alloc: Global,
     asked: &Asked<'_>,

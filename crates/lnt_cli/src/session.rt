@@ -1,20 +1,23 @@
 //! The files and writers of a run, and how it answers a request.
-ghost use Rattle.std.specs.Prelude.{◌≡◌, ◌-◌, ◌^◌, ◌<◌, ◌⊎◌, ℕ, List, IfErr, IfOk, IfSome, OnErr};
+ghost use Rattle.std.specs.Prelude.{◌≡◌, ◌-◌, ◌^◌, ◌<◌, ◌⊎◌, ℕ, List, IfErr, IfOk, IfSome, OnErr, Some, option_map};
 ghost use Rattle.std.specs.Io.KnownBytes.{Keeps};
-ghost use Rattle.lnt_cli.specs.Answered.{AnswersRead, IsAnswered};
+ghost use Rattle.std.specs.Option.{option_copied};
+ghost use Rattle.lnt_words.specs.Sizes.{size_bytes};
+ghost use Rattle.lnt_dump.specs.Upgraded.{IsUpgradeBegun, IsUpgradeTold};
+ghost use Rattle.lnt_cli.specs.Answered.{AnswersRead, AnswersUpgrade, IsAnswered};
 ghost use Rattle.lnt_cli.specs.Readings.{AnswersReading, BeginsReading};
-ghost use Rattle.lnt_cli.specs.Stopped.{IsStopped, StopsRead};
+ghost use Rattle.lnt_cli.specs.Stopped.{IsStopped, StopsRead, StopsUpgrade};
 ghost use Rattle.lnt_cli.specs.Stops.{IsFileIn, IsUsage, TellsFile};
 
-use crate::inputs::{of_file, open_section};
+use crate::inputs::{of_file, open_section, read_named, read_whole};
 use crate::stop::CliStop;
-use lnt_dump::{DumpParts, print_converted, print_dump, print_units};
+use lnt_dump::{DumpParts, print_converted, print_dump, print_units, print_upgraded};
 use lnt_input::Source;
 use lnt_notes::{Seen, tell_refused};
 use lnt_output::write_whole;
 use lnt_sources::{Halt, Opener, Status};
 use lnt_wire::Order;
-use lnt_words::{Reading, Request};
+use lnt_words::{AddressSize, Reading, Request};
 use std::alloc::Global;
 use std::cell::Cell;
 use std::io::Write;
@@ -69,6 +72,12 @@ impl<O: Opener, W: Write, N: Write> Session<'_, '_, '_, O, W, N> {
                 let ended = self.read_section(section, *order, *reading);
                 of_file(self.alloc, section, ended)
             }
+            Request::Upgrade {
+                section,
+                order,
+                address_size,
+                directories,
+            } => self.upgrade_section(section, *order, *address_size, *directories),
             Request::Judge { from, question } => self.answer_question(from, question),
             Request::Addresses { from, file, op } => self.answer_addresses(from, file, *op),
             Request::Check {
@@ -123,6 +132,91 @@ impl<O: Opener, W: Write, N: Write> Session<'_, '_, '_, O, W, N> {
             let _ = tell_refused(&seen.get(), order, self.notes);
         }
         Ok(status)
+    }
+
+    // Writes a section with its older units anew. The files are read before anything is written.
+    fn upgrade_section(
+        &mut self,
+        section: &str,
+        order: Order,
+        address_size: AddressSize,
+        directories: Option<&str>,
+    ) -> Result<Status, CliStop>
+        ensures usage { IfErr result (λ stop. IsUsage stop → ⊥) }
+        ensures named { IfErr result (λ stop. (name : List ℕ) → TellsFile stop name
+            → (section.now ≡ name) ⊎ (option_copied directories.entry ≡ Some name)) }
+        ensures answer { IfOk result (λ status. AnswersUpgrade (O.tells self.old.opener.now) section.now order
+            (size_bytes address_size) (option_copied directories.entry) (W.contents self.old.out.now) (W.contents self.new.out.now)
+            status) }
+        ensures stopped { OnErr result (Keeps (W.contents self.old.out.now) (W.contents self.new.out.now)
+            ⊎ StopsUpgrade (O.tells self.old.opener.now) section.now order (size_bytes address_size)
+            (option_copied directories.entry) (W.contents self.old.out.now) (W.contents self.new.out.now)) }
+        ensures same_reference { self.new.out.ghost_name ≡ self.old.out.ghost_name }
+    {
+        let seen = Cell::new(Seen::nothing());
+        let status = upgrade_file(
+            self.alloc,
+            section,
+            order,
+            address_size,
+            directories,
+            self.opener,
+            &seen,
+            self.out,
+        )?;
+        if status == Status::No && !self.quiet {
+            let _ = tell_refused(&seen.get(), order, self.notes);
+        }
+        Ok(status)
+    }
+}
+
+// Prints the section in the file with this name with its older units written anew. `seen` keeps what notes need of its bytes.
+fn upgrade_file<O: Opener, W: Write>(
+    alloc: Global,
+    section: &str,
+    order: Order,
+    address_size: AddressSize,
+    directories: Option<&str>,
+    opener: &mut O,
+    seen: &Cell<Seen>,
+    out: &mut W,
+) -> Result<Status, CliStop>
+    ensures usage { IfErr result (λ stop. IsUsage stop → ⊥) }
+    ensures named { IfErr result (λ stop. (name : List ℕ) → TellsFile stop name
+        → (section.now ≡ name) ⊎ (option_copied directories.entry ≡ Some name)) }
+    ensures answer { IfOk result (λ status. AnswersUpgrade (O.tells opener.old) section.now order (size_bytes address_size)
+        (option_copied directories.entry) (W.contents out.old) (W.contents out.new) status) }
+    ensures stopped { OnErr result (Keeps (W.contents out.old) (W.contents out.new)
+        ⊎ StopsUpgrade (O.tells opener.old) section.now order (size_bytes address_size) (option_copied directories.entry)
+        (W.contents out.old) (W.contents out.new)) }
+{
+    let read = read_whole(alloc, opener, section, seen);
+    let bytes = of_file(alloc, section, read)?;
+    let text = read_named(alloc, opener, directories)?;
+    let printed = print_upgrade(alloc, &bytes, order, address_size, text, out);
+    let status = of_file(alloc, section, printed)?;
+    Ok(status)
+}
+
+// Prints a section whose bytes and directories these are, with its older units written anew.
+fn print_upgrade<W: Write>(
+    alloc: Global,
+    bytes: &[u8],
+    order: Order,
+    address_size: AddressSize,
+    directories: Option<Vec<u8>>,
+    out: &mut W,
+) -> Result<Status, Halt>
+    ensures told { IfOk result (IsUpgradeTold order (size_bytes address_size) bytes.now (option_map (λ text. text.items) directories)
+        (W.contents out.old) (W.contents out.new)) }
+    ensures begun { OnErr result (IsUpgradeBegun order (size_bytes address_size) bytes.now
+        (option_map (λ text. text.items) directories) (W.contents out.old) (W.contents out.new)) }
+{
+    let size = address_size.bytes();
+    match directories {
+        Some(text) => print_upgraded(alloc, bytes, order, size, Some(&text), out),
+        None => print_upgraded(alloc, bytes, order, size, None, out),
     }
 }
 

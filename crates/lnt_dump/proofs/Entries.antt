@@ -1,5 +1,11 @@
 -- Entries that are read one by one where they lie, value by value.
-use Rattle.std.proofs.Common.{◌≡◌, ℕ, ◌+◌, ◌<◌, ◌≤◌, List, [], ◌∷◌, ◌++◌, length, get_or, subst, ◌∙◌}
+use Rattle.std.proofs.Common.{◌≡◌, ℕ, ◌+◌, ◌<◌, ◌≤◌, List, [], ◌∷◌, ◌++◌, length, take, drop, get_or, codes, decimal}
+use Rattle.std.proofs.Common.{Option, Result, Ok, Err, OnOk, refl, sym, ap, subst, ◌∙◌, append-nil, append_assoc, arith, take_all, take-append-drop, Some}
+use Rattle.std.proofs.KnownBytes.{Appends-nil, Appends-trans}
+use Rattle.std.proofs.lemmas.List.{drop_more, length-append, length-take-le, take_more}
+use Rattle.std.proofs.lemmas.List.Concat.{flat_map-append}
+use Rattle.std.specs.Io.KnownBytes.{Appends}
+use Rattle.std.specs.List.{flat_map, zip}
 use Rattle.lnt_wire.specs.At.{At}
 use Rattle.lnt_wire.specs.Bytes.{NoneSpelled}
 use Rattle.lnt_wire.specs.FormBytes.{ValueBytes}
@@ -9,70 +15,226 @@ use Rattle.lnt_wire.specs.declared.format.Format.{Format}
 use Rattle.lnt_wire.specs.declared.format.Order.{Order}
 use Rattle.lnt_header.specs.declared.header.Pair.{Pair}
 use Rattle.lnt_header_bytes.specs.Borrowed.{BorrowedTable, AreEntryBytes}
-use Rattle.lnt_header_bytes.specs.Stepping.{Passes}
 use Rattle.lnt_header_bytes.specs.Layouts.{entry_of}
 use Rattle.lnt_header_bytes.proofs.PassedLaws.{one_after, one_there}
 use Rattle.lnt_header_bytes.proofs.TableLaws.{entry_code}
 use Rattle.lnt_header_bytes.proofs.ValueLaws as laws
 use Rattle.lnt_header_bytes.specs.Marks.{from_entry}
 use Rattle.lnt_header_bytes.specs.TableBytes.{EntryBytes}
+use Rattle.lnt_header.specs.declared.header.Entry.{Entry}
+use Rattle.lnt_header.specs.Joins.{Each}
+use Rattle.lnt_wire.specs.Bytes.{IsCode}
+use Rattle.lnt_dump.specs.Headers.{component_text, components_text, entry_end, entry_line}
+use Rattle.lnt_dump.specs.Numbered.{numbered}
+use Rattle.lnt_dump.specs.Stepping.{IsPaged, PassesPrinting}
+use Rattle.lnt_output.specs.Fronts.{AppendsFront}
+use Rattle.lnt_output.proofs.FrontLaws.{front_before, front_same}
+use Rattle.lnt_dump.proofs.Lines.{numbered_front, numbered_next}
+use Rattle.lnt_dump.proofs.Pages.{paged_front, paged_kept_front, paged_more}
 
 -- ---- values
 
--- the values of so many pairs were read
-pub record AreRead (format : Format) (pairs : List Pair) (count : ℕ) (old now : At) : Type 0 where
+-- The values of so many pairs were read, and their components were printed.
+pub record AreReadTold (format : Format) (pairs : List Pair) (count : ℕ) (old now : At) (before after : Option (List ℕ)) : Type 0 where
   pub values : List FormValue
+  pub count_is : length values ≡ count
   pub read : laws.AreReadTo format pairs count values old now
+  pub told : Appends before after (flat_map component_text (zip (take count pairs) values))
 
-pub read_none : (format : Format) (pairs : List Pair) (at : At) → AreRead format pairs 0 at at
-read_none format pairs at = record { values = []; read = laws.read_none format pairs at }
+pub read_none : (format : Format) (pairs : List Pair) (at : At) (out : Option (List ℕ)) → AreReadTold format pairs 0 at at out out
+read_none format pairs at out =
+    record { values = []; count_is = refl; read = laws.read_none format pairs at; told = Appends-nil out }
 
-pub read_more : (format : Format) (pairs : List Pair) (i : ℕ) (d : Pair) (value : FormValue) (old middle new : At) → i < length pairs
-    → AreRead format pairs i old middle
-    → Reads (ValueBytes format middle.order (get_or pairs i d).form) value middle new → AreRead format pairs (i + 1) old new
-read_more format pairs i d value old middle new lt p r =
-    record { values = p.values ++ value ∷ []; read = laws.read_more format pairs i d p.values value old middle new lt p.read r }
+-- the components with one more
+zip_push : (pairs : List Pair) (values : List FormValue) (pair : Pair) (value : FormValue) → length pairs ≡ length values
+    → zip (pairs ++ pair ∷ []) (values ++ value ∷ []) ≡ zip pairs values ++ (pair, value) ∷ []
+zip_push [] [] pair value same = refl
+zip_push [] (v ∷ values) pair value same = absurd (omega (arith, same))
+zip_push (p ∷ pairs) [] pair value same = absurd (omega (arith, same))
+zip_push (p ∷ pairs) (v ∷ values) pair value same =
+    ap (λ (z : List (Pair × FormValue)). (p, v) ∷ z) (zip_push pairs values pair value (omega (arith, same)))
 
-pub read_all : (format : Format) (pairs : List Pair) (count : ℕ) (old new : At) → length pairs ≤ count → AreRead format pairs count old new
-    → Passes (EntryBytes format old.order pairs) old new
-read_all format pairs count old new le p =
-    record { value = entry_of p.values; read = laws.entry_read format pairs count p.values old new le p.read }
+components_push : (pairs : List Pair) (i : ℕ) (d : Pair) (values : List FormValue) (value : FormValue) → i < length pairs
+    → length values ≡ i
+    → flat_map component_text (zip (take i pairs) values) ++ component_text (get_or pairs i d, value)
+    ≡ flat_map component_text (zip (take (i + 1) pairs) (values ++ value ∷ []))
+components_push pairs i d values value lt count =
+    let pair = get_or pairs i d in
+    let front = take i pairs in
+    let same : length front ≡ length values = length-take-le i pairs (omega (arith, lt)) ∙ sym count in
+    let text = flat_map component_text (zip front values) in
+    ap (λ (z : List ℕ). text ++ z) (sym (append-nil (component_text (pair, value))))
+    ∙ sym (flat_map-append component_text (zip front values) ((pair, value) ∷ []))
+    ∙ ap (flat_map component_text) (sym (zip_push front values pair value same))
+    ∙ ap (λ (ps : List Pair). flat_map component_text (zip ps (values ++ value ∷ []))) (sym (take_more pairs i d lt))
 
-pub none_there : (format : Format) (pairs : List Pair) (i : ℕ) (d : Pair) (old middle : At) → i < length pairs
-    → AreRead format pairs i old middle
+pub read_more : (format : Format) (pairs : List Pair) (i : ℕ) (d : Pair) (value : FormValue) (old middle new : At)
+    (before between after : Option (List ℕ)) → i < length pairs → AreReadTold format pairs i old middle before between
+    → Reads (ValueBytes format middle.order (get_or pairs i d).form) value middle new
+    → Appends between after (component_text (get_or pairs i d, value)) → AreReadTold format pairs (i + 1) old new before after
+read_more format pairs i d value old middle new before between after lt p r printed = record {
+  values = p.values ++ value ∷ [];
+  count_is = omega (arith, length-append p.values (value ∷ []), p.count_is);
+  read = laws.read_more format pairs i d p.values value old middle new lt p.read r;
+  told = subst (Appends before after) (components_push pairs i d p.values value lt p.count_is)
+      (Appends-trans before between after (flat_map component_text (zip (take i pairs) p.values))
+      (component_text (get_or pairs i d, value)) p.told printed);
+}
+
+pub read_all : (format : Format) (pairs : List Pair) (count : ℕ) (old new : At) (before between after : Option (List ℕ))
+    → length pairs ≤ count → AreReadTold format pairs count old new before between → Appends between after (codes "\n")
+    → PassesPrinting (entry_end pairs) format pairs old new before after
+read_all format pairs count old new before between after le p end = record {
+  entry = entry_of p.values;
+  read = laws.entry_read format pairs count p.values old new le p.read;
+  printed = Appends-trans before between after (components_text pairs (entry_of p.values)) (codes "\n")
+      (subst (λ (ps : List Pair). Appends before between (flat_map component_text (zip ps p.values))) (take_all count pairs le) p.told) end;
+}
+
+pub none_there : (format : Format) (pairs : List Pair) (i : ℕ) (d : Pair) (old middle : At) (before after : Option (List ℕ))
+    → i < length pairs → AreReadTold format pairs i old middle before after
     → NoneSpelled (ValueBytes format middle.order (get_or pairs i d).form) middle.rest
     → NoneSpelled (EntryBytes format old.order pairs) old.rest
-none_there format pairs i d old middle lt p none = laws.no_entry format pairs i d p.values old middle lt p.read none
+none_there format pairs i d old middle before after lt p none = laws.no_entry format pairs i d p.values old middle lt p.read none
 
 -- ---- entries
 
--- A cursor stands before the entry of this number.
-pub record IsBefore (table : BorrowedTable) (number : ℕ) (at : At) : Type 0 where
+-- A cursor stands before the entry of this number, and the lines of those before it were printed, after the text before them.
+pub record IsBefore (name : List ℕ) (table : BorrowedTable) (number : ℕ) (at : At) (before page : List ℕ) (old now : Option (List ℕ))
+    : Type 0 where
   pub order_is : at.order ≡ table.order
   pub lies : AreEntryBytes (from_entry number table) at.rest
+  pub told : IsPaged (before ++ numbered (entry_line name table.pairs) 0 (take number table.entries)) old now page
 
-pub at_first : (table : BorrowedTable) (at : At) → at.order ≡ table.order → AreEntryBytes table at.rest → IsBefore table 0 at
-at_first table at order lies = record { order_is = order; lies = lies }
+pub at_first : (name : List ℕ) (table : BorrowedTable) (at : At) (page : List ℕ) (out : Option (List ℕ)) → at.order ≡ table.order
+    → AreEntryBytes table at.rest → IsBefore name table 0 at page page out out
+at_first name table at page out order lies = record {
+  order_is = order;
+  lies = lies;
+  told = record { written = []; gained = Appends-nil out; joined = append-nil page };
+}
 
-pub at_next : (table : BorrowedTable) (format : Format) (pairs : List Pair) (number : ℕ) (at new : At) → format ≡ table.format
-    → pairs ≡ table.pairs → number < length table.entries → IsBefore table number at
-    → Passes (EntryBytes format at.order pairs) at new → IsBefore table (number + 1) new
-at_next table format pairs number at new format_is pairs_are lt is p =
-    let read : EntryBytes table.format table.order table.pairs p.value p.read.spelling =
-    subst (λ (o : Order). EntryBytes table.format o table.pairs p.value p.read.spelling) is.order_is
-    (subst (λ (f : Format). EntryBytes f at.order table.pairs p.value p.read.spelling) format_is
-    (subst (λ (ps : List Pair). EntryBytes format at.order ps p.value p.read.spelling) pairs_are p.read.spelled)) in
+-- a value that was read is the first of those that are there
+first_is : {X : Type 0} (P : X → List ℕ → Type 0) → IsCode P → (vs : List X) (n : ℕ) (d u : X) (x rest bytes : List ℕ) → n < length vs
+    → P u x → Each P (drop n vs) bytes → bytes ≡ x ++ rest → u ≡ get_or vs n d
+first_is P code vs n d u x rest bytes lt p q e =
+    let each = subst (λ ws. Each P ws bytes) (drop_more vs n d lt) q in
+    (code.one u (get_or vs n d) x each.front rest each.back p each.first (sym e ∙ each.joined)).0
+
+-- the line of an entry, in its two parts
+pub line_read : {A E : Type 0} (result : Result A E) (name : List ℕ) (index : ℕ) (format : Format) (pairs : List Pair) (at new : At)
+    (old start end : Option (List ℕ)) → Appends old start (name ++ (codes " " ++ decimal index))
+    → OnOk result (PassesPrinting (entry_end pairs) format pairs at new start end)
+    → OnOk result (PassesPrinting (entry_line name pairs index) format pairs at new old end)
+line_read (Ok value) name index format pairs at new old start end begun p = record {
+  entry = p.entry;
+  read = p.read;
+  printed = Appends-trans old start end (name ++ (codes " " ++ decimal index)) (entry_end pairs p.entry) begun p.printed;
+}
+line_read (Err error) name index format pairs at new old start end begun p = p
+
+-- The next entry of a table was read, and its line was added to the page.
+record IsLineOf (name : List ℕ) (table : BorrowedTable) (number : ℕ) (new : At) (page added : List ℕ) : Type 0 where
+  entry : Entry
+  is : entry ≡ get_or table.entries number entry
+  order_is : new.order ≡ table.order
+  lies : AreEntryBytes (from_entry (number + 1) table) new.rest
+  line : added ≡ page ++ entry_line name table.pairs number entry
+
+next_line : (name : List ℕ) (table : BorrowedTable) (format : Format) (pairs : List Pair) (number : ℕ) (at new : At)
+    (before page added : List ℕ) (old now : Option (List ℕ)) → format ≡ table.format → pairs ≡ table.pairs
+    → number < length table.entries → IsBefore name table number at before page old now
+    → PassesPrinting (entry_line name pairs number) format pairs at new (Some page) (Some added) → IsLineOf name table number new page added
+next_line name table format pairs number at new before page added old now format_is pairs_are lt is p =
+    let P = EntryBytes table.format table.order table.pairs in
+    let code = entry_code table.format table.order table.pairs in
+    let read : P p.entry p.read.spelling =
+    subst (λ (o : Order). EntryBytes table.format o table.pairs p.entry p.read.spelling) is.order_is
+    (subst (λ (f : Format). EntryBytes f at.order table.pairs p.entry p.read.spelling) format_is
+    (subst (λ (ps : List Pair). EntryBytes format at.order ps p.entry p.read.spelling) pairs_are p.read.spelled)) in
     record {
+      entry = p.entry;
+      is = first_is P code table.entries number p.entry p.entry p.read.spelling new.rest at.rest lt read is.lies p.read.whole;
       order_is = p.read.order ∙ is.order_is;
-      lies = one_after (EntryBytes table.format table.order table.pairs) (entry_code table.format table.order table.pairs) table.entries
-          number p.value p.read.spelling new.rest at.rest lt read is.lies p.read.whole;
+      lies = one_after P code table.entries number p.entry p.read.spelling new.rest at.rest lt read is.lies p.read.whole;
+      line = p.printed ∙ ap (λ (ps : List Pair). page ++ entry_line name ps number p.entry) pairs_are;
     }
 
-pub is_there : (table : BorrowedTable) (format : Format) (pairs : List Pair) (number : ℕ) (at : At) → format ≡ table.format
-    → pairs ≡ table.pairs → number < length table.entries → IsBefore table number at
+-- the lines with one more
+line_pushed : (name : List ℕ) (table : BorrowedTable) (number : ℕ) (new : At) (before page added : List ℕ)
+    → number < length table.entries → (l : IsLineOf name table number new page added)
+    → (before ++ numbered (entry_line name table.pairs) 0 (take number table.entries)) ++ entry_line name table.pairs number l.entry
+    ≡ before ++ numbered (entry_line name table.pairs) 0 (take (number + 1) table.entries)
+line_pushed name table number new before page added lt l =
+    let line = entry_line name table.pairs in
+    append_assoc before (numbered line 0 (take number table.entries)) (line number l.entry)
+    ∙ ap (λ (z : List ℕ). before ++ z) (numbered_next line table.entries number l.entry lt l.is)
+
+pub at_next : (name : List ℕ) (table : BorrowedTable) (format : Format) (pairs : List Pair) (number : ℕ) (at new : At)
+    (before page added left : List ℕ) (old now then : Option (List ℕ)) → format ≡ table.format → pairs ≡ table.pairs
+    → number < length table.entries → IsBefore name table number at before page old now
+    → PassesPrinting (entry_line name pairs number) format pairs at new (Some page) (Some added) → IsPaged added now then left
+    → IsBefore name table (number + 1) new before left old then
+at_next name table format pairs number at new before page added left old now then format_is pairs_are lt is p turned =
+    let l = next_line name table format pairs number at new before page added old now format_is pairs_are lt is p in
+    let line = entry_line name table.pairs number l.entry in
+    let text = before ++ numbered (entry_line name table.pairs) 0 (take number table.entries) in
+    record {
+      order_is = l.order_is;
+      lies = l.lies;
+      told = subst (λ (z : List ℕ). IsPaged z old then left) (line_pushed name table number new before page added lt l)
+          (paged_more text line page left old now then is.told (subst (λ (z : List ℕ). IsPaged z now then left) l.line turned));
+    }
+
+-- the lines of the first entries begin those of all
+all_lines : (name : List ℕ) (table : BorrowedTable) (number : ℕ) (before : List ℕ) (old new : Option (List ℕ))
+    → AppendsFront old new (before ++ numbered (entry_line name table.pairs) 0 (take number table.entries))
+    → AppendsFront old new (before ++ numbered (entry_line name table.pairs) 0 table.entries)
+all_lines name table number before old new f =
+    let line = entry_line name table.pairs in
+    let first = numbered line 0 (take number table.entries) in
+    let more = numbered_front line 0 (take number table.entries) (drop number table.entries) in
+    front_same old new ((before ++ first) ++ more.0) (before ++ numbered line 0 table.entries)
+    (append_assoc before first more.0
+    ∙ ap (λ (z : List ℕ). before ++ z) (sym more.1 ∙ ap (numbered line 0) (take-append-drop number table.entries)))
+    (front_before old new (before ++ first) more.0 f)
+
+-- of the page a front was written
+pub line_cut : (name : List ℕ) (table : BorrowedTable) (format : Format) (pairs : List Pair) (number : ℕ) (at new : At)
+    (before page added : List ℕ) (old now then : Option (List ℕ)) → format ≡ table.format → pairs ≡ table.pairs
+    → number < length table.entries → IsBefore name table number at before page old now
+    → PassesPrinting (entry_line name pairs number) format pairs at new (Some page) (Some added) → AppendsFront now then added
+    → AppendsFront old then (before ++ numbered (entry_line name table.pairs) 0 table.entries)
+line_cut name table format pairs number at new before page added old now then format_is pairs_are lt is p f =
+    let l = next_line name table format pairs number at new before page added old now format_is pairs_are lt is p in
+    let line = entry_line name table.pairs number l.entry in
+    let text = before ++ numbered (entry_line name table.pairs) 0 (take number table.entries) in
+    all_lines name table (number + 1) before old then
+    (front_same old then (text ++ line) (before ++ numbered (entry_line name table.pairs) 0 (take (number + 1) table.entries))
+    (line_pushed name table number new before page added lt l)
+    (paged_front text line page old now then is.told (front_same now then added (page ++ line) l.line f)))
+
+-- nothing more was written
+pub lines_stay : (name : List ℕ) (table : BorrowedTable) (number : ℕ) (at : At) (before page : List ℕ) (old now : Option (List ℕ))
+    → IsBefore name table number at before page old now
+    → AppendsFront old now (before ++ numbered (entry_line name table.pairs) 0 table.entries)
+lines_stay name table number at before page old now is =
+    all_lines name table number before old now (paged_kept_front _ page old now is.told)
+
+pub is_there : (name : List ℕ) (table : BorrowedTable) (format : Format) (pairs : List Pair) (number : ℕ) (at : At)
+    (before page : List ℕ) (old now : Option (List ℕ)) → format ≡ table.format → pairs ≡ table.pairs
+    → number < length table.entries → IsBefore name table number at before page old now
     → NoneSpelled (EntryBytes format at.order pairs) at.rest → ⊥
-is_there table format pairs number at format_is pairs_are lt is none =
+is_there name table format pairs number at before page old now format_is pairs_are lt is none =
     one_there (EntryBytes table.format table.order table.pairs) table.entries number at.rest lt is.lies
     (subst (λ (o : Order). NoneSpelled (EntryBytes table.format o table.pairs) at.rest) is.order_is
     (subst (λ (f : Format). NoneSpelled (EntryBytes f at.order table.pairs) at.rest) format_is
     (subst (λ (ps : List Pair). NoneSpelled (EntryBytes format at.order ps) at.rest) pairs_are none)))
+
+-- all lines were printed
+pub all_told : (name : List ℕ) (table : BorrowedTable) (number : ℕ) (at : At) (before page : List ℕ) (old now : Option (List ℕ))
+    → length table.entries ≤ number → IsBefore name table number at before page old now
+    → IsPaged (before ++ numbered (entry_line name table.pairs) 0 table.entries) old now page
+all_told name table number at before page old now le is =
+    subst (λ (es : List Entry). IsPaged (before ++ numbered (entry_line name table.pairs) 0 es) old now page)
+    (take_all number table.entries le) is.told

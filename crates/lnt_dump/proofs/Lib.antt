@@ -1,8 +1,16 @@
+pub mod Anew
+pub mod Digits
+pub mod Dumps
 pub mod Entries
 pub mod FrameFronts
 pub mod Frames
 pub mod FramesAhead
+pub mod Headers
+pub mod Lines
 pub mod Operands
+pub mod Pages
 pub mod RowLemmas
+pub mod RunWalks
 pub mod SectionFronts
 pub mod Sections
+pub mod UnitWalks

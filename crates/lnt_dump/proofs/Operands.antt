@@ -1,5 +1,9 @@
 -- The operands of an unknown standard operation, read one by one where they lie.
-use Rattle.std.proofs.Common.{◌∙◌, ℕ, ◌<◌, List, [], ◌∷◌, ap, arith, length, subst, sym}
+use Rattle.std.proofs.Common.{◌≡◌, ◌∙◌, ℕ, ◌<◌, List, [], ◌∷◌, ◌++◌, append-nil, append_assoc, ap, arith, length, refl, subst, sym}
+use Rattle.std.proofs.Common.{Result, Ok, Err, OnOk, codes, decimal, false}
+use Rattle.std.specs.Result.{is_err}
+use Rattle.std.proofs.lemmas.Bool.{true≢false}
+use Rattle.std.specs.List.{flat_map}
 use Rattle.std.proofs.lemmas.List.{length-append}
 use Rattle.lnt_wire.specs.At.{At}
 use Rattle.lnt_wire.specs.Bytes.{NoneSpelled}
@@ -8,57 +12,148 @@ use Rattle.lnt_wire.specs.Reading.{Reads}
 use Rattle.lnt_wire.proofs.CodeLaws.{unsigned_code}
 use Rattle.lnt_wire.proofs.LengthLaws.{same_rest}
 use Rattle.lnt_header.specs.Joins.{Each}
-use Rattle.lnt_header.specs.OpRules.{AreOperands, StandsFor}
+use Rattle.lnt_header.specs.OpRules.{StandsFor, op_of}
 use Rattle.lnt_header.specs.declared.op.Op.{Op}
 use Rattle.lnt_header.specs.declared.op.Op.TheVariants as ops
-use Rattle.lnt_header.specs.declared.op.Operands.{Operands}
 use Rattle.lnt_header.specs.declared.op.OpView.{OpView}
 use Rattle.lnt_header.specs.declared.op.OpView.TheVariants as views
-use Rattle.lnt_ops.specs.Walks.{GivesOperation, Walk}
-use Rattle.lnt_ops.proofs.ViewLaws.{leb_is_some}
+use Rattle.lnt_ops.proofs.ViewLaws.{is_op_of, leb_is_some, operands_of}
+use Rattle.hex.specs.Hex.{encode_lower}
+use Rattle.lnt_dump.specs.Operations.{bytes_text, op_line, op_text, operand_text}
+use Rattle.lnt_dump.specs.Stepping.{HasOperands}
 
--- what a walk gives stands for an operation
-pub stands_for : (view : OpView) (old new : Walk) → GivesOperation view old new → (done : Op) × StandsFor view done
-stands_for view old new step = (step.gives.op, step.gives.stands)
+has_those : (view : OpView) (done : Op) → StandsFor view done → HasOperands view (operands_of done)
+has_those (views.UnknownStandard k operands) (ops.UnknownStandard j numbers) p = p.1
+has_those (views.UnknownStandard k operands) op p = absurd p
+has_those view op p = tt
 
-operands_of : (k : ℕ) (operands : Operands) (op : Op) → StandsFor (views.UnknownStandard k operands) op
-    → (numbers : List ℕ) × AreOperands operands numbers
-operands_of k operands (ops.UnknownStandard j numbers) p = (numbers, p.1)
-operands_of k operands op p = absurd p
+-- what the view of an operation has
+pub has_operands : (view : OpView) → ((done : Op) × StandsFor view done) → (numbers : List ℕ) × HasOperands view numbers
+has_operands view (done, stands) = (operands_of done, has_those view done stands)
 
--- and so the operands of an unknown one are numbers
-pub some_operands : (k : ℕ) (operands : Operands) → ((done : Op) × StandsFor (views.UnknownStandard k operands) done)
-    → (numbers : List ℕ) × AreOperands operands numbers
-some_operands k operands done = operands_of k operands done.0 done.1
+-- The text has some of the numbers that the bytes encode, each after a space, and the rest encodes the others.
+abbrev pub AreLeft : List ℕ → List ℕ → List ℕ → List ℕ → Type 0
+AreLeft bytes rest old text =
+    (numbers : List ℕ) → Each UnsignedLeb numbers bytes → (left : List ℕ) × Each UnsignedLeb left rest
+    × (old ++ flat_map operand_text numbers ≡ text ++ flat_map operand_text left)
 
--- The bytes spell numbers, one after another.
-abbrev pub AreNumbers : List ℕ → Type 0
-AreNumbers bytes = (numbers : List ℕ) × Each UnsignedLeb numbers bytes
+pub left_none : (bytes rest text : List ℕ) → rest ≡ bytes → AreLeft bytes rest text text
+left_none bytes rest text same numbers spelled = (numbers, subst (Each UnsignedLeb numbers) (sym same) spelled, refl)
+
+one_there : (bytes left : List ℕ) → 0 < length bytes → Each UnsignedLeb left bytes → NoneSpelled UnsignedLeb bytes → ⊥
+one_there bytes [] some none refused = omega (arith, some, ap length none)
+one_there bytes (n ∷ numbers) some spelled refused = refused n spelled.front spelled.back spelled.first (sym spelled.joined)
 
 -- where bytes are left, a number begins them
-pub one_there : (bytes : List ℕ) → 0 < length bytes → AreNumbers bytes → NoneSpelled UnsignedLeb bytes → ⊥
-one_there bytes some ([], none) refused = omega (arith, ap length none)
-one_there bytes some (n ∷ numbers, spelled) refused = refused n spelled.front spelled.back spelled.first (sym spelled.joined)
+pub left_there : (bytes rest old text : List ℕ) → AreLeft bytes rest old text → ((numbers : List ℕ) × Each UnsignedLeb numbers bytes)
+    → 0 < length rest → NoneSpelled UnsignedLeb rest → ⊥
+left_there bytes rest old text are numbers some refused =
+    let left = are numbers.0 numbers.1 in one_there rest left.0 some left.1 refused
 
--- a number that was read leaves bytes that spell the others
-pub rest_spelled : (n : ℕ) (at new : At) → AreNumbers at.rest → Reads UnsignedLeb n at new → AreNumbers new.rest
-rest_spelled n at new ([], none) read =
+one_less : (n : ℕ) (at new : At) (left old text text' numbers : List ℕ) → Each UnsignedLeb left at.rest → Reads UnsignedLeb n at new
+    → text' ≡ text ++ operand_text n → old ++ flat_map operand_text numbers ≡ text ++ flat_map operand_text left
+    → (others : List ℕ) × Each UnsignedLeb others new.rest
+    × (old ++ flat_map operand_text numbers ≡ text' ++ flat_map operand_text others)
+one_less n at new [] old text text' numbers none read here same =
     absurd (omega (
       arith,
       leb_is_some n read.spelling read.spelled,
       ap length (sym none ∙ read.whole),
       length-append read.spelling new.rest,
     ))
-rest_spelled n at new (m ∷ numbers, spelled) read = (
-  numbers,
-  subst (Each UnsignedLeb numbers)
-      (same_rest spelled.front read.spelling spelled.back new.rest
-      (unsigned_code.one m n spelled.front read.spelling spelled.back new.rest spelled.first read.spelled
-      (sym spelled.joined ∙ read.whole)).1
-      (sym spelled.joined ∙ read.whole)) spelled.second,
-)
+one_less n at new (m ∷ others) old text text' numbers spelled read here same =
+    let both = sym spelled.joined ∙ read.whole in
+    let found = unsigned_code.one m n spelled.front read.spelling spelled.back new.rest spelled.first read.spelled both in (
+      others,
+      subst (Each UnsignedLeb others) (same_rest spelled.front read.spelling spelled.back new.rest found.1 both) spelled.second,
+      same ∙ ap (λ (k : ℕ). text ++ (operand_text k ++ flat_map operand_text others)) found.0
+          ∙ sym (append_assoc text (operand_text n) (flat_map operand_text others))
+          ∙ ap (λ (z : List ℕ). z ++ flat_map operand_text others) (sym here),
+    )
+
+-- a number that was read, and added
+pub left_more : (bytes : List ℕ) (n : ℕ) (at new : At) (old text text' : List ℕ) → AreLeft bytes at.rest old text
+    → Reads UnsignedLeb n at new → text' ≡ text ++ operand_text n → AreLeft bytes new.rest old text'
+left_more bytes n at new old text text' are read here numbers spelled =
+    let left = are numbers spelled in one_less n at new left.0 old text text' numbers left.1 read here left.2
 
 -- and fewer of them
 pub rest_shorter : (n : ℕ) (at new : At) → Reads UnsignedLeb n at new → length new.rest < length at.rest
 rest_shorter n at new read =
     omega (arith, leb_is_some n read.spelling read.spelled, ap length read.whole, length-append read.spelling new.rest)
+
+none_left : (left rest old text numbers : List ℕ) → length rest ≡ 0 → Each UnsignedLeb left rest
+    → old ++ flat_map operand_text numbers ≡ text ++ flat_map operand_text left → text ≡ old ++ flat_map operand_text numbers
+none_left [] rest old text numbers empty spelled same = sym (same ∙ append-nil text)
+none_left (n ∷ left) rest old text numbers empty spelled same =
+    absurd (omega (
+      arith,
+      empty,
+      ap length spelled.joined,
+      length-append spelled.front spelled.back,
+      leb_is_some n spelled.front spelled.first,
+    ))
+
+-- all were added
+pub left_all : (bytes rest old text : List ℕ) → AreLeft bytes rest old text → length rest ≡ 0
+    → (numbers : List ℕ) → Each UnsignedLeb numbers bytes → text ≡ old ++ flat_map operand_text numbers
+left_all bytes rest old text are empty numbers spelled =
+    let left = are numbers spelled in none_left left.0 rest old text numbers empty left.1 left.2
+
+-- the line of an operation, in its three parts
+pub line_told : {A E : Type 0} (result : Result A E) (view : OpView) (index : ℕ) (old start middle new : List ℕ)
+    → start ≡ old ++ ((codes "op " ++ decimal index) ++ codes " ")
+    → ((numbers : List ℕ) → HasOperands view numbers → middle ≡ start ++ op_text (op_of view numbers))
+    → OnOk result (new ≡ middle ++ (10 ∷ [])) → OnOk result ((done : Op) → StandsFor view done → new ≡ old ++ op_line index done)
+line_told (Err error) view index old start middle new first text last = last
+line_told (Ok value) view index old start middle new first text last =
+    λ done stands.
+    let begin = (codes "op " ++ decimal index) ++ codes " " in
+    let name = op_text done in
+    let here : middle ≡ start ++ name =
+    text (operands_of done) (has_those view done stands) ∙ ap (λ (op : Op). start ++ op_text op) (sym (is_op_of view done stands)) in
+    last ∙ ap (λ (z : List ℕ). z ++ (10 ∷ [])) (here ∙ ap (λ (z : List ℕ). z ++ name) first)
+    ∙ append_assoc (old ++ begin) name (10 ∷ []) ∙ append_assoc old begin (name ++ (10 ∷ []))
+
+-- ---- operands after what was added before them
+
+-- the operands of an unknown standard operation
+pub listed_told : {A E : Type 0} (result : Result A E) (listed : List ℕ) (opcode : ℕ) (old middle new : List ℕ)
+    → middle ≡ old ++ (codes "unknown_standard " ++ decimal opcode) → OnOk result (new ≡ middle ++ flat_map operand_text listed)
+    → OnOk result ((numbers : List ℕ) → listed ≡ numbers
+    → new ≡ old ++ ((codes "unknown_standard " ++ decimal opcode) ++ flat_map operand_text numbers))
+listed_told (Ok value) listed opcode old middle new before here =
+    let front = codes "unknown_standard " ++ decimal opcode in
+    λ numbers same. here ∙ ap (λ (z : List ℕ). z ++ flat_map operand_text listed) before
+    ∙ append_assoc old front (flat_map operand_text listed)
+    ∙ ap (λ (list : List ℕ). old ++ (front ++ flat_map operand_text list)) same
+listed_told (Err error) listed opcode old middle new before here = here
+
+pub spelled_told : {A E : Type 0} (result : Result A E) (bytes : List ℕ) (opcode : ℕ) (old middle new : List ℕ)
+    → middle ≡ old ++ (codes "unknown_standard " ++ decimal opcode)
+    → OnOk result ((numbers : List ℕ) → Each UnsignedLeb numbers bytes → new ≡ middle ++ flat_map operand_text numbers)
+    → OnOk result ((numbers : List ℕ) → Each UnsignedLeb numbers bytes
+    → new ≡ old ++ ((codes "unknown_standard " ++ decimal opcode) ++ flat_map operand_text numbers))
+spelled_told (Ok value) bytes opcode old middle new before here =
+    let front = codes "unknown_standard " ++ decimal opcode in
+    λ numbers spelled. here numbers spelled ∙ ap (λ (z : List ℕ). z ++ flat_map operand_text numbers) before
+    ∙ append_assoc old front (flat_map operand_text numbers)
+spelled_told (Err error) bytes opcode old middle new before here = here
+
+-- the bytes of an unknown extended one
+pub no_bytes_told : (bytes front old new : List ℕ) → length bytes ≡ 0 → new ≡ old ++ front → new ≡ old ++ (front ++ bytes_text bytes)
+no_bytes_told [] front old new empty here = here ∙ ap (λ (z : List ℕ). old ++ z) (sym (append-nil front))
+no_bytes_told (byte ∷ bytes) front old new empty here = absurd (omega (arith, empty))
+
+pub bytes_told : (bytes front old middle spaced new : List ℕ) → 0 < length bytes → middle ≡ old ++ front → spaced ≡ middle ++ (32 ∷ [])
+    → new ≡ spaced ++ encode_lower bytes → new ≡ old ++ (front ++ bytes_text bytes)
+bytes_told [] front old middle spaced new some before space here = absurd (omega (arith, some))
+bytes_told (byte ∷ bytes) front old middle spaced new some before space here =
+    here ∙ ap (λ (z : List ℕ). z ++ encode_lower (byte ∷ bytes)) (space ∙ ap (λ (z : List ℕ). z ++ (32 ∷ [])) before)
+    ∙ append_assoc (old ++ front) (32 ∷ []) (encode_lower (byte ∷ bytes))
+    ∙ append_assoc old front (32 ∷ encode_lower (byte ∷ bytes))
+
+-- what holds where a call has no error
+pub not_err : {A E : Type 0} (result : Result A E) (IsSo : Type 0) → is_err result ≡ false → OnOk result IsSo → IsSo
+not_err (Ok value) IsSo fine so = so
+not_err (Err error) IsSo fine so = absurd (true≢false fine)

@@ -1,12 +1,14 @@
 -- Texts that are written from their ends on.
-use Rattle.std.proofs.Common.{◌≡◌, ◌∙◌, ℕ, ◌+◌, ◌-◌, ◌≤◌, Bool, true, false, codes, if◌then◌else◌}
+use Rattle.std.proofs.Common.{◌≡◌, ◌∙◌, ℕ, ◌+◌, ◌-◌, ◌≤◌, Bool, true, false, codes, decimal, if◌then◌else◌}
 use Rattle.std.proofs.Common.{List, [], ◌∷◌, ◌++◌, drop, take, length, ap, arith, slice_set, sym}
 use Rattle.std.specs.Int.{from_bool}
 use Rattle.std.proofs.lemmas.List.{drop-set, drop-take}
 use Rattle.std.proofs.lemmas.List.Folds.{drop_split}
+use Rattle.lnt_wire.specs.FaultTexts.{hexadecimal}
 use Rattle.lnt_digits.specs.Digits.{IsPlainAddress, IsPlainDecimal}
 use Rattle.lnt_machine.specs.declared.row.Row.{Row}
-use Rattle.lnt_dump.specs.Rows.{IsNumberBefore, IsRowLine, marks_text}
+use Rattle.lnt_dump.specs.Rows.{marks_text, row_line}
+use Rattle.lnt_dump.proofs.Digits.{plain_address, plain_decimal}
 
 -- a byte that was written before a place
 pub byte_before : (room : List ℕ) (end byte : ℕ) → 1 ≤ end → end ≤ length room
@@ -27,13 +29,12 @@ text_before room new start end le after =
 -- a number before a byte, of which a text tells where its digits begin
 pub digits_before : (room new : List ℕ) (start end number after : ℕ) → 1 ≤ end → end ≤ length room → start ≤ end - 1
     → IsPlainDecimal (drop start (take (end - 1) new)) number → drop (end - 1) new ≡ drop (end - 1) (slice_set room (end - 1) after)
-    → IsNumberBefore number after (drop end room) (drop start new)
-digits_before room new start end number after some fits le digits_are same = record {
-  digits = drop start (take (end - 1) new);
-  digits_are = digits_are;
-  joined = text_before (slice_set room (end - 1) after) new start (end - 1) le same
-      ∙ ap (λ rest. drop start (take (end - 1) new) ++ rest) (byte_before room end after some fits);
-}
+    → drop start new ≡ decimal number ++ (after ∷ drop end room)
+digits_before room new start end number after some fits le digits_are same =
+    let digits = drop start (take (end - 1) new) in
+    text_before (slice_set room (end - 1) after) new start (end - 1) le same
+    ∙ ap (λ rest. digits ++ rest) (byte_before room end after some fits)
+    ∙ ap (λ front. front ++ (after ∷ drop end room)) (plain_decimal number digits digits_are)
 
 -- ---- the line
 
@@ -45,44 +46,27 @@ stmt_text false stmt rest text is joined = joined ∙ ap (λ (digit : ℕ). digi
 
 -- the parts of a line, from its end on
 pub line_of : {t0 t1 t2 t3 t4 t5 t6 t7 t8 t9 t10 t11 t12 t13 t14 t15 t16 : List ℕ} (number : ℕ) (row : Row) (address : List ℕ) (stmt : ℕ)
-    → t0 ≡ [] → IsNumberBefore row.discriminator 10 t0 t1 → IsNumberBefore row.isa 32 t1 t2
+    → t0 ≡ [] → t1 ≡ decimal row.discriminator ++ (10 ∷ t0) → t2 ≡ decimal row.isa ++ (32 ∷ t1)
     → t3 ≡ marks_text row ++ (32 ∷ t2) → t4 ≡ 32 ∷ t3 → t5 ≡ stmt ∷ t4 → stmt ≡ 48 + from_bool row.is_stmt
-    → IsNumberBefore row.column 32 t5 t6 → IsNumberBefore row.line 32 t6 t7 → IsNumberBefore row.file 32 t7 t8
-    → IsNumberBefore row.op_index 32 t8 t9 → t10 ≡ 32 ∷ t9 → IsPlainAddress address row.address → t11 ≡ address ++ t10
-    → IsNumberBefore number 32 t11 t12 → t13 ≡ 32 ∷ t12 → t14 ≡ 119 ∷ t13 → t15 ≡ 111 ∷ t14 → t16 ≡ 114 ∷ t15
-    → IsRowLine number row t16
-line_of number row address stmt e0 n1 n2 e3 e4 e5 stmt_is n6 n7 n8 n9 e10 address_is e11 n12 e13 e14 e15 e16 =
-    let s1 = n1.joined ∙ ap (λ rest. n1.digits ++ (10 ∷ rest)) e0 in
-    let s2 = n2.joined ∙ ap (λ rest. n2.digits ++ (32 ∷ rest)) s1 in
+    → t6 ≡ decimal row.column ++ (32 ∷ t5) → t7 ≡ decimal row.line ++ (32 ∷ t6) → t8 ≡ decimal row.file ++ (32 ∷ t7)
+    → t9 ≡ decimal row.op_index ++ (32 ∷ t8) → t10 ≡ 32 ∷ t9 → IsPlainAddress address row.address → t11 ≡ address ++ t10
+    → t12 ≡ decimal number ++ (32 ∷ t11) → t13 ≡ 32 ∷ t12 → t14 ≡ 119 ∷ t13 → t15 ≡ 111 ∷ t14 → t16 ≡ 114 ∷ t15
+    → t16 ≡ row_line number row
+line_of {t10 = t10} number row address stmt e0 e1 e2 e3 e4 e5 stmt_is e6 e7 e8 e9 e10 address_is e11 e12 e13 e14 e15 e16 =
+    let s1 = e1 ∙ ap (λ rest. decimal row.discriminator ++ (10 ∷ rest)) e0 in
+    let s2 = e2 ∙ ap (λ rest. decimal row.isa ++ (32 ∷ rest)) s1 in
     let s3 = e3 ∙ ap (λ rest. marks_text row ++ (32 ∷ rest)) s2 in
     let s4 = e4 ∙ ap (λ rest. 32 ∷ rest) s3 in
     let s5 = stmt_text row.is_stmt stmt _ _ stmt_is e5 ∙ ap (λ rest. (if row.is_stmt then codes "1" else codes "0") ++ rest) s4 in
-    let s6 = n6.joined ∙ ap (λ rest. n6.digits ++ (32 ∷ rest)) s5 in
-    let s7 = n7.joined ∙ ap (λ rest. n7.digits ++ (32 ∷ rest)) s6 in
-    let s8 = n8.joined ∙ ap (λ rest. n8.digits ++ (32 ∷ rest)) s7 in
-    let s9 = n9.joined ∙ ap (λ rest. n9.digits ++ (32 ∷ rest)) s8 in
+    let s6 = e6 ∙ ap (λ rest. decimal row.column ++ (32 ∷ rest)) s5 in
+    let s7 = e7 ∙ ap (λ rest. decimal row.line ++ (32 ∷ rest)) s6 in
+    let s8 = e8 ∙ ap (λ rest. decimal row.file ++ (32 ∷ rest)) s7 in
+    let s9 = e9 ∙ ap (λ rest. decimal row.op_index ++ (32 ∷ rest)) s8 in
     let s10 = e10 ∙ ap (λ rest. 32 ∷ rest) s9 in
-    let s11 = e11 ∙ ap (λ rest. address ++ rest) s10 in
-    let s12 = n12.joined ∙ ap (λ rest. n12.digits ++ (32 ∷ rest)) s11 in
+    let s11 = e11 ∙ ap (λ front. front ++ t10) (plain_address row.address address address_is)
+    ∙ ap (λ rest. hexadecimal row.address ++ rest) s10 in
+    let s12 = e12 ∙ ap (λ rest. decimal number ++ (32 ∷ rest)) s11 in
     let s13 = e13 ∙ ap (λ rest. 32 ∷ rest) s12 in
     let s14 = e14 ∙ ap (λ rest. 119 ∷ rest) s13 in
     let s15 = e15 ∙ ap (λ rest. 111 ∷ rest) s14 in
-    record {
-      number_text = n12.digits;
-      number_is = n12.digits_are;
-      address = address;
-      address_is = address_is;
-      op_index = n9.digits;
-      op_index_is = n9.digits_are;
-      file = n8.digits;
-      file_is = n8.digits_are;
-      line = n7.digits;
-      line_is = n7.digits_are;
-      column = n6.digits;
-      column_is = n6.digits_are;
-      isa = n2.digits;
-      isa_is = n2.digits_are;
-      discriminator = n1.digits;
-      discriminator_is = n1.digits_are;
-      joined = e16 ∙ ap (λ rest. 114 ∷ rest) s15;
-    }
+    e16 ∙ ap (λ rest. 114 ∷ rest) s15

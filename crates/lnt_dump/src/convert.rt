@@ -106,7 +106,7 @@ fn print_refusal<W: Write>(alloc: Global, fault: ConvertFault, out: &mut W) -> R
 }
 
 // Prints the line that says which unit is too large, or a prefix of it.
-fn print_too_large<W: Write>(
+pub(crate) fn print_too_large<W: Write>(
     alloc: Global,
     fault: ConvertFault,
     out: &mut W,

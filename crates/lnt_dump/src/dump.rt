@@ -1,18 +1,30 @@
 //! The subcommand `dump`.
-ghost use Rattle.std.specs.Prelude.{◌-◌, ◌^◌, ◌<◌};
+ghost use Rattle.std.specs.Prelude.{◌≡◌, ◌++◌, ◌-◌, ◌^◌, ◌<◌, ◌⊎◌, [], List, cond, IfOk, OnErr, OnOk};
+ghost use Rattle.std.specs.Io.KnownBytes.{Appends, Keeps};
+ghost use Rattle.lnt_output.specs.Fronts.{AppendsFront};
+ghost use Rattle.lnt_header.specs.declared.op.Op.{Op};
+ghost use Rattle.lnt_machine.specs.Matrix.{Runs, rows};
+ghost use Rattle.lnt_unit.specs.Views.{with_ops};
+ghost use Rattle.lnt_dump.specs.Dumps.{IsDumpBegun, IsDumped, unit_lines};
+ghost use Rattle.lnt_dump.specs.Headers.{header_lines};
+ghost use Rattle.lnt_dump.specs.Numbered.{numbered};
+ghost use Rattle.lnt_dump.specs.Operations.{op_line};
+ghost use Rattle.lnt_dump.specs.Rows.{row_line};
+ghost use Rattle.lnt_dump.specs.Stepping.{IsPaged, IsSound, IsUnitOf, UnitBegun, UnitTold};
 
-use crate::faults::{print_fault, print_run_fault};
+use crate::faults::{print_fault, print_unit_fault};
+use crate::header::print_header;
 use crate::operations::print_ops;
-use crate::page::{Page, Sheet, hand_on, judge};
+use crate::page::hand_on;
 use crate::rows::print_rows;
+use crate::run::judge;
 use crate::units::{Next, next_of};
 use lnt_input::Source;
-use lnt_machine::RunFault;
 use lnt_sources::{Halt, Status};
 use lnt_stream::{SectionReader, UnitBuffer};
 use lnt_unit::UnitInPlace;
-use lnt_wire::{Fault, Order};
-use std::alloc::{AllocError, Global};
+use lnt_wire::{Frame, Order};
+use std::alloc::Global;
 use std::io::Write;
 
 /// What is printed of a unit after its header.
@@ -25,43 +37,16 @@ pub struct DumpParts {
     pub rows: bool,
 }
 
-// Why a unit isn't printed, or not whole.
-#[derive(Clone, Copy)]
-pub(crate) enum PrintStop {
-    // Its bytes aren't those of a unit.
-    Malformed(Fault),
-    // Its program doesn't run.
-    NotRun(RunFault),
-    // The printing stopped.
-    Halt(Halt),
-}
-
-impl From<Fault> for PrintStop {
-    fn from(fault: Fault) -> PrintStop {
-        PrintStop::Malformed(fault)
-    }
-}
-
-impl From<Halt> for PrintStop {
-    fn from(halt: Halt) -> PrintStop {
-        PrintStop::Halt(halt)
-    }
-}
-
-impl From<AllocError> for PrintStop {
-    fn from(error: AllocError) -> PrintStop {
-        PrintStop::Halt(Halt::from(error))
-    }
-}
-
 /// Prints the units from the source. For each it prints a line `unit` (offset, format, length), a line `header` (the numbers of
 /// the header in their order), a line `dir` or `file` for each entry, counted from 0 (DWARF 5, section 6.2.4), and then what
 /// `shown` asks for.
 ///
 /// Returns `Done` if all of them were printed. At the first unit with a fault it prints the line of the fault, and nothing
-/// else of that unit, and returns `No`. Stops with `Read` if the source failed, with `TooLong` if it has more bytes than it
-/// may give, with `Write` if the writer failed, and with `Memory`; what was printed of earlier units stays. The caller
-/// ensures that the number of the source's failures is below `u64::MAX`.
+/// else of that unit, and returns `No`. In both cases these lines have been written, and nothing else (`IsDumped`). Stops with
+/// `Read` if the source failed, with `TooLong` if it has more bytes than it may give, with `Write` if the writer failed, and
+/// with `Memory`. If it stops, a prefix of the lines of units that the section begins with, and of the line of the fault
+/// after them, has been written, and nothing else (`IsDumpBegun`). The caller ensures that the number of the source's
+/// failures is below `u64::MAX`.
 pub fn print_dump<R: Source, W: Write>(
     alloc: Global,
     source: &mut R,
@@ -70,68 +55,142 @@ pub fn print_dump<R: Source, W: Write>(
     out: &mut W,
 ) -> Result<Status, Halt>
     requires { R.failures source.old < 2 ^ 64 - 1 }
+    ensures told { IfOk result (IsDumped order shown (R.remaining source.old) (W.contents out.old) (W.contents out.new)) }
+    ensures begun { OnErr result (IsDumpBegun order shown (R.remaining source.old) (W.contents out.old) (W.contents out.new)) }
 {
-    let mut page = Page::new(alloc)?;
     let mut reader = SectionReader::new(source, order);
     let mut room = Vec::new(alloc);
+    let mut page = Vec::new(alloc);
     loop {
         let unit = match next_of(&mut reader, room)? {
             Next::Unit(unit) => unit,
             Next::Fault(fault) => return print_fault(alloc, fault, out),
             Next::End => return Ok(Status::Done),
         };
-        if print_unit(alloc, &unit, shown, &mut page, out)? == Status::No {
+        if print_unit(alloc, &unit, &unit.frame(), shown, &mut page, out)? == Status::No {
             return Ok(Status::No);
         }
         room = unit.into_bytes();
     }
 }
 
-// Prints a unit, or the fault of it.
+// Prints a unit, whose frame this is, or the fault of it. The page is for its text.
 fn print_unit<W: Write>(
     alloc: Global,
     buffer: &UnitBuffer,
+    frame: &Frame<'_>,
     shown: DumpParts,
-    page: &mut Page,
+    page: &mut Vec<u8>,
     out: &mut W,
-) -> Result<Status, Halt> {
+) -> Result<Status, Halt>
+    requires { frame.now.offset ≡ buffer.now.offset }
+    ensures told { IfOk result (UnitTold shown frame.now buffer.now (W.contents out.old) (W.contents out.new)) }
+    ensures begun { OnErr result (Keeps (W.contents out.old) (W.contents out.new)
+        ⊎ UnitBegun shown frame.now buffer.now (W.contents out.old) (W.contents out.new)) }
+{
     match UnitInPlace::over(alloc, buffer) {
-        Ok(unit) => {
-            let sheet = Sheet {
-                alloc,
-                buffer,
-                unit: &unit,
-                shown,
-            };
-            print_judged(&sheet, page, out)
-        }
+        Ok(unit) => print_judged(alloc, &unit, frame, shown, page, out),
         Err(fault) => print_fault(alloc, fault, out),
     }
 }
 
 // Prints a unit whose header is valid, or the fault of its program.
-fn print_judged<W: Write>(sheet: &Sheet<'_>, page: &mut Page, out: &mut W) -> Result<Status, Halt> {
-    page.begin();
-    match print_sheet(sheet, page, out) {
-        Ok(()) => Ok(Status::Done),
-        Err(PrintStop::Malformed(fault)) => print_fault(sheet.alloc, fault, out),
-        Err(PrintStop::NotRun(fault)) => print_run_fault(sheet.buffer.offset(), fault, out),
-        Err(PrintStop::Halt(halt)) => Err(halt),
+fn print_judged<W: Write>(
+    alloc: Global,
+    unit: &UnitInPlace<'_>,
+    frame: &Frame<'_>,
+    shown: DumpParts,
+    page: &mut Vec<u8>,
+    out: &mut W,
+) -> Result<Status, Halt>
+    requires { frame.now.offset ≡ unit.now.unit.offset }
+    ensures told { IfOk result (UnitTold shown frame.now unit.now.unit (W.contents out.old) (W.contents out.new)) }
+    ensures begun { OnErr result (Keeps (W.contents out.old) (W.contents out.new)
+        ⊎ UnitBegun shown frame.now unit.now.unit (W.contents out.old) (W.contents out.new)) }
+{
+    match judge(unit, shown.rows) {
+        Ok(()) => {
+            print_valid(alloc, unit, frame, shown, page, out)?;
+            Ok(Status::Done)
+        }
+        Err(fault) => print_unit_fault(alloc, frame.offset, fault, out),
     }
 }
 
-// Prints a unit if it is valid, and otherwise nothing of it. The first walk over its program checks it.
-fn print_sheet<W: Write>(sheet: &Sheet<'_>, page: &mut Page, out: &mut W) -> Result<(), PrintStop> {
-    let DumpParts { ops, rows } = sheet.shown;
-    if ops {
-        print_ops(sheet, page, out)?;
-        hand_on(sheet, page, out)?;
+// Prints the lines of a unit that is valid and, if rows are shown, runs.
+fn print_valid<W: Write>(
+    alloc: Global,
+    unit: &UnitInPlace<'_>,
+    frame: &Frame<'_>,
+    shown: DumpParts,
+    page: &mut Vec<u8>,
+    out: &mut W,
+) -> Result<(), Halt>
+    requires { IsSound unit.now shown.rows }
+    ensures whole { OnOk result ((ops : List Op) → IsUnitOf unit.now ops
+        → Appends (W.contents out.old) (W.contents out.new) (unit_lines shown (frame.now, with_ops unit.now ops))) }
+    ensures front { OnErr result ((ops : List Op) → IsUnitOf unit.now ops
+        → AppendsFront (W.contents out.old) (W.contents out.new) (unit_lines shown (frame.now, with_ops unit.now ops))) }
+{
+    begin_page(alloc, unit, frame, page, out)?;
+    print_shown_ops(alloc, unit, shown, page, out)?;
+    print_shown_rows(unit, shown, page, out)?;
+    hand_on(page, out)
+}
+
+// Prints the lines of a unit's header, at the beginning of a page.
+fn begin_page<W: Write>(
+    alloc: Global,
+    unit: &UnitInPlace<'_>,
+    frame: &Frame<'_>,
+    page: &mut Vec<u8>,
+    out: &mut W,
+) -> Result<(), Halt>
+    ensures ok { OnOk result (IsPaged (header_lines frame.now unit.now.header) (W.contents out.old) (W.contents out.new) page.new.items) }
+    ensures front { OnErr result (AppendsFront (W.contents out.old) (W.contents out.new) (header_lines frame.now unit.now.header)) }
+{
+    page.clear();
+    print_header(alloc, frame, &unit.header(), page, out)
+}
+
+// Prints the operations of a valid unit, if they are shown.
+fn print_shown_ops<W: Write>(
+    alloc: Global,
+    unit: &UnitInPlace<'_>,
+    shown: DumpParts,
+    page: &mut Vec<u8>,
+    out: &mut W,
+) -> Result<(), Halt>
+    requires { (ops : List Op) × IsUnitOf unit.now ops }
+    ensures ok { OnOk result ((ops : List Op) → IsUnitOf unit.now ops
+        → IsPaged (page.old.items ++ cond shown.ops (numbered op_line 0 ops) [])
+        (W.contents out.old) (W.contents out.new) page.new.items) }
+    ensures front { OnErr result ((ops : List Op) → IsUnitOf unit.now ops
+        → AppendsFront (W.contents out.old) (W.contents out.new) (page.old.items ++ cond shown.ops (numbered op_line 0 ops) [])) }
+{
+    if shown.ops {
+        return print_ops(alloc, unit, page, out);
     }
-    if rows {
-        print_rows(sheet, page, out)?;
-    } else if !ops {
-        judge(sheet)?;
+    Ok(())
+}
+
+// Prints the rows of a valid unit, if they are shown; then its program runs.
+fn print_shown_rows<W: Write>(
+    unit: &UnitInPlace<'_>,
+    shown: DumpParts,
+    page: &mut Vec<u8>,
+    out: &mut W,
+) -> Result<(), Halt>
+    requires { IsSound unit.now shown.rows }
+    ensures ok { OnOk result ((ops : List Op) → IsUnitOf unit.now ops
+        → IsPaged (page.old.items ++ cond shown.rows (numbered row_line 0 (rows (with_ops unit.now ops))) [])
+        (W.contents out.old) (W.contents out.new) page.new.items) }
+    ensures front { OnErr result ((ops : List Op) → IsUnitOf unit.now ops
+        → AppendsFront (W.contents out.old) (W.contents out.new)
+        (page.old.items ++ cond shown.rows (numbered row_line 0 (rows (with_ops unit.now ops))) [])) }
+{
+    if shown.rows {
+        return print_rows(unit, page, out);
     }
-    hand_on(sheet, page, out)?;
     Ok(())
 }

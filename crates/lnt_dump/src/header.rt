@@ -1,12 +1,23 @@
 //! How headers are printed, with their entries read one by one in place.
-ghost use Rattle.std.specs.Prelude.{◌<◌, OnOk};
+ghost use Rattle.std.specs.Prelude.{◌≡◌, ◌++◌, OnErr, OnOk, Some, codes, decimal};
+ghost use Rattle.std.specs.Io.KnownBytes.{Appends};
+ghost use Rattle.lnt_output.specs.Fronts.{AppendsFront};
+ghost use Rattle.hex.specs.Hex.{encode_lower};
+ghost use Rattle.lnt_wire.specs.Borrowed.{value_of};
 ghost use Rattle.lnt_wire.specs.Bytes.{NoneSpelled};
-ghost use Rattle.lnt_header_bytes.specs.Stepping.{Passes};
 ghost use Rattle.lnt_header_bytes.specs.TableBytes.{EntryBytes};
+ghost use Rattle.lnt_text.specs.Quotes.{quoted_text};
+ghost use Rattle.lnt_dump.specs.Headers.{block_text, entry_end, entry_line, header_lines, numbers_line, value_text};
+ghost use Rattle.lnt_dump.specs.Numbered.{numbered};
+ghost use Rattle.lnt_wire.specs.FaultTexts.{hexadecimal};
+ghost use Rattle.lnt_dump.specs.Stepping.{IsPaged, PassesPrinting};
+ghost use Rattle.lnt_dump.specs.Units.{unit_line};
 
+use crate::page::turn_full;
 use crate::width::width_of;
 use lnt_header::{Header, Pair};
 use lnt_header_bytes::{EntryTableView, HeaderView};
+use lnt_output::write_whole;
 use lnt_sources::Halt;
 use lnt_text::Quoted;
 use lnt_wire::{Cursor, Format, Frame, ValueView};
@@ -17,21 +28,55 @@ use std::io::Write;
 const PIECE: usize = 4096;
 
 // Prints the lines of a unit's header and of its two tables.
+#[tactic(auto, using(crate::proofs::Headers::header_told, crate::proofs::Headers::files_cut))]
 pub(crate) fn print_header<W: Write>(
     alloc: Global,
     frame: &Frame<'_>,
     header: &HeaderView<'_>,
+    page: &mut Vec<u8>,
     out: &mut W,
-) -> Result<(), Halt> {
+) -> Result<(), Halt>
+    ensures ok { OnOk result (IsPaged (page.old.items ++ header_lines frame.now header.now)
+        (W.contents out.old) (W.contents out.new) page.new.items) }
+    ensures front { OnErr result (AppendsFront (W.contents out.old) (W.contents out.new)
+        (page.old.items ++ header_lines frame.now header.now)) }
+{
+    put_numbers(frame, header.numbers(), page)?;
+    print_entries(alloc, "dir", header.directories(), page, out)?;
+    print_entries(alloc, "file", header.files(), page, out)
+}
+
+// Adds the lines of a unit and of its header's numbers.
+fn put_numbers(frame: &Frame<'_>, header: &Header, text: &mut Vec<u8>) -> Result<(), Halt>
+    ensures { OnOk result (text.new.items ≡ text.old.items ++ ((codes "unit " ++ unit_line frame.now) ++ numbers_line header.now)) }
+{
+    if print_numbers(frame, header, text).is_err() {
+        return Err(Halt::Memory);
+    }
+    Ok(())
+}
+
+// Prints the lines of a unit and of its header's numbers.
+fn print_numbers<W: Write>(frame: &Frame<'_>, header: &Header, out: &mut W) -> Result<(), Halt>
+    ensures { OnOk result (Appends (W.contents out.old) (W.contents out.new) ((codes "unit " ++ unit_line frame.now) ++ numbers_line header.now)) }
+{
+    print_unit_line(frame, out)?;
+    print_header_line(header, out)
+}
+
+// Prints the line of a unit.
+fn print_unit_line<W: Write>(frame: &Frame<'_>, out: &mut W) -> Result<(), Halt>
+    ensures { OnOk result (Appends (W.contents out.old) (W.contents out.new) (codes "unit " ++ unit_line frame.now)) }
+{
     let (offset, width, length) = (frame.offset, width_of(frame.format), frame.length);
     writeln!(out, "unit 0x{offset:x} {width} {length}")?;
-    print_numbers(header.numbers(), out)?;
-    print_entries(alloc, "dir", header.directories(), out)?;
-    print_entries(alloc, "file", header.files(), out)
+    Ok(())
 }
 
 // Prints the line of the header's numbers, in the order in which the header has them.
-fn print_numbers<W: Write>(header: &Header, out: &mut W) -> Result<(), Halt> {
+fn print_header_line<W: Write>(header: &Header, out: &mut W) -> Result<(), Halt>
+    ensures { OnOk result (Appends (W.contents out.old) (W.contents out.new) (numbers_line header.now)) }
+{
     let address_size = header.address_size();
     let minimum = header.minimum_instruction_length();
     let max_ops = header.max_ops();
@@ -47,25 +92,75 @@ fn print_numbers<W: Write>(header: &Header, out: &mut W) -> Result<(), Halt> {
 }
 
 // Prints a line for each entry of a table.
-#[tactic(auto, using(crate::proofs::Entries::at_first, crate::proofs::Entries::at_next, crate::proofs::Entries::is_there))]
 fn print_entries<W: Write>(
     alloc: Global,
     name: &str,
     table: &EntryTableView<'_>,
+    page: &mut Vec<u8>,
     out: &mut W,
-) -> Result<(), Halt> {
+) -> Result<(), Halt>
+    ensures ok { OnOk result (IsPaged (page.old.items ++ numbered (entry_line name.now table.now.pairs) 0 table.now.entries)
+        (W.contents out.old) (W.contents out.new) page.new.items) }
+    ensures front { OnErr result (AppendsFront (W.contents out.old) (W.contents out.new)
+        (page.old.items ++ numbered (entry_line name.now table.now.pairs) 0 table.now.entries)) }
+{
     let (format, pairs) = (table.format(), table.pairs());
     let mut cursor = table.cursor();
     for index in 0..table.count() {
-        write!(out, "{name} {index}")?;
-        print_entry(alloc, format, pairs, &mut cursor, out)?;
-        writeln!(out)?;
+        put_line(alloc, name, index, format, pairs, &mut cursor, page)?;
+        turn_full(page, out)?;
     }
     Ok(())
 }
 
-// Prints the components of the next entry, which exists, and moves past it.
-#[tactic(auto, using(crate::proofs::Entries::read_none, crate::proofs::Entries::read_more, crate::proofs::Entries::read_all, crate::proofs::Entries::none_there))]
+// Adds the line of the next entry, which exists, and moves past it.
+fn put_line(
+    alloc: Global,
+    name: &str,
+    index: u64,
+    format: Format,
+    pairs: &[Pair],
+    cursor: &mut Cursor<'_>,
+    text: &mut Vec<u8>,
+) -> Result<(), Halt>
+    requires { NoneSpelled (EntryBytes format cursor.old.order pairs.now) cursor.old.rest → ⊥ }
+    ensures { OnOk result (PassesPrinting (entry_line name.now pairs.now index) format pairs.now cursor.old cursor.new
+        (Some text.old.items) (Some text.new.items)) }
+{
+    if print_line(alloc, name, index, format, pairs, cursor, text).is_err() {
+        return Err(Halt::Memory);
+    }
+    Ok(())
+}
+
+// Prints the line of the next entry, which exists, and moves past it.
+#[tactic(auto, using(crate::proofs::Entries::line_read))]
+fn print_line<W: Write>(
+    alloc: Global,
+    name: &str,
+    index: u64,
+    format: Format,
+    pairs: &[Pair],
+    cursor: &mut Cursor<'_>,
+    out: &mut W,
+) -> Result<(), Halt>
+    requires { NoneSpelled (EntryBytes format cursor.old.order pairs.now) cursor.old.rest → ⊥ }
+    ensures { OnOk result (PassesPrinting (entry_line name.now pairs.now index) format pairs.now cursor.old cursor.new
+        (W.contents out.old) (W.contents out.new)) }
+{
+    print_start(name, index, out)?;
+    print_entry(alloc, format, pairs, cursor, out)
+}
+
+// Prints the beginning of the line of an entry: what it is, and its index.
+fn print_start<W: Write>(name: &str, index: u64, out: &mut W) -> Result<(), Halt>
+    ensures { OnOk result (Appends (W.contents out.old) (W.contents out.new) (name.now ++ (codes " " ++ decimal index))) }
+{
+    write!(out, "{name} {index}")?;
+    Ok(())
+}
+
+// Prints the components of the next entry, which exists, and the end of its line, and moves past it.
 fn print_entry<W: Write>(
     alloc: Global,
     format: Format,
@@ -74,21 +169,37 @@ fn print_entry<W: Write>(
     out: &mut W,
 ) -> Result<(), Halt>
     requires { NoneSpelled (EntryBytes format cursor.old.order pairs.now) cursor.old.rest → ⊥ }
-    ensures { OnOk result (Passes (EntryBytes format cursor.old.order pairs.now) cursor.old cursor.new) }
+    ensures { OnOk result (PassesPrinting (entry_end pairs.now) format pairs.now cursor.old cursor.new
+        (W.contents out.old) (W.contents out.new)) }
 {
     for pair in pairs {
         let Ok(value) = cursor.value(pair.form, format) else {
             unreachable!()
         };
-        let content = pair.content;
-        write!(out, " {content}=")?;
-        print_value(alloc, value, out)?;
+        print_component(alloc, pair.content, value, out)?;
     }
+    write_whole(out, b"\n")?;
     Ok(())
 }
 
+// Prints a component of an entry: its content type and its value.
+fn print_component<W: Write>(
+    alloc: Global,
+    content: u64,
+    value: ValueView<'_>,
+    out: &mut W,
+) -> Result<(), Halt>
+    ensures { OnOk result (Appends (W.contents out.old) (W.contents out.new)
+        (codes " " ++ (decimal content ++ (codes "=" ++ value_text (value_of value.entry))))) }
+{
+    write!(out, " {content}=")?;
+    print_value(alloc, value, out)
+}
+
 // Prints a value in its form.
-fn print_value<W: Write>(alloc: Global, value: ValueView<'_>, out: &mut W) -> Result<(), Halt> {
+fn print_value<W: Write>(alloc: Global, value: ValueView<'_>, out: &mut W) -> Result<(), Halt>
+    ensures { OnOk result (Appends (W.contents out.old) (W.contents out.new) (value_text (value_of value.entry))) }
+{
     match value {
         ValueView::Text(text) => print_text(text, out),
         ValueView::LineStrp(offset) => print_offset("line_strp", offset, out),
@@ -105,31 +216,52 @@ fn print_value<W: Write>(alloc: Global, value: ValueView<'_>, out: &mut W) -> Re
     }
 }
 
-fn print_text<W: Write>(text: &[u8], out: &mut W) -> Result<(), Halt> {
+fn print_text<W: Write>(text: &[u8], out: &mut W) -> Result<(), Halt>
+    ensures { OnOk result (Appends (W.contents out.old) (W.contents out.new) (quoted_text text.now)) }
+{
     write!(out, "{}", Quoted(text))?;
     Ok(())
 }
 
 // Prints an offset into the string section of this name.
-fn print_offset<W: Write>(strings: &str, offset: u64, out: &mut W) -> Result<(), Halt> {
+fn print_offset<W: Write>(strings: &str, offset: u64, out: &mut W) -> Result<(), Halt>
+    ensures { OnOk result (Appends (W.contents out.old) (W.contents out.new) (strings.now ++ (codes ":" ++ hexadecimal offset))) }
+{
     write!(out, "{strings}:0x{offset:x}")?;
     Ok(())
 }
 
-fn print_number<W: Write>(n: u64, out: &mut W) -> Result<(), Halt> {
+fn print_number<W: Write>(n: u64, out: &mut W) -> Result<(), Halt>
+    ensures { OnOk result (Appends (W.contents out.old) (W.contents out.new) (decimal n)) }
+{
     write!(out, "{n}")?;
     Ok(())
 }
 
-fn print_block<W: Write>(alloc: Global, bytes: &[u8], out: &mut W) -> Result<(), Halt> {
+fn print_block<W: Write>(alloc: Global, bytes: &[u8], out: &mut W) -> Result<(), Halt>
+    ensures { OnOk result (Appends (W.contents out.old) (W.contents out.new) (block_text bytes.now)) }
+{
     write!(out, "block:")?;
     print_bytes(alloc, bytes, out)
 }
 
 // Prints the hexadecimal digits of the bytes, some bytes at a time.
-fn print_bytes<W: Write>(alloc: Global, bytes: &[u8], out: &mut W) -> Result<(), Halt> {
-    for piece in bytes.chunks(PIECE) {
-        write!(out, "{}", hex::encode(alloc, piece)?)?;
+#[tactic(auto, using(crate::proofs::Lines::digits_none, crate::proofs::Lines::digits_more, crate::proofs::Lines::digits_fewer, crate::proofs::Lines::digits_all))]
+pub(crate) fn print_bytes<W: Write>(alloc: Global, bytes: &[u8], out: &mut W) -> Result<(), Halt>
+    ensures { OnOk result (Appends (W.contents out.old) (W.contents out.new) (encode_lower bytes.now)) }
+{
+    let mut rest = bytes;
+    while let Some((piece, more)) = rest.split_at_checked(PIECE) {
+        print_piece(alloc, piece, out)?;
+        rest = more;
     }
+    print_piece(alloc, rest, out)
+}
+
+// Prints the hexadecimal digits of the bytes at once.
+fn print_piece<W: Write>(alloc: Global, bytes: &[u8], out: &mut W) -> Result<(), Halt>
+    ensures { OnOk result (Appends (W.contents out.old) (W.contents out.new) (encode_lower bytes.now)) }
+{
+    write!(out, "{}", hex::encode(alloc, bytes)?)?;
     Ok(())
 }

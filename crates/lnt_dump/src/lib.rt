@@ -14,8 +14,10 @@ mod page;
 mod rows;
 mod run;
 mod units;
+mod upgrade;
 mod width;
 
 pub use convert::print_converted;
 pub use dump::{DumpParts, print_dump};
 pub use units::print_units;
+pub use upgrade::print_upgraded;

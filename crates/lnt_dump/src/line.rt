@@ -1,6 +1,6 @@
 //! Lines of rows, written backwards from their ends, so that no digits have to be counted or moved.
-ghost use Rattle.std.specs.Prelude.{◌≡◌, ◌+◌, ◌<◌, ◌≤◌, ◌∷◌, ◌++◌, [], drop};
-ghost use Rattle.lnt_dump.specs.Rows.{IsNumberBefore, IsRowLine, mark_text, marks_text};
+ghost use Rattle.std.specs.Prelude.{◌≡◌, ◌+◌, ◌<◌, ◌≤◌, ◌∷◌, ◌++◌, [], decimal, drop};
+ghost use Rattle.lnt_dump.specs.Rows.{mark_text, marks_text, row_line as line_of_row};
 
 use lnt_digits::{address_before, decimal_before};
 use lnt_machine::Row;
@@ -12,7 +12,7 @@ pub(crate) const MOST: usize = 192;
 #[inline(always)]
 pub(crate) fn row_line(room: &mut [u8; MOST], index: u64, row: &Row) -> usize
     ensures within { result < 192 }
-    ensures line { IsRowLine index row.now (drop result room.new) }
+    ensures line { drop result room.new ≡ line_of_row index row.now }
 {
     let at = number_before(room, MOST, row.discriminator, b'\n');
     let at = number_before(room, at, row.isa, b' ');
@@ -37,7 +37,7 @@ pub(crate) fn row_line(room: &mut [u8; MOST], index: u64, row: &Row) -> usize
 fn number_before(room: &mut [u8; MOST], end: usize, n: u64, after: u8) -> usize
     requires { (21 ≤ end) × (end ≤ 192) }
     ensures within { (result < end) × (end ≤ result + 21) }
-    ensures written { IsNumberBefore n after (drop end room.old) (drop result room.new) }
+    ensures written { drop result room.new ≡ decimal n ++ (after ∷ drop end room.old) }
 {
     room[end - 1] = after;
     decimal_before(room, end - 1, n)

@@ -1,81 +1,101 @@
 //! How operations are printed.
-ghost use Rattle.std.specs.Prelude.{ℕ, List};
-ghost use Rattle.lnt_header.specs.Joins.{Each};
-ghost use Rattle.lnt_header.specs.OpRules.{AreOperands, StandsFor};
-ghost use Rattle.lnt_header.specs.declared.op.Op.{Op};
+ghost use Rattle.std.specs.Prelude.{◌≡◌, ℕ, ◌∷◌, ◌++◌, List, OnErr, OnOk, [], codes, decimal};
+ghost use Rattle.std.specs.Fmt.{signed_decimal};
+ghost use Rattle.std.specs.List.{flat_map};
+ghost use Rattle.lnt_output.specs.Fronts.{AppendsFront};
+ghost use Rattle.lnt_wire.specs.FaultTexts.{hexadecimal};
 ghost use Rattle.lnt_wire.specs.Leb128.{UnsignedLeb};
+ghost use Rattle.lnt_header.specs.Joins.{Each};
+ghost use Rattle.lnt_header.specs.OpRules.{AreOperands, StandsFor, op_of};
+ghost use Rattle.lnt_header.specs.declared.op.Op.{Op};
+ghost use Rattle.lnt_dump.specs.Numbered.{numbered};
+ghost use Rattle.lnt_dump.specs.Operations.{bytes_text, op_line, op_text, operand_text};
+ghost use Rattle.lnt_dump.specs.Stepping.{HasOperands, IsPaged, IsUnitOf};
 
-use crate::dump::PrintStop;
-use crate::page::{Page, Sheet, turn_full};
-use crate::run::not_run;
+use crate::header::print_bytes;
+use crate::page::turn_full;
 use lnt_digits::{put_address, put_decimal};
 use lnt_header::{OpView, Operands};
-use lnt_machine::Run;
+use lnt_sources::Halt;
+use lnt_unit::UnitInPlace;
 use lnt_wire::{Cursor, Order};
-use std::alloc::AllocError;
+use std::alloc::{AllocError, Global};
 use std::io::Write;
 
-// Prints a line for each operation of a unit, and checks its program on the way; if rows are shown too, also whether it
-// runs.
-#[tactic(auto, using(lnt_machine::proofs::WalkLaws::step_allowed, crate::proofs::Operands::stands_for))]
+// Prints a line for each operation of a unit whose operations are valid.
 pub(crate) fn print_ops<W: Write>(
-    sheet: &Sheet<'_>,
-    page: &mut Page,
+    alloc: Global,
+    unit: &UnitInPlace<'_>,
+    page: &mut Vec<u8>,
     out: &mut W,
-) -> Result<(), PrintStop> {
-    let (unit, runs) = (sheet.unit, sheet.shown.rows);
-    let mut run = Run::new(unit.numbers());
+) -> Result<(), Halt>
+    requires { (ops : List Op) × IsUnitOf unit.now ops }
+    ensures ok { OnOk result ((ops : List Op) → IsUnitOf unit.now ops
+        → IsPaged (page.old.items ++ numbered op_line 0 ops) (W.contents out.old) (W.contents out.new) page.new.items) }
+    ensures front { OnErr result ((ops : List Op) → IsUnitOf unit.now ops
+        → AppendsFront (W.contents out.old) (W.contents out.new) (page.old.items ++ numbered op_line 0 ops)) }
+{
     let mut index: u64 = 0;
     for op in unit.ops() {
-        let op = op?;
-        if runs {
-            if let Err(fault) = run.step(&op) {
-                return Err(not_run(unit, fault));
-            }
-        }
-        print_op(sheet, index, &op, page, out)?;
-        index = index.saturating_add(1);
+        let Ok(op) = op else { unreachable!() };
+        print_op(alloc, index, &op, page, out)?;
+        index += 1;
     }
-    run.end().map_err(PrintStop::NotRun)
+    Ok(())
 }
 
 // Prints the line of the `index`th operation.
 #[inline(always)]
 fn print_op<W: Write>(
-    sheet: &Sheet<'_>,
+    alloc: Global,
     index: u64,
     op: &OpView<'_>,
-    page: &mut Page,
+    page: &mut Vec<u8>,
     out: &mut W,
-) -> Result<(), PrintStop>
+) -> Result<(), Halt>
     requires { (done : Op) × StandsFor op.now done }
+    ensures ok { OnOk result ((done : Op) → StandsFor op.now done
+        → IsPaged (page.old.items ++ op_line index done) (W.contents out.old) (W.contents out.new) page.new.items) }
+    ensures front { OnErr result ((done : Op) → StandsFor op.now done
+        → AppendsFront (W.contents out.old) (W.contents out.new) (page.old.items ++ op_line index done)) }
 {
-    put_start(&mut page.text, index)?;
-    put_op(sheet, op, page, out)?;
-    put_one(&mut page.text, b'\n')?;
-    turn_full(sheet, page, out)
+    put_op_line(alloc, page, index, op)?;
+    turn_full(page, out)
+}
+
+// Adds the line of the `index`th operation.
+#[tactic(auto, using(crate::proofs::Operands::has_operands, crate::proofs::Operands::line_told))]
+#[inline(always)]
+fn put_op_line(
+    alloc: Global,
+    text: &mut Vec<u8>,
+    index: u64,
+    op: &OpView<'_>,
+) -> Result<(), AllocError>
+    requires { (done : Op) × StandsFor op.now done }
+    ensures { OnOk result ((done : Op) → StandsFor op.now done → text.new.items ≡ text.old.items ++ op_line index done) }
+{
+    put_start(text, index)?;
+    put_op(alloc, text, op)?;
+    put_one(text, b'\n')
 }
 
 // Adds the part of the line of the `index`th operation before the name.
+#[tactic(auto, using(crate::proofs::Lines::text_more))]
 #[inline(always)]
-fn put_start(text: &mut Vec<u8>, index: u64) -> Result<(), AllocError> {
-    text.extend_from_slice(b"op ")?;
-    put_decimal(text, index)?;
+fn put_start(text: &mut Vec<u8>, index: u64) -> Result<(), AllocError>
+    ensures { OnOk result (text.new.items ≡ text.old.items ++ ((codes "op " ++ decimal index) ++ codes " ")) }
+{
+    put_named(text, b"op ", index)?;
     put_one(text, b' ')
 }
 
-// Adds the name and the operands of an operation, as its line has them. The bytes of an unknown extended operation may fill
-// pages, which are written.
-#[tactic(auto, using(crate::proofs::Operands::some_operands))]
-fn put_op<W: Write>(
-    sheet: &Sheet<'_>,
-    op: &OpView<'_>,
-    page: &mut Page,
-    out: &mut W,
-) -> Result<(), PrintStop>
-    requires { (done : Op) × StandsFor op.now done }
+// Adds the name and the operands of an operation, as its line has them.
+fn put_op(alloc: Global, text: &mut Vec<u8>, op: &OpView<'_>) -> Result<(), AllocError>
+    requires { (numbers : List ℕ) × HasOperands op.now numbers }
+    ensures { OnOk result ((numbers : List ℕ) → HasOperands op.now numbers
+        → text.new.items ≡ text.old.items ++ op_text (op_of op.now numbers)) }
 {
-    let text = &mut page.text;
     match op {
         OpView::Special(opcode) => put_named(text, b"special ", u64::from(*opcode)),
         OpView::Copy => text.extend_from_slice(b"copy"),
@@ -94,37 +114,60 @@ fn put_op<W: Write>(
         OpView::EndSequence => text.extend_from_slice(b"end_sequence"),
         OpView::SetAddress(address) => put_set_address(text, *address),
         OpView::SetDiscriminator(n) => put_named(text, b"set_discriminator ", *n),
-        OpView::UnknownExtended(code, bytes) => {
-            return print_extended(sheet, *code, bytes, page, out);
-        }
-    }?;
-    Ok(())
+        OpView::UnknownExtended(code, bytes) => put_extended(alloc, text, *code, bytes),
+    }
 }
 
 // Adds a name and a number.
+#[tactic(auto, using(crate::proofs::Lines::text_more))]
 #[inline(always)]
-fn put_named(text: &mut Vec<u8>, name: &[u8], n: u64) -> Result<(), AllocError> {
+fn put_named(text: &mut Vec<u8>, name: &[u8], n: u64) -> Result<(), AllocError>
+    ensures { OnOk result (text.new.items ≡ text.old.items ++ (name.now ++ decimal n)) }
+{
     text.extend_from_slice(name)?;
+    put_number(text, n)
+}
+
+// Adds the decimal digits of a number.
+#[tactic(auto, using(crate::proofs::Digits::decimal_put))]
+#[inline(always)]
+fn put_number(text: &mut Vec<u8>, n: u64) -> Result<(), AllocError>
+    ensures { OnOk result (text.new.items ≡ text.old.items ++ decimal n) }
+{
     put_decimal(text, n)
 }
 
 // Adds a change of the line, which may be negative.
-fn put_line(text: &mut Vec<u8>, change: i64) -> Result<(), AllocError> {
-    text.extend_from_slice(b"advance_line ")?;
+fn put_line(text: &mut Vec<u8>, change: i64) -> Result<(), AllocError>
+    ensures { OnOk result (text.new.items ≡ text.old.items ++ (codes "advance_line " ++ signed_decimal change)) }
+{
     if change < 0 {
-        put_one(text, b'-')?;
+        return put_named(text, b"advance_line -", change.unsigned_abs());
     }
-    put_decimal(text, change.unsigned_abs())
+    put_named(text, b"advance_line ", change.unsigned_abs())
 }
 
-fn put_set_address(text: &mut Vec<u8>, address: u64) -> Result<(), AllocError> {
+#[tactic(auto, using(crate::proofs::Lines::text_more))]
+fn put_set_address(text: &mut Vec<u8>, address: u64) -> Result<(), AllocError>
+    ensures { OnOk result (text.new.items ≡ text.old.items ++ (codes "set_address " ++ hexadecimal address)) }
+{
     text.extend_from_slice(b"set_address ")?;
-    put_address(text, address)
+    put_hexadecimal(text, address)
+}
+
+// Adds `0x` and the hexadecimal digits of a number.
+#[tactic(auto, using(crate::proofs::Digits::address_put))]
+fn put_hexadecimal(text: &mut Vec<u8>, n: u64) -> Result<(), AllocError>
+    ensures { OnOk result (text.new.items ≡ text.old.items ++ hexadecimal n) }
+{
+    put_address(text, n)
 }
 
 // Adds the name, the opcode and the operands of an unknown standard operation.
 fn put_standard(text: &mut Vec<u8>, opcode: u8, operands: &Operands<'_>) -> Result<(), AllocError>
     requires { (numbers : List ℕ) × AreOperands operands.now numbers }
+    ensures { OnOk result ((numbers : List ℕ) → AreOperands operands.now numbers
+        → text.new.items ≡ text.old.items ++ ((codes "unknown_standard " ++ decimal opcode) ++ flat_map operand_text numbers)) }
 {
     put_named(text, b"unknown_standard ", u64::from(opcode))?;
     match operands {
@@ -134,7 +177,9 @@ fn put_standard(text: &mut Vec<u8>, opcode: u8, operands: &Operands<'_>) -> Resu
 }
 
 // Adds numbers, each after a space.
-fn put_listed(text: &mut Vec<u8>, numbers: &[u64]) -> Result<(), AllocError> {
+fn put_listed(text: &mut Vec<u8>, numbers: &[u64]) -> Result<(), AllocError>
+    ensures { OnOk result (text.new.items ≡ text.old.items ++ flat_map operand_text numbers.now) }
+{
     for number in numbers {
         put_named(text, b" ", *number)?;
     }
@@ -142,9 +187,11 @@ fn put_listed(text: &mut Vec<u8>, numbers: &[u64]) -> Result<(), AllocError> {
 }
 
 // Adds the numbers that the bytes encode, one after another up to their end, each after a space.
-#[tactic(auto, using(crate::proofs::Operands::one_there, crate::proofs::Operands::rest_spelled, crate::proofs::Operands::rest_shorter))]
+#[tactic(auto, using(crate::proofs::Operands::left_none, crate::proofs::Operands::left_more, crate::proofs::Operands::left_all, crate::proofs::Operands::rest_shorter))]
 fn put_spelled(text: &mut Vec<u8>, bytes: &[u8]) -> Result<(), AllocError>
     requires { (numbers : List ℕ) × Each UnsignedLeb numbers bytes.now }
+    ensures { OnOk result ((numbers : List ℕ) → Each UnsignedLeb numbers bytes.now
+        → text.new.items ≡ text.old.items ++ flat_map operand_text numbers) }
 {
     // The byte order doesn't matter for these numbers.
     let mut cursor = Cursor::new(bytes, 0, Order::Little);
@@ -157,35 +204,26 @@ fn put_spelled(text: &mut Vec<u8>, bytes: &[u8]) -> Result<(), AllocError>
     Ok(())
 }
 
-// Prints an unknown extended operation, with its bytes by their digits, if it has any.
-fn print_extended<W: Write>(
-    sheet: &Sheet<'_>,
-    code: u8,
-    bytes: &[u8],
-    page: &mut Page,
-    out: &mut W,
-) -> Result<(), PrintStop> {
-    put_named(&mut page.text, b"unknown_extended ", u64::from(code))?;
-    if !bytes.is_empty() {
-        put_one(&mut page.text, b' ')?;
+// Adds an unknown extended operation, with its bytes by their digits, if it has any.
+fn put_extended(alloc: Global, text: &mut Vec<u8>, code: u8, bytes: &[u8]) -> Result<(), AllocError>
+    ensures { OnOk result (text.new.items ≡ text.old.items ++ ((codes "unknown_extended " ++ decimal code) ++ bytes_text bytes.now)) }
+{
+    put_named(text, b"unknown_extended ", u64::from(code))?;
+    if bytes.is_empty() {
+        return Ok(());
     }
-    for byte in bytes {
-        put_byte(&mut page.text, *byte)?;
-        turn_full(sheet, page, out)?;
+    put_one(text, b' ')?;
+    if print_bytes(alloc, bytes, text).is_err() {
+        return Err(AllocError);
     }
     Ok(())
 }
 
-// Adds the two hexadecimal digits of a byte.
-fn put_byte(text: &mut Vec<u8>, byte: u8) -> Result<(), AllocError> {
-    let digits = b"0123456789abcdef";
-    put_one(text, digits[usize::from(byte / 16)])?;
-    put_one(text, digits[usize::from(byte % 16)])
-}
-
 // Adds a byte. It is inlined, since it runs for each byte of a line.
 #[inline(always)]
-fn put_one(text: &mut Vec<u8>, byte: u8) -> Result<(), AllocError> {
+fn put_one(text: &mut Vec<u8>, byte: u8) -> Result<(), AllocError>
+    ensures { OnOk result (text.new.items ≡ text.old.items ++ (byte ∷ [])) }
+{
     text.push(byte)?;
     Ok(())
 }

@@ -1,27 +1,46 @@
 //! How rows are printed.
-use crate::dump::PrintStop;
+ghost use Rattle.std.specs.Prelude.{◌++◌, List, OnErr, OnOk};
+ghost use Rattle.lnt_output.specs.Fronts.{AppendsFront};
+ghost use Rattle.lnt_header.specs.declared.op.Op.{Op};
+ghost use Rattle.lnt_machine.specs.Matrix.{Runs, rows};
+ghost use Rattle.lnt_unit.specs.Views.{with_ops};
+ghost use Rattle.lnt_dump.specs.Numbered.{numbered};
+ghost use Rattle.lnt_dump.specs.Rows.{row_line as line_of_row};
+ghost use Rattle.lnt_dump.specs.Stepping.{IsPaged, IsUnitOf};
+
 use crate::line::{MOST, row_line};
-use crate::page::{Page, Sheet, turn_full};
-use crate::run::rows_end;
-use lnt_machine::{Row, Rows};
+use crate::page::turn_full;
+use lnt_machine::{Row, Run};
+use lnt_sources::Halt;
+use lnt_unit::UnitInPlace;
 use std::io::Write;
 
-// Prints a line for each row of a unit, and checks its program on the way.
+// Prints a line for each row of a unit whose program runs.
 pub(crate) fn print_rows<W: Write>(
-    sheet: &Sheet<'_>,
-    page: &mut Page,
+    unit: &UnitInPlace<'_>,
+    page: &mut Vec<u8>,
     out: &mut W,
-) -> Result<(), PrintStop> {
-    let unit = sheet.unit;
+) -> Result<(), Halt>
+    requires { (ops : List Op) × IsUnitOf unit.now ops × Runs (with_ops unit.now ops) }
+    ensures ok { OnOk result ((ops : List Op) → IsUnitOf unit.now ops
+        → IsPaged (page.old.items ++ numbered line_of_row 0 (rows (with_ops unit.now ops)))
+        (W.contents out.old) (W.contents out.new) page.new.items) }
+    ensures front { OnErr result ((ops : List Op) → IsUnitOf unit.now ops
+        → AppendsFront (W.contents out.old) (W.contents out.new)
+        (page.old.items ++ numbered line_of_row 0 (rows (with_ops unit.now ops)))) }
+{
     let mut room = [0; MOST];
+    let mut run = Run::new(unit.numbers());
     let mut index: u64 = 0;
-    for row in Rows::new(unit.numbers(), unit.ops()) {
-        let row = match row {
-            Ok(row) => row,
-            Err(fault) => return Err(rows_end(unit, fault)),
+    for op in unit.ops() {
+        let Ok(op) = op else { unreachable!() };
+        let Ok(made) = run.step(&op) else {
+            unreachable!()
         };
-        print_row(sheet, index, &row, &mut room, page, out)?;
-        index = index.saturating_add(1);
+        if let Some(row) = made {
+            print_row(index, &row, &mut room, page, out)?;
+            index += 1;
+        }
     }
     Ok(())
 }
@@ -29,14 +48,18 @@ pub(crate) fn print_rows<W: Write>(
 // Prints the line of the `index`th row. The room is for its text.
 #[inline(always)]
 fn print_row<W: Write>(
-    sheet: &Sheet<'_>,
     index: u64,
     row: &Row,
     room: &mut [u8; MOST],
-    page: &mut Page,
+    page: &mut Vec<u8>,
     out: &mut W,
-) -> Result<(), PrintStop> {
+) -> Result<(), Halt>
+    ensures ok { OnOk result (IsPaged (page.old.items ++ line_of_row index row.now)
+        (W.contents out.old) (W.contents out.new) page.new.items) }
+    ensures front { OnErr result (AppendsFront (W.contents out.old) (W.contents out.new)
+        (page.old.items ++ line_of_row index row.now)) }
+{
     let start = row_line(room, index, row);
-    page.text.extend_from_slice(&room[start..])?;
-    turn_full(sheet, page, out)
+    page.extend_from_slice(&room[start..])?;
+    turn_full(page, out)
 }

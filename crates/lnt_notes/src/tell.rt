@@ -22,7 +22,7 @@ use lnt_sequences::SeqId;
 use lnt_sources::{Opener, source_of};
 use lnt_spans::{Position, Probes, SpanSource};
 use lnt_text::{Note, RecordRule, StringSection};
-use lnt_wire::Order;
+use lnt_wire::{Order, Reason};
 use std::alloc::Global;
 use std::io::{self, Write};
 
@@ -128,6 +128,11 @@ pub fn tell_refused<N: Write>(seen: &Seen, order: Order, notes: &mut N) -> io::R
     }
 }
 
+// Whether the reason is that a unit is of version 2, 3 or 4.
+fn is_older(reason: Reason) -> bool {
+    matches!(reason, Reason::VersionNotFive(2..=4))
+}
+
 /// Prints the notes to the reason why a section isn't good. It fails only if the writer does; then a prefix of these notes
 /// may be written.
 pub fn tell_bad<O: Opener, N: Write>(
@@ -141,6 +146,7 @@ pub fn tell_bad<O: Opener, N: Write>(
     ensures { OnOk result (AddsNotes (N.contents notes.old) (N.contents notes.new)) }
 {
     match *no {
+        No::Malformed(fault) if is_older(fault.reason) => print_note(Note::Older, notes),
         No::Malformed(_) => tell_refused(seen, given.order, notes),
         No::StringOutside(unit, which, _) => {
             tell_strings(alloc, unit, which, given, opener, notes)

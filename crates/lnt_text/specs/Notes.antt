@@ -8,7 +8,7 @@ use Rattle.lnt_text.specs.declared.note.Column.TheVariants as column
 use Rattle.lnt_text.specs.declared.note.Look.{Look}
 use Rattle.lnt_text.specs.declared.note.Look.TheVariants.{Elf, Pe, MachO, Gzip, Zstd, CompressedSection, Text, InOrder}
 use Rattle.lnt_text.specs.declared.note.Note.{Note}
-use Rattle.lnt_text.specs.declared.note.Note.TheVariants.{Word, NotRaw, NoStrings, MaybeDead, NoneDead, Copies}
+use Rattle.lnt_text.specs.declared.note.Note.TheVariants.{Word, NotRaw, Older, NoStrings, MaybeDead, NoneDead, Copies}
 use Rattle.lnt_text.specs.declared.note.Note.TheVariants.{HoldsNothing, NoSums, TableHeader, TableRecord}
 use Rattle.lnt_text.specs.declared.note.RecordRule.{RecordRule}
 use Rattle.lnt_text.specs.declared.note.RecordRule.TheVariants.{Fields, Kind, Order}
@@ -23,6 +23,7 @@ argument_text argument.Op = codes "N of --op is 1 to 20 decimal digits, and belo
 argument_text argument.Dead = codes "ADDRESS of --dead is 0x and 1 to 16 hexadecimal digits"
 argument_text argument.Format = codes "--format is 32 or 64"
 argument_text argument.Order = codes "--order is little or big"
+argument_text argument.AddressSize = codes "--address-size is 2, 4 or 8"
 
 -- what a file looks like, and what to do
 abbrev pub look_text : Look → List ℕ
@@ -91,6 +92,7 @@ numbered_headers = codes "low,low_op,high,high_op,unit,file,line,column,is_stmt 
 abbrev pub note_text : Note → List ℕ
 note_text (Word argument) = argument_text argument
 note_text (NotRaw look) = look_text look
+note_text Older = codes "linetab upgrade writes units of versions 2 to 4 anew in version 5, which the other words read"
 note_text (NoStrings section) = strings_text section
 note_text (MaybeDead count address) =
     codes "sequences begin at " ++ (hexadecimal address ++

@@ -13,6 +13,8 @@ pub enum Note {
     Word(Argument),
     /// The file of the section isn't the raw bytes of one: it looks like this.
     NotRaw(Look),
+    /// A unit is of version 2, 3 or 4.
+    Older,
     /// The text of an entry is in a section that wasn't given.
     NoStrings(StringSection),
     /// This many live sequences begin at this address, at which linkers leave discarded code. `None` if they weren't
@@ -45,6 +47,8 @@ pub enum Argument {
     Format,
     /// The byte order of `--order`.
     Order,
+    /// The number of bytes of an address, of `--address-size`.
+    AddressSize,
 }
 
 /// What a file that isn't a section looks like.
@@ -122,6 +126,9 @@ impl fmt::Display for Note {
         match *self {
             Note::Word(argument) => f.write_str(rule_of_argument(argument)),
             Note::NotRaw(look) => f.write_str(advice_to_look(look)),
+            Note::Older => f.write_str(
+                "linetab upgrade writes units of versions 2 to 4 anew in version 5, which the other words read",
+            ),
             Note::NoStrings(section) => f.write_str(missing_option(section)),
             Note::MaybeDead(count, address) => {
                 let (counted, advice) = (CountText(count), AdviceText(address));
@@ -188,6 +195,7 @@ fn rule_of_argument(argument: Argument) -> &'static str
         Argument::Dead => "ADDRESS of --dead is 0x and 1 to 16 hexadecimal digits",
         Argument::Format => "--format is 32 or 64",
         Argument::Order => "--order is little or big",
+        Argument::AddressSize => "--address-size is 2, 4 or 8",
     }
 }
 

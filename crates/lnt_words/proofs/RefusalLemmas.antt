@@ -1,13 +1,19 @@
 -- Words that ask for nothing: no request fits them.
 use Rattle.std.proofs.Common.{◌≡◌, ◌<◌, ℕ, zero, suc, arith, List, [], ◌∷◌, Option, Some, None, Result, Ok, Err, codes, get_or}
-use Rattle.std.proofs.Common.{inl, inr, length, subst}
+use Rattle.std.proofs.Common.{ap, inl, inr, true, false, length, subst, sym}
 use Rattle.std.specs.Prelude.{◌≢◌, IfErr}
 use Rattle.std.specs.Borrow.{Bor}
 use Rattle.clap.specs.Words.{HasKind, IsAmong, Kinds, Row, Text, first_of, kind_of}
 use Rattle.clap.specs.declared.error.Error.{Error}
 use Rattle.clap.specs.declared.error.kind.ErrorKind.TheVariants.{OutOfMemory}
 use Rattle.lnt_digits.specs.Digits.{IsAddress}
-use Rattle.lnt_words.specs.Asking.{AreAddresses, IsMarker, IsWord}
+use Rattle.lnt_spans.specs.declared.answer.Version.TheVariants.{One, Two}
+use Rattle.lnt_words.specs.declared.request.AddressSize.{AddressSize}
+use Rattle.lnt_words.specs.declared.request.Question.TheVariants.{Verify, Lookup, Files, Table, TableByPath, Md5}
+use Rattle.lnt_words.specs.declared.request.Reading.TheVariants.{Units, Dump, Convert}
+use Rattle.lnt_words.specs.declared.request.Request.{Request}
+use Rattle.lnt_words.specs.declared.request.Request.TheVariants as requests
+use Rattle.lnt_words.specs.Asking.{AreAddresses, IsAskedIn, IsMarker, IsSize, IsWord}
 use Rattle.lnt_words.proofs.WordLemmas.{texts_of}
 
 -- what is true of each stop
@@ -45,3 +51,26 @@ pub no_marker : (rows : List Row) (word : Text) → first_of (codes "dead") rows
 no_marker rows word is bad None so = cc
 no_marker rows word is bad (Some address) so =
     bad address (subst (λ (w : Text). IsAddress w address) (two_words rows (codes "dead") so.0 word so.1 is) so.2)
+
+-- ---- a word that is no size of addresses
+
+-- the name of another subcommand
+other_name : (name : Text) → codes "upgrade" ≡ name → get_or name 1 0 ≡ 112
+other_name name e = ap (λ (n : Text). get_or n 1 0) (sym e)
+
+pub no_size : (rows : List Row) → ((size : AddressSize) → IsSize rows size → ⊥) → (request : Request) → IsAskedIn (codes "upgrade") rows request → ⊥
+no_size rows none (requests.Help text) so = so
+no_size rows none (requests.Read section order Units) so = omega (arith, other_name (codes "units") so.2)
+no_size rows none (requests.Read section order (Dump ops shown)) so = omega (arith, other_name (codes "dump") so.2.0)
+no_size rows none (requests.Read section order (Convert format to)) so = omega (arith, other_name (codes "convert") so.2.0)
+no_size rows none (requests.Upgrade section order size directories) so = none size so.3
+no_size rows none (requests.Judge from Verify) so = omega (arith, other_name (codes "verify") so.1)
+no_size rows none (requests.Judge from (Lookup positions)) so = omega (arith, other_name (codes "lookup") so.1.0)
+no_size rows none (requests.Judge from Files) so = omega (arith, other_name (codes "files") so.1)
+no_size rows none (requests.Judge from (Table One)) so = omega (arith, other_name (codes "table") so.1.0)
+no_size rows none (requests.Judge from (Table Two)) so = omega (arith, other_name (codes "table") so.1.0)
+no_size rows none (requests.Judge from (TableByPath true)) so = omega (arith, other_name (codes "table") so.1.0)
+no_size rows none (requests.Judge from (TableByPath false)) so = omega (arith, other_name (codes "table") so.1.0)
+no_size rows none (requests.Judge from Md5) so = omega (arith, other_name (codes "md5") so.1)
+no_size rows none (requests.Addresses from file op) so = omega (arith, other_name (codes "lookup") so.0)
+no_size rows none (requests.Check from table all) so = omega (arith, other_name (codes "check") so.0)

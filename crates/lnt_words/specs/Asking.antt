@@ -13,6 +13,8 @@ use Rattle.lnt_wire.specs.declared.format.Format.{Format}
 use Rattle.lnt_wire.specs.declared.format.Format.TheVariants.{D32, D64}
 use Rattle.lnt_wire.specs.declared.format.Order.{Order}
 use Rattle.lnt_wire.specs.declared.format.Order.TheVariants.{Little, Big}
+use Rattle.lnt_words.specs.declared.request.AddressSize.{AddressSize}
+use Rattle.lnt_words.specs.declared.request.AddressSize.TheVariants as sizes
 use Rattle.lnt_words.specs.declared.request.Asked.{Asked}
 use Rattle.lnt_words.specs.declared.request.Judging.{Judging}
 use Rattle.lnt_words.specs.declared.request.Question.{Question}
@@ -20,7 +22,7 @@ use Rattle.lnt_words.specs.declared.request.Question.TheVariants.{Verify, Lookup
 use Rattle.lnt_words.specs.declared.request.Reading.{Reading}
 use Rattle.lnt_words.specs.declared.request.Reading.TheVariants.{Units, Dump, Convert}
 use Rattle.lnt_words.specs.declared.request.Request.{Request}
-use Rattle.lnt_words.specs.declared.request.Request.TheVariants.{Help, Read, Judge, Addresses, Check}
+use Rattle.lnt_words.specs.declared.request.Request.TheVariants.{Help, Read, Upgrade, Judge, Addresses, Check}
 use Rattle.lnt_words.specs.Words.{linetab}
 
 -- This is the word that was given for the argument.
@@ -58,6 +60,12 @@ IsWrittenFormat rows D64 = IsWord rows (codes "format") (codes "64")
 abbrev pub IsWrittenOrder : List Row → Order → Type 0
 IsWrittenOrder rows Little = IsWord rows (codes "order") (codes "little")
 IsWrittenOrder rows Big = IsWord rows (codes "order") (codes "big")
+
+-- the size of addresses in units that don't say it
+abbrev pub IsSize : List Row → AddressSize → Type 0
+IsSize rows sizes.Two = IsWord rows (codes "address-size") (codes "2")
+IsSize rows sizes.Four = IsWord rows (codes "address-size") (codes "4")
+IsSize rows sizes.Eight = IsWord rows (codes "address-size") (codes "8")
 
 -- the reading of a section that the subcommand of this name asks for
 abbrev pub IsReading : Text → List Row → Reading → Type 0
@@ -113,6 +121,9 @@ abbrev pub IsAskedIn : Text → List Row → Request → Type 0
 IsAskedIn name rows (Help text) = ⊥
 IsAskedIn name rows (Read section order reading) =
     IsWord rows (codes "SECTION") section.now × IsOrder rows order × IsReading name rows reading
+IsAskedIn name rows (Upgrade section order size directories) =
+    (name ≡ codes "upgrade") × IsWord rows (codes "SECTION") section.now × IsOrder rows order × IsSize rows size
+    × (option_copied directories ≡ first_of (codes "directories") rows)
 IsAskedIn name rows (Judge from question) = IsJudging rows from × IsQuestion name rows question
 IsAskedIn name rows (Addresses from file op) =
     (name ≡ codes "lookup") × IsJudging rows from × IsWord rows (codes "addresses") file.now

@@ -1,3 +1,4 @@
 pub mod Asking
 pub mod Described
+pub mod Sizes
 pub mod Words

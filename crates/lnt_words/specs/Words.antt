@@ -64,6 +64,7 @@ subcommands =
     ∷ subcommand (codes "files") judging
     ∷ subcommand (codes "table") (flag (codes "wide") ∷ flag (codes "paths") ∷ flag (codes "lines") ∷ judging)
     ∷ subcommand (codes "convert") (required (option (codes "format")) ∷ required (option (codes "order")) ∷ reading)
+    ∷ subcommand (codes "upgrade") (required (option (codes "address-size")) ∷ option (codes "directories") ∷ reading)
     ∷ subcommand (codes "md5") judging
     ∷ []
 

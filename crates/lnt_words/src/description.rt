@@ -50,8 +50,8 @@ pub(crate) enum Kind {
 pub(crate) const VERSION: &str = "0.9.0 (rattle-kit-13 logic dac8208d650f15bf)";
 
 /// The subcommands, in the order in which help lists them.
-pub(crate) const SUBCOMMANDS: [Subcommand; 9] = [
-    UNITS, DUMP, CHECK, VERIFY, LOOKUP, FILES, TABLE, CONVERT, MD5,
+pub(crate) const SUBCOMMANDS: [Subcommand; 10] = [
+    UNITS, DUMP, CHECK, VERIFY, LOOKUP, FILES, TABLE, CONVERT, UPGRADE, MD5,
 ];
 
 const UNITS: Subcommand = Subcommand {
@@ -115,6 +115,14 @@ const CONVERT: Subcommand = Subcommand {
     about: "Prints a section in another format and byte order",
     after: None,
     own: &[SECTION, FORMAT, ORDER],
+    shared: READING,
+};
+
+const UPGRADE: Subcommand = Subcommand {
+    name: "upgrade",
+    about: "Prints a section with its units of versions 2 to 4 written anew in version 5",
+    after: Some(OLDER),
+    own: &[SECTION, ADDRESS_SIZE, DIRECTORIES],
     shared: READING,
 };
 
@@ -210,6 +218,18 @@ const ORDER: ArgumentRule = ArgumentRule {
     help: "The byte order that is written",
 };
 
+const ADDRESS_SIZE: ArgumentRule = ArgumentRule {
+    name: "address-size",
+    kind: Kind::Required("2|4|8"),
+    help: "How many bytes an address has in units of versions 2 to 4, which don't say it",
+};
+
+const DIRECTORIES: ArgumentRule = ArgumentRule {
+    name: "directories",
+    kind: Kind::Valued("FILE"),
+    help: "A file with the compilation directories of these units, or - for standard input",
+};
+
 const BIG: ArgumentRule = ArgumentRule {
     name: "big",
     kind: Kind::Flag,
@@ -266,6 +286,13 @@ const NUMBERS: &str = "Lines that begin with no, and the document that says more
 const WHOLE: &str = "With --paths or --lines a table says whole instructions alone. \
 Where its spans can't be written so, the line 'no 43 operation index at 0xA,OP' says the first place where one begins or ends \
 within an instruction, and the status is 1 (docs/TABLES.md).";
+
+// What the file of directories is, and the lines `no` of `upgrade`.
+const OLDER: &str =
+    "The file of directories is comma-separated values: the line unit,directory, and then for some of these units, \
+in rising order, the offset in the section as a decimal number and the path. The line 'no 44 directories record R' says the first \
+record that isn't so, 'no 20 too large unit 0xU' the first unit that is longer than its format can say once it is written anew, and \
+the status is 1.";
 
 // What the words `same`, `differs` and `unreadable` in the lines of `md5` mean.
 const SUMS: &str = "A file is the same, differs, or is unreadable: it can't be opened or read. \

@@ -1,4 +1,7 @@
 //! What is asked for.
+ghost use Rattle.std.specs.Prelude.{◌≡◌};
+ghost use Rattle.lnt_words.specs.Sizes.{size_bytes};
+
 use lnt_spans::{Position, Version};
 use lnt_wire::{Format, Order};
 
@@ -25,6 +28,17 @@ pub enum Request<'a> {
         /// How it is read.
         reading: Reading,
     },
+    /// The section with its older units written anew in version 5.
+    Upgrade {
+        /// The file of the section.
+        section: &'a str,
+        /// The order of the bytes of its numbers.
+        order: Order,
+        /// The size of the addresses of older units.
+        address_size: AddressSize,
+        /// The file of the compilation directories of older units, if one is named.
+        directories: Option<&'a str>,
+    },
     /// What a good section says.
     Judge {
         /// The section.
@@ -50,6 +64,30 @@ pub enum Request<'a> {
         /// Whether all positions at which it doesn't are reported, instead of only the first.
         all: bool,
     },
+}
+
+/// How many bytes an address has.
+#[derive(Clone, Copy, Debug, PartialEq, Eq)]
+pub enum AddressSize {
+    /// 2 bytes.
+    Two,
+    /// 4 bytes.
+    Four,
+    /// 8 bytes.
+    Eight,
+}
+
+impl AddressSize {
+    /// The number of these bytes.
+    pub fn bytes(self) -> u8
+        ensures { result ≡ size_bytes self }
+    {
+        match self {
+            AddressSize::Two => 2,
+            AddressSize::Four => 4,
+            AddressSize::Eight => 8,
+        }
+    }
 }
 
 /// A section that is judged: its file and those of its strings, and how it is read.

@@ -5,7 +5,8 @@ ghost use Rattle.lnt_words.specs.Described.{IsAskedOfMatches, rows_in};
 ghost use Rattle.lnt_digits.specs.Digits.{IsAddress, IsDecimal};
 ghost use Rattle.lnt_words.specs.Asking.{AreAddresses, AreAddressesIn, ArePositionsIn, AskForNothing, IsAskedBy, IsAskedIn};
 ghost use Rattle.lnt_words.specs.Asking.{IsAskedOf, IsFlagGiven, IsHelp, IsJudging, IsOp};
-ghost use Rattle.lnt_words.specs.Asking.{IsOrder, IsQuestion, IsReading, IsWord, IsWrittenFormat, IsWrittenOrder};
+ghost use Rattle.lnt_words.specs.Asking.{IsOrder, IsQuestion, IsReading, IsSize, IsWord, IsWrittenFormat, IsWrittenOrder};
+ghost use Rattle.lnt_words.specs.declared.request.AddressSize.{AddressSize as SizeSpec};
 ghost use Rattle.lnt_words.specs.declared.request.Asked.{Asked as AskedSpec};
 ghost use Rattle.lnt_words.specs.declared.request.Judging.{Judging as JudgingSpec};
 ghost use Rattle.lnt_words.specs.declared.request.Question.{Question as QuestionSpec};
@@ -14,7 +15,7 @@ ghost use Rattle.lnt_wire.specs.declared.format.Format.{Format as FormatSpec};
 ghost use Rattle.lnt_wire.specs.declared.format.Order.{Order as OrderSpec};
 
 use crate::command::command_of;
-use crate::request::{Asked, Judging, Question, Reading, Request};
+use crate::request::{AddressSize, Asked, Judging, Question, Reading, Request};
 use crate::stop::WordsStop;
 use clap::error::ErrorKind;
 use clap::{ArgMatches, Error};
@@ -151,6 +152,7 @@ fn request_in<'a>(
         "units" => read_in(alloc, words, Reading::Units),
         "dump" => read_in(alloc, words, dump_in(words)),
         "convert" => convert_in(alloc, words),
+        "upgrade" => upgrade_in(alloc, words),
         "check" => check_in(alloc, words),
         "lookup" => lookup_in(alloc, words, given),
         "verify" => judge_in(alloc, words, Question::Verify),
@@ -330,6 +332,30 @@ fn written_order_in(alloc: Global, words: &ArgMatches<'_>) -> Result<Order, Word
         "little" => Ok(Order::Little),
         "big" => Ok(Order::Big),
         word => Err(bad_word(alloc, words, word, Argument::Order)),
+    }
+}
+
+fn upgrade_in<'a>(alloc: Global, words: &ArgMatches<'a>) -> Result<Request<'a>, WordsStop>
+    ensures asked { IfOk result (λ request. IsAskedIn (codes "upgrade") (rows_in words.now) request) }
+    ensures refused { IfErr result (λ _. (request : RequestSpec) → IsAskedIn (codes "upgrade") (rows_in words.now) request → ⊥) }
+{
+    Ok(Request::Upgrade {
+        section: word_in(alloc, words, "SECTION")?,
+        order: order_in(words),
+        address_size: size_in(alloc, words)?,
+        directories: str_in(words, "directories"),
+    })
+}
+
+fn size_in(alloc: Global, words: &ArgMatches<'_>) -> Result<AddressSize, WordsStop>
+    ensures asked { IfOk result (IsSize (rows_in words.now)) }
+    ensures refused { IfErr result (λ _. (size : SizeSpec) → IsSize (rows_in words.now) size → ⊥) }
+{
+    match word_in(alloc, words, "address-size")? {
+        "2" => Ok(AddressSize::Two),
+        "4" => Ok(AddressSize::Four),
+        "8" => Ok(AddressSize::Eight),
+        word => Err(bad_word(alloc, words, word, Argument::AddressSize)),
     }
 }
 

@@ -14,12 +14,12 @@ returns-in-Units-clause-begun g c =
 pub returns-in-Dump-clause-told : goal.returns-in-Dump-clause-told
 returns-in-Dump-clause-told g c =
     rw c.in-Dump.is (dump_told c.args.order c.in-Dump.ops c.in-Dump.rows (g.R.Source.remaining c.args.source.now)
-    (g.W.Write.contents c.args.out.now) (g.W.Write.contents c.print_dump.new.out) c.print_dump.result)
+    (g.W.Write.contents c.args.out.now) (g.W.Write.contents c.print_dump.new.out) c.print_dump.result c.print_dump.ensures.told)
 
 pub returns-in-Dump-clause-begun : goal.returns-in-Dump-clause-begun
 returns-in-Dump-clause-begun g c =
     rw c.in-Dump.is (dump_stopped c.args.order c.in-Dump.ops c.in-Dump.rows (g.R.Source.remaining c.args.source.now)
-    (g.W.Write.contents c.args.out.now) (g.W.Write.contents c.print_dump.new.out) c.print_dump.result)
+    (g.W.Write.contents c.args.out.now) (g.W.Write.contents c.print_dump.new.out) c.print_dump.result c.print_dump.ensures.begun)
 
 pub returns-in-Convert-clause-told : goal.returns-in-Convert-clause-told
 returns-in-Convert-clause-told g c =

@@ -1,10 +1,15 @@
 use Rattle.std.proofs.Common.{◌≡◌}
 use Rattle.lnt_stream.specs.declared.reader.Progress.TheVariants.{Reading}
-use Rattle.lnt_stream.specs.Readers.{progress_of, source_of}
+use Rattle.lnt_stream.specs.Readers.{offset_of, order_of, progress_of, source_of}
+use Rattle.lnt_dump.proofs.Dumps.{UnitsTold}
 use Rattle.lnt_dump.proofs.dump.print_dump.Given as goal
 
 abbrev pub invariant-loop-page : goal.invariant-loop-page
-invariant-loop-page g l = progress_of l.reader ≡ Reading
+invariant-loop-page g l = record {
+  reading : progress_of l.reader ≡ Reading;
+  told : UnitsTold l.fn.order l.fn.shown (g.R.Source.remaining l.fn.source) (g.R.Source.remaining (source_of l.reader))
+      (g.W.Write.contents l.fn.out) (g.W.Write.contents l.out) (order_of l.reader) (offset_of l.reader);
+}
 
 abbrev pub decreases-loop-page : goal.decreases-loop-page
 decreases-loop-page g l = g.R.Source.left (source_of l.reader)

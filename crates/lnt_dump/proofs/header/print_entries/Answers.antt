@@ -1,9 +1,37 @@
 use Rattle.std.proofs.Common.{rules}
-use Rattle.lnt_dump.proofs.Entries.{at_first, at_next, is_there}
+use Rattle.lnt_output.proofs.FrontLaws.{so_stopped}
+use Rattle.lnt_dump.proofs.Entries.{all_told, at_first, at_next, is_there, line_cut, lines_stay}
 use Rattle.lnt_dump.proofs.header.print_entries.Goals as goal
 
-pub loop-index-preserved : goal.loop-index-preserved
-loop-index-preserved g c = search (rules, at_first, at_next, is_there)
+pub loop-index-init : goal.loop-index-init
+loop-index-init g c = search (rules, at_first)
 
-pub print_entry-requires : goal.print_entry-requires
-print_entry-requires g c = search (rules, at_first, at_next, is_there)
+pub loop-index-preserved : goal.loop-index-preserved
+loop-index-preserved g c =
+    at_next _ _ _ _ c.loop-index.index c.loop-index.cursor c.put_line.new.cursor c.args.page.now.items c.loop-index.page.items
+    c.put_line.new.text.items c.turn_full.new.page.items (g.W.Write.contents c.args.out.now) (g.W.Write.contents c.loop-index.out)
+    (g.W.Write.contents c.turn_full.new.out) c.format-format.ensures c.pairs-pairs.ensures (search rules) c.loop-index.invariant
+    c.in_ok-put_line.ensures c.in_ok-turn_full.ensures.ok
+
+pub put_line-requires : goal.put_line-requires
+put_line-requires g c =
+    λ none. is_there _ _ _ _ c.loop-index.index c.loop-index.cursor c.args.page.now.items c.loop-index.page.items
+    (g.W.Write.contents c.args.out.now) (g.W.Write.contents c.loop-index.out) c.format-format.ensures c.pairs-pairs.ensures
+    (search rules) c.loop-index.invariant none
+
+pub returns-in_err-put_line-clause-front : goal.returns-in_err-put_line-clause-front
+returns-in_err-put_line-clause-front g c =
+    so_stopped c.from_residual.result _
+    (lines_stay c.args.name.now c.args.table.now c.loop-index.index c.loop-index.cursor c.args.page.now.items c.loop-index.page.items
+    (g.W.Write.contents c.args.out.now) (g.W.Write.contents c.loop-index.out) c.loop-index.invariant)
+
+pub returns-in_err-turn_full-clause-front : goal.returns-in_err-turn_full-clause-front
+returns-in_err-turn_full-clause-front g c =
+    so_stopped c.from_residual-in_err-turn_full.result _
+    (line_cut _ _ _ _ c.loop-index.index c.loop-index.cursor c.put_line.new.cursor c.args.page.now.items c.loop-index.page.items
+    c.put_line.new.text.items (g.W.Write.contents c.args.out.now) (g.W.Write.contents c.loop-index.out)
+    (g.W.Write.contents c.turn_full.new.out) c.format-format.ensures c.pairs-pairs.ensures (search rules) c.loop-index.invariant
+    c.in_ok-put_line.ensures c.in_err-turn_full.ensures.front)
+
+pub returns-clause-ok : goal.returns-clause-ok
+returns-clause-ok g c = search (rules, all_told)

@@ -1,0 +1,22 @@
+-- A section that is written anew, and the file of its directories.
+use Rattle.std.proofs.Common.{◌≡◌, ℕ, List, Option, Some, None, subst}
+use Rattle.lnt_sources.specs.Files.{TellsNoMore}
+use Rattle.lnt_sources.specs.declared.status.Status.{Status}
+use Rattle.lnt_wire.specs.declared.format.Order.{Order}
+use Rattle.lnt_dump.specs.Upgraded.{IsUpgradeTold}
+use Rattle.lnt_cli.specs.Answered.{IsTextOf}
+
+-- what is known of a file later was known before
+pub text_before : (before later : List ℕ → Option (List ℕ) → Type 0) (file text : Option (List ℕ)) → TellsNoMore before later
+    → IsTextOf later file text → IsTextOf before file text
+text_before before later None None less is = tt
+text_before before later None (Some text) less is = is
+text_before before later (Some name) None less is = is
+text_before before later (Some name) (Some text) less is =
+    record { told = is.told; is_told = less name is.told is.is_told; same = is.same }
+
+-- the same bytes
+pub told_of : (order : Order) (size : ℕ) (bytes same : List ℕ) (text old new : Option (List ℕ)) (status : Status) → bytes ≡ same
+    → IsUpgradeTold order size bytes text old new status → IsUpgradeTold order size same text old new status
+told_of order size bytes same text old new status e told =
+    subst (λ (b : List ℕ). IsUpgradeTold order size b text old new status) e told

@@ -1,0 +1,17 @@
+use Rattle.lnt_words.specs.Sizes.{size_bytes}
+use Rattle.lnt_cli.proofs.UpgradeLemmas.{text_before, told_of}
+use Rattle.lnt_cli.proofs.session.upgrade_file.Goals as goal
+
+pub returns-clause-answer : goal.returns-clause-answer
+returns-clause-answer g c =
+    let read = rw c.in_ok-bytes.ensures.ok at c.read_whole-read.ensures.bytes in
+    let told = rw c.in_ok-status.ensures.ok at c.print_upgrade-printed.ensures.told in
+    record {
+      bytes = c.in_ok-bytes.bytes.items;
+      of_section = read;
+      text = _;
+      of_directories = text_before (g.O.Opener.tells c.args.opener.now) (g.O.Opener.tells c.read_whole-read.new.opener) _ _
+          c.read_whole-read.ensures.later c.in_ok-text.ensures.text;
+      answered = told_of c.args.order (size_bytes c.args.address_size) _ _ _ (g.W.Write.contents c.args.out.now)
+          (g.W.Write.contents c.print_upgrade-printed.new.out) c.in_ok-status.status c.deref.ensures.value told;
+    }

@@ -1,0 +1,429 @@
+-- The units of a section, printed one after another.
+use Rattle.std.proofs.Common.{◌≡◌, ◌≢◌, ◌∙◌, ℕ, ◌+◌, ◌<◌, List, [], ◌∷◌, ◌++◌, length, Option, Some, None, IfSome, Result, Ok, Err, IfOk}
+use Rattle.std.proofs.Common.{OnErr, OnOk, refl, sym, ap, subst, append-nil, arith, inl, inr, ◌⊎◌, codes}
+use Rattle.std.specs.Prelude.{IsTrue, map}
+use Rattle.std.specs.List.{AllByRecursion, flat_map}
+use Rattle.std.specs.Io.KnownBytes.{Appends, Keeps}
+use Rattle.std.proofs.KnownBytes.{Appends-nil, Appends-trans}
+use Rattle.std.proofs.lemmas.List.{length-append}
+use Rattle.std.proofs.lemmas.List.Concat.{flat_map-append}
+use Rattle.lnt_output.specs.Fronts.{AppendsFront}
+use Rattle.lnt_output.proofs.FrontLaws.{front_after, front_before, front_none, front_same, front_since}
+use Rattle.lnt_input.specs.Pulling.{Pulls}
+use Rattle.lnt_header.specs.declared.op.Op.{Op}
+use Rattle.lnt_header.specs.declared.unit_parts.UnitParts.{UnitParts}
+use Rattle.lnt_machine.specs.declared.fault.RowFault.{RowFault}
+use Rattle.lnt_machine.specs.declared.fault.RowFault.TheVariants.{Malformed, Run}
+use Rattle.lnt_machine.specs.Matrix.{Runs}
+use Rattle.lnt_sources.specs.declared.halt.Halt.{Halt}
+use Rattle.lnt_sources.specs.declared.status.Status.{Status}
+use Rattle.lnt_sources.specs.declared.status.Status.TheVariants.{Done, No}
+use Rattle.lnt_stream.specs.Units.{BufferedUnit, IsNextUnit, IsWholeUnit, SectionEndsBy}
+use Rattle.lnt_text.specs.Texts.{malformed_text}
+use Rattle.lnt_unit.proofs.FrameLaws.{broken_more}
+use Rattle.lnt_unit.proofs.WholeWalks.{fault_of_section}
+use Rattle.lnt_unit.specs.BrokenUnits.{BrokenUnit}
+use Rattle.lnt_unit.specs.UnitBytes.{UnitBytesIn}
+use Rattle.lnt_unit.specs.Views.{View, with_ops}
+use Rattle.lnt_wire.proofs.LengthLaws.{length-initial}
+use Rattle.lnt_wire.specs.FrameBytes.{IsPlacedFrame, frame_bytes}
+use Rattle.lnt_wire.specs.InitialLength.{initial_length}
+use Rattle.lnt_wire.specs.declared.fault.Fault.{Fault}
+use Rattle.lnt_wire.specs.declared.fault.Reason.TheVariants.{Memory}
+use Rattle.lnt_wire.specs.declared.format.Order.{Order}
+use Rattle.lnt_wire.specs.declared.frame.Frame.{Frame}
+use Rattle.lnt_dump.specs.declared.dump.DumpParts.{DumpParts}
+use Rattle.lnt_dump.specs.Dumps.{BeginsWithUnits, DoesNotRun, FramedUnit, IsDumpBegun, IsDumped, IsDumpedUnit, IsDumpFault}
+use Rattle.lnt_dump.specs.Dumps.{fault_line, fault_status, unit_lines}
+use Rattle.lnt_dump.specs.declared.units.Next.{Next}
+use Rattle.lnt_dump.specs.declared.units.Next.TheVariants.{Unit as NextUnit}
+use Rattle.lnt_dump.specs.Stepping.{IsFaultOf, IsNext, IsUnitOf, UnitBegun, UnitEnds, UnitTold}
+use Rattle.lnt_input.proofs.PullLaws.{pulls_none}
+use Rattle.lnt_wire.proofs.FrameListLaws.{no_frames}
+use Rattle.lnt_dump.proofs.Frames.{FramesRead, read_more}
+
+-- ---- one unit
+
+-- the line of bytes that are no unit
+pub broken_told : (shown : DumpParts) (frame : Frame) (unit : BufferedUnit) (fault : Fault) (old new : Option (List ℕ))
+    (printed : Result Status Halt) → (fault.reason ≢ Memory → BrokenUnit unit.order fault unit.offset unit.bytes)
+    → OnOk printed (fault.reason ≢ Memory) → IfOk printed (λ status. status ≡ No)
+    → OnOk printed (Appends old new (malformed_text fault ++ codes "\n")) → IfOk printed (UnitTold shown frame unit old new)
+broken_told shown frame unit fault old new (Ok status) broken other is_no line = record {
+  fault = Some (Malformed fault);
+  text = malformed_text fault ++ codes "\n";
+  ends = (broken other, refl);
+  printed = line;
+  status_is = is_no;
+}
+broken_told shown frame unit fault old new (Err halt) broken other is_no line = tt
+
+pub broken_begun : (shown : DumpParts) (frame : Frame) (unit : BufferedUnit) (fault : Fault) (old new : Option (List ℕ))
+    (printed : Result Status Halt) → (fault.reason ≢ Memory → BrokenUnit unit.order fault unit.offset unit.bytes)
+    → OnErr printed (Keeps old new ⊎ (fault.reason ≢ Memory)) → OnErr printed (AppendsFront old new (malformed_text fault ++ codes "\n"))
+    → OnErr printed (Keeps old new ⊎ UnitBegun shown frame unit old new)
+broken_begun shown frame unit fault old new (Ok status) broken other line = tt
+broken_begun shown frame unit fault old new (Err halt) broken (inl kept) line = inl kept
+broken_begun shown frame unit fault old new (Err halt) broken (inr other) line = inr (record {
+  fault = Some (Malformed fault);
+  text = malformed_text fault ++ codes "\n";
+  ends = (broken other, refl);
+  begun = line;
+})
+
+-- the line of any fault
+pub faulty_told : (shown : DumpParts) (frame : Frame) (unit : BufferedUnit) (fault : RowFault) (offset : ℕ) (old new : Option (List ℕ))
+    (printed : Result Status Halt) → offset ≡ unit.offset → IsFaultOf unit shown.rows fault → IfOk printed (λ status. status ≡ No)
+    → OnOk printed (Appends old new (fault_line offset (Some fault))) → IfOk printed (UnitTold shown frame unit old new)
+faulty_told shown frame unit fault offset old new (Ok status) at is is_no line = record {
+  fault = Some fault;
+  text = fault_line offset (Some fault);
+  ends = (is, ap (λ (n : ℕ). fault_line n (Some fault)) at);
+  printed = line;
+  status_is = is_no;
+}
+faulty_told shown frame unit fault offset old new (Err halt) at is is_no line = tt
+
+pub faulty_begun : (shown : DumpParts) (frame : Frame) (unit : BufferedUnit) (fault : RowFault) (offset : ℕ) (old new : Option (List ℕ))
+    (printed : Result Status Halt) → offset ≡ unit.offset → IsFaultOf unit shown.rows fault
+    → OnErr printed (AppendsFront old new (fault_line offset (Some fault)))
+    → OnErr printed (Keeps old new ⊎ UnitBegun shown frame unit old new)
+faulty_begun shown frame unit fault offset old new (Ok status) at is line = tt
+faulty_begun shown frame unit fault offset old new (Err halt) at is line = inr (record {
+  fault = Some fault;
+  text = fault_line offset (Some fault);
+  ends = (is, ap (λ (n : ℕ). fault_line n (Some fault)) at);
+  begun = line;
+})
+
+-- the lines of a unit
+pub valid_told : (shown : DumpParts) (frame : Frame) (view : View) (old new : Option (List ℕ))
+    → (sound : (ops : List Op) × IsUnitOf view ops × (IsTrue shown.rows → Runs (with_ops view ops)))
+    → ((ops : List Op) → IsUnitOf view ops → Appends old new (unit_lines shown (frame, with_ops view ops)))
+    → UnitTold shown frame view.unit old new Done
+valid_told shown frame view old new (ops, is, runs) lines = record {
+  fault = None;
+  text = unit_lines shown (frame, with_ops view ops);
+  ends = (with_ops view ops, is, runs, refl);
+  printed = lines ops is;
+  status_is = refl;
+}
+
+pub valid_begun : (shown : DumpParts) (frame : Frame) (view : View) (old new : Option (List ℕ))
+    → (sound : (ops : List Op) × IsUnitOf view ops × (IsTrue shown.rows → Runs (with_ops view ops)))
+    → ((ops : List Op) → IsUnitOf view ops → AppendsFront old new (unit_lines shown (frame, with_ops view ops)))
+    → Keeps old new ⊎ UnitBegun shown frame view.unit old new
+valid_begun shown frame view old new (ops, is, runs) lines = inr (record {
+  fault = None;
+  text = unit_lines shown (frame, with_ops view ops);
+  ends = (with_ops view ops, is, runs, refl);
+  begun = lines ops is;
+})
+
+-- ---- the units so far
+
+-- The source gave the bytes of some units, and their lines were printed.
+pub record UnitsTold (order : Order) (shown : DumpParts) (start now old new : Option (List ℕ)) (of_reader : Order) (offset : ℕ) : Type 0
+  where
+    pub units : List FramedUnit
+    pub read : FramesRead order start now (map (λ unit. unit.0) units) of_reader offset
+    pub each : AllByRecursion (IsDumpedUnit order shown) units
+    pub printed : Appends old new (flat_map (unit_lines shown) units)
+
+pub units_none : (order : Order) (shown : DumpParts) (start now old : Option (List ℕ)) (of_reader : Order) (offset : ℕ)
+    → of_reader ≡ order → offset ≡ 0 → now ≡ start → UnitsTold order shown start now old old of_reader offset
+units_none order shown start now old of_reader offset ordered at same = record {
+  units = [];
+  read = record {
+    front = [];
+    so_far = no_frames order [] (record { place = offset; rest = []; order = of_reader }) refl at ordered;
+    pulls = subst (λ (o : Option (List ℕ)). Pulls start o []) (sym same) (pulls_none start);
+  };
+  each = tt;
+  printed = Appends-nil old;
+}
+
+-- the section begins with them
+begins : (order : Order) (shown : DumpParts) (start now : Option (List ℕ)) (units : List FramedUnit) (of_reader : Order) (offset : ℕ)
+    (Ends : List ℕ → Type 0) → FramesRead order start now (map (λ unit. unit.0) units) of_reader offset
+    → AllByRecursion (IsDumpedUnit order shown) units → IfSome now Ends
+    → IfSome start (λ bytes. (rest : List ℕ) × BeginsWithUnits order shown bytes units offset rest × Ends rest)
+begins order shown None now units of_reader offset Ends read each ends = tt
+begins order shown (Some bytes) None units of_reader offset Ends read each ends = absurd read.pulls
+begins order shown (Some bytes) (Some rest) units of_reader offset Ends read each ends = (
+  rest,
+  record {
+    front = read.so_far.front;
+    whole = read.pulls ∙ ap (λ (z : List ℕ). z ++ rest) (read.so_far.whole ∙ append-nil read.so_far.front);
+    offset_is = read.so_far.place;
+    frames = read.so_far.joined;
+    each = each;
+  },
+  ends,
+)
+
+map_push : {X Y : Type 0} (f : X → Y) (xs : List X) (x : X) → map f (xs ++ x ∷ []) ≡ map f xs ++ f x ∷ []
+map_push f [] x = refl
+map_push f (y ∷ xs) x = ap (λ (list : List _). f y ∷ list) (map_push f xs x)
+
+all_push : {X : Type 0} (P : X → Type 0) (xs : List X) (x : X) → AllByRecursion P xs → P x → AllByRecursion P (xs ++ x ∷ [])
+all_push P [] x all here = (here, tt)
+all_push P (y ∷ xs) x all here = (all.0, all_push P xs x all.1 here)
+
+push_lines : (shown : DumpParts) (units : List FramedUnit) (unit : FramedUnit)
+    → flat_map (unit_lines shown) units ++ unit_lines shown unit ≡ flat_map (unit_lines shown) (units ++ unit ∷ [])
+push_lines shown units unit =
+    let lines = flat_map (unit_lines shown) units in
+    sym (flat_map-append (unit_lines shown) units (unit ∷ [])
+    ∙ ap (λ (z : List ℕ). lines ++ z) (append-nil (unit_lines shown unit)))
+
+-- A unit that comes next, and its frame.
+pub record IsNextFramed (of_reader : Order) (offset after : ℕ) (mid now : Option (List ℕ)) (unit : BufferedUnit) (frame : Frame) : Type 0
+  where
+    pub next : IsNextUnit offset of_reader mid now unit
+    pub after_is : after ≡ offset + length unit.bytes
+    pub offset_is : frame.offset ≡ unit.offset
+    pub bytes_are : frame_bytes unit.order frame.format frame.body.now ≡ unit.bytes
+    pub placed : IsPlacedFrame unit.order frame
+
+pub next_framed : {of_reader : Order} {offset after : ℕ} {mid now : Option (List ℕ)} {comes : Next} {unit : BufferedUnit} {frame : Frame}
+    → comes ≡ NextUnit unit → IsNext offset after of_reader mid now comes → frame.offset ≡ unit.offset
+    → frame_bytes unit.order frame.format frame.body.now ≡ unit.bytes → IsPlacedFrame unit.order frame
+    → IsNextFramed of_reader offset after mid now unit frame
+next_framed {of_reader = of_reader} {offset = offset} {after = after} {mid = mid} {now = now} is comes at bytes placed =
+    let next = subst (IsNext offset after of_reader mid now) is comes in
+    record { next = next.0; after_is = next.1; offset_is = at; bytes_are = bytes; placed = placed }
+
+-- one more unit was read
+read_unit : (order : Order) (shown : DumpParts) (start mid now : Option (List ℕ)) (units : List FramedUnit) (of_reader next_order : Order)
+    (offset after : ℕ) (unit : BufferedUnit) (frame : Frame) (parts : UnitParts) → next_order ≡ of_reader
+    → FramesRead order start mid (map (λ unit. unit.0) units) of_reader offset → IsNextFramed of_reader offset after mid now unit frame
+    → FramesRead order start now (map (λ unit. unit.0) (units ++ (frame, parts) ∷ [])) next_order after
+read_unit order shown start mid now units of_reader next_order offset after unit frame parts ordered read n =
+    subst (λ (frames : List Frame). FramesRead order start now frames next_order after)
+    (sym (map_push (λ (unit : FramedUnit). unit.0) units (frame, parts)))
+    (read_more order start mid now (map (λ unit. unit.0) units) of_reader next_order offset after unit frame ordered read n.next n.after_is
+    n.offset_is n.bytes_are n.placed)
+
+-- and is the unit of its frame
+dumped_one : (order : Order) (shown : DumpParts) (start mid now : Option (List ℕ)) (frames : List Frame) (of_reader : Order)
+    (offset after : ℕ) (unit : BufferedUnit) (frame : Frame) (parts : UnitParts)
+    → FramesRead order start mid frames of_reader offset → IsNextFramed of_reader offset after mid now unit frame
+    → UnitBytesIn unit.order parts unit.bytes → (IsTrue shown.rows → Runs parts) → IsDumpedUnit order shown (frame, parts)
+dumped_one order shown start mid now frames of_reader offset after unit frame parts read n spelled runs =
+    let ordered : unit.order ≡ order = n.next.order_is ∙ read.so_far.order_is in
+    record {
+      spelled = subst (λ (o : Order). UnitBytesIn o parts (frame_bytes o frame.format frame.body.now)) ordered
+          (subst (UnitBytesIn unit.order parts) (sym n.bytes_are) spelled);
+      runs = runs;
+    }
+
+-- one more unit was printed
+pub units_more : (order : Order) (shown : DumpParts) (start mid now old then new : Option (List ℕ)) (of_reader next_order : Order)
+    (offset after : ℕ) (unit : BufferedUnit) (frame : Frame) (status : Status) → next_order ≡ of_reader
+    → UnitsTold order shown start mid old then of_reader offset → IsNextFramed of_reader offset after mid now unit frame
+    → UnitTold shown frame unit then new status → (status ≡ No → ⊥) → UnitsTold order shown start now old new next_order after
+units_more order shown start mid now old then new of_reader next_order offset after unit frame status ordered told n one goes_on =
+    by_fault one.fault one.ends one.status_is
+  where
+    by_fault : (fault : Option RowFault) → UnitEnds shown frame unit fault one.text → status ≡ fault_status fault
+        → UnitsTold order shown start now old new next_order after
+    by_fault (Some fault) ends is = absurd (goes_on is)
+    by_fault None (parts, spelled, runs, text_is) is = record {
+      units = told.units ++ (frame, parts) ∷ [];
+      read = read_unit order shown start mid now told.units of_reader next_order offset after unit frame parts ordered told.read n;
+      each = all_push (IsDumpedUnit order shown) told.units (frame, parts) told.each
+          (dumped_one order shown start mid now (map (λ unit. unit.0) told.units) of_reader offset after unit frame parts told.read n spelled
+          runs);
+      printed = subst (Appends old new) (push_lines shown told.units (frame, parts))
+          (Appends-trans old then new (flat_map (unit_lines shown) told.units) (unit_lines shown (frame, parts)) told.printed
+          (subst (Appends then new) text_is one.printed));
+    }
+
+-- ---- the end of the section
+
+-- nothing is left
+pub units_end : (order : Order) (shown : DumpParts) (start now old new : Option (List ℕ)) (of_reader : Order) (offset : ℕ)
+    → UnitsTold order shown start now old new of_reader offset → SectionEndsBy offset of_reader now None
+    → IsDumped order shown start old new Done
+units_end order shown start now old new of_reader offset told ends = record {
+  units = told.units;
+  offset = offset;
+  fault = None;
+  so = begins order shown start now told.units of_reader offset (λ rest. rest ≡ []) told.read told.each ends;
+  printed = subst (Appends old new) (sym (append-nil (flat_map (unit_lines shown) told.units))) told.printed;
+  status_is = refl;
+}
+
+-- no frame follows, and so no unit
+no_frame : (order : Order) (shown : DumpParts) (start now : Option (List ℕ)) (frames : List Frame) (of_reader : Order) (offset : ℕ)
+    (fault : Fault) → FramesRead order start now frames of_reader offset → SectionEndsBy offset of_reader now (Some fault)
+    → IfSome now (λ rest. IsDumpFault order shown offset rest (Malformed fault))
+no_frame order shown start None frames of_reader offset fault read ends = tt
+no_frame order shown start (Some rest) frames of_reader offset fault read ends =
+    (ends.0, subst (λ (o : Order). BrokenUnit o fault offset rest) read.so_far.order_is (fault_of_section.alone of_reader offset rest fault ends))
+
+-- a fault follows them
+ends_faulty : (order : Order) (shown : DumpParts) (start now old then new : Option (List ℕ)) (of_reader : Order) (offset : ℕ)
+    (fault : RowFault) → UnitsTold order shown start now old then of_reader offset
+    → IfSome now (λ rest. IsDumpFault order shown offset rest fault) → Appends then new (fault_line offset (Some fault))
+    → IsDumped order shown start old new No
+ends_faulty order shown start now old then new of_reader offset fault told is line = record {
+  units = told.units;
+  offset = offset;
+  fault = Some fault;
+  so = begins order shown start now told.units of_reader offset (λ rest. IsDumpFault order shown offset rest fault) told.read told.each is;
+  printed = Appends-trans old then new (flat_map (unit_lines shown) told.units) (fault_line offset (Some fault)) told.printed line;
+  status_is = refl;
+}
+
+begun_faulty : (order : Order) (shown : DumpParts) (start now old then new : Option (List ℕ)) (of_reader : Order) (offset : ℕ)
+    (fault : RowFault) → UnitsTold order shown start now old then of_reader offset
+    → IfSome now (λ rest. IsDumpFault order shown offset rest fault) → AppendsFront then new (fault_line offset (Some fault))
+    → IsDumpBegun order shown start old new
+begun_faulty order shown start now old then new of_reader offset fault told is line = record {
+  units = told.units;
+  offset = offset;
+  fault = Some fault;
+  so = begins order shown start now told.units of_reader offset (λ rest. IsDumpFault order shown offset rest fault) told.read told.each is;
+  begun = front_after old then new (flat_map (unit_lines shown) told.units) (fault_line offset (Some fault)) told.printed line;
+}
+
+pub units_faulty : (order : Order) (shown : DumpParts) (start now old then new : Option (List ℕ)) (of_reader : Order) (offset : ℕ)
+    (fault : Fault) (printed : Result Status Halt) → UnitsTold order shown start now old then of_reader offset
+    → SectionEndsBy offset of_reader now (Some fault) → IfOk printed (λ status. status ≡ No)
+    → OnOk printed (Appends then new (malformed_text fault ++ codes "\n")) → IfOk printed (IsDumped order shown start old new)
+units_faulty order shown start now old then new of_reader offset fault (Ok status) told ends is_no line =
+    subst (IsDumped order shown start old new) (sym is_no)
+    (ends_faulty order shown start now old then new of_reader offset (Malformed fault) told
+    (no_frame order shown start now (map (λ unit. unit.0) told.units) of_reader offset fault told.read ends) line)
+units_faulty order shown start now old then new of_reader offset fault (Err halt) told ends is_no line = tt
+
+pub units_fault_cut : (order : Order) (shown : DumpParts) (start now old then new : Option (List ℕ)) (of_reader : Order) (offset : ℕ)
+    (fault : Fault) (printed : Result Status Halt) → UnitsTold order shown start now old then of_reader offset
+    → SectionEndsBy offset of_reader now (Some fault) → OnErr printed (AppendsFront then new (malformed_text fault ++ codes "\n"))
+    → OnErr printed (IsDumpBegun order shown start old new)
+units_fault_cut order shown start now old then new of_reader offset fault (Ok status) told ends line = tt
+units_fault_cut order shown start now old then new of_reader offset fault (Err halt) told ends line =
+    begun_faulty order shown start now old then new of_reader offset (Malformed fault) told
+    (no_frame order shown start now (map (λ unit. unit.0) told.units) of_reader offset fault told.read ends) line
+
+-- a whole unit has some byte
+frame_some : (unit : BufferedUnit) → (is : IsWholeUnit unit) → 0 < length unit.bytes
+frame_some unit is =
+    omega (
+      arith,
+      ap length is.spelled.joined,
+      length-append (initial_length is.format unit.order (length is.body)) is.body,
+      length-initial is.format unit.order (length is.body),
+    )
+
+-- the fault of a unit, with whatever follows it
+fault_here : (order : Order) (shown : DumpParts) (offset : ℕ) (unit : BufferedUnit) (more : List ℕ) (fault : RowFault)
+    → IsWholeUnit unit → unit.offset ≡ offset → unit.order ≡ order → IsFaultOf unit shown.rows fault
+    → IsDumpFault order shown offset (unit.bytes ++ more) fault
+fault_here order shown offset unit more (Malformed fault) is at ordered b = (
+  omega (arith, length-append unit.bytes more, frame_some unit is),
+  subst (λ (o : Order). BrokenUnit o fault offset (unit.bytes ++ more)) ordered
+      (subst (λ (n : ℕ). BrokenUnit unit.order fault n (unit.bytes ++ more)) at
+      (broken_more unit.order fault unit.offset (is.format, is.body) unit.bytes more is.spelled b)),
+)
+fault_here order shown offset unit more (Run fault) is at ordered (shows, not_run) =
+    (shows, unit.bytes, more, refl, subst (λ (o : Order). DoesNotRun o unit.bytes fault) ordered not_run)
+
+faulty_unit : (order : Order) (shown : DumpParts) (offset : ℕ) (mid now : Option (List ℕ)) (unit : BufferedUnit) (fault : RowFault)
+    → IsWholeUnit unit → unit.offset ≡ offset → unit.order ≡ order → Pulls mid now unit.bytes → IsFaultOf unit shown.rows fault
+    → IfSome mid (λ rest. IsDumpFault order shown offset rest fault)
+faulty_unit order shown offset None now unit fault is at ordered pulls b = tt
+faulty_unit order shown offset (Some rest) None unit fault is at ordered pulls b = absurd pulls
+faulty_unit order shown offset (Some rest) (Some more) unit fault is at ordered pulls b =
+    subst (λ (z : List ℕ). IsDumpFault order shown offset z fault) (sym pulls)
+    (fault_here order shown offset unit more fault is at ordered b)
+
+-- the last unit is faulty
+pub units_broken : (order : Order) (shown : DumpParts) (start mid now old then new : Option (List ℕ)) (of_reader : Order)
+    (offset after : ℕ) (unit : BufferedUnit) (frame : Frame) (status : Status)
+    → UnitsTold order shown start mid old then of_reader offset → IsNextFramed of_reader offset after mid now unit frame
+    → UnitTold shown frame unit then new status → status ≡ No → IsDumped order shown start old new No
+units_broken order shown start mid now old then new of_reader offset after unit frame status told n one is_no =
+    by_fault one.fault one.ends one.status_is
+  where
+    by_fault : (fault : Option RowFault) → UnitEnds shown frame unit fault one.text → status ≡ fault_status fault
+        → IsDumped order shown start old new No
+    by_fault None ends is = absurd (cc (is_no, is))
+    by_fault (Some fault) ends is =
+        ends_faulty order shown start mid old then new of_reader offset fault told
+        (faulty_unit order shown offset mid now unit fault n.next.whole n.next.offset_is (n.next.order_is ∙ told.read.so_far.order_is)
+        n.next.pulls ends.0)
+        (subst (λ (at : ℕ). Appends then new (fault_line at (Some fault))) n.next.offset_is
+        (subst (Appends then new) ends.1 one.printed))
+
+-- ---- a run that stops
+
+-- nothing more is written
+pub units_stopped : (order : Order) (shown : DumpParts) (start now old then new : Option (List ℕ)) (of_reader : Order) (offset : ℕ)
+    → UnitsTold order shown start now old then of_reader offset → Keeps then new → IsDumpBegun order shown start old new
+units_stopped order shown start now old then new of_reader offset told kept =
+    let lines = flat_map (unit_lines shown) told.units in
+    record {
+      units = told.units;
+      offset = offset;
+      fault = None;
+      so = begins order shown start now told.units of_reader offset (λ rest. Unit {0}) told.read told.each (any now);
+      begun = front_after old then new lines [] told.printed (front_since then new new [] kept (front_none new []));
+    }
+  where
+    any : (known : Option (List ℕ)) → IfSome known (λ rest. Unit {0})
+    any None = tt
+    any (Some rest) = tt
+
+-- of the next unit a front is written
+pub units_cut : (order : Order) (shown : DumpParts) (start mid now old then new : Option (List ℕ)) (of_reader next_order : Order)
+    (offset after : ℕ) (unit : BufferedUnit) (frame : Frame) → next_order ≡ of_reader
+    → UnitsTold order shown start mid old then of_reader offset → IsNextFramed of_reader offset after mid now unit frame
+    → Keeps then new ⊎ UnitBegun shown frame unit then new → IsDumpBegun order shown start old new
+units_cut order shown start mid now old then new of_reader next_order offset after unit frame ordered told n (inl kept) =
+    units_stopped order shown start mid old then new of_reader offset told kept
+units_cut order shown start mid now old then new of_reader next_order offset after unit frame ordered told n (inr one) =
+    by_fault one.fault one.ends
+  where
+    any : (known : Option (List ℕ)) → IfSome known (λ rest. Unit {0})
+    any None = tt
+    any (Some rest) = tt
+
+    by_fault : (fault : Option RowFault) → UnitEnds shown frame unit fault one.text → IsDumpBegun order shown start old new
+    by_fault (Some fault) ends =
+        begun_faulty order shown start mid old then new of_reader offset fault told
+        (faulty_unit order shown offset mid now unit fault n.next.whole n.next.offset_is (n.next.order_is ∙ told.read.so_far.order_is)
+        n.next.pulls ends.0)
+        (subst (λ (at : ℕ). AppendsFront then new (fault_line at (Some fault))) n.next.offset_is
+        (front_same then new one.text (fault_line unit.offset (Some fault)) ends.1 one.begun))
+    by_fault None (parts, spelled, runs, text_is) =
+        let units = told.units ++ (frame, parts) ∷ [] in
+        let before = flat_map (unit_lines shown) told.units in
+        let lines = flat_map (unit_lines shown) units in
+        record {
+          units = units;
+          offset = after;
+          fault = None;
+          so = begins order shown start now units next_order after (λ rest. Unit {0})
+              (read_unit order shown start mid now told.units of_reader next_order offset after unit frame parts ordered told.read n)
+              (all_push (IsDumpedUnit order shown) told.units (frame, parts) told.each
+              (dumped_one order shown start mid now (map (λ unit. unit.0) told.units) of_reader offset after unit frame parts told.read n
+              spelled runs))
+              (any now);
+          begun = front_before old new lines []
+              (front_same old new (before ++ unit_lines shown (frame, parts)) lines (push_lines shown told.units (frame, parts))
+              (front_after old then new before (unit_lines shown (frame, parts)) told.printed
+              (front_same then new one.text (unit_lines shown (frame, parts)) text_is one.begun)));
+        }
+
+keeps_same : (known : Option (List ℕ)) → Keeps known known
+keeps_same None = tt
+keeps_same (Some bytes) = refl
+
+-- nothing more was written
+pub units_stay : (order : Order) (shown : DumpParts) (start now old new : Option (List ℕ)) (of_reader : Order) (offset : ℕ)
+    → UnitsTold order shown start now old new of_reader offset → IsDumpBegun order shown start old new
+units_stay order shown start now old new of_reader offset told =
+    units_stopped order shown start now old new new of_reader offset told (keeps_same new)

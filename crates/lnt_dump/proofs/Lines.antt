@@ -1,0 +1,87 @@
+-- Lines that are counted, and pieces of hexadecimal digits.
+use Rattle.std.proofs.Common.{◌≡◌, ◌∙◌, ℕ, ◌+◌, ◌<◌, List, [], ◌∷◌, ◌++◌, length, drop, Option, Result, Ok, Err, OnOk}
+use Rattle.std.proofs.Common.{refl, sym, ap, subst, append_assoc, append-nil, take-append-drop, arith, take, get_or}
+use Rattle.std.proofs.lemmas.List.{length-take-le, take_more}
+use Rattle.std.proofs.KnownBytes.{Appends-nil, Appends-trans}
+use Rattle.std.specs.Io.KnownBytes.{Appends}
+use Rattle.std.specs.List.{IsSplitAt}
+use Rattle.hex.specs.Hex.{encode_lower, encode_with}
+use Rattle.lnt_dump.specs.Numbered.{numbered}
+
+-- the lines with one line more
+pub numbered_push : {X : Type 0} (line : ℕ → X → List ℕ) (first : ℕ) (xs : List X) (x : X)
+    → numbered line first (xs ++ x ∷ []) ≡ numbered line first xs ++ line (first + length xs) x
+numbered_push line first [] x =
+    let here : first ≡ first + 0 = omega arith in
+    append-nil (line first x) ∙ ap (λ (n : ℕ). line n x) here
+numbered_push line first (y ∷ xs) x =
+    let next : first + 1 + length xs ≡ first + length (y ∷ xs) = omega arith in
+    ap (λ (z : List ℕ). line first y ++ z)
+    (numbered_push line (first + 1) xs x ∙ ap (λ (n : ℕ). numbered line (first + 1) xs ++ line n x) next)
+    ∙ sym (append_assoc (line first y) (numbered line (first + 1) xs) (line (first + length (y ∷ xs)) x))
+
+digits_join : (table xs ys : List ℕ) → encode_with table (xs ++ ys) ≡ encode_with table xs ++ encode_with table ys
+unfolding encode_with
+digits_join table [] ys = refl
+digits_join table (x ∷ xs) ys = let rest = digits_join table xs ys in cc rest
+
+whole : (bytes front rest : List ℕ) (count : ℕ) → IsSplitAt bytes count front rest → bytes ≡ front ++ rest
+whole bytes front rest count split =
+    sym (take-append-drop count bytes) ∙ ap (λ (z : List ℕ). z ++ drop count bytes) (sym split.1)
+    ∙ ap (λ (z : List ℕ). front ++ z) (sym split.2)
+
+-- fewer are left
+pub digits_fewer : (rest piece more : List ℕ) (count : ℕ) → 0 < count → IsSplitAt rest count piece more → length more < length rest
+digits_fewer rest piece more count some split = omega (arith, some, split.4)
+
+-- The digits of the bytes before these were printed.
+pub record AreDigitsTold (bytes rest : List ℕ) (old new : Option (List ℕ)) : Type 0 where
+  pub front : List ℕ
+  pub joined : bytes ≡ front ++ rest
+  pub told : Appends old new (encode_lower front)
+
+pub digits_none : (bytes : List ℕ) (out : Option (List ℕ)) → AreDigitsTold bytes bytes out out
+unfolding encode_with
+digits_none bytes out = record { front = []; joined = refl; told = Appends-nil out }
+
+pub digits_more : (bytes rest piece more : List ℕ) (count : ℕ) (old now new : Option (List ℕ)) → AreDigitsTold bytes rest old now
+    → IsSplitAt rest count piece more → Appends now new (encode_lower piece) → AreDigitsTold bytes more old new
+digits_more bytes rest piece more count old now new is split printed = record {
+  front = is.front ++ piece;
+  joined = is.joined ∙ ap (λ (z : List ℕ). is.front ++ z) (whole rest piece more count split) ∙ sym (append_assoc is.front piece more);
+  told = subst (Appends old new) (sym (digits_join _ is.front piece))
+      (Appends-trans old now new (encode_lower is.front) (encode_lower piece) is.told printed);
+}
+
+pub digits_all : {A E : Type 0} (result : Result A E) (bytes rest : List ℕ) (old now new : Option (List ℕ))
+    → AreDigitsTold bytes rest old now → OnOk result (Appends now new (encode_lower rest)) → OnOk result (Appends old new (encode_lower bytes))
+digits_all (Ok done) bytes rest old now new is printed =
+    let text : encode_lower is.front ++ encode_lower rest ≡ encode_lower bytes =
+    sym (digits_join _ is.front rest) ∙ ap encode_lower (sym is.joined) in
+    subst (Appends old new) text (Appends-trans old now new (encode_lower is.front) (encode_lower rest) is.told printed)
+digits_all (Err error) bytes rest old now new is printed = printed
+
+-- the lines of the first k items, and the next one
+pub numbered_next : {X : Type 0} (line : ℕ → X → List ℕ) (xs : List X) (k : ℕ) (x : X) → k < length xs → x ≡ get_or xs k x
+    → numbered line 0 (take k xs) ++ line k x ≡ numbered line 0 (take (k + 1) xs)
+numbered_next {X = X} line xs k x more is =
+    let count : k ≡ 0 + length (take k xs) = omega (arith, length-take-le k xs (omega (arith, more))) in
+    ap (λ (n : ℕ). numbered line 0 (take k xs) ++ line n x) count ∙ sym (numbered_push line 0 (take k xs) x)
+    ∙ ap (λ (y : X). numbered line 0 (take k xs ++ y ∷ [])) is ∙ ap (numbered line 0) (sym (take_more xs k x more))
+
+-- the lines of the first items begin those of all
+pub numbered_front : {X : Type 0} (line : ℕ → X → List ℕ) (first : ℕ) (xs ys : List X)
+    → (more : List ℕ) × (numbered line first (xs ++ ys) ≡ numbered line first xs ++ more)
+numbered_front line first [] ys = (numbered line first ys, refl)
+numbered_front line first (x ∷ xs) ys =
+    let front = numbered_front line (first + 1) xs ys in (
+      front.0,
+      ap (λ (z : List ℕ). line first x ++ z) front.1 ∙ sym (append_assoc (line first x) (numbered line (first + 1) xs) front.0),
+    )
+
+-- the text that a call added, after that of others before it
+pub text_more : {A E : Type 0} (result : Result A E) (old mid new front back : List ℕ) → mid ≡ old ++ front → OnOk result (new ≡ mid ++ back)
+    → OnOk result (new ≡ old ++ (front ++ back))
+text_more (Ok done) old mid new front back before here =
+    here ∙ ap (λ (z : List ℕ). z ++ back) before ∙ append_assoc old front back
+text_more (Err error) old mid new front back before here = here

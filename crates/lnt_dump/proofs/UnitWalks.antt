@@ -1,0 +1,173 @@
+-- Walks over the operations of a valid unit: the lines of its operations, its rows, and whether its program runs.
+use Rattle.std.proofs.Common.{◌≡◌, ◌∙◌, ℕ, ◌+◌, ◌^◌, ◌<◌, ◌≤◌, List, [], ◌∷◌, ◌++◌, length, take, drop, get_or, refl, sym, ap, subst}
+use Rattle.std.proofs.Common.{arith, false, append-nil, append_assoc, take_all, take-append-drop}
+use Rattle.std.specs.Prelude.{Option, Some, Result, Ok, Err}
+use Rattle.std.proofs.KnownBytes.{Appends-nil}
+use Rattle.std.proofs.lemmas.List.{drop_more, length-drop}
+use Rattle.lnt_output.specs.Fronts.{AppendsFront}
+use Rattle.lnt_output.proofs.FrontLaws.{front_before, front_same}
+use Rattle.lnt_header.specs.HeaderNumbers.{without_entries}
+use Rattle.lnt_header.specs.HeaderRules.{IsHeader}
+use Rattle.lnt_header.specs.Joins.{Each}
+use Rattle.lnt_header.specs.OpRules.{StandsFor}
+use Rattle.lnt_header.specs.declared.op.Op.{Op}
+use Rattle.lnt_header.specs.declared.op.OpView.{OpView}
+use Rattle.lnt_header.specs.declared.unit_parts.UnitParts.{UnitParts}
+use Rattle.lnt_header_bytes.proofs.BorrowedLaws.{header_without_entries}
+use Rattle.lnt_header_bytes.proofs.HeaderLaws.{same_header}
+use Rattle.lnt_ops.proofs.LeftLaws.{left_ends, left_fails, left_next}
+use Rattle.lnt_ops.proofs.NumberLaws.{numbers_of_ops}
+use Rattle.lnt_ops.specs.Left.{OperationsAreLeft}
+use Rattle.lnt_ops.specs.OpBytes.{OpBytes}
+use Rattle.lnt_ops.specs.Walks.{Ends, Fails, GivesOperation, Walk, WalkStep}
+use Rattle.lnt_unit.proofs.UnitLaws.{header_of}
+use Rattle.lnt_unit.specs.Views.{IsUnitView, View, with_ops}
+use Rattle.lnt_wire.specs.declared.fault.Fault.{Fault}
+use Rattle.lnt_machine.specs.Laws.{unit_by_numbers}
+use Rattle.lnt_dump.specs.Numbered.{numbered}
+use Rattle.lnt_dump.specs.Operations.{op_line}
+use Rattle.lnt_dump.specs.Stepping.{IsPaged, IsUnitOf}
+use Rattle.lnt_dump.proofs.Lines.{numbered_front, numbered_next}
+use Rattle.lnt_dump.proofs.Pages.{paged_front, paged_more}
+
+-- the unit of these operations, with only the numbers of its header
+abbrev pub unit_of : View → List Op → UnitParts
+unit_of view ops = unit_by_numbers (with_ops view ops)
+
+-- The walk is after the first k operations of the unit, each of a byte or more of the program.
+pub record StandsAt (view : View) (ops : List Op) (k : ℕ) (walk : Walk) : Type 0 where
+  pub within : k ≤ length ops
+  pub left : OperationsAreLeft (without_entries view.header) (drop k ops) walk
+  pub few : k + length walk.at.rest ≤ length view.program
+
+-- the program encodes the operations
+program_of : (view : View) (ops : List Op) → IsUnitView view → IsUnitOf view ops
+    → Each (OpBytes (without_entries view.header)) ops view.program
+program_of view ops is p =
+    let whole = header_of view.unit.order (with_ops view ops) view.unit.bytes p in
+    let found = same_header view.header view.header p.spelled.program view.program view.unit.bytes view.unit.bytes [] [] refl
+    whole.spelled is.spelled.spelled refl in
+    numbers_of_ops view.header ops view.program (subst (Each (OpBytes view.header) ops) found.program p.spelled.operations)
+
+pub stands_first : (view : View) (ops : List Op) (walk : Walk) → IsUnitView view → IsUnitOf view ops
+    → walk.header ≡ without_entries view.header → walk.at.rest ≡ view.program → walk.failed ≡ false → StandsAt view ops 0 walk
+stands_first view ops walk is p header rest going = record {
+  within = omega arith;
+  left = record {
+    header_is = header;
+    going = going;
+    spelled = subst (Each (OpBytes (without_entries view.header)) ops) (sym rest) (program_of view ops is p);
+  };
+  few = omega (arith, ap length rest);
+}
+
+-- what a step of the walk gave
+pub gives_op : {item : OpView} {given : Result OpView Fault} {old new : Walk} → given ≡ Ok item → WalkStep old (Some given) new
+    → GivesOperation item old new
+gives_op {old = old} {new = new} is step = subst (λ (r : Result OpView Fault). WalkStep old (Some r) new) is step
+
+pub fails_op : {fault : Fault} {given : Result OpView Fault} {old new : Walk} → given ≡ Err fault → WalkStep old (Some given) new
+    → Fails fault old new
+fails_op {old = old} {new = new} is step = subst (λ (r : Result OpView Fault). WalkStep old (Some r) new) is step
+
+-- the next operation
+pub record IsNextAt (view : View) (ops : List Op) (k : ℕ) (item : OpView) (new : Walk) : Type 0 where
+  pub op : Op
+  pub more : k < length ops
+  pub is : op ≡ get_or ops k op
+  pub stands : StandsFor item op
+  pub at : StandsAt view ops (k + 1) new
+
+head_is : {X : Type 0} (x y : X) (xs ys : List X) → x ∷ xs ≡ y ∷ ys → (x ≡ y) × (xs ≡ ys)
+head_is x y xs ys e = (cc e, cc e)
+
+pub stands_next : (view : View) (ops : List Op) (k : ℕ) (item : OpView) (old new : Walk) → IsHeader view.header → StandsAt view ops k old
+    → GivesOperation item old new → IsNextAt view ops k item new
+stands_next view ops k item old new header s step =
+    let h = without_entries view.header in
+    let n = left_next h (drop k ops) item old new (header_without_entries view.header header) s.left step in
+    let more : k < length ops = omega (arith, ap length n.later_is, length-drop k ops, s.within) in
+    let both = head_is n.op (get_or ops k n.op) n.others (drop (k + 1) ops) (sym n.later_is ∙ drop_more ops k n.op more) in
+    record {
+      op = n.op;
+      more = more;
+      is = both.0;
+      stands = n.stands;
+      at = record {
+        within = omega (arith, more);
+        left = subst (λ (list : List Op). OperationsAreLeft h list new) both.1 n.left;
+        few = omega (arith, s.few, step.shorter);
+      };
+    }
+
+-- its number, and that of the one after it
+pub stands_room : (view : View) (ops : List Op) (k : ℕ) (item : OpView) (old new : Walk) → IsUnitView view → StandsAt view ops k old
+    → GivesOperation item old new → k + 1 < 2 ^ 64
+stands_room view ops k item old new is s step = omega (arith, is.room, s.few, step.shorter)
+
+-- none is refused
+pub stands_fails : (view : View) (ops : List Op) (k : ℕ) (fault : Fault) (old new : Walk) → StandsAt view ops k old → Fails fault old new → ⊥
+stands_fails view ops k fault old new s fails = left_fails (without_entries view.header) (drop k ops) fault old new s.left fails
+
+-- all were given
+pub stands_last : (view : View) (ops : List Op) (k : ℕ) (old new : Walk) → StandsAt view ops k old → Ends old new → length ops ≤ k
+stands_last view ops k old new s ends =
+    omega (arith, ap length (left_ends (without_entries view.header) (drop k ops) old new s.left ends), length-drop k ops)
+
+-- ---- the lines of operations
+
+-- The lines of the first k operations were printed, after the text before them.
+pub record OpsTold (view : View) (ops : List Op) (k : ℕ) (walk : Walk) (before page : List ℕ) (old now : Option (List ℕ)) : Type 0 where
+  pub at : StandsAt view ops k walk
+  pub told : IsPaged (before ++ numbered op_line 0 (take k ops)) old now page
+
+pub ops_none : (view : View) (ops : List Op) (walk : Walk) (page : List ℕ) (out : Option (List ℕ)) → StandsAt view ops 0 walk
+    → OpsTold view ops 0 walk page page out out
+ops_none view ops walk page out s = record {
+  at = s;
+  told = record { written = []; gained = Appends-nil out; joined = append-nil page };
+}
+
+-- the lines with one more
+op_pushed : (before : List ℕ) (ops : List Op) (k : ℕ) (op : Op) → k < length ops → op ≡ get_or ops k op
+    → (before ++ numbered op_line 0 (take k ops)) ++ op_line k op ≡ before ++ numbered op_line 0 (take (k + 1) ops)
+op_pushed before ops k op more is =
+    append_assoc before (numbered op_line 0 (take k ops)) (op_line k op)
+    ∙ ap (λ (z : List ℕ). before ++ z) (numbered_next op_line ops k op more is)
+
+pub ops_more : (view : View) (ops : List Op) (k : ℕ) (item : OpView) (walk walk' : Walk) (before page page' : List ℕ)
+    (old now new : Option (List ℕ)) → IsHeader view.header → OpsTold view ops k walk before page old now → GivesOperation item walk walk'
+    → ((done : Op) → StandsFor item done → IsPaged (page ++ op_line k done) now new page')
+    → OpsTold view ops (k + 1) walk' before page' old new
+ops_more view ops k item walk walk' before page page' old now new header t step line =
+    let n = stands_next view ops k item walk walk' header t.at step in
+    let text = before ++ numbered op_line 0 (take k ops) in
+    record {
+      at = n.at;
+      told = subst (λ (z : List ℕ). IsPaged z old new page') (op_pushed before ops k n.op n.more n.is)
+          (paged_more text (op_line k n.op) page page' old now new t.told (line n.op n.stands));
+    }
+
+-- of the next line a front was written
+pub ops_cut : (view : View) (ops : List Op) (k : ℕ) (item : OpView) (walk walk' : Walk) (before page : List ℕ)
+    (old now new : Option (List ℕ)) → IsHeader view.header → OpsTold view ops k walk before page old now → GivesOperation item walk walk'
+    → ((done : Op) → StandsFor item done → AppendsFront now new (page ++ op_line k done))
+    → AppendsFront old new (before ++ numbered op_line 0 ops)
+ops_cut view ops k item walk walk' before page old now new header t step line =
+    let n = stands_next view ops k item walk walk' header t.at step in
+    let text = before ++ numbered op_line 0 (take k ops) in
+    let front = numbered_front op_line 0 (take (k + 1) ops) (drop (k + 1) ops) in
+    let first = before ++ numbered op_line 0 (take (k + 1) ops) in
+    let whole : first ++ front.0 ≡ before ++ numbered op_line 0 ops =
+    append_assoc before (numbered op_line 0 (take (k + 1) ops)) front.0
+    ∙ ap (λ (z : List ℕ). before ++ z) (sym front.1 ∙ ap (numbered op_line 0) (take-append-drop (k + 1) ops)) in
+    front_same old new (first ++ front.0) (before ++ numbered op_line 0 ops) whole
+    (front_before old new first front.0
+    (front_same old new (text ++ op_line k n.op) first (op_pushed before ops k n.op n.more n.is)
+    (paged_front text (op_line k n.op) page old now new t.told (line n.op n.stands))))
+
+pub ops_all : (view : View) (ops : List Op) (k : ℕ) (walk walk' : Walk) (before page : List ℕ) (old now : Option (List ℕ))
+    → OpsTold view ops k walk before page old now → Ends walk walk' → IsPaged (before ++ numbered op_line 0 ops) old now page
+ops_all view ops k walk walk' before page old now t ends =
+    subst (λ (list : List Op). IsPaged (before ++ numbered op_line 0 list) old now page)
+    (take_all k ops (stands_last view ops k walk walk' t.at ends)) t.told

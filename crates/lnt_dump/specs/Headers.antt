@@ -1,0 +1,67 @@
+-- The lines of a unit's frame and of its header (DWARF 5, section 6.2.4).
+use Rattle.std.specs.Prelude.{ℕ, List, ◌++◌, codes, decimal}
+use Rattle.std.specs.Fmt.{signed_decimal}
+use Rattle.std.specs.List.{flat_map, zip}
+use Rattle.hex.specs.Hex.{encode_lower}
+use Rattle.lnt_wire.specs.declared.form.FormValue.{FormValue}
+use Rattle.lnt_wire.specs.declared.form.FormValue.TheVariants.{Text, LineStrp, Strp, Udata, Data1, Data2, Data4, Data8, Data16}
+use Rattle.lnt_wire.specs.declared.form.FormValue.TheVariants.{Block, Block1, Block2, Block4}
+use Rattle.lnt_wire.specs.declared.frame.Frame.{Frame}
+use Rattle.lnt_wire.specs.FaultTexts.{hexadecimal}
+use Rattle.lnt_header.specs.declared.header.Entry.{Entry}
+use Rattle.lnt_header.specs.declared.header.HeaderParts.{HeaderParts}
+use Rattle.lnt_header.specs.declared.header.Pair.{Pair}
+use Rattle.lnt_text.specs.Quotes.{quoted_text}
+use Rattle.lnt_dump.specs.Numbered.{numbered}
+use Rattle.lnt_dump.specs.Units.{unit_line}
+
+-- a block by the hexadecimal digits of its bytes
+abbrev pub block_text : List ℕ → List ℕ
+block_text block = codes "block:" ++ encode_lower block
+
+-- a value in its form
+abbrev pub value_text : FormValue → List ℕ
+value_text (Text text) = quoted_text text
+value_text (LineStrp offset) = codes "line_strp:" ++ hexadecimal offset
+value_text (Strp offset) = codes "strp:" ++ hexadecimal offset
+value_text (Udata n) = decimal n
+value_text (Data1 n) = decimal n
+value_text (Data2 n) = decimal n
+value_text (Data4 n) = decimal n
+value_text (Data8 n) = decimal n
+value_text (Data16 bytes) = encode_lower bytes
+value_text (Block block) = block_text block
+value_text (Block1 block) = block_text block
+value_text (Block2 block) = block_text block
+value_text (Block4 block) = block_text block
+
+-- a component of an entry: its content type and its value
+abbrev pub component_text : Pair × FormValue → List ℕ
+component_text component = codes " " ++ (decimal component.0.content ++ (codes "=" ++ value_text component.1))
+
+-- the components of an entry whose format is these pairs
+abbrev pub components_text : List Pair → Entry → List ℕ
+components_text pairs entry = flat_map component_text (zip pairs entry.values)
+
+-- the components of an entry, to the end of its line
+abbrev pub entry_end : List Pair → Entry → List ℕ
+entry_end pairs entry = components_text pairs entry ++ codes "\n"
+
+-- an entry of a table: what it is, its index, and its components
+abbrev pub entry_line : List ℕ → List Pair → ℕ → Entry → List ℕ
+entry_line name pairs index entry = (name ++ (codes " " ++ decimal index)) ++ entry_end pairs entry
+
+-- the numbers of a header, in the order in which it has them; line_base is signed
+abbrev pub numbers_line : HeaderParts → List ℕ
+numbers_line header =
+    codes "header " ++ (decimal header.address_size ++ (codes " "
+    ++ (decimal header.minimum_instruction_length ++ (codes " " ++ (decimal header.max_ops ++ (codes " "
+    ++ (decimal header.default_is_stmt ++ (codes " " ++ (signed_decimal header.line_base ++ (codes " "
+    ++ (decimal header.line_range ++ (codes " " ++ (decimal header.opcode_base ++ codes "\n")))))))))))))
+
+-- the lines of a unit's frame, of its numbers, of its directories and of its files
+abbrev pub header_lines : Frame → HeaderParts → List ℕ
+header_lines frame header =
+    (codes "unit " ++ unit_line frame) ++ (numbers_line header
+    ++ (numbered (entry_line (codes "dir") header.directory_format) 0 header.directories
+    ++ numbered (entry_line (codes "file") header.file_format) 0 header.files))

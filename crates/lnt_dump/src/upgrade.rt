@@ -1,0 +1,118 @@
+//! The subcommand `upgrade`.
+ghost use Rattle.std.specs.Prelude.{◌≡◌, ◌≢◌, ◌++◌, IfErr, IfOk, OnErr, OnOk, codes, decimal};
+ghost use Rattle.std.specs.Option.{option_copied};
+ghost use Rattle.std.specs.Io.KnownBytes.{Appends};
+ghost use Rattle.lnt_output.specs.Fronts.{AppendsFront};
+ghost use Rattle.lnt_header.specs.HeaderRules.{IsAddressSize};
+ghost use Rattle.lnt_sources.specs.Halts.{IsPrinting};
+ghost use Rattle.lnt_sources.specs.declared.status.Status.TheVariants.{No};
+ghost use Rattle.lnt_upgrade.specs.Sections.{IsUpgraded};
+ghost use Rattle.lnt_upgrade.specs.Walking.{AreSound, CanUpgrade};
+ghost use Rattle.lnt_dump.specs.Printed.{IsPrintedIn};
+ghost use Rattle.lnt_dump.specs.Stepping.{IsFrontIn};
+ghost use Rattle.lnt_dump.specs.Upgraded.{IsUpgradeBegun, IsUpgradeTold, bad_record_line, upgrade_refusal};
+
+use crate::convert::print_too_large;
+use crate::faults::print_fault;
+use crate::page::{hand_on, turn_full};
+use lnt_output::write_whole;
+use lnt_sources::{Halt, Status};
+use lnt_unit_encode::ConvertFault;
+use lnt_upgrade::{Directory, UpgradeFault, judge_upgrade, upgrade_next};
+use lnt_wire::{Cursor, Order};
+use std::alloc::Global;
+use std::io::Write;
+
+/// Prints the section `bytes`, whose byte order is `order`, with its units of versions 2 to 4 written anew in version 5; or the line
+/// that says why there is no such section: `no 25 ..`, `no 44 ..` or `no 20 ..`. Addresses of older units have `address_size` bytes, 2,
+/// 4 or 8; `directories` are the bytes of the file of their compilation directories, if there is one.
+///
+/// If it returns `Done`, the section of version 5 has been written, and nothing else. If it returns `No`, only the line that says why
+/// there is none. Stops with `Write` if the writer failed, and with `Memory`. If it stops, a prefix of that section or line has been
+/// written, and nothing else. It takes the memory of the directories and of the largest new unit, which is written once each unit is
+/// known to have an encoding.
+pub fn print_upgraded<W: Write>(
+    alloc: Global,
+    bytes: &[u8],
+    order: Order,
+    address_size: u8,
+    directories: Option<&[u8]>,
+    out: &mut W,
+) -> Result<Status, Halt>
+    requires { IsAddressSize address_size }
+    ensures told { IfOk result (IsUpgradeTold order address_size bytes.now (option_copied directories.entry)
+        (W.contents out.old) (W.contents out.new)) }
+    ensures begun { OnErr result (IsUpgradeBegun order address_size bytes.now (option_copied directories.entry)
+        (W.contents out.old) (W.contents out.new)) }
+    ensures err { IfErr result IsPrinting }
+{
+    match judge_upgrade(alloc, bytes, order, address_size, directories) {
+        Ok(directories) => {
+            print_anew(alloc, bytes, order, address_size, &directories, out)?;
+            Ok(Status::Done)
+        }
+        Err(fault) => print_reason(alloc, fault, out),
+    }
+}
+
+// Prints a section of which each unit can be written anew, unit by unit, or a prefix of it.
+#[tactic(auto, using(crate::proofs::Anew::anew_begun, crate::proofs::Anew::anew_left, crate::proofs::Anew::anew_long))]
+fn print_anew<W: Write>(
+    alloc: Global,
+    bytes: &[u8],
+    order: Order,
+    address_size: u8,
+    directories: &[Directory],
+    out: &mut W,
+) -> Result<(), Halt>
+    requires size { IsAddressSize address_size }
+    requires sound { AreSound directories.now }
+    requires can { CanUpgrade order address_size directories.now bytes.now }
+    ensures whole { OnOk result (IsPrintedIn (IsUpgraded order address_size directories.now bytes.now)
+        (W.contents out.old) (W.contents out.new)) }
+    ensures front { OnErr result (IsFrontIn (IsUpgraded order address_size directories.now bytes.now)
+        (W.contents out.old) (W.contents out.new)) }
+    ensures err { IfErr result IsPrinting }
+{
+    let mut page = Vec::new(alloc);
+    let mut cursor = Cursor::new(bytes, 0, order);
+    while !cursor.rest().is_empty() {
+        upgrade_next(alloc, &mut cursor, address_size, directories, &mut page)?;
+        turn_full(&mut page, out)?;
+    }
+    hand_on(&mut page, out)?;
+    Ok(())
+}
+
+// Prints the line that says why a section isn't written anew, or a prefix of it. Lack of memory has no line: it is a stop.
+fn print_reason<W: Write>(alloc: Global, fault: UpgradeFault, out: &mut W) -> Result<Status, Halt>
+    ensures no { IfOk result (λ status. status ≡ No) }
+    ensures told { OnOk result (fault ≢ UpgradeFault.Memory) }
+    ensures err { IfErr result IsPrinting }
+    ensures line { OnOk result (Appends (W.contents out.old) (W.contents out.new) (upgrade_refusal fault)) }
+    ensures front { OnErr result (AppendsFront (W.contents out.old) (W.contents out.new) (upgrade_refusal fault)) }
+{
+    match fault {
+        UpgradeFault::Malformed(fault) => print_fault(alloc, fault, out),
+        UpgradeFault::Directories(place) => print_bad_record(alloc, place, out),
+        UpgradeFault::TooLarge(offset) => {
+            print_too_large(alloc, ConvertFault::TooLarge(offset), out)
+        }
+        UpgradeFault::Memory => Err(Halt::Memory),
+    }
+}
+
+// Prints the line that says which record of the directories, the one at this place, isn't so, or a prefix of it.
+fn print_bad_record<W: Write>(alloc: Global, place: u64, out: &mut W) -> Result<Status, Halt>
+    ensures no { IfOk result (λ status. status ≡ No) }
+    ensures err { IfErr result IsPrinting }
+    ensures line { OnOk result (Appends (W.contents out.old) (W.contents out.new) (bad_record_line place)) }
+    ensures front { OnErr result (AppendsFront (W.contents out.old) (W.contents out.new) (bad_record_line place)) }
+{
+    let mut line = Vec::new(alloc);
+    if writeln!(line, "no 44 directories record {place}").is_err() {
+        return Err(Halt::Memory);
+    }
+    write_whole(out, &line)?;
+    Ok(Status::No)
+}
