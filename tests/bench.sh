@@ -11,12 +11,16 @@ expect 'what bench/producers tries' 0 $'`gcc -g`\nyes\n' '' python3 -B - <<'END'
 import importlib.machinery
 producers = importlib.machinery.SourceFileLoader("producers", "bench/producers").load_module()
 print(producers.shown("gcc -g main.c part.c"))
+assert producers.shown(producers.APART + " && rm app.debug") == "`APART && rm app.debug`"
 # Each case has its tools and a command, and advice that is followed gives another command.
 assert all(tools and command for _, cases in producers.PARTS for tools, command, *_ in cases)
 assert all(tools and command != advised for tools, command, advised in producers.ADVISED)
 # Followed advice, of programs that were made elsewhere: as it is, of another option, and of one that doesn't help.
-said = {"cc -g": ("no 25", ["its unit is of version 4; linetab reads DWARF 5 alone: compile with -g5, or -g6"]), "cc -g5": ("yes", [])}
-producers.asked = lambda command, target="app": said.get(command, ("no 25", []))
+note = "its unit is of version 4; linetab reads DWARF 5 alone: compile with -g5, or -g6; with --older it is upgraded first"
+said = {"cc -g": ("no 25 malformed at 0x1f: version 4", [note], "yes"), "cc -g5": ("yes", [], "")}
+producers.asked = lambda command, target="app": said.get(command, ("no 25", [], ""))
+assert producers.row(([], "cc -g"), {}) == ("`cc -g`", "no 25: version 4 | yes | compile with -g5, or -g6")
+assert producers.row(([], "cc -g5"), {}) == ("`cc -g5`", "yes |  | ")
 wrong = []
 print(producers.followed(([], "cc -g", "cc -g5"), wrong)[1].rpartition(" | ")[2])
 assert not wrong

@@ -1,5 +1,6 @@
-"""changed.py COUNT FILE..: does as linetab-object does with each FILE, COUNT times with some bytes that are others. Each run ends with a
-status or a refusal, within a second and 64 MB. Anything else is told. The program isn't started: its answers are made up."""
+"""changed.py COUNT FILE..: does as linetab-object does with each FILE, COUNT times with some bytes that are others, with --older and
+without. Each run ends with a status or a refusal, within a second and 64 MB. Anything else is told. The program isn't started: its
+answers are made up."""
 
 import importlib
 import os
@@ -71,8 +72,8 @@ def loaded(chance):
     os.dup2(os.open(os.devnull, os.O_WRONLY), 2)
     words = modules["words"]
     word = words.Word("verify", HELP)
-    given = words.Given(word, [])
-    return modules["bounded"].Refusal, lambda path: modules["command"].answer(word, given, path, Nowhere())
+    given = [words.Given(word, typed) for typed in ([], ["--older"])]
+    return modules["bounded"].Refusal, lambda path: modules["command"].answer(word, chance.choice(given), path, Nowhere())
 
 
 class Nowhere:

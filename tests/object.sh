@@ -88,7 +88,7 @@ usage() {
   expect 'one with a value that it has not' 2 '' $'error: --recursive takes no value\n\nUsage: linetab-object table [OPTIONS] <FILE>...'"$more" \
     object table "$work/elf64" --recursive=yes
   expect 'help' 0 $'usage: linetab-object WORD [OPTIONS] FILE..\n' '' bash -c 'object --help | grep usage'
-  for word in units dump check verify lookup files table convert md5; do
+  for word in units dump check verify lookup files table convert md5 upgrade; do
     text=$(object "$word" --help)
     expect "the help of $word" 0 "$text"$'\n' '' object help "$word"
     expect "the help of $word, behind a file" 0 "$text"$'\n' '' object "$word" "$work/elf64" -h
@@ -313,7 +313,7 @@ once() {
   # A unit of version 4 after one with a discarded sequence, which names a file that isn't there.
   (bytes "45000000 $start $header 0009020000000000000000 0405 144b0202 000101") >"$work/named"
   (bytes "43000000 $start $header 0009020000000000000000 144b0202 000101") >"$work/unnamed"
-  local version="$says note: 1 of its 2 units, of src/a.c, is of version 4; linetab reads DWARF 5 alone: compile with -gdwarf-5"$'\n'
+  local version="$says note: 1 of its 2 units, of src/a.c, is of version 4; linetab reads DWARF 5 alone: compile with -gdwarf-5; with --older it is upgraded first"$'\n'
   cat "$work/named" "$work/old4" >"$work/mixed" && image elf64 dead .debug_line="$work/mixed"
   expect_notes 'discarded code, without which another fault is told' 1 $'no 25 malformed at 0x4d: version 4\n' "$version" \
     object verify "$work/dead"
@@ -321,11 +321,13 @@ once() {
   expect_notes 'discarded code, without which the same fault is told' 1 $'no 25 malformed at 0x4b: version 4\n' "$version" \
     object verify "$work/dead"
   (echo ldc version) >"$work/said" && image elf64 dead .debug_line="$work/old4" z:.debug_info="$work/said" damaged
-  expect_notes 'a note that no damaged section gives' 1 $'no 25 malformed at 0x4: version 4\n' '' object verify "$work/dead"
+  expect_notes 'a note that no damaged section gives' 1 $'no 25 malformed at 0x4: version 4\n' \
+    $'linetab: note: linetab upgrade writes units of versions 2 to 4 anew in version 5, which the other words read\n' \
+    object verify "$work/dead"
 }
 
 versions() {
-  local hint='linetab reads DWARF 5 alone: compile with'
+  local hint='linetab reads DWARF 5 alone: compile with' upgraded='; with --older it is upgraded first'
   python3 - "$work/old" <<'END'
 import struct, sys
 name = sys.argv[1]
@@ -344,36 +346,37 @@ END
     for version in 2 3; do
       image elf64$order unit .debug_line="$work/old$version${order#-}"
       expect "version $version$order" 1 "no 25 malformed at 0x4: version $version"$'\n' \
-        "$says note: its unit, of src/a.c, is of version $version; $hint -gdwarf-5 -Wa,--gdwarf-5, as it is the assembler's; as itself takes --gdwarf-5"$'\n' \
+        "$says note: its unit, of src/a.c, is of version $version; $hint -gdwarf-5, by gcc with -Wa,--gdwarf-5 too, as it is the assembler's; as itself takes --gdwarf-5$upgraded"$'\n' \
           object table "$work/unit"
     done
     image elf64$order unit .debug_line="$work/old4${order#-}"
     expect "version 4$order" 1 $'no 25 malformed at 0x4: version 4\n' \
-      "$says note: its unit, of src/a.c, is of version 4; $hint -gdwarf-5"$'\n' object table "$work/unit"
+      "$says note: its unit, of src/a.c, is of version 4; $hint -gdwarf-5$upgraded"$'\n' object table "$work/unit"
   done
   cat "$work/old2" examples/hello.debug_line "$work/old4" "$work/old4" >"$work/mixed"
   image elf64 unit .debug_line="$work/mixed" "${hello[1]}"
   expect 'versions 2 and 4' 1 $'no 25 malformed at 0x4: version 2\n' \
-    "$says note: 3 of its 4 units, the first of src/a.c, are of version 2 and 4; $hint -gdwarf-5 -Wa,--gdwarf-5, as it is the assembler's; as itself takes --gdwarf-5"$'\n' \
+    "$says note: 3 of its 4 units, the first of src/a.c, are of version 2 and 4; $hint -gdwarf-5, by gcc with -Wa,--gdwarf-5 too, as it is the assembler's; as itself takes --gdwarf-5${upgraded/it is/they are}"$'\n' \
     object table "$work/unit"
   local said advised
   while IFS='|' read -r said advised; do
     echo "$said" >"$work/said"
     image elf64 unit .debug_line="$work/old3" .debug_str="$work/said"
     expect "version 3, by $said" 1 $'no 25 malformed at 0x4: version 3\n' \
-      "$says note: its unit, of src/a.c, is of version 3; ${hint% compile with} $advised"$'\n' object table "$work/unit"
+      "$says note: its unit, of src/a.c, is of version 3; ${hint% compile with} $advised$upgraded"$'\n' object table "$work/unit"
   done <<'END'
 NASM 2.16.01|nasm writes none later than 3; GNU as takes --gdwarf-5
 yasm 1.3.0|yasm writes none later than 2; GNU as takes --gdwarf-5
 The Glorious Glasgow Haskell Compilation System 9.0.2|ghc takes -opta-Wa,--gdwarf-5
 camlStd_exit__entry|ocamlopt has no option for it
-GNU AS 2.40|compile with -gdwarf-5 -Wa,--gdwarf-5, as it is the assembler's; as itself takes --gdwarf-5
+Swift version 6.0.3|swiftc takes -dwarf-version=5
+GNU AS 2.40|compile with -gdwarf-5, by gcc with -Wa,--gdwarf-5 too, as it is the assembler's; as itself takes --gdwarf-5
 END
   cat examples/hello.debug_line "$work/old4" >"$work/mixed"
   echo 'clang LLVM (rustc version 1.95.0)' >"$work/said"
   image elf64 unit .debug_line="$work/mixed" "${hello[1]}" z:.debug_str="$work/said"
   expect 'version 4 after version 5, by rustc' 1 $'no 25 malformed at 0xa4: version 4\n' \
-    "$says note: 1 of its 2 units, of src/a.c, is of version 4; ${hint% compile with} $rust"$'\n' \
+    "$says note: 1 of its 2 units, of src/a.c, is of version 4; ${hint% compile with} $rust$upgraded"$'\n' \
     object table "$work/unit"
 }
 
@@ -618,7 +621,7 @@ END
   here 'gcc, version 4' gcc || return
   gcc -gdwarf-4 -o "$work/made" "$work/main.c" 2>/dev/null || { skip "gcc can't make it here: gcc, version 4"; return; }
   expect 'gcc, version 4' 1 $'no 25 malformed at 0x4: version 4\n' \
-    "$says note: its unit, of $work/main.c, is of version 4; linetab reads DWARF 5 alone: compile with -gdwarf-5"$'\n' \
+    "$says note: its unit, of $work/main.c, is of version 4; linetab reads DWARF 5 alone: compile with -gdwarf-5; with --older it is upgraded first"$'\n' \
     object table "$work/made"
   gcc -gdwarf-5 -c -o "$work/made" "$work/main.c"
   refuses 'gcc, not linked' made "it is a relocatable object, whose relocations aren't applied and whose addresses all begin at 0: link it"

@@ -1,6 +1,7 @@
 """Finds the definitions that the contract of `lnt_cli::run` leads to for a `check`, name by name, and compares their files with those
-of docs/TRUSTED.md: which they are, that each stands after those that it needs, and how many lines they have, also of a Yes alone.
-And looks whether each file of specs/ begins with a sentence that says what it defines, which `docs/list definitions` prints."""
+of docs/TRUSTED.md: which they are, that each stands after those that it needs, and how many lines they have, also of a Yes alone. The
+same for `upgrade`, of whose files the page lists those that `check` doesn't need. And looks whether each file of specs/ begins with a
+sentence that says what it defines, which `docs/list definitions` prints."""
 
 import glob
 import os
@@ -24,9 +25,16 @@ YES = [
     ("Rattle.lnt_paths.specs.PathDifferences", "AnswersByPath"),
     ("Rattle.lnt_table.specs.ByPath", "answer_by_path"),
 ]
+UPGRADE = [
+    ASKED,
+    ("Rattle.lnt_cli.specs.Answered", "AnswersUpgrade"),
+    ("Rattle.lnt_words.specs.Sizes", "size_bytes"),
+]
 COUNTS = r"(\d+) lines of definitions in (\d+) files"
 COUNTS_OF_YES = r"(\d+) lines in (\d+) files for a Yes"
+COUNTS_OF_UPGRADE = r"stands on (\d+) lines in (\d+) files, of which (\d+) aren't above"
 WORDS = r"(?:(?:abbrev|unfoldable|opaque|pub|record|data) )+"
+WORDS_OF_DATA = r"(?:pub )?data "
 
 
 def file_of(module):
@@ -35,8 +43,9 @@ def file_of(module):
 
 
 def read(module):
-    """The names that a file of specs/ brings in, each with its module and its name there, and the lines of its definitions."""
-    brought, defined, name = {}, {}, None
+    """The names that a file of specs/ brings in, each with its module and its name there; the lines of its definitions; and its
+    constructors, each with its data."""
+    brought, defined, made, name = {}, {}, {}, None
     with open(os.path.join(TOP, file_of(module)), encoding="utf-8") as file:
         for line in file.read().split("\n"):
             use = re.fullmatch(r"(?:pub )?use (Rattle\.lnt_\w+\.specs\.[\w.+-]+)\.\{(.*)\}", line)
@@ -56,7 +65,10 @@ def read(module):
                 name = name if line.startswith("--") else None
             elif name and line.strip():
                 defined.setdefault(name, []).append(re.sub("--.*", "", line))
-    return brought, defined
+                constructor = re.match(r"  (\w+) : ", line)
+                if constructor and re.match(WORDS_OF_DATA, defined[name][0]):
+                    made[constructor[1]] = name
+    return brought, defined, made
 
 
 def is_named(name, words):
@@ -81,12 +93,15 @@ def closure(starts):
     texts, seen, left, lines, needs = {}, set(), list(starts), {}, {}
     while left:
         module, name = left.pop()
-        if (module, name) in seen or ".declared." in module:
+        if ".declared." in module:
             continue
-        seen.add((module, name))
         if module not in texts:
             texts[module] = read(module)
-        brought, defined = texts[module]
+        brought, defined, made = texts[module]
+        name = made.get(name, name)
+        if (module, name) in seen:
+            continue
+        seen.add((module, name))
         if name not in defined:
             sys.exit("%s has no definition of %s" % (file_of(module), name))
         place = file_of(module)
@@ -99,11 +114,11 @@ def closure(starts):
     return lines, needs, seen
 
 
-def said(page, pattern, lines):
-    """What is wrong with the numbers that the page has."""
+def said(page, pattern, lines, *more):
+    """What is wrong with the numbers that the page has: the lines of files, how many files these are, and others."""
     found = re.search(pattern, page)
-    true = [str(sum(lines.values())), str(len(lines))]
-    return [] if found and list(found.groups()) == true else ["it has to say %s lines in %s files: %s" % (*true, pattern)]
+    true = [str(number) for number in (sum(lines.values()), len(lines), *more)]
+    return [] if found and list(found.groups()) == true else ["it has to say %s: %s" % (", ".join(true), pattern)]
 
 
 def undescribed():
@@ -126,24 +141,34 @@ def leads():
         return ["the contract of %s names no %s" % (CONTRACT[1], CLAUSE[1])]
     _, _, named = closure([CLAUSE])
     _, _, of_check = closure(CHECK)
-    return ["%s doesn't lead to %s" % (CLAUSE[1], name) for module, name in CHECK if (module, name) not in named] + [
+    return ["%s doesn't lead to %s" % (CLAUSE[1], name) for module, name in CHECK + UPGRADE if (module, name) not in named] + [
         "nothing that is said of a check leads to %s" % name for module, name in YES if (module, name) not in of_check
     ]
+
+
+def misplaced(listed, before, lines, needs):
+    """What is wrong with the files that a part of the page lists: all of those that are needed, each once and after those that it needs,
+    of which some stand before this part."""
+    wrong = ["%s isn't listed, or twice" % name for name in lines if name not in before and listed.count(name) != 1]
+    wrong += ["%s is listed, and nothing leads to it" % name for name in listed if name not in lines]
+    for at, name in enumerate(listed):
+        late = [other for other in needs.get(name, ()) if other != name and other not in before + listed[:at]]
+        wrong += ["%s stands before %s, which it needs" % (name, other) for other in sorted(late)]
+    return wrong
 
 
 def main():
     lines, needs, _ = closure(CHECK)
     of_yes, _, _ = closure(YES)
+    of_upgrade, upgrade_needs, _ = closure(UPGRADE)
     with open(os.path.join(TOP, "docs", "TRUSTED.md"), encoding="utf-8") as file:
         page = file.read()
-    listed = re.findall(r"\]\(\.\./(crates/\w+/specs/[\w/]+\.antt)\)", page.partition("\n## The contract\n")[0])
-    passed = sum(listed.count(name) == 1 for name in lines)
-    wrong = leads() + ["%s isn't listed, or twice" % name for name in lines if listed.count(name) != 1]
-    wrong += ["%s is listed, and nothing leads to it" % name for name in listed if name not in lines]
-    for at, name in enumerate(listed):
-        late = [other for other in needs.get(name, ()) if other != name and other not in listed[:at]]
-        wrong += ["%s stands before %s, which it needs" % (name, other) for other in sorted(late)]
+    parts = page.partition("\n## The contract\n")[0], page.partition("\n## `upgrade`\n")[2].partition("\n## ")[0]
+    listed, added = [re.findall(r"\]\(\.\./(crates/\w+/specs/[\w/]+\.antt)\)", part) for part in parts]
+    passed = sum(listed.count(name) == 1 for name in lines) + sum(added.count(name) == 1 for name in of_upgrade)
+    wrong = leads() + misplaced(listed, [], lines, needs) + misplaced(added, listed, of_upgrade, upgrade_needs)
     wrong += said(page, COUNTS, lines) + said(page, COUNTS_OF_YES, of_yes)
+    wrong += said(page, COUNTS_OF_UPGRADE, of_upgrade, len(of_upgrade.keys() - lines.keys()))
     described, unsaid = undescribed()
     for text in ["docs/TRUSTED.md: " + text for text in wrong] + unsaid:
         print("failed: " + text)

@@ -6,25 +6,14 @@ import os
 from bounded import MOST, Part, Refusal, found_in, leb
 from image import STRINGS
 from notes import COPIES, DEAD, is_version, twice_held
+from older import OLDER, counted, joined, versions
 from telling import shown
 
-TEXTS = "its text lies in "  # how a note of the program begins that is told here in other words
+# How notes of the program begin that are told here in other words.
+TEXTS, UPGRADES = "its text lies in ", "linetab upgrade writes units "
 
 
 # ---- units of another version
-
-
-def versions(section, big):
-    """The version of each unit and where it begins, as far as lengths separate units."""
-    order, at = ">" if big else "<", 0
-    while at + 6 <= section.size:
-        (length,) = section.numbers(order + "I", at)
-        start = at + 4
-        if length == 0xFFFFFFFF and at + 14 <= section.size:
-            (length,) = section.numbers(order + "Q", start)
-            start += 8
-        yield section.numbers(order + "H", start)[0], at
-        at = start + length
 
 
 def first_file(unit, version):
@@ -52,45 +41,56 @@ def named(section, at, version):
         return ""
 
 
-def of_another_version(image, section):
-    """Which units are of another version, and how to have them of version 5. None where no such unit is found."""
+def of_another_version(question):
+    """Which units are of a version that isn't read, and what to do. None where no such unit is found."""
+    image, section = question.image, question.section()
     units = list(itertools.islice(versions(section, image.big), MOST))
-    others = [unit for unit in units if unit[0] != 5]
+    others = [unit for unit in units if unit[0] not in question.versions]
     if not others:
         return None
-    which = "its unit" if len(units) == 1 else "its %d units" % len(units)
-    if len(others) < len(units) or len(units) == MOST:
-        which = "%d of its %s%d units" % (len(others), "first " if len(units) == MOST else "", len(units))
+    which = counted(len(others), len(units))
+    if len(units) == MOST:
+        which = "%d of its first %d units" % (len(others), len(units))
     version, at = others[0]
     name = named(section, at, version)
     if name:
         which += ", %s %s," % ("of" if len(others) == 1 else "the first of", shown(name))
-    known = " and ".join(map(str, sorted({number for number, _ in others})[:4]))
-    return "%s %s of version %s; linetab reads DWARF 5 alone: %s" % (
-        which, "is" if len(others) == 1 else "are", known, compiled_anew(image, version))
+    text = "%s %s of version %s; linetab reads DWARF %s alone: %s" % (
+        which, "is" if len(others) == 1 else "are", joined({number for number, _ in others}),
+        "5" if question.versions == (5,) else "2 to 5", compiled_anew(image, version))
+    if version in OLDER:
+        text += "; with --older %s upgraded first" % ("it is" if len(others) == 1 else "they are")
+    return text
 
 
 # What makes version 5, by what compilers say of themselves in .debug_info, .debug_str and .comment.
+PASCAL = b"Free Pascal "
 COMPILERS = {
     b"Go cmd/compile": "Go writes it from release 1.25 on",
     b"rustc version": "rustc takes -C dwarf-version=5, and -O -C lto=fat for its standard library, which is of version 4",
     b"ldc version": "ldc takes --dwarf-version=5",
     b"NASM ": "nasm writes none later than 3; GNU as takes --gdwarf-5",
     b"yasm ": "yasm writes none later than 2; GNU as takes --gdwarf-5",
-    b"Free Pascal ": "Free Pascal writes none later than 4",
+    PASCAL: "Free Pascal writes none later than 4",
     b"Glasgow Haskell": "ghc takes -opta-Wa,--gdwarf-5",
     b"camlStd_exit": "ocamlopt has no option for it",
+    b"Swift version": "swiftc takes -dwarf-version=5",
 }
 
 
-def compiled_anew(image, version):
+def compiler_of(image):
+    """The first of these compilers that the file names."""
     names = filter(image.has, (".debug_info", ".debug_str", ".comment"))
     said = found_in(itertools.chain.from_iterable(map(image.pieces, names)), COMPILERS)
-    for mark, advice in COMPILERS.items():
-        if mark in said:
-            return advice
+    return next((mark for mark in COMPILERS if mark in said), None)
+
+
+def compiled_anew(image, version):
+    mark = compiler_of(image)
+    if mark:
+        return COMPILERS[mark]
     if version < 4:
-        return "compile with -gdwarf-5 -Wa,--gdwarf-5, as it is the assembler's; as itself takes --gdwarf-5"
+        return "compile with -gdwarf-5, by gcc with -Wa,--gdwarf-5 too, as it is the assembler's; as itself takes --gdwarf-5"
     return "compile with -gdwarf-5"
 
 
@@ -110,9 +110,12 @@ def advice(line, question):
     image, address = question.image, twice_held(line)
     missing = [name for name in STRINGS.values() if not image.has(name)]
     if is_version(line):
-        return of_another_version(image, question.section()), ()
+        text = of_another_version(question)
+        return text, (UPGRADES,) if text else ()
     if address:
         return overlapping(address), (DEAD, COPIES) if address == "0x0" else ()
+    if line.endswith(": zero opcode base") and compiler_of(image) == PASCAL:
+        return "Free Pascal leaves the field maximum_operations_per_instruction out of version 4: compile with -gw3", ()
     if line.startswith("no 28 ") and missing:
         without = "; dsymutil 14 leaves it out" if image.kind == "Mach-O" else ""
         return "the file has no %s, in which the text may be%s" % (" and no ".join(missing), without), (TEXTS,)

@@ -61,18 +61,36 @@ def passed_on(run, sink):
     return status
 
 
+def of_older_units(question, word, given):
+    """Has units of versions 2 to 4 upgraded, where that is asked for. Gives the run of the program that refused to, if it did, and what is
+    to be told."""
+    if word.name == "upgrade":
+        import older
+
+        return None, older.to_upgrade(question, given.names)
+    if "--older" in given.own:
+        import older
+
+        return older.upgraded(question)
+    return None, []
+
+
 def answer(word, given, name, sink):
     """Runs a word of the program on a file, and gives its exit status."""
     if name == "-" and (word.probe or "-" in given.others + [part for option in given.options for part in option]):
         raise Refusal("standard input is read once")
     data, path = source(name)
     image = judged(data, path)
+    image.big = image.big or "--big" in given.names  # also where directories are read, and units are counted
     with Question(image, word.taken - given.names) as question:
-        marker = marker_of(question) if "--dead" in question.taken else None
         if image.place and not given.is_quiet:
             note("the debug information of %s is in %s" % (shown(name), shown(image.place)))
-        words = (["--dead", marker] if marker else []) + given.words()
-        run, address = begun(question, word.engine, words + word.added, given.behind(), word.probe)
+        run, older = of_older_units(question, word, given)
+        marker = address = None
+        if run is None:
+            marker = marker_of(question) if "--dead" in question.taken else None
+            words = (["--dead", marker] if marker else []) + given.words()
+            run, address = begun(question, word.engine, words + word.added, given.behind(), word.probe)
         if word.probe and not run.no() and run.head:
             import symbolize
 
@@ -84,6 +102,7 @@ def answer(word, given, name, sink):
         notes, same = [], []
         if not given.is_quiet:
             notes, same = noted(run, name, question, marker, address)
+            notes += older
         of = shown(name) + ": " if given.is_several else ""
         told_of(run, same, given.is_quiet, of)
         for text in notes:

@@ -30,6 +30,11 @@ class Image:
         self.place = None  # where the file lies, if its debug information was looked for
         self.base = lambda: 0  # the address in it of its first byte when it is loaded
 
+    @property
+    def address_size(self):
+        """The bytes of an address, as far as the format tells."""
+        return 8 if self.sizes == (8,) else 4
+
     def add(self, name, data, offset, size, unpack=None):
         """Keeps where a section lies, if it is one that is asked for."""
         if name[:1] == ".":

@@ -134,11 +134,11 @@ class Question:
     """What the program is asked of an image: the sections as files, and the options that hand them over, where the word takes them."""
 
     def __init__(self, image, taken):
-        self.image, self.taken, self.files = image, taken, {}
+        self.image, self.taken, self.files, self.others = image, taken, {}, []
+        self.versions = (5,)  # those of units that are read
         for name in JUDGED:
             if image.has(name):
-                self.files[name] = unnamed(image.pieces(name))
-                os.set_inheritable(self.files[name], True)
+                self.put(name, unnamed(image.pieces(name)))
         self.options = {"--big": []} if image.big else {}
         self.options.update((option, [self.name_of(name)]) for option, name in STRINGS.items() if image.has(name))
 
@@ -146,8 +146,22 @@ class Question:
         return self
 
     def __exit__(self, *_):
-        for file in self.files.values():
+        for file in [*self.files.values(), *self.others]:
             os.close(file)
+
+    def put(self, section, file):
+        """Has a file as a section, in the place of another one, if there is one."""
+        before = self.files.get(section)
+        os.set_inheritable(file, True)
+        self.files[section] = file
+        if before is not None:
+            os.close(before)
+
+    def kept(self, file):
+        """Keeps another file for the program, and gives the name by which that opens it."""
+        os.set_inheritable(file, True)
+        self.others.append(file)
+        return "/proc/self/fd/%d" % file
 
     def name_of(self, section):
         """The name by which a program that inherits the file opens it."""
@@ -165,7 +179,7 @@ class Question:
 
     def verdict(self, *words):
         """The first line about the section itself, and the notes to it."""
-        run = self.run("verify", words, taken=self.options)
+        run = self.run("verify", words, taken={"--big", *STRINGS})
         line = b"".join(run.pieces())
         run.end()
         return os.fsdecode(line).rstrip("\n"), os.fsdecode(run.notes)

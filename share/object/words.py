@@ -7,6 +7,7 @@ from telling import put_error, shown
 
 FILE = "A program, its debug information apart, a .dSYM folder, or - for standard input"
 OUTPUT = ("-o, --output <FILE>", "Writes the answer to a file, whole where the status is 0, and else not at all")
+OLDER = ("--older", "Upgrades units of versions 2 to 4 to version 5 first; offsets of units are then those of the upgraded section")
 RECURSIVE = ("-r, --recursive", "Takes all programs in the folders among FILEs, and passes over what has no line numbers")
 BASE = ("--base <ADDRESS>", "The address at which the program was loaded, which is taken away from each address")
 SYMBOLIZE = ("symbolize", "Passes a text through, with the path, line and column behind each address that is in it")
@@ -48,9 +49,9 @@ class Word:
         self.name, self.text = name, text
         self.usage = text.partition("\nUsage: ")[2].partition("\n")[0]
         self.arguments = rows(text, "Arguments")
-        # Its answer is bytes, and not lines, where it converts a section.
-        self.takes_many = name != "convert" and len(self.arguments) == 1
-        self.own = [OUTPUT] + [RECURSIVE] * self.takes_many
+        # Its answer is bytes, and not lines, where it prints a section.
+        self.takes_many = name not in ("convert", "upgrade") and len(self.arguments) == 1
+        self.own = [OLDER] * (name != "upgrade") + [OUTPUT] + [RECURSIVE] * self.takes_many
         self.options = rows(text, "Options")
         # What the program is asked in its place, with what else, and what it is fed first.
         self.engine, self.added, self.probe = name, [], b""
@@ -59,7 +60,7 @@ class Word:
     def help(self):
         """Its help, as it is here."""
         first = "<FILE>..." if self.takes_many else "<FILE>"
-        usage = self.usage.replace("<SECTION>", first)
+        usage = without_size(self.usage.replace("<SECTION>", first))
         arguments = [(first, FILE)] + self.arguments[1:]
         options = [(left if left.startswith("-") and left[1] != "-" else "    " + left, right) for left, right in self.options]
         options[-1:-1] = [(left if left[1] != "-" else "    " + left, right) for left, right in self.own]
@@ -77,7 +78,7 @@ class Symbolize(Word):
         self.text = SYMBOLIZE[1] + "\n" + self.text.partition("\n")[2]
         self.takes_many = False
         self.arguments = self.arguments[:1]
-        self.own = [BASE, OUTPUT]
+        self.own = [OLDER, BASE, OUTPUT]
         self.engine, self.added, self.probe = "lookup", ["--addresses", "-"], b"0x0\n"
         self.options = [row for row in self.options if names_of(row[0])[-1] not in ("--addresses", "--op")]
         self.taken -= {"--addresses", "--op"}
@@ -143,9 +144,16 @@ class Given:
         return ["--"] * (self.is_closed and bool(self.others)) + self.others
 
 
+def without_size(usage):
+    """How a word is used, without the size of addresses, which is given here."""
+    start, is_there, rest = usage.partition(" --address-size <")
+    return start + rest.partition(">")[2] if is_there else usage
+
+
 def renamed(text):
     """A text of the program about how it is used, as it is here."""
-    return text.replace("Usage: linetab ", "Usage: linetab-object ").replace("'linetab'", "'linetab-object'").replace("<SECTION>", "<FILE>")
+    text = without_size(text.replace("Usage: linetab ", "Usage: linetab-object "))
+    return text.replace("'linetab'", "'linetab-object'").replace("<SECTION>", "<FILE>")
 
 
 def put_usage(text):
@@ -155,6 +163,8 @@ def put_usage(text):
 def misused(word, given):
     """Tells what the program says of these words, without those that are given for it, and gives its status."""
     words = [part for option in given.options for part in option]
+    if word.name == "upgrade" and "--address-size" not in given.names:
+        words += ["--address-size", "8"]
     status, _, said = asked([word.engine, *words, *word.added, *given.files[:1], *given.behind()])
     said = renamed(said)
     if word.probe:
