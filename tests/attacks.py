@@ -4,6 +4,7 @@ bytes that are given and 8 MB, or within what docs/LIMITS.md says of the shape. 
 The last line is 'N passed, M failed'."""
 
 import os
+import struct
 import subprocess
 import sys
 import tempfile
@@ -129,6 +130,24 @@ def two_files(count):
     return {"line": one_sequence(long_directory(count) + TWO_FILES, b"\4\0\x20\4\1\x20" * (count // 2))}
 
 
+def older(files):
+    """A unit of version 4 with these files and no program."""
+    header = bytes([1, 1, 1, 0xFB, 14, 1]) + b"\0" + files + b"\0"
+    return struct.pack("<IHI", 6 + len(header), 4, len(header)) + header
+
+
+def older_units(count):
+    """Units of version 4 with a file each, and a directory for each of them."""
+    unit = older(b"a\0\0\0\0")
+    records = (b"%d,/build/%d\n" % (place * len(unit), place) for place in range(count))
+    return {"line": unit * count, "directories": b"unit,directory\n" + b"".join(records)}
+
+
+def older_files(count):
+    """A unit of version 4 with many files."""
+    return {"line": older(b"a\0\0\0\0" * count)}
+
+
 def overlap_of_many_files(count):
     """Two sequences of the same addresses, in a unit of many files without a name."""
     return {"line": PLAIN.unit(bytes([1, 1, 8, 1, 0, 1, 1, 8]) + leb(count) + b"\0" * count, sequence(0x1000) * 2)}
@@ -175,6 +194,12 @@ SLOW = {
     "many addresses of a long sequence": (many_addresses, 20_000, ["lookup LINE --addresses ADDRESSES"]),
     "columns of a file with a long path": (columns_of_one_file, 40_000, ["check LINE TABLE", "check LINE TABLE --all"]),
     "two files of a long path": (two_files, 40_000, ["table LINE --lines"]),
+    "many older units": (
+        older_units,
+        60_000,
+        ["upgrade LINE --address-size 8", "upgrade LINE --address-size 8 --directories DIRECTORIES"],
+    ),
+    "many files of an older unit": (older_files, 800_000, ["upgrade LINE --address-size 8"]),
 }
 
 

@@ -58,6 +58,11 @@ in_turn 'headers' dump examples/gc-sections.debug_line
 in_turn 'headers with sums' dump --big examples/powerpc64.debug_line
 in_turn 'operations and rows' dump --ops --rows examples/hello.debug_line
 in_turn 'a table' table examples/hello.debug_line --line-str examples/hello.debug_line_str
+# Twenty units of version 4 with a file each, and the directories of two.
+older='\23\0\0\0\4\0\15\0\0\0\1\1\1\373\16\1\0a\0\0\0\0\0'
+for _ in {1..20}; do printf "$older"; done >"$work/older"
+printf 'unit,directory\n0,/a\n23,/b\n' >"$work/directories"
+in_turn 'older units' upgrade "$work/older" --address-size 8 --directories "$work/directories"
 in_turn 'a check' check examples/hello.debug_line examples/hello.csv --line-str examples/hello.debug_line_str
 "$program" table --paths examples/hello.debug_line --line-str examples/hello.debug_line_str >"$work/paths"
 in_turn 'a check by path' check examples/hello.debug_line "$work/paths" --line-str examples/hello.debug_line_str
