@@ -183,7 +183,7 @@ cp "$tree/sources.bash" "$work/sources_before"
 sed -i 's/^silence=.*/silence=1/' "$tree/sources.bash"
 touch "$work/slow_lnt_cli" "$work/slow_linetab"
 with_rt "$tree/linetab" units "$section" 2>&1 >/dev/null |
-  sed -E 's/[0-9]+ s$/N s/; s/( or next)?: lnt_cli( lnt_system)? \([0-9]+/: lnt_cli (N/' >"$work/told"
+  sed -E 's/[0-9]+ s$/N s/; s/( or next)?: lnt_cli \([0-9]+/: lnt_cli (N/' >"$work/told"
 expect 'what is under way' 0 "linetab: under way: lnt_cli (N of $all proved), N s"$'\n' '' grep -m 1 'way: lnt_cli' "$work/told"
 expect 'and of the program' 0 $'linetab: under way: linetab, N s\n' '' grep -m 1 'way: linetab' "$work/told"
 rm "$work/slow_lnt_cli" "$work/slow_linetab"

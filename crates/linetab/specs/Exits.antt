@@ -1,7 +1,7 @@
 -- The exit status with which the process ends.
 use Rattle.std.specs.Prelude.{ℕ, Result, Ok, Err}
-use Rattle.lnt_sources.specs.declared.status.Status.{Status}
-use Rattle.lnt_sources.specs.declared.status.Status.TheVariants.{Done, No}
+use Rattle.lnt_io.specs.declared.status.Status.{Status}
+use Rattle.lnt_io.specs.declared.status.Status.TheVariants.{Done, No}
 use Rattle.lnt_cli.specs.declared.stop.CliStop.{CliStop}
 use Rattle.lnt_cli.specs.declared.stop.CliStop.TheVariants.{Usage, Read, TooLong, Write, Memory}
 

@@ -2,15 +2,18 @@
 #![tactic(auto)]
 
 mod exit;
+mod output;
+mod system;
 
 use exit::exit_code;
 use lnt_cli::{CliStop, Status, run_with_notes};
-use lnt_system::{Output, System, hold_standard_descriptors};
+use output::Output;
 use std::alloc::Global;
 use std::cell::Cell;
 use std::env;
 use std::io::{self, BufWriter, ErrorKind, Write};
 use std::process::ExitCode;
+use system::{System, hold_standard_descriptors};
 
 fn main(rt: HostRuntime) -> ExitCode {
     let _held = hold_standard_descriptors(&rt);

@@ -6,10 +6,10 @@ use Rattle.std.proofs.lemmas.List.Concat.{flat_map-append}
 use Rattle.std.proofs.ByRecursion.{All-append as all_append}
 use Rattle.std.specs.List.{flat_map}
 use Rattle.std.specs.Str.Lines.{lines, strip_carriage_return}
-use Rattle.lnt_output.specs.Fronts.{AppendsFront}
-use Rattle.lnt_output.proofs.FrontLaws.{front_after, front_all, front_before, front_none, front_same}
-use Rattle.lnt_input.specs.Pulling.{Pulls, IsAtEnd}
-use Rattle.lnt_sources.specs.declared.status.Status.{Status}
+use Rattle.lnt_io.specs.Fronts.{AppendsFront}
+use Rattle.lnt_io.proofs.FrontLaws.{front_after, front_all, front_before, front_none, front_same}
+use Rattle.lnt_io.specs.Pulling.{Pulls, IsAtEnd}
+use Rattle.lnt_io.specs.declared.status.Status.{Status}
 use Rattle.lnt_spans.specs.declared.position.Position.{Position}
 use Rattle.lnt_header.specs.declared.unit_parts.UnitParts.{UnitParts}
 use Rattle.lnt_lines.specs.Indexed.{Indexed, IsIndexOf}

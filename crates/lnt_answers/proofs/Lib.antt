@@ -2,8 +2,14 @@ pub mod AddressFronts
 pub mod AddressLemmas
 pub mod AddressWholes
 pub mod CommaLemmas
+pub mod DifferenceLemmas
+pub mod DigestLemmas
 pub mod FileLemmas
+pub mod PathStretchLemmas
+pub mod PathTableLemmas
 pub mod RoomLaws
+pub mod RoomLemmas
+pub mod StretchLemmas
 pub mod SumFronts
 pub mod SumLaws
 pub mod SumLemmas

@@ -6,11 +6,11 @@ use Rattle.std.specs.List.{AllByRecursion, flat_map}
 use Rattle.std.specs.Io.KnownBytes.{Appends, append_known}
 use Rattle.std.proofs.lemmas.List.{append_cancel_left, map-append}
 use Rattle.std.proofs.lemmas.List.Concat.{flat_map-append}
-use Rattle.lnt_output.specs.Fronts.{AppendsFront, HasBegun}
-use Rattle.lnt_output.proofs.FrontLaws.{appends_known, front_after, front_before, front_none, front_same}
-use Rattle.lnt_sources.specs.Files.{TellsNoMore}
-use Rattle.lnt_sources.specs.declared.status.Status.{Status}
-use Rattle.lnt_sums.specs.declared.sums.Agreement.{Agreement}
+use Rattle.lnt_io.specs.Fronts.{AppendsFront, HasBegun}
+use Rattle.lnt_io.proofs.FrontLaws.{appends_known, front_after, front_before, front_none, front_same}
+use Rattle.lnt_io.specs.Files.{FileState, TellsNoMore}
+use Rattle.lnt_io.specs.declared.status.Status.{Status}
+use Rattle.lnt_answers.specs.declared.digest.Agreement.{Agreement}
 use Rattle.lnt_text.specs.Quotes.{quoted_text}
 use Rattle.lnt_lines.specs.Indexed.{file_path_in, file_sum_in, Indexed}
 use Rattle.lnt_files.specs.Paths.{path_or_empty}
@@ -20,7 +20,7 @@ use Rattle.lnt_answers.proofs.SumLaws.{true_later}
 use Rattle.lnt_answers.proofs.SumLemmas.{sum_listed, true_joined, units_more}
 
 -- A writer has gained a front of the lines of true findings for these files.
-record HasBegunSums (tells : List ℕ → Option (List ℕ) → Type 0) (index : Indexed) (files : List (ℕ × ℕ)) (old new : Option (List ℕ)) : Type
+record HasBegunSums (tells : List ℕ → FileState → Type 0) (index : Indexed) (files : List (ℕ × ℕ)) (old new : Option (List ℕ)) : Type
     0 where
   pub findings : List Finding
   pub places : map file_of findings ≡ files
@@ -41,7 +41,7 @@ unread_one : (tells : Option (List ℕ) → Type 0) (sum : Option (List ℕ)) �
 unread_one tells None = tt
 unread_one tells (Some listed) = tt
 
-unread_true : (tells : List ℕ → Option (List ℕ) → Type 0) (index : Indexed) (files : List (ℕ × ℕ))
+unread_true : (tells : List ℕ → FileState → Type 0) (index : Indexed) (files : List (ℕ × ℕ))
     → AllByRecursion (IsTrueFinding tells index) (map unread files)
 unfolding unread
 unread_true tells index [] = tt
@@ -52,7 +52,7 @@ unread_true tells index (place ∷ files) = (
 
 -- ---- joins
 
-begun_before : (tells : List ℕ → Option (List ℕ) → Type 0) (index : Indexed) (files more : List (ℕ × ℕ)) (old new : Option (List ℕ))
+begun_before : (tells : List ℕ → FileState → Type 0) (index : Indexed) (files more : List (ℕ × ℕ)) (old new : Option (List ℕ))
     → HasBegunSums tells index files old new → HasBegunSums tells index (files ++ more) old new
 begun_before tells index files more old new so = record {
   findings = so.findings ++ map unread more;
@@ -63,7 +63,7 @@ begun_before tells index files more old new so = record {
       (front_before old new (flat_map (sum_line index) so.findings) (flat_map (sum_line index) (map unread more)) so.front);
 }
 
-begun_after : (tells tells' : List ℕ → Option (List ℕ) → Type 0) (index : Indexed) (files more : List (ℕ × ℕ)) (a b c : Option (List ℕ))
+begun_after : (tells tells' : List ℕ → FileState → Type 0) (index : Indexed) (files more : List (ℕ × ℕ)) (a b c : Option (List ℕ))
     (s : Status) → TellsNoMore tells tells' → AreSumsTold tells index files a b s → HasBegunSums tells' index more b c
     → HasBegunSums tells index (files ++ more) a c
 begun_after tells tells' index files more a b c s later so next = record {
@@ -81,7 +81,7 @@ front_of : (old new : Option (List ℕ)) (whole texts : List ℕ) → Appends ol
 front_of None new whole texts all f = record { front = []; rest = texts; joined = refl; gained = tt }
 front_of (Some xs) new whole texts all f = front_same (Some xs) new whole texts (append_cancel_left xs whole texts all) f
 
-begun_of : (tells : List ℕ → Option (List ℕ) → Type 0) (index : Indexed) (files : List (ℕ × ℕ)) (old new : Option (List ℕ))
+begun_of : (tells : List ℕ → FileState → Type 0) (index : Indexed) (files : List (ℕ × ℕ)) (old new : Option (List ℕ))
     → HasBegun (AreSumsTold tells index files old) old new → HasBegunSums tells index files old new
 begun_of tells index files old new h = record {
   findings = h.is_end.findings;
@@ -90,7 +90,7 @@ begun_of tells index files old new h = record {
   front = front_of old new h.whole (flat_map (sum_line index) h.is_end.findings) h.is_end.printed h.front;
 }
 
-begun_is : (tells : List ℕ → Option (List ℕ) → Type 0) (index : Indexed) (files : List (ℕ × ℕ)) (old new : Option (List ℕ))
+begun_is : (tells : List ℕ → FileState → Type 0) (index : Indexed) (files : List (ℕ × ℕ)) (old new : Option (List ℕ))
     → HasBegunSums tells index files old new → HasBegun (AreSumsTold tells index files old) old new
 begun_is tells index files old new so = record {
   whole = flat_map (sum_line index) so.findings;
@@ -108,7 +108,7 @@ begun_is tells index files old new so = record {
 -- ---- a file
 
 -- nothing was written
-pub sums_unbegun : (tells : List ℕ → Option (List ℕ) → Type 0) (index : Indexed) (files : List (ℕ × ℕ)) (old : Option (List ℕ))
+pub sums_unbegun : (tells : List ℕ → FileState → Type 0) (index : Indexed) (files : List (ℕ × ℕ)) (old : Option (List ℕ))
     → HasBegun (AreSumsTold tells index files old) old old
 sums_unbegun tells index files old =
     begun_is tells index files old old (record {
@@ -119,7 +119,7 @@ sums_unbegun tells index files old =
     })
 
 -- the writer stopped within the line of a file
-pub sum_stopped : (tells : List ℕ → Option (List ℕ) → Type 0) (index : Indexed) (unit file : ℕ) (a b : Option (List ℕ))
+pub sum_stopped : (tells : List ℕ → FileState → Type 0) (index : Indexed) (unit file : ℕ) (a b : Option (List ℕ))
     (listed path shown bytes : List ℕ) (found : Option Agreement) → file_sum_in index unit file ≡ Some listed
     → path ≡ path_or_empty (file_path_in index unit file) → shown ≡ path_or_empty (file_path_in index unit file)
     → IsTrueOfFile (tells path) listed found
@@ -153,7 +153,7 @@ listed_after index unit file (suc k) =
           (sym (append_assoc first before.0 here) ∙ ap (λ (l : List (ℕ × ℕ)). l ++ here) before.1),
     )
 
-pub sums_stopped : (tells tells' : List ℕ → Option (List ℕ) → Type 0) (index : Indexed) (unit file count : ℕ) (a b c : Option (List ℕ))
+pub sums_stopped : (tells tells' : List ℕ → FileState → Type 0) (index : Indexed) (unit file count : ℕ) (a b c : Option (List ℕ))
     (s : Status) → file < count → TellsNoMore tells tells' → AreSumsTold tells index (listed_below index unit file) a b s
     → HasBegun (AreSumsTold tells' index (listed_at index unit file) b) b c
     → HasBegun (AreSumsTold tells index (listed_below index unit count) a) a c
@@ -168,7 +168,7 @@ sums_stopped tells tells' index unit file count a b c s lt later so next =
 
 -- ---- the files of all units
 
-pub units_stopped : (tells tells' : List ℕ → Option (List ℕ) → Type 0) (index : Indexed) (units : List ℕ) (i d : ℕ)
+pub units_stopped : (tells tells' : List ℕ → FileState → Type 0) (index : Indexed) (units : List ℕ) (i d : ℕ)
     (a b c : Option (List ℕ)) (s : Status) → i < length units → TellsNoMore tells tells'
     → AreSumsTold tells index (flat_map (listed_in index) (take i units)) a b s
     → HasBegun (AreSumsTold tells' index (listed_in index (get_or units i d)) b) b c

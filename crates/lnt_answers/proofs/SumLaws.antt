@@ -1,9 +1,9 @@
 -- Findings stay true where more may be told of the files.
 use Rattle.std.proofs.Common.{ℕ, List, [], ◌∷◌, Option, Some, None, IfSome}
 use Rattle.std.specs.List.{AllByRecursion}
-use Rattle.lnt_sources.specs.Files.{TellsNoMore}
-use Rattle.lnt_sources.specs.declared.status.Status.{Status}
-use Rattle.lnt_sums.specs.declared.sums.Agreement.{Agreement}
+use Rattle.lnt_io.specs.Files.{FileState, TellsNoMore}
+use Rattle.lnt_io.specs.declared.status.Status.{Status}
+use Rattle.lnt_answers.specs.declared.digest.Agreement.{Agreement}
 use Rattle.lnt_lines.specs.Indexed.{file_path_in, file_sum_in, Indexed}
 use Rattle.lnt_files.specs.Paths.{path_or_empty}
 use Rattle.lnt_answers.specs.SumLines.{AreSumsTold, Finding, IsTrueOfFile, IsTrueFinding}
@@ -20,7 +20,7 @@ true_of_sum tells tells' None found later so = tt
 true_of_sum tells tells' (Some listed) found later so = found_later tells tells' listed found later so
 
 -- true findings
-pub true_later : (tells tells' : List ℕ → Option (List ℕ) → Type 0) (index : Indexed) (findings : List Finding) → TellsNoMore tells tells'
+pub true_later : (tells tells' : List ℕ → FileState → Type 0) (index : Indexed) (findings : List Finding) → TellsNoMore tells tells'
     → AllByRecursion (IsTrueFinding tells' index) findings → AllByRecursion (IsTrueFinding tells index) findings
 true_later tells tells' index [] later so = tt
 true_later tells tells' index (finding ∷ findings) later so = (
@@ -31,7 +31,7 @@ true_later tells tells' index (finding ∷ findings) later so = (
 )
 
 -- the lines that were printed for them
-pub sums_later : (tells tells' : List ℕ → Option (List ℕ) → Type 0) (index : Indexed) (files : List (ℕ × ℕ)) (old new : Option (List ℕ))
+pub sums_later : (tells tells' : List ℕ → FileState → Type 0) (index : Indexed) (files : List (ℕ × ℕ)) (old new : Option (List ℕ))
     (status : Status) → TellsNoMore tells tells' → AreSumsTold tells' index files old new status
     → AreSumsTold tells index files old new status
 sums_later tells tells' index files old new status later so = record {

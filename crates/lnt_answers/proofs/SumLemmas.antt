@@ -7,11 +7,11 @@ use Rattle.std.specs.Io.KnownBytes.{Appends}
 use Rattle.std.proofs.KnownBytes.{Appends-trans}
 use Rattle.std.proofs.lemmas.List.{map-append, take_all, take_more}
 use Rattle.std.proofs.lemmas.List.Concat.{flat_map-append}
-use Rattle.lnt_sources.specs.Files.{TellsNoMore}
-use Rattle.lnt_sources.specs.declared.status.Status.{Status}
-use Rattle.lnt_sources.specs.declared.status.Status.TheVariants.{Done, No}
-use Rattle.lnt_sums.specs.declared.sums.Agreement.{Agreement}
-use Rattle.lnt_sums.specs.declared.sums.Agreement.TheVariants.{Same, Differs}
+use Rattle.lnt_io.specs.Files.{FileState, TellsNoMore}
+use Rattle.lnt_io.specs.declared.status.Status.{Status}
+use Rattle.lnt_io.specs.declared.status.Status.TheVariants.{Done, No}
+use Rattle.lnt_answers.specs.declared.digest.Agreement.{Agreement}
+use Rattle.lnt_answers.specs.declared.digest.Agreement.TheVariants.{Same, Differs}
 use Rattle.lnt_text.specs.Quotes.{quoted_text}
 use Rattle.lnt_lines.specs.Indexed.{file_path_in, file_sum_in, Indexed}
 use Rattle.lnt_files.specs.Paths.{path_or_empty}
@@ -21,7 +21,7 @@ use Rattle.lnt_answers.specs.SumLines.{head_text, listed_at, listed_below, liste
 
 -- ---- joins
 
-pub true_joined : (tells : List ℕ → Option (List ℕ) → Type 0) (index : Indexed) (first second : List Finding)
+pub true_joined : (tells : List ℕ → FileState → Type 0) (index : Indexed) (first second : List Finding)
     → AllByRecursion (IsTrueFinding tells index) first → AllByRecursion (IsTrueFinding tells index) second
     → AllByRecursion (IsTrueFinding tells index) (first ++ second)
 true_joined tells index [] second all more = more
@@ -42,7 +42,7 @@ status_alone None = refl
 status_alone (Some Same) = refl
 status_alone (Some (Differs sum)) = refl
 
-sums_joined : (tells tells' : List ℕ → Option (List ℕ) → Type 0) (index : Indexed) (files more : List (ℕ × ℕ)) (a b c : Option (List ℕ))
+sums_joined : (tells tells' : List ℕ → FileState → Type 0) (index : Indexed) (files more : List (ℕ × ℕ)) (a b c : Option (List ℕ))
     (s t : Status) → TellsNoMore tells tells' → AreSumsTold tells index files a b s → AreSumsTold tells' index more b c t
     → AreSumsTold tells index (files ++ more) a c (both s t)
 sums_joined tells tells' index files more a b c s t later so next = record {
@@ -60,7 +60,7 @@ sums_joined tells tells' index files more a b c s t later so next = record {
 -- ---- the files of a unit
 
 -- a file with a listed sum, its path and the finding
-pub sum_listed : (tells : List ℕ → Option (List ℕ) → Type 0) (index : Indexed) (unit file : ℕ) (a b : Option (List ℕ))
+pub sum_listed : (tells : List ℕ → FileState → Type 0) (index : Indexed) (unit file : ℕ) (a b : Option (List ℕ))
     (listed path shown : List ℕ) (found : Option Agreement) (status : Status) → file_sum_in index unit file ≡ Some listed
     → path ≡ path_or_empty (file_path_in index unit file) → shown ≡ path_or_empty (file_path_in index unit file)
     → IsTrueOfFile (tells path) listed found
@@ -84,7 +84,7 @@ sum_listed tells index unit file a b listed path shown found status is path_is s
     }
 
 -- with one file more
-pub sums_more : (tells tells' : List ℕ → Option (List ℕ) → Type 0) (index : Indexed) (unit file : ℕ) (a b c : Option (List ℕ))
+pub sums_more : (tells tells' : List ℕ → FileState → Type 0) (index : Indexed) (unit file : ℕ) (a b c : Option (List ℕ))
     (s t : Status) → TellsNoMore tells tells' → AreSumsTold tells index (listed_below index unit file) a b s
     → AreSumsTold tells' index (listed_at index unit file) b c t
     → AreSumsTold tells index (listed_below index unit (file + 1)) a c (both s t)
@@ -103,7 +103,7 @@ units_more index units i d lt =
     ∙ ap (λ list. flat_map (listed_in index) (take i units) ++ list) (append-nil (listed_in index (get_or units i d)))
 
 -- with one unit more
-pub sums_of_more : (tells tells' : List ℕ → Option (List ℕ) → Type 0) (index : Indexed) (units : List ℕ) (i d : ℕ) (a b c : Option (List ℕ))
+pub sums_of_more : (tells tells' : List ℕ → FileState → Type 0) (index : Indexed) (units : List ℕ) (i d : ℕ) (a b c : Option (List ℕ))
     (s t : Status) → i < length units → TellsNoMore tells tells'
     → AreSumsTold tells index (flat_map (listed_in index) (take i units)) a b s
     → AreSumsTold tells' index (listed_in index (get_or units i d)) b c t
@@ -114,7 +114,7 @@ sums_of_more tells tells' index units i d a b c s t lt later so next =
     next)
 
 -- with all of them
-pub sums_of_all : (tells : List ℕ → Option (List ℕ) → Type 0) (index : Indexed) (units : List ℕ) (i : ℕ) (a b : Option (List ℕ))
+pub sums_of_all : (tells : List ℕ → FileState → Type 0) (index : Indexed) (units : List ℕ) (i : ℕ) (a b : Option (List ℕ))
     (s : Status) → length units ≤ i → AreSumsTold tells index (flat_map (listed_in index) (take i units)) a b s
     → AreSumsTold tells index (flat_map (listed_in index) units) a b s
 sums_of_all tells index units i a b s le so =

@@ -2,7 +2,7 @@
 use Rattle.std.specs.Prelude.{◌≡◌, ◌==◌, ◌+◌, false, ℕ, List, ◌∷◌, ◌++◌, take, drop, Option}
 use Rattle.std.specs.List.{All}
 use Rattle.std.specs.Str.Lines.{lines}
-use Rattle.lnt_sources.specs.declared.status.Status.{Status}
+use Rattle.lnt_io.specs.declared.status.Status.{Status}
 use Rattle.lnt_lines.specs.Indexed.{Indexed}
 use Rattle.lnt_answers.specs.AddressLines.{AreLinesBegun, AreLinesTold}
 

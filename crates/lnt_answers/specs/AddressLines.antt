@@ -3,9 +3,9 @@ use Rattle.std.specs.Prelude.{◌≡◌, Bool, ℕ, List, [], ◌∷◌, ◌++�
 use Rattle.std.specs.List.{AllByRecursion, flat_map}
 use Rattle.std.specs.Io.KnownBytes.{Appends}
 use Rattle.std.specs.Str.Lines.{lines}
-use Rattle.lnt_output.specs.Fronts.{AppendsFront}
-use Rattle.lnt_sources.specs.declared.status.Status.{Status}
-use Rattle.lnt_sources.specs.declared.status.Status.TheVariants.{Done, No}
+use Rattle.lnt_io.specs.Fronts.{AppendsFront}
+use Rattle.lnt_io.specs.declared.status.Status.{Status}
+use Rattle.lnt_io.specs.declared.status.Status.TheVariants.{Done, No}
 use Rattle.lnt_spans.specs.declared.position.Position.{Position}
 use Rattle.lnt_header.specs.declared.unit_parts.UnitParts.{UnitParts}
 use Rattle.lnt_lines.specs.Indexed.{Indexed, IsIndexOf}

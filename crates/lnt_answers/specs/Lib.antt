@@ -1,6 +1,12 @@
 pub mod AddressBlocks
 pub mod AddressLines
+pub mod Agreements
+pub mod DifferenceLines
 pub mod FileLines
 pub mod Laws
 pub mod Lines
+pub mod PathTables
+pub mod Stepping
+pub mod Stretches
 pub mod SumLines
+pub mod Verdicts

@@ -8,7 +8,7 @@ use Rattle.lnt_lines.specs.declared.no.No.{No}
 use Rattle.lnt_lines.specs.declared.section.JudgedIndex.{JudgedIndex}
 use Rattle.lnt_lines.specs.declared.section.JudgedIndex.TheVariants.{Good, Bad}
 use Rattle.lnt_header.specs.declared.unit_parts.UnitParts.{UnitParts}
-use Rattle.lnt_output.specs.Fronts.{AppendsFront}
+use Rattle.lnt_io.specs.Fronts.{AppendsFront}
 use Rattle.lnt_sequences.specs.Sequences.{line_answer}
 use Rattle.lnt_lines.specs.Indexed.{file_path_in, Indexed}
 use Rattle.lnt_digits.specs.Digits.{IsAddress, IsDecimal}

@@ -4,13 +4,14 @@ use Rattle.std.specs.Prelude.{◌≡◌, ℕ, List, [], ◌∷◌, ◌++◌, map
 use Rattle.std.specs.List.{AllByRecursion, flat_map}
 use Rattle.std.specs.Option.{option_map_or}
 use Rattle.std.specs.Io.KnownBytes.{Appends}
+use Rattle.lnt_io.specs.Files.{FileState}
 use Rattle.hex.specs.Hex.{encode_lower}
 use Rattle.md5.specs.Md5.{md5}
-use Rattle.lnt_sources.specs.declared.status.Status.{Status}
-use Rattle.lnt_sources.specs.declared.status.Status.TheVariants.{Done, No}
-use Rattle.lnt_sums.specs.declared.sums.Agreement.{Agreement}
-use Rattle.lnt_sums.specs.declared.sums.Agreement.TheVariants.{Same, Differs}
-use Rattle.lnt_sums.specs.Agreements.{Agrees}
+use Rattle.lnt_io.specs.declared.status.Status.{Status}
+use Rattle.lnt_io.specs.declared.status.Status.TheVariants.{Done, No}
+use Rattle.lnt_answers.specs.declared.digest.Agreement.{Agreement}
+use Rattle.lnt_answers.specs.declared.digest.Agreement.TheVariants.{Same, Differs}
+use Rattle.lnt_answers.specs.Agreements.{Agrees}
 use Rattle.lnt_text.specs.Quotes.{quoted_text}
 use Rattle.lnt_lines.specs.Indexed.{file_count_in, file_path_in, file_sum_in, Indexed}
 use Rattle.lnt_files.specs.Paths.{path_or_empty}
@@ -49,7 +50,7 @@ IsTrueOfFile tells listed (Some agreement) =
     (told : Option (List ℕ)) × tells told × IfSome told (λ bytes. Agrees agreement (md5 bytes) listed)
 
 -- The finding is true of the file at its listed path and of its listed sum.
-abbrev pub IsTrueFinding : (List ℕ → Option (List ℕ) → Type 0) → Indexed → Finding → Type 0
+abbrev pub IsTrueFinding : (List ℕ → FileState → Type 0) → Indexed → Finding → Type 0
 IsTrueFinding tells index finding =
     IfSome (file_sum_in index finding.unit finding.file)
     (λ listed. IsTrueOfFile (tells (path_or_empty (file_path_in index finding.unit finding.file))) listed finding.found)
@@ -88,7 +89,7 @@ sums_status (finding ∷ findings) = both (found_status finding.found) (sums_sta
 
 -- What was appended to a writer that held these bytes is a line with a true finding for each of these files, and nothing
 -- else.
-pub record AreSumsTold (tells : List ℕ → Option (List ℕ) → Type 0) (index : Indexed) (files : List (ℕ × ℕ)) (old new : Option (List ℕ))
+pub record AreSumsTold (tells : List ℕ → FileState → Type 0) (index : Indexed) (files : List (ℕ × ℕ)) (old new : Option (List ℕ))
     (status : Status) : Type 0 where
   pub findings : List Finding
   pub places : map file_of findings ≡ files

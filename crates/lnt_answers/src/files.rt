@@ -2,17 +2,16 @@
 ghost use Rattle.std.specs.Prelude.{◌≡◌, ◌<◌, IfErr, IfOk, OnErr, OnOk, Some, false, string_bytes};
 ghost use Rattle.std.specs.Io.KnownBytes.{Appends};
 ghost use Rattle.csv.specs.Writing as csv;
-ghost use Rattle.lnt_output.specs.Fronts.{AppendsFront};
-ghost use Rattle.lnt_sources.specs.declared.status.Status.TheVariants.{Done};
-ghost use Rattle.lnt_sources.specs.Halts.{IsPrinting};
+ghost use Rattle.lnt_io.specs.Fronts.{AppendsFront};
+ghost use Rattle.lnt_io.specs.declared.status.Status.TheVariants.{Done};
+ghost use Rattle.lnt_io.specs.Halts.{IsPrinting};
 ghost use Rattle.lnt_lines.specs.Indexed.{file_count_in, file_path_in, file_sum_in};
 ghost use Rattle.lnt_files.specs.Paths.{path_or_empty};
 ghost use Rattle.lnt_answers.specs.FileLines.{file_record, files_text, sum_field, unit_records};
 
 use csv::Writer;
+use lnt_io::{Halt, Status, write_whole};
 use lnt_lines::Index;
-use lnt_output::write_whole;
-use lnt_sources::{Halt, Status};
 use std::alloc::{AllocError, Global};
 use std::io::Write;
 

@@ -4,10 +4,8 @@ ghost use Rattle.std.specs.Io.KnownBytes.{Keeps};
 ghost use Rattle.lnt_lines.specs.Drafts.{IsJudgedIndex};
 ghost use Rattle.lnt_answers.specs.Lines.{HasBegunLine, IsIndexGiven, IsReasonTold};
 
-use lnt_input::Source;
+use lnt_io::{Halt, Source, write_whole};
 use lnt_lines::{JudgedIndex, Options, index_section};
-use lnt_output::write_whole;
-use lnt_sources::Halt;
 use lnt_wire::Strings;
 use std::alloc::Global;
 use std::io::Write;

@@ -1,19 +1,30 @@
-//! Prints the answers of a judged section as text.
+//! Prints what a judged section answers as text, and the results about address tables.
 //!
 //! [`judge_section`] gives the index of a good section, or prints why the section isn't good. From the index
-//! [`print_lookups`] and [`print_addresses`] print the answers at positions, [`print_files`] the files, and [`print_sums`]
-//! whether the files have their listed MD5 sums.
+//! [`print_lookups`] and [`print_addresses`] print the answers at positions, [`print_files`] the files, [`print_sums`]
+//! whether the files have their listed MD5 sums, and [`print_table`] and [`print_path_table`] the section's table.
+//! [`print_checked`] prints the line of a check's answer, and [`print_stretches`] a line for each stretch of positions at which
+//! a table and a section answer differently.
 #![tactic(auto)]
 
 mod addresses;
+mod differences;
+mod digest;
 mod files;
 mod judge;
 pub mod laws;
 mod lookup;
+mod stretches;
 mod sums;
+mod table;
+mod verdict;
 
 pub use addresses::print_addresses;
+pub use digest::{Agreement, md5_agrees, sum_of};
 pub use files::print_files;
 pub use judge::judge_section;
 pub use lookup::print_lookups;
+pub use stretches::{Stretches, print_stretches};
 pub use sums::{lists_sums, print_sums};
+pub use table::{print_path_table, print_table};
+pub use verdict::print_checked;

@@ -1,17 +1,16 @@
 //! Prints the answer at a position.
 ghost use Rattle.std.specs.Prelude.{◌≡◌, Bool, ℕ, List, ◌++◌, Option, IfErr, IfOk, IsSome, OnErr, OnOk, Some};
 ghost use Rattle.std.specs.Io.KnownBytes.{Appends};
-ghost use Rattle.lnt_sources.specs.declared.status.Status.TheVariants.{Done};
+ghost use Rattle.lnt_io.specs.declared.status.Status.TheVariants.{Done};
 ghost use Rattle.lnt_header.specs.declared.unit_parts.UnitParts.{UnitParts};
 ghost use Rattle.lnt_lines.specs.Indexed.{IsIndexOf, file_path_in};
-ghost use Rattle.lnt_output.specs.Fronts.{AppendsFront};
-ghost use Rattle.lnt_sources.specs.Halts.{IsPrinting};
+ghost use Rattle.lnt_io.specs.Fronts.{AppendsFront};
+ghost use Rattle.lnt_io.specs.Halts.{IsPrinting};
 ghost use Rattle.std.specs.List.{flat_map};
 ghost use Rattle.lnt_answers.specs.Lines.{answer_line, lookup_line, path_end, place_text, row_text};
 
+use lnt_io::{Halt, Status, write_whole};
 use lnt_lines::{Index, Lookups};
-use lnt_output::write_whole;
-use lnt_sources::{Halt, Status};
 use lnt_spans::{Answer, Position, Probes};
 use lnt_text::{PositionText, Quoted};
 use std::alloc::Global;

@@ -2,20 +2,18 @@
 ghost use Rattle.std.specs.Prelude.{◌≡◌, ◌↔◌, ◌<◌, ◌++◌, IfErr, IfOk, IsSome, IsTrue, OnErr, OnOk, codes};
 ghost use Rattle.std.specs.List.{Any};
 ghost use Rattle.std.specs.Io.KnownBytes.{Appends};
-ghost use Rattle.lnt_output.specs.Fronts.{HasBegun};
-ghost use Rattle.lnt_sources.specs.Files.{TellsNoMore};
-ghost use Rattle.lnt_sources.specs.Halts.{IsPrinting};
+ghost use Rattle.lnt_io.specs.Fronts.{HasBegun};
+ghost use Rattle.lnt_io.specs.Files.{TellsNoMore};
+ghost use Rattle.lnt_io.specs.Halts.{IsPrinting};
 ghost use Rattle.lnt_lines.specs.Indexed.{file_count_in, file_sum_in};
 ghost use Rattle.lnt_text.specs.Quotes.{quoted_text};
 ghost use Rattle.lnt_answers.specs.SumLines.{AreSumsTold, IsTrueOfFile, both, found_status, found_text, head_text};
 ghost use Rattle.lnt_answers.specs.SumLines.{listed_at, listed_files, listed_in};
 
 use crate::files::path_of;
-use lnt_input::Counted;
+use crate::{Agreement, md5_agrees};
+use lnt_io::{Counted, Halt, LIMIT, Opener, Status, write_whole};
 use lnt_lines::Index;
-use lnt_output::write_whole;
-use lnt_sources::{Halt, LIMIT, Opener, Status};
-use lnt_sums::{Agreement, md5_agrees};
 use lnt_text::Quoted;
 use std::alloc::Global;
 use std::io::Write;

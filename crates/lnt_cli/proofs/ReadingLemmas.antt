@@ -1,12 +1,13 @@
 -- Sections that are read.
 use Rattle.std.proofs.Common.{◌≡◌, ℕ, Bool, List, ◌⊎◌, Option, Some, None, IfSome, Result, Ok, Err, IfOk, OnErr, inl, inr, refl}
 use Rattle.std.specs.Io.KnownBytes.{Keeps}
-use Rattle.lnt_output.specs.Fronts.{HasBegun}
+use Rattle.lnt_io.specs.Files.{FileState}
+use Rattle.lnt_io.specs.Fronts.{HasBegun}
 use Rattle.lnt_wire.specs.declared.format.Format.{Format}
 use Rattle.lnt_wire.specs.declared.format.Order.{Order}
-use Rattle.lnt_sources.specs.declared.halt.Halt.{Halt}
-use Rattle.lnt_sources.specs.declared.status.Status.{Status}
-use Rattle.lnt_sources.specs.declared.status.Status.TheVariants.{Done, No}
+use Rattle.lnt_io.specs.declared.halt.Halt.{Halt}
+use Rattle.lnt_io.specs.declared.status.Status.{Status}
+use Rattle.lnt_io.specs.declared.status.Status.TheVariants.{Done, No}
 use Rattle.lnt_unit.specs.Converting.{IsConverted}
 use Rattle.lnt_words.specs.declared.request.Reading.{Reading}
 use Rattle.lnt_words.specs.declared.request.Reading.TheVariants.{Convert, Dump, Units}
@@ -61,7 +62,7 @@ dump_stopped order ops rows None old new (Err halt) begun = tt
 dump_stopped order ops rows (Some bytes) old new (Err halt) begun = inr begun
 
 -- a front of the answer for the section's bytes is one for the named file
-begun_read : (tells : List ℕ → Option (List ℕ) → Type 0) (name : List ℕ) (order : Order) (reading : Reading)
+begun_read : (tells : List ℕ → FileState → Type 0) (name : List ℕ) (order : Order) (reading : Reading)
     (section old new : Option (List ℕ)) → tells name section
     → IfSome section (λ bytes. Keeps old new ⊎ BeginsReading order reading bytes old new)
     → Keeps old new ⊎ StopsRead tells name order reading old new
@@ -71,7 +72,7 @@ begun_read tells name order reading (Some bytes) old new told (inr begun) =
     inr (record { section_bytes = Some bytes; of_section = told; begun = begun })
 
 -- the same where the reading was stopped
-pub read_stopped : {T E : Type 0} (tells : List ℕ → Option (List ℕ) → Type 0) (name : List ℕ) (order : Order) (reading : Reading)
+pub read_stopped : {T E : Type 0} (tells : List ℕ → FileState → Type 0) (name : List ℕ) (order : Order) (reading : Reading)
     (section old new : Option (List ℕ)) (printed : Result T E) → tells name section
     → OnErr printed (IfSome section (λ bytes. Keeps old new ⊎ BeginsReading order reading bytes old new))
     → OnErr printed (Keeps old new ⊎ StopsRead tells name order reading old new)
@@ -80,7 +81,7 @@ read_stopped tells name order reading section old new (Err stop) told begun =
     begun_read tells name order reading section old new told begun
 
 -- The answer for the section's bytes is the answer for the named file.
-pub read_told : {E : Type 0} (tells : List ℕ → Option (List ℕ) → Type 0) (name : List ℕ) (order : Order) (reading : Reading)
+pub read_told : {E : Type 0} (tells : List ℕ → FileState → Type 0) (name : List ℕ) (order : Order) (reading : Reading)
     (section old new : Option (List ℕ)) (printed : Result Status E) → tells name section
     → IfOk printed (λ status. IfSome section (λ bytes. AnswersReading order reading bytes old new status))
     → IfOk printed (λ status. AnswersRead tells name order reading old new status)

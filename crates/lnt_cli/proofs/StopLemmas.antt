@@ -3,9 +3,9 @@ use Rattle.std.proofs.Common.{ℕ, List, ◌⊎◌, Option, IfSome, IsErr, Resul
 use Rattle.std.proofs.Common.{Bool, ◌++◌, codes}
 use Rattle.std.proofs.lemmas.Bool.{false≢true}
 use Rattle.std.specs.Io.KnownBytes.{Appends, Keeps, append_known}
-use Rattle.lnt_output.specs.Fronts.{AppendsFront, HasBegun}
-use Rattle.lnt_output.proofs.FrontLaws.{appends_known}
-use Rattle.lnt_sources.specs.Files.{TellsNoMore}
+use Rattle.lnt_io.specs.Fronts.{AppendsFront, HasBegun}
+use Rattle.lnt_io.proofs.FrontLaws.{appends_known}
+use Rattle.lnt_io.specs.Files.{FileState, TellsNoMore}
 use Rattle.lnt_header.specs.declared.unit_parts.UnitParts.{UnitParts}
 use Rattle.lnt_lines.specs.declared.no.No.{No}
 use Rattle.lnt_lines.specs.declared.options.Options.{Options}
@@ -21,14 +21,14 @@ use Rattle.lnt_answers.specs.Lines.{HasBegunLine}
 use Rattle.lnt_answers.specs.SumLines.{listed_files}
 use Rattle.lnt_lines.specs.FaultTexts.{no_text}
 use Rattle.lnt_answers.proofs.SumLaws.{sums_later}
-use Rattle.lnt_verdicts.specs.Stretches.{AreStretchesBegun}
-use Rattle.lnt_verdicts.specs.Verdicts.{checked_line, checked_status}
+use Rattle.lnt_answers.specs.Stretches.{AreStretchesBegun}
+use Rattle.lnt_answers.specs.Verdicts.{checked_line, checked_status}
 use Rattle.lnt_cli.specs.Answered.{AnswersCheck, AreTextsOf, IsChecked, IsOfFile, options_in}
 use Rattle.lnt_cli.specs.Stopped.{ArePlacesBegun, BeginsGood, BeginsJudged, BeginsQuestion}
 use Rattle.lnt_cli.proofs.QuestionLemmas.{told_of_file, told_of_section}
 
 -- a front of the line of a check's result, which is the answer once its line is printed
-check_begun : (tells : List ℕ → Option (List ℕ) → Type 0) (from : Judging) (table : List ℕ) (checked : Checked) (old new : Option (List ℕ))
+check_begun : (tells : List ℕ → FileState → Type 0) (from : Judging) (table : List ℕ) (checked : Checked) (old new : Option (List ℕ))
     → ((before after : Option (List ℕ)) → Appends before after (checked_line checked) → IsChecked tells from table before after checked)
     → AppendsFront old new (checked_line checked) → HasBegun (AnswersCheck tells from table old) old new
 check_begun tells from table checked old new so front = record {
@@ -43,7 +43,7 @@ check_begun tells from table checked old new so front = record {
 }
 
 -- the same where the printing of that line stopped the run
-pub check_stopped : {R T S E : Type 0} (tells : List ℕ → Option (List ℕ) → Type 0) (from : Judging) (table : List ℕ) (checked : Checked)
+pub check_stopped : {R T S E : Type 0} (tells : List ℕ → FileState → Type 0) (from : Judging) (table : List ℕ) (checked : Checked)
     (old new : Option (List ℕ)) (printed : Result R E) (ended : Result T S)
     → ((before after : Option (List ℕ)) → Appends before after (checked_line checked) → IsChecked tells from table before after checked)
     → OnErr ended (IsErr printed) → OnErr printed (AppendsFront old new (checked_line checked))
@@ -79,7 +79,7 @@ begins_bad IsSo HasBegunOf old new (Err stop) of_bad (inr line) = inr (Bad line.
 -- ---- questions
 
 -- a front of an answer stays true where more may be told of the files
-good_begun_later : (tells tells' : List ℕ → Option (List ℕ) → Type 0) (options : Options) (question : Question) (index : Indexed)
+good_begun_later : (tells tells' : List ℕ → FileState → Type 0) (options : Options) (question : Question) (index : Indexed)
     (old new : Option (List ℕ)) → TellsNoMore tells tells' → BeginsGood tells' options question index old new
     → BeginsGood tells options question index old new
 good_begun_later tells tells' options Verify index old new later begun = begun
@@ -96,7 +96,7 @@ good_begun_later tells tells' options Md5 index old new later begun = record {
   front = begun.front;
 }
 
-judged_begun_later : (tells tells' : List ℕ → Option (List ℕ) → Type 0) (options : Options) (question : Question) (judged : JudgedIndex)
+judged_begun_later : (tells tells' : List ℕ → FileState → Type 0) (options : Options) (question : Question) (judged : JudgedIndex)
     (old new : Option (List ℕ)) → TellsNoMore tells tells' → BeginsJudged tells' options question judged old new
     → BeginsJudged tells options question judged old new
 judged_begun_later tells tells' options question (Good index) old new later begun =
@@ -104,7 +104,7 @@ judged_begun_later tells tells' options question (Good index) old new later begu
 judged_begun_later tells tells' options question (Bad reason) old new later begun = begun
 
 -- A front of an answer for a judged section, from a time when less might be told of the files, is one to the question.
-pub question_stopped : {T E : Type 0} (tells tells' : List ℕ → Option (List ℕ) → Type 0) (from : Judging) (question : Question)
+pub question_stopped : {T E : Type 0} (tells tells' : List ℕ → FileState → Type 0) (from : Judging) (question : Question)
     (old new : Option (List ℕ)) (line general : List ℕ) (section : Option (List ℕ)) (ended : Result T E)
     → AreTextsOf tells from line general → tells from.section.now section → TellsNoMore tells tells'
     → OnErr ended (BeginsOf (λ judged. IfSome section (λ bytes. IsJudgedIndex line general (options_in from) bytes judged))
@@ -120,7 +120,7 @@ question_stopped tells tells' from question old new line general section (Err st
 -- ---- a section and another file
 
 -- A part of an answer that was written for the bytes of a file was written for that file.
-pub of_file_stopped : {T E : Type 0} (tells : List ℕ → Option (List ℕ) → Type 0) (from : Judging) (file : List ℕ)
+pub of_file_stopped : {T E : Type 0} (tells : List ℕ → FileState → Type 0) (from : Judging) (file : List ℕ)
     (HasBegunOf : JudgedIndex → Option (List ℕ) → Type 0) (old new : Option (List ℕ)) (line general : List ℕ)
     (section text : Option (List ℕ)) (ended : Result T E)
     → AreTextsOf tells from line general → tells from.section.now section → tells file text

@@ -4,9 +4,9 @@
 use Rattle.std.specs.Prelude.{◌≡◌, ℕ, List, [], Option, None, Some, IfSome, true, false, string_bytes}
 use Rattle.std.specs.Option.{option_copied}
 use Rattle.std.specs.Io.KnownBytes.{Appends}
-use Rattle.lnt_sources.specs.Files.{AreBytesOf}
-use Rattle.lnt_sources.specs.declared.status.Status.{Status}
-use Rattle.lnt_sources.specs.declared.status.Status.TheVariants.{Done}
+use Rattle.lnt_io.specs.Files.{AreBytesOf, FileState}
+use Rattle.lnt_io.specs.declared.status.Status.{Status}
+use Rattle.lnt_io.specs.declared.status.Status.TheVariants.{Done}
 use Rattle.lnt_wire.specs.declared.format.Order.{Order}
 use Rattle.lnt_lines.specs.declared.options.Options.{Options}
 use Rattle.lnt_lines.specs.declared.section.JudgedIndex.{JudgedIndex}
@@ -18,7 +18,7 @@ use Rattle.lnt_words.specs.declared.request.Request.{Request}
 use Rattle.lnt_words.specs.declared.request.Request.TheVariants.{Help, Read, Upgrade, Judge, Addresses, Check}
 use Rattle.lnt_table.specs.declared.by_path.Checked.{Checked}
 use Rattle.lnt_table.specs.AnyVersion.{IsTrueCheck, IsTrueCheckOfSection}
-use Rattle.lnt_verdicts.specs.Verdicts.{checked_line, checked_status}
+use Rattle.lnt_answers.specs.Verdicts.{checked_line, checked_status}
 use Rattle.lnt_words.specs.Sizes.{size_bytes}
 use Rattle.lnt_dump.specs.Upgraded.{IsUpgradeTold}
 use Rattle.lnt_cli.specs.Places.{ArePlacesTold}
@@ -30,18 +30,18 @@ abbrev pub options_in : Judging → Options
 options_in from = record { order = from.order; dead = from.dead; skip_copies = from.skip_copies }
 
 -- the bytes of a string section: those of its file; empty if no file is named
-abbrev pub AreStringsOf : (List ℕ → Option (List ℕ) → Type 0) → Option (List ℕ) → List ℕ → Type 0
+abbrev pub AreStringsOf : (List ℕ → FileState → Type 0) → Option (List ℕ) → List ℕ → Type 0
 AreStringsOf tells None bytes = bytes ≡ []
 AreStringsOf tells (Some name) bytes = AreBytesOf (tells name) bytes
 
 -- These are the bytes of both string sections.
-pub record AreTextsOf (tells : List ℕ → Option (List ℕ) → Type 0) (from : Judging) (line general : List ℕ) : Type 0 where
+pub record AreTextsOf (tells : List ℕ → FileState → Type 0) (from : Judging) (line general : List ℕ) : Type 0 where
   pub line_is : AreStringsOf tells (option_copied from.line_strings) line
   pub general_is : AreStringsOf tells (option_copied from.strings) general
 
 -- The check's answer is true of the section and of the table, of any version, in the named files, and its line was written, and
 -- nothing else. What it says of the section is true even if nothing is known of the table's bytes.
-pub record IsChecked (tells : List ℕ → Option (List ℕ) → Type 0) (from : Judging) (table : List ℕ)
+pub record IsChecked (tells : List ℕ → FileState → Type 0) (from : Judging) (table : List ℕ)
     (old new : Option (List ℕ)) (checked : Checked) : Type 0 where
   pub line : List ℕ
   pub general : List ℕ
@@ -56,7 +56,7 @@ pub record IsChecked (tells : List ℕ → Option (List ℕ) → Type 0) (from :
   pub printed : Appends old new (checked_line checked)
 
 -- The line of such an answer was written, and the run ends with that answer's status.
-pub record AnswersCheck (tells : List ℕ → Option (List ℕ) → Type 0) (from : Judging) (table : List ℕ)
+pub record AnswersCheck (tells : List ℕ → FileState → Type 0) (from : Judging) (table : List ℕ)
     (old new : Option (List ℕ)) (status : Status) : Type 0 where
   pub checked : Checked
   pub so : IsChecked tells from table old new checked
@@ -66,7 +66,7 @@ pub record AnswersCheck (tells : List ℕ → Option (List ℕ) → Type 0) (fro
 
 -- The judgement of the section in the named file is true, and a statement about that judgement holds.
 --     IsTold    the statement
-pub record IsOfSection (tells : List ℕ → Option (List ℕ) → Type 0) (from : Judging) (IsTold : JudgedIndex → Type 0) : Type 0 where
+pub record IsOfSection (tells : List ℕ → FileState → Type 0) (from : Judging) (IsTold : JudgedIndex → Type 0) : Type 0 where
   pub line : List ℕ
   pub general : List ℕ
   pub texts : AreTextsOf tells from line general
@@ -77,41 +77,41 @@ pub record IsOfSection (tells : List ℕ → Option (List ℕ) → Type 0) (from
   pub told : IsTold judged
 
 -- The answer to the question was written.
-abbrev pub AnswersQuestion : (List ℕ → Option (List ℕ) → Type 0) → Judging → Question → Option (List ℕ) → Option (List ℕ) → Status
+abbrev pub AnswersQuestion : (List ℕ → FileState → Type 0) → Judging → Question → Option (List ℕ) → Option (List ℕ) → Status
     → Type 0
 AnswersQuestion tells from question old new status =
     IsOfSection tells from (λ judged. AnswersJudged tells (options_in from) question judged old new status)
 
 -- The same for a statement about the judgement and the bytes of another file.
-pub record IsOfFile (tells : List ℕ → Option (List ℕ) → Type 0) (from : Judging) (file : List ℕ)
+pub record IsOfFile (tells : List ℕ → FileState → Type 0) (from : Judging) (file : List ℕ)
     (IsTold : JudgedIndex → Option (List ℕ) → Type 0) : Type 0 where
   pub file_bytes : Option (List ℕ)
   pub of_file : tells file file_bytes
   pub so : IsOfSection tells from (λ judged. IsTold judged file_bytes)
 
 -- The answers to the positions in the lines of the file with this name were written, or why the section isn't good.
-abbrev pub AnswersAddresses : (List ℕ → Option (List ℕ) → Type 0) → Judging → List ℕ → ℕ → Option (List ℕ) → Option (List ℕ) → Status
+abbrev pub AnswersAddresses : (List ℕ → FileState → Type 0) → Judging → List ℕ → ℕ → Option (List ℕ) → Option (List ℕ) → Status
     → Type 0
 AnswersAddresses tells from file op old new status =
     IsOfFile tells from file (λ judged text. AnswersAddressesJudged judged op text old new status)
 
 -- The lines of the places at which the table in the file with this name answers otherwise were written, or why the section isn't
 -- good.
-abbrev pub AnswersPlaces : (List ℕ → Option (List ℕ) → Type 0) → Judging → List ℕ → Option (List ℕ) → Option (List ℕ) → Status → Type 0
+abbrev pub AnswersPlaces : (List ℕ → FileState → Type 0) → Judging → List ℕ → Option (List ℕ) → Option (List ℕ) → Status → Type 0
 AnswersPlaces tells from table old new status =
     IsOfFile tells from table (λ judged text. ArePlacesTold (options_in from) judged text old new status)
 
 -- ---- sections that are read
 
 -- The answer of this reading was written, for the section in the named file.
-pub record AnswersRead (tells : List ℕ → Option (List ℕ) → Type 0) (section : List ℕ) (order : Order) (reading : Reading)
+pub record AnswersRead (tells : List ℕ → FileState → Type 0) (section : List ℕ) (order : Order) (reading : Reading)
     (old new : Option (List ℕ)) (status : Status) : Type 0 where
   pub section_bytes : Option (List ℕ)
   pub of_section : tells section section_bytes
   pub answered : IfSome section_bytes (λ bytes. AnswersReading order reading bytes old new status)
 
 -- the bytes of a file that is named, or not
-abbrev pub IsTextOf : (List ℕ → Option (List ℕ) → Type 0) → Option (List ℕ) → Option (List ℕ) → Type 0
+abbrev pub IsTextOf : (List ℕ → FileState → Type 0) → Option (List ℕ) → Option (List ℕ) → Type 0
 IsTextOf tells None None = Unit {0}
 IsTextOf tells None (Some text) = ⊥
 IsTextOf tells (Some name) None = ⊥
@@ -120,7 +120,7 @@ IsTextOf tells (Some name) (Some text) = AreBytesOf (tells name) text
 -- The section in the named file was written with its older units anew, or why it can't be.
 --     size          how many bytes an address of these units has
 --     directories   the file of their directories, if one is named
-pub record AnswersUpgrade (tells : List ℕ → Option (List ℕ) → Type 0) (section : List ℕ) (order : Order) (size : ℕ)
+pub record AnswersUpgrade (tells : List ℕ → FileState → Type 0) (section : List ℕ) (order : Order) (size : ℕ)
     (directories : Option (List ℕ)) (old new : Option (List ℕ)) (status : Status) : Type 0 where
   pub bytes : List ℕ
   pub of_section : AreBytesOf (tells section) bytes
@@ -131,7 +131,7 @@ pub record AnswersUpgrade (tells : List ℕ → Option (List ℕ) → Type 0) (s
 -- ---- requests
 
 -- The answer to a request.
-abbrev pub IsAnswered : (List ℕ → Option (List ℕ) → Type 0) → Request → Option (List ℕ) → Option (List ℕ) → Status → Type 0
+abbrev pub IsAnswered : (List ℕ → FileState → Type 0) → Request → Option (List ℕ) → Option (List ℕ) → Status → Type 0
 IsAnswered tells (Help text) old new status = Appends old new (string_bytes text) × (status ≡ Done)
 IsAnswered tells (Read section order reading) old new status = AnswersRead tells section.now order reading old new status
 IsAnswered tells (Upgrade section order size directories) old new status =

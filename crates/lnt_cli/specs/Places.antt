@@ -4,9 +4,9 @@ use Rattle.lnt_lines.specs.declared.options.Options.{Options}
 use Rattle.lnt_lines.specs.declared.section.JudgedIndex.{JudgedIndex}
 use Rattle.lnt_lines.specs.declared.section.JudgedIndex.TheVariants.{Good, Bad}
 use Rattle.lnt_lines.specs.Indexed.{Indexed}
-use Rattle.lnt_sources.specs.declared.status.Status.{Status}
-use Rattle.lnt_verdicts.specs.declared.stretches.Stretches.{Stretches}
-use Rattle.lnt_verdicts.specs.Stretches.{AreStretchesOf, IsFaultTold, told_status}
+use Rattle.lnt_io.specs.declared.status.Status.{Status}
+use Rattle.lnt_answers.specs.declared.stretches.Stretches.{Stretches}
+use Rattle.lnt_answers.specs.Stretches.{AreStretchesOf, IsFaultTold, told_status}
 use Rattle.lnt_cli.specs.Questions.{ForUnitsOf, IsNoTold}
 
 -- What is written for a good section with this index and a table: the table's first fault, or all places where the two differ.

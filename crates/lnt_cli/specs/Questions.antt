@@ -4,8 +4,9 @@
 use Rattle.std.specs.Prelude.{◌≡◌, ℕ, List, ◌++◌, Option, true, false, codes}
 use Rattle.std.specs.List.{flat_map}
 use Rattle.std.specs.Io.KnownBytes.{Appends}
-use Rattle.lnt_sources.specs.declared.status.Status.{Status}
-use Rattle.lnt_sources.specs.declared.status.Status.TheVariants as ending
+use Rattle.lnt_io.specs.Files.{FileState}
+use Rattle.lnt_io.specs.declared.status.Status.{Status}
+use Rattle.lnt_io.specs.declared.status.Status.TheVariants as ending
 use Rattle.lnt_header.specs.declared.unit_parts.UnitParts.{UnitParts}
 use Rattle.lnt_spans.specs.declared.answer.Version.{Version}
 use Rattle.lnt_spans.specs.declared.position.Position.{Position}
@@ -25,7 +26,7 @@ use Rattle.lnt_answers.specs.FileLines.{files_text}
 use Rattle.lnt_answers.specs.Lines.{lookup_line}
 use Rattle.lnt_answers.specs.SumLines.{AreSumsTold, listed_files}
 use Rattle.lnt_lines.specs.FaultTexts.{no_text}
-use Rattle.lnt_verdicts.specs.PathTables.{IsPrintedTable}
+use Rattle.lnt_answers.specs.PathTables.{IsPrintedTable}
 
 -- It holds for all units of which, with these options, the index may have been made.
 abbrev pub ForUnitsOf : Options → Indexed → (List (ℕ × UnitParts) → Type 0) → Type 0
@@ -49,7 +50,7 @@ IsPathTableTold version options index old new status =
     status)
 
 -- The answer for a good section with this index.
-abbrev pub AnswersGood : (List ℕ → Option (List ℕ) → Type 0) → Options → Question → Indexed → Option (List ℕ) → Option (List ℕ) → Status
+abbrev pub AnswersGood : (List ℕ → FileState → Type 0) → Options → Question → Indexed → Option (List ℕ) → Option (List ℕ) → Status
     → Type 0
 AnswersGood tells options Verify index old new status = Appends old new (codes "yes\n") × (status ≡ ending.Done)
 AnswersGood tells options (Lookup positions) index old new status =
@@ -65,7 +66,7 @@ abbrev pub IsNoTold : No → Option (List ℕ) → Option (List ℕ) → Status 
 IsNoTold reason old new status = Appends old new (no_text reason ++ codes "\n") × (status ≡ ending.No)
 
 -- The answer for a section with this judgement.
-abbrev pub AnswersJudged : (List ℕ → Option (List ℕ) → Type 0) → Options → Question → JudgedIndex → Option (List ℕ) → Option (List ℕ)
+abbrev pub AnswersJudged : (List ℕ → FileState → Type 0) → Options → Question → JudgedIndex → Option (List ℕ) → Option (List ℕ)
     → Status → Type 0
 AnswersJudged tells options question (Good index) old new status = AnswersGood tells options question index old new status
 AnswersJudged tells options question (Bad reason) old new status = IsNoTold reason old new status

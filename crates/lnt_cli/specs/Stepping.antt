@@ -1,10 +1,10 @@
 -- What the bodies of this crate say of the work on one file. No public contract speaks of it.
 use Rattle.std.specs.Prelude.{◌≡◌, ℕ, List, string_bytes}
-use Rattle.lnt_sources.specs.declared.halt.Halt.{Halt}
-use Rattle.lnt_sources.specs.declared.halt.Halt.TheVariants as halt
-use Rattle.lnt_sources.specs.declared.status.Status.{Status}
-use Rattle.lnt_sources.specs.declared.status.Status.TheVariants as ending
-use Rattle.lnt_verdicts.specs.Stretches.{told_status}
+use Rattle.lnt_io.specs.declared.halt.Halt.{Halt}
+use Rattle.lnt_io.specs.declared.halt.Halt.TheVariants as halt
+use Rattle.lnt_io.specs.declared.status.Status.{Status}
+use Rattle.lnt_io.specs.declared.status.Status.TheVariants as ending
+use Rattle.lnt_answers.specs.Stretches.{told_status}
 use Rattle.lnt_cli.specs.declared.judge.Places.{Places}
 use Rattle.lnt_cli.specs.declared.judge.Places.TheVariants.{Section, Table}
 use Rattle.lnt_cli.specs.declared.stop.CliStop.{CliStop}

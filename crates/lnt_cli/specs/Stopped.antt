@@ -5,7 +5,7 @@ use Rattle.std.specs.Prelude.{ℕ, List, ◌++◌, ◌⊎◌, Option, IfSome, tr
 use Rattle.std.specs.List.{flat_map}
 use Rattle.std.specs.Option.{option_copied}
 use Rattle.std.specs.Io.KnownBytes.{Keeps}
-use Rattle.lnt_output.specs.Fronts.{AppendsFront, HasBegun}
+use Rattle.lnt_io.specs.Fronts.{AppendsFront, HasBegun}
 use Rattle.lnt_wire.specs.declared.format.Order.{Order}
 use Rattle.lnt_lines.specs.declared.options.Options.{Options}
 use Rattle.lnt_lines.specs.declared.section.JudgedIndex.{JudgedIndex}
@@ -26,9 +26,9 @@ use Rattle.lnt_answers.specs.FileLines.{files_text}
 use Rattle.lnt_answers.specs.Lines.{lookup_line}
 use Rattle.lnt_answers.specs.SumLines.{AreSumsTold, listed_files}
 use Rattle.lnt_lines.specs.FaultTexts.{no_text}
-use Rattle.lnt_verdicts.specs.PathTables.{BeginsPrintedTable}
-use Rattle.lnt_verdicts.specs.Stretches.{AreStretchesBegun}
-use Rattle.lnt_sources.specs.Files.{AreBytesOf}
+use Rattle.lnt_answers.specs.PathTables.{BeginsPrintedTable}
+use Rattle.lnt_answers.specs.Stretches.{AreStretchesBegun}
+use Rattle.lnt_io.specs.Files.{AreBytesOf, FileState}
 use Rattle.lnt_words.specs.Sizes.{size_bytes}
 use Rattle.lnt_dump.specs.Upgraded.{IsUpgradeBegun}
 use Rattle.lnt_cli.specs.Answered.{AnswersCheck, IsOfFile, IsOfSection, IsTextOf, options_in}
@@ -43,7 +43,7 @@ BeginsPathTableText version options index old new =
     ForUnitsOf options index (λ units. BeginsPrintedTable version (told_path version index options.dead options.skip_copies units) old new)
 
 -- A prefix of the answer for a good section with this index.
-abbrev pub BeginsGood : (List ℕ → Option (List ℕ) → Type 0) → Options → Question → Indexed → Option (List ℕ) → Option (List ℕ) → Type 0
+abbrev pub BeginsGood : (List ℕ → FileState → Type 0) → Options → Question → Indexed → Option (List ℕ) → Option (List ℕ) → Type 0
 BeginsGood tells options Verify index old new = AppendsFront old new (codes "yes\n")
 BeginsGood tells options (Lookup positions) index old new =
     ForUnitsOf options index
@@ -56,13 +56,13 @@ BeginsGood tells options (TableByPath true) index old new = BeginsPathTableText 
 BeginsGood tells options (TableByPath false) index old new = BeginsPathTableText Four options index old new
 
 -- A prefix of the answer for a section with this judgement.
-abbrev pub BeginsJudged : (List ℕ → Option (List ℕ) → Type 0) → Options → Question → JudgedIndex → Option (List ℕ) → Option (List ℕ)
+abbrev pub BeginsJudged : (List ℕ → FileState → Type 0) → Options → Question → JudgedIndex → Option (List ℕ) → Option (List ℕ)
     → Type 0
 BeginsJudged tells options question (Good index) old new = BeginsGood tells options question index old new
 BeginsJudged tells options question (Bad reason) old new = AppendsFront old new (no_text reason ++ codes "\n")
 
 -- The judgement of the section in the named file is true, and a prefix of the answer to the question was written.
-abbrev pub BeginsQuestion : (List ℕ → Option (List ℕ) → Type 0) → Judging → Question → Option (List ℕ) → Option (List ℕ) → Type 0
+abbrev pub BeginsQuestion : (List ℕ → FileState → Type 0) → Judging → Question → Option (List ℕ) → Option (List ℕ) → Type 0
 BeginsQuestion tells from question old new = IsOfSection tells from (λ judged. BeginsJudged tells (options_in from) question judged old new)
 
 -- A prefix of the answers to all lines of a text of positions, for a section with this judgement.
@@ -77,24 +77,24 @@ ArePlacesBegun options (Good index) table old new = ForUnitsOf options index (λ
 ArePlacesBegun options (Bad reason) table old new = AppendsFront old new (no_text reason ++ codes "\n")
 
 -- A prefix of the answers to all lines of the file with this name was written. Lines that weren't read yet count among them.
-abbrev pub BeginsAddresses : (List ℕ → Option (List ℕ) → Type 0) → Judging → List ℕ → ℕ → Option (List ℕ) → Option (List ℕ) → Type 0
+abbrev pub BeginsAddresses : (List ℕ → FileState → Type 0) → Judging → List ℕ → ℕ → Option (List ℕ) → Option (List ℕ) → Type 0
 BeginsAddresses tells from file op old new = IsOfFile tells from file (λ judged text. BeginsAddressesJudged judged op text old new)
 
 -- A prefix of the lines of all places at which the table in the file with this name answers otherwise was written.
-abbrev pub BeginsPlaces : (List ℕ → Option (List ℕ) → Type 0) → Judging → List ℕ → Option (List ℕ) → Option (List ℕ) → Type 0
+abbrev pub BeginsPlaces : (List ℕ → FileState → Type 0) → Judging → List ℕ → Option (List ℕ) → Option (List ℕ) → Type 0
 BeginsPlaces tells from table old new = IsOfFile tells from table (λ judged text. ArePlacesBegun (options_in from) judged text old new)
 
 -- ---- sections that are read
 
 -- A prefix of the answer of this reading was written, for the section in the named file.
-pub record StopsRead (tells : List ℕ → Option (List ℕ) → Type 0) (section : List ℕ) (order : Order) (reading : Reading)
+pub record StopsRead (tells : List ℕ → FileState → Type 0) (section : List ℕ) (order : Order) (reading : Reading)
     (old new : Option (List ℕ)) : Type 0 where
   pub section_bytes : Option (List ℕ)
   pub of_section : tells section section_bytes
   pub begun : IfSome section_bytes (λ bytes. BeginsReading order reading bytes old new)
 
 -- A prefix of the section with its older units anew, or of the line that says why there is none, was written.
-pub record StopsUpgrade (tells : List ℕ → Option (List ℕ) → Type 0) (section : List ℕ) (order : Order) (size : ℕ)
+pub record StopsUpgrade (tells : List ℕ → FileState → Type 0) (section : List ℕ) (order : Order) (size : ℕ)
     (directories : Option (List ℕ)) (old new : Option (List ℕ)) : Type 0 where
   pub bytes : List ℕ
   pub of_section : AreBytesOf (tells section) bytes
@@ -105,7 +105,7 @@ pub record StopsUpgrade (tells : List ℕ → Option (List ℕ) → Type 0) (sec
 -- ---- requests
 
 -- What was written if the answer to this request was stopped.
-abbrev pub IsStopped : (List ℕ → Option (List ℕ) → Type 0) → Request → Option (List ℕ) → Option (List ℕ) → Type 0
+abbrev pub IsStopped : (List ℕ → FileState → Type 0) → Request → Option (List ℕ) → Option (List ℕ) → Type 0
 IsStopped tells (Help text) old new = AppendsFront old new (string_bytes text)
 IsStopped tells (Read section order reading) old new = Keeps old new ⊎ StopsRead tells section.now order reading old new
 IsStopped tells (Upgrade section order size directories) old new =

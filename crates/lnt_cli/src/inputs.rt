@@ -1,15 +1,14 @@
 //! The files that a run reads.
 ghost use Rattle.std.specs.Prelude.{◌≡◌, ◌⊎◌, ℕ, List, IfErr, IfOk, IsErr, Ok, OnErr, Some, option_map};
 ghost use Rattle.std.specs.Option.{option_copied};
-ghost use Rattle.lnt_sources.specs.Files.{AreBytesOf, TellsNoMore};
+ghost use Rattle.lnt_io.specs.Files.{AreBytesOf, Readable, TellsNoMore};
 ghost use Rattle.lnt_cli.specs.Answered.{AreStringsOf, AreTextsOf, IsTextOf};
 ghost use Rattle.lnt_cli.specs.Stepping.{IsFileStop};
 ghost use Rattle.lnt_cli.specs.Stops.{IsFileOf, IsUsage, TellsFile};
 
 use crate::stop::CliStop;
-use lnt_input::{Counted, Source, read_all};
+use lnt_io::{Counted, Halt, Opener, Source, bytes_of_file, open_file, read_all, source_of};
 use lnt_notes::{Seen, WatchedReader};
-use lnt_sources::{Halt, Opener, bytes_of_file, open_file, source_of};
 use lnt_wire::Strings;
 use lnt_words::Judging;
 use std::alloc::Global;
@@ -62,7 +61,7 @@ pub(crate) fn open_section<'c, O: Opener>(
     ensures failures { IfOk result (λ source.
         ⟦<Counted<BufReader<WatchedReader<'c, O::Reader>>> as Source>⟧.failures source ≡ 0) }
     ensures told { IfOk result (λ source.
-        O.tells opener.old name.now (⟦<Counted<BufReader<WatchedReader<'c, O::Reader>>> as Source>⟧.remaining source)) }
+        O.tells opener.old name.now (Readable (⟦<Counted<BufReader<WatchedReader<'c, O::Reader>>> as Source>⟧.remaining source))) }
     ensures later { TellsNoMore (O.tells opener.old) (O.tells opener.new) }
 {
     match opener.reader_of(name) {
@@ -91,8 +90,7 @@ pub(crate) fn open_judged<'c, O: Opener>(
         AreTextsOf (O.tells opener.old) from.now opened.texts.line.items opened.texts.general.items) }
     ensures failures { IfOk result (λ opened.
         ⟦<Counted<BufReader<WatchedReader<'c, O::Reader>>> as Source>⟧.failures opened.section ≡ 0) }
-    ensures told { IfOk result (λ opened. O.tells opener.old from.now.section.now
-        (⟦<Counted<BufReader<WatchedReader<'c, O::Reader>>> as Source>⟧.remaining opened.section)) }
+    ensures told { IfOk result (λ opened. O.tells opener.old from.now.section.now (Readable (⟦<Counted<BufReader<WatchedReader<'c, O::Reader>>> as Source>⟧.remaining opened.section))) }
     ensures later { TellsNoMore (O.tells opener.old) (O.tells opener.new) }
 {
     let texts = read_texts(alloc, opener, from)?;
@@ -111,7 +109,7 @@ pub(crate) fn open<O: Opener>(
     ensures named { IfErr result (λ stop. (name : List ℕ) → TellsFile stop name → file.now ≡ name) }
     ensures failures { IfOk result (λ source. ⟦<Counted<BufReader<O::Reader>> as Source>⟧.failures source ≡ 0) }
     ensures told { IfOk result (λ source.
-        O.tells opener.old file.now (⟦<Counted<BufReader<O::Reader>> as Source>⟧.remaining source)) }
+        O.tells opener.old file.now (Readable (⟦<Counted<BufReader<O::Reader>> as Source>⟧.remaining source))) }
     ensures later { TellsNoMore (O.tells opener.old) (O.tells opener.new) }
 {
     of_file(alloc, file, open_file(alloc, opener, file))
@@ -140,11 +138,10 @@ pub(crate) fn open_both<'c, O: Opener>(
         AreTextsOf (O.tells opener.old) from.now opened.texts.line.items opened.texts.general.items) }
     ensures section_fails { IfOk result (λ opened.
         ⟦<Counted<BufReader<WatchedReader<'c, O::Reader>>> as Source>⟧.failures opened.section ≡ 0) }
-    ensures section_told { IfOk result (λ opened. O.tells opener.old from.now.section.now
-        (⟦<Counted<BufReader<WatchedReader<'c, O::Reader>>> as Source>⟧.remaining opened.section)) }
+    ensures section_told { IfOk result (λ opened. O.tells opener.old from.now.section.now (Readable (⟦<Counted<BufReader<WatchedReader<'c, O::Reader>>> as Source>⟧.remaining opened.section))) }
     ensures file_fails { IfOk result (λ opened. ⟦<Counted<BufReader<O::Reader>> as Source>⟧.failures opened.file ≡ 0) }
     ensures file_told { IfOk result (λ opened.
-        O.tells opener.old file.now (⟦<Counted<BufReader<O::Reader>> as Source>⟧.remaining opened.file)) }
+        O.tells opener.old file.now (Readable (⟦<Counted<BufReader<O::Reader>> as Source>⟧.remaining opened.file))) }
 {
     let judged = open_judged(alloc, opener, from, seen)?;
     let file = open(alloc, opener, file)?;

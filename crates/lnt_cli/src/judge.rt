@@ -1,7 +1,7 @@
 //! The subcommand `check`, and the notes to answers about a section that is judged.
 ghost use Rattle.std.specs.Prelude.{◌≡◌, ◌-◌, ◌^◌, ◌<◌, ◌⊎◌, ℕ, List, Option, IfErr, IfOk, IfSome, IsTrue, OnErr};
 ghost use Rattle.std.specs.Io.KnownBytes.{Appends, Keeps};
-ghost use Rattle.lnt_output.specs.Fronts.{HasBegun};
+ghost use Rattle.lnt_io.specs.Fronts.{HasBegun};
 ghost use Rattle.lnt_cli.specs.Answered.{AnswersCheck, AnswersPlaces, IsChecked, options_in};
 ghost use Rattle.lnt_cli.specs.Places.{ArePlacesTold};
 ghost use Rattle.lnt_cli.specs.Stepping.{IsOfCause, places_status};
@@ -12,20 +12,19 @@ ghost use Rattle.lnt_lines.specs.declared.options.Options.{Options as OptionsSpe
 ghost use Rattle.lnt_lines.specs.declared.section.JudgedIndex.{JudgedIndex};
 ghost use Rattle.lnt_lines.specs.declared.section.JudgedIndex.TheVariants.{Good};
 ghost use Rattle.lnt_table.specs.AnyVersion.{IsTrueCheck, IsTrueCheckOfSection};
-ghost use Rattle.lnt_verdicts.specs.Verdicts.{checked_line, checked_status, compared_status, verdict_status};
+ghost use Rattle.lnt_answers.specs.Verdicts.{checked_line, checked_status, compared_status, verdict_status};
 
 use crate::inputs::{OpenedBoth, of_file, open_both};
 use crate::question::judge;
 use crate::session::Session;
 use crate::stop::CliStop;
-use lnt_input::{Source, Stop};
+use lnt_answers::{Stretches, print_checked, print_stretches};
+use lnt_io::{Halt, Opener, Source, Status, Stop};
 use lnt_lines::{Index, JudgedIndex, No, Options};
 use lnt_notes::{Columns, Given, Hints, Seen, tell_agreed, tell_bad, tell_good, tell_table};
 use lnt_paths::ComparedByPath;
 use lnt_records::TableFault;
-use lnt_sources::{Halt, Opener, Status};
 use lnt_table::{Checked, TableNo, Verdict, check_any};
-use lnt_verdicts::{Stretches, print_checked, print_stretches};
 use lnt_words::Judging;
 use std::alloc::Global;
 use std::cell::Cell;

@@ -19,8 +19,8 @@ pub use program::{answer, run, run_with_notes};
 pub use stop::CliStop;
 
 // Files by their names, and how a run ends.
-pub use lnt_sources::{Halt, Opener, Status};
+pub use lnt_io::{Halt, Opener, Status};
 
 // MD5 sums.
-pub use lnt_sums::{Agreement, md5_agrees, sum_of};
+pub use lnt_answers::{Agreement, md5_agrees, sum_of};
 pub use lnt_wire::{Source, SourceStop as Stop};

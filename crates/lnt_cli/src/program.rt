@@ -9,8 +9,8 @@ ghost use Rattle.lnt_words.specs.Asking.{AskForNothing};
 
 use crate::session::Session;
 use crate::stop::CliStop;
+use lnt_io::{Opener, Status};
 use lnt_notes::print_note;
-use lnt_sources::{Opener, Status};
 use lnt_text::Note;
 use lnt_words::{Asked, WordsStop, request_of};
 use std::alloc::Global;

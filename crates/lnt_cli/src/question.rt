@@ -16,15 +16,13 @@ use crate::judge::options_of;
 use crate::session::Session;
 use crate::stop::CliStop;
 use lnt_answers::{
-    judge_section, lists_sums, print_addresses, print_files, print_lookups, print_sums,
+    judge_section, lists_sums, print_addresses, print_files, print_lookups, print_path_table,
+    print_sums, print_table,
 };
-use lnt_input::Source;
+use lnt_io::{Halt, Opener, Source, Status, write_whole};
 use lnt_lines::{Index, JudgedIndex, No};
 use lnt_notes::{Hints, Seen, hints_of};
-use lnt_output::write_whole;
 use lnt_paths::PathVersion;
-use lnt_sources::{Halt, Opener, Status};
-use lnt_verdicts::{print_path_table, print_table};
 use lnt_words::{Judging, Question};
 use std::alloc::Global;
 use std::cell::Cell;

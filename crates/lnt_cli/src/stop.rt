@@ -5,7 +5,7 @@ ghost use Rattle.lnt_cli.specs.Stops.{IsUsage, TellsFile};
 ghost use Rattle.lnt_cli.specs.declared.stop.CliStop.TheVariants.{Memory, Write};
 ghost use Rattle.lnt_words.specs.declared.stop.WordsStop.TheVariants as words;
 
-use lnt_sources::Halt;
+use lnt_io::Halt;
 use lnt_text::Shown;
 use lnt_words::WordsStop;
 use std::alloc::{AllocError, Global};

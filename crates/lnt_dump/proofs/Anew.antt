@@ -2,14 +2,14 @@
 use Rattle.std.proofs.Common.{◌≡◌, ◌∙◌, ℕ, ◌<◌, List, [], ◌++◌, length, Option, refl, sym, ap, subst, append_assoc}
 use Rattle.std.proofs.KnownBytes.{Appends-nil, Appends-trans}
 use Rattle.std.specs.Io.KnownBytes.{Appends}
-use Rattle.lnt_output.specs.Fronts.{AppendsFront}
-use Rattle.lnt_output.proofs.FrontLaws.{front_before}
+use Rattle.lnt_io.specs.Fronts.{AppendsFront}
+use Rattle.lnt_io.proofs.FrontLaws.{front_before}
 use Rattle.lnt_wire.specs.At.{At}
 use Rattle.lnt_wire.specs.declared.format.Order.{Order}
-use Rattle.lnt_upgrade.specs.Sections.{IsUpgraded}
-use Rattle.lnt_upgrade.specs.Walking.{AddsAny, CanBeLeft, CanUpgrade, WritingTo}
-use Rattle.lnt_upgrade.specs.declared.directories.Directory.{Directory}
-use Rattle.lnt_upgrade.proofs.WritingLaws.{writing_all, writing_long, writing_more, writing_none, writing_rest}
+use Rattle.lnt_older.specs.Sections.{IsUpgraded}
+use Rattle.lnt_older.specs.Walking.{AddsAny, CanBeLeft, CanUpgrade, WritingTo}
+use Rattle.lnt_older.specs.declared.directories.Directory.{Directory}
+use Rattle.lnt_older.proofs.WritingLaws.{writing_all, writing_long, writing_more, writing_none, writing_rest}
 use Rattle.lnt_dump.specs.Printed.{IsPrintedIn}
 use Rattle.lnt_dump.specs.Stepping.{IsFrontIn, IsPaged}
 use Rattle.lnt_dump.proofs.Pages.{paged_all, paged_cut, paged_kept_front}

@@ -7,18 +7,18 @@ use Rattle.std.specs.Io.KnownBytes.{Appends, Keeps}
 use Rattle.std.proofs.KnownBytes.{Appends-nil, Appends-trans}
 use Rattle.std.proofs.lemmas.List.{length-append}
 use Rattle.std.proofs.lemmas.List.Concat.{flat_map-append}
-use Rattle.lnt_output.specs.Fronts.{AppendsFront}
-use Rattle.lnt_output.proofs.FrontLaws.{front_after, front_before, front_none, front_same, front_since}
-use Rattle.lnt_input.specs.Pulling.{Pulls}
+use Rattle.lnt_io.specs.Fronts.{AppendsFront}
+use Rattle.lnt_io.proofs.FrontLaws.{front_after, front_before, front_none, front_same, front_since}
+use Rattle.lnt_io.specs.Pulling.{Pulls}
 use Rattle.lnt_header.specs.declared.op.Op.{Op}
 use Rattle.lnt_header.specs.declared.unit_parts.UnitParts.{UnitParts}
 use Rattle.lnt_machine.specs.declared.fault.RowFault.{RowFault}
 use Rattle.lnt_machine.specs.declared.fault.RowFault.TheVariants.{Malformed, Run}
 use Rattle.lnt_machine.specs.Matrix.{Runs}
-use Rattle.lnt_sources.specs.declared.halt.Halt.{Halt}
-use Rattle.lnt_sources.specs.declared.status.Status.{Status}
-use Rattle.lnt_sources.specs.declared.status.Status.TheVariants.{Done, No}
-use Rattle.lnt_stream.specs.Units.{BufferedUnit, IsNextUnit, IsWholeUnit, SectionEndsBy}
+use Rattle.lnt_io.specs.declared.halt.Halt.{Halt}
+use Rattle.lnt_io.specs.declared.status.Status.{Status}
+use Rattle.lnt_io.specs.declared.status.Status.TheVariants.{Done, No}
+use Rattle.lnt_unit.specs.Units.{BufferedUnit, IsNextUnit, IsWholeUnit, SectionEndsBy}
 use Rattle.lnt_text.specs.Texts.{malformed_text}
 use Rattle.lnt_unit.proofs.FrameLaws.{broken_more}
 use Rattle.lnt_unit.proofs.WholeWalks.{fault_of_section}
@@ -38,7 +38,7 @@ use Rattle.lnt_dump.specs.Dumps.{fault_line, fault_status, unit_lines}
 use Rattle.lnt_dump.specs.declared.units.Next.{Next}
 use Rattle.lnt_dump.specs.declared.units.Next.TheVariants.{Unit as NextUnit}
 use Rattle.lnt_dump.specs.Stepping.{IsFaultOf, IsNext, IsUnitOf, UnitBegun, UnitEnds, UnitTold}
-use Rattle.lnt_input.proofs.PullLaws.{pulls_none}
+use Rattle.lnt_io.proofs.PullLaws.{pulls_none}
 use Rattle.lnt_wire.proofs.FrameListLaws.{no_frames}
 use Rattle.lnt_dump.proofs.Frames.{FramesRead, read_more}
 

@@ -27,8 +27,8 @@ use Rattle.lnt_wire.specs.Bytes.{IsCode}
 use Rattle.lnt_dump.specs.Headers.{component_text, components_text, entry_end, entry_line}
 use Rattle.lnt_dump.specs.Numbered.{numbered}
 use Rattle.lnt_dump.specs.Stepping.{IsPaged, PassesPrinting}
-use Rattle.lnt_output.specs.Fronts.{AppendsFront}
-use Rattle.lnt_output.proofs.FrontLaws.{front_before, front_same}
+use Rattle.lnt_io.specs.Fronts.{AppendsFront}
+use Rattle.lnt_io.proofs.FrontLaws.{front_before, front_same}
 use Rattle.lnt_dump.proofs.Lines.{numbered_front, numbered_next}
 use Rattle.lnt_dump.proofs.Pages.{paged_front, paged_kept_front, paged_more}
 

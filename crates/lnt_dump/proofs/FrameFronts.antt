@@ -4,17 +4,17 @@ use Rattle.std.proofs.Common.{subst, ◌∙◌, append_assoc, append-nil, arith}
 use Rattle.std.proofs.lemmas.List.{length-append}
 use Rattle.std.proofs.lemmas.List.Concat.{flat_map-append}
 use Rattle.std.specs.List.{flat_map}
-use Rattle.lnt_output.specs.Fronts.{AppendsFront, HasBegun}
-use Rattle.lnt_output.proofs.FrontLaws.{appends_known, front_after, front_all, front_before, front_same}
+use Rattle.lnt_io.specs.Fronts.{AppendsFront, HasBegun}
+use Rattle.lnt_io.proofs.FrontLaws.{appends_known, front_after, front_all, front_before, front_same}
 use Rattle.lnt_wire.specs.At.{At}
 use Rattle.lnt_wire.specs.FrameBytes.{FramesFrom, IsPlacedFrame, frame_bytes}
 use Rattle.lnt_wire.specs.Frames.{AreFrames, EndsBy}
 use Rattle.lnt_wire.specs.declared.fault.Fault.{Fault}
 use Rattle.lnt_wire.specs.declared.format.Order.{Order}
 use Rattle.lnt_wire.specs.declared.frame.Frame.{Frame}
-use Rattle.lnt_stream.specs.Units.{IsNextUnit, SectionEndsBy, BufferedUnit}
-use Rattle.lnt_sources.specs.declared.halt.Halt.{Halt}
-use Rattle.lnt_sources.specs.declared.status.Status.{Status}
+use Rattle.lnt_unit.specs.Units.{IsNextUnit, SectionEndsBy, BufferedUnit}
+use Rattle.lnt_io.specs.declared.halt.Halt.{Halt}
+use Rattle.lnt_io.specs.declared.status.Status.{Status}
 use Rattle.lnt_dump.specs.Units.{AreBytes, AreUnitsTold, end_line, end_status, unit_line}
 use Rattle.lnt_dump.proofs.Frames.{FramesRead, FramesTold, frames_end, line_joined, read_more}
 use Rattle.lnt_dump.proofs.FramesAhead.{bytes_after, frames_ahead, frames_join}

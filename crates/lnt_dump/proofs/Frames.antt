@@ -8,16 +8,16 @@ use Rattle.std.specs.Io.KnownBytes.{Appends}
 use Rattle.lnt_wire.specs.At.{At}
 use Rattle.lnt_wire.specs.FrameBytes.{IsFrame, IsPlacedFrame, frame_bytes}
 use Rattle.lnt_wire.specs.Frames.{AreFrames, EndsBy}
-use Rattle.lnt_input.specs.Pulling.{Pulls}
+use Rattle.lnt_io.specs.Pulling.{Pulls}
 use Rattle.lnt_wire.specs.declared.fault.Fault.{Fault}
 use Rattle.lnt_wire.specs.declared.format.Order.{Order}
 use Rattle.lnt_wire.specs.declared.frame.Frame.{Frame}
 use Rattle.lnt_wire.proofs.FrameListLaws.{FramesSoFar, no_frames, one_more_frame}
-use Rattle.lnt_input.proofs.PullLaws.{pulls_none, pulls_append}
-use Rattle.lnt_stream.specs.Units.{IsNextUnit, SectionEndsBy, BufferedUnit}
-use Rattle.lnt_sources.specs.declared.halt.Halt.{Halt}
-use Rattle.lnt_sources.specs.declared.status.Status.{Status}
-use Rattle.lnt_sources.specs.declared.status.Status.TheVariants.{No}
+use Rattle.lnt_io.proofs.PullLaws.{pulls_none, pulls_append}
+use Rattle.lnt_unit.specs.Units.{IsNextUnit, SectionEndsBy, BufferedUnit}
+use Rattle.lnt_io.specs.declared.halt.Halt.{Halt}
+use Rattle.lnt_io.specs.declared.status.Status.{Status}
+use Rattle.lnt_io.specs.declared.status.Status.TheVariants.{No}
 use Rattle.lnt_dump.specs.Units.{AreUnitsTold, end_line, end_status, unit_line}
 
 -- The source gave the bytes of these frames, and the next byte stands at the offset.

@@ -1,7 +1,7 @@
 -- The lines of a header: those of its numbers, of its directories and of its files.
 use Rattle.std.proofs.Common.{◌≡◌, ◌∙◌, ℕ, List, ◌++◌, Option, Result, Ok, Err, OnOk, OnErr, refl, ap, subst, append_assoc, codes}
-use Rattle.lnt_output.specs.Fronts.{AppendsFront}
-use Rattle.lnt_output.proofs.FrontLaws.{front_before, front_same}
+use Rattle.lnt_io.specs.Fronts.{AppendsFront}
+use Rattle.lnt_io.proofs.FrontLaws.{front_before, front_same}
 use Rattle.lnt_header.specs.HeaderNumbers.{without_entries}
 use Rattle.lnt_header.specs.declared.header.Entry.{Entry}
 use Rattle.lnt_header.specs.declared.header.HeaderParts.{HeaderParts}

@@ -3,27 +3,27 @@ use Rattle.std.proofs.Common.{◌≡◌, ℕ, ◌+◌, List, [], ◌∷◌, ◌+
 use Rattle.std.proofs.Common.{subst, ◌∙◌, append_assoc, append-nil, arith, inl, inr}
 use Rattle.std.specs.Io.KnownBytes.{Keeps}
 use Rattle.std.proofs.lemmas.List.{length-append, map-append}
-use Rattle.lnt_output.specs.Fronts.{AppendsFront}
-use Rattle.lnt_output.proofs.FrontLaws.{appends_known, front_after, front_all, front_before}
+use Rattle.lnt_io.specs.Fronts.{AppendsFront}
+use Rattle.lnt_io.proofs.FrontLaws.{appends_known, front_after, front_all, front_before}
 use Rattle.lnt_wire.proofs.LengthLaws.{same_rest}
 use Rattle.lnt_wire.specs.At.{At}
 use Rattle.lnt_wire.specs.Bytes.{IsShortest}
 use Rattle.lnt_wire.specs.declared.format.Format.{Format}
 use Rattle.lnt_wire.specs.declared.format.Order.{Order}
 use Rattle.lnt_header.specs.Joins.{Each}
-use Rattle.lnt_sources.specs.declared.halt.Halt.{Halt}
-use Rattle.lnt_sources.specs.declared.status.Status.{Status}
-use Rattle.lnt_sources.specs.declared.status.Status.TheVariants.{No}
-use Rattle.lnt_unit_encode.specs.ConvertedUnits.{Converts}
-use Rattle.lnt_unit_encode.specs.Stepping.{ConvertedTo}
+use Rattle.lnt_io.specs.declared.halt.Halt.{Halt}
+use Rattle.lnt_io.specs.declared.status.Status.{Status}
+use Rattle.lnt_io.specs.declared.status.Status.TheVariants.{No}
+use Rattle.lnt_unit.specs.ConvertedUnits.{Converts}
+use Rattle.lnt_unit.specs.ConversionSteps.{ConvertedTo}
 use Rattle.lnt_header.specs.Conversion.{unit_in_format}
 use Rattle.lnt_unit.specs.Converting.{units_in_format, IsConverted}
-use Rattle.lnt_unit_encode.specs.ConvertFaults.{IsConvertFault}
-use Rattle.lnt_unit_encode.proofs.ConvertedLaws.{whole_converted}
+use Rattle.lnt_unit.specs.ConvertFaults.{IsConvertFault}
+use Rattle.lnt_unit.proofs.ConvertedLaws.{whole_converted}
 use Rattle.lnt_unit.proofs.UnitLaws.{one_spelling, unit_is_some}
 use Rattle.lnt_unit.specs.UnitBytes.{SectionBytes, UnitBytesIn, UnitsFrom}
-use Rattle.lnt_unit_encode.specs.declared.convert.ConvertFault.{ConvertFault}
-use Rattle.lnt_unit_encode.specs.declared.convert.ConvertFault.TheVariants.{Malformed, Memory, TooLarge}
+use Rattle.lnt_unit.specs.declared.convert.ConvertFault.{ConvertFault}
+use Rattle.lnt_unit.specs.declared.convert.ConvertFault.TheVariants.{Malformed, Memory, TooLarge}
 use Rattle.lnt_header.specs.declared.unit_parts.UnitParts.{UnitParts}
 use Rattle.lnt_dump.specs.Printed.{IsConversionBegun, refusal_text}
 use Rattle.lnt_dump.specs.Stepping.{IsFrontIn}

@@ -6,10 +6,10 @@ use Rattle.std.specs.Io.KnownBytes.{Appends}
 use Rattle.lnt_wire.specs.At.{At}
 use Rattle.lnt_wire.specs.declared.format.Format.{Format}
 use Rattle.lnt_wire.specs.declared.format.Order.{Order}
-use Rattle.lnt_unit_encode.specs.ConvertedUnits.{ConvertsUnit}
-use Rattle.lnt_unit_encode.specs.Stepping.{ConvertedTo}
+use Rattle.lnt_unit.specs.ConvertedUnits.{ConvertsUnit}
+use Rattle.lnt_unit.specs.ConversionSteps.{ConvertedTo}
 use Rattle.lnt_unit.specs.Converting.{IsConverted}
-use Rattle.lnt_unit_encode.proofs.ConvertedLaws.{converted_none, converted_more, converted_all, converted_long}
+use Rattle.lnt_unit.proofs.ConvertedLaws.{converted_none, converted_more, converted_all, converted_long}
 use Rattle.lnt_dump.specs.Printed.{IsPrintedIn}
 
 -- The units up to a cursor were converted: what the writer has gained, and what waits in the page.

@@ -1,16 +1,16 @@
 -- What was written if a section was converted, or wasn't, or if that stopped.
 use Rattle.std.specs.Prelude.{◌≢◌, ◌⊎◌, ℕ, List, [], ◌++◌, Option, codes}
 use Rattle.std.specs.Io.KnownBytes.{Appends, Keeps}
-use Rattle.lnt_output.specs.Fronts.{HasBegun}
-use Rattle.lnt_sources.specs.declared.status.Status.{Status}
-use Rattle.lnt_sources.specs.declared.status.Status.TheVariants.{Done, No}
+use Rattle.lnt_io.specs.Fronts.{HasBegun}
+use Rattle.lnt_io.specs.declared.status.Status.{Status}
+use Rattle.lnt_io.specs.declared.status.Status.TheVariants.{Done, No}
 use Rattle.lnt_wire.specs.declared.format.Format.{Format}
 use Rattle.lnt_wire.specs.declared.format.Order.{Order}
 use Rattle.lnt_unit.specs.Converting.{IsConverted}
-use Rattle.lnt_unit_encode.specs.ConvertFaults.{IsConvertFault}
-use Rattle.lnt_unit_encode.specs.declared.convert.ConvertFault.{ConvertFault}
-use Rattle.lnt_unit_encode.specs.declared.convert.ConvertFault.TheVariants.{Malformed, TooLarge, Memory}
-use Rattle.lnt_unit_encode.specs.FaultTexts.{convert_fault_text}
+use Rattle.lnt_unit.specs.ConvertFaults.{IsConvertFault}
+use Rattle.lnt_unit.specs.declared.convert.ConvertFault.{ConvertFault}
+use Rattle.lnt_unit.specs.declared.convert.ConvertFault.TheVariants.{Malformed, TooLarge, Memory}
+use Rattle.lnt_unit.specs.FaultTexts.{convert_fault_text}
 use Rattle.lnt_text.specs.Texts.{malformed_text}
 
 -- what was appended to a writer that held these bytes is such a text, and nothing else

@@ -13,12 +13,12 @@ use Rattle.lnt_header.specs.declared.op.OpView.TheVariants.{UnknownStandard}
 use Rattle.lnt_header.specs.OpRules.{AreOperands}
 use Rattle.lnt_header.specs.declared.unit_parts.UnitParts.{UnitParts}
 use Rattle.lnt_header_bytes.specs.TableBytes.{EntryBytes}
-use Rattle.lnt_output.specs.Fronts.{AppendsFront}
+use Rattle.lnt_io.specs.Fronts.{AppendsFront}
 use Rattle.lnt_machine.specs.declared.fault.RowFault.{RowFault}
 use Rattle.lnt_machine.specs.declared.fault.RowFault.TheVariants.{Malformed, Run}
 use Rattle.lnt_machine.specs.Matrix.{Runs}
-use Rattle.lnt_sources.specs.declared.status.Status.{Status}
-use Rattle.lnt_stream.specs.Units.{BufferedUnit, IsNextUnit, SectionEndsBy}
+use Rattle.lnt_io.specs.declared.status.Status.{Status}
+use Rattle.lnt_unit.specs.Units.{BufferedUnit, IsNextUnit, SectionEndsBy}
 use Rattle.lnt_unit.specs.BrokenUnits.{BrokenUnit}
 use Rattle.lnt_unit.specs.UnitBytes.{UnitBytesIn}
 use Rattle.lnt_unit.specs.Views.{View, with_ops}

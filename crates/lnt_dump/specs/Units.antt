@@ -7,8 +7,8 @@ use Rattle.lnt_wire.specs.declared.format.Order.{Order}
 use Rattle.lnt_wire.specs.declared.frame.Frame.{Frame}
 use Rattle.lnt_wire.specs.FaultTexts.{hexadecimal}
 use Rattle.lnt_wire.specs.Frames.{AreFrames}
-use Rattle.lnt_sources.specs.declared.status.Status.{Status}
-use Rattle.lnt_sources.specs.declared.status.Status.TheVariants.{Done, No}
+use Rattle.lnt_io.specs.declared.status.Status.{Status}
+use Rattle.lnt_io.specs.declared.status.Status.TheVariants.{Done, No}
 use Rattle.lnt_text.specs.Texts.{malformed_text}
 use Rattle.lnt_dump.specs.Widths.{width}
 

@@ -1,16 +1,16 @@
 -- What was written if a section was written anew, or wasn't, or if that stopped.
 use Rattle.std.specs.Prelude.{◌≢◌, ◌⊎◌, ℕ, List, [], ◌++◌, Option, codes, decimal}
 use Rattle.std.specs.Io.KnownBytes.{Appends, Keeps}
-use Rattle.lnt_output.specs.Fronts.{HasBegun}
-use Rattle.lnt_sources.specs.declared.status.Status.{Status}
-use Rattle.lnt_sources.specs.declared.status.Status.TheVariants.{Done, No}
+use Rattle.lnt_io.specs.Fronts.{HasBegun}
+use Rattle.lnt_io.specs.declared.status.Status.{Status}
+use Rattle.lnt_io.specs.declared.status.Status.TheVariants.{Done, No}
 use Rattle.lnt_text.specs.Texts.{malformed_text}
-use Rattle.lnt_unit_encode.specs.declared.convert.ConvertFault.TheVariants as convert
-use Rattle.lnt_upgrade.specs.Sections.{IsUpgraded}
-use Rattle.lnt_upgrade.specs.Upgrades.{AreListed, IsUpgradeFault}
-use Rattle.lnt_upgrade.specs.declared.directories.Directory.{Directory}
-use Rattle.lnt_upgrade.specs.declared.upgrade.UpgradeFault.{UpgradeFault}
-use Rattle.lnt_upgrade.specs.declared.upgrade.UpgradeFault.TheVariants.{Malformed, Directories, TooLarge, Memory}
+use Rattle.lnt_unit.specs.declared.convert.ConvertFault.TheVariants as convert
+use Rattle.lnt_older.specs.Sections.{IsUpgraded}
+use Rattle.lnt_older.specs.Upgrades.{AreListed, IsUpgradeFault}
+use Rattle.lnt_older.specs.declared.directories.Directory.{Directory}
+use Rattle.lnt_older.specs.declared.section.UpgradeFault.{UpgradeFault}
+use Rattle.lnt_older.specs.declared.section.UpgradeFault.TheVariants.{Malformed, Directories, TooLarge, Memory}
 use Rattle.lnt_wire.specs.declared.format.Order.{Order}
 use Rattle.lnt_dump.specs.Printed.{IsPrintedIn, too_large_text}
 

@@ -1,20 +1,18 @@
 //! The subcommand `convert`.
 ghost use Rattle.std.specs.Prelude.{◌≡◌, ◌≢◌, ◌+◌, ◌-◌, ◌^◌, ◌<◌, IfErr, IfOk, IfSome, IsErrOf, IsTrue, OnErr, OnOk};
 ghost use Rattle.std.specs.Io.KnownBytes.{Appends};
-ghost use Rattle.lnt_output.specs.Fronts.{AppendsFront};
-ghost use Rattle.lnt_sources.specs.Halts.{IsPrinting};
-ghost use Rattle.lnt_sources.specs.declared.status.Status.TheVariants.{Done, No};
-ghost use Rattle.lnt_unit_encode.specs.ConvertedUnits.{Converts};
+ghost use Rattle.lnt_io.specs.Fronts.{AppendsFront};
+ghost use Rattle.lnt_io.specs.Halts.{IsPrinting};
+ghost use Rattle.lnt_io.specs.declared.status.Status.TheVariants.{Done, No};
+ghost use Rattle.lnt_unit.specs.ConvertedUnits.{Converts};
 ghost use Rattle.lnt_unit.specs.Converting.{IsConverted};
 ghost use Rattle.lnt_dump.specs.Printed.{IsConversionBegun, IsPrintedIn, IsRefusalTold, refusal_text, too_large_text};
 ghost use Rattle.lnt_dump.specs.Stepping.{IsFrontIn};
 
 use crate::faults::print_fault;
 use crate::page::PAGE;
-use lnt_input::{Source, read_all};
-use lnt_output::write_whole;
-use lnt_sources::{Halt, Status};
-use lnt_unit_encode::{ConvertFault, convert_unit, judge_conversion};
+use lnt_io::{Halt, Source, Status, read_all, write_whole};
+use lnt_unit::{ConvertFault, convert_unit, judge_conversion};
 use lnt_wire::{Cursor, Format, Order};
 use std::alloc::Global;
 use std::io::Write;

@@ -1,7 +1,7 @@
 //! The subcommand `dump`.
 ghost use Rattle.std.specs.Prelude.{◌≡◌, ◌++◌, ◌-◌, ◌^◌, ◌<◌, ◌⊎◌, [], List, cond, IfOk, OnErr, OnOk};
 ghost use Rattle.std.specs.Io.KnownBytes.{Appends, Keeps};
-ghost use Rattle.lnt_output.specs.Fronts.{AppendsFront};
+ghost use Rattle.lnt_io.specs.Fronts.{AppendsFront};
 ghost use Rattle.lnt_header.specs.declared.op.Op.{Op};
 ghost use Rattle.lnt_machine.specs.Matrix.{Runs, rows};
 ghost use Rattle.lnt_unit.specs.Views.{with_ops};
@@ -19,10 +19,8 @@ use crate::page::hand_on;
 use crate::rows::print_rows;
 use crate::run::judge;
 use crate::units::{Next, next_of};
-use lnt_input::Source;
-use lnt_sources::{Halt, Status};
-use lnt_stream::{SectionReader, UnitBuffer};
-use lnt_unit::UnitInPlace;
+use lnt_io::{Halt, Source, Status};
+use lnt_unit::{SectionReader, UnitBuffer, UnitInPlace};
 use lnt_wire::{Frame, Order};
 use std::alloc::Global;
 use std::io::Write;

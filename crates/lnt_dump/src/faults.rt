@@ -1,16 +1,15 @@
 //! How faults end the printing.
 ghost use Rattle.std.specs.Prelude.{◌≡◌, ◌≢◌, ◌⊎◌, ◌++◌, IfErr, IfOk, OnErr, OnOk, Some, codes};
 ghost use Rattle.std.specs.Io.KnownBytes.{Appends, Keeps};
-ghost use Rattle.lnt_output.specs.Fronts.{AppendsFront};
-ghost use Rattle.lnt_sources.specs.Halts.{IsPrinting};
-ghost use Rattle.lnt_sources.specs.declared.status.Status.TheVariants.{No};
+ghost use Rattle.lnt_io.specs.Fronts.{AppendsFront};
+ghost use Rattle.lnt_io.specs.Halts.{IsPrinting};
+ghost use Rattle.lnt_io.specs.declared.status.Status.TheVariants.{No};
 ghost use Rattle.lnt_machine.specs.FaultTexts.{run_text};
 ghost use Rattle.lnt_text.specs.Texts.{malformed_text};
 ghost use Rattle.lnt_dump.specs.Dumps.{fault_line};
 
+use lnt_io::{Halt, Status, write_whole};
 use lnt_machine::{RowFault, RunFault, RunLine};
-use lnt_output::write_whole;
-use lnt_sources::{Halt, Status};
 use lnt_text::MalformedLine;
 use lnt_wire::{Fault, Reason};
 use std::alloc::Global;

@@ -1,7 +1,7 @@
 //! How headers are printed, with their entries read one by one in place.
 ghost use Rattle.std.specs.Prelude.{◌≡◌, ◌++◌, OnErr, OnOk, Some, codes, decimal};
 ghost use Rattle.std.specs.Io.KnownBytes.{Appends};
-ghost use Rattle.lnt_output.specs.Fronts.{AppendsFront};
+ghost use Rattle.lnt_io.specs.Fronts.{AppendsFront};
 ghost use Rattle.hex.specs.Hex.{encode_lower};
 ghost use Rattle.lnt_wire.specs.Borrowed.{value_of};
 ghost use Rattle.lnt_wire.specs.Bytes.{NoneSpelled};
@@ -17,8 +17,7 @@ use crate::page::turn_full;
 use crate::width::width_of;
 use lnt_header::{Header, Pair};
 use lnt_header_bytes::{EntryTableView, HeaderView};
-use lnt_output::write_whole;
-use lnt_sources::Halt;
+use lnt_io::{Halt, write_whole};
 use lnt_text::Quoted;
 use lnt_wire::{Cursor, Format, Frame, ValueView};
 use std::alloc::Global;

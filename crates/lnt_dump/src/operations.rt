@@ -2,7 +2,7 @@
 ghost use Rattle.std.specs.Prelude.{◌≡◌, ℕ, ◌∷◌, ◌++◌, List, OnErr, OnOk, [], codes, decimal};
 ghost use Rattle.std.specs.Fmt.{signed_decimal};
 ghost use Rattle.std.specs.List.{flat_map};
-ghost use Rattle.lnt_output.specs.Fronts.{AppendsFront};
+ghost use Rattle.lnt_io.specs.Fronts.{AppendsFront};
 ghost use Rattle.lnt_wire.specs.FaultTexts.{hexadecimal};
 ghost use Rattle.lnt_wire.specs.Leb128.{UnsignedLeb};
 ghost use Rattle.lnt_header.specs.Joins.{Each};
@@ -16,7 +16,7 @@ use crate::header::print_bytes;
 use crate::page::turn_full;
 use lnt_digits::{put_address, put_decimal};
 use lnt_header::{OpView, Operands};
-use lnt_sources::Halt;
+use lnt_io::Halt;
 use lnt_unit::UnitInPlace;
 use lnt_wire::{Cursor, Order};
 use std::alloc::{AllocError, Global};

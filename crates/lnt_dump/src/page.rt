@@ -1,12 +1,11 @@
 //! The text on its way to the writer.
 ghost use Rattle.std.specs.Prelude.{◌≡◌, [], IfErr, OnErr, OnOk};
 ghost use Rattle.std.specs.Io.KnownBytes.{Appends};
-ghost use Rattle.lnt_output.specs.Fronts.{AppendsFront};
-ghost use Rattle.lnt_sources.specs.Halts.{IsPrinting};
+ghost use Rattle.lnt_io.specs.Fronts.{AppendsFront};
+ghost use Rattle.lnt_io.specs.Halts.{IsPrinting};
 ghost use Rattle.lnt_dump.specs.Stepping.{IsPaged};
 
-use lnt_output::write_whole;
-use lnt_sources::Halt;
+use lnt_io::{Halt, write_whole};
 use std::io::Write;
 
 // A page is written once it has this many bytes.

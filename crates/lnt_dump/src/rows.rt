@@ -1,6 +1,6 @@
 //! How rows are printed.
 ghost use Rattle.std.specs.Prelude.{◌++◌, List, OnErr, OnOk};
-ghost use Rattle.lnt_output.specs.Fronts.{AppendsFront};
+ghost use Rattle.lnt_io.specs.Fronts.{AppendsFront};
 ghost use Rattle.lnt_header.specs.declared.op.Op.{Op};
 ghost use Rattle.lnt_machine.specs.Matrix.{Runs, rows};
 ghost use Rattle.lnt_unit.specs.Views.{with_ops};
@@ -10,8 +10,8 @@ ghost use Rattle.lnt_dump.specs.Stepping.{IsPaged, IsUnitOf};
 
 use crate::line::{MOST, row_line};
 use crate::page::turn_full;
+use lnt_io::Halt;
 use lnt_machine::{Row, Run};
-use lnt_sources::Halt;
 use lnt_unit::UnitInPlace;
 use std::io::Write;
 

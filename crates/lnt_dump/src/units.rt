@@ -1,18 +1,16 @@
 //! The subcommand `units`.
 ghost use Rattle.std.specs.Prelude.{◌≡◌, ◌-◌, ◌^◌, ◌<◌, IfOk, IfSome, OnErr, OnOk};
 ghost use Rattle.std.specs.Io.KnownBytes.{Appends};
-ghost use Rattle.lnt_output.specs.Fronts.{AppendsFront, HasBegun};
-ghost use Rattle.lnt_stream.specs.declared.reader.Progress.TheVariants.{Reading};
-ghost use Rattle.lnt_stream.specs.Readers.{offset_of, order_of, progress_of, source_of};
+ghost use Rattle.lnt_io.specs.Fronts.{AppendsFront, HasBegun};
+ghost use Rattle.lnt_unit.specs.declared.reader.Progress.TheVariants.{Reading};
+ghost use Rattle.lnt_unit.specs.Readers.{offset_of, order_of, progress_of, source_of};
 ghost use Rattle.lnt_dump.specs.Stepping.{IsNext, GivesUnit};
 ghost use Rattle.lnt_dump.specs.Units.{AreBytes, AreUnitsTold, unit_line};
 
 use crate::faults::print_fault;
 use crate::width::width_of;
-use lnt_input::Source;
-use lnt_output::write_whole;
-use lnt_sources::{Halt, Status};
-use lnt_stream::{SectionReader, SectionStop, UnitBuffer};
+use lnt_io::{Halt, Source, Status, write_whole};
+use lnt_unit::{SectionReader, SectionStop, UnitBuffer};
 use lnt_wire::{Fault, Frame, Order};
 use std::alloc::Global;
 use std::io::Write;

@@ -9,8 +9,8 @@ use Rattle.lnt_machine.specs.declared.fault.RunFault.{RunFault}
 use Rattle.lnt_machine.specs.declared.fault.RunFault.TheVariants as run
 use Rattle.lnt_lines.specs.declared.no.No.{No}
 use Rattle.lnt_lines.specs.declared.no.No.TheVariants as no
-use Rattle.lnt_input.specs.declared.stop.Stop.{Stop}
-use Rattle.lnt_input.specs.declared.stop.Stop.TheVariants as stop
+use Rattle.lnt_io.specs.declared.stop.Stop.{Stop}
+use Rattle.lnt_io.specs.declared.stop.Stop.TheVariants as stop
 use Rattle.lnt_table.specs.declared.verdict.TableNo.TheVariants as table
 use Rattle.lnt_table.specs.declared.verdict.Verdict.{Verdict}
 use Rattle.lnt_table.specs.declared.verdict.Verdict.TheVariants.{Yes, No as IsNo}

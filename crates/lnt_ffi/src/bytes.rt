@@ -1,7 +1,7 @@
 //! The bytes of a slice as a source.
 ghost use Rattle.std.specs.Prelude.{◌≡◌};
 
-use lnt_input::{ReadFault, Source};
+use lnt_io::{ReadFault, Source};
 
 // Gives the bytes of a slice, one block after another, and never fails.
 #[derive(Drop)]

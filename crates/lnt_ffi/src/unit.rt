@@ -7,7 +7,7 @@ use crate::judging::index_of;
 use crate::room::put_bytes;
 use crate::section::FlatSection;
 use crate::verdict::{FlatVerdict, YES, verdict_of_stop};
-use lnt_input::Stop;
+use lnt_io::Stop;
 use lnt_lines::Index;
 use std::alloc::Global;
 

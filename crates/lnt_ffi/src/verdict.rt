@@ -5,7 +5,7 @@ ghost use Rattle.lnt_lines.specs.declared.no.No.TheVariants.{Overlap};
 
 use crate::flat::{FlatAnswer, NOTHING, flat_side};
 use lnt_header::EntryTable;
-use lnt_input::Stop;
+use lnt_io::Stop;
 use lnt_lines::No;
 use lnt_machine::RunFault;
 use lnt_sequences::SeqId;

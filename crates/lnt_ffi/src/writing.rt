@@ -6,7 +6,7 @@ use crate::judging::index_of;
 use crate::room::put_bytes;
 use crate::section::FlatSection;
 use crate::verdict::{FlatVerdict, YES, verdict_of_stop};
-use lnt_input::Stop;
+use lnt_io::Stop;
 use lnt_spans::Version;
 use lnt_table::write_index;
 use std::alloc::Global;

@@ -1,17 +1,21 @@
 pub mod AllowedLaws
 pub mod BorrowedLaws
 pub mod DecodeLemmas
+pub mod EncodeLemmas
 pub mod FieldsFaultLemmas
 pub mod FirstFieldLaws
 pub mod HeaderFrames
 pub mod HeaderLaws
 pub mod HeaderReaders
 pub mod KeptLemmas
+pub mod LargeLemmas
 pub mod MarkLemmas
 pub mod PassLemmas
 pub mod PassedLaws
 pub mod Places
+pub mod ProgramLaws
 pub mod ShortLemmas
+pub mod SpelledHeaders
 pub mod StartFaultLemmas
 pub mod StartReaders
 pub mod TableFaultLemmas
@@ -19,4 +23,5 @@ pub mod TableLaws
 pub mod TableReaders
 pub mod ValueLaws
 pub mod ViewLemmas
+pub mod ViewPutLemmas
 pub mod WrongTables

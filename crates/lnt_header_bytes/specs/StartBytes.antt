@@ -1,5 +1,5 @@
 -- The fields of a header after its version up to header_length, with the bytes that this counts, as they are read one after another.
--- No public contract speaks of these: `HeaderBytes` has the same fields.
+-- `HeaderBytes` has the same fields.
 use Rattle.std.specs.Prelude.{◌≡◌, ℕ, List, [], ◌∷◌}
 use Rattle.lnt_wire.specs.declared.format.Format.{Format}
 use Rattle.lnt_wire.specs.declared.format.Order.{Order}

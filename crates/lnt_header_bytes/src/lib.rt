@@ -1,8 +1,9 @@
-//! The headers of DWARF 5 line number units as bytes: read, with their entries in memory or in place, and kept. The crate
-//! `lnt_header_encode` writes them.
+//! The headers of DWARF 5 line number units as bytes: read, with their entries in memory or in place, and kept; and written,
+//! from their parts, and in another format and byte order from where their entries lie.
 #![tactic(auto)]
 
 mod decode;
+mod encode;
 mod header_view;
 mod in_place;
 mod kept;
@@ -14,8 +15,10 @@ mod read_table;
 mod start;
 mod table;
 mod table_view;
+mod view_encode;
 
 pub use decode::decode_header;
+pub use encode::{add_around, add_both, encode_header};
 pub use header_view::HeaderView;
 pub use in_place::{HeaderInPlace, view_header};
 pub use kept::KeptHeader;
@@ -24,3 +27,4 @@ pub use numbers::read_lengths;
 pub use read_table::EntriesInPlace;
 pub use start::read_counted;
 pub use table_view::EntryTableView;
+pub use view_encode::put_header_view;

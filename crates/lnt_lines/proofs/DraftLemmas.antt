@@ -5,7 +5,7 @@ use Rattle.std.specs.List.{All, AllByRecursion, AllZip}
 use Rattle.std.proofs.lemmas.List.Elements.{All-cons, All-nil, All-weaker}
 use Rattle.lnt_wire.specs.declared.format.Order.{Order}
 use Rattle.lnt_header.specs.HeaderRules.{HasHeaderNumbers}
-use Rattle.lnt_stream.specs.Units.{BufferedUnit}
+use Rattle.lnt_unit.specs.Units.{BufferedUnit}
 use Rattle.lnt_header.specs.declared.unit_parts.UnitParts.{UnitParts}
 use Rattle.lnt_unit.proofs.UnitLaws.{unit_is_some}
 use Rattle.lnt_unit.specs.UnitBytes.{UnitsFrom}
@@ -13,13 +13,13 @@ use Rattle.lnt_machine.specs.Walking.{KeptProgram, KeepsProgram}
 use Rattle.lnt_files.specs.Tables.{AreUsableTables}
 use Rattle.lnt_sequences.proofs.UnitLaws.{distinct_sequences, offsets_differ, ordered-append}
 use Rattle.std.specs.List.Sorted.{IsPermutation}
+use Rattle.lnt_header.specs.Joins.{AreRising}
 use Rattle.lnt_sequences.specs.declared.extent.Extent.{Extent}
 use Rattle.lnt_sequences.specs.Extents.{AreSettled, extents_of}
 use Rattle.lnt_sequences.specs.Rules.{AreApart, AreDistinct, AreOrdered, HaveFiles}
 use Rattle.lnt_sequences.specs.Sequences.{kept_sequences, live_in, live_sequences}
 use Rattle.lnt_spans.proofs.EachTwoLaws.{pairs_cons, pairs_nil}
 use Rattle.lnt_lines.specs.declared.draft.Draft.{Draft}
-use Rattle.lnt_lines.specs.Contents.{AreRising}
 use Rattle.lnt_lines.specs.Stepping.{HasAdded, IsDraftOf}
 use Rattle.lnt_lines.specs.Good.{IsSoundUnit}
 use Rattle.lnt_lines.specs.Indexed.{IsIndexOf}

@@ -5,13 +5,14 @@ use Rattle.std.specs.Prelude.{None, Option, Some}
 use Rattle.std.specs.List.{All, AllZip, Contains, position, position_or_len, slice_get}
 use Rattle.std.specs.Option.{option_and_then, option_map, option_map_or}
 use Rattle.std.proofs.lemmas.List.Sums.{position_or_len_is}
+use Rattle.lnt_header.specs.Joins.{AreRising}
 use Rattle.lnt_wire.specs.declared.format.Order.{Order}
 use Rattle.lnt_header.specs.declared.header.HeaderParts.{HeaderParts}
 use Rattle.lnt_header.specs.declared.unit_parts.UnitParts.{UnitParts}
 use Rattle.lnt_machine.specs.Walking.{KeepsProgram, KeptProgram}
 use Rattle.lnt_unit.specs.UnitBytes.{SectionBytes}
 use Rattle.lnt_files.specs.Files.{AreFilesOf, KeptFile, kept_path, kept_sum}
-use Rattle.lnt_lines.specs.Contents.{AreRising, Contents, files_at, files_of, TellsOf}
+use Rattle.lnt_lines.specs.Contents.{Contents, files_at, files_of, TellsOf}
 use Rattle.lnt_lines.specs.Indexed.{header_in, Indexed, IsIndexOf}
 use Rattle.lnt_lines.specs.Laws.{FilesOfUnits, HeadersOfUnits, ListsFilesOf}
 use Rattle.lnt_lines.proofs.DraftLemmas.{rising_from}

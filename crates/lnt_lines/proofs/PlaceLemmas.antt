@@ -5,7 +5,7 @@ use Rattle.std.specs.List.{position, position_or_len}
 use Rattle.std.proofs.lemmas.Bool.{cases_lt}
 use Rattle.std.proofs.lemmas.Bool.Decides.{eqb_tells, nat_tests}
 use Rattle.std.proofs.lemmas.List.Sums.{position_or_len_is}
-use Rattle.lnt_lines.specs.Contents.{AreRising}
+use Rattle.lnt_header.specs.Joins.{AreRising}
 
 -- Those before low are less than the unit's, and those from high on are greater.
 pub record IsBetween (units : List ℕ) (unit low high : ℕ) : Type 0 where

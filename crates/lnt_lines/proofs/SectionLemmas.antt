@@ -2,20 +2,21 @@
 use Rattle.std.proofs.Common.{◌≡◌, ℕ, ◌+◌, ◌<◌, List, [], ◌∷◌, ◌++◌, length, sym, ap, subst, ◌∙◌, append_assoc, arith}
 use Rattle.std.specs.Prelude.{IfSome, None, Option, Some}
 use Rattle.std.proofs.lemmas.List.{length-append}
+use Rattle.lnt_header.specs.Joins.{AreRising}
 use Rattle.lnt_wire.specs.declared.fault.Fault.{Fault}
 use Rattle.lnt_wire.specs.declared.format.Order.{Order}
 use Rattle.lnt_wire.specs.declared.format.Format.{Format}
 use Rattle.lnt_wire.specs.FrameBytes.{FrameBytes}
 use Rattle.lnt_wire.specs.InitialLength.{initial_length}
 use Rattle.lnt_wire.proofs.LengthLaws.{length-initial}
-use Rattle.lnt_input.proofs.PullLaws.{pulls_append}
-use Rattle.lnt_input.specs.Pulling.{Pulls}
-use Rattle.lnt_input.specs.declared.stop.Stop.{Stop}
-use Rattle.lnt_input.specs.declared.stop.Stop.TheVariants as stops
-use Rattle.lnt_stream.specs.declared.stop.SectionStop.{SectionStop}
-use Rattle.lnt_stream.specs.declared.stop.SectionStop.TheVariants as section
-use Rattle.lnt_stream.specs.Stops.{IfFault}
-use Rattle.lnt_stream.specs.Units.{IsNextUnit, IsWholeUnit, SectionEndsBy, BufferedUnit}
+use Rattle.lnt_io.proofs.PullLaws.{pulls_append}
+use Rattle.lnt_io.specs.Pulling.{Pulls}
+use Rattle.lnt_io.specs.declared.stop.Stop.{Stop}
+use Rattle.lnt_io.specs.declared.stop.Stop.TheVariants as stops
+use Rattle.lnt_unit.specs.declared.stop.SectionStop.{SectionStop}
+use Rattle.lnt_unit.specs.declared.stop.SectionStop.TheVariants as section
+use Rattle.lnt_unit.specs.Stops.{IfFault}
+use Rattle.lnt_unit.specs.Units.{IsNextUnit, IsWholeUnit, SectionEndsBy, BufferedUnit}
 use Rattle.lnt_header.specs.declared.unit_parts.UnitParts.{UnitParts}
 use Rattle.lnt_unit.specs.BrokenUnits.{BrokenUnit, IsTrueFault}
 use Rattle.lnt_unit.proofs.BrokenLaws.{frame_broken}
@@ -31,7 +32,6 @@ use Rattle.lnt_lines.specs.declared.no.No.TheVariants as bad
 use Rattle.lnt_lines.specs.declared.options.Options.{Options}
 use Rattle.lnt_lines.specs.declared.refusal.Refusal.{Refusal}
 use Rattle.lnt_lines.specs.declared.refusal.Refusal.TheVariants as refusal
-use Rattle.lnt_lines.specs.Contents.{AreRising}
 use Rattle.lnt_lines.specs.Drafts.{IsIndexOfSection}
 use Rattle.lnt_lines.specs.Stepping.{HasAdded, IsDraftOf, IsDraftOfSection, IsRefusal, IsWholeDraft}
 use Rattle.lnt_lines.specs.Indexed.{Indexed, IsIndexOf}

@@ -3,6 +3,7 @@ use Rattle.std.specs.Prelude.{◌≡◌, ◌<◌, Bool, ℕ, ◌==◌, List, map
 use Rattle.std.specs.List.{AllByRecursion, AllPairs, AllZip, position, slice_get}
 use Rattle.std.specs.List.Sorted.{IsPermutation}
 use Rattle.std.specs.Option.{option_and_then, option_map_or}
+use Rattle.lnt_header.specs.Joins.{AreRising}
 use Rattle.lnt_header.specs.declared.unit_parts.UnitParts.{UnitParts}
 use Rattle.lnt_files.specs.Files.{AreFilesOf, KeptFile, kept_path, kept_sum}
 use Rattle.lnt_sequences.specs.RowSpans.{spans_of}
@@ -17,10 +18,6 @@ pub record Contents : Type 0 where
   pub spans : List Span
   pub units : List ℕ
   pub files : List (List KeptFile)
-
--- each is greater than all before it
-abbrev pub AreRising : List ℕ → Type 0
-AreRising offsets = AllPairs (λ one other. one < other) offsets
 
 -- Each span's answer includes the instruction set and the discriminator.
 abbrev pub AreWhole : List Span → Type 0

@@ -3,6 +3,7 @@ use Rattle.std.specs.Prelude.{◌≡◌, ◌<◌, ◌==◌, Bool, ℕ, List, len
 use Rattle.std.specs.List.{AllByRecursion, AllZip, position, slice_get}
 use Rattle.std.specs.List.Sorted.{IsPermutation}
 use Rattle.std.specs.Option.{option_and_then, option_map, option_map_or}
+use Rattle.lnt_header.specs.Joins.{AreRising}
 use Rattle.lnt_header.specs.declared.header.HeaderParts.{HeaderParts}
 use Rattle.lnt_header.specs.HeaderRules.{HasHeaderNumbers}
 use Rattle.lnt_header.specs.declared.unit_parts.UnitParts.{UnitParts}
@@ -17,7 +18,6 @@ use Rattle.lnt_sequences.specs.declared.sequence.SeqId.{SeqId}
 use Rattle.lnt_sequences.specs.Extents.{AreSettled, extents_of}
 use Rattle.lnt_sequences.specs.Rules.{AreApart, AreOrdered, HaveFiles}
 use Rattle.lnt_sequences.specs.Sequences.{kept_sequences, live_in, live_sequences}
-use Rattle.lnt_lines.specs.Contents.{AreRising}
 
 -- the bytes of .debug_line_str and of .debug_str, an entry for each nonempty sequence, and the offset and the program of
 -- each unit

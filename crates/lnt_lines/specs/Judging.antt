@@ -4,7 +4,7 @@
 --     dead            the address at which sequences of dead code begin, if one is given
 use Rattle.std.specs.Prelude.{◌≡◌, ℕ, List, [], ◌∷◌, ◌++◌, length, drop, Option}
 use Rattle.lnt_wire.specs.declared.fault.Fault.{Fault}
-use Rattle.lnt_stream.specs.Units.{BufferedUnit}
+use Rattle.lnt_unit.specs.Units.{BufferedUnit}
 use Rattle.lnt_header.specs.declared.unit_parts.UnitParts.{UnitParts}
 use Rattle.lnt_unit.specs.BrokenUnits.{BrokenUnit}
 use Rattle.lnt_unit.specs.UnitBytes.{UnitBytesIn}
@@ -21,7 +21,7 @@ use Rattle.lnt_lines.specs.declared.no.No.{No}
 use Rattle.lnt_lines.specs.declared.no.No.TheVariants as no
 use Rattle.lnt_lines.specs.declared.refusal.Refusal.{Refusal}
 use Rattle.lnt_lines.specs.declared.refusal.Refusal.TheVariants as refusal
-use Rattle.lnt_input.specs.declared.stop.Stop.TheVariants as stop
+use Rattle.lnt_io.specs.declared.stop.Stop.TheVariants as stop
 use Rattle.lnt_lines.specs.Good.{IsSoundUnit}
 use Rattle.lnt_lines.specs.Nos.{IsFlaw}
 

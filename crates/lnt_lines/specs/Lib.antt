@@ -12,8 +12,8 @@ pub mod Refusals
 pub mod Running
 pub mod Stepping
 -- what public clauses say of sources and of units
-pub use Rattle.lnt_input.specs.FaultTexts as SourceTexts
-pub use Rattle.lnt_input.specs.Pulling
+pub use Rattle.lnt_io.specs.FaultTexts as SourceTexts
+pub use Rattle.lnt_io.specs.Pulling
 pub use Rattle.lnt_unit.specs.UnitBytes
 pub use Rattle.lnt_header.specs.declared.unit_parts.UnitParts as DeclaredParts
 -- of their tables and of their rows

@@ -2,8 +2,8 @@
 use Rattle.std.specs.Prelude.{◌≡◌, ◌≢◌, ℕ}
 use Rattle.lnt_wire.specs.declared.fault.Fault.{Fault}
 use Rattle.lnt_wire.specs.declared.fault.Reason.TheVariants.{Memory}
-use Rattle.lnt_stream.specs.declared.stop.SectionStop.{SectionStop}
-use Rattle.lnt_stream.specs.declared.stop.SectionStop.TheVariants as section
+use Rattle.lnt_unit.specs.declared.stop.SectionStop.{SectionStop}
+use Rattle.lnt_unit.specs.declared.stop.SectionStop.TheVariants as section
 use Rattle.lnt_sequences.specs.declared.watch.MissingFile.{MissingFile}
 use Rattle.lnt_files.specs.declared.tables.EntryTableFault.{EntryTableFault}
 use Rattle.lnt_files.specs.declared.tables.EntryTableFault.TheVariants as table
@@ -11,7 +11,7 @@ use Rattle.lnt_lines.specs.declared.no.No as no
 use Rattle.lnt_lines.specs.declared.no.No.TheVariants.{Malformed, EntryFormat, StringOutside, DirectoryNumber, FileNumber}
 use Rattle.lnt_lines.specs.declared.refusal.Refusal.{Refusal}
 use Rattle.lnt_lines.specs.declared.refusal.Refusal.TheVariants.{No, Stop}
-use Rattle.lnt_input.specs.declared.stop.Stop.TheVariants as stop
+use Rattle.lnt_io.specs.declared.stop.Stop.TheVariants as stop
 
 -- the refusal for a fault of a unit: memory ran out, or the section is malformed
 pub data IsFaultRefusal (fault : Fault) (refusal : Refusal) : Type 0 where

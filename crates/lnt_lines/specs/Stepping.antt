@@ -1,8 +1,9 @@
 -- What the bodies of this crate say of one step. No public contract speaks of it.
 use Rattle.std.specs.Prelude.{◌≡◌, ℕ, List, [], ◌∷◌, ◌++◌, map, IfSome, Option, Some, None}
 use Rattle.std.specs.List.{AllByRecursion, AllZip}
+use Rattle.lnt_header.specs.Joins.{AreRising}
 use Rattle.lnt_header.specs.HeaderRules.{HasHeaderNumbers}
-use Rattle.lnt_stream.specs.Units.{BufferedUnit}
+use Rattle.lnt_unit.specs.Units.{BufferedUnit}
 use Rattle.lnt_header.specs.declared.unit_parts.UnitParts.{UnitParts}
 use Rattle.lnt_unit.specs.UnitBytes.{SectionBytes, UnitBytesIn}
 use Rattle.lnt_machine.specs.Walking.{KeepsProgram}
@@ -13,7 +14,6 @@ use Rattle.lnt_lines.specs.declared.draft.Draft.{Draft}
 use Rattle.lnt_lines.specs.declared.options.Options.{Options}
 use Rattle.lnt_lines.specs.declared.refusal.Refusal.{Refusal}
 use Rattle.lnt_lines.specs.declared.refusal.Refusal.TheVariants as refusal
-use Rattle.lnt_lines.specs.Contents.{AreRising}
 use Rattle.lnt_lines.specs.Good.{IsSoundUnit}
 use Rattle.lnt_lines.specs.Nos.{IsTrueNo}
 use Rattle.lnt_spans.specs.declared.span.Span.{Span}

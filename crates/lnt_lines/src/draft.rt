@@ -15,7 +15,7 @@ use crate::refusal::Refusal;
 use lnt_files::StringEnds;
 use lnt_machine::Program;
 use lnt_sequences::{Collected, Overlap};
-use lnt_stream::UnitBuffer;
+use lnt_unit::UnitBuffer;
 use lnt_wire::Strings;
 use std::alloc::{AllocError, Global};
 

@@ -13,8 +13,7 @@ use lnt_files::in_place::tables_fault;
 use lnt_files::{EntryTableFault, StringEnds};
 use lnt_header_bytes::KeptHeader;
 use lnt_sequences::{Collected, MissingFile, Watch};
-use lnt_stream::UnitBuffer;
-use lnt_unit::UnitInPlace;
+use lnt_unit::{UnitBuffer, UnitInPlace};
 use std::alloc::{AllocError, Global};
 
 /// What is kept of a valid unit, apart from its program.

@@ -2,13 +2,13 @@
 ghost use Rattle.std.specs.Prelude.{◌≡◌, ◌≢◌};
 ghost use Rattle.lnt_lines.specs.declared.no.No.TheVariants.{Overlap as NoOverlap};
 ghost use Rattle.lnt_lines.specs.declared.refusal.Refusal.TheVariants.{No as Bad, Stop as Stopped};
-ghost use Rattle.lnt_input.specs.declared.stop.Stop.TheVariants.{Memory as StopMemory};
+ghost use Rattle.lnt_io.specs.declared.stop.Stop.TheVariants.{Memory as StopMemory};
 ghost use Rattle.lnt_lines.specs.Refusals.{IsFaultRefusal, IsStopRefusal};
 
 use crate::no::No;
-use lnt_input::Stop;
+use lnt_io::Stop;
 use lnt_sequences::Overlap;
-use lnt_stream::SectionStop;
+use lnt_unit::SectionStop;
 use lnt_wire::{Fault, Reason};
 use std::alloc::AllocError;
 

@@ -1,10 +1,10 @@
 //! A whole section, judged.
 ghost use Rattle.std.specs.Prelude.{◌≡◌, ◌≢◌, ◌+◌, ◌-◌, ◌^◌, ◌<◌, IfOk, IfErr, IfSome, IsErrOf, IsTrue};
-ghost use Rattle.lnt_input.specs.Pulling.{HasMoreThan};
+ghost use Rattle.lnt_io.specs.Pulling.{HasMoreThan};
 ghost use Rattle.lnt_lines.specs.Drafts.{IsIndexOfSection, IsJudged, IsJudgedIndex};
 ghost use Rattle.lnt_lines.specs.Stepping.{IsDraftOfSection, IsRefusal};
-ghost use Rattle.lnt_stream.specs.declared.reader.Progress.TheVariants.{Reading};
-ghost use Rattle.lnt_stream.specs.Readers.{loan_of, offset_of, order_of, progress_of, source_of};
+ghost use Rattle.lnt_unit.specs.declared.reader.Progress.TheVariants.{Reading};
+ghost use Rattle.lnt_unit.specs.Readers.{loan_of, offset_of, order_of, progress_of, source_of};
 
 use crate::draft::Draft;
 use crate::gather::lines_of;
@@ -14,8 +14,8 @@ use crate::no::No;
 use crate::options::Options;
 use crate::refusal::Refusal;
 use lnt_files::StringEnds;
-use lnt_input::{Source, Stop};
-use lnt_stream::SectionReader;
+use lnt_io::{Source, Stop};
+use lnt_unit::SectionReader;
 use lnt_wire::Strings;
 use std::alloc::Global;
 

@@ -1,12 +1,11 @@
 //! The positions at which sequences of a section begin and end.
 ghost use Rattle.std.specs.Prelude.{◌-◌, ◌^◌, ◌<◌};
 
-use lnt_input::Source;
+use lnt_io::Source;
 use lnt_machine::Rows;
 use lnt_sequences::SeqId;
 use lnt_spans::Position;
-use lnt_stream::{SectionReader, UnitBuffer};
-use lnt_unit::UnitInPlace;
+use lnt_unit::{SectionReader, UnitBuffer, UnitInPlace};
 use lnt_wire::Order;
 use std::alloc::Global;
 

@@ -2,10 +2,9 @@
 ghost use Rattle.std.specs.Prelude.{◌-◌, ◌^◌, ◌<◌};
 
 use crate::marks::is_mark;
-use lnt_input::Source;
+use lnt_io::Source;
 use lnt_machine::{Row, Rows};
-use lnt_stream::{SectionReader, UnitBuffer};
-use lnt_unit::UnitInPlace;
+use lnt_unit::{SectionReader, UnitBuffer, UnitInPlace};
 use lnt_wire::Order;
 use std::alloc::Global;
 

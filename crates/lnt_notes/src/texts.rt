@@ -2,10 +2,9 @@
 ghost use Rattle.std.specs.Prelude.{◌-◌, ◌^◌, ◌<◌};
 
 use lnt_header::{EntryTable, Header, Pair};
-use lnt_input::Source;
-use lnt_stream::{SectionReader, UnitBuffer};
+use lnt_io::Source;
 use lnt_text::StringSection;
-use lnt_unit::UnitInPlace;
+use lnt_unit::{SectionReader, UnitBuffer, UnitInPlace};
 use lnt_wire::{Form, Order};
 use std::alloc::Global;
 

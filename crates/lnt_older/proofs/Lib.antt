@@ -1,4 +1,5 @@
 pub mod CopiedLemmas
+pub mod DirectoryLemmas
 pub mod EntryLemmas
 pub mod FieldLemmas
 pub mod FrontLemmas
@@ -7,9 +8,14 @@ pub mod ListFaultLemmas
 pub mod ListLemmas
 pub mod NoUnitLemmas
 pub mod NumberLemmas
+pub mod SameLemmas
 pub mod SameUnitLemmas
+pub mod SectionLemmas
+pub mod SizeLemmas
 pub mod SoundLemmas
 pub mod TableLemmas
 pub mod UnitLemmas
 pub mod UpgradeLaws
 pub mod UpgradeLemmas
+pub mod UpgradedSections
+pub mod WritingLaws

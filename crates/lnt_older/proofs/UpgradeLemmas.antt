@@ -14,7 +14,7 @@ use Rattle.lnt_header.specs.HeaderRules.{HasHeaderNumbers, IsAddressSize}
 use Rattle.lnt_header.specs.declared.header.Entry.{Entry}
 use Rattle.lnt_header_bytes.specs.Layouts.{entry_of}
 use Rattle.lnt_header_bytes.specs.TableBytes.{EntryBytes}
-use Rattle.lnt_header_encode.specs.HeaderPuts.{AddsAround, around}
+use Rattle.lnt_header_bytes.specs.HeaderPuts.{AddsAround, around}
 use Rattle.lnt_older.specs.OlderBytes.{directory_pairs, file_pairs}
 use Rattle.lnt_older.specs.OlderFields.{number_fields}
 use Rattle.lnt_older.specs.OlderUnits.{IsOlderUnit, unit_header}

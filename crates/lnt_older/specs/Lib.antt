@@ -1,11 +1,16 @@
 pub mod ByteReading
+pub mod Directories
 pub mod FieldReading
+pub mod Laws
 pub mod ListFaults
 pub mod ListReading
 pub mod OlderBytes
 pub mod OlderFields
 pub mod OlderUnits
+pub mod Sections
 pub mod UnitReading
 pub mod Upgraded
+pub mod Upgrades
 pub mod Upgrading
 pub mod Versions
+pub mod Walking

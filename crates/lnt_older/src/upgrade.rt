@@ -12,8 +12,7 @@ ghost use Rattle.lnt_older.specs.declared.version.OlderVersion.TheVariants.{Four
 use crate::header::OlderHeader;
 use crate::lists::{FILE_PAIRS, pass_entry};
 use crate::unit::OlderUnit;
-use lnt_header_bytes::EntriesInPlace;
-use lnt_header_encode::{add_around, add_both};
+use lnt_header_bytes::{EntriesInPlace, add_around, add_both};
 use lnt_wire::{Cursor, EncodeFault, Format, Order, append_uleb};
 use std::alloc::{AllocError, Global};
 

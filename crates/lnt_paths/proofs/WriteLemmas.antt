@@ -9,8 +9,8 @@ use Rattle.std.proofs.lemmas.List.{append-nil, ext_get_or, map-append}
 use Rattle.csv.specs.Writing.{default_writer, row_text}
 use Rattle.lnt_digits.specs.Digits.{IsPlainAddress, IsPlainDecimal}
 use Rattle.lnt_digits.proofs.OneTextLaws.{one_address, one_decimal}
-use Rattle.lnt_output.specs.Fronts.{AppendsFront}
-use Rattle.lnt_output.proofs.FrontLaws.{front_after, front_all, front_before, front_none, front_same}
+use Rattle.lnt_io.specs.Fronts.{AppendsFront}
+use Rattle.lnt_io.proofs.FrontLaws.{front_after, front_all, front_before, front_none, front_same}
 use Rattle.lnt_records.specs.Table.{Fields}
 use Rattle.lnt_records.proofs.OneWrittenLaws.{HasOneRecord, front_records}
 use Rattle.lnt_spans.specs.declared.answer.Answer.{Answer}

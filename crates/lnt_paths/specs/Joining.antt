@@ -5,7 +5,7 @@ use Rattle.std.specs.Io.KnownBytes.{Appends}
 use Rattle.std.specs.List.{All, AllZip}
 use Rattle.csv.specs.Writing.{default_writer, field_text, needs_byte, row_text}
 use Rattle.lnt_digits.specs.Digits.{IsPlainAddress, IsPlainDecimal}
-use Rattle.lnt_output.specs.Fronts.{AppendsFront}
+use Rattle.lnt_io.specs.Fronts.{AppendsFront}
 use Rattle.lnt_records.specs.Table.{Fields}
 use Rattle.lnt_spans.specs.declared.answer.Answer.{Answer}
 use Rattle.lnt_spans.specs.declared.position.Position.{Position}

@@ -2,7 +2,7 @@
 ghost use Rattle.std.specs.Prelude.{◌≡◌, ℕ, List, IfOk, OnErr, OnOk};
 ghost use Rattle.std.specs.Io.KnownBytes.{Appends};
 ghost use Rattle.std.specs.List.{AllByRecursion};
-ghost use Rattle.lnt_output.specs.Fronts.{AppendsFront};
+ghost use Rattle.lnt_io.specs.Fronts.{AppendsFront};
 ghost use Rattle.lnt_spans.specs.declared.position.Position as position;
 ghost use Rattle.lnt_spans.specs.declared.span.Span as spec;
 ghost use Rattle.lnt_spans.specs.Spans.{AreInOrder, span_answer};
@@ -17,7 +17,7 @@ use crate::joined::Joined;
 use crate::line::{header_line, put_line};
 use crate::paths::Paths;
 use crate::version::{PathTable, PathVersion};
-use lnt_output::write_whole;
+use lnt_io::write_whole;
 use lnt_records::WriteStop;
 use lnt_spans::SpanSource;
 use std::alloc::Global;

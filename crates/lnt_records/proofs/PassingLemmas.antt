@@ -5,8 +5,8 @@ use Rattle.std.proofs.lemmas.List.{drop-drop}
 use Rattle.std.specs.Bool.{MatchBool}
 use Rattle.std.specs.List.{AllByRecursion, AllZip, cons_option}
 use Rattle.std.specs.Option.{option_map}
-use Rattle.lnt_input.specs.Pulling.{GivesMore, HasMoreThan}
-use Rattle.lnt_input.proofs.PullLaws.{more_from_start, pulls_all, pulls_append, pulls_none}
+use Rattle.lnt_io.specs.Pulling.{GivesMore, HasMoreThan}
+use Rattle.lnt_io.proofs.PullLaws.{more_from_start, pulls_all, pulls_append, pulls_none}
 use Rattle.lnt_spans.specs.declared.answer.Answer.{Answer}
 use Rattle.lnt_spans.specs.declared.answer.More.{More}
 use Rattle.lnt_spans.specs.declared.answer.Version.{Version}

@@ -13,7 +13,7 @@ use Rattle.lnt_spans.specs.declared.span.Span.{Span}
 use Rattle.lnt_spans.specs.Comparing.{Compares, IsTold, Merging, end_of}
 use Rattle.lnt_spans.proofs.AnsweringLaws.{front_in_order}
 use Rattle.lnt_spans.specs.Spans.{AreInOrder}
-use Rattle.lnt_input.specs.Pulling.{Pulls}
+use Rattle.lnt_io.specs.Pulling.{Pulls}
 use Rattle.lnt_records.specs.declared.comparison.Compared.{Compared}
 use Rattle.lnt_records.specs.declared.comparison.Compared.TheVariants.{Fault}
 use Rattle.lnt_records.specs.declared.fault.TableFault.TheVariants as fault

@@ -9,7 +9,7 @@ use Rattle.lnt_spans.specs.declared.position.Position.{Position}
 use Rattle.lnt_spans.specs.declared.span.Span.{Span}
 use Rattle.lnt_spans.specs.Comparing.{Compares, IsTold, Merging, end_of}
 use Rattle.lnt_spans.specs.Spans.{AreInOrder, version_answer}
-use Rattle.lnt_input.specs.Pulling.{Pulls}
+use Rattle.lnt_io.specs.Pulling.{Pulls}
 use Rattle.lnt_records.specs.Table.{Fields, IsSpanRecord, column_names}
 use Rattle.lnt_records.specs.Written.{lines_text}
 

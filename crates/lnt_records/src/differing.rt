@@ -4,7 +4,7 @@ ghost use Rattle.lnt_spans.specs.declared.span.Span.{Span};
 ghost use Rattle.lnt_spans.specs.declared.answer.Answer.{Answer};
 ghost use Rattle.lnt_spans.specs.declared.position.Position.{Position as Place};
 ghost use Rattle.lnt_spans.specs.Spans.{AreInOrder, span_answer};
-ghost use Rattle.lnt_input.specs.Pulling.{HasMoreThan};
+ghost use Rattle.lnt_io.specs.Pulling.{HasMoreThan};
 ghost use Rattle.lnt_records.specs.Differing.{IsDiffering, IsDifferingRead, IsStarted, IsStartedRead};
 ghost use Rattle.lnt_records.specs.Progress.{IsContinuedBy, IsGathered};
 ghost use Rattle.lnt_records.specs.Table.{BeginsWith, column_names};
@@ -16,7 +16,7 @@ use crate::lines::pass_header;
 use crate::passing::pass_spans;
 use crate::remaining::Remaining;
 use crate::window::Window;
-use lnt_input::{Source, Stop};
+use lnt_io::{Source, Stop};
 use lnt_spans::{Differences, Merge, Position, SpanList, SpanSlice, SpanSource, Version};
 use std::alloc::{AllocError, Global};
 

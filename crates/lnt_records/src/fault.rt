@@ -2,7 +2,7 @@
 ghost use Rattle.std.specs.Prelude.{◌≡◌, IfOk, IsErrOf, Some};
 ghost use Rattle.lnt_records.specs.FaultTexts.{table_fault_text, write_stop_text};
 
-use lnt_input::Stop;
+use lnt_io::Stop;
 use std::alloc::AllocError;
 use std::error::Error;
 use std::fmt;

@@ -12,7 +12,7 @@ ghost use Rattle.lnt_records.specs.Written.{line_text};
 use crate::header::header_line;
 use crate::window::Window;
 use lnt_digits::{address_until, decimal_until, past};
-use lnt_input::{Source, Stop};
+use lnt_io::{Source, Stop};
 use lnt_spans::{Answer, Merge, More, Position, Span, SpanSource, Version};
 use std::alloc::Global;
 

@@ -10,7 +10,7 @@ ghost use Rattle.lnt_records.specs.Written.{IsOfVersion};
 use crate::remaining::Remaining;
 use crate::text::{ROOM, line_of};
 use crate::window::Window;
-use lnt_input::{Source, Stop};
+use lnt_io::{Source, Stop};
 use lnt_spans::{Answer, Joiner, Merge, Position, Span, SpanSource, Version};
 use std::alloc::Global;
 

@@ -2,7 +2,7 @@
 ghost use Rattle.std.specs.Prelude.{◌≡◌, ◌≢◌, ◌+◌, ◌-◌, ◌^◌, ◌<◌, List, IfOk, IfSome, IsErrOf, IsTrue};
 ghost use Rattle.lnt_spans.specs.declared.span.Span.{Span};
 ghost use Rattle.lnt_spans.specs.Spans.{AreInOrder};
-ghost use Rattle.lnt_input.specs.Pulling.{HasMoreThan};
+ghost use Rattle.lnt_io.specs.Pulling.{HasMoreThan};
 ghost use Rattle.lnt_records.specs.Faults.{IsComparison, IsTableRead};
 
 use crate::comparison::{Compared, compare_after, compare_records};
@@ -11,7 +11,7 @@ use crate::header::{header_line, header_of};
 use crate::lines::{pass_header, push_lines};
 use crate::passing::pass_spans;
 use crate::window::Window;
-use lnt_input::{Source, Stop};
+use lnt_io::{Source, Stop};
 use lnt_spans::{Merge, SpanSource, Version};
 use std::alloc::{AllocError, Global};
 

@@ -1,11 +1,11 @@
 //! The bytes of a table that were taken from its source but not parsed yet.
 ghost use Rattle.std.specs.Prelude.{◌≡◌, ◌≢◌, ◌+◌, ◌-◌, ◌^◌, ◌<◌, ◌≤◌, ◌++◌, [], drop, length, IfOk, IsErrOf, IsTrue, OnOk};
 ghost use Rattle.std.specs.Bool.{MatchBool};
-ghost use Rattle.lnt_input.specs.Pulling.{HasMoreThan};
+ghost use Rattle.lnt_io.specs.Pulling.{HasMoreThan};
 ghost use Rattle.lnt_records.specs.Passing.{Ends, Passes};
 
 use crate::text::ROOM;
-use lnt_input::{BLOCK, Source, Stop, take_block};
+use lnt_io::{BLOCK, Source, Stop, take_block};
 use std::alloc::{AllocError, Global};
 use std::marker::Model;
 

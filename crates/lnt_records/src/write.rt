@@ -2,7 +2,7 @@
 ghost use Rattle.std.specs.Prelude.{◌≡◌, ◌++◌, ℕ, List, [], OnErr, OnOk};
 ghost use Rattle.std.specs.Io.KnownBytes.{Appends};
 ghost use Rattle.std.specs.List.{All};
-ghost use Rattle.lnt_output.specs.Fronts.{AppendsFront};
+ghost use Rattle.lnt_io.specs.Fronts.{AppendsFront};
 ghost use Rattle.lnt_spans.specs.declared.answer.Version.{Version};
 ghost use Rattle.lnt_spans.specs.Spans.{AreInOrder};
 ghost use Rattle.lnt_records.specs.Table.{column_names};
@@ -12,7 +12,7 @@ ghost use Rattle.lnt_records.specs.Progress.{AddsRecord};
 use crate::fault::WriteStop;
 use crate::header::header_line;
 use crate::text::{ROOM, line_of};
-use lnt_output::write_whole;
+use lnt_io::write_whole;
 use lnt_spans::{Span, Version};
 use std::alloc::{AllocError, Global};
 use std::io::Write;

@@ -3,7 +3,7 @@
 --     section, table   the bytes of .debug_line, and those of the address table
 use Rattle.std.specs.Prelude.{◌≡◌, ℕ, Bool, IsTrue, List, Option}
 use Rattle.std.specs.Option.{option_map}
-use Rattle.lnt_input.specs.Pulling.{HasMoreThan}
+use Rattle.lnt_io.specs.Pulling.{HasMoreThan}
 use Rattle.lnt_header.specs.declared.unit_parts.UnitParts.{UnitParts}
 use Rattle.lnt_spans.specs.declared.answer.Answer.{Answer}
 use Rattle.lnt_spans.specs.declared.answer.Version.{Version}

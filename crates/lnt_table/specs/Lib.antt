@@ -9,8 +9,8 @@ pub mod Stretches
 pub mod Verdicts
 pub mod Written
 -- what public clauses say of sources
-pub use Rattle.lnt_input.specs.FaultTexts as SourceTexts
-pub use Rattle.lnt_input.specs.Pulling
+pub use Rattle.lnt_io.specs.FaultTexts as SourceTexts
+pub use Rattle.lnt_io.specs.Pulling
 -- of sections
 pub use Rattle.lnt_lines.specs.Good
 pub use Rattle.lnt_lines.specs.Indexed

@@ -1,6 +1,6 @@
 -- The tables that are written from a section's lines.
 use Rattle.std.specs.Prelude.{◌≡◌, ◌⊎◌, Bool, ℕ, List, Option}
-use Rattle.lnt_output.specs.Fronts.{AppendsFront}
+use Rattle.lnt_io.specs.Fronts.{AppendsFront}
 use Rattle.lnt_header.specs.declared.unit_parts.UnitParts.{UnitParts}
 use Rattle.lnt_spans.specs.declared.answer.Version.{Version}
 use Rattle.lnt_spans.specs.declared.position.Position.{Position}

@@ -1,7 +1,7 @@
 //! Checks a section against an address table of any version.
 ghost use Rattle.std.specs.Prelude.{◌≡◌, ◌≢◌, ◌+◌, ◌-◌, ◌^◌, ◌<◌, ◌⊎◌, Bool, ℕ, List, Option, IfOk, IfSome, IsErrOf, Some};
 ghost use Rattle.lnt_lines.specs.declared.no.No.{No as SectionNo};
-ghost use Rattle.lnt_input.specs.declared.stop.Stop.TheVariants.{Read, TooLong};
+ghost use Rattle.lnt_io.specs.declared.stop.Stop.TheVariants.{Read, TooLong};
 ghost use Rattle.lnt_header.specs.declared.unit_parts.UnitParts.{UnitParts};
 ghost use Rattle.lnt_lines.specs.Indexed.{IsIndexOf};
 ghost use Rattle.lnt_table.specs.AnyVersion.{IsTrueCheck, IsTrueCheckOfSection};
@@ -12,7 +12,7 @@ ghost use Rattle.lnt_table.specs.Stepping.{IsCheckedWith, IsOfGood};
 use crate::path_lines::PathDifferenceLine;
 use crate::paths::IndexPaths;
 use crate::verdict::{TableNo, Verdict, verdict_of};
-use lnt_input::{Source, Stop};
+use lnt_io::{Source, Stop};
 use lnt_lines::{Index, JudgedIndex, Options, index_section};
 use lnt_paths::{ComparedByPath, compare_by_path};
 use lnt_records::{TableRead, compare_or_take};

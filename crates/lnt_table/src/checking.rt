@@ -1,14 +1,14 @@
 //! Checks a section against an address table.
 ghost use Rattle.std.specs.Prelude.{◌≡◌, ◌≢◌, ◌+◌, ◌-◌, ◌^◌, ◌<◌, ◌⊎◌, Bool, ℕ, List, Option, IfOk, IfSome, IsErrOf};
 ghost use Rattle.lnt_lines.specs.declared.no.No.{No as SectionNo};
-ghost use Rattle.lnt_input.specs.declared.stop.Stop.TheVariants.{Read, TooLong};
+ghost use Rattle.lnt_io.specs.declared.stop.Stop.TheVariants.{Read, TooLong};
 ghost use Rattle.lnt_header.specs.declared.unit_parts.UnitParts.{UnitParts};
 ghost use Rattle.lnt_lines.specs.Indexed.{IsIndexOf};
 ghost use Rattle.lnt_table.specs.Headline.{IsFoundTooLong, IsTrueOfSection, IsTrueVerdict};
 ghost use Rattle.lnt_table.specs.Stepping.{IsComparedWith};
 
 use crate::verdict::{TableNo, Verdict, verdict_of};
-use lnt_input::{Source, Stop};
+use lnt_io::{Source, Stop};
 use lnt_lines::{Index, JudgedIndex, Options, index_section};
 use lnt_records::{Compared, compare_table};
 use lnt_wire::Strings;

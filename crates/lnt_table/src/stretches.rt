@@ -1,7 +1,7 @@
 //! Compares a table with a good section at every position.
 ghost use Rattle.std.specs.Prelude.{◌≡◌, ◌≢◌, ◌+◌, ◌-◌, ◌^◌, ◌<◌, Bool, ℕ, List, [], map, Option, IfOk, IfSome, IsErrOf};
 ghost use Rattle.lnt_lines.specs.Indexed.{IsIndexOf};
-ghost use Rattle.lnt_input.specs.declared.stop.Stop.TheVariants.{Read, TooLong};
+ghost use Rattle.lnt_io.specs.declared.stop.Stop.TheVariants.{Read, TooLong};
 ghost use Rattle.lnt_spans.specs.declared.position.Position.{Position};
 ghost use Rattle.lnt_records.specs.Differing.{IsStarted};
 ghost use Rattle.lnt_paths.specs.Held.{held_span};
@@ -13,7 +13,7 @@ ghost use Rattle.lnt_table.specs.Headline.{IsFoundTooLong};
 ghost use Rattle.lnt_table.specs.Stretches.{IsAnyDiffering, IsDifferingFrom, IsStartedAny};
 ghost use Rattle.lnt_header.specs.declared.unit_parts.UnitParts.{UnitParts};
 
-use lnt_input::{Source, Stop};
+use lnt_io::{Source, Stop};
 use lnt_lines::{Index, Spans};
 use lnt_paths::{DifferencesByPath, HeldSpan, HeldTable, PathVersion, hold_table};
 use lnt_records::{Differing, DifferingRead, Remaining, compare_all, differ_or_take};

@@ -9,7 +9,7 @@ use Rattle.lnt_header.specs.declared.op.Op.{Op}
 use Rattle.lnt_header.specs.Encoding.{RefusedPut}
 use Rattle.lnt_header_bytes.specs.HeaderBytes.{HeaderBytesIn}
 use Rattle.lnt_header.specs.Joins.{Each}
-use Rattle.lnt_header_encode.proofs.ProgramLaws.{shorter_program}
+use Rattle.lnt_header_bytes.proofs.ProgramLaws.{shorter_program}
 use Rattle.lnt_ops.specs.OpBytes.{OpBytes}
 use Rattle.lnt_header.specs.declared.unit_parts.UnitParts.{UnitParts}
 use Rattle.lnt_unit.specs.UnitBytes.{UnitBytesIn}

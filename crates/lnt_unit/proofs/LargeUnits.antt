@@ -6,7 +6,7 @@ use Rattle.lnt_wire.specs.declared.put.EncodeFault.TheVariants.{Memory}
 use Rattle.lnt_wire.specs.Bytes.{IsShortest}
 use Rattle.lnt_header.specs.declared.header.HeaderParts.{HeaderParts}
 use Rattle.lnt_header.specs.Joins.{Each}
-use Rattle.lnt_header_encode.specs.Large.{HasLargeOffset, IfTooLarge, IsTooLong}
+use Rattle.lnt_header_bytes.specs.Large.{HasLargeOffset, IfTooLarge, IsTooLong}
 use Rattle.lnt_ops.specs.OpBytes.{OpBytes}
 use Rattle.lnt_header.specs.declared.unit_parts.UnitParts.{UnitParts}
 use Rattle.lnt_unit.specs.TooLong.{IsTooLongUnit}

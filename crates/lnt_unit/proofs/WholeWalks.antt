@@ -13,7 +13,7 @@ use Rattle.lnt_header.specs.OpRules.{StandsFor}
 use Rattle.lnt_header.specs.declared.op.Op.{Op}
 use Rattle.lnt_header.specs.declared.op.OpView.{OpView}
 use Rattle.lnt_ops.specs.Walks.{GivesOperation, Walk, GivesEach}
-use Rattle.lnt_stream.specs.Units as stream
+use Rattle.lnt_unit.specs.Units as stream
 use Rattle.lnt_header.specs.declared.unit_parts.UnitParts.{UnitParts}
 use Rattle.lnt_unit.specs.BrokenUnits.{BrokenSection, BrokenUnit, IsTrueFault}
 use Rattle.lnt_unit.specs.Laws.{AreGiven, BeginsOf, FaultOfSection, WholeWalk}

@@ -12,7 +12,7 @@ use Rattle.lnt_header.specs.OpRules.{Admits, StandsFor}
 use Rattle.lnt_header.specs.declared.op.Op.{Op}
 use Rattle.lnt_header.specs.declared.op.OpView.{OpView}
 use Rattle.lnt_ops.specs.Walks.{Ends, Fails, GivesEach, Walk}
-use Rattle.lnt_stream.specs.Units as stream
+use Rattle.lnt_unit.specs.Units as stream
 use Rattle.lnt_header.specs.declared.unit_parts.UnitParts.{UnitParts}
 use Rattle.lnt_unit.specs.BrokenUnits.{BrokenSection, BrokenUnit, IsTrueFault}
 use Rattle.lnt_unit.specs.UnitBytes.{UnitBytesIn, SectionBytes}

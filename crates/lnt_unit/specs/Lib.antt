@@ -1,14 +1,25 @@
+pub mod AllowedUnits
 pub mod BrokenUnits
+pub mod ConversionSteps
+pub mod ConvertFaults
+pub mod ConvertedUnits
 pub mod Converting
+pub mod FaultTexts
 pub mod Laws
+pub mod Readers
+pub mod Sizes
+pub mod Spelled
 pub mod Stepping
+pub mod Steps
+pub mod Stops
 pub mod TooLong
 pub mod UnitBytes
+pub mod Units
 pub mod Views
 -- what public clauses say of units as values
 pub use Rattle.lnt_header.specs.Conversion
 pub use Rattle.lnt_header.specs.Encoding
-pub use Rattle.lnt_header.specs.FaultTexts
+pub use Rattle.lnt_header.specs.FaultTexts as UnitFaultTexts
 pub use Rattle.lnt_header.specs.HeaderNumbers
 pub use Rattle.lnt_header.specs.HeaderRules
 pub use Rattle.lnt_header.specs.HeaderTests
@@ -21,15 +32,10 @@ pub use Rattle.lnt_header_bytes.specs.Broken
 pub use Rattle.lnt_header_bytes.specs.HeaderBytes
 pub use Rattle.lnt_header_bytes.specs.Kept
 pub use Rattle.lnt_header_bytes.specs.Marks
-pub use Rattle.lnt_header_encode.specs.Large
+pub use Rattle.lnt_header_bytes.specs.Large
 pub use Rattle.lnt_ops.specs.OpBytes
 pub use Rattle.lnt_ops.specs.Short
 pub use Rattle.lnt_ops.specs.Walks
--- and of what is read unit by unit
-pub use Rattle.lnt_stream.specs.Readers
-pub use Rattle.lnt_stream.specs.Steps
-pub use Rattle.lnt_stream.specs.Stops
-pub use Rattle.lnt_stream.specs.Units
 -- the types of units that they speak of
 pub use Rattle.lnt_header.specs.declared.header.HeaderParts as DeclaredHeaderParts
 pub use Rattle.lnt_header.specs.declared.op.Op as DeclaredOp

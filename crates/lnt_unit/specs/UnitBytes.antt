@@ -1,8 +1,8 @@
 -- The bytes of units and of a section (DWARF 5, section 6.2.4).
-use Rattle.std.specs.Prelude.{◌≡◌, ℕ, ◌+◌, List, [], ◌∷◌, ◌++◌, length}
+use Rattle.std.specs.Prelude.{◌≡◌, ℕ, List}
 use Rattle.lnt_wire.specs.declared.format.Order.{Order}
 use Rattle.lnt_header.specs.declared.unit_parts.UnitParts.{UnitParts}
-use Rattle.lnt_header.specs.Joins.{Each}
+use Rattle.lnt_header.specs.Joins.{Each, PlacedFrom}
 use Rattle.lnt_ops.specs.OpBytes.{OpBytes}
 use Rattle.lnt_header_bytes.specs.HeaderBytes.{HeaderBytes}
 
@@ -19,10 +19,7 @@ pub record UnitBytesIn (order : Order) (unit : UnitParts) (bytes : List ℕ) : T
 
 -- The units from an offset on, each with its own offset.
 abbrev pub UnitsFrom : Order → ℕ → List (ℕ × UnitParts) → List ℕ → Type 0
-UnitsFrom order offset [] bytes = bytes ≡ []
-UnitsFrom order offset (unit ∷ units) bytes =
-    (front : List ℕ) × (back : List ℕ) × (unit.0 ≡ offset) × UnitBytesIn order unit.1 front
-    × (bytes ≡ front ++ back) × UnitsFrom order (offset + length front) units back
+UnitsFrom order = PlacedFrom (λ unit. UnitBytesIn order unit.1)
 
 -- A section is the bytes of its units, one after another, and nothing else.
 abbrev pub SectionBytes : Order → List (ℕ × UnitParts) → List ℕ → Type 0

@@ -2,12 +2,12 @@
 ghost use Rattle.std.specs.Prelude.{◌⊎◌, IfOk, IfErr};
 ghost use Rattle.lnt_wire.specs.Bytes.{IsShortest};
 ghost use Rattle.lnt_header.specs.Encoding.{RefusedPut};
-ghost use Rattle.lnt_header_encode.specs.Large.{HasLargeOffset, IfTooLarge};
+ghost use Rattle.lnt_header_bytes.specs.Large.{HasLargeOffset, IfTooLarge};
 ghost use Rattle.lnt_unit.specs.TooLong.{IsTooLongUnit};
 ghost use Rattle.lnt_unit.specs.UnitBytes.{UnitBytesIn};
 
 use lnt_header::Unit;
-use lnt_header_encode::encode_header;
+use lnt_header_bytes::encode_header;
 use lnt_ops::put_ops;
 use lnt_wire::EncodeFault;
 use std::alloc::Global;

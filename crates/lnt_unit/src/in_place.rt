@@ -3,10 +3,10 @@ ghost use Rattle.std.specs.Prelude.{◌≡◌, ◌≢◌, ◌≤◌, length, dro
 ghost use Rattle.lnt_header_bytes.specs.Broken.{BrokenHeader};
 ghost use Rattle.lnt_unit.specs.BrokenUnits.{BrokenUnit};
 
+use crate::UnitBuffer;
 use lnt_header::Header;
 use lnt_header_bytes::{HeaderInPlace, HeaderView, view_header};
 use lnt_ops::Ops;
-use lnt_stream::UnitBuffer;
 use lnt_wire::{Fault, Reason};
 use std::alloc::Global;
 use std::marker::Model;

@@ -1,5 +1,5 @@
--- Why the readers of a frame's parts fail: that of the initial length, and that of the version. No public contract speaks of
--- these; why bytes don't begin with a frame is `IsFrameFault`.
+-- Why the readers of a frame's parts fail: that of the initial length, and that of the version. Why bytes don't begin with a
+-- frame is `IsFrameFault`.
 use Rattle.std.specs.Prelude.{◌≡◌, ◌≢◌, ℕ, ◌^◌, ◌<◌, List, ◌++◌, length}
 use Rattle.lnt_wire.specs.declared.format.Order.{Order}
 use Rattle.lnt_wire.specs.declared.fault.Reason.{Reason}

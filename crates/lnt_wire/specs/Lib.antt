@@ -20,8 +20,8 @@ pub mod Skipping
 pub mod Spelled
 pub mod Texts
 -- what public clauses say of sources
-pub use Rattle.lnt_input.specs.CountedSources
-pub use Rattle.lnt_input.specs.FaultTexts as SourceTexts
-pub use Rattle.lnt_input.specs.Pulling
-pub use Rattle.lnt_input.specs.declared.source.ReadFault as DeclaredReadFault
-pub use Rattle.lnt_input.specs.declared.stop.Stop as DeclaredStop
+pub use Rattle.lnt_io.specs.CountedSources
+pub use Rattle.lnt_io.specs.FaultTexts as SourceTexts
+pub use Rattle.lnt_io.specs.Pulling
+pub use Rattle.lnt_io.specs.declared.source.ReadFault as DeclaredReadFault
+pub use Rattle.lnt_io.specs.declared.stop.Stop as DeclaredStop

@@ -22,7 +22,7 @@ mod value;
 mod view;
 
 // The source of the bytes.
-pub use lnt_input::{Counted, ReadFault, Source, Stop as SourceStop, read_all};
+pub use lnt_io::{Counted, ReadFault, Source, Stop as SourceStop, read_all};
 
 // What they encode.
 pub use form::{Form, FormValue};

@@ -1,6 +1,7 @@
 //! Files by their names, and the command over them.
 use crate::samples::{Narrow, Reader, TABLE, failing, whole};
 use lnt_cli::{CliStop, Opener, Status, run};
+use lnt_io::Counted;
 use std::alloc::{AllocError, Global};
 use std::io;
 
@@ -48,6 +49,8 @@ impl<'a> Opener for Files<'a> {
         let (bytes, _) = bytes.split_at(self.good.min(bytes.len()));
         Some(failing(bytes))
     }
+
+    fn could_not_read(&mut self, _name: &str, _source: &Counted<Reader<'a>>) {}
 }
 
 fn words(alloc: Global, line: &str) -> Result<Vec<String>, AllocError> {

@@ -1,7 +1,7 @@
 //! Sections checked against tables by path.
 use crate::samples::{PLAIN, TABLE, whole};
 use crate::tables::lines::{OPTIONS, STRINGS};
-use lnt_input::Counted;
+use lnt_io::Counted;
 use lnt_lines::{JudgedIndex, index_section};
 use lnt_records::TableFault;
 use lnt_table::{

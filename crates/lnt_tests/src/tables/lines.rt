@@ -1,7 +1,7 @@
 //! Sections judged.
 use crate::samples::{LISTED, OF_NOTHING, PLAIN, Reader, failing, whole};
 use crate::tables::worked::{at, narrow, wide};
-use lnt_input::{Counted, Stop};
+use lnt_io::{Counted, Stop};
 use lnt_lines::{Judged, Lines, No, Options, verify};
 use lnt_spans::{Answer, Probes, Span, Version};
 use lnt_wire::{Order, Strings};

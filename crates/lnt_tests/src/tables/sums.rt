@@ -1,7 +1,7 @@
 //! The sums of sources.
 use crate::samples::{OF_NOTHING, Reader, failing, whole};
-use lnt_input::{Counted, Stop};
-use lnt_sums::{Agreement, md5_agrees, sum_of};
+use lnt_answers::{Agreement, md5_agrees, sum_of};
+use lnt_io::{Counted, Stop};
 
 // Of the letters `abc`, as in RFC 1321, appendix A.5.
 const OF_ABC: [u8; 16] = [

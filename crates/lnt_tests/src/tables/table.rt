@@ -2,7 +2,7 @@
 use crate::samples::{PLAIN, Reader, Refusing, TABLE, failing, whole};
 use crate::tables::lines::{OPTIONS, STRINGS, lines_of};
 use crate::tables::worked::{at, narrow};
-use lnt_input::Counted;
+use lnt_io::Counted;
 use lnt_lines::{JudgedIndex, index_section};
 use lnt_spans::{Difference, Version};
 use lnt_table::{

@@ -1,7 +1,7 @@
 use crate::samples::{ENDLESS, PLAIN, Pieces, SHORT, WIDE};
 use crate::unit::worked::joined;
-use lnt_input::{Counted, Source};
-use lnt_stream::{SectionReader, SectionStop, UnitBuffer};
+use lnt_io::{Counted, Source};
+use lnt_unit::{SectionReader, SectionStop, UnitBuffer};
 use lnt_wire::{Fault, Order, Reason, frames};
 use std::alloc::{AllocError, Global};
 use std::test::Fail;

@@ -1,5 +1,5 @@
 use crate::samples::Pieces;
-use lnt_input::{Counted, Source, Stop, read_all};
+use lnt_io::{Counted, Source, Stop, read_all};
 use std::alloc::{AllocError, Global};
 use std::test::Fail;
 

@@ -1,9 +1,9 @@
 use crate::samples::{PLAIN, Pieces, WIDE};
 use crate::unit::worked::{joined, unit_of};
-use lnt_input::Counted;
-use lnt_stream::{SectionReader, UnitBuffer};
-use lnt_unit::{Unit, UnitView, decode_section};
-use lnt_unit_encode::{convert_section, encode_unit};
+use lnt_io::Counted;
+use lnt_unit::{
+    SectionReader, Unit, UnitBuffer, UnitView, convert_section, decode_section, encode_unit,
+};
 use lnt_wire::{Format, Order};
 use std::alloc::Global;
 

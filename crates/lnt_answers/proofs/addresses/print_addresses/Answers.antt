@@ -1,6 +1,6 @@
 use Rattle.std.proofs.Common.{◌≡◌, ◌∙◌, ◌<◌, true, false, sym, length, rules, refl}
-use Rattle.lnt_output.proofs.FrontLaws.{so_stopped}
-use Rattle.lnt_input.specs.Pulling.{IsAtEnd}
+use Rattle.lnt_io.proofs.FrontLaws.{so_stopped}
+use Rattle.lnt_io.specs.Pulling.{IsAtEnd}
 use Rattle.lnt_answers.proofs.AddressLemmas.{front_of, is_empty, not_empty, pulls_front, text_begun, text_ended, text_ended_within}
 use Rattle.lnt_answers.proofs.AddressLemmas.{text_kept, text_more, text_pulled}
 use Rattle.lnt_answers.proofs.AddressFronts.{last_stopped, text_kept_begun, text_stopped, text_unbegun}

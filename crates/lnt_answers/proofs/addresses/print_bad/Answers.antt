@@ -1,7 +1,7 @@
 use Rattle.std.proofs.Common.{◌++◌, codes, subst, rules}
 use Rattle.std.specs.Io.KnownBytes.{Appends}
 use Rattle.lnt_text.specs.Quotes.{quoted_text}
-use Rattle.lnt_output.proofs.FrontLaws.{front_none, front_same, so_stopped}
+use Rattle.lnt_io.proofs.FrontLaws.{front_none, front_same, so_stopped}
 use Rattle.lnt_answers.proofs.RoomLaws.{text_in_room}
 use Rattle.lnt_answers.proofs.addresses.print_bad.Goals as goal
 

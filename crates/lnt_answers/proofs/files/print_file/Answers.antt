@@ -1,4 +1,4 @@
-use Rattle.lnt_output.proofs.FrontLaws.{front_none, so_stopped}
+use Rattle.lnt_io.proofs.FrontLaws.{front_none, so_stopped}
 use Rattle.lnt_answers.specs.FileLines.{file_record}
 use Rattle.lnt_answers.proofs.files.print_file.Goals as goal
 

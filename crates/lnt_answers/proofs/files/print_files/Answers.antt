@@ -1,7 +1,7 @@
 use Rattle.std.proofs.Common.{rules, codes, arith}
 use Rattle.std.specs.List.{flat_map}
 use Rattle.std.proofs.lemmas.Grind.{elements}
-use Rattle.lnt_output.proofs.FrontLaws.{front_before, front_in_items, so_stopped}
+use Rattle.lnt_io.proofs.FrontLaws.{front_before, front_in_items, so_stopped}
 use Rattle.lnt_answers.proofs.FileLemmas.{gained_all, gained_more}
 use Rattle.lnt_answers.specs.FileLines.{unit_records}
 use Rattle.lnt_answers.proofs.files.print_files.Goals as goal

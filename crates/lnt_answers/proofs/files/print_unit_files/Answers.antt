@@ -1,5 +1,5 @@
 use Rattle.std.proofs.Common.{arith, rules}
-use Rattle.lnt_output.proofs.FrontLaws.{so_stopped}
+use Rattle.lnt_io.proofs.FrontLaws.{so_stopped}
 use Rattle.lnt_lines.specs.Indexed.{file_count_in}
 use Rattle.lnt_answers.proofs.FileLemmas.{records_stopped, records_none, records_more}
 use Rattle.lnt_answers.proofs.files.print_unit_files.Goals as goal

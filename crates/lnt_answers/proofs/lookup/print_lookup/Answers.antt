@@ -1,6 +1,6 @@
 use Rattle.std.proofs.Common.{subst}
 use Rattle.std.specs.Io.KnownBytes.{Appends}
-use Rattle.lnt_output.proofs.FrontLaws.{front_none, front_same, so_stopped}
+use Rattle.lnt_io.proofs.FrontLaws.{front_none, front_same, so_stopped}
 use Rattle.lnt_answers.proofs.RoomLaws.{text_in_room}
 use Rattle.lnt_answers.specs.Lines.{lookup_line}
 use Rattle.lnt_answers.proofs.lookup.print_lookup.Goals as goal

@@ -1,6 +1,6 @@
 use Rattle.std.proofs.Common.{[], ◌∙◌, arith}
 use Rattle.std.proofs.lemmas.Grind.{common_steps}
-use Rattle.lnt_output.proofs.FrontLaws.{front_in_items, so_stopped}
+use Rattle.lnt_io.proofs.FrontLaws.{front_in_items, so_stopped}
 use Rattle.lnt_answers.proofs.FileLemmas.{gained_more}
 use Rattle.lnt_answers.specs.Lines.{lookup_line}
 use Rattle.lnt_answers.proofs.lookup.print_lookups.Goals as goal

@@ -1,6 +1,6 @@
 use Rattle.std.proofs.Common.{rules, subst}
 use Rattle.std.specs.Io.KnownBytes.{Appends}
-use Rattle.lnt_output.proofs.FrontLaws.{so_stopped}
+use Rattle.lnt_io.proofs.FrontLaws.{so_stopped}
 use Rattle.lnt_answers.proofs.RoomLaws.{text_in_room}
 use Rattle.lnt_answers.proofs.SumFronts.{sum_stopped, sums_unbegun}
 use Rattle.lnt_answers.proofs.SumLemmas.{sum_listed}

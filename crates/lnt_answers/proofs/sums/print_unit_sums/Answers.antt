@@ -1,5 +1,5 @@
 use Rattle.std.proofs.Common.{arith}
-use Rattle.lnt_output.proofs.FrontLaws.{so_stopped}
+use Rattle.lnt_io.proofs.FrontLaws.{so_stopped}
 use Rattle.lnt_lines.specs.Indexed.{file_count_in}
 use Rattle.lnt_answers.proofs.SumFronts.{sums_stopped}
 use Rattle.lnt_answers.proofs.SumLemmas.{sums_more}

@@ -1,4 +1,4 @@
-use Rattle.lnt_sources.specs.Files.{TellsNoMore}
+use Rattle.lnt_io.specs.Files.{TellsNoMore}
 use Rattle.lnt_answers.specs.SumLines.{AreSumsTold, listed_below}
 use Rattle.lnt_answers.proofs.sums.print_unit_sums.Given as goal
 

@@ -1,4 +1,4 @@
-use Rattle.lnt_output.proofs.FrontLaws.{so_stopped}
+use Rattle.lnt_io.proofs.FrontLaws.{so_stopped}
 use Rattle.lnt_cli.proofs.StopLemmas.{places_stopped}
 use Rattle.lnt_cli.proofs.judge.print_places.Goals as goal
 

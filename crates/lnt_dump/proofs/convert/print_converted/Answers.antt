@@ -1,5 +1,5 @@
 use Rattle.std.proofs.Common.{ℕ, List, subst}
-use Rattle.lnt_unit_encode.specs.ConvertFaults.{IsConvertFault}
+use Rattle.lnt_unit.specs.ConvertFaults.{IsConvertFault}
 use Rattle.lnt_dump.proofs.SectionFronts.{refusal_begun}
 use Rattle.lnt_dump.proofs.convert.print_converted.Goals as goal
 

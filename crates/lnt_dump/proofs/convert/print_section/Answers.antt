@@ -1,9 +1,9 @@
 use Rattle.std.proofs.Common.{◌≡◌, ◌<◌, ◌++◌, ℕ, List, length, sym, ap, subst, ◌∙◌, arith, rules}
 use Rattle.std.proofs.lemmas.Bool.{eqb-false, eqb-true}
 use Rattle.std.specs.Io.KnownBytes.{Appends}
-use Rattle.lnt_output.specs.Fronts.{AppendsFront}
-use Rattle.lnt_unit_encode.proofs.ConvertedLaws.{stops_by_memory}
-use Rattle.lnt_output.proofs.FrontLaws.{so_stopped}
+use Rattle.lnt_io.specs.Fronts.{AppendsFront}
+use Rattle.lnt_unit.proofs.ConvertedLaws.{stops_by_memory}
+use Rattle.lnt_io.proofs.FrontLaws.{so_stopped}
 use Rattle.lnt_dump.proofs.SectionFronts.{section_cut, section_stopped}
 use Rattle.lnt_dump.proofs.Sections.{section_more, section_handed_on, section_printed, section_begun, unit_long}
 use Rattle.lnt_dump.proofs.convert.print_section.Goals as goal

@@ -1,6 +1,6 @@
 use Rattle.std.proofs.Common.{ap, rules}
-use Rattle.lnt_output.proofs.FrontLaws.{so_stopped}
-use Rattle.lnt_stream.specs.Readers.{offset_of, order_of, source_of}
+use Rattle.lnt_io.proofs.FrontLaws.{so_stopped}
+use Rattle.lnt_unit.specs.Readers.{offset_of, order_of, source_of}
 use Rattle.lnt_dump.proofs.Dumps.{next_framed, units_broken, units_cut, units_end, units_fault_cut, units_faulty, units_more, units_none}
 use Rattle.lnt_dump.proofs.Dumps.{units_stay}
 use Rattle.lnt_dump.proofs.dump.print_dump.Goals as goal

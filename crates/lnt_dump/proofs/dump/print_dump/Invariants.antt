@@ -1,6 +1,6 @@
 use Rattle.std.proofs.Common.{◌≡◌}
-use Rattle.lnt_stream.specs.declared.reader.Progress.TheVariants.{Reading}
-use Rattle.lnt_stream.specs.Readers.{offset_of, order_of, progress_of, source_of}
+use Rattle.lnt_unit.specs.declared.reader.Progress.TheVariants.{Reading}
+use Rattle.lnt_unit.specs.Readers.{offset_of, order_of, progress_of, source_of}
 use Rattle.lnt_dump.proofs.Dumps.{UnitsTold}
 use Rattle.lnt_dump.proofs.dump.print_dump.Given as goal
 

@@ -1,4 +1,4 @@
-use Rattle.lnt_output.proofs.FrontLaws.{so_stopped}
+use Rattle.lnt_io.proofs.FrontLaws.{so_stopped}
 use Rattle.lnt_dump.proofs.Dumps.{faulty_begun, faulty_told, valid_begun, valid_told}
 use Rattle.lnt_dump.proofs.dump.print_judged.Goals as goal
 

@@ -1,4 +1,4 @@
-use Rattle.lnt_output.proofs.FrontLaws.{front_before, so_stopped}
+use Rattle.lnt_io.proofs.FrontLaws.{front_before, so_stopped}
 use Rattle.lnt_dump.proofs.Pages.{first_cut, parts_cut, parts_whole, second_cut}
 use Rattle.lnt_dump.proofs.dump.print_valid.Goals as goal
 

@@ -1,5 +1,5 @@
 use Rattle.std.proofs.Common.{rules}
-use Rattle.lnt_output.proofs.FrontLaws.{so_stopped}
+use Rattle.lnt_io.proofs.FrontLaws.{so_stopped}
 use Rattle.lnt_dump.proofs.Entries.{all_told, at_first, at_next, is_there, line_cut, lines_stay}
 use Rattle.lnt_dump.proofs.header.print_entries.Goals as goal
 

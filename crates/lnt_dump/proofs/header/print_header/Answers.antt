@@ -1,4 +1,4 @@
-use Rattle.lnt_output.proofs.FrontLaws.{front_none, so_stopped}
+use Rattle.lnt_io.proofs.FrontLaws.{front_none, so_stopped}
 use Rattle.lnt_dump.proofs.Headers.{directories_cut}
 use Rattle.lnt_dump.proofs.header.print_header.Goals as goal
 

@@ -1,9 +1,9 @@
 use Rattle.std.proofs.Common.{ap, rules}
-use Rattle.lnt_output.proofs.FrontLaws.{so_stopped}
+use Rattle.lnt_io.proofs.FrontLaws.{so_stopped}
 use Rattle.lnt_dump.proofs.FrameFronts.{fault_cut, units_cut, units_stopped}
 use Rattle.lnt_dump.proofs.Frames.{frames_faulty, frames_more, frames_none}
 use Rattle.lnt_dump.proofs.units.print_units.Goals as goal
-use Rattle.lnt_stream.specs.Readers.{offset_of, order_of, source_of}
+use Rattle.lnt_unit.specs.Readers.{offset_of, order_of, source_of}
 
 pub loop-line-init : goal.loop-line-init
 loop-line-init g c = record {

@@ -1,6 +1,6 @@
 use Rattle.std.proofs.Common.{◌≡◌}
-use Rattle.lnt_stream.specs.declared.reader.Progress.TheVariants.{Reading}
-use Rattle.lnt_stream.specs.Readers.{offset_of, order_of, progress_of, source_of}
+use Rattle.lnt_unit.specs.declared.reader.Progress.TheVariants.{Reading}
+use Rattle.lnt_unit.specs.Readers.{offset_of, order_of, progress_of, source_of}
 use Rattle.lnt_dump.proofs.Frames.{FramesTold}
 use Rattle.lnt_dump.proofs.units.print_units.Given as goal
 

@@ -1,6 +1,6 @@
 use Rattle.std.proofs.Common.{◌≡◌, ◌∙◌, length, sym, ap, arith}
 use Rattle.std.proofs.lemmas.Bool.{eqb-true}
-use Rattle.lnt_output.proofs.FrontLaws.{so_stopped}
+use Rattle.lnt_io.proofs.FrontLaws.{so_stopped}
 use Rattle.lnt_dump.proofs.Anew.{anew_cut, anew_last_cut, anew_printed, anew_stopped, anew_turned}
 use Rattle.lnt_dump.proofs.upgrade.print_anew.Goals as goal
 

@@ -3,9 +3,10 @@ use Rattle.lnt_spans.specs.declared.span.Span.{Span}
 use Rattle.lnt_spans.specs.declared.position.Position.{Position}
 use Rattle.lnt_spans.specs.Spans.{AreInOrder, span_answer}
 use Rattle.std.specs.List.Sorted.{IsPermutation}
+use Rattle.lnt_header.specs.Joins.{AreRising}
 use Rattle.lnt_sequences.specs.RowSpans.{spans_of}
 use Rattle.lnt_sequences.specs.Sequences.{kept_sequences, line_answer}
-use Rattle.lnt_lines.specs.Contents.{AreRising, AreWhole}
+use Rattle.lnt_lines.specs.Contents.{AreWhole}
 use Rattle.lnt_lines.proofs.IndexLemmas.{files_zip, same_number}
 use Rattle.lnt_lines.proofs.gather.lines_of.Goals as goal
 

@@ -1,10 +1,10 @@
 use Rattle.std.proofs.Common.{◌∙◌, arith}
 use Rattle.std.proofs.lemmas.Grind.{common_steps}
 use Rattle.std.proofs.lemmas.Result.{err_from_is_err_and}
-use Rattle.lnt_stream.specs.Units.{IsNextUnit}
+use Rattle.lnt_unit.specs.Units.{IsNextUnit}
 use Rattle.lnt_lines.proofs.SectionLemmas.{judged_more, stop_refused, unit_refused}
 use Rattle.lnt_lines.proofs.section.judge_units.Goals as goal
-use Rattle.lnt_stream.specs.Readers.{offset_of, order_of, source_of}
+use Rattle.lnt_unit.specs.Readers.{offset_of, order_of, source_of}
 
 pub returns-in-Err-clause-bad : goal.returns-in-Err-clause-bad
 returns-in-Err-clause-bad g c =

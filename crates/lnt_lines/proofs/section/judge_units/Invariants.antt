@@ -1,6 +1,6 @@
 use Rattle.std.proofs.Common.{◌≡◌, ◌+◌}
-use Rattle.lnt_stream.specs.declared.reader.Progress.TheVariants.{Reading}
-use Rattle.lnt_stream.specs.Readers.{loan_of, offset_of, order_of, progress_of, source_of}
+use Rattle.lnt_unit.specs.declared.reader.Progress.TheVariants.{Reading}
+use Rattle.lnt_unit.specs.Readers.{loan_of, offset_of, order_of, progress_of, source_of}
 use Rattle.lnt_lines.proofs.SectionLemmas.{JudgedSoFar}
 use Rattle.lnt_lines.proofs.section.judge_units.Given as goal
 

@@ -1,7 +1,7 @@
 use Rattle.std.proofs.Common.{◌≡◌}
-use Rattle.lnt_stream.specs.declared.reader.Progress.TheVariants.{Reading}
+use Rattle.lnt_unit.specs.declared.reader.Progress.TheVariants.{Reading}
 use Rattle.lnt_notes.proofs.texts.strings_of.Given as goal
-use Rattle.lnt_stream.specs.Readers.{progress_of, source_of}
+use Rattle.lnt_unit.specs.Readers.{progress_of, source_of}
 
 abbrev pub invariant-loop-buffer : goal.invariant-loop-buffer
 invariant-loop-buffer g l = progress_of l.reader ≡ Reading

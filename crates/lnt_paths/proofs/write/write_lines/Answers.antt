@@ -7,8 +7,8 @@ use Rattle.lnt_spans.proofs.ComingLaws.{none_given, one_given}
 use Rattle.lnt_paths.specs.Joining.{WillGive}
 use Rattle.lnt_paths.specs.PathAnswers.{PathAnswer, path_answer}
 use Rattle.lnt_paths.proofs.WriteLemmas.{line_begun, lines_so_far, names_begun, names_written, no_lines_begun, one_written}
-use Rattle.lnt_output.specs.Fronts.{AppendsFront}
-use Rattle.lnt_output.proofs.FrontLaws.{so_stopped}
+use Rattle.lnt_io.specs.Fronts.{AppendsFront}
+use Rattle.lnt_io.proofs.FrontLaws.{so_stopped}
 use Rattle.lnt_paths.proofs.write.write_lines.Goals as goal
 
 pub loop-line-init : goal.loop-line-init

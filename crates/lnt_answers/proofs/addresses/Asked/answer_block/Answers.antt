@@ -1,5 +1,5 @@
 use Rattle.std.proofs.Common.{◌+◌, rules}
-use Rattle.lnt_output.proofs.FrontLaws.{so_stopped}
+use Rattle.lnt_io.proofs.FrontLaws.{so_stopped}
 use Rattle.lnt_answers.proofs.AddressFronts.{block_kept, block_stopped}
 use Rattle.lnt_answers.proofs.AddressLemmas.{block_ended, block_more}
 use Rattle.lnt_answers.proofs.CommaLemmas.{rest_after}

@@ -1,5 +1,5 @@
 use Rattle.std.proofs.Common.{Some, None, refl}
-use Rattle.lnt_output.proofs.FrontLaws.{so_stopped}
+use Rattle.lnt_io.proofs.FrontLaws.{so_stopped}
 use Rattle.lnt_answers.proofs.AddressFronts.{begun_one}
 use Rattle.lnt_answers.proofs.AddressLemmas.{told_one}
 use Rattle.lnt_answers.proofs.addresses.Asked.answer_line.Goals.{in-Some+in_ok-print_lookup-in-Some, in-None+in_ok-print_bad-in-None}

@@ -1,5 +1,5 @@
 use Rattle.std.proofs.Common.{rules}
-use Rattle.lnt_output.proofs.FrontLaws.{so_stopped}
+use Rattle.lnt_io.proofs.FrontLaws.{so_stopped}
 use Rattle.lnt_cli.proofs.StopLemmas.{check_stopped}
 use Rattle.lnt_cli.proofs.session.Session.check_table.Goals as goal
 

@@ -1,0 +1,103 @@
+//! The address table of a good section.
+ghost use Rattle.std.specs.Prelude.{◌≡◌, Bool, ℕ, List, Option, IfErr, IfOk, OnErr, OnOk, string_bytes};
+ghost use Rattle.std.specs.Io.KnownBytes.{Appends};
+ghost use Rattle.lnt_lines.specs.Indexed.{IsIndexOf};
+ghost use Rattle.lnt_io.specs.Fronts.{AppendsFront};
+ghost use Rattle.lnt_io.specs.Halts.{IsPrinting};
+ghost use Rattle.lnt_io.specs.declared.status.Status.TheVariants.{Done};
+ghost use Rattle.lnt_table.specs.ByPath.{told_path};
+ghost use Rattle.lnt_table.specs.Written.{BeginsTableOfUnits, IsTableOfUnits};
+ghost use Rattle.lnt_header.specs.declared.unit_parts.UnitParts.{UnitParts};
+ghost use Rattle.lnt_answers.specs.PathTables.{BeginsPrintedTable, IsPrintedTable, operation_line};
+ghost use Rattle.lnt_answers.specs.Stepping.{halt_of_write};
+
+use lnt_io::{Halt, Status, write_whole};
+use lnt_lines::Index;
+use lnt_paths::{PathTable, PathVersion};
+use lnt_records::WriteStop;
+use lnt_spans::{Position, Version};
+use lnt_table::{OperationLine, write_index, write_paths};
+use std::alloc::{AllocError, Global};
+use std::io::Write;
+
+/// Prints the address table of a good section, in version 1 or 2.
+///
+/// Returns `Done`. Stops with `Write` if the writer failed, and with `Memory`. If it stops, a prefix of the table has been
+/// written, and nothing else.
+pub fn print_table<W: Write>(
+    alloc: Global,
+    index: &Index<'_>,
+    version: Version,
+    out: &mut W,
+) -> Result<Status, Halt>
+    ensures done { IfOk result (λ status. status ≡ Done) }
+    ensures err { IfErr result IsPrinting }
+    ensures table { OnOk result ((bytes : List ℕ) × Appends (W.contents out.old) (W.contents out.new) bytes
+        × ((dead : Option ℕ) (skip : Bool) (units : List (ℕ × UnitParts)) → IsIndexOf dead skip units index.now
+        → IsTableOfUnits version dead skip units bytes)) }
+    ensures begun { OnErr result ((dead : Option ℕ) (skip : Bool) (units : List (ℕ × UnitParts)) → IsIndexOf dead skip units index.now
+        → BeginsTableOfUnits version dead skip units (W.contents out.old) (W.contents out.new)) }
+{
+    match write_index(alloc, index, version, out) {
+        Ok(()) => Ok(Status::Done),
+        Err(stop) => Err(halt_of(stop)),
+    }
+}
+
+/// Prints the address table by path of a good section, in version 3 or 4. If there can't be one, it prints the line of the
+/// least position that no such table can express: a span begins or ends there with an operation index other than 0.
+///
+/// Returns `Done` if the table is printed, and `No` if that line is. Stops with `Write` if the writer failed, and with
+/// `Memory`. If it stops, a prefix of the table or of that line has been written, and nothing else.
+pub fn print_path_table<W: Write>(
+    alloc: Global,
+    index: &Index<'_>,
+    version: PathVersion,
+    out: &mut W,
+) -> Result<Status, Halt>
+    ensures err { IfErr result IsPrinting }
+    ensures table { IfOk result (λ status. (dead : Option ℕ) (skip : Bool) (units : List (ℕ × UnitParts))
+        → IsIndexOf dead skip units index.now
+        → IsPrintedTable version (told_path version index.now dead skip units) (W.contents out.old) (W.contents out.new) status) }
+    ensures begun { OnErr result ((dead : Option ℕ) (skip : Bool) (units : List (ℕ × UnitParts)) → IsIndexOf dead skip units index.now
+        → BeginsPrintedTable version (told_path version index.now dead skip units) (W.contents out.old) (W.contents out.new)) }
+{
+    match write_paths(alloc, index, version, out) {
+        Ok(PathTable::Written) => Ok(Status::Done),
+        Ok(PathTable::OperationIndex(position)) => {
+            print_operation(alloc, position, out)?;
+            Ok(Status::No)
+        }
+        Err(stop) => Err(halt_of(stop)),
+    }
+}
+
+// Prints the line that says that a span begins or ends at this position, whose operation index isn't 0; if it stops, a prefix
+// of that line.
+fn print_operation<W: Write>(alloc: Global, position: Position, out: &mut W) -> Result<(), Halt>
+    ensures err { IfErr result IsPrinting }
+    ensures line { OnOk result (Appends (W.contents out.old) (W.contents out.new) (operation_line position)) }
+    ensures front { OnErr result (AppendsFront (W.contents out.old) (W.contents out.new) (operation_line position)) }
+{
+    let line = line_of(alloc, position)?;
+    write_whole(out, line.as_bytes())?;
+    Ok(())
+}
+
+// The line that `print_operation` prints.
+fn line_of(alloc: Global, position: Position) -> Result<String, AllocError>
+    ensures { IfOk result (λ line. string_bytes line ≡ operation_line position) }
+{
+    format!(in alloc; "{}\n", OperationLine(position))
+}
+
+// How printing ends if a table couldn't be written.
+fn halt_of(stop: WriteStop) -> Halt
+    ensures told { result ≡ halt_of_write stop }
+    ensures err { IsPrinting result }
+{
+    match stop {
+        WriteStop::Memory => Halt::Memory,
+        WriteStop::Write => Halt::Write,
+    }
+}

@@ -1,0 +1,260 @@
+-- What is written of a header whose entries stay where they lie.
+use Rattle.std.proofs.Common.{◌≡◌, ℕ, zero, suc, ◌+◌, ◌<◌, ◌≤◌, List, [], ◌∷◌, ◌++◌, length, take, get_or, refl, sym, ap, subst, ◌∙◌}
+use Rattle.std.proofs.Common.{append_assoc, append-nil, arith}
+use Rattle.std.proofs.lemmas.List.{length-append}
+use Rattle.lnt_wire.specs.At.{At}
+use Rattle.lnt_wire.specs.Bytes.{IsShortest, Appends, NoneSpelled}
+use Rattle.lnt_wire.specs.FormBytes.{FormBytes, ValueBytes, IsTooLarge}
+use Rattle.lnt_wire.specs.InitialLength.{LengthFits}
+use Rattle.lnt_wire.proofs.CodeLaws.{peel_by}
+use Rattle.lnt_wire.proofs.ValueLaws.{same_value}
+use Rattle.lnt_wire.specs.Reading.{Reads}
+use Rattle.lnt_wire.specs.declared.form.FormValue.{FormValue}
+use Rattle.lnt_wire.specs.declared.format.Format.{Format}
+use Rattle.lnt_wire.specs.declared.format.Order.{Order}
+use Rattle.lnt_wire.specs.declared.put.EncodeFault.{EncodeFault}
+use Rattle.lnt_wire.specs.declared.put.EncodeFault.TheVariants.{TooLarge}
+use Rattle.lnt_header_bytes.specs.Borrowed.{BorrowedTable, AreEntryBytes}
+use Rattle.lnt_header.specs.Conversion.{in_format}
+use Rattle.lnt_header.specs.Encoding.{RefusedPut, NoSpelling}
+use Rattle.lnt_header_bytes.specs.HeaderPuts.{EntryParts, around, AddsAround, AddsEntry, RefusesEntry}
+use Rattle.lnt_header_bytes.specs.HeaderBytes.{HeaderBytesIn, HeaderFieldsBytes}
+use Rattle.lnt_header.specs.Joins.{Each}
+use Rattle.lnt_header_bytes.proofs.BorrowedLaws.{others_spelled}
+use Rattle.lnt_header.proofs.PutLaws.{each_begun, each_put, put_as}
+use Rattle.lnt_header_bytes.proofs.TableLaws.{entry_code}
+use Rattle.lnt_header_bytes.proofs.ValueLaws.{AreReadTo, read_none, read_more, entry_read, no_entry}
+use Rattle.lnt_header_bytes.specs.Layouts.{entry_of}
+use Rattle.lnt_header_bytes.specs.TableBytes.{ValuesBytes, EntryBytes}
+use Rattle.lnt_header.specs.declared.header.Entry.{Entry}
+use Rattle.lnt_header.specs.declared.header.HeaderParts.{HeaderParts}
+use Rattle.lnt_header.specs.declared.header.Pair.{Pair}
+use Rattle.lnt_header_bytes.proofs.EncodeLemmas.{large_value, header_added, header_too_long}
+
+-- ---- the values of an entry
+
+-- the values of so many pairs were read and written
+pub record ValuesPut (from : Format) (pairs : List Pair) (format : Format) (order : Order) (count : ℕ) (old now : At)
+    (text_old text_now : List ℕ) : Type 0 where
+  pub values : List FormValue
+  pub read : AreReadTo from pairs count values old now
+  pub put : Appends (Each (FormBytes format order)) values text_old text_now
+
+pub entry_begun : (from : Format) (pairs : List Pair) (format : Format) (order : Order) (at : At) (text : List ℕ)
+    → ValuesPut from pairs format order 0 at at text text
+entry_begun from pairs format order at text =
+    record { values = []; read = read_none from pairs at; put = each_begun (FormBytes format order) text }
+
+pub entry_more : (from : Format) (pairs : List Pair) (format : Format) (order : Order) (i : ℕ) (d : Pair) (value : FormValue)
+    (old middle new : At) (text_old text text_new : List ℕ) → i < length pairs
+    → ValuesPut from pairs format order i old middle text_old text
+    → Reads (ValueBytes from middle.order (get_or pairs i d).form) value middle new → Appends (FormBytes format order) value text text_new
+    → ValuesPut from pairs format order (i + 1) old new text_old text_new
+entry_more from pairs format order i d value old middle new text_old text text_new lt p r w = record {
+  values = p.values ++ value ∷ [];
+  read = read_more from pairs i d p.values value old middle new lt p.read r;
+  put = each_put (FormBytes format order) p.values value text_old text text_new p.put w;
+}
+
+pub entry_done : (from : Format) (pairs : List Pair) (format : Format) (order : Order) (count : ℕ) (old new : At)
+    (text_old text_new : List ℕ) → length pairs ≤ count → ValuesPut from pairs format order count old new text_old text_new
+    → AddsEntry from pairs format order old new text_old text_new
+entry_done from pairs format order count old new text_old text_new le p = record {
+  entry = entry_of p.values;
+  read = entry_read from pairs count p.values old new le p.read;
+  put = put_as (Each (FormBytes format order)) (EntryParts format order) p.values (entry_of p.values) text_old text_new (λ x t. t)
+      (λ x t. t) p.put;
+}
+
+-- the values of an entry begin with those that were read
+values_begin : (format : Format) (order : Order) (n : ℕ) (pairs : List Pair) (us vs : List FormValue) (x y r s : List ℕ)
+    → ValuesBytes format order (take n pairs) us y → ValuesBytes format order pairs vs x → x ++ r ≡ y ++ s
+    → (ws : List FormValue) × (vs ≡ us ++ ws)
+values_begin format order zero pairs [] vs x y r s p q e = (vs, refl)
+values_begin format order zero pairs (u ∷ us) vs x y r s p q e = absurd p
+values_begin format order (suc n) [] [] vs x y r s p q e = (vs, refl)
+values_begin format order (suc n) [] (u ∷ us) vs x y r s p q e = absurd p
+values_begin format order (suc n) (pair ∷ pairs) [] vs x y r s p q e = absurd p
+values_begin format order (suc n) (pair ∷ pairs) (u ∷ us) [] x y r s p q e = absurd q
+values_begin format order (suc n) (pair ∷ pairs) (u ∷ us) (v ∷ vs) x y r s p q e =
+    let one = peel_by v u x y r s (λ a b c d. same_value format order v u a b c d (q.0 ∙ sym p.0)) q.1 p.1 e in
+    let rest = values_begin format order n pairs us vs q.1.back p.1.back r s p.1.second q.1.second one.past in
+    let heads : v ≡ u = one.value in
+    let tails : vs ≡ us ++ rest.0 = rest.1 in
+    (rest.0, cc)
+
+-- each of several values has a spelling, if all have
+each_within : {X : Type 0} (P : X → List ℕ → Type 0) (us : List X) (v : X) (ws : List X) (bytes : List ℕ)
+    → Each P ((us ++ v ∷ []) ++ ws) bytes → (x : List ℕ) × P v x
+each_within P [] v ws bytes p = (p.front, p.first)
+each_within P (u ∷ us) v ws bytes p = each_within P us v ws p.back p.second
+
+pub entry_refused : (from : Format) (pairs : List Pair) (format : Format) (order : Order) (i : ℕ) (d : Pair) (value : FormValue)
+    (old middle new : At) (text_old text : List ℕ) (fault : EncodeFault) → i < length pairs
+    → ValuesPut from pairs format order i old middle text_old text
+    → Reads (ValueBytes from middle.order (get_or pairs i d).form) value middle new → (fault ≡ TooLarge → IsTooLarge format value)
+    → RefusesEntry from pairs format order old fault
+entry_refused from pairs format order i d value old middle new text_old text fault lt p r large = record {
+  none = λ is entry x more q whole bytes t.
+      let read = (read_more from pairs i d p.values value old middle new lt p.read r).read in
+      let all = values_begin from old.order (i + 1) pairs (p.values ++ value ∷ []) entry.values x read.spelling more new.rest read.spelled q
+      (sym whole ∙ read.whole) in
+      let one = each_within (FormBytes format order) p.values value all.0 bytes
+      (subst (λ (vs : List FormValue). Each (FormBytes format order) vs bytes) all.1 t) in
+      large_value format order value one.0 (large is) one.1;
+}
+
+-- where an entry stands, each of its values is there
+pub entry_there : (from : Format) (pairs : List Pair) (format : Format) (order : Order) (i : ℕ) (d : Pair) (old middle : At)
+    (text_old text : List ℕ) → i < length pairs → ValuesPut from pairs format order i old middle text_old text
+    → NoneSpelled (ValueBytes from middle.order (get_or pairs i d).form) middle.rest
+    → (NoneSpelled (EntryBytes from old.order pairs) old.rest → ⊥) → ⊥
+entry_there from pairs format order i d old middle text_old text lt p none there =
+    there (no_entry from pairs i d p.values old middle lt p.read none)
+
+-- ---- the entries of a table
+
+-- so many entries were read and written, and the others are left
+pub record EntriesPut (table : BorrowedTable) (format : Format) (order : Order) (count : ℕ) (at : At) (old now : List ℕ) : Type 0 where
+  pub done : List Entry
+  pub left : List Entry
+  pub all : table.entries ≡ done ++ left
+  pub count_is : length done ≡ count
+  pub order_is : at.order ≡ table.order
+  pub rest : Each (EntryBytes table.format table.order table.pairs) left at.rest
+  pub put : Appends (Each (EntryParts format order)) done old now
+
+pub entries_begun : (table : BorrowedTable) (format : Format) (order : Order) (at : At) (text : List ℕ) → at.order ≡ table.order
+    → AreEntryBytes table at.rest → EntriesPut table format order 0 at text text
+entries_begun table format order at text ordered rest =
+    record {
+      done = [];
+      left = table.entries;
+      all = refl;
+      count_is = refl;
+      order_is = ordered;
+      rest = rest;
+      put = each_begun (EntryParts format order) text;
+    }
+
+-- one more of the entries that are left
+record Further (table : BorrowedTable) (format : Format) (order : Order) (done left : List Entry) (entry : Entry) (rest : List ℕ) : Type
+    0 where
+  others : List Entry
+  left_is : left ≡ entry ∷ others
+  spelled : Each (EntryBytes table.format table.order table.pairs) others rest
+
+further : (table : BorrowedTable) (format : Format) (order : Order) (count : ℕ) (done left : List Entry) (entry : Entry) (at next : At)
+    → table.entries ≡ done ++ left → length done ≡ count → count < length table.entries
+    → Each (EntryBytes table.format table.order table.pairs) left at.rest
+    → Reads (EntryBytes table.format table.order table.pairs) entry at next → Further table format order done left entry next.rest
+further table format order count done [] entry at next all is lt rest r =
+    absurd (omega (arith, ap length all, length-append done [], is, lt))
+further table format order count done (e ∷ left) entry at next all is lt rest r =
+    let whole : rest.front ++ rest.back ≡ r.spelling ++ next.rest = sym rest.joined ∙ r.whole in
+    let one = (entry_code table.format table.order table.pairs).one e entry rest.front r.spelling rest.back next.rest rest.first r.spelled
+    whole in
+    record {
+      others = left;
+      left_is = ap (λ (v : Entry). v ∷ left) one.0;
+      spelled = others_spelled table.format table.order table.pairs e left rest.front next.rest at.rest rest rest.first
+          (r.whole ∙ ap (λ (z : List ℕ). z ++ next.rest) (sym one.1));
+    }
+
+ordered_read : (table : BorrowedTable) (entry : Entry) (at next : At) → at.order ≡ table.order
+    → Reads (EntryBytes table.format at.order table.pairs) entry at next
+    → Reads (EntryBytes table.format table.order table.pairs) entry at next
+ordered_read table entry at next ordered r = subst (λ (o : Order). Reads (EntryBytes table.format o table.pairs) entry at next) ordered r
+
+pub entries_more : (table : BorrowedTable) (format : Format) (order : Order) (count : ℕ) (at next : At) (old middle new : List ℕ)
+    → count < length table.entries → EntriesPut table format order count at old middle
+    → AddsEntry table.format table.pairs format order at next middle new → EntriesPut table format order (count + 1) next old new
+entries_more table format order count at next old middle new lt p a =
+    let r = ordered_read table a.entry at next p.order_is a.read in
+    let f = further table format order count p.done p.left a.entry at next p.all p.count_is lt p.rest r in
+    record {
+      done = p.done ++ a.entry ∷ [];
+      left = f.others;
+      all = p.all ∙ ap (λ (l : List Entry). p.done ++ l) f.left_is ∙ sym (append_assoc p.done (a.entry ∷ []) f.others);
+      count_is = omega (arith, p.count_is, length-append p.done (a.entry ∷ []));
+      order_is = a.read.order ∙ p.order_is;
+      rest = f.spelled;
+      put = each_put (EntryParts format order) p.done a.entry old middle new p.put a.put;
+    }
+
+none_left : {X : Type 0} (done left : List X) → length (done ++ left) ≤ length done → left ≡ []
+none_left done [] le = refl
+none_left done (x ∷ left) le = absurd (omega (arith, length-append done (x ∷ left)))
+
+pub entries_done : (table : BorrowedTable) (format : Format) (order : Order) (count n : ℕ) (at : At) (old new : List ℕ)
+    → n ≡ length table.entries → n ≤ count → EntriesPut table format order count at old new
+    → Appends (Each (EntryParts format order)) table.entries old new
+entries_done table format order count n at old new n_is le p =
+    let nothing : p.left ≡ [] = none_left p.done p.left (omega (arith, ap length p.all, p.count_is, le, n_is)) in
+    let same : p.done ≡ table.entries = sym (p.all ∙ ap (λ (l : List Entry). p.done ++ l) nothing ∙ append-nil p.done) in
+    subst (λ (l : List Entry). Appends (Each (EntryParts format order)) l old new) same p.put
+
+-- an entry that has no spelling
+each_past : {X : Type 0} (P : X → List ℕ → Type 0) (us : List X) (vs : List X) (bytes : List ℕ) → Each P (us ++ vs) bytes
+    → (x : List ℕ) × Each P vs x
+each_past P [] vs bytes p = (bytes, p)
+each_past P (u ∷ us) vs bytes p = each_past P us vs p.back p.second
+
+left_refused : (table : BorrowedTable) (format : Format) (order : Order) (count : ℕ) (done left : List Entry) (at : At)
+    (fault : EncodeFault) → table.entries ≡ done ++ left → length done ≡ count → count < length table.entries
+    → at.order ≡ table.order → Each (EntryBytes table.format table.order table.pairs) left at.rest
+    → RefusesEntry table.format table.pairs format order at fault → fault ≡ TooLarge → NoSpelling (Each (EntryParts format order)) left
+left_refused table format order count done [] at fault all is lt ordered rest refused large bytes t =
+    absurd (omega (arith, ap length all, length-append done [], is, lt))
+left_refused table format order count done (e ∷ left) at fault all is lt ordered rest refused large bytes t =
+    let here : EntryBytes table.format at.order table.pairs e rest.front =
+    subst (λ (o : Order). EntryBytes table.format o table.pairs e rest.front) (sym ordered) rest.first in
+    refused.none large e rest.front rest.back here rest.joined t.front t.first
+
+-- where entries are left, one stands at the cursor
+entry_left : (table : BorrowedTable) (count : ℕ) (done left : List Entry) (at : At) → table.entries ≡ done ++ left → length done ≡ count
+    → count < length table.entries → at.order ≡ table.order → Each (EntryBytes table.format table.order table.pairs) left at.rest
+    → NoneSpelled (EntryBytes table.format at.order table.pairs) at.rest → ⊥
+entry_left table count done [] at all is lt ordered rest none = absurd (omega (arith, ap length all, length-append done [], is, lt))
+entry_left table count done (e ∷ left) at all is lt ordered rest none =
+    none e rest.front rest.back (subst (λ (o : Order). EntryBytes table.format o table.pairs e rest.front) (sym ordered) rest.first)
+    (sym rest.joined)
+
+pub next_there : (table : BorrowedTable) (format : Format) (order : Order) (count : ℕ) (at : At) (old middle : List ℕ)
+    → count < length table.entries → EntriesPut table format order count at old middle
+    → NoneSpelled (EntryBytes table.format at.order table.pairs) at.rest → ⊥
+next_there table format order count at old middle lt p none =
+    entry_left table count p.done p.left at p.all p.count_is lt p.order_is p.rest none
+
+pub entries_refused : (table : BorrowedTable) (format : Format) (order : Order) (count : ℕ) (at : At) (old middle : List ℕ)
+    (fault : EncodeFault) → count < length table.entries → EntriesPut table format order count at old middle
+    → RefusesEntry table.format table.pairs format order at fault → RefusedPut (Each (EntryParts format order)) table.entries fault
+entries_refused table format order count at old middle fault lt p refused = record {
+  none = λ large bytes t.
+      let past = each_past (EntryParts format order) p.done p.left bytes
+      (subst (λ (l : List Entry). Each (EntryParts format order) l bytes) p.all t) in
+      left_refused table format order count p.done p.left at fault p.all p.count_is lt p.order_is p.rest refused large past.0 past.1;
+}
+
+-- ---- the whole unit
+
+pub view_put : (h : HeaderParts) (format : Format) (order : Order) (size : ℕ) (program fields named old new : List ℕ)
+    → IsShortest HeaderFieldsBytes (in_format h format order) fields → named ≡ fields → size ≡ h.address_size
+    → AddsAround order format size named program old new → Appends (HeaderBytesIn order) (in_format h format order, program) old new
+view_put h format order size program fields named old new p is sized a =
+    header_added (in_format h format order) program fields old new p
+    (subst (λ (n : ℕ). AddsAround order format n fields program old new) sized
+    (subst (λ (z : List ℕ). AddsAround order format size z program old new) is a))
+
+pub view_refused : (h : HeaderParts) (format : Format) (order : Order) (program : List ℕ) (fault : EncodeFault)
+    → RefusedPut HeaderFieldsBytes (in_format h format order) fault
+    → RefusedPut (HeaderBytesIn order) (in_format h format order, program) fault
+view_refused h format order program fault refused = record { none = λ large bytes p. refused.none large p.spelled.fields p.spelled.counted }
+
+pub view_too_long : (h : HeaderParts) (format : Format) (order : Order) (size : ℕ) (program fields named : List ℕ) (fault : EncodeFault)
+    → IsShortest HeaderFieldsBytes (in_format h format order) fields → named ≡ fields → size ≡ h.address_size
+    → (fault ≡ TooLarge → LengthFits format (length (around order format size named program)) → ⊥)
+    → RefusedPut (HeaderBytesIn order) (in_format h format order, program) fault
+view_too_long h format order size program fields named fault p is sized long =
+    header_too_long (in_format h format order) program fields named fault p is
+    (λ large. subst (λ (n : ℕ). LengthFits format (length (around order format n named program)) → ⊥) sized (long large))

@@ -1,0 +1,260 @@
+//! Headers, written as the bytes of their units.
+ghost use Rattle.std.specs.Prelude.{◌≡◌, ◌⊎◌, ◌+◌, ◌++◌, [], length, IfOk, IfErr, OnOk, OnErr};
+ghost use Rattle.std.specs.List.{AllByRecursion};
+ghost use Rattle.lnt_wire.specs.Bytes.{IsShortest, Appends, Extends};
+ghost use Rattle.lnt_wire.specs.FormBytes.{HasSpelling, FormBytes};
+ghost use Rattle.lnt_wire.specs.InitialLength.{initial_length, LengthFits};
+ghost use Rattle.lnt_wire.specs.Numbers.{offset_size};
+ghost use Rattle.lnt_header.specs.Encoding.{RefusedPut};
+ghost use Rattle.lnt_header_bytes.specs.HeaderPuts.{EntryParts, around, AddsAround, AddsVersion};
+ghost use Rattle.lnt_header_bytes.specs.HeaderBytes.{HeaderFieldsBytes, HeaderBytesIn};
+ghost use Rattle.lnt_header.specs.HeaderRules.{IsHeader, IsEntryTable};
+ghost use Rattle.lnt_header_bytes.specs.Large.{HasLargeEntry, HasLargeOffset, HasLargeValue, IfTooLarge, IsTooLong};
+ghost use Rattle.lnt_header.specs.Joins.{Each};
+ghost use Rattle.lnt_header_bytes.specs.TableBytes.{PairBytes, TableOf};
+
+use lnt_header::{Entry, Header, HeaderParts, Pair};
+use lnt_wire::{
+    EncodeFault, FormValue, Format, Order, append_uleb, put_form, put_offset, put_u16, put_u32,
+    put_u64,
+};
+use std::alloc::{AllocError, Global};
+
+/// The bytes of a unit with this header and this program, each LEB128 in its shortest spelling (DWARF 5, section 6.2.4). It
+/// refuses with `TooLarge` if they have no encoding in the header's format: an offset of the tables is 2^32 or more in the
+/// 32-bit format, or the unit is longer than the format can say; and else only with `Memory`.
+pub fn encode_header(alloc: Global, header: &Header, program: &[u8]) -> Result<Vec<u8>, EncodeFault>
+    ensures ok { IfOk result (λ bytes. IsShortest (HeaderBytesIn header.now.order) (header.now, program.now) bytes.items) }
+    ensures err { IfErr result (λ fault. RefusedPut (HeaderBytesIn header.now.order) (header.now, program.now) fault) }
+    ensures large { IfErr result (IfTooLarge (HasLargeOffset header.now ⊎ IsTooLong header.now program.now)) }
+{
+    encode_parts(alloc, header.parts(), program)
+}
+
+#[tactic(auto, using(crate::proofs::EncodeLemmas::header_put, crate::proofs::EncodeLemmas::header_refused, crate::proofs::EncodeLemmas::header_too_long, lnt_header::proofs::PutLaws::refused_memory, crate::proofs::LargeLemmas::offset_large, crate::proofs::LargeLemmas::unit_too_long, crate::proofs::LargeLemmas::memory_not_large))]
+fn encode_parts(alloc: Global, parts: &HeaderParts, program: &[u8]) -> Result<Vec<u8>, EncodeFault>
+    requires { IsHeader parts.now }
+    ensures ok { IfOk result (λ bytes. IsShortest (HeaderBytesIn parts.now.order) (parts.now, program.now) bytes.items) }
+    ensures err { IfErr result (λ fault. RefusedPut (HeaderBytesIn parts.now.order) (parts.now, program.now) fault) }
+    ensures large { IfErr result (IfTooLarge (HasLargeOffset parts.now ⊎ IsTooLong parts.now program.now)) }
+{
+    let fields = counted_fields(alloc, parts)?;
+    let mut out = Vec::new(alloc);
+    add_around(
+        &mut out,
+        &fields,
+        program,
+        parts.address_size,
+        parts.format,
+        parts.order,
+    )?;
+    Ok(out)
+}
+
+/// Adds the bytes of a unit of version 5 with these fields, which `header_length` counts, and this program. Fails with `TooLarge`
+/// if the unit is longer than the format can say, and else only with `Memory`. Then a part of the unit may be there.
+#[tactic(auto, using(crate::proofs::EncodeLemmas::around_put, crate::proofs::EncodeLemmas::offset_fits))]
+pub fn add_around(
+    out: &mut Vec<u8>,
+    fields: &[u8],
+    program: &[u8],
+    address_size: u8,
+    format: Format,
+    order: Order,
+) -> Result<(), EncodeFault>
+    ensures ok { OnOk result (AddsAround order format address_size fields.now program.now out.old.items out.new.items) }
+    ensures err { IfErr result (λ fault. fault ≡ EncodeFault.TooLarge
+        → LengthFits format (length (around order format address_size fields.now program.now)) → ⊥) }
+    ensures extends { OnErr result (Extends out.old.items out.new.items) }
+{
+    let length = unit_length(format, fields.len(), program.len())?;
+    add_initial_length(out, length, format, order)?;
+    add_version(out, address_size, order)?;
+    put_offset(out, fields.len() as u64, format, order)?;
+    add_both(out, fields, program)?;
+    Ok(())
+}
+
+// Adds the version, the address size and the segment selector size.
+fn add_version(out: &mut Vec<u8>, address_size: u8, order: Order) -> Result<(), AllocError>
+    ensures ok { OnOk result (AddsVersion order address_size out.old.items out.new.items) }
+    ensures extends { OnErr result (Extends out.old.items out.new.items) }
+{
+    put_u16(out, 5, order)?;
+    out.push(address_size)?;
+    Ok(out.push(0)?)
+}
+
+/// Adds the first bytes, and then the second. After a refusal a part of them may be there.
+pub fn add_both(out: &mut Vec<u8>, first: &[u8], second: &[u8]) -> Result<(), AllocError>
+    ensures ok { OnOk result (out.new.items ≡ (out.old.items ++ first.now) ++ second.now) }
+    ensures extends { OnErr result (Extends out.old.items out.new.items) }
+{
+    out.extend_from_slice(first)?;
+    out.extend_from_slice(second)
+}
+
+// How many bytes a unit has after its initial length.
+fn unit_length(format: Format, fields: usize, program: usize) -> Result<u64, EncodeFault>
+    ensures ok { IfOk result (λ length. (length ≡ 4 + offset_size format + fields + program) × LengthFits format length) }
+    ensures err { IfErr result (λ fault. (fault ≡ EncodeFault.TooLarge)
+        × (LengthFits format (4 + offset_size format + fields + program) → ⊥)) }
+{
+    let (offset_size, limit) = match format {
+        Format::D32 => (4, 0xffff_fff0),
+        Format::D64 => (8, 1 << 64),
+    };
+    let length = 4 + offset_size + fields as u128 + program as u128;
+    if length < limit {
+        Ok(length as u64)
+    } else {
+        Err(EncodeFault::TooLarge)
+    }
+}
+
+// Adds an initial length.
+fn add_initial_length(
+    out: &mut Vec<u8>,
+    length: u64,
+    format: Format,
+    order: Order,
+) -> Result<(), AllocError>
+    requires { LengthFits format length }
+    ensures ok { OnOk result (out.new.items ≡ out.old.items ++ initial_length format order length) }
+    ensures extends { OnErr result (Extends out.old.items out.new.items) }
+{
+    match format {
+        Format::D32 => put_u32(out, length as u32, order),
+        Format::D64 => {
+            put_u32(out, u32::MAX, order)?;
+            put_u64(out, length, order)
+        }
+    }
+}
+
+// The fields that header_length counts.
+fn counted_fields(alloc: Global, parts: &HeaderParts) -> Result<Vec<u8>, EncodeFault>
+    requires { IsHeader parts.now }
+    ensures ok { IfOk result (λ bytes. IsShortest HeaderFieldsBytes parts.now bytes.items) }
+    ensures err { IfErr result (λ fault. RefusedPut HeaderFieldsBytes parts.now fault) }
+    ensures large { IfErr result (IfTooLarge (HasLargeOffset parts.now)) }
+{
+    let mut out = Vec::new(alloc);
+    match add_fields(&mut out, parts) {
+        Ok(()) => Ok(out),
+        Err(fault) => {
+            drop(out);
+            Err(fault)
+        }
+    }
+}
+
+// Adds them to `out`, which holds nothing yet.
+fn add_fields(out: &mut Vec<u8>, parts: &HeaderParts) -> Result<(), EncodeFault>
+    requires header { IsHeader parts.now }
+    requires empty { out.old.items ≡ [] }
+    ensures ok { OnOk result (IsShortest HeaderFieldsBytes parts.now out.new.items) }
+    ensures err { IfErr result (λ fault. RefusedPut HeaderFieldsBytes parts.now fault) }
+    ensures large { IfErr result (IfTooLarge (HasLargeOffset parts.now)) }
+{
+    let (format, order) = (parts.format, parts.order);
+    add_both(
+        out,
+        &parts.single_fields(),
+        parts.standard_lengths.as_slice(),
+    )?;
+    add_table(
+        out,
+        parts.directory_format.as_slice(),
+        parts.directories.as_slice(),
+        format,
+        order,
+    )?;
+    add_table(
+        out,
+        parts.file_format.as_slice(),
+        parts.files.as_slice(),
+        format,
+        order,
+    )?;
+    out.extend_from_slice(parts.extra.as_slice())?;
+    Ok(())
+}
+
+// Adds a table: its format, the number of its entries, and these.
+#[tactic(auto, using(crate::proofs::EncodeLemmas::table_put, crate::proofs::EncodeLemmas::table_refused, lnt_header::proofs::PutLaws::refused_memory, crate::proofs::LargeLemmas::memory_not_large))]
+fn add_table(
+    out: &mut Vec<u8>,
+    pairs: &[Pair],
+    entries: &[Entry],
+    format: Format,
+    order: Order,
+) -> Result<(), EncodeFault>
+    requires { IsEntryTable pairs.now entries.now }
+    ensures ok { OnOk result (Appends (TableOf format order) (pairs.now, entries.now) out.old.items out.new.items) }
+    ensures err { IfErr result (λ fault. RefusedPut (TableOf format order) (pairs.now, entries.now) fault) }
+    ensures large { IfErr result (IfTooLarge (HasLargeEntry format entries.now)) }
+{
+    out.push(pairs.len() as u8)?;
+    add_pairs(out, pairs)?;
+    append_uleb(out, entries.len() as u64)?;
+    add_entries(out, entries, format, order)?;
+    Ok(())
+}
+
+// Adds the pairs of a format.
+#[tactic(auto, using(crate::proofs::EncodeLemmas::pairs_begun, crate::proofs::EncodeLemmas::pairs_more, crate::proofs::EncodeLemmas::pairs_done))]
+pub(crate) fn add_pairs(out: &mut Vec<u8>, pairs: &[Pair]) -> Result<(), AllocError>
+    ensures ok { OnOk result (Appends (Each PairBytes) pairs.now out.old.items out.new.items) }
+{
+    for pair in pairs {
+        add_pair(out, pair)?;
+    }
+    Ok(())
+}
+
+#[tactic(auto, using(crate::proofs::EncodeLemmas::pair_put))]
+fn add_pair(out: &mut Vec<u8>, pair: &Pair) -> Result<(), AllocError>
+    ensures ok { OnOk result (Appends PairBytes pair.now out.old.items out.new.items) }
+{
+    append_uleb(out, pair.content)?;
+    append_uleb(out, pair.form.code())
+}
+
+// Adds the entries of a table.
+#[tactic(auto, using(crate::proofs::EncodeLemmas::entries_begun, crate::proofs::EncodeLemmas::entries_more, crate::proofs::EncodeLemmas::entries_done, crate::proofs::EncodeLemmas::entries_refused, lnt_header::proofs::PutLaws::refused_memory, crate::proofs::LargeLemmas::entry_large, crate::proofs::LargeLemmas::memory_not_large))]
+fn add_entries(
+    out: &mut Vec<u8>,
+    entries: &[Entry],
+    format: Format,
+    order: Order,
+) -> Result<(), EncodeFault>
+    requires { AllByRecursion (λ entry. AllByRecursion HasSpelling entry.values) entries.now }
+    ensures ok { OnOk result (Appends (Each (EntryParts format order)) entries.now out.old.items out.new.items) }
+    ensures err { IfErr result (λ fault. RefusedPut (Each (EntryParts format order)) entries.now fault) }
+    ensures large { IfErr result (IfTooLarge (HasLargeEntry format entries.now)) }
+{
+    for entry in entries {
+        add_values(out, entry.values.as_slice(), format, order)?;
+    }
+    Ok(())
+}
+
+// Adds the values of an entry.
+#[tactic(auto, using(crate::proofs::EncodeLemmas::values_begun, crate::proofs::EncodeLemmas::values_more, crate::proofs::EncodeLemmas::values_done, crate::proofs::EncodeLemmas::values_refused, lnt_header::proofs::PutLaws::refused_memory, crate::proofs::LargeLemmas::value_large, crate::proofs::LargeLemmas::memory_not_large))]
+fn add_values(
+    out: &mut Vec<u8>,
+    values: &[FormValue],
+    format: Format,
+    order: Order,
+) -> Result<(), EncodeFault>
+    requires { AllByRecursion HasSpelling values.now }
+    ensures ok { OnOk result (Appends (Each (FormBytes format order)) values.now out.old.items out.new.items) }
+    ensures err { IfErr result (λ fault. RefusedPut (Each (FormBytes format order)) values.now fault) }
+    ensures large { IfErr result (IfTooLarge (HasLargeValue format values.now)) }
+{
+    for value in values {
+        put_form(out, value, format, order)?;
+    }
+    Ok(())
+}

@@ -1,5 +1,0 @@
-pub mod EncodeLemmas
-pub mod LargeLemmas
-pub mod ProgramLaws
-pub mod SpelledHeaders
-pub mod ViewPutLemmas

@@ -1,5 +1,0 @@
-use Rattle.lnt_header_encode.proofs.ViewPutLemmas.{EntriesPut}
-use Rattle.lnt_header_encode.proofs.view_encode.add_entries_view.Given as goal
-
-abbrev pub invariant-loop : goal.invariant-loop
-invariant-loop l = EntriesPut l.fn.table l.fn.format l.fn.order l.counter l.cursor l.fn.out.items l.out.items

@@ -1,4 +1,0 @@
-pub mod HeaderPuts
-pub mod Large
-pub mod Laws
-pub mod Spelled

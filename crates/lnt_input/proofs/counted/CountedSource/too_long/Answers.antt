@@ -1,5 +1,0 @@
-use Rattle.std.proofs.Common.{rules}
-use Rattle.lnt_input.proofs.counted.CountedSource.too_long.Goals as goal
-
-pub returns : goal.returns
-returns c = search rules

@@ -1,3 +1,0 @@
-pub mod CountedSources
-pub mod FaultTexts
-pub mod Pulling

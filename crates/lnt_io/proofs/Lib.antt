@@ -1,0 +1,3 @@
+pub mod FrontLaws
+pub mod PullLaws
+pub mod WholeLemmas

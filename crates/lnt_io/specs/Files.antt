@@ -1,0 +1,18 @@
+-- What is known of files, by their names.
+use Rattle.std.specs.Prelude.{◌≡◌, ℕ, List, Option, IfSome}
+
+-- What may be known of a file: that it can't be read whole; or that it can be, and all its bytes. `None` for the bytes says
+-- that nothing is claimed of them.
+pub data FileState : Type 0 where
+  Unreadable : FileState
+  Readable : Option (List ℕ) → FileState
+
+-- No more is known of any file afterwards (new) than before (old).
+abbrev pub TellsNoMore : (List ℕ → FileState → Type 0) → (List ℕ → FileState → Type 0) → Type 0
+TellsNoMore old new = (name : List ℕ) (state : FileState) → new name state → old name state
+
+-- These are all bytes of a file of which this may be known.
+pub record AreBytesOf (tells : FileState → Type 0) (bytes : List ℕ) : Type 0 where
+  pub told : Option (List ℕ)
+  pub is_told : tells (Readable told)
+  pub same : IfSome told (λ all. bytes ≡ all)

@@ -1,0 +1,115 @@
+//! Files by their names.
+ghost use Rattle.std.specs.Prelude.{◌≡◌, ◌≢◌, ◌^◌, ◌<◌, ◌⊎◌, ℕ, List, IfOk, IfErr, IfSome, IsErrOf, IsNone, IsTrue, ⊤, false};
+ghost use Rattle.lnt_io.specs.Files.{AreBytesOf, FileState, Readable, TellsNoMore, Unreadable};
+ghost use Rattle.lnt_io.specs.Halts.{IsOpening};
+ghost use Rattle.lnt_io.specs.declared.halt.Halt.TheVariants.{Write};
+
+use crate::halt::Halt;
+use crate::{Counted, Source, read_all};
+use std::alloc::{AllocError, Global};
+use std::io::{BufReader, Read};
+
+/// The greatest number of bytes that are read from a file, 2^40.
+pub const LIMIT: u64 = 1 << 40;
+
+// The number of bytes that are read from a file at once.
+const BLOCK: usize = 1 << 16;
+
+/// Gives readers of files by their names.
+///
+/// Contracts see it by a ghost member, `tells`: what may be known of the file with a name. That is that it can't be read, or
+/// all its bytes; or `None` in their place, if its reader doesn't say them. By default anything may be known of each file, so
+/// nothing is said of any.
+pub trait Opener {
+    /// Reads a file from its first byte on.
+    type Reader: Read + Drop;
+
+    ghost tells: { Self → List ℕ → FileState → Type 0 } = { λ _ _ _. ⊤ };
+
+    /// A reader of the file with this name, or `None` if it can't be opened.
+    fn reader_of(&mut self, name: &str) -> Option<Self::Reader>
+        ensures told { IfSome result (λ reader. tells self.old name.now (Readable (Self.Reader.remaining reader))) }
+        ensures none { IsNone result → tells self.old name.now Unreadable }
+        ensures later { TellsNoMore (tells self.old) (tells self.new) };
+
+    /// Takes note that the file with this name couldn't be read whole: its source failed, or was found too long.
+    fn could_not_read(&mut self, name: &str, source: &Counted<Self::Reader>)
+        requires { 0 < ⟦<Counted<Self::Reader> as Source>⟧.failures source.now ⊎ IsTrue (⟦<Counted<Self::Reader> as Source>⟧.too_long source.now) }
+        ensures unread { tells self.old name.now Unreadable }
+        ensures later { TellsNoMore (tells self.old) (tells self.new) };
+
+    /// Another reader of a file that was read before. `None` if its bytes can't be read a second time, like those of
+    /// standard input or of a pipe.
+    fn reader_again(&mut self, _name: &str) -> Option<Self::Reader> {
+        None
+    }
+
+    /// Whether the name is that of a regular file, which has an end, and whose reader doesn't wait. By default each is one.
+    fn is_regular(&self, name: &str) -> bool
+        ensures { result ≡ false → tells self.now name.now Unreadable }
+    {
+        let _ = name;
+        true
+    }
+
+    /// Why the last file that failed couldn't be opened or read, as the system reports it. `None` if it reports nothing, or
+    /// if memory ran out.
+    fn reason(&mut self, _alloc: Global) -> Option<String> {
+        None
+    }
+}
+
+/// The file with this name, as a source of its bytes. It is read block by block, as they are needed.
+///
+/// The source hasn't failed, wasn't found too long, and may give 2^40 bytes. It gives what the opener says of the file.
+/// Fails with `Read` if the opener gives no reader, and otherwise only with `Memory`.
+pub fn open_file<O: Opener>(
+    alloc: Global,
+    opener: &mut O,
+    name: &str,
+) -> Result<Counted<BufReader<O::Reader>>, Halt>
+    ensures failures { IfOk result (λ source. ⟦<Counted<BufReader<O::Reader>> as Source>⟧.failures source ≡ 0) }
+    ensures too_long { IfOk result (λ source. ⟦<Counted<BufReader<O::Reader>> as Source>⟧.too_long source ≡ false) }
+    ensures left { IfOk result (λ source. ⟦<Counted<BufReader<O::Reader>> as Source>⟧.left source ≡ 2 ^ 40) }
+    ensures told { IfOk result (λ source. O.tells opener.old name.now (Readable (⟦<Counted<BufReader<O::Reader>> as Source>⟧.remaining source))) }
+    ensures none { IsErrOf result Halt.Read → O.tells opener.old name.now Unreadable }
+    ensures later { TellsNoMore (O.tells opener.old) (O.tells opener.new) }
+    ensures err { IfErr result IsOpening }
+{
+    match opener.reader_of(name) {
+        Some(reader) => Ok(source_of(alloc, reader)?),
+        None => Err(Halt::Read),
+    }
+}
+
+/// A reader's bytes as a source, read block by block, as they are needed.
+///
+/// The source hasn't failed, wasn't found too long, and may give 2^40 bytes: those of the reader. Fails only if memory runs
+/// out.
+pub fn source_of<R: Read + Drop>(
+    alloc: Global,
+    reader: R,
+) -> Result<Counted<BufReader<R>>, AllocError>
+    ensures failures { IfOk result (λ source. ⟦<Counted<BufReader<R>> as Source>⟧.failures source ≡ 0) }
+    ensures too_long { IfOk result (λ source. ⟦<Counted<BufReader<R>> as Source>⟧.too_long source ≡ false) }
+    ensures left { IfOk result (λ source. ⟦<Counted<BufReader<R>> as Source>⟧.left source ≡ 2 ^ 40) }
+    ensures remaining { IfOk result (λ source. ⟦<Counted<BufReader<R>> as Source>⟧.remaining source ≡ R.remaining reader) }
+{
+    match BufReader::with_capacity(alloc, BLOCK, reader) {
+        Ok(reader) => Ok(Counted::new(reader, LIMIT)),
+        Err(_) => Err(AllocError),
+    }
+}
+
+/// All bytes of the file with this name, as the opener says them.
+///
+/// Fails with `Read` if the file can't be opened or read, with `TooLong` if it has more bytes than the limit, and with
+/// `Memory`; never with `Write`.
+pub fn bytes_of_file<O: Opener>(alloc: Global, opener: &mut O, name: &str) -> Result<Vec<u8>, Halt>
+    ensures bytes { IfOk result (λ bytes. AreBytesOf (O.tells opener.old name.now) bytes.items) }
+    ensures later { TellsNoMore (O.tells opener.old) (O.tells opener.new) }
+    ensures err { IfErr result (λ halt. halt ≢ Write) }
+{
+    let mut source = open_file(alloc, opener, name)?;
+    Ok(read_all(alloc, &mut source)?)
+}

@@ -1,0 +1,272 @@
+-- Offsets that rise, and the directories of units.
+use Rattle.std.proofs.Common.{◌≡◌, ◌≢◌, ◌∙◌, ◌==◌, ℕ, ◌+◌, ◌-◌, ◌<◌, ◌≤◌, true, false, List, [], ◌∷◌, ◌++◌, length, get_or, map, Result, Ok, Err, Option, Some, None}
+use Rattle.std.proofs.Common.{inl, inr, Bool, refl, sym, ap, subst, arith, zero, suc}
+use Rattle.std.specs.Bool.{MatchBool}
+use Rattle.std.specs.Prelude.{codes}
+use Rattle.lnt_records.specs.Reading.{BytesReader, HasRead}
+use Rattle.lnt_records.proofs.ReadingLaws.{first_same}
+use Rattle.lnt_records.specs.Table.{BeginsWith, Fields}
+use Rattle.csv.specs.Reading.{reader_state}
+use Rattle.std.specs.List.{AllZip}
+use Rattle.std.specs.List.Sorted.{IsBinarySearchResult, IsNonDecreasingBy, IsSearchInRange}
+use Rattle.std.specs.Ordering.{nat_cmp, ordering_index}
+use Rattle.std.specs.Result.{is_ok}
+use Rattle.std.proofs.lemmas.Bool.{cases_lt}
+use Rattle.std.proofs.lemmas.Bool.Decides.{eqb_tells, nat_tests}
+use Rattle.std.proofs.lemmas.Cmp.{ranked}
+use Rattle.std.proofs.lemmas.List.{get_or-map, get_or_append_left, get_or_default, length-append, length-map, map-append}
+use Rattle.std.proofs.lemmas.List.Sorted.{searched}
+use Rattle.lnt_header.specs.Joins.{AreRising}
+use Rattle.lnt_older.specs.Directories.{AreDirectories, AreRecords, HasBadRecord, IsAdded, IsDirectoryFile, IsDirectoryRecord, IsLastUnit, IsNext, IsUnitOf, MayFollow, directory_at}
+use Rattle.lnt_older.specs.Directories.{directory_names, units_of}
+use Rattle.lnt_older.specs.Walking.{AreSound}
+use Rattle.lnt_wire.specs.FormBytes.{HasNoZero}
+use Rattle.lnt_older.specs.declared.directories.Directory.{Directory}
+
+-- ---- one offset among others
+
+not_falling : (offsets : List ℕ) → AreRising offsets → (i j : ℕ) → i ≤ j → j < length offsets → get_or offsets i 0 ≤ get_or offsets j 0
+not_falling offsets up i j le lt = elim (cases_lt i j) [
+  | inl earlier ↦ omega (arith, up i j 0 earlier lt)
+  | inr later ↦ let same : i ≡ j = omega arith in rw same (omega arith)
+]
+
+pub among : (offsets : List ℕ) (offset : ℕ) (r : Result ℕ ℕ) → IsBinarySearchResult (λ y. nat_cmp y offset) offsets r → AreRising offsets
+    → MatchBool (is_ok r) (IsUnitOf offsets offset) (IsUnitOf offsets offset → ⊥)
+among offsets offset (Ok i) h up =
+    let s = searched offsets offset (Ok i) h (not_falling offsets up) in
+    (i, offset, s.0, get_or_default offsets i offset 0 s.0 ∙ s.1, refl)
+among offsets offset (Err i) h up =
+    let s = searched offsets offset (Err i) h (not_falling offsets up) in
+    λ any.
+    let (k, y, lt, at, same) = any in
+    let here : get_or offsets k 0 ≡ offset = get_or_default offsets k 0 y lt ∙ (at ∙ same) in
+    elim (cases_lt k i) [
+      | inl earlier ↦ omega (arith, s.1 k earlier, here)
+      | inr later ↦ omega (arith, s.2 k later lt, here)
+    ]
+
+-- ---- the directory of a unit
+
+other_is : (m n : ℕ) → m ≢ n → (m == n) ≡ false
+other_is m n other = elim (eqb_tells m n) [ inl same ↦ absurd (other same.1) | inr e ↦ e.0 ]
+
+same_is : (m n : ℕ) → m ≡ n → (m == n) ≡ true
+same_is m n e = grind (arith, nat_tests)
+
+rising_tail : (directory : Directory) (directories : List Directory) → AreDirectories (directory ∷ directories) → AreDirectories directories
+rising_tail directory directories up i j d lt few = up (suc i) (suc j) d (omega arith) (omega arith)
+
+found_at : (directories : List Directory) (k offset : ℕ) (d : Directory) → AreDirectories directories → k < length directories
+    → (get_or directories k d).unit ≡ offset → directory_at directories offset ≡ (get_or directories k d).path.items
+found_at [] k offset d up lt same = absurd (omega (arith, lt))
+found_at (e ∷ es) zero offset d up lt same = rw (same_is e.unit offset same) refl
+found_at (e ∷ es) (suc k) offset d up lt same =
+    let few : k < length es = omega (arith, lt) in
+    let at : get_or (units_of es) k 0 ≡ offset = get_or-map (λ (x : Directory). x.unit) es k d 0 few ∙ same in
+    let long : length (units_of es) ≡ length es = length-map es (λ (x : Directory). x.unit) in
+    let less : e.unit < get_or (units_of es) k 0 = up 0 (suc k) 0 (omega arith) (omega (arith, few, long)) in
+    rw (other_is e.unit offset (λ is. omega (arith, less, at, is))) (found_at es k offset d (rising_tail e es up) few same)
+
+missing_at : (directories : List Directory) (offset : ℕ) → ((k : ℕ) (d : Directory) → k < length directories
+    → (get_or directories k d).unit ≢ offset) → directory_at directories offset ≡ []
+missing_at [] offset none = refl
+missing_at (e ∷ es) offset none =
+    rw (other_is e.unit offset (none zero e (omega arith))) (missing_at es offset (λ k d lt. none (suc k) d (omega (arith, lt))))
+
+-- the comparisons with an offset rise
+comparisons_rise : (directories : List Directory) (offset : ℕ) → AreDirectories directories
+    → IsNonDecreasingBy (λ (directory : Directory). ordering_index (nat_cmp directory.unit offset)) directories
+comparisons_rise directories offset up i j d le lt =
+    let long : length (units_of directories) ≡ length directories = length-map directories (λ (x : Directory). x.unit) in
+    let at_i : get_or (units_of directories) i 0 ≡ (get_or directories i d).unit =
+    get_or-map (λ (x : Directory). x.unit) directories i d 0 (omega (arith, le, lt)) in
+    let at_j : get_or (units_of directories) j 0 ≡ (get_or directories j d).unit =
+    get_or-map (λ (x : Directory). x.unit) directories j d 0 lt in
+    let keys : get_or (units_of directories) i 0 ≤ get_or (units_of directories) j 0 =
+    not_falling (units_of directories) up i j le (omega (arith, lt, long)) in
+    higher (get_or directories i d).unit (get_or directories j d).unit (omega (arith, keys, at_i, at_j))
+  where
+    higher : (a b : ℕ) → a ≤ b → ordering_index (nat_cmp a offset) ≤ ordering_index (nat_cmp b offset)
+    higher a b le = grind (arith, nat_tests)
+
+pub found_directory : (directories : List Directory) (offset i : ℕ) (d : Directory) → AreDirectories directories → i < length directories
+    → IsBinarySearchResult (λ (directory : Directory). nat_cmp directory.unit offset) directories (Ok i)
+    → (get_or directories i d).path.items ≡ directory_at directories offset
+found_directory directories offset i d up lt h = sym (found_at directories i offset d up lt (ranked _ offset _ (sym (h d))))
+
+pub no_directory : (directories : List Directory) (offset i : ℕ) → AreDirectories directories
+    → IsBinarySearchResult (λ (directory : Directory). nat_cmp directory.unit offset) directories (Err i)
+    → directory_at directories offset ≡ []
+no_directory directories offset i up h =
+    let parted = h (comparisons_rise directories offset up) in
+    missing_at directories offset (λ k d lt same. elim (cases_lt k i) [
+      | inl earlier ↦
+          let less : (get_or directories k d).unit < offset = ranked _ offset _ (sym (parted.0 k d (omega arith) earlier)) in
+          omega (arith, less, same)
+      | inr later ↦
+          let more : offset < (get_or directories k d).unit = ranked _ offset _ (sym (parted.1 k d later lt)) in
+          omega (arith, more, same)
+    ])
+
+-- ---- record 0
+
+pub all_named : (fields : Fields) → length fields ≡ 2 → get_or fields 0 [] ≡ codes "unit" → get_or fields 1 [] ≡ codes "directory"
+    → fields ≡ directory_names
+all_named [] e unit directory = absurd (omega (arith, e))
+all_named (a ∷ []) e unit directory = absurd (omega (arith, e))
+all_named (a ∷ (b ∷ [])) e unit directory = rw (unit, directory) refl
+all_named (a ∷ (b ∷ (c ∷ more))) e unit directory = absurd (omega (arith, e))
+
+pub not_unit : (fields : Fields) → get_or fields 0 [] ≢ codes "unit" → fields ≢ directory_names
+not_unit fields other e = other (ap (λ (f : Fields). get_or f 0 []) e)
+
+pub not_directory : (fields : Fields) → get_or fields 1 [] ≢ codes "directory" → fields ≢ directory_names
+not_directory fields other e = other (ap (λ (f : Fields). get_or f 1 []) e)
+
+pub columns_found : (named : Bool) (reader : BytesReader) (bytes : List ℕ) (fields : Fields)
+    → HasRead reader bytes (fields ∷ [])
+    → MatchBool named (fields ≡ directory_names) (fields ≢ directory_names)
+    → MatchBool named (HasRead reader bytes (directory_names ∷ [])) (BeginsWith bytes (directory_names ∷ []) → ⊥)
+columns_found true reader bytes fields read is = subst (λ (f : Fields). HasRead reader bytes (f ∷ [])) is read
+columns_found false reader bytes fields read other = λ begins.
+    other (first_same bytes fields directory_names (reader_state reader, read.rest, read.reached) begins)
+
+-- ---- one directory after others
+
+map_more : (directories : List Directory) (directory : Directory) → units_of (directories ++ directory ∷ []) ≡ units_of directories ++ directory.unit ∷ []
+map_more directories directory = map-append (λ (x : Directory). x.unit) directories (directory ∷ [])
+
+long_is : (directories : List Directory) → length (units_of directories) ≡ length directories
+long_is directories = length-map directories (λ (x : Directory). x.unit)
+
+-- the last one of a list, and those before it
+at_end : (xs : List ℕ) (x : ℕ) → get_or (xs ++ x ∷ []) (length xs) 0 ≡ x
+at_end [] x = refl
+at_end (y ∷ xs) x = at_end xs x
+
+pub rising_more : (xs : List ℕ) (x : ℕ) → AreRising xs → (0 < length xs → get_or xs (length xs - 1) 0 < x) → AreRising (xs ++ x ∷ [])
+rising_more xs x up less i j d lt few =
+    let n : length (xs ++ x ∷ []) ≡ length xs + 1 = length-append xs (x ∷ []) in
+    elim (cases_lt j (length xs)) [
+      | inl inside ↦
+          let at_i = get_or_append_left xs (x ∷ []) d i (omega (arith, lt, inside)) in
+          let at_j = get_or_append_left xs (x ∷ []) d j inside in
+          let pair = up i j d lt inside in
+          omega (arith, at_i, at_j, pair)
+      | inr outside ↦
+          let j_is : j ≡ length xs = omega (arith, outside, few, n) in
+          let at_i = get_or_append_left xs (x ∷ []) 0 i (omega (arith, lt, j_is)) in
+          let same_i = get_or_default (xs ++ x ∷ []) i d 0 (omega (arith, lt, few)) in
+          let at_j : get_or (xs ++ x ∷ []) j 0 ≡ x = subst (λ (k : ℕ). get_or (xs ++ x ∷ []) k 0 ≡ x) (sym j_is) (at_end xs x) in
+          let same_j = get_or_default (xs ++ x ∷ []) j d 0 few in
+          let top = not_falling xs up i (length xs - 1) (omega (arith, lt, j_is)) (omega (arith, lt, j_is)) in
+          let last = less (omega (arith, lt, j_is)) in
+          omega (arith, at_i, same_i, at_j, same_j, top, last)
+    ]
+
+rising_last : (xs : List ℕ) (x : ℕ) → AreRising (xs ++ x ∷ []) → 0 < length xs → get_or xs (length xs - 1) 0 < x
+rising_last xs x up some =
+    let n : length (xs ++ x ∷ []) ≡ length xs + 1 = length-append xs (x ∷ []) in
+    let pair = up (length xs - 1) (length xs) 0 (omega (arith, some)) (omega (arith, n)) in
+    let at_i = get_or_append_left xs (x ∷ []) 0 (length xs - 1) (omega (arith, some)) in
+    let at_j = at_end xs x in
+    omega (arith, pair, at_i, at_j)
+
+pub may_follow : (older : List ℕ) (directories : List Directory) (before : Option ℕ) (directory : Directory) → AreDirectories directories
+    → IsLastUnit directories before → IsNext before older directory → MayFollow older directories directory
+may_follow older directories None directory up none next = (
+  subst AreRising (sym (map_more directories directory))
+      (rising_more (units_of directories) directory.unit up (λ some. absurd (omega (arith, some, none, long_is directories)))),
+  next.1,
+)
+may_follow older directories (Some unit) directory up last next = (
+  subst AreRising (sym (map_more directories directory))
+      (rising_more (units_of directories) directory.unit up (λ some.
+      let at = last.1 in
+      let n = long_is directories in
+      let here : get_or (units_of directories) (length (units_of directories) - 1) 0 ≡ unit =
+      rw n (sym at) in
+      omega (arith, here, next.0))),
+  next.1,
+)
+
+pub must_follow : (older : List ℕ) (directories : List Directory) (before : Option ℕ) (directory : Directory)
+    → IsLastUnit directories before → MayFollow older directories directory → IsNext before older directory
+must_follow older directories None directory last may = (tt, may.1)
+must_follow older directories (Some unit) directory last may =
+    let n = long_is directories in
+    let up : AreRising (units_of directories ++ directory.unit ∷ []) = subst AreRising (map_more directories directory) may.0 in
+    let top = rising_last (units_of directories) directory.unit up (omega (arith, n, last.0)) in
+    let here : get_or (units_of directories) (length (units_of directories) - 1) 0 ≡ unit = rw n (sym last.1) in
+    (omega (arith, top, here), may.1)
+
+-- ---- all records
+
+pub none_yet : (older : List ℕ) → AreRecords older [] []
+none_yet older = record { each = tt; rising = λ i j d lt few. absurd (omega (arith, few)); units = tt }
+
+zip_more : {A B : Type 0} (R : A → B → Type 0) (xs : List A) (ys : List B) (x : A) (y : B) → AllZip R xs ys → R x y
+    → AllZip R (xs ++ x ∷ []) (ys ++ y ∷ [])
+zip_more R [] [] x y h r = (r, tt)
+zip_more R [] (b ∷ ys) x y h r = absurd h
+zip_more R (a ∷ xs) [] x y h r = absurd h
+zip_more R (a ∷ xs) (b ∷ ys) x y h r = (h.0, zip_more R xs ys x y h.1 r)
+
+pub one_more : (older : List ℕ) (records : List Fields) (fields : Fields) (old new : List Directory) → AreRecords older records old
+    → IsAdded older fields old new → AreRecords older (records ++ fields ∷ []) new
+one_more older records fields old new so a = subst (AreRecords older (records ++ fields ∷ [])) (sym a.added) (record {
+  each = zip_more IsDirectoryRecord records old fields a.directory so.each a.is_record;
+  rising = a.follows.0;
+  units = zip_more (λ (f : Fields) (d : Directory). IsUnitOf older d.unit) records old fields a.directory so.units a.follows.1;
+})
+
+zip_last : {A B : Type 0} (R : A → B → Type 0) (xs : List A) (ys : List B) (x : A) (y : B) → AllZip R xs ys
+    → AllZip R (xs ++ x ∷ []) (ys ++ y ∷ []) → R x y
+zip_last R [] [] x y h k = k.0
+zip_last R [] (b ∷ ys) x y h k = absurd h
+zip_last R (a ∷ xs) [] x y h k = absurd h
+zip_last R (a ∷ xs) (b ∷ ys) x y h k = zip_last R xs ys x y h.1 k.1
+
+pub zip_long : {A B : Type 0} (R : A → B → Type 0) (xs : List A) (ys : List B) → AllZip R xs ys → length xs ≡ length ys
+zip_long R [] [] h = refl
+zip_long R [] (b ∷ ys) h = absurd h
+zip_long R (a ∷ xs) [] h = absurd h
+zip_long R (a ∷ xs) (b ∷ ys) h = ap suc (zip_long R xs ys h.1)
+
+pub bad_record : (older bytes : List ℕ) (records : List Fields) (fields : Fields) (directories : List Directory) (reader : BytesReader)
+    → AreRecords older records directories → HasRead reader bytes ((directory_names ∷ records) ++ fields ∷ [])
+    → ((directory : Directory) → IsDirectoryRecord fields directory → MayFollow older directories directory → ⊥)
+    → HasBadRecord older bytes (length directories)
+bad_record older bytes records fields directories reader so read none = record {
+  records = records;
+  directories = directories;
+  fields = fields;
+  begins = (reader_state reader, read.rest, read.reached);
+  so = so;
+  count_is = zip_long IsDirectoryRecord records directories so.each;
+  bad = λ directory more. none directory (zip_last IsDirectoryRecord records directories fields directory so.each more.each)
+      (more.rising, zip_last (λ (f : Fields) (d : Directory). IsUnitOf older d.unit) records directories fields directory so.units more.units);
+}
+
+pub suc_is : (n : ℕ) → suc n ≡ n + 1
+suc_is n = omega arith
+
+-- ---- paths without a zero byte
+
+no_zero_at : (records : List Fields) (directories : List Directory) → AllZip IsDirectoryRecord records directories → (offset : ℕ)
+    → HasNoZero (directory_at directories offset)
+no_zero_at [] [] h offset = tt
+no_zero_at [] (d ∷ ds) h offset = absurd h
+no_zero_at (f ∷ fs) [] h offset = absurd h
+no_zero_at (f ∷ fs) (d ∷ ds) h offset = elim (eqb_tells d.unit offset) [
+  | inl same ↦ rw (same.0) (subst HasNoZero (sym h.0.path) h.0.no_zero)
+  | inr other ↦ rw (other.0) (no_zero_at fs ds h.1 offset)
+]
+
+pub sound_from : (older bytes : List ℕ) (directories : List Directory) → IsDirectoryFile older bytes directories → AreSound directories
+sound_from older bytes directories file =
+    record { rising = file.so.rising; no_zero = no_zero_at file.records directories file.so.each }
+
+pub sound_none : (directories : List Directory) → directories ≡ [] → AreSound directories
+sound_none directories none = subst AreSound (sym none) (record { rising = λ i j d lt few. absurd (omega (arith, few)); no_zero = λ offset. tt })

@@ -1,0 +1,91 @@
+-- Sections whose units are of versions 2 to 5, and the sections of version 5 that say the same (DWARF 2 to 5, section 6.2.4).
+use Rattle.std.specs.Prelude.{◌≡◌, ℕ, ◌+◌, List, [], ◌∷◌, ◌++◌, length}
+use Rattle.std.specs.List.{AllByRecursion}
+use Rattle.lnt_wire.specs.FrameBytes.{FrameBytes}
+use Rattle.lnt_wire.specs.Reading.{Refuses}
+use Rattle.lnt_wire.specs.declared.fault.Fault.{Fault}
+use Rattle.lnt_wire.specs.declared.format.Order.{Order}
+use Rattle.lnt_header.specs.Joins.{Each, PlacedFrom}
+use Rattle.lnt_header.specs.declared.header.HeaderParts.{HeaderParts}
+use Rattle.lnt_header_bytes.specs.HeaderBytes.{HeaderBytesIn}
+use Rattle.lnt_header_bytes.specs.HeaderReading.{standing}
+use Rattle.lnt_older.specs.OlderBytes.{OlderBytesIn}
+use Rattle.lnt_older.specs.OlderUnits.{AnyBytes, AnyParts, IsAnyFault, five_parts, older_parts, older_spelling}
+use Rattle.lnt_older.specs.Upgrading.{IsTooLong}
+use Rattle.lnt_older.specs.declared.unit.OlderUnit.{OlderUnit}
+use Rattle.lnt_older.specs.declared.version.OlderVersion.{OlderVersion}
+use Rattle.lnt_older.specs.Upgraded.{upgraded}
+use Rattle.lnt_older.specs.Directories.{directory_at}
+use Rattle.lnt_older.specs.declared.directories.Directory.{Directory}
+
+-- ---- what a section says
+
+-- A section is the bytes of its units, one after another, and nothing else.
+abbrev pub AnySection : Order → List (ℕ × AnyParts) → List ℕ → Type 0
+AnySection order units bytes = PlacedFrom (λ unit. AnyBytes order unit.1) 0 units bytes
+
+-- the offsets of the older units
+abbrev pub older_offsets : List (ℕ × AnyParts) → List ℕ
+older_offsets [] = []
+older_offsets ((offset, five_parts format body) ∷ units) = older_offsets units
+older_offsets ((offset, older_parts header program) ∷ units) = offset ∷ older_offsets units
+
+-- The section has its older units at these offsets.
+pub record HasOlder (order : Order) (section older : List ℕ) : Type 0 where
+  pub units : List (ℕ × AnyParts)
+  pub sound : AnySection order units section
+  pub older_are : older ≡ older_offsets units
+
+-- ---- what the section of version 5 says
+
+-- An older unit doesn't say how many bytes an address has. Here it has so many.
+abbrev pub HasAddressSize : ℕ → ℕ × AnyParts → Type 0
+HasAddressSize address_size (offset, five_parts format body) = Unit {0}
+HasAddressSize address_size (offset, older_parts header program) = header.address_size ≡ address_size
+
+-- The bytes of the unit of version 5 for a unit at its offset: the unit itself, or the one that says what an older unit says, which was
+-- compiled in the directory that is listed for it.
+abbrev pub UpgradedBytes : Order → List Directory → ℕ × AnyParts → List ℕ → Type 0
+UpgradedBytes order directories (offset, five_parts format body) bytes = FrameBytes order (format, body) bytes
+UpgradedBytes order directories (offset, older_parts header program) bytes =
+    HeaderBytesIn order (upgraded (directory_at directories offset) header, program) bytes
+
+-- The result has a unit of version 5 for each unit of the section, in their order, and nothing else.
+pub record IsUpgraded (order : Order) (address_size : ℕ) (directories : List Directory) (section result : List ℕ) : Type 0 where
+  pub units : List (ℕ × AnyParts)
+  pub sound : AnySection order units section
+  pub sizes : AllByRecursion (HasAddressSize address_size) units
+  pub upgraded : Each (UpgradedBytes order directories) units result
+
+-- ---- why there is none
+
+-- After some units comes none, for this reason.
+pub record IsBroken (order : Order) (section : List ℕ) (fault : Fault) : Type 0 where
+  pub units : List (ℕ × AnyParts)
+  pub front : List ℕ
+  pub rest : List ℕ
+  pub joined : section ≡ front ++ rest
+  pub sound : AnySection order units front
+  pub refused : Refuses (IsAnyFault order) (AnyBytes order) (standing (length front) rest order) fault
+
+-- The bytes are an older unit, and the one of version 5 with its entries copied is longer than its format can say.
+--     unit   the unit by its parts, whose join the bytes are
+pub record IsLargeUnit (order : Order) (address_size : ℕ) (directory bytes : List ℕ) : Type 0 where
+  pub header : HeaderParts
+  pub program : List ℕ
+  pub older : OlderBytesIn order address_size (header, program) bytes
+  pub unit : OlderUnit
+  pub version : OlderVersion
+  pub parts : bytes ≡ older_spelling version unit
+  pub too_long : IsTooLong unit address_size directory
+
+-- After units that can be written anew comes one at this offset that can't.
+pub record IsLargeAt (order : Order) (address_size : ℕ) (directories : List Directory) (section : List ℕ) (offset : ℕ) : Type 0 where
+  pub front : List ℕ
+  pub unit : List ℕ
+  pub rest : List ℕ
+  pub joined : section ≡ front ++ (unit ++ rest)
+  pub place : offset ≡ length front
+  pub before : List ℕ
+  pub upgraded_before : IsUpgraded order address_size directories front before
+  pub large : IsLargeUnit order address_size (directory_at directories offset) unit

@@ -1,0 +1,176 @@
+//! The compilation directories of older units, which their section doesn't have: comma-separated values.
+ghost use Rattle.std.specs.Prelude.{◌≡◌, ◌≢◌, ℕ, List, [], ◌∷◌, IfErr, IfOk, MatchOption};
+ghost use Rattle.std.specs.Bool.{MatchBool};
+ghost use Rattle.lnt_header.specs.Joins.{AreRising};
+ghost use Rattle.csv.specs.Records.{fields_of};
+ghost use Rattle.lnt_records.specs.Reading.{HasRead};
+ghost use Rattle.lnt_records.specs.Table.{BeginsWith, Fields};
+ghost use Rattle.lnt_older.specs.Directories.{IsDirectoryFile, IsDirectoryFault, IsAdded, IsDirectoryRecord, IsLastUnit, IsNext, IsUnitOf, MayFollow, directory_at};
+ghost use Rattle.lnt_older.specs.Directories.{AreDirectories, directory_names};
+ghost use Rattle.lnt_older.specs.declared.directories.Directory.{Directory as Spec};
+
+use csv::{ByteRecord, Reader};
+use lnt_digits::decimal;
+use lnt_records::{field, is_field, read_next, reader_of};
+use std::alloc::{AllocError, Global};
+
+/// The directory in which an older unit was compiled.
+#[derive(Drop)]
+pub struct Directory {
+    /// The offset of the unit in its section.
+    pub unit: u64,
+    /// The path, without a zero byte.
+    pub path: Vec<u8>,
+}
+
+/// Why there are no directories.
+#[derive(Clone, Copy, Debug, PartialEq, Eq)]
+pub enum DirectoriesFault {
+    /// 44: this record is the first one that isn't so. Record 0 names the columns.
+    Record(u64),
+    /// Memory ran out. It says nothing of the bytes.
+    Memory,
+}
+
+impl From<AllocError> for DirectoriesFault {
+    ghost use Rattle.lnt_older.specs.declared.directories.DirectoriesFault.TheVariants.{Memory};
+
+    ghost from_gives = { λ _ fault. fault ≡ Memory };
+
+    fn from(_error: AllocError) -> DirectoriesFault {
+        DirectoriesFault::Memory
+    }
+}
+
+/// The directories that these bytes list for units at some of these offsets, which rise. Record 0 is `unit,directory`. Each
+/// later record has the offset of a unit, a decimal number greater than the one before, and the path of a directory, without a zero
+/// byte.
+///
+/// It refuses with `Record` and the first record that isn't so, or whose unit isn't at one of the offsets; record 0 where there
+/// is none. Else only with `Memory`.
+pub fn read_directories(
+    alloc: Global,
+    text: &[u8],
+    older: &[u64],
+) -> Result<Vec<Directory>, DirectoriesFault>
+    requires { AreRising older.now }
+    ensures ok { IfOk result (λ directories. IsDirectoryFile older.now text.now directories.items) }
+    ensures err { IfErr result (IsDirectoryFault older.now text.now) }
+{
+    let mut reader = reader_of(alloc, text);
+    let mut row = ByteRecord::new(alloc);
+    if !read_columns(&mut reader, &mut row)? {
+        return Err(DirectoriesFault::Record(0));
+    }
+    let mut directories: Vec<Directory> = Vec::new(alloc);
+    while read_next(&mut reader, &mut row)? {
+        if !add_directory(alloc, &row, older, &mut directories)? {
+            return Err(DirectoriesFault::Record(directories.len() as u64 + 1));
+        }
+    }
+    Ok(directories)
+}
+
+// Reads record 0, and tells whether it names the columns.
+fn read_columns(reader: &mut Reader<&[u8]>, row: &mut ByteRecord) -> Result<bool, AllocError>
+    requires { (bytes : List ℕ) × HasRead reader.old bytes [] }
+    ensures { IfOk result (λ named. (bytes : List ℕ) → HasRead reader.old bytes []
+        → MatchBool named (HasRead reader.new bytes (directory_names ∷ [])) (BeginsWith bytes (directory_names ∷ []) → ⊥)) }
+{
+    if !read_next(reader, row)? {
+        return Ok(false);
+    }
+    Ok(names_columns(row))
+}
+
+// Whether the fields of a record are the names of the columns.
+#[tactic(auto, using(crate::proofs::DirectoryLemmas::all_named, crate::proofs::DirectoryLemmas::not_unit, crate::proofs::DirectoryLemmas::not_directory))]
+fn names_columns(row: &ByteRecord) -> bool
+    ensures { MatchBool result (fields_of row.now ≡ directory_names) (fields_of row.now ≢ directory_names) }
+{
+    row.len() == 2 && is_field(row, 0, b"unit") && is_field(row, 1, b"directory")
+}
+
+// Adds the directory in a record to those of the records before it. False exactly where the record has none that may follow
+// them. Then nothing is added.
+fn add_directory(
+    alloc: Global,
+    row: &ByteRecord,
+    older: &[u64],
+    directories: &mut Vec<Directory>,
+) -> Result<bool, AllocError>
+    requires older { AreRising older.now }
+    requires rising { AreDirectories directories.old.items }
+    ensures { IfOk result (λ added. MatchBool added
+        (IsAdded older.now (fields_of row.now) directories.old.items directories.new.items)
+        ((directories.new.items ≡ directories.old.items) × ((directory : Spec) → IsDirectoryRecord (fields_of row.now) directory
+        → MayFollow older.now directories.old.items directory → ⊥))) }
+{
+    let before = last_unit(directories);
+    match directory_in(alloc, row, before, older)? {
+        Some(directory) => {
+            if directories.push(directory).is_err() {
+                return Err(AllocError);
+            }
+            Ok(true)
+        }
+        None => Ok(false),
+    }
+}
+
+// The unit of the last of these directories.
+fn last_unit(directories: &[Directory]) -> Option<u64>
+    ensures { IsLastUnit directories.now result }
+{
+    match directories.last() {
+        Some(last) => Some(last.unit),
+        None => None,
+    }
+}
+
+// The directory in a record, whose unit is at one of the offsets, and after the unit before it. None exactly where there is none.
+fn directory_in(
+    alloc: Global,
+    row: &ByteRecord,
+    before: Option<u64>,
+    older: &[u64],
+) -> Result<Option<Directory>, AllocError>
+    requires { AreRising older.now }
+    ensures { IfOk result (λ found. MatchOption found
+        ((directory : Spec) → IsDirectoryRecord (fields_of row.now) directory → IsNext before older.now directory → ⊥)
+        (λ directory. IsDirectoryRecord (fields_of row.now) directory × IsNext before older.now directory)) }
+{
+    if row.len() != 2 {
+        return Ok(None);
+    }
+    let Some(unit) = decimal(field(row, 0)) else {
+        return Ok(None);
+    };
+    let path = field(row, 1);
+    if path.contains(&0) || before.is_some_and(|last| unit <= last) || !is_among(unit, older) {
+        return Ok(None);
+    }
+    let mut bytes = Vec::new(alloc);
+    bytes.extend_from_slice(path)?;
+    Ok(Some(Directory { unit, path: bytes }))
+}
+
+// Whether the offset is one of these.
+#[tactic(auto, using(crate::proofs::DirectoryLemmas::among))]
+fn is_among(offset: u64, offsets: &[u64]) -> bool
+    requires { AreRising offsets.now }
+    ensures { MatchBool result (IsUnitOf offsets.now offset) (IsUnitOf offsets.now offset → ⊥) }
+{
+    offsets.binary_search(&offset).is_ok()
+}
+
+/// The path of the directory of the unit at this offset. It is empty where none is listed.
+pub fn directory_of(directories: &[Directory], offset: u64) -> &[u8]
+    requires { AreDirectories directories.now }
+    ensures { result.now ≡ directory_at directories.now offset }
+{
+    match directories.binary_search_by_key(&offset, |directory| directory.unit) {
+        Ok(i) => directories[i].path.as_slice(),
+        Err(_) => &[],
+    }
+}

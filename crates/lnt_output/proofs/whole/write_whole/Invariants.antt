@@ -1,5 +1,0 @@
-use Rattle.lnt_output.proofs.WholeLemmas.{HasWritten}
-use Rattle.lnt_output.proofs.whole.write_whole.Given as goal
-
-abbrev pub invariant-loop : goal.invariant-loop
-invariant-loop g l = HasWritten (g.W.Write.contents l.fn.out) (g.W.Write.contents l.out) l.bytes l.rest

@@ -1,3 +1,0 @@
-pub mod FaultTexts
-pub mod Files
-pub mod Halts

@@ -1,4 +1,0 @@
-pub mod BufferLemmas
-pub mod ReaderLemmas
-pub mod SizeLemmas
-pub mod TakingLemmas

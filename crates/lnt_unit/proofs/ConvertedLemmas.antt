@@ -1,0 +1,185 @@
+-- Units that are converted.
+use Rattle.std.proofs.Common.{◌≡◌, ◌≢◌, ℕ, ◌+◌, List, [], ◌++◌, length, sym, ap, subst, ◌∙◌, true, false}
+use Rattle.lnt_wire.specs.At.{At}
+use Rattle.lnt_wire.specs.Bytes.{Appends, IsShortest}
+use Rattle.lnt_wire.specs.FrameBytes.{frame_bytes, IsFrame}
+use Rattle.lnt_wire.specs.Reading.{Reads}
+use Rattle.lnt_wire.specs.declared.fault.Fault.{Fault}
+use Rattle.lnt_wire.specs.declared.fault.Reason.TheVariants.{Memory}
+use Rattle.lnt_wire.specs.declared.format.Format.{Format}
+use Rattle.lnt_wire.specs.declared.format.Order.{Order}
+use Rattle.lnt_wire.specs.declared.frame.Frame.{Frame}
+use Rattle.lnt_wire.specs.declared.put.EncodeFault.{EncodeFault}
+use Rattle.lnt_wire.specs.declared.put.EncodeFault.TheVariants as put
+use Rattle.lnt_header.specs.HeaderNumbers.{without_entries}
+use Rattle.lnt_header.specs.Conversion.{in_format, unit_in_format}
+use Rattle.lnt_header.specs.Encoding.{RefusedPut}
+use Rattle.lnt_header_bytes.specs.HeaderBytes.{HeaderBytesIn}
+use Rattle.lnt_header.specs.Joins.{Each}
+use Rattle.lnt_header.specs.declared.header.HeaderParts.{HeaderParts}
+use Rattle.lnt_header.specs.declared.op.Op.{Op}
+use Rattle.lnt_ops.specs.OpBytes.{OpBytes}
+use Rattle.lnt_ops.specs.OpPuts.{AddsOps}
+use Rattle.lnt_ops.specs.Programs.{BrokenProgram}
+use Rattle.lnt_unit.specs.BrokenUnits.{BrokenUnit}
+use Rattle.lnt_unit.specs.ConvertedUnits.{ConvertsUnit, IsLargeUnit, IsNextStop}
+use Rattle.lnt_unit.specs.ConversionSteps.{ConvertsBytes, IsLarge, IsToldAs, IsUnitStop, JudgesUnit}
+use Rattle.lnt_unit.specs.declared.convert.ConvertFault.{ConvertFault}
+use Rattle.lnt_unit.specs.declared.convert.ConvertFault.TheVariants as convert
+use Rattle.lnt_ops.proofs.LikeLaws.{like}
+use Rattle.lnt_ops.proofs.NumberLaws.{admits_by_numbers, ops_by_numbers, broken_by_numbers}
+use Rattle.lnt_unit.proofs.UnitLaws.{unit_found}
+use Rattle.lnt_header.specs.declared.unit_parts.UnitParts.{UnitParts}
+use Rattle.lnt_unit.proofs.EncodeLaws.{unit_put, unit_refused}
+use Rattle.lnt_unit.proofs.ReadLaws.{StandsAt, unit_read, frame_without_unit}
+
+-- ---- the unit of a frame
+
+parts_of : HeaderParts → List Op → UnitParts
+parts_of header ops = record { header = header; ops = ops }
+
+-- the program in the other order, which was put into an empty vector
+program_is : (h : HeaderParts) (program old converted : List ℕ) (format : Format) (to : Order) → (p : AddsOps h program to old converted)
+    → old ≡ [] → IsShortest (Each (OpBytes (in_format h format to))) p.ops converted
+program_is h program old converted format to p begun =
+    let added = p.adds (in_format h format to) (like h format to) in
+    subst (IsShortest (Each (OpBytes (in_format h format to))) p.ops) (sym (added.joined ∙ ap (λ (z : List ℕ). z ++ added.spelling) begun))
+    added.spelled
+
+-- what a header's numbers tell of a program is what the header tells
+by_header : (h : HeaderParts) (program old new : List ℕ) (to : Order) → AddsOps (without_entries h) program to old new
+    → AddsOps h program to old new
+by_header h program old new to p = record {
+  ops = p.ops;
+  spelled = ops_by_numbers h p.ops program p.spelled;
+  adds = λ other like. p.adds other
+      (record { order_is = like.order_is; size_is = like.size_is; admits = λ op a. like.admits op (admits_by_numbers h op a) });
+}
+
+numbers_added : (h numbers : HeaderParts) (program old new : List ℕ) (to : Order) → numbers ≡ without_entries h
+    → AddsOps numbers program to old new → AddsOps h program to old new
+numbers_added h numbers program old new to same p =
+    by_header h program old new to (subst (λ (g : HeaderParts). AddsOps g program to old new) same p)
+
+pub frame_converted : (order : Order) (h numbers : HeaderParts) (program bytes begun converted named old new : List ℕ) (format : Format)
+    (to : Order) → HeaderBytesIn order (h, program) bytes → numbers ≡ without_entries h
+    → AddsOps numbers program to begun converted → begun ≡ [] → named ≡ converted
+    → Appends (HeaderBytesIn to) (in_format h format to, named) old new → ConvertsBytes order format to bytes old new
+unfolding parts_of
+frame_converted order h numbers program bytes begun converted named old new format to p same added empty is r =
+    let q = numbers_added h numbers program begun converted to same added in
+    let unit = parts_of h q.ops in
+    let here : Appends (HeaderBytesIn to) (in_format h format to, converted) old new = subst
+    (λ (z : List ℕ). Appends (HeaderBytesIn to) (in_format h format to, z) old new) is r in
+    record {
+      unit = unit;
+      spelled = unit_found order unit program bytes p q.spelled;
+      put = record {
+        spelling = here.spelling;
+        spelled = unit_put to (unit_in_format unit format to) converted here.spelling
+            (program_is h program begun converted format to q empty) here.spelled;
+        joined = here.joined;
+      };
+    }
+
+pub frame_large : (order : Order) (h numbers : HeaderParts) (program bytes begun converted named : List ℕ) (format : Format) (to : Order)
+    (fault : EncodeFault) → HeaderBytesIn order (h, program) bytes → numbers ≡ without_entries h
+    → AddsOps numbers program to begun converted → begun ≡ [] → named ≡ converted
+    → RefusedPut (HeaderBytesIn to) (in_format h format to, named) fault → fault ≡ put.TooLarge → IsLarge order format to bytes
+unfolding parts_of
+frame_large order h numbers program bytes begun converted named format to fault p same added empty is r large =
+    let q = numbers_added h numbers program begun converted to same added in
+    let unit = parts_of h q.ops in
+    let here : RefusedPut (HeaderBytesIn to) (in_format h format to, converted) fault = subst
+    (λ (z : List ℕ). RefusedPut (HeaderBytesIn to) (in_format h format to, z) fault) is r in
+    let whole = unit_refused to (unit_in_format unit format to) converted fault (program_is h program begun converted format to q empty)
+    here in
+    record { unit = unit; spelled = unit_found order unit program bytes p q.spelled; none = whole.none large }
+
+-- the program of a header's numbers is the header's
+pub frame_broken_program : (h numbers : HeaderParts) (place : ℕ) (program : List ℕ) (fault : Fault) → numbers ≡ without_entries h
+    → BrokenProgram numbers place program fault → BrokenProgram h place program fault
+frame_broken_program h numbers place program fault same b =
+    broken_by_numbers h place program fault (subst (λ (g : HeaderParts). BrokenProgram g place program fault) same b)
+
+-- ---- the unit at a cursor
+
+pub unit_converted : (order : Order) (format : Format) (to : Order) (frame : Frame) (at next : At) (old new : List ℕ)
+    → Reads (IsFrame order) frame at next
+    → ConvertsBytes order format to (frame_bytes order frame.format frame.body.now) old new → ConvertsUnit order format to at next old new
+unit_converted order format to frame at next old new r p = record {
+  unit = p.unit;
+  read = unit_read order p.unit frame at next r p.spelled;
+  put = p.put;
+}
+
+pub unit_large : (order : Order) (format : Format) (to : Order) (frame : Frame) (at next : At) → Reads (IsFrame order) frame at next
+    → IsLarge order format to (frame_bytes order frame.format frame.body.now) → IsLargeUnit order format to at
+unit_large order format to frame at next r p = record {
+  unit = p.unit;
+  next = next;
+  read = unit_read order p.unit frame at next r p.spelled;
+  none = p.none;
+}
+
+pub unit_judged : (order : Order) (format : Format) (to : Order) (frame : Frame) (at next : At) (old new : List ℕ)
+    → Reads (IsFrame order) frame at next
+    → ConvertsBytes order format to (frame_bytes order frame.format frame.body.now) old new → JudgesUnit order format to true at next
+unit_judged order format to frame at next old new r p = record {
+  unit = p.unit;
+  read = unit_read order p.unit frame at next r p.spelled;
+  said = (p.put.spelling, p.put.spelled);
+}
+
+pub unit_judged_large : (order : Order) (format : Format) (to : Order) (frame : Frame) (at next : At) → Reads (IsFrame order) frame at next
+    → IsLarge order format to (frame_bytes order frame.format frame.body.now) → JudgesUnit order format to false at next
+unit_judged_large order format to frame at next r p = record {
+  unit = p.unit;
+  read = unit_read order p.unit frame at next r p.spelled;
+  said = p.none;
+}
+
+-- ---- stops
+
+-- the same cursor by another name
+large_at : (order : Order) (format : Format) (to : Order) (at ahead : At) → at.order ≡ order → StandsAt order at.place at.rest ahead
+    → IsLargeUnit order format to ahead → IsLargeUnit order format to at
+large_at order format to at ahead ordered stands p = record {
+  unit = p.unit;
+  next = p.next;
+  read = record {
+    spelling = p.read.spelling;
+    spelled = p.read.spelled;
+    whole = sym stands.rest_is ∙ p.read.whole;
+    place = p.read.place ∙ ap (λ (n : ℕ). n + length p.read.spelling) stands.place_is;
+    order = p.read.order ∙ stands.order_is ∙ sym ordered;
+  };
+  none = p.none;
+}
+
+pub told_stop : (order : Order) (format : Format) (to : Order) (offset : ℕ) (bytes : List ℕ) (fault : Fault) (stop : ConvertFault)
+    → (fault.reason ≢ Memory → BrokenUnit order fault offset bytes) → IsToldAs fault stop
+    → IsUnitStop order format to offset bytes stop
+told_stop order format to offset bytes fault (convert.Malformed found) broken is =
+    subst (λ (f : Fault). BrokenUnit order f offset bytes) (sym is.0) (broken is.1)
+told_stop order format to offset bytes fault (convert.TooLarge place) broken is = absurd is
+told_stop order format to offset bytes fault convert.Memory broken is = tt
+
+pub told_next : (order : Order) (format : Format) (to : Order) (at : At) (fault : Fault) (stop : ConvertFault)
+    → (fault.reason ≢ Memory → BrokenUnit order fault at.place at.rest) → IsToldAs fault stop
+    → IsNextStop order format to at stop
+told_next order format to at fault (convert.Malformed found) broken is =
+    subst (λ (f : Fault). BrokenUnit order f at.place at.rest) (sym is.0) (broken is.1)
+told_next order format to at fault (convert.TooLarge place) broken is = absurd is
+told_next order format to at fault convert.Memory broken is = tt
+
+-- the frame of a unit that isn't converted was read by another cursor, which stood at the same place
+pub frame_stop : (order : Order) (format : Format) (to : Order) (frame : Frame) (stop : ConvertFault) (at ahead next : At)
+    → at.order ≡ order → StandsAt order at.place at.rest ahead → Reads (IsFrame ahead.order) frame ahead next → frame.offset ≡ ahead.place
+    → IsUnitStop order format to frame.offset (frame_bytes order frame.format frame.body.now) stop → IsNextStop order format to at stop
+frame_stop order format to frame (convert.Malformed fault) at ahead next ordered stands r here p =
+    frame_without_unit order at.place at.rest frame fault ahead next stands r here p
+frame_stop order format to frame (convert.TooLarge place) at ahead next ordered stands r here p =
+    let read : Reads (IsFrame order) frame ahead next = subst (λ (o : Order). Reads (IsFrame o) frame ahead next) stands.order_is r in
+    (p.0 ∙ here ∙ stands.place_is, large_at order format to at ahead ordered stands (unit_large order format to frame ahead next read p.1))
+frame_stop order format to frame convert.Memory at ahead next ordered stands r here p = tt

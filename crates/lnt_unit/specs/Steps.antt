@@ -1,0 +1,45 @@
+-- What a call of `next_unit` or `next_unit_in` does (DWARF 5, sections 6.2.4 and 7.4).
+use Rattle.std.specs.Prelude.{◌≡◌, ◌≢◌, ◌+◌, ◌<◌, length, IsTrue, false, Option, Some, None, IfSome, IfNone}
+use Rattle.std.specs.Prelude.{Result, Ok, Err, IfOk, IfErr, OnErr, IsErrOf}
+use Rattle.lnt_io.specs.declared.source.Source.{Ghosts}
+use Rattle.lnt_io.specs.Pulling.{HasMoreThan}
+use Rattle.lnt_unit.specs.declared.reader.Progress.TheVariants.{Reading, Ended, Failed}
+use Rattle.lnt_unit.specs.declared.reader.SectionReader.{SectionReader}
+use Rattle.lnt_unit.specs.declared.stop.SectionStop.{SectionStop}
+use Rattle.lnt_unit.specs.declared.stop.SectionStop.TheVariants as stop
+use Rattle.lnt_unit.specs.Readers.{source_of, loan_of, order_of, offset_of, progress_of}
+use Rattle.lnt_unit.specs.Stops.{IfFault}
+use Rattle.lnt_unit.specs.Units.{IsNextUnit, SectionEndsBy, BufferedUnit}
+
+-- The reader is old before the call and new after it, the answer is the call's, and source is what the reader's source says of
+-- itself.
+pub record IsStep {R : Type 0} {source : Ghosts R} (old new : SectionReader R source)
+    (answer : Result (Option BufferedUnit) SectionStop) : Type 0 where
+  -- a unit is the next one, and the reader continues after it
+  pub unit : IfOk answer (λ got. IfSome got (λ unit.
+      IsNextUnit (offset_of old) (order_of old) (source.remaining (source_of old)) (source.remaining (source_of new)) unit))
+  pub goes_on : IfOk answer (λ got. IfSome got (λ unit.
+      (progress_of new ≡ Reading) × (offset_of new ≡ offset_of old + length unit.bytes)))
+  pub left : IfOk answer (λ got. IfSome got (λ unit.
+      source.left (source_of new) + length unit.bytes ≡ source.left (source_of old)))
+  pub fewer : IfOk answer (λ got. IfSome got (λ unit. source.left (source_of new) < source.left (source_of old)))
+  -- none comes only at the end of the section
+  pub end : progress_of old ≡ Reading → IfOk answer (λ got. IfNone got
+      (SectionEndsBy (offset_of old) (order_of old) (source.remaining (source_of old)) None))
+  pub not_long : progress_of old ≡ Reading → IfOk answer (λ got. IfNone got (source.too_long (source_of new) ≡ false))
+  pub ends : IfOk answer (λ got. IfNone got (progress_of new ≡ Ended))
+  -- what a stop says is true, and the reader is done
+  pub fault : IfErr answer (λ why. IfFault why (λ fault.
+      SectionEndsBy (offset_of old) (order_of old) (source.remaining (source_of old)) (Some fault)))
+  pub read : IsErrOf answer stop.Read → source.failures (source_of new) ≡ source.failures (source_of old) + 1
+  pub no_failure : answer ≢ Err stop.Read → source.failures (source_of new) ≡ source.failures (source_of old)
+  pub too_long : IsErrOf answer stop.TooLong → IsTrue (source.too_long (source_of new))
+  pub more : IsErrOf answer stop.TooLong → HasMoreThan (source.remaining (source_of old)) (source.left (source_of old))
+  pub stops : OnErr answer (progress_of new ≡ Failed)
+  -- after the end, and after a stop, nothing changes
+  pub ended : progress_of old ≡ Ended → (answer ≡ Ok None) × (new ≡ old)
+  pub failed : progress_of old ≡ Failed → (answer ≡ Err stop.Failed) × (new ≡ old)
+  pub failed_before : IsErrOf answer stop.Failed → progress_of old ≡ Failed
+  -- what no call changes: the byte order, and which source it is
+  pub order : order_of new ≡ order_of old
+  pub same_reference : loan_of new ≡ loan_of old

@@ -1,4 +1,0 @@
-pub mod ConvertedLaws
-pub mod ConvertedLemmas
-pub mod JudgeLemmas
-pub mod SpelledUnits

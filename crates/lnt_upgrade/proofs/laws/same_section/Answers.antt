@@ -1,5 +1,0 @@
-use Rattle.lnt_upgrade.proofs.SameLemmas as lemma
-use Rattle.lnt_upgrade.proofs.laws.same_section.Goals as goal
-
-pub returns : goal.returns
-returns c = lemma.same_section

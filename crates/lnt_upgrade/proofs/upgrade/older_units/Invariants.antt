@@ -1,9 +1,0 @@
-use Rattle.std.proofs.Common.{length}
-use Rattle.lnt_upgrade.specs.Walking.{OlderTo}
-use Rattle.lnt_upgrade.proofs.upgrade.older_units.Given as goal
-
-abbrev pub invariant-loop-cursor : goal.invariant-loop-cursor
-invariant-loop-cursor l = OlderTo l.fn.order l.bytes l.cursor l.older.items
-
-abbrev pub decreases-loop-cursor : goal.decreases-loop-cursor
-decreases-loop-cursor l = length l.cursor.rest

@@ -1,5 +1,0 @@
-use Rattle.lnt_upgrade.proofs.WritingLaws.{can_next}
-use Rattle.lnt_upgrade.proofs.upgrade.upgrade_next.Goals as goal
-
-pub append_unit-requires-clause-next : goal.append_unit-requires-clause-next
-append_unit-requires-clause-next c = can_next c.args.address_size c.args.directories.now c.args.cursor.now c.requires.left c.requires.some

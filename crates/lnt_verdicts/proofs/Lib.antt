@@ -1,5 +1,0 @@
-pub mod DifferenceLemmas
-pub mod PathStretchLemmas
-pub mod PathTableLemmas
-pub mod RoomLemmas
-pub mod StretchLemmas
