@@ -1,11 +1,10 @@
 -- The records of a table by path are compared with a section one after another.
-use Rattle.std.proofs.Common.{◌≡◌, ℕ, ◌+◌, ◌<◌, ◌≤◌, List, [], ◌∷◌, ◌++◌, Option, None, Some, length, length-append}
+use Rattle.std.proofs.Common.{◌≡◌, ◌∙◌, ℕ, ◌+◌, ◌<◌, ◌≤◌, List, [], ◌∷◌, ◌++◌, Option, None, Some, length, length-append}
 use Rattle.std.proofs.Common.{refl, subst, sym, arith, ⊎_elim}
 use Rattle.std.specs.Prelude.{MatchOption}
 use Rattle.std.proofs.lemmas.Bool.{cases_lt}
 use Rattle.lnt_digits.specs.Digits.{IsAddress, IsDecimal}
 use Rattle.lnt_records.specs.declared.fault.TableFault.TheVariants as fault
-use Rattle.lnt_spans.specs.Remaining.{SpansAreLeft}
 use Rattle.lnt_records.specs.declared.fault.TableFault.{TableFault}
 use Rattle.lnt_records.specs.Reading.{IsReadAs}
 use Rattle.lnt_records.specs.Table.{BeginsWith, Fields, RecordsOf}
@@ -13,19 +12,19 @@ use Rattle.lnt_spans.specs.declared.answer.Answer.{Answer}
 use Rattle.lnt_spans.specs.declared.position.Position.{Position}
 use Rattle.lnt_spans.specs.declared.span.Span.{Span}
 use Rattle.lnt_spans.specs.Positions.{IsBelow, IsAtMost}
-use Rattle.lnt_spans.specs.Spans.{AreInOrder}
 use Rattle.lnt_paths.specs.declared.answer.DifferenceByPath.{DifferenceByPath}
 use Rattle.lnt_paths.specs.declared.comparison.PathComparison.{PathComparison}
 use Rattle.lnt_paths.specs.declared.record.PathRecord.{PathRecord}
 use Rattle.lnt_paths.specs.declared.version.PathVersion.{PathVersion}
 use Rattle.lnt_paths.specs.Merging.{IsMerged, JudgesByPath, path_end}
-use Rattle.lnt_paths.specs.PathAnswers.{PathAnswer, answer_told}
+use Rattle.lnt_paths.specs.PathAnswers.{PathAnswer}
+use Rattle.lnt_spans.specs.Merged.{answer_told, end_of_records}
 use Rattle.lnt_paths.specs.PathDifferences.{AnswersByPath, DiffersByPath, IsLeastPathDifference}
 use Rattle.lnt_paths.specs.PathFaults.{IsFaultyRecord, IsPathFault}
 use Rattle.lnt_paths.specs.PathSpans.{PathSpan, StandInOrder, path_span_answer, whole}
 use Rattle.lnt_paths.specs.PathTables.{IsPathRecord, IsPathTable, SaysPath, by_path, path_column_names}
 use Rattle.lnt_paths.specs.Reading.{record_answer, record_span}
-use Rattle.lnt_paths.proofs.MergingLemmas.{low_high, merged_none, origin_first}
+use Rattle.lnt_paths.proofs.MergingLemmas.{low_high, origin_first}
 use Rattle.lnt_paths.proofs.OneTableLemmas.{path_refused}
 use Rattle.lnt_records.proofs.TableLaws as any
 use Rattle.lnt_records.proofs.TableLaws.{table_order}
@@ -69,17 +68,16 @@ pub record_taken : {S : Type 0} (to_come : S → List Span → Type 0) (tell : A
     → (j : JudgesByPath to_come tell version old section records)
     → SaysPath IsAddress IsDecimal version fields said.low said.high (record_answer said) → old.at ≤ said.low → said.low < said.high
     → new.count ≡ old.count + 1
-    → ((list : List Span) (table : List PathSpan)
-    → IsMerged tell (SpansAreLeft to_come old.section.next old.section.spans) (whole old.at) old.first list table
-    → IsMerged tell (SpansAreLeft to_come new.section.next new.section.spans) (whole new.at) new.first list
-    (table ++ record_span said ∷ []))
+    → end_of_records old.merge ≡ whole old.at
+    → ((list : List Span) (table : List PathSpan) → IsMerged to_come tell old.merge list table
+    → IsMerged to_come tell new.merge list (table ++ record_span said ∷ []))
     → JudgesByPath to_come tell version new section (records ++ fields ∷ [])
-record_taken to_come tell version old new section records fields said j says le lt count step =
+record_taken to_come tell version old new section records fields said j says le lt count end step =
     let past : IsAtMost (whole old.at) (whole said.low) = record { address = le; op = λ e. omega arith } in
     record {
       table = j.table ++ record_span said ∷ [];
       is_table = table_push version records j.table fields (record_span said) j.is_table (says_span version fields said says)
-          (subst (λ (p : Position). IsAtMost p (whole said.low)) j.merged.at_is past) (low_high said lt);
+          (subst (λ (p : Position). IsAtMost p (whole said.low)) (sym end ∙ j.merged.at_is) past) (low_high said lt);
       count = omega (arith, j.count, count, length-append records (fields ∷ []));
       merged = step section j.table j.merged;
     }
@@ -104,14 +102,13 @@ order_fault version table at number fields said end says not = (
 -- after the header alone
 pub judges_none : {S : Type 0} (to_come : S → List Span → Type 0) (tell : Answer → PathAnswer) (version : PathVersion)
     (comparison : PathComparison S)
-    (list : List Span) → SpansAreLeft to_come comparison.section.next comparison.section.spans list → AreInOrder list
-    → (comparison.at ≡ 0) × (comparison.first ≡ None) × (comparison.count ≡ 1)
+    (list : List Span) → IsMerged to_come tell comparison.merge list [] → comparison.count ≡ 1
     → JudgesByPath to_come tell version comparison list (path_column_names version ∷ [])
-judges_none to_come tell version comparison list left order e = record {
+judges_none to_come tell version comparison list merged count = record {
   table = [];
   is_table = (refl, record { each = tt; in_order = tt });
-  count = e.2;
-  merged = rw (e.0, e.1) (merged_none to_come tell list comparison.section.next comparison.section.spans left order);
+  count = count;
+  merged = merged;
 }
 
 pub same_told : {S : Type 0} (to_come : S → List Span → Type 0) (tell : PathVersion → Answer → PathAnswer) (version : PathVersion)

@@ -20,7 +20,7 @@ use Rattle.lnt_paths.specs.declared.version.PathVersion.{PathVersion}
 use Rattle.lnt_paths.specs.Held.{held_span}
 use Rattle.lnt_paths.specs.Merging.{path_end}
 use Rattle.lnt_paths.specs.PathAnswers.{PathAnswer}
-use Rattle.lnt_paths.specs.PathDifferences.{told_path_answer}
+use Rattle.lnt_paths.specs.PathAnswers.{told_path_answer}
 use Rattle.lnt_paths.specs.PathFaults.{IsFaultyRecord, IsPathFault}
 use Rattle.lnt_paths.specs.PathSpans.{PathSpan, StandInOrder, whole}
 use Rattle.lnt_paths.specs.PathTables.{IsPathRecord, IsPathTable, SaysPath, by_path, path_column_names}

@@ -12,7 +12,8 @@ use Rattle.lnt_spans.specs.Spans.{AreInOrder, is_in_span, span_answer}
 use Rattle.lnt_spans.proofs.AnsweringLaws.{answer_before, answer_after, answer_in, first_holds}
 use Rattle.lnt_spans.proofs.PositionLaws.{at_most_itself, below_at_most, below_is_at_most, not_both, order_cases, order_three}
 use Rattle.lnt_paths.specs.Joining.{AllJoinTo, IsExtendedBy, JoinsTo, grown, tell_span}
-use Rattle.lnt_paths.specs.PathAnswers.{answer_told, PathAnswer}
+use Rattle.lnt_paths.specs.PathAnswers.{PathAnswer}
+use Rattle.lnt_spans.specs.Merged.{answer_told}
 use Rattle.lnt_paths.specs.PathSpans.{AreCanonicalOf, PathSpan, PathsDifferWhereTheyTouch, StandInOrder, is_in_path_span, path_span_answer}
 
 -- ---- there is one way to join

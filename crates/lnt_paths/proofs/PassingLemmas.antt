@@ -17,7 +17,7 @@ use Rattle.lnt_digits.specs.Digits.{IsAddress, IsDecimal}
 use Rattle.lnt_records.proofs.BeginningLaws.{records_begin}
 use Rattle.lnt_records.proofs.ReadingLaws.{first_same, no_record}
 use Rattle.lnt_digits.specs.Delimited.{Begins}
-use Rattle.lnt_spans.specs.Remaining.{SpansAreLeft}
+use Rattle.lnt_spans.specs.Merged.{end_of_records}
 use Rattle.lnt_records.specs.Reading.{BytesReader, HasRead, IsNarrow}
 use Rattle.lnt_records.specs.Table.{BeginsWith, Fields, RecordsOf}
 use Rattle.lnt_spans.specs.declared.answer.Answer.{Answer}
@@ -328,16 +328,15 @@ stands_first to_come tell version old table header last count e f plain = record
 abbrev pub TakesRecord : {S : Type 0} → (S → List Span → Type 0) → (Answer → PathAnswer) → PathComparison S → PathComparison S → PathRecord
     → Type 0
 TakesRecord to_come tell old new said = (list : List Span) (table : List PathSpan)
-    → IsMerged tell (SpansAreLeft to_come old.section.next old.section.spans) (whole old.at) old.first list table
-    → IsMerged tell (SpansAreLeft to_come new.section.next new.section.spans) (whole new.at) new.first list (table ++ record_span said ∷ [])
+    → IsMerged to_come tell old.merge list table → IsMerged to_come tell new.merge list (table ++ record_span said ∷ [])
 
 pub stands_more : {S : Type 0} (to_come : S → List Span → Type 0) (tell : Answer → PathAnswer) (version : PathVersion)
     (old now new : PathComparison S) (table : List ℕ) (before at next : ℕ) (last : List ℕ) (said : PathRecord)
     → Stands to_come tell version old now table before at last
     → IsPathLine version said (drop at table) (drop next table) → All IsPlainByte said.path.now → now.at ≤ said.low → said.low < said.high
-    → new.count ≡ now.count + 1 → TakesRecord to_come tell now new said
+    → new.count ≡ now.count + 1 → end_of_records now.merge ≡ whole now.at → TakesRecord to_come tell now new said
     → Stands to_come tell version old new table at next said.path.now
-stands_more to_come tell version old now new table before at next last said h line plain le lt count step =
+stands_more to_come tell version old now new table before at next last said h line plain le lt count end step =
     let pushed : length (h.records ++ line.fields ∷ []) ≡ length h.records + 1 = length-append h.records (line.fields ∷ []) in
     let shorter = line_shorter version said (drop at table) (drop next table) line in
     record {
@@ -347,7 +346,7 @@ stands_more to_come tell version old now new table before at next last said h li
         count = omega (arith, count, h.taken.count, pushed);
         few = omega (arith, pushed, h.few);
         judged = λ list j. record_taken to_come tell version now new list h.records line.fields said (h.taken.judged list j) line.says le lt
-            count step;
+            count end step;
       };
       few = omega (arith, pushed, h.few, shorter);
       within = omega (arith, shorter, length-drop at table);

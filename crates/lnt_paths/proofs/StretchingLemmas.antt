@@ -1,5 +1,6 @@
 -- The spans of a section and of a table by path, passed as their stretches are told.
-use Rattle.std.proofs.Common.{◌≡◌, ◌∙◌, ℕ, List, [], ◌∷◌, ◌⊎◌, Option, Some, None, ap, map, subst, sym}
+use Rattle.std.proofs.Common.{◌≡◌, ◌∙◌, ℕ, List, [], ◌∷◌, ◌⊎◌, Option, Some, None, ap, map, refl, subst, sym}
+use Rattle.std.proofs.lemmas.Option.{same_Some}
 use Rattle.std.specs.Prelude.{IfSome, MatchOption}
 use Rattle.std.specs.Option.{option_map}
 use Rattle.lnt_spans.specs.declared.answer.Answer.{Answer}
@@ -15,16 +16,31 @@ use Rattle.lnt_spans.proofs.PositionLaws.{at_most_trans}
 use Rattle.lnt_spans.proofs.RunLaws.{Moves, after_high, moves, same_run, up_to_high}
 use Rattle.lnt_paths.specs.declared.answer.AnswerByPath.{AnswerByPath}
 use Rattle.lnt_paths.specs.declared.held.HeldSpan.{HeldSpan}
-use Rattle.lnt_paths.specs.declared.merge.Section.{Section}
+use Rattle.lnt_paths.specs.declared.stretches.Section.{Section}
 use Rattle.lnt_paths.specs.declared.told.ToldFile.{ToldFile}
 use Rattle.lnt_paths.specs.declared.told.ToldFiles.{ToldFiles}
 use Rattle.lnt_paths.specs.Compared.{AreTold}
 use Rattle.lnt_paths.specs.Held.{held_span}
-use Rattle.lnt_paths.specs.PathAnswers.{answer_told, PathAnswer}
+use Rattle.lnt_paths.specs.PathAnswers.{PathAnswer}
+use Rattle.lnt_spans.specs.Merged.{answer_told}
 use Rattle.lnt_paths.specs.PathSpans.{path_span_answer, PathSpan, StandInOrder, whole}
 use Rattle.lnt_paths.specs.Stretching.{AreToldOfFirst, IsOfFirst, IsSectionAt, IsTableAt, PathsEndAfter}
-use Rattle.lnt_paths.proofs.MergingLemmas.{given_left, left_first}
 use Rattle.lnt_paths.proofs.PathSpanLemmas.{none_before}
+
+-- the next span is the first one left
+left_first : {S : Type 0} (to_come : S → List Span → Type 0) (next : Option Span) (spans : S) (rest : List Span) (span : Span)
+    → next ≡ Some span → SpansAreLeft to_come next spans rest → (more : List Span) × (rest ≡ span ∷ more) × to_come spans more
+left_first to_come next spans [] span e l = absurd (let h : None ≡ Some span = sym l ∙ e in cc h)
+left_first to_come next spans (first ∷ more) span e l =
+    (more, ap (λ (s : Span). s ∷ more) (same_Some first span (sym l.0 ∙ e)), l.1)
+
+given_left : {S : Type 0} (to_come : S → List Span → Type 0) (given : Option Span) (spans : S) (list : List Span)
+    → GivesFirstSpan (to_come spans) list given
+    → SpansAreLeft to_come given spans list
+given_left to_come None spans [] g = refl
+given_left to_come (Some given) spans [] g = absurd g
+given_left to_come None spans (span ∷ list) g = absurd g
+given_left to_come (Some given) spans (span ∷ list) g = (ap Some g.0, g.1)
 
 -- ---- a section
 

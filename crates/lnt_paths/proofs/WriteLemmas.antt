@@ -23,7 +23,8 @@ use Rattle.lnt_spans.specs.Instructions.{IsOfInstructions}
 use Rattle.lnt_paths.specs.Borders.{IsPathSpanOfInstructions}
 use Rattle.lnt_paths.specs.Joining.{AddsPathLine, AllJoinTo, AreFirstOf, HasBegunLines, HasWritten, IsFirstOperation}
 use Rattle.lnt_paths.specs.Joining.{JoinsTo, grown, tell_span}
-use Rattle.lnt_paths.specs.PathAnswers.{answer_told, PathAnswer}
+use Rattle.lnt_paths.specs.PathAnswers.{PathAnswer}
+use Rattle.lnt_spans.specs.Merged.{answer_told}
 use Rattle.lnt_paths.specs.PathSpans.{AreCanonicalOf, PathSpan}
 use Rattle.lnt_paths.specs.PathTables.{SaysColumn, SaysPath, path_column_count, path_column_names}
 use Rattle.lnt_paths.specs.Written.{BeginsPathTable, HasOperationIndex, IsCanonicalPathTable, IsPlainPathRecord, records_text}

@@ -2,6 +2,8 @@
 use Rattle.std.specs.Prelude.{◌≡◌, ◌≢◌, ℕ, List, Option, IfSome}
 use Rattle.std.specs.Bool.{MatchBool}
 use Rattle.std.specs.List.{All}
+use Rattle.lnt_paths.specs.declared.known.KnownPath.{KnownPath}
+use Rattle.lnt_paths.specs.declared.telling.PathMemory.{PathMemory}
 use Rattle.lnt_paths.specs.declared.told.ComparedFiles.{ComparedFiles}
 use Rattle.lnt_paths.specs.declared.told.ToldFile.{ToldFile}
 
@@ -15,3 +17,12 @@ abbrev pub AreCompared : (ℕ → ℕ → List ℕ) → List (Option ComparedFil
 AreCompared path slots = All (λ slot. IfSome slot (λ pair. MatchBool pair.same
     (path pair.unit pair.file ≡ path pair.other_unit pair.other_file)
     (path pair.unit pair.file ≢ path pair.other_unit pair.other_file))) slots
+
+-- Every cached path is that of its file.
+abbrev pub AreKnownOf : (ℕ → ℕ → List ℕ) → List (Option KnownPath) → Type 0
+AreKnownOf path slots = All (λ slot. IfSome slot (λ kept. kept.path.items ≡ path kept.unit kept.file)) slots
+
+-- All that is remembered of paths is correct.
+pub record IsRemembered (path : ℕ → ℕ → List ℕ) (memory : PathMemory) : Type 0 where
+  pub known : AreKnownOf path memory.known.slots.items
+  pub compared : AreCompared path memory.compared.slots

@@ -3,7 +3,7 @@ use Rattle.std.specs.Prelude.{ℕ, List, map}
 use Rattle.lnt_paths.specs.declared.held.HeldSpan.{HeldSpan}
 use Rattle.lnt_paths.specs.declared.held.HeldTable.{HeldTable}
 use Rattle.lnt_paths.specs.declared.held.HeldTable.TheVariants as held
-use Rattle.lnt_paths.specs.PathDifferences.{told_path_answer}
+use Rattle.lnt_paths.specs.PathAnswers.{told_path_answer}
 use Rattle.lnt_paths.specs.PathFaults.{IsPathFault}
 use Rattle.lnt_paths.specs.PathSpans.{PathSpan, StandInOrder, whole}
 use Rattle.lnt_paths.specs.PathTables.{IsPathTableOf}

@@ -3,12 +3,14 @@ use Rattle.std.specs.Prelude.{◌≡◌, ℕ, List, Option, ◌++◌}
 use Rattle.std.specs.Option.{option_map}
 use Rattle.lnt_spans.specs.declared.position.Position.{Position}
 use Rattle.lnt_spans.specs.AnyStretches.{AreAllStretches, AreFirstStretches, Stretch}
+use Rattle.lnt_spans.specs.Differences.{IsFirstDifference}
 use Rattle.lnt_records.specs.declared.fault.TableFault.{TableFault}
 use Rattle.lnt_paths.specs.declared.answer.ComparedByPath.{ComparedByPath}
 use Rattle.lnt_paths.specs.declared.answer.ComparedByPath.TheVariants.{Same, Fault, Differs}
 use Rattle.lnt_paths.specs.declared.version.PathVersion.{PathVersion}
 use Rattle.lnt_paths.specs.PathAnswers.{PathAnswer}
-use Rattle.lnt_paths.specs.PathDifferences.{DifferFirst, IsPathComparison, told_path_answer}
+use Rattle.lnt_paths.specs.PathDifferences.{IsPathComparison}
+use Rattle.lnt_paths.specs.PathAnswers.{told_path_answer}
 use Rattle.lnt_paths.specs.PathFaults.{IsPathFault}
 use Rattle.lnt_paths.specs.PathSpans.{AreCanonicalPaths, PathSpan, path_span_answer}
 use Rattle.lnt_paths.specs.PathTables.{IsPathTableOf}
@@ -41,9 +43,9 @@ OnePathFault = (bytes : List ℕ) (told other : TableFault) → IsPathFault byte
 -- Two ways to answer have at most one first difference: one position, with one answer of each.
 abbrev pub OneLeastPathDifference : Type 0
 OneLeastPathDifference =
-    (by_section by_table : Position → Option PathAnswer) (p q : Position) (table section table' section' : Option PathAnswer)
-    → DifferFirst by_section by_table p table section → DifferFirst by_section by_table q table' section'
-    → (p ≡ q) × (table ≡ table') × (section ≡ section')
+    (by_section by_table : Position → Option PathAnswer) (one other : Stretch PathAnswer)
+    → IsFirstDifference by_section by_table one → IsFirstDifference by_section by_table other
+    → (one.position ≡ other.position) × (one.by_table ≡ other.by_table) × (one.by_section ≡ other.by_section)
 
 -- The result of a comparison, with paths as bytes, wherever they are held.
 pub data ToldByPath : Type 0 where

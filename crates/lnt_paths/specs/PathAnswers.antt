@@ -1,10 +1,10 @@
 -- The answer at a position by path: the bytes of the full path of the file, the line, and in version 3 the column.
 use Rattle.std.specs.Prelude.{ℕ, List, Option, None, Some}
-use Rattle.std.specs.Option.{option_map}
 use Rattle.lnt_spans.specs.declared.answer.Answer.{Answer}
 use Rattle.lnt_spans.specs.declared.position.Position.{Position}
 use Rattle.lnt_spans.specs.declared.span.Span.{Span}
-use Rattle.lnt_spans.specs.Spans.{span_answer}
+use Rattle.lnt_spans.specs.Merged.{answer_told}
+use Rattle.lnt_paths.specs.declared.answer.AnswerByPath.{AnswerByPath}
 use Rattle.lnt_paths.specs.declared.version.PathVersion.{PathVersion}
 use Rattle.lnt_paths.specs.declared.version.PathVersion.TheVariants.{Three, Four}
 
@@ -23,10 +23,10 @@ abbrev pub path_answer : PathVersion → (ℕ → ℕ → List ℕ) → Answer �
 path_answer version path answer =
     record { path = path answer.unit answer.file; line = answer.line; column = told_column version answer.column }
 
--- what spans answer at a position, by path in this way
-abbrev pub answer_told : (Answer → PathAnswer) → List Span → Position → Option PathAnswer
-answer_told tell spans p = option_map tell (span_answer spans p)
-
--- the same, if these are the paths of the files of units
+-- what spans answer at a position, by path, if these are the paths of the files of units
 abbrev pub spans_by_path : PathVersion → (ℕ → ℕ → List ℕ) → List Span → Position → Option PathAnswer
 spans_by_path version path spans p = answer_told (path_answer version path) spans p
+
+-- the value of an answer that is held
+abbrev pub told_path_answer : AnswerByPath → PathAnswer
+told_path_answer answer = record { path = answer.path.items; line = answer.line; column = answer.column }

@@ -1,9 +1,7 @@
 -- Where a section and a table by path first answer differently, and the result of a comparison.
-use Rattle.std.specs.Prelude.{◌≡◌, ◌≢◌, ℕ, List, Option}
-use Rattle.std.specs.Option.{option_map}
+use Rattle.std.specs.Prelude.{◌≡◌, ℕ, List, Option}
 use Rattle.lnt_spans.specs.declared.position.Position.{Position}
-use Rattle.lnt_spans.specs.Positions.{IsBelow}
-use Rattle.lnt_paths.specs.declared.answer.AnswerByPath.{AnswerByPath}
+use Rattle.lnt_spans.specs.Differences.{IsFirstDifference}
 use Rattle.lnt_paths.specs.declared.answer.ComparedByPath.{ComparedByPath}
 use Rattle.lnt_paths.specs.declared.answer.ComparedByPath.TheVariants.{Same, Fault, Differs}
 use Rattle.lnt_paths.specs.declared.answer.DifferenceByPath.{DifferenceByPath}
@@ -11,25 +9,12 @@ use Rattle.lnt_paths.specs.declared.version.PathVersion.{PathVersion}
 use Rattle.lnt_paths.specs.PathAnswers.{PathAnswer}
 use Rattle.lnt_paths.specs.PathFaults.{IsPathFault}
 use Rattle.lnt_paths.specs.PathSpans.{PathSpan, path_span_answer}
+use Rattle.lnt_paths.specs.PathStretches.{stretch_of}
 use Rattle.lnt_paths.specs.PathTables.{IsPathTableOf}
-
--- the value of an answer that is held
-abbrev pub told_path_answer : AnswerByPath → PathAnswer
-told_path_answer answer = record { path = answer.path.items; line = answer.line; column = answer.column }
-
--- At this position the two sides give these answers, which differ, and at every lower one they answer alike.
-pub record DifferFirst (by_section by_table : Position → Option PathAnswer) (position : Position) (table section : Option PathAnswer) : Type
-    0 where
-  pub section_is : section ≡ by_section position
-  pub table_is : table ≡ by_table position
-  pub differ : table ≢ section
-  pub before : (p : Position) → IsBelow p position → by_section p ≡ by_table p
 
 -- This is the least position at which the two sides answer differently, with both answers there.
 abbrev pub IsLeastPathDifference : (Position → Option PathAnswer) → (Position → Option PathAnswer) → DifferenceByPath → Type 0
-IsLeastPathDifference by_section by_table difference =
-    DifferFirst by_section by_table difference.position (option_map told_path_answer difference.by_table)
-    (option_map told_path_answer difference.by_section)
+IsLeastPathDifference by_section by_table difference = IsFirstDifference by_section by_table (stretch_of difference)
 
 -- ---- a comparison of bytes with a section's answers in each version
 

@@ -6,7 +6,7 @@ use Rattle.lnt_spans.specs.declared.position.Position.{Position}
 use Rattle.lnt_spans.specs.AnyStretches.{AreAllStretches, Stretch}
 use Rattle.lnt_paths.specs.declared.answer.DifferenceByPath.{DifferenceByPath}
 use Rattle.lnt_paths.specs.PathAnswers.{PathAnswer}
-use Rattle.lnt_paths.specs.PathDifferences.{told_path_answer}
+use Rattle.lnt_paths.specs.PathAnswers.{told_path_answer}
 
 -- a difference as a stretch
 abbrev pub stretch_of : DifferenceByPath → Stretch PathAnswer

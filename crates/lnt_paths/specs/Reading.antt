@@ -2,12 +2,17 @@
 use Rattle.std.specs.Prelude.{[], ◌∷◌, codes}
 use Rattle.lnt_records.specs.Table.{Fields}
 use Rattle.lnt_paths.specs.declared.record.PathRecord.{PathRecord}
+use Rattle.lnt_paths.specs.declared.telling.SaidPath.{SaidPath}
 use Rattle.lnt_paths.specs.PathAnswers.{PathAnswer}
 use Rattle.lnt_paths.specs.PathSpans.{PathSpan, whole}
 
 -- the columns that both versions have
 abbrev pub place_names : Fields
 place_names = codes "low" ∷ codes "high" ∷ codes "path" ∷ codes "line" ∷ []
+
+-- a record's answer that is borrowed
+abbrev pub said_answer : SaidPath → PathAnswer
+said_answer said = record { path = said.path.now; line = said.line; column = said.column }
 
 -- the answer of a record
 abbrev pub record_answer : PathRecord → PathAnswer

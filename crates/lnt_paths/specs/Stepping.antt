@@ -13,7 +13,7 @@ use Rattle.lnt_paths.specs.declared.stretches.DifferencesByPath.{DifferencesByPa
 use Rattle.lnt_paths.specs.declared.stretches.Step.{Step}
 use Rattle.lnt_paths.specs.declared.stretches.Step.TheVariants.{Ended, Known, Told}
 use Rattle.lnt_paths.specs.PathAnswers.{path_answer, PathAnswer}
-use Rattle.lnt_paths.specs.PathDifferences.{told_path_answer}
+use Rattle.lnt_paths.specs.PathAnswers.{told_path_answer}
 use Rattle.lnt_paths.specs.PathSpans.{whole}
 use Rattle.lnt_paths.specs.Stretching.{HasToldByPath}
 

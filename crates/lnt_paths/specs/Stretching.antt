@@ -12,13 +12,14 @@ use Rattle.lnt_spans.specs.Spans.{AreInOrder}
 use Rattle.lnt_spans.specs.ToldStretches.{AreToldBelow}
 use Rattle.lnt_paths.specs.declared.answer.AnswerByPath.{AnswerByPath}
 use Rattle.lnt_paths.specs.declared.held.HeldSpan.{HeldSpan}
-use Rattle.lnt_paths.specs.declared.merge.Section.{Section}
+use Rattle.lnt_paths.specs.declared.stretches.Section.{Section}
 use Rattle.lnt_paths.specs.declared.stretches.DifferencesByPath.{DifferencesByPath}
 use Rattle.lnt_paths.specs.declared.told.ToldFile.{ToldFile}
 use Rattle.lnt_paths.specs.Compared.{AreCompared, AreTold}
 use Rattle.lnt_paths.specs.Held.{held_span}
-use Rattle.lnt_paths.specs.PathAnswers.{answer_told, path_answer, PathAnswer}
-use Rattle.lnt_paths.specs.PathDifferences.{told_path_answer}
+use Rattle.lnt_paths.specs.PathAnswers.{path_answer, PathAnswer}
+use Rattle.lnt_spans.specs.Merged.{answer_told}
+use Rattle.lnt_paths.specs.PathAnswers.{told_path_answer}
 use Rattle.lnt_paths.specs.PathSpans.{path_span_answer, PathSpan, StandInOrder, whole}
 
 -- ---- one side

@@ -1,33 +1,31 @@
 //! Compares a table by path with the spans of a section, record by record.
-ghost use Rattle.std.specs.Prelude.{◌≡◌, ◌+◌, ◌^◌, ◌<◌, ◌≤◌, List, [], ◌∷◌, ◌++◌, length, IfOk, MatchOption, None, OnOk, ℕ};
-ghost use Rattle.std.specs.Option.{option_map};
+ghost use Rattle.std.specs.Prelude.{◌≡◌, ◌+◌, ◌^◌, ◌<◌, ◌≤◌, List, [], ◌∷◌, ◌++◌, length, IfOk, MatchOption, OnOk, ℕ};
 ghost use Rattle.csv.specs.Records.{fields_of};
-ghost use Rattle.lnt_spans.specs.Remaining.{SpansAreLeft};
 ghost use Rattle.lnt_records.specs.Reading.{IsNarrow};
 ghost use Rattle.lnt_records.specs.Table.{BeginsWith, Fields};
-ghost use Rattle.lnt_spans.specs.declared.position.Position as position;
+ghost use Rattle.lnt_spans.specs.declared.answer.Answer as answer;
 ghost use Rattle.lnt_spans.specs.declared.span.Span as spec;
 ghost use Rattle.lnt_spans.specs.Spans.{AreInOrder};
 ghost use Rattle.lnt_paths.specs.declared.version.PathVersion.{PathVersion};
-ghost use Rattle.lnt_paths.specs.Merging.{AreKnownOf, IsMerged, JudgesByPath, table_side};
+ghost use Rattle.lnt_paths.specs.Merging.{IsMerged, IsReady, JudgesByPath};
 ghost use Rattle.lnt_paths.specs.Passing.{IsAfter};
-ghost use Rattle.lnt_paths.specs.PathAnswers.{answer_told, path_answer, spans_by_path};
-ghost use Rattle.lnt_paths.specs.PathDifferences.{IsLeastPathDifference, IsPathComparison, told_path_answer};
+ghost use Rattle.lnt_paths.specs.PathAnswers.{PathAnswer, path_answer, spans_by_path};
+ghost use Rattle.lnt_paths.specs.PathDifferences.{IsPathComparison};
 ghost use Rattle.lnt_paths.specs.PathFaults.{IsFaultyRecord};
-ghost use Rattle.lnt_paths.specs.PathSpans.{PathSpan, path_span_answer, whole};
+ghost use Rattle.lnt_paths.specs.PathSpans.{PathSpan, whole};
 ghost use Rattle.lnt_paths.specs.PathTables.{IsPathTable, path_column_names};
 ghost use Rattle.lnt_paths.specs.Reading.{record_answer, record_span};
 
-use crate::answer::{AnswerByPath, ComparedByPath, DifferenceByPath};
-use crate::known::KnownPaths;
-use crate::merge::{Apart, Section, column_in, first_apart};
+use crate::answer::{ComparedByPath, DifferenceByPath};
 use crate::paths::Paths;
 use crate::record::{PathRecord, record_after};
+use crate::telling::{PathMemory, PathTelling};
 use crate::version::PathVersion;
 use csv::ByteRecord;
 use lnt_records::{TableFault, TakesRecords, header_of, take_records};
-use lnt_spans::{Answer, SpanSource};
+use lnt_spans::{Merge, Position, SpanSource};
 use std::alloc::{AllocError, Global};
+use std::marker::PhantomData;
 
 /// Compares the table by path in these bytes with the spans of a section, which come from a source.
 ///
@@ -68,7 +66,7 @@ fn compare_after<S: SpanSource + Drop, P: Paths>(
     mut comparison: PathComparison<S>,
     paths: &P,
 ) -> Result<ComparedByPath, AllocError>
-    requires known { AreKnownOf (P.bytes_of paths.now) comparison.known.slots.items }
+    requires known { IsReady (P.bytes_of paths.now) comparison }
     requires past { (bytes : List ℕ) × (records : List Fields) × IsAfter bytes text.now records }
     requires few { comparison.count + length text.now < 2 ^ 64 + 1 }
     ensures { IfOk result (λ compared. (bytes : List ℕ) (records : List Fields) (list : List spec.Span) → IsAfter bytes text.now records
@@ -83,7 +81,13 @@ fn compare_after<S: SpanSource + Drop, P: Paths>(
     if let Some(fault) = take_records(alloc, text, &taker, &mut comparison)? {
         return Ok(ComparedByPath::Fault(fault));
     }
-    match comparison.finish(alloc, paths, version) {
+    let telling = PathTelling {
+        alloc,
+        paths,
+        version,
+        held: PhantomData,
+    };
+    match comparison.merge.finish(&telling) {
         Ok(Some(difference)) => Ok(ComparedByPath::Differs(difference)),
         Ok(None) => Ok(ComparedByPath::Same),
         Err(_) => Err(AllocError),
@@ -100,11 +104,11 @@ struct PathTaker<'a, P> {
 
 impl<'a, S: SpanSource + Drop, P: Paths> TakesRecords<PathComparison<S>> for PathTaker<'a, P> {
     ghost use Rattle.std.specs.Prelude.{◌≡◌};
-    ghost use Rattle.lnt_paths.specs.Merging.{AreKnownOf, JudgesByPath};
+    ghost use Rattle.lnt_paths.specs.Merging.{IsReady, JudgesByPath};
     ghost use Rattle.lnt_paths.specs.PathAnswers.{path_answer};
     ghost use Rattle.lnt_paths.specs.PathFaults.{IsPathFault};
 
-    ghost has_taken = { λ taker comparison count. AreKnownOf (P.bytes_of taker.paths.now) comparison.known.slots.items
+    ghost has_taken = { λ taker comparison count. IsReady (P.bytes_of taker.paths.now) comparison
         × (comparison.count ≡ count) };
 
     ghost judges = { λ taker comparison section records.
@@ -124,12 +128,10 @@ impl<'a, S: SpanSource + Drop, P: Paths> TakesRecords<PathComparison<S>> for Pat
 // The state of a comparison: the spans of a section, and the records of a table by path so far.
 #[derive(Drop)]
 pub(crate) struct PathComparison<S> {
-    pub(crate) section: Section<S>,
-    pub(crate) known: KnownPaths,
+    pub(crate) merge: Merge<S, DifferenceByPath>,
+    pub(crate) memory: PathMemory,
     // the address where the last record ends; 0 if there is none
     pub(crate) at: u64,
-    // the first difference below `at`
-    pub(crate) first: Option<DifferenceByPath>,
     // the number of records so far, including the header, which is the number of the next record
     pub(crate) count: u64,
 }
@@ -137,17 +139,16 @@ pub(crate) struct PathComparison<S> {
 impl<S: SpanSource + Drop> PathComparison<S> {
     // The state after the header alone.
     fn new(alloc: Global, spans: S) -> Result<PathComparison<S>, AllocError>
-        ensures known { IfOk result (λ comparison. (path : ℕ → ℕ → List ℕ) → AreKnownOf path comparison.known.slots.items) }
-        ensures left { IfOk result (λ comparison. (list : List spec.Span) → S.to_come spans list
-            → SpansAreLeft S.to_come comparison.section.next comparison.section.spans list) }
-        ensures none { IfOk result (λ comparison. (comparison.at ≡ 0) × (comparison.first ≡ None) × (comparison.count ≡ 1)) }
+        ensures ready { IfOk result (λ comparison. (path : ℕ → ℕ → List ℕ) → IsReady path comparison) }
+        ensures merged { IfOk result (λ comparison. (tell : answer.Answer → PathAnswer) (list : List spec.Span) → S.to_come spans list
+            → AreInOrder list → IsMerged S.to_come tell comparison.merge list []) }
+        ensures count { IfOk result (λ comparison. comparison.count ≡ 1) }
     {
-        let known = KnownPaths::new(alloc)?;
+        let memory = PathMemory::new(alloc)?;
         Ok(PathComparison {
-            section: Section::of(spans),
-            known,
+            merge: Merge::past(spans, whole(0)),
+            memory,
             at: 0,
-            first: None,
             count: 1,
         })
     }
@@ -160,33 +161,29 @@ impl<S: SpanSource + Drop> PathComparison<S> {
         version: PathVersion,
         said: &PathRecord<'_>,
     ) -> Result<(), AllocError>
-        requires known { AreKnownOf (P.bytes_of paths.now) self.old.known.slots.items }
+        requires known { IsReady (P.bytes_of paths.now) self.old }
         requires past { self.old.at ≤ said.now.low }
         requires holds { said.now.low < said.now.high }
-        ensures known { OnOk result (AreKnownOf (P.bytes_of paths.now) self.new.known.slots.items) }
+        ensures known { OnOk result (IsReady (P.bytes_of paths.now) self.new) }
         ensures count { OnOk result (self.new.count ≡ self.old.count) }
         ensures merged { OnOk result ((list : List spec.Span) (table : List PathSpan)
-            → IsMerged (path_answer version (P.bytes_of paths.now)) (SpansAreLeft S.to_come self.old.section.next self.old.section.spans)
-            (whole self.old.at) self.old.first list table
-            → IsMerged (path_answer version (P.bytes_of paths.now)) (SpansAreLeft S.to_come self.new.section.next self.new.section.spans)
-            (whole self.new.at) self.new.first list (table ++ record_span said.now ∷ [])) }
+            → IsMerged S.to_come (path_answer version (P.bytes_of paths.now)) self.old.merge list table
+            → IsMerged S.to_come (path_answer version (P.bytes_of paths.now)) self.new.merge list (table ++ record_span said.now ∷ [])) }
     {
-        self.at = said.high;
-        if self.first.is_some() {
-            return Ok(());
-        }
-        let found = first_apart(
+        let telling = PathTelling {
             alloc,
             paths,
             version,
-            &mut self.known,
-            &mut self.section,
-            said,
-        )?;
-        let Some(apart) = found else {
-            return Ok(());
+            held: PhantomData,
         };
-        self.first = Some(difference_of(alloc, paths, version, &apart, said)?);
+        self.merge.push(
+            &telling,
+            &mut self.memory,
+            whole(said.low),
+            whole(said.high),
+            said.answer(),
+        )?;
+        self.at = said.high;
         Ok(())
     }
 
@@ -198,9 +195,9 @@ impl<S: SpanSource + Drop> PathComparison<S> {
         version: PathVersion,
         row: &ByteRecord,
     ) -> Result<Option<TableFault>, AllocError>
-        requires known { AreKnownOf (P.bytes_of paths.now) self.old.known.slots.items }
+        requires known { IsReady (P.bytes_of paths.now) self.old }
         requires few { self.old.count + 1 < 2 ^ 64 }
-        ensures known { OnOk result (AreKnownOf (P.bytes_of paths.now) self.new.known.slots.items) }
+        ensures known { OnOk result (IsReady (P.bytes_of paths.now) self.new) }
         ensures narrow { IfOk result (λ found. MatchOption found (IsNarrow (fields_of row.now)) (λ _. Unit {0})) }
         ensures judged { IfOk result (λ found. (list : List spec.Span) (records : List Fields)
             → JudgesByPath S.to_come (path_answer version (P.bytes_of paths.now)) version self.old list records
@@ -218,94 +215,11 @@ impl<S: SpanSource + Drop> PathComparison<S> {
         self.count += 1;
         Ok(None)
     }
-
-    // The least position at which the section and the table answer differently, once no record follows. `None` if they
-    // answer alike at every position.
-    fn finish<P: Paths>(
-        &mut self,
-        alloc: Global,
-        paths: &P,
-        version: PathVersion,
-    ) -> Result<Option<DifferenceByPath>, AllocError>
-        ensures { IfOk result (λ found. (list : List spec.Span) (table : List PathSpan)
-            → IsMerged (path_answer version (P.bytes_of paths.now)) (SpansAreLeft S.to_come self.old.section.next self.old.section.spans)
-            (whole self.old.at)
-            self.old.first list table
-            → MatchOption found ((p : position.Position)
-            → answer_told (path_answer version (P.bytes_of paths.now)) list p ≡ path_span_answer table p)
-            (λ difference. IsLeastPathDifference (answer_told (path_answer version (P.bytes_of paths.now)) list) (path_span_answer table)
-            difference)) }
-    {
-        if self.first.is_some() {
-            return Ok(self.first.take());
-        }
-        let Some(span) = self.section.next else {
-            return Ok(None);
-        };
-        let by_section = told_of(alloc, paths, version, &span.answer)?;
-        Ok(Some(DifferenceByPath {
-            position: span.low,
-            by_table: None,
-            by_section: Some(by_section),
-        }))
-    }
 }
 
-// An answer of a section, with its path.
-pub(crate) fn told_of<P: Paths>(
-    alloc: Global,
-    paths: &P,
-    version: PathVersion,
-    answer: &Answer,
-) -> Result<AnswerByPath, AllocError>
-    ensures { IfOk result (λ told. told_path_answer told ≡ path_answer version (P.bytes_of paths.now) answer.now) }
+// The position of a whole instruction.
+pub(crate) fn whole(address: u64) -> Position
+    ensures { result ≡ whole address }
 {
-    let path = paths.path_of(alloc, answer.unit, answer.file)?;
-    Ok(AnswerByPath {
-        path,
-        line: answer.line,
-        column: column_in(version, answer.column),
-    })
-}
-
-// The answer of a record, with an owned path.
-pub(crate) fn said_of(alloc: Global, said: &PathRecord<'_>) -> Result<AnswerByPath, AllocError>
-    ensures { IfOk result (λ told. told_path_answer told ≡ record_answer said.now) }
-{
-    let path = Vec::from_slice(alloc, said.path)?;
-    Ok(AnswerByPath {
-        path,
-        line: said.line,
-        column: said.column,
-    })
-}
-
-// A difference between a section and a record, with the paths of both answers.
-fn difference_of<P: Paths>(
-    alloc: Global,
-    paths: &P,
-    version: PathVersion,
-    apart: &Apart,
-    said: &PathRecord<'_>,
-) -> Result<DifferenceByPath, AllocError>
-    ensures position { IfOk result (λ difference. difference.position ≡ apart.now.position) }
-    ensures table { IfOk result (λ difference. option_map told_path_answer difference.by_table
-        ≡ table_side apart.now.by_table (record_answer said.now)) }
-    ensures section { IfOk result (λ difference. option_map told_path_answer difference.by_section
-        ≡ option_map (path_answer version (P.bytes_of paths.now)) apart.now.by_section) }
-{
-    let by_table = if apart.by_table {
-        Some(said_of(alloc, said)?)
-    } else {
-        None
-    };
-    let by_section = match &apart.by_section {
-        Some(answer) => Some(told_of(alloc, paths, version, answer)?),
-        None => None,
-    };
-    Ok(DifferenceByPath {
-        position: apart.position,
-        by_table,
-        by_section,
-    })
+    Position { address, op: 0 }
 }

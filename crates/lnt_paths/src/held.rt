@@ -10,8 +10,8 @@ ghost use Rattle.lnt_paths.specs.PathFaults.{IsFaultyRecord};
 ghost use Rattle.lnt_paths.specs.PathTables.{IsPathTable};
 
 use crate::answer::AnswerByPath;
-use crate::comparison::said_of;
 use crate::record::record_after;
+use crate::telling::said_of;
 use crate::version::PathVersion;
 use csv::ByteRecord;
 use lnt_records::{TableFault, TakesRecords, header_of, take_records};
@@ -101,7 +101,7 @@ fn hold_record(
         Ok(said) => said,
         Err(fault) => return Ok(Some(fault)),
     };
-    let answer = said_of(alloc, &said)?;
+    let answer = said_of(alloc, said.answer())?;
     spans.push(HeldSpan {
         low: said.low,
         high: said.high,

@@ -10,6 +10,7 @@ ghost use Rattle.lnt_paths.specs.Joining.{AllJoinTo, IsExtendedBy, WillGive};
 ghost use Rattle.lnt_paths.specs.PathAnswers.{PathAnswer, path_answer, told_column};
 
 use crate::paths::Paths;
+use crate::telling::same_place;
 use crate::told::ComparedPaths;
 use crate::version::PathVersion;
 use lnt_spans::{Answer, Span, SpanSource};
@@ -87,16 +88,4 @@ fn goes_on<P: Paths>(
         return Ok(false);
     }
     compared.same_path(alloc, paths, &last.answer, &span.answer)
-}
-
-// Whether two answers have the same line, and the same column if the version has columns.
-pub(crate) fn same_place(version: PathVersion, one: &Answer, other: &Answer) -> bool
-    ensures { MatchBool result ((one.now.line ≡ other.now.line)
-        × (told_column version one.now.column ≡ told_column version other.now.column))
-        (one.now.line ≡ other.now.line → told_column version one.now.column ≢ told_column version other.now.column) }
-{
-    match version {
-        PathVersion::Three => one.line == other.line && one.column == other.column,
-        PathVersion::Four => one.line == other.line,
-    }
 }

@@ -1,8 +1,7 @@
 //! Caches the paths of files.
 ghost use Rattle.std.specs.Prelude.{◌≡◌, ◌≢◌, ℕ, List, IfOk, OnOk};
 ghost use Rattle.std.specs.Bool.{MatchBool};
-ghost use Rattle.lnt_paths.specs.Compared.{AreTold};
-ghost use Rattle.lnt_paths.specs.Merging.{AreKnownOf};
+ghost use Rattle.lnt_paths.specs.Compared.{AreKnownOf, AreTold};
 
 use crate::paths::Paths;
 use crate::told::ToldFiles;

@@ -1,7 +1,7 @@
 //! Parses the records of a table by path line by line, as long as that works, before `csv` reads the others.
 ghost use Rattle.std.specs.Prelude.{◌≡◌, ◌≤◌, List, [], ◌∷◌, drop, length, IfOk, OnOk};
 ghost use Rattle.lnt_records.specs.Table.{BeginsWith, Fields};
-ghost use Rattle.lnt_paths.specs.Merging.{AreKnownOf};
+ghost use Rattle.lnt_paths.specs.Merging.{IsReady};
 ghost use Rattle.lnt_paths.specs.Passing.{HasTaken, IsAfter};
 ghost use Rattle.lnt_paths.specs.PathAnswers.{path_answer};
 ghost use Rattle.lnt_paths.specs.PathTables.{path_column_names};
@@ -25,10 +25,10 @@ impl<S: SpanSource + Drop> PathComparison<S> {
         version: PathVersion,
         table: &[u8],
     ) -> Result<usize, AllocError>
-        requires known { AreKnownOf (P.bytes_of paths.now) self.old.known.slots.items }
+        requires known { IsReady (P.bytes_of paths.now) self.old }
         requires header { BeginsWith table.now (path_column_names version ∷ []) }
         requires count { self.old.count ≡ 1 }
-        ensures known { OnOk result (AreKnownOf (P.bytes_of paths.now) self.new.known.slots.items) }
+        ensures known { OnOk result (IsReady (P.bytes_of paths.now) self.new) }
         ensures within { IfOk result (λ at. at ≤ length table.now) }
         ensures passed { IfOk result (λ at. (records : List Fields) × IsAfter table.now (drop at table.now) records
             × HasTaken S.to_come (path_answer version (P.bytes_of paths.now)) version self.old self.new table.now

@@ -7,10 +7,11 @@ ghost use Rattle.lnt_paths.specs.Merging.{path_end};
 ghost use Rattle.lnt_paths.specs.PathFaults.{IsFaultyRecord};
 ghost use Rattle.lnt_paths.specs.PathSpans.{PathSpan, whole};
 ghost use Rattle.lnt_paths.specs.PathTables.{SaysColumn, SaysPath, path_column_count, path_kinds};
-ghost use Rattle.lnt_paths.specs.Reading.{record_answer};
+ghost use Rattle.lnt_paths.specs.Reading.{record_answer, said_answer};
 ghost use Rattle.lnt_records.specs.Progress.{AreSoundBefore, IsColumnFault, IsRecordFault};
 
 use crate::header::columns;
+use crate::telling::SaidPath;
 use crate::version::PathVersion;
 use csv::ByteRecord;
 use lnt_records::{Columns, RecordFault, TableFault, address_at, decimal_at, field};
@@ -26,7 +27,19 @@ pub(crate) struct PathRecord<'r> {
     pub(crate) column: Option<u64>,
 }
 
-impl PathRecord<'_> {
+impl<'r> PathRecord<'r> {
+    // The answer, with the path borrowed.
+    #[inline(always)]
+    pub(crate) fn answer(&self) -> SaidPath<'r>
+        ensures { said_answer result ≡ record_answer self.now }
+    {
+        SaidPath {
+            path: self.path,
+            line: self.line,
+            column: self.column,
+        }
+    }
+
     // Whether the record begins at or above this address, and isn't empty.
     pub(crate) fn holds_from(&self, at: u64) -> bool
         ensures { MatchBool result ((at ≤ self.now.low) × (self.now.low < self.now.high))

@@ -9,7 +9,7 @@ ghost use Rattle.lnt_spans.specs.declared.span.Span as spec;
 ghost use Rattle.lnt_spans.specs.Stepping.{BeginsWith};
 ghost use Rattle.lnt_spans.specs.Differing.{runs_left};
 ghost use Rattle.lnt_spans.specs.Positions.{IsAtMost};
-ghost use Rattle.lnt_spans.specs.Remaining.{EndsAfter};
+ghost use Rattle.lnt_spans.specs.Remaining.{EndsAfter, SpansAreLeft};
 ghost use Rattle.lnt_spans.specs.Spans.{AreInOrder};
 ghost use Rattle.lnt_spans.specs.Stepping.{IsRun, IsUpTo, run_end};
 ghost use Rattle.lnt_paths.specs.declared.answer.DifferenceByPath as spec_difference;
@@ -18,19 +18,19 @@ ghost use Rattle.lnt_paths.specs.Compared.{AreCompared, AreTold};
 ghost use Rattle.lnt_paths.specs.Held.{held_span};
 ghost use Rattle.lnt_paths.specs.Stepping.{IsKnown, Steps, held_end, stretch_begun};
 ghost use Rattle.lnt_spans.specs.AnyStretches.{Stretch};
-ghost use Rattle.lnt_paths.specs.PathAnswers.{PathAnswer, answer_told, path_answer, spans_by_path};
-ghost use Rattle.lnt_paths.specs.PathDifferences.{told_path_answer};
+ghost use Rattle.lnt_paths.specs.PathAnswers.{PathAnswer, path_answer, spans_by_path};
+ghost use Rattle.lnt_spans.specs.Merged.{answer_told};
+ghost use Rattle.lnt_paths.specs.PathAnswers.{told_path_answer};
 ghost use Rattle.lnt_paths.specs.PathSpans.{StandInOrder, path_span_answer};
 ghost use Rattle.lnt_paths.specs.PathStretches.{ArePathStretches, stretch_of, stretches_of};
 ghost use Rattle.lnt_paths.specs.Stretching.{AreToldOfFirst, HasToldByPath, IsOfFirst, IsSectionAt, IsTableAt, PathsEndAfter};
 ghost use Rattle.lnt_paths.specs.Stretching.{held_runs, path_stretches_left};
 
 use crate::answer::{AnswerByPath, DifferenceByPath};
-use crate::comparison::told_of;
+use crate::comparison::whole;
 use crate::held::HeldSpan;
-use crate::joined::same_place;
-use crate::merge::{Section, column_in, whole};
 use crate::paths::Paths;
+use crate::telling::{column_in, same_place, told_of};
 use crate::told::{ComparedPaths, ToldFiles};
 use crate::version::PathVersion;
 use lnt_spans::{Answer, Position, Span, SpanSource};
@@ -55,6 +55,23 @@ pub struct DifferencesByPath<'t, S> {
     // which files have the path of the table's next span, and which have the same path, as far as they were compared
     told: ToldFiles,
     compared: ComparedPaths,
+}
+
+// The spans of a section that are still to come: the next one, and those after it.
+#[derive(Drop)]
+pub(crate) struct Section<S> {
+    pub(crate) next: Option<Span>,
+    pub(crate) spans: S,
+}
+
+impl<S: SpanSource> Section<S> {
+    // Takes the first span out of the source.
+    pub(crate) fn of(mut spans: S) -> Section<S>
+        ensures { (list : List spec.Span) → S.to_come spans list → SpansAreLeft S.to_come result.next result.spans list }
+    {
+        let next = spans.next_span();
+        Section { next, spans }
+    }
 }
 
 // One side's answer, and where it may end; no end where it never does.

@@ -14,7 +14,7 @@ use crate::header::header_of;
 use crate::record::{RecordFault, span_of};
 use crate::taking::{TakesRecords, take_records};
 use csv::ByteRecord;
-use lnt_spans::{Difference, Merge, Span, SpanSlice, SpanSource, Version};
+use lnt_spans::{Difference, MergeByNumber, Span, SpanSlice, SpanSource, Version};
 use std::alloc::{AllocError, Global};
 
 /// What a comparison found.
@@ -56,7 +56,7 @@ pub(crate) fn compare_records<S: SpanSource + Drop>(
     let Some(version) = header_of::<Version>(alloc, table)? else {
         return Ok(Compared::Fault(TableFault::Header));
     };
-    compare_after(alloc, table, Merge::new(spans, version), version, 1)
+    compare_after(alloc, table, MergeByNumber::new(spans, version), version, 1)
 }
 
 // Compares the rest of a table. `text` is the table's header with the records after it, without those that the merge has
@@ -64,7 +64,7 @@ pub(crate) fn compare_records<S: SpanSource + Drop>(
 pub(crate) fn compare_after<S: SpanSource + Drop>(
     alloc: Global,
     text: &[u8],
-    merge: Merge<S>,
+    merge: MergeByNumber<S>,
     version: Version,
     count: u64,
 ) -> Result<Compared, AllocError>
@@ -94,7 +94,7 @@ pub(crate) fn compare_after<S: SpanSource + Drop>(
 // The state of a comparison: the spans of a section, and the records of a table so far.
 #[derive(Drop)]
 pub(crate) struct Comparison<S> {
-    pub(crate) merge: Merge<S>,
+    pub(crate) merge: MergeByNumber<S>,
     pub(crate) version: Version,
     // the number of records so far, including the header, which is the number of the next record
     pub(crate) count: u64,

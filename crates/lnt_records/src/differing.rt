@@ -17,7 +17,7 @@ use crate::passing::pass_spans;
 use crate::remaining::Remaining;
 use crate::window::Window;
 use lnt_io::{Source, Stop};
-use lnt_spans::{Differences, Merge, Position, SpanList, SpanSlice, SpanSource, Version};
+use lnt_spans::{Differences, MergeByNumber, Position, SpanList, SpanSlice, SpanSource, Version};
 use std::alloc::{AllocError, Global};
 
 /// What a comparison at every position found.
@@ -103,7 +103,7 @@ pub fn differ_or_take<S: SpanSource + Drop, T: Source>(
     };
     let passed = pass_spans::<S, T, Differing<S>>(alloc, spans, version, table, &mut window)?;
     let text = window.rest_after(alloc, header_line(version), table)?;
-    let merge = Merge::past(SpanSlice::of(&[]), version, passed.end);
+    let merge = MergeByNumber::past(SpanSlice::of(&[]), version, passed.end);
     let gathered = gather_after(alloc, &text, merge, version, passed.count);
     told(differ_after(gathered, passed.spans, version, passed.end)).map(DifferingRead::Differing)
 }
@@ -142,7 +142,7 @@ fn differ_text<S: SpanSource + Drop>(
         → AreInOrder list → ((p : Place) → span_answer list p ≡ section p)
         → IsDiffering ⟦<Remaining<S> as SpanSource>⟧.to_come ⟦<SpanList as SpanSource>⟧.to_come text.now section differing) }
 {
-    let merge = Merge::new(SpanSlice::of(&[]), version);
+    let merge = MergeByNumber::new(SpanSlice::of(&[]), version);
     let gathered = gather_after(alloc, text, merge, version, 1);
     let all = Remaining {
         first: None,

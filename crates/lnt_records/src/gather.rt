@@ -10,7 +10,7 @@ use crate::comparison::Comparison;
 use crate::fault::TableFault;
 use crate::taking::{TakesRecords, take_records};
 use csv::ByteRecord;
-use lnt_spans::{Merge, Span, SpanSource, Version};
+use lnt_spans::{MergeByNumber, Span, SpanSource, Version};
 use std::alloc::{AllocError, Global};
 
 // What the records of a table came to.
@@ -27,7 +27,7 @@ pub(crate) enum Gathered {
 pub(crate) fn gather_after<S: SpanSource + Drop>(
     alloc: Global,
     text: &[u8],
-    merge: Merge<S>,
+    merge: MergeByNumber<S>,
     version: Version,
     count: u64,
 ) -> Result<Gathered, AllocError>

@@ -13,14 +13,14 @@ use crate::header::header_line;
 use crate::window::Window;
 use lnt_digits::{address_until, decimal_until, past};
 use lnt_io::{Source, Stop};
-use lnt_spans::{Answer, Merge, More, Position, Span, SpanSource, Version};
+use lnt_spans::{Answer, MergeByNumber, More, Position, Span, SpanSource, Version};
 use std::alloc::Global;
 
 // Parses the lines of a table and pushes their spans, up to the first line that isn't well formed, has quotes or a number of
 // more than 18 digits, or has a span that is empty or begins below the end of the record before it.
 pub(crate) fn push_lines<S: SpanSource + Drop, T: Source>(
     alloc: Global,
-    merge: &mut Merge<S>,
+    merge: &mut MergeByNumber<S>,
     count: &mut u64,
     version: Version,
     source: &mut T,

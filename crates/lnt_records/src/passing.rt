@@ -11,7 +11,7 @@ use crate::remaining::Remaining;
 use crate::text::{ROOM, line_of};
 use crate::window::Window;
 use lnt_io::{Source, Stop};
-use lnt_spans::{Answer, Joiner, Merge, Position, Span, SpanSource, Version};
+use lnt_spans::{Answer, Joiner, Position, Span, SpanSource, Version};
 use std::alloc::Global;
 
 // The state after these lines: the spans after those of the lines, the number of records so far, including the header, and

@@ -12,7 +12,7 @@ use crate::lines::{pass_header, push_lines};
 use crate::passing::pass_spans;
 use crate::window::Window;
 use lnt_io::{Source, Stop};
-use lnt_spans::{Merge, SpanSource, Version};
+use lnt_spans::{MergeByNumber, SpanSource, Version};
 use std::alloc::{AllocError, Global};
 
 /// Compares the table of a source with the spans of a section, as both come.
@@ -84,7 +84,7 @@ pub fn compare_or_take<S: SpanSource + Drop, T: Source>(
         return told(compare_taken(alloc, text, spans));
     };
     let passed = pass_spans::<S, T, Compared>(alloc, spans, version, table, &mut window)?;
-    let mut merge = Merge::past(passed.spans, version, passed.end);
+    let mut merge = MergeByNumber::past(passed.spans, version, passed.end);
     let mut count = passed.count;
     push_lines(alloc, &mut merge, &mut count, version, table, &mut window)?;
     let text = window.rest_after(alloc, header_line(version), table)?;

@@ -15,7 +15,7 @@ use Rattle.lnt_spans.specs.Stepping.{BeginsWith, IsBefore, IsRun, IsUpTo, run_en
 use Rattle.lnt_spans.proofs.AnsweringLaws.{answer_after, answer_in, first_holds, none_before, rest_in_order}
 use Rattle.lnt_spans.proofs.PositionLaws.{at_most_below, at_most_itself, at_most_trans, below_at_most, below_is_at_most}
 use Rattle.lnt_spans.proofs.PositionLaws.{order_cases, order_three, test_below, test_not_below}
-use Rattle.lnt_spans.proofs.ScanLemmas.{first_is, next_after}
+use Rattle.lnt_spans.proofs.AheadLaws.{first_is, next_after}
 
 -- ---- one side, run by run
 

@@ -21,13 +21,12 @@ use Rattle.lnt_spans.specs.Stepping.{IsRun, IsUpTo, run_end}
 use Rattle.lnt_spans.specs.Stretches.{stretch_of, stretches_of}
 use Rattle.lnt_spans.proofs.AnsweringLaws.{answer_after, answer_same, back_in_order, first_holds}
 use Rattle.lnt_spans.proofs.AnsweringLaws.{front_in_order, rest_in_order, rest_none}
-use Rattle.lnt_spans.proofs.MergeLemmas.{origin_first}
+use Rattle.lnt_spans.proofs.PassedLaws.{answer_below, answer_from, ends_after, told_back, told_front, told_same}
 use Rattle.lnt_spans.proofs.PositionLaws.{at_most_below, at_most_itself, at_most_trans, below_is_at_most, not_both}
 use Rattle.lnt_spans.specs.Laws.{FirstStretch}
 use Rattle.lnt_spans.proofs.RunLaws.{after_high, same_run, up_to_high}
-use Rattle.lnt_spans.proofs.ToldLaws.{told, told_answer}
 use Rattle.lnt_spans.proofs.ToldStretchLaws.{told_none}
-use Rattle.lnt_spans.proofs.ScanLemmas.{begins_with, first_is, next_after}
+use Rattle.lnt_spans.proofs.AheadLaws.{begins_with, first_is}
 
 -- ---- one side
 
@@ -67,52 +66,6 @@ side_run to_come version ahead at answers answer end s runs =
     (runs s.rest (begins_with to_come ahead s.rest s.coming) s.order s.past)
 
 -- ---- where nothing is told
-
--- the spans after some others end after them
-ends_after : (passed more : List Span) → AreInOrder (passed ++ more) → EndsAfter (end_of passed) more
-ends_after [] [] o = tt
-ends_after [] (span ∷ more) o = at_most_below (origin_first span.low) (first_holds span more o)
-ends_after (span ∷ []) more o = next_after span more o
-ends_after (span ∷ next ∷ passed) more o = ends_after (next ∷ passed) more o.2
-
-end_above : (span : Span) (passed : List Span) → AreInOrder (span ∷ passed) → IsAtMost span.high (end_of (span ∷ passed))
-end_above span [] o = at_most_itself span.high
-end_above span (next ∷ passed) o =
-    at_most_trans o.1 (at_most_trans (below_is_at_most (first_holds next passed o.2)) (end_above next passed o.2))
-
-answer_below : (passed more : List Span) (p : Position) → AreInOrder (passed ++ more) → IsBelow p (end_of passed)
-    → span_answer (passed ++ more) p ≡ span_answer passed p
-answer_below [] more p o h = absurd (not_both h (origin_first p))
-answer_below (span ∷ []) more p o h = answer_same span more [] p (rest_none span more p o h)
-answer_below (span ∷ next ∷ passed) more p o h =
-    answer_same span (next ∷ (passed ++ more)) (next ∷ passed) p (answer_below (next ∷ passed) more p o.2 h)
-
-answer_from : (passed more : List Span) (p : Position) → AreInOrder (passed ++ more) → IsAtMost (end_of passed) p
-    → span_answer (passed ++ more) p ≡ span_answer more p
-answer_from [] more p o h = refl
-answer_from (span ∷ []) more p o h = answer_after span more p h
-answer_from (span ∷ next ∷ passed) more p o h =
-    answer_after span (next ∷ (passed ++ more)) p
-    (at_most_trans (end_above span (next ∷ passed) (front_in_order (span ∷ next ∷ passed) more o)) h)
-    ∙ answer_from (next ∷ passed) more p o.2 h
-
-told_are : (version : Version) (spans : List Span) → AllByRecursion (IsTold version) spans → told version spans ≡ spans
-told_are version [] h = refl
-told_are version (span ∷ spans) h = let first = h.0 in let rest = told_are version spans h.1 in cc
-
-told_same : (version : Version) (spans : List Span) (p : Position) → AllByRecursion (IsTold version) spans
-    → version_answer version spans p ≡ span_answer spans p
-told_same version spans p h = sym (told_answer version spans p) ∙ ap (λ (xs : List Span). span_answer xs p) (told_are version spans h)
-
-told_front : (version : Version) (passed more : List Span) → AllByRecursion (IsTold version) (passed ++ more)
-    → AllByRecursion (IsTold version) passed
-told_front version [] more h = tt
-told_front version (span ∷ passed) more h = (h.0, told_front version passed more h.1)
-
-told_back : (version : Version) (passed more : List Span) → AllByRecursion (IsTold version) (passed ++ more)
-    → AllByRecursion (IsTold version) more
-told_back version [] more h = h
-told_back version (span ∷ passed) more h = told_back version passed more h.1
 
 pub told_after : {S T : Type 0} (of_section : S → List Span → Type 0) (of_table : T → List Span → Type 0) (section : Ahead S)
     (table : Ahead T) (version : Version) (at : Position) (f : Position → Option Answer)

@@ -13,6 +13,10 @@ pub record Stretch (X : Type 0) : Type 0 where
   pub by_section : Option X
   pub by_table : Option X
 
+-- the stretch that begins here, with these two answers
+abbrev pub stretch_at : {X : Type 0} → Position → Option X → Option X → Stretch X
+stretch_at position by_section by_table = record { position = position; by_section = by_section; by_table = by_table }
+
 -- These are the two answers at p.
 pub record AreAnswers {X : Type 0} (by_section by_table : Position → Option X) (of_section of_table : Option X) (p : Position) : Type
     0 where

@@ -3,15 +3,21 @@ use Rattle.std.specs.Prelude.{◌≡◌, ◌≢◌, Option}
 use Rattle.lnt_spans.specs.declared.answer.Answer.{Answer}
 use Rattle.lnt_spans.specs.declared.difference.Difference.{Difference}
 use Rattle.lnt_spans.specs.declared.position.Position.{Position}
+use Rattle.lnt_spans.specs.AnyStretches.{Stretch}
 use Rattle.lnt_spans.specs.Positions.{IsBelow}
+use Rattle.lnt_spans.specs.Stretches.{stretch_of}
 
 -- The two answer the same at every position.
 abbrev pub Agree : (Position → Option Answer) → (Position → Option Answer) → Type 0
 Agree by_section by_table = (p : Position) → by_section p ≡ by_table p
 
 -- At this position the two sides answer differently, with the answers given here, and at every lower one they answer alike.
-pub record IsLeastDifference (by_section by_table : Position → Option Answer) (difference : Difference) : Type 0 where
-  pub section : difference.by_section ≡ by_section difference.position
-  pub table : difference.by_table ≡ by_table difference.position
-  pub differ : difference.by_table ≢ difference.by_section
-  pub least : (p : Position) → IsBelow p difference.position → by_section p ≡ by_table p
+pub record IsFirstDifference {X : Type 0} (by_section by_table : Position → Option X) (first : Stretch X) : Type 0 where
+  pub section : first.by_section ≡ by_section first.position
+  pub table : first.by_table ≡ by_table first.position
+  pub differ : first.by_table ≢ first.by_section
+  pub least : (p : Position) → IsBelow p first.position → by_section p ≡ by_table p
+
+-- the same of answers by number
+abbrev pub IsLeastDifference : (Position → Option Answer) → (Position → Option Answer) → Difference → Type 0
+IsLeastDifference by_section by_table difference = IsFirstDifference by_section by_table (stretch_of difference)

@@ -1,164 +1,169 @@
 //! Finds where a section and a table first answer differently, in one pass over both.
-ghost use Rattle.std.specs.Prelude.{◌≡◌, ◌≢◌, List, [], ◌∷◌, ◌++◌, true, Option, MatchOption};
+ghost use Rattle.std.specs.Prelude.{◌≡◌, ◌≢◌, List, Option, IfOk, IfSome, MatchOption, None, OnOk, Some};
 ghost use Rattle.std.specs.Bool.{MatchBool};
-ghost use Rattle.std.specs.List.{AllByRecursion};
-ghost use Rattle.lnt_spans.specs.declared.answer.Answer.{Answer};
-ghost use Rattle.lnt_spans.specs.declared.position.Position.{Position};
-ghost use Rattle.lnt_spans.specs.declared.span.Span.{Span};
-ghost use Rattle.lnt_spans.specs.Comparing.{Compares, IsTold, end_of};
-ghost use Rattle.lnt_spans.specs.Stepping.{GoesOn, IsNext};
-ghost use Rattle.lnt_spans.specs.Differences.{Agree, IsLeastDifference};
-ghost use Rattle.lnt_spans.specs.Positions.{IsAtMost};
-ghost use Rattle.lnt_spans.specs.Spans.{AreInOrder, span_answer, version_answer};
+ghost use Rattle.lnt_spans.specs.declared.position.Position as spec_position;
+ghost use Rattle.lnt_spans.specs.declared.span.Span as spec;
+ghost use Rattle.lnt_spans.specs.Ahead.{IsAhead};
+ghost use Rattle.lnt_spans.specs.Differences.{IsFirstDifference};
+ghost use Rattle.lnt_spans.specs.Merged.{AreMergedBy, ArePassed, DifferBelow, HasMerged, HasOneMore, IsNext, answer_told};
+ghost use Rattle.lnt_spans.specs.Merged.{end_of_records};
+ghost use Rattle.lnt_spans.specs.Positions.{IsAtMost, IsBelow};
 
 use crate::ahead::Ahead;
-use crate::answer::{Answer, Version};
-use crate::difference::Difference;
 use crate::position::Position;
-use crate::scan::{later, scan};
 use crate::source::SpanSource;
 use crate::span::Span;
-use std::marker::Model;
+use crate::telling::Telling;
 
-/// Compares the spans of a section, which come one by one from a source, with the records of an address table, which come
-/// one by one and are spans too.
+/// Compares the spans of a section, which come one by one from a source, with the records of a table, which come one by one too.
 ///
-/// Contracts see the state (`Merging`), and state which spans and records were compared (`Compares`): all spans of the
-/// section, with the records pushed so far. The section's answers are narrowed if the table has version 1; the records of
-/// such a table have `None` as `more`. A merge keeps no record, only one span and the first difference. Allocates nothing.
+/// Contracts see which spans and records were compared (`HasMerged`): all spans of the section, with the records pushed so far. A
+/// merge keeps no record, only one span and the first difference.
 #[derive(Drop)]
-pub struct Merge<S> {
-    version: Version,
-    // the spans that still matter at `at` and above
+pub struct Merge<S, D> {
+    // the spans that still matter at `at` and above; the next one is cut to begin no lower
     spans: Ahead<S>,
     // the end of the last record
     at: Position,
     // the first difference below `at`
-    first: Option<Difference>,
+    first: Option<D>,
 }
 
-impl<S> Model for Merge<S> {
-    ghost use Rattle.lnt_spans.specs.Comparing.{Merging};
-
-    ghost Value = { Merging S };
-
-    ghost view = { λ m. record { version = m.version; spans = m.spans; at = m.at; first = m.first } };
-}
-
-impl<S: SpanSource + Drop> Merge<S> {
-    /// The spans of a section and a table of this version of which no record was compared yet. The caller makes sure that
-    /// the spans are in order and none is empty.
-    pub fn new(spans: S, version: Version) -> Merge<S>
-        ensures version { result.version ≡ version }
-        ensures compares { (list : List Span) → S.to_come spans list → AreInOrder list → Compares S.to_come result list [] }
+impl<S: SpanSource + Drop, D: Drop> Merge<S, D> {
+    /// No difference was found below `at`, and the source gives the spans from there on.
+    pub fn past(spans: S, at: Position) -> Merge<S, D>
+        ensures at { end_of_records result ≡ at }
+        ensures first { result.first ≡ None }
+        ensures ahead { (list : List spec.Span) → S.to_come spans list → IsAhead S.to_come result.spans list }
     {
         Merge {
-            version,
-            spans: Ahead::of(spans),
-            at: Position { address: 0, op: 0 },
-            first: None,
-        }
-    }
-
-    /// A merge that has already compared the records with which both the section and a table of this version begin. These
-    /// records end at `at`, and the source gives the spans after them. The caller makes sure that all of them are in order,
-    /// that none is empty, and that the answers of the records are narrowed to what the version contains.
-    pub fn past(spans: S, version: Version, at: Position) -> Merge<S>
-        ensures version { result.version ≡ version }
-        ensures compares { (passed list : List Span) → S.to_come spans list → AreInOrder (passed ++ list)
-            → AllByRecursion (IsTold version) passed → at ≡ end_of passed
-            → Compares S.to_come result (passed ++ list) passed }
-    {
-        Merge {
-            version,
             spans: Ahead::of(spans),
             at,
             first: None,
         }
     }
 
-    /// Whether the records, with this one appended, are in order and none is empty.
-    pub fn takes(&self, span: &Span) -> bool
-        ensures { (spans records : List Span) → Compares S.to_come self.now spans records
-            → MatchBool result (AreInOrder (records ++ span.now ∷ [])) (AreInOrder (records ++ span.now ∷ []) → ⊥) }
-    {
-        if span.low.is_below(self.at) {
-            return false;
-        }
-        span.low.is_below(span.high)
-    }
-
-    /// Compares one more record. The caller makes sure that the records stay in order with this one appended, which `takes`
-    /// checks.
-    pub fn push(&mut self, span: &Span)
-        requires { (spans records : List Span) × Compares S.to_come self.old spans records × AreInOrder (records ++ span.now ∷ []) }
-        ensures version { self.new.version ≡ self.old.version }
-        ensures compares { (spans records : List Span) → Compares S.to_come self.old spans records
-            → Compares S.to_come self.new spans (records ++ span.now ∷ []) }
-    {
-        if self.is_next(span) {
-            self.spans.pass();
-            self.at = span.high;
-            return;
-        }
-        self.advance(span.low, None);
-        self.advance(span.high, Some(span.answer));
-    }
-
-    /// Gives the least position at which the section and the table answer differently, with both answers, once no record
-    /// follows. `None` if they answer alike at every position.
-    pub fn finish(self) -> Option<Difference>
-        ensures { (spans records : List Span) → Compares S.to_come self spans records
-            → MatchOption result (Agree (version_answer self.version spans) (span_answer records))
-            (λ difference. IsLeastDifference (version_answer self.version spans) (span_answer records) difference) }
-    {
-        if self.first.is_some() {
-            return self.first;
-        }
-        let span = self.spans.next?;
-        Some(Difference {
-            position: later(self.at, span.low),
-            by_table: None,
-            by_section: Some(span.answer.in_version(self.version)),
-        })
-    }
-
-    // Whether no difference was found so far and the record equals the next span, narrowed to what the table's version
-    // contains: the fast path.
+    /// The end of the last record.
     #[inline(always)]
-    fn is_next(&self, span: &Span) -> bool
-        ensures { result ≡ true → IsNext self.now span.now }
+    pub fn end(&self) -> Position
+        ensures { result ≡ end_of_records self.now }
+    {
+        self.at
+    }
+
+    /// Compares one more record. The caller makes sure that it isn't empty, and doesn't begin below the end of the one before it.
+    #[inline(always)]
+    pub fn push<T: Telling<Difference = D>>(
+        &mut self,
+        telling: &T,
+        memory: &mut T::Memory,
+        low: Position,
+        high: Position,
+        held: T::Said,
+    ) -> Result<(), T::Refusal>
+        requires sound { T.is_sound telling.now memory.old }
+        requires past { IsAtMost (end_of_records self.old) low }
+        requires holds { IsBelow low high }
+        ensures at { end_of_records self.new ≡ high }
+        ensures sound { OnOk result (T.is_sound telling.now memory.new) }
+        ensures merged { OnOk result ((spans : List spec.Span) (by_table by_more : spec_position.Position → Option T.Told)
+            → HasMerged S.to_come (T.tell telling.now) T.value_of self.old spans by_table
+            → HasOneMore by_table by_more (end_of_records self.old) low high (T.said held)
+            → HasMerged S.to_come (T.tell telling.now) T.value_of self.new spans by_more) }
+    {
+        self.at = high;
+        if self.first.is_some() {
+            return Ok(());
+        }
+        self.first = first_apart(telling, memory, &mut self.spans, low, high, held)?;
+        Ok(())
+    }
+
+    /// The least position at which the section and the table answer differently, once no record follows. `None` if they answer
+    /// alike at every position.
+    pub fn finish<T: Telling<Difference = D>>(self, telling: &T) -> Result<Option<D>, T::Refusal>
+        ensures { IfOk result (λ found. (spans : List spec.Span) (by_table : spec_position.Position → Option T.Told)
+            → HasMerged S.to_come (T.tell telling.now) T.value_of self spans by_table
+            → MatchOption found ((p : spec_position.Position) → answer_told (T.tell telling.now) spans p ≡ by_table p)
+            (λ difference. IsFirstDifference (answer_told (T.tell telling.now) spans) by_table (T.value_of difference))) }
     {
         if self.first.is_some() {
-            return false;
+            return Ok(self.first);
         }
-        let Some(next) = self.spans.next else {
-            return false;
+        let Some(span) = self.spans.next else {
+            return Ok(None);
         };
-        is_same(*span, next.in_version(self.version))
-    }
-
-    // Compares up to `to`; the table answers `answer` from `self.at` up to there.
-    #[inline(always)]
-    fn advance(&mut self, to: Position, answer: Option<Answer>)
-        requires { IsAtMost self.old.at to }
-        ensures version { self.new.version ≡ self.old.version }
-        ensures at { self.new.at ≡ to }
-        ensures goes_on { (rest : List Span) → GoesOn S.to_come self.old self.new rest to answer }
-    {
-        if self.first.is_some() {
-            self.at = to;
-            return;
-        }
-        let first = scan(self.version, &mut self.spans, self.at, to, answer);
-        self.at = to;
-        self.first = first;
+        let difference = telling.difference(span.low, None, Some(span.answer))?;
+        Ok(Some(difference))
     }
 }
 
+// The first difference below the end of a record. If there is none, `spans` is left with the spans that matter from that end on.
 #[inline(always)]
-fn is_same(one: Span, other: Span) -> bool
-    ensures { MatchBool result (one ≡ other) (one ≢ other) }
+fn first_apart<S: SpanSource, T: Telling>(
+    telling: &T,
+    memory: &mut T::Memory,
+    spans: &mut Ahead<S>,
+    low: Position,
+    high: Position,
+    held: T::Said,
+) -> Result<Option<T::Difference>, T::Refusal>
+    requires sound { T.is_sound telling.now memory.old }
+    requires holds { IsBelow low high }
+    ensures sound { OnOk result (T.is_sound telling.now memory.new) }
+    ensures apart { IfOk result (λ found. (list : List spec.Span) (by_table : spec_position.Position → Option T.Told)
+        (at : spec_position.Position) → IsAtMost at low → IsNext by_table at low high (T.said held)
+        → ArePassed (T.tell telling.now) list by_table at (IsAhead S.to_come spans.old)
+        → MatchOption found (ArePassed (T.tell telling.now) list by_table high (IsAhead S.to_come spans.new))
+        (λ difference. DifferBelow (T.tell telling.now) list by_table high (T.value_of difference))) }
 {
-    one == other
+    let mut at = low;
+    let mut recalled = telling.nothing();
+    if let Some(span) = begun_below(spans.next, low) {
+        let difference = telling.difference(span.low, None, Some(span.answer))?;
+        return Ok(Some(difference));
+    }
+    while at.is_below(high) {
+        let Some(span) = begun_by(spans.next, at) else {
+            let difference = telling.difference(at, Some(held), None)?;
+            return Ok(Some(difference));
+        };
+        if !telling.is_said(memory, &mut recalled, &span.answer, held)? {
+            let difference = telling.difference(at, Some(held), Some(span.answer))?;
+            return Ok(Some(difference));
+        }
+        if high.is_below(span.high) {
+            spans.next = Some(Span { low: high, ..span });
+            return Ok(None);
+        }
+        spans.pass();
+        at = span.high;
+    }
+    Ok(None)
+}
+
+// The span, if there is one and it begins below a position.
+#[inline(always)]
+fn begun_below(next: Option<Span>, at: Position) -> Option<Span>
+    ensures { MatchOption result (IfSome next (λ span. IsAtMost at span.low)) (λ span. (next ≡ Some span) × IsBelow span.low at) }
+{
+    let span = next?;
+    if span.low.is_below(at) {
+        Some(span)
+    } else {
+        None
+    }
+}
+
+// The span, if there is one and it begins at or below a position.
+#[inline(always)]
+fn begun_by(next: Option<Span>, at: Position) -> Option<Span>
+    ensures { MatchOption result (IfSome next (λ span. IsBelow at span.low)) (λ span. (next ≡ Some span) × IsAtMost span.low at) }
+{
+    let span = next?;
+    if at.is_below(span.low) {
+        None
+    } else {
+        Some(span)
+    }
 }

@@ -11,7 +11,7 @@ ghost use Rattle.lnt_spans.specs.declared.stretches.Step.TheVariants as step;
 ghost use Rattle.lnt_spans.specs.Stepping.{BeginsWith};
 ghost use Rattle.lnt_spans.specs.Comparing.{IsTold, end_of};
 ghost use Rattle.lnt_spans.specs.Differing.{HasTold, IsSideAt, runs_left, stretches_left};
-ghost use Rattle.lnt_spans.specs.Positions.{IsAtMost};
+ghost use Rattle.lnt_spans.specs.Positions.{IsAtMost, IsBelow};
 ghost use Rattle.lnt_spans.specs.Remaining.{EndsAfter};
 ghost use Rattle.lnt_spans.specs.Spans.{AreInOrder, span_answer, version_answer};
 ghost use Rattle.lnt_spans.specs.Stepping.{IsRun, IsUpTo, StretchStep, run_end};
@@ -21,7 +21,6 @@ use crate::ahead::Ahead;
 use crate::answer::{Answer, Version};
 use crate::difference::Difference;
 use crate::position::Position;
-use crate::scan::{earlier, is_same};
 use crate::source::SpanSource;
 use crate::span::Span;
 
@@ -211,4 +210,18 @@ fn is_known(
         return false;
     }
     is_same(table, table_before)
+}
+
+#[inline(always)]
+fn is_same(one: Option<Answer>, other: Option<Answer>) -> bool
+    ensures { MatchBool result (one ≡ other) (one ≢ other) }
+{
+    one == other
+}
+
+#[inline(always)]
+fn earlier(p: Position, q: Position) -> Position
+    ensures { (IsBelow q p × (result ≡ q)) ⊎ (IsAtMost p q × (result ≡ p)) }
+{
+    if q.is_below(p) { q } else { p }
 }

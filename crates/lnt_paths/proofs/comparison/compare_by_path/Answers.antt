@@ -17,8 +17,11 @@ returns g c =
     (after_slice c.args.table.now c.in-Ok-pass_lines.at passed.0 passed.1)
     (passed.2.judged list
     (judges_none g.S.SpanSource.to_come (path_answer c.in-Some.version (g.P.Paths.bytes_of c.args.paths.now)) c.in-Some.version
-    c.in-Ok.comparison list (c.in-Ok.ensures.left list come) order c.in-Ok.ensures.none)))
+    c.in-Ok.comparison list (c.in-Ok.ensures.merged _ list come order) c.in-Ok.ensures.count)))
     c.compare_after.ensures
 
 pub compare_after-requires-clause-past : goal.compare_after-requires-clause-past
 compare_after-requires-clause-past g c = grind (arith, common_steps)
+
+pub pass_lines-requires-clause-known : goal.pass_lines-requires-clause-known
+pass_lines-requires-clause-known g c = c.in-Ok.ensures.ready (g.P.Paths.bytes_of c.args.paths.now)

@@ -1,4 +1,4 @@
-use Rattle.std.proofs.Common.{arith, map}
+use Rattle.std.proofs.Common.{◌∙◌, arith, map}
 use Rattle.csv.specs.Records.{fields_of}
 use Rattle.lnt_paths.specs.Held.{held_span}
 use Rattle.lnt_paths.proofs.HeldLemmas.{record_fault, record_held}
@@ -18,4 +18,4 @@ pub returns-clause-held : goal.returns-clause-held
 returns-clause-held c records table =
     record_held c.args.version records (fields_of c.args.row.now) c.args.spans.now.items c.push.new.self.items c.in-Ok.said
     c.end_of.result c.in_ok-answer.answer table c.in-Ok.ensures.ok (rw c.deref.ensures.value at c.end_of.ensures)
-    c.in-Ok.ensures.order.0 c.in-Ok.ensures.order.1 c.in_ok-answer.ensures c.in_ok-push.ensures.items
+    c.in-Ok.ensures.order.0 c.in-Ok.ensures.order.1 (c.in_ok-answer.ensures ∙ c.answer.ensures) c.in_ok-push.ensures.items

@@ -22,6 +22,6 @@ loop-said-preserved g c = (
   stands_more g.S.SpanSource.to_come (path_answer c.args.version (g.P.Paths.bytes_of c.args.paths.now)) c.args.version c.args.self.now
       c.loop-said.self _ c.args.table.now c.loop-said.before c.loop-said.at c.in-Some.next c.loop-said.last.now c.in-Some.said
       c.loop-said.invariant.0 c.in-Some.ensures.line c.in-Some.ensures.plain c.if-not-holds_from.ensures.0 c.if-not-holds_from.ensures.1
-      (omega (arith, c.in_ok-push.ensures.count)) c.in_ok-push.ensures.merged,
-  c.in_ok-push.ensures.known,
+      (omega (arith, c.in_ok-push.ensures.count)) c.loop-said.invariant.1.at_is c.in_ok-push.ensures.merged,
+  record { memory = c.in_ok-push.ensures.known.memory; at_is = c.in_ok-push.ensures.known.at_is },
 )

@@ -1,5 +1,5 @@
 use Rattle.std.specs.Prelude.{length, drop}
-use Rattle.lnt_paths.specs.Merging.{AreKnownOf}
+use Rattle.lnt_paths.specs.Merging.{IsReady}
 use Rattle.lnt_paths.specs.PathAnswers.{path_answer}
 use Rattle.lnt_paths.proofs.PassingLemmas.{Stands}
 use Rattle.lnt_paths.proofs.comparison.PathComparison.pass_lines.Given as goal
@@ -8,7 +8,7 @@ abbrev pub invariant-loop-said : goal.invariant-loop-said
 invariant-loop-said g l =
     Stands g.S.SpanSource.to_come (path_answer l.version (g.P.Paths.bytes_of l.paths)) l.version l.fn.self l.self l.table l.before
     l.at l.last
-    × AreKnownOf (g.P.Paths.bytes_of l.paths) l.self.known.slots.items
+    × IsReady (g.P.Paths.bytes_of l.paths) l.self
 
 abbrev pub decreases-loop-said : goal.decreases-loop-said
 decreases-loop-said g l = length (drop l.at l.table)

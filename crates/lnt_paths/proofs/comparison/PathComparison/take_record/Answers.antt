@@ -1,4 +1,4 @@
-use Rattle.std.proofs.Common.{arith, subst, ℕ}
+use Rattle.std.proofs.Common.{◌∙◌, arith, subst, sym, ℕ}
 use Rattle.csv.specs.Records.{fields_of}
 use Rattle.lnt_paths.specs.PathAnswers.{path_answer}
 use Rattle.lnt_paths.specs.PathFaults.{IsFaultyRecord}
@@ -14,7 +14,7 @@ returns-in-Err-clause-judged g c list records j = (
   j.table,
   j.is_table,
   subst (λ (number : ℕ). IsFaultyRecord c.args.version j.table number (fields_of c.args.row.now) c.in-Err.fault) j.count
-      (c.in-Err.ensures.err j.table j.merged.at_is),
+      (c.in-Err.ensures.err j.table (sym c.requires.known.at_is ∙ j.merged.at_is)),
 )
 
 pub returns-clause-judged : goal.returns-clause-judged
@@ -22,5 +22,5 @@ returns-clause-judged g c list records j =
     record_taken g.S.SpanSource.to_come (path_answer c.args.version (g.P.Paths.bytes_of c.args.paths.now)) c.args.version c.args.self.now _
     list records
     (fields_of c.args.row.now) c.in-Ok.said j c.in-Ok.ensures.ok c.in-Ok.ensures.order.0 c.in-Ok.ensures.order.1
-    (omega (arith, c.in_ok-push.ensures.count))
+    (omega (arith, c.in_ok-push.ensures.count)) c.requires.known.at_is
     c.in_ok-push.ensures.merged

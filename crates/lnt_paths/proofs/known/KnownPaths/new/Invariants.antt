@@ -1,5 +1,5 @@
 use Rattle.std.specs.Prelude.{ℕ, List}
-use Rattle.lnt_paths.specs.Merging.{AreKnownOf}
+use Rattle.lnt_paths.specs.Compared.{AreKnownOf}
 use Rattle.lnt_paths.proofs.known.KnownPaths.new.Given as goal
 
 abbrev pub invariant-loop : goal.invariant-loop

@@ -5,7 +5,7 @@ use Rattle.lnt_spans.specs.Stepping.{IsUpTo}
 use Rattle.lnt_spans.proofs.PositionLaws.{below_is_at_most}
 use Rattle.lnt_spans.proofs.RunLaws.{both_fewer}
 use Rattle.lnt_paths.specs.PathAnswers.{path_answer}
-use Rattle.lnt_paths.specs.PathDifferences.{told_path_answer}
+use Rattle.lnt_paths.specs.PathAnswers.{told_path_answer}
 use Rattle.lnt_paths.specs.Stretching.{held_runs}
 use Rattle.lnt_paths.proofs.StretchingLemmas.{both_move, told_kept, told_of_answer}
 use Rattle.lnt_spans.proofs.ToldStretchLaws.{step_known, told_new}

@@ -1,10 +1,17 @@
-use Rattle.lnt_spans.proofs.MergeLemmas.{finish_first, not_found}
+use Rattle.lnt_spans.proofs.MergedLemmas.{finish_found, finish_more, finish_none}
 use Rattle.lnt_spans.proofs.merge.Merge.finish.Goals as goal
 
+pub returns-then-is_some : goal.returns-then-is_some
+returns-then-is_some g c spans by_table m =
+    finish_found g.S.SpanSource.to_come (g.T.Telling.tell c.args.telling.now) g.T.Telling.value_of c.args.self spans by_table
+    c.if-is_some.ensures m
+
+pub returns-in_default : goal.returns-in_default
+returns-in_default g c spans by_table m =
+    finish_none g.S.SpanSource.to_come (g.T.Telling.tell c.args.telling.now) g.T.Telling.value_of c.args.self spans by_table
+    c.if-is_some.ensures c.in_default.is m
+
 pub returns : goal.returns
-returns g c spans records k =
-    rw (← c.self.view_is, c.in_version.ensures)
-    (finish_first g.S.SpanSource.to_come
-    (record { version = c.self.inside.version; spans = c.self.inside.spans; at = c.self.inside.at; first = c.self.inside.first }) spans
-    records c.in_ok-span.span _ c.in_ok-span.was (not_found _ c.if-is_some.ensures) c.later.ensures
-    (rw (← c.self.view_is) at k))
+returns g c spans by_table m =
+    finish_more g.S.SpanSource.to_come (g.T.Telling.tell c.args.telling.now) g.T.Telling.value_of c.args.self spans by_table
+    c.in-Some.span _ c.if-is_some.ensures c.in-Some.is c.in_ok-difference.ensures m

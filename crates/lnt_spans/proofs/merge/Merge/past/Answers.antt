@@ -1,6 +1,0 @@
-use Rattle.lnt_spans.proofs.MergeLemmas.{compares_passed}
-use Rattle.lnt_spans.proofs.merge.Merge.past.Goals as goal
-
-pub returns-clause-compares : goal.returns-clause-compares
-returns-clause-compares g c passed list coming order told e =
-    compares_passed g.S.SpanSource.to_come c.args.version _ c.args.at passed list (c.of.ensures list coming) order told e
