@@ -17,6 +17,13 @@ impl TableVersion for PathVersion {
 
     ghost names = { path_column_names };
 
+    fn header_line(&self) -> &'static [u8] {
+        match *self {
+            PathVersion::Three => b"low,high,path,line,column\n".as_slice(),
+            PathVersion::Four => b"low,high,path,line\n".as_slice(),
+        }
+    }
+
     #[tactic(auto, using(crate::proofs::ReadingLemmas::names_none))]
     fn of_record(row: &ByteRecord) -> Option<PathVersion> {
         if names_three(row) {

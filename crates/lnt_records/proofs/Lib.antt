@@ -7,6 +7,7 @@ pub mod GatherLemmas
 pub mod HeaderLaws
 pub mod JoinedLemmas
 pub mod LawLemmas
+pub mod LineLaws
 pub mod LineLemmas
 pub mod OneWrittenLaws
 pub mod PassingLemmas

@@ -135,10 +135,3 @@ record_plain version fields span s = record {
   is_stmt = s.is_stmt;
   more = more_plain version fields span.answer.more s.more;
 }
-
-pub records_plain : (version : Version) (records : List Fields) (spans : List Span) → AllZip (IsPlainRecord version) records spans
-    → AllZip (IsSpanRecord version) records spans
-records_plain version [] [] h = tt
-records_plain version [] (s ∷ spans) h = absurd h
-records_plain version (r ∷ records) [] h = absurd h
-records_plain version (r ∷ records) (s ∷ spans) h = (record_plain version r s h.0, records_plain version records spans h.1)

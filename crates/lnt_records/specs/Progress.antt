@@ -1,8 +1,10 @@
 -- How far a table was read and compared. No public contract speaks of it.
-use Rattle.std.specs.Prelude.{◌≡◌, ◌≢◌, ℕ, ◌+◌, ◌<◌, List, [], ◌++◌, Option, length, get_or}
+use Rattle.std.specs.Prelude.{◌≡◌, ◌≢◌, ℕ, ◌+◌, ◌<◌, List, [], ◌∷◌, ◌++◌, Option, length, get_or}
+use Rattle.std.specs.Io.KnownBytes.{Appends}
 use Rattle.std.specs.List.{AllZip}
 use Rattle.std.specs.Option.{option_map}
 use Rattle.lnt_digits.specs.Digits.{IsAddress, IsDecimal}
+use Rattle.lnt_io.specs.Fronts.{AppendsFront}
 use Rattle.lnt_spans.specs.declared.answer.Answer.{Answer}
 use Rattle.lnt_spans.specs.declared.answer.Version.{Version}
 use Rattle.lnt_spans.specs.declared.position.Position.{Position}
@@ -17,7 +19,7 @@ use Rattle.lnt_records.specs.declared.record.RecordFault.{RecordFault}
 use Rattle.lnt_records.specs.declared.record.RecordFault.TheVariants as record_fault
 use Rattle.lnt_records.specs.Faults.{IsFaultyColumn, IsFault}
 use Rattle.lnt_records.specs.Table.{AreMore, Fields, IsFlag, IsOfColumn, IsTable, IsTableOf, Kind, text}
-use Rattle.lnt_records.specs.Written.{IsPlainRecord, line_text, lines_text}
+use Rattle.lnt_records.specs.Written.{LineFormat, lines_of}
 
 -- ---- one record
 
@@ -73,16 +75,28 @@ pub record Gathers {S : Type 0} (to_come : S → List Span → Type 0) (comparis
 -- ---- lines that are added
 
 -- The line of the span was appended.
-pub record AddsRecord (version : Version) (span : Span) (old new : List ℕ) : Type 0 where
+pub record AddsLine {V X : Type 0} (plain : LineFormat V X) (version : V) (span : X) (old new : List ℕ) : Type 0 where
   pub fields : Fields
-  pub joined : new ≡ old ++ line_text fields
-  pub plain : IsPlainRecord version fields span
+  pub joined : new ≡ old ++ plain.line fields
+  pub says : plain.Says version fields span
 
 -- A line for each of the spans was appended.
-pub record AddsRecords (version : Version) (spans : List Span) (old new : List ℕ) : Type 0 where
+pub record AddsLines {V X : Type 0} (plain : LineFormat V X) (version : V) (spans : List X) (old new : List ℕ) : Type 0 where
   pub records : List Fields
-  pub joined : new ≡ old ++ lines_text records
-  pub each : AllZip (IsPlainRecord version) records spans
+  pub joined : new ≡ old ++ lines_of plain.line records
+  pub each : AllZip (plain.Says version) records spans
+
+-- What was written is the header, and a line for each of these spans.
+pub record HasWrittenLines {V X : Type 0} (plain : LineFormat V X) (version : V) (old new : Option (List ℕ)) (spans : List X) : Type 0 where
+  pub records : List Fields
+  pub written : Appends old new (lines_of plain.line (plain.names version ∷ records))
+  pub each : AllZip (plain.Says version) records spans
+
+-- The writer stopped, and a prefix of the header and the lines of these spans has been written.
+pub record HasBegunLines {V X : Type 0} (plain : LineFormat V X) (version : V) (old new : Option (List ℕ)) (spans : List X) : Type 0 where
+  pub records : List Fields
+  pub front : AppendsFront old new (lines_of plain.line (plain.names version ∷ records))
+  pub each : AllZip (plain.Says version) records spans
 
 -- ---- differences so far
 

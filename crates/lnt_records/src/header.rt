@@ -5,7 +5,6 @@ ghost use Rattle.csv.specs.Records.{fields_of};
 ghost use Rattle.lnt_spans.specs.declared.answer.Version.{Version};
 ghost use Rattle.lnt_spans.specs.declared.answer.Version.TheVariants as version;
 ghost use Rattle.lnt_records.specs.Table.{AreNamed, BeginsWith, column_count, column_names, common_names};
-ghost use Rattle.lnt_records.specs.Written.{line_text};
 
 use crate::column::is_field;
 use crate::reading::{read_next, reader_of};
@@ -19,8 +18,13 @@ pub trait TableVersion {
     ghost use Rattle.std.specs.Prelude.{◌≡◌, ◌≢◌, MatchOption};
     ghost use Rattle.csv.specs.Records.{fields_of};
     ghost use Rattle.lnt_records.specs.Table.{Fields};
+    ghost use Rattle.lnt_records.specs.Written.{line_text};
 
     ghost names: { Self → Fields };
+
+    /// The header as a line.
+    fn header_line(&self) -> &'static [u8]
+        ensures { result.now ≡ line_text (names self.now) };
 
     /// The version whose columns a record names, if it is a header.
     fn of_record(row: &ByteRecord) -> Option<Self>
@@ -31,6 +35,14 @@ impl TableVersion for Version {
     ghost use Rattle.lnt_records.specs.Table.{column_names};
 
     ghost names = { column_names };
+
+    fn header_line(&self) -> &'static [u8] {
+        match *self {
+            Version::One => b"low,low_op,high,high_op,unit,file,line,column,is_stmt\n".as_slice(),
+            Version::Two =>
+                b"low,low_op,high,high_op,unit,file,line,column,is_stmt,isa,discriminator\n".as_slice(),
+        }
+    }
 
     #[tactic(auto, using(crate::proofs::HeaderLaws::names_none))]
     fn of_record(row: &ByteRecord) -> Option<Version> {
@@ -73,17 +85,6 @@ pub(crate) fn columns(version: Version) -> usize
     match version {
         Version::One => 9,
         Version::Two => 11,
-    }
-}
-
-// The header as a line.
-pub(crate) fn header_line(version: Version) -> &'static [u8]
-    ensures { result.now ≡ line_text (column_names version) }
-{
-    match version {
-        Version::One => b"low,low_op,high,high_op,unit,file,line,column,is_stmt\n".as_slice(),
-        Version::Two =>
-            b"low,low_op,high,high_op,unit,file,line,column,is_stmt,isa,discriminator\n".as_slice(),
     }
 }
 

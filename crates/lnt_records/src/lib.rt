@@ -38,4 +38,4 @@ pub use record::RecordFault;
 pub use remaining::Remaining;
 pub use stream::{TableRead, compare_or_take, compare_table};
 pub use taking::{TakesRecords, take_records};
-pub use write::write_spans;
+pub use write::{put_header, send, send_full, write_spans};
