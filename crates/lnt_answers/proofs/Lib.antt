@@ -8,7 +8,6 @@ pub mod FileLemmas
 pub mod PathStretchLemmas
 pub mod PathTableLemmas
 pub mod RoomLaws
-pub mod RoomLemmas
 pub mod StretchLemmas
 pub mod SumFronts
 pub mod SumLaws

@@ -4,7 +4,7 @@ ghost use Rattle.std.specs.Io.KnownBytes.{Keeps};
 ghost use Rattle.lnt_lines.specs.Drafts.{IsJudgedIndex};
 ghost use Rattle.lnt_answers.specs.Lines.{HasBegunLine, IsIndexGiven, IsReasonTold};
 
-use lnt_io::{Halt, Source, write_whole};
+use lnt_io::{Halt, Source, print_line};
 use lnt_lines::{JudgedIndex, Options, index_section};
 use lnt_wire::Strings;
 use std::alloc::Global;
@@ -39,8 +39,7 @@ pub fn judge_section<'s, R: Source, W: Write>(
     match index_section(alloc, section, strings, options) {
         Ok(JudgedIndex::Good(index)) => Ok(JudgedIndex::Good(index)),
         Ok(JudgedIndex::Bad(no)) => {
-            let line = format!(in alloc; "{no}\n")?;
-            write_whole(out, line.as_bytes())?;
+            print_line(alloc, &no, out)?;
             Ok(JudgedIndex::Bad(no))
         }
         Err(stop) => Err(Halt::from(stop)),

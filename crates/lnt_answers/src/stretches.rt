@@ -1,6 +1,6 @@
 //! All stretches of positions at which a table and a good section answer differently.
 ghost use Rattle.std.specs.Prelude.{◌≡◌, ◌-◌, ◌^◌, ◌<◌, ◌+◌, ◌++◌, ◌⊎◌, [], Bool, ℕ, List, Option, IfErr, IfOk, IfSome, IsErrOf};
-ghost use Rattle.std.specs.Prelude.{OnErr, OnOk, codes, string_bytes};
+ghost use Rattle.std.specs.Prelude.{OnErr, OnOk, codes};
 ghost use Rattle.std.specs.Io.KnownBytes.{Appends, Keeps};
 ghost use Rattle.lnt_answers.specs.Stretches.{ArePathDifferencesBegun, AreStretchesBegun, AreStretchesOf, IsFaultTold};
 ghost use Rattle.lnt_answers.specs.Verdicts.{path_stretch_line, path_stretches_status, path_stretches_text};
@@ -17,7 +17,7 @@ ghost use Rattle.lnt_table.specs.Verdicts.{no_of_fault};
 ghost use Rattle.lnt_header.specs.declared.unit_parts.UnitParts.{UnitParts};
 
 use crate::differences::print_differences;
-use lnt_io::{Halt, Source, Status, write_whole};
+use lnt_io::{Halt, Source, Status, print_line, write_whole};
 use lnt_lines::Index;
 use lnt_paths::{DifferenceByPath, DifferencesByPath, HeldTable, Paths};
 use lnt_records::{Differing, TableFault};
@@ -25,7 +25,7 @@ use lnt_spans::SpanSource;
 use lnt_table::{
     AnyDiffering, IndexPaths, PathDifferenceLine, TableNo, differences_any, differences_by_path,
 };
-use std::alloc::{AllocError, Global};
+use std::alloc::Global;
 use std::io::Write;
 
 /// What was printed about a table that was compared with a good section at every position.
@@ -99,16 +99,7 @@ fn print_fault<W: Write>(alloc: Global, fault: TableFault, out: &mut W) -> Resul
     ensures front { OnErr result (AppendsFront (W.contents out.old) (W.contents out.new)
         (table_no_text (no_of_fault fault) ++ codes "\n")) }
 {
-    let line = fault_line(alloc, fault)?;
-    write_whole(out, line.as_bytes())?;
-    Ok(())
-}
-
-// The line that `print_fault` prints.
-fn fault_line(alloc: Global, fault: TableFault) -> Result<String, AllocError>
-    ensures { IfOk result (λ line. string_bytes line ≡ table_no_text (no_of_fault fault) ++ codes "\n") }
-{
-    format!(in alloc; "{}\n", TableNo::from(fault))
+    print_line(alloc, &TableNo::from(fault), out)
 }
 
 // Prints a line for each stretch of positions at which a table by path and a section answer differently, in ascending order,

@@ -1,5 +1,5 @@
 //! The address table of a good section.
-ghost use Rattle.std.specs.Prelude.{◌≡◌, Bool, ℕ, List, Option, IfErr, IfOk, OnErr, OnOk, string_bytes};
+ghost use Rattle.std.specs.Prelude.{◌≡◌, Bool, ℕ, List, Option, IfErr, IfOk, OnErr, OnOk};
 ghost use Rattle.std.specs.Io.KnownBytes.{Appends};
 ghost use Rattle.lnt_lines.specs.Indexed.{IsIndexOf};
 ghost use Rattle.lnt_io.specs.Fronts.{AppendsFront};
@@ -11,13 +11,13 @@ ghost use Rattle.lnt_header.specs.declared.unit_parts.UnitParts.{UnitParts};
 ghost use Rattle.lnt_answers.specs.PathTables.{BeginsPrintedTable, IsPrintedTable, operation_line};
 ghost use Rattle.lnt_answers.specs.Stepping.{halt_of_write};
 
-use lnt_io::{Halt, Status, write_whole};
+use lnt_io::{Halt, Status, print_line};
 use lnt_lines::Index;
 use lnt_paths::{PathTable, PathVersion};
 use lnt_records::WriteStop;
 use lnt_spans::{Position, Version};
 use lnt_table::{OperationLine, write_index, write_paths};
-use std::alloc::{AllocError, Global};
+use std::alloc::Global;
 use std::io::Write;
 
 /// Prints the address table of a good section, in version 1 or 2.
@@ -79,16 +79,7 @@ fn print_operation<W: Write>(alloc: Global, position: Position, out: &mut W) -> 
     ensures line { OnOk result (Appends (W.contents out.old) (W.contents out.new) (operation_line position)) }
     ensures front { OnErr result (AppendsFront (W.contents out.old) (W.contents out.new) (operation_line position)) }
 {
-    let line = line_of(alloc, position)?;
-    write_whole(out, line.as_bytes())?;
-    Ok(())
-}
-
-// The line that `print_operation` prints.
-fn line_of(alloc: Global, position: Position) -> Result<String, AllocError>
-    ensures { IfOk result (λ line. string_bytes line ≡ operation_line position) }
-{
-    format!(in alloc; "{}\n", OperationLine(position))
+    print_line(alloc, &OperationLine(position), out)
 }
 
 // How printing ends if a table couldn't be written.

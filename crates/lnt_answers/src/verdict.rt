@@ -1,13 +1,13 @@
 //! The line of a check's answer.
-ghost use Rattle.std.specs.Prelude.{◌≡◌, IfErr, IfOk, OnErr, OnOk, string_bytes};
+ghost use Rattle.std.specs.Prelude.{IfErr, OnErr, OnOk};
 ghost use Rattle.std.specs.Io.KnownBytes.{Appends};
 ghost use Rattle.lnt_io.specs.Fronts.{AppendsFront};
 ghost use Rattle.lnt_io.specs.Halts.{IsPrinting};
 ghost use Rattle.lnt_answers.specs.Verdicts.{checked_line};
 
-use lnt_io::{Halt, write_whole};
+use lnt_io::{Halt, print_line};
 use lnt_table::Checked;
-use std::alloc::{AllocError, Global};
+use std::alloc::Global;
 use std::io::Write;
 
 /// Prints the line of a check's answer: `yes`, or the first thing that is wrong with the section or the table.
@@ -19,14 +19,5 @@ pub fn print_checked<W: Write>(alloc: Global, checked: &Checked, out: &mut W) ->
     ensures line { OnOk result (Appends (W.contents out.old) (W.contents out.new) (checked_line checked.now)) }
     ensures front { OnErr result (AppendsFront (W.contents out.old) (W.contents out.new) (checked_line checked.now)) }
 {
-    let line = line_of(alloc, checked)?;
-    write_whole(out, line.as_bytes())?;
-    Ok(())
-}
-
-// The line that `print_checked` prints.
-fn line_of(alloc: Global, checked: &Checked) -> Result<String, AllocError>
-    ensures { IfOk result (λ line. string_bytes line ≡ checked_line checked.now) }
-{
-    format!(in alloc; "{checked}\n")
+    print_line(alloc, checked, out)
 }

@@ -2,7 +2,7 @@ use Rattle.std.proofs.Common.{rules, subst}
 use Rattle.std.specs.Io.KnownBytes.{Appends}
 use Rattle.lnt_io.proofs.FrontLaws.{front_none, front_same, so_stopped}
 use Rattle.lnt_paths.specs.PathStretches.{stretch_of}
-use Rattle.lnt_answers.proofs.RoomLemmas.{text_in_room}
+use Rattle.lnt_answers.proofs.RoomLaws.{text_in_room}
 use Rattle.lnt_answers.specs.Verdicts.{path_stretch_line}
 use Rattle.lnt_answers.proofs.stretches.print_path_difference.Goals as goal
 
