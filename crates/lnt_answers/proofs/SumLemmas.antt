@@ -63,12 +63,12 @@ sums_joined tells tells' index files more a b c s t later so next = record {
 pub sum_listed : (tells : List ℕ → FileState → Type 0) (index : Indexed) (unit file : ℕ) (a b : Option (List ℕ))
     (listed path shown : List ℕ) (found : Option Agreement) (status : Status) → file_sum_in index unit file ≡ Some listed
     → path ≡ path_or_empty (file_path_in index unit file) → shown ≡ path_or_empty (file_path_in index unit file)
-    → IsTrueOfFile (tells path) listed found
+    → IsTrueOfFile tells path listed found
     → Appends a b ((head_text unit file ++ found_text found) ++ (codes " " ++ (quoted_text shown ++ codes "\n")))
     → status ≡ found_status found → AreSumsTold tells index (listed_at index unit file) a b status
 sum_listed tells index unit file a b listed path shown found status is path_is shown_is so printed status_is =
     let finding : Finding = record { unit = unit; file = file; found = found } in
-    let named = subst (λ (name : List ℕ). IsTrueOfFile (tells name) listed found) path_is so in
+    let named = subst (λ (name : List ℕ). IsTrueOfFile tells name listed found) path_is so in
     let line = subst (λ (name : List ℕ). Appends a b ((head_text unit file ++ found_text found)
     ++ (codes " " ++ (quoted_text name ++ codes "\n")))) shown_is printed in
     record {
@@ -76,7 +76,7 @@ sum_listed tells index unit file a b listed path shown found status is path_is s
       places = sym (ap (λ (listed' : Option (List ℕ)). option_map_or (λ _. (unit, file) ∷ []) listed' []) is);
       are_true = (
         subst (λ (listed' : Option (List ℕ)). IfSome listed' (λ bytes.
-            IsTrueOfFile (tells (path_or_empty (file_path_in index unit file))) bytes found)) (sym is) named,
+            IsTrueOfFile tells (path_or_empty (file_path_in index unit file)) bytes found)) (sym is) named,
         tt,
       );
       printed = subst (Appends a b) (sym (append-nil (sum_line index finding))) line;

@@ -1,10 +1,12 @@
 -- The lines that say whether the files of a good section have their listed MD5 sums (DWARF 5, section 6.2.4.1).
---     tells   what may be known of the file with a name: its bytes, or `None`
-use Rattle.std.specs.Prelude.{◌≡◌, ℕ, List, [], ◌∷◌, ◌++◌, map, IfSome, None, Option, Some, codes, decimal, suc, zero}
+--     tells       what may be known of the file with a name
+--     old, new    what the writer holds before and afterwards
+use Rattle.std.specs.Prelude.{◌≡◌, ◌⊎◌, ℕ, List, [], ◌∷◌, ◌++◌, map, IfSome, IsUtf8, None, Option, Some, codes, decimal, suc, zero}
 use Rattle.std.specs.List.{AllByRecursion, flat_map}
 use Rattle.std.specs.Option.{option_map_or}
 use Rattle.std.specs.Io.KnownBytes.{Appends}
-use Rattle.lnt_io.specs.Files.{FileState}
+use Rattle.lnt_io.specs.Files.{FileState, Readable, Unreadable}
+use Rattle.lnt_io.specs.Fronts.{AppendsFront}
 use Rattle.hex.specs.Hex.{encode_lower}
 use Rattle.md5.specs.Md5.{md5}
 use Rattle.lnt_io.specs.declared.status.Status.{Status}
@@ -43,17 +45,22 @@ pub record Finding : Type 0 where
 abbrev pub file_of : Finding → ℕ × ℕ
 file_of finding = (finding.unit, finding.file)
 
--- The agreement is true of the file's bytes, if they are known. `None`, for a file that couldn't be read, claims nothing.
-abbrev pub IsTrueOfFile : (Option (List ℕ) → Type 0) → List ℕ → Option Agreement → Type 0
-IsTrueOfFile tells listed None = Unit {0}
-IsTrueOfFile tells listed (Some agreement) =
-    (told : Option (List ℕ)) × tells told × IfSome told (λ bytes. Agrees agreement (md5 bytes) listed)
+-- No file is read at this path: it isn't UTF-8; or it is `-`; or the file can't be read whole.
+abbrev pub IsUnreadable : (List ℕ → FileState → Type 0) → List ℕ → Type 0
+IsUnreadable tells path = (IsUtf8 path → ⊥) ⊎ (path ≡ codes "-") ⊎ tells path Unreadable
+
+-- What was found is true of the file at this path, for which this sum is listed. An agreement is true of the file's bytes, if they
+-- are known; with `None` the file is unreadable.
+abbrev pub IsTrueOfFile : (List ℕ → FileState → Type 0) → List ℕ → List ℕ → Option Agreement → Type 0
+IsTrueOfFile tells path listed None = IsUnreadable tells path
+IsTrueOfFile tells path listed (Some agreement) =
+    (told : Option (List ℕ)) × tells path (Readable told) × IfSome told (λ bytes. Agrees agreement (md5 bytes) listed)
 
 -- The finding is true of the file at its listed path and of its listed sum.
 abbrev pub IsTrueFinding : (List ℕ → FileState → Type 0) → Indexed → Finding → Type 0
 IsTrueFinding tells index finding =
     IfSome (file_sum_in index finding.unit finding.file)
-    (λ listed. IsTrueOfFile (tells (path_or_empty (file_path_in index finding.unit finding.file))) listed finding.found)
+    (λ listed. IsTrueOfFile tells (path_or_empty (file_path_in index finding.unit finding.file)) listed finding.found)
 
 -- ---- what is printed
 
@@ -96,3 +103,13 @@ pub record AreSumsTold (tells : List ℕ → FileState → Type 0) (index : Inde
   pub are_true : AllByRecursion (IsTrueFinding tells index) findings
   pub printed : Appends old new (flat_map (sum_line index) findings)
   pub status_is : status ≡ sums_status findings
+
+-- A prefix of the lines of true findings was appended, and nothing else. They are of the first of these files, in order; of the rest
+-- nothing is said.
+pub record AreSumsBegun (tells : List ℕ → FileState → Type 0) (index : Indexed) (files : List (ℕ × ℕ)) (old new : Option (List ℕ))
+    : Type 0 where
+  pub findings : List Finding
+  pub rest : List (ℕ × ℕ)
+  pub places : map file_of findings ++ rest ≡ files
+  pub are_true : AllByRecursion (IsTrueFinding tells index) findings
+  pub front : AppendsFront old new (flat_map (sum_line index) findings)

@@ -2,12 +2,11 @@
 ghost use Rattle.std.specs.Prelude.{◌≡◌, ◌↔◌, ◌<◌, ◌++◌, IfErr, IfOk, IsSome, IsTrue, OnErr, OnOk, codes};
 ghost use Rattle.std.specs.List.{Any};
 ghost use Rattle.std.specs.Io.KnownBytes.{Appends};
-ghost use Rattle.lnt_io.specs.Fronts.{HasBegun};
 ghost use Rattle.lnt_io.specs.Files.{TellsNoMore};
 ghost use Rattle.lnt_io.specs.Halts.{IsPrinting};
 ghost use Rattle.lnt_lines.specs.Indexed.{file_count_in, file_sum_in};
 ghost use Rattle.lnt_text.specs.Quotes.{quoted_text};
-ghost use Rattle.lnt_answers.specs.SumLines.{AreSumsTold, IsTrueOfFile, both, found_status, found_text, head_text};
+ghost use Rattle.lnt_answers.specs.SumLines.{AreSumsBegun, AreSumsTold, IsTrueOfFile, both, found_status, found_text, head_text};
 ghost use Rattle.lnt_answers.specs.SumLines.{listed_at, listed_files, listed_in};
 
 use crate::files::path_of;
@@ -37,8 +36,8 @@ pub fn print_sums<O: Opener, W: Write>(
     ensures err { IfErr result IsPrinting }
     ensures sums { IfOk result (λ status. AreSumsTold (O.tells opener.old) index.now (listed_files index.now)
         (W.contents out.old) (W.contents out.new) status) }
-    ensures begun { OnErr result (HasBegun (AreSumsTold (O.tells opener.old) index.now (listed_files index.now)
-        (W.contents out.old)) (W.contents out.old) (W.contents out.new)) }
+    ensures begun { OnErr result (AreSumsBegun (O.tells opener.old) index.now (listed_files index.now)
+        (W.contents out.old) (W.contents out.new)) }
 {
     let mut status = Status::Done;
     let mut room = Vec::new(alloc);
@@ -62,8 +61,8 @@ fn print_unit_sums<O: Opener, W: Write>(
     ensures later { OnOk result (TellsNoMore (O.tells opener.old) (O.tells opener.new)) }
     ensures sums { IfOk result (λ status. AreSumsTold (O.tells opener.old) index.now (listed_in index.now unit)
         (W.contents out.old) (W.contents out.new) status) }
-    ensures begun { OnErr result (HasBegun (AreSumsTold (O.tells opener.old) index.now (listed_in index.now unit)
-        (W.contents out.old)) (W.contents out.old) (W.contents out.new)) }
+    ensures begun { OnErr result (AreSumsBegun (O.tells opener.old) index.now (listed_in index.now unit)
+        (W.contents out.old) (W.contents out.new)) }
 {
     let mut status = Status::Done;
     for file in 0..index.file_count(unit) {
@@ -89,8 +88,8 @@ fn print_sum<O: Opener, W: Write>(
     ensures later { OnOk result (TellsNoMore (O.tells opener.old) (O.tells opener.new)) }
     ensures sum { IfOk result (λ status. AreSumsTold (O.tells opener.old) index.now (listed_at index.now unit file)
         (W.contents out.old) (W.contents out.new) status) }
-    ensures begun { OnErr result (HasBegun (AreSumsTold (O.tells opener.old) index.now (listed_at index.now unit file)
-        (W.contents out.old)) (W.contents out.old) (W.contents out.new)) }
+    ensures begun { OnErr result (AreSumsBegun (O.tells opener.old) index.now (listed_at index.now unit file)
+        (W.contents out.old) (W.contents out.new)) }
 {
     let Some(listed) = index.listed(unit, file) else {
         return Ok(Status::Done);
@@ -109,14 +108,20 @@ fn print_sum<O: Opener, W: Write>(
 // Whether the file at the path has the sum. `None` if it can't be read.
 fn found_of<O: Opener>(path: &[u8], listed: &[u8; 16], opener: &mut O) -> Option<Agreement>
     ensures later { TellsNoMore (O.tells opener.old) (O.tells opener.new) }
-    ensures found { IsTrueOfFile (O.tells opener.old path.now) listed.now result }
+    ensures found { IsTrueOfFile (O.tells opener.old) path.now listed.now result }
 {
     let name = str::from_utf8(path).ok()?;
     if name == "-" || !opener.is_regular(name) {
         return None;
     }
-    let reader = opener.reader_of(name)?;
-    md5_agrees(&mut Counted::new(reader, LIMIT), listed).ok()
+    let mut source = Counted::new(opener.reader_of(name)?, LIMIT);
+    match md5_agrees(&mut source, listed) {
+        Ok(agreement) => Some(agreement),
+        Err(_) => {
+            opener.could_not_read(name, &source);
+            None
+        }
+    }
 }
 
 // Prints the line that says what was found for a file, piece by piece.
