@@ -1,6 +1,6 @@
 -- Offsets that rise, and the directories of units.
-use Rattle.std.proofs.Common.{◌≡◌, ◌≢◌, ◌∙◌, ◌==◌, ℕ, ◌+◌, ◌-◌, ◌<◌, ◌≤◌, true, false, List, [], ◌∷◌, ◌++◌, length, get_or, map, Result, Ok, Err, Option, Some, None}
-use Rattle.std.proofs.Common.{inl, inr, Bool, refl, sym, ap, subst, arith, zero, suc}
+use Rattle.std.proofs.Common.{◌≡◌, ◌≢◌, ◌∙◌, ◌==◌, ℕ, ◌+◌, ◌-◌, ◌<◌, ◌≤◌, Bool, true, false, List, [], ◌∷◌, ◌++◌, length, get_or}
+use Rattle.std.proofs.Common.{Result, Ok, Err, Option, Some, None, inl, inr, refl, sym, ap, subst, arith, zero, suc}
 use Rattle.std.specs.Bool.{MatchBool}
 use Rattle.std.specs.Prelude.{codes}
 use Rattle.lnt_records.specs.Reading.{BytesReader, HasRead}
@@ -11,15 +11,18 @@ use Rattle.std.specs.List.{AllZip}
 use Rattle.std.specs.List.Sorted.{IsBinarySearchResult, IsNonDecreasingBy, IsSearchInRange}
 use Rattle.std.specs.Ordering.{nat_cmp, ordering_index}
 use Rattle.std.specs.Result.{is_ok}
-use Rattle.std.proofs.lemmas.Bool.{cases_lt}
+use Rattle.std.proofs.lemmas.Bool.{cases_lt, ne_eqb}
 use Rattle.std.proofs.lemmas.Bool.Decides.{eqb_tells, nat_tests}
 use Rattle.std.proofs.lemmas.Cmp.{ranked}
+use Rattle.std.proofs.Math.Seq.{get_or-append_seam}
 use Rattle.std.proofs.lemmas.List.{get_or-map, get_or_append_left, get_or_default, length-append, length-map, map-append}
+use Rattle.std.proofs.lemmas.List.Quantifiers.{all_pairs_push}
 use Rattle.std.proofs.lemmas.List.Sorted.{searched}
+use Rattle.std.proofs.lemmas.Slice.Zip.{AllZip-long}
 use Rattle.lnt_header.specs.Joins.{AreRising}
-use Rattle.lnt_older.specs.Directories.{AreDirectories, AreRecords, HasBadRecord, IsAdded, IsDirectoryFile, IsDirectoryRecord, IsLastUnit, IsNext, IsUnitOf, MayFollow, directory_at}
-use Rattle.lnt_older.specs.Directories.{directory_names, units_of}
-use Rattle.lnt_older.specs.Walking.{AreSound}
+use Rattle.lnt_older.specs.Directories.{AreDirectories, AreRecords, HasBadRecord, IsAdded, IsDirectoryFile, IsDirectoryRecord}
+use Rattle.lnt_older.specs.Directories.{IsLastUnit, IsNext, IsUnitOf, MayFollow, directory_at, directory_names, units_of}
+use Rattle.lnt_older.specs.Upgradable.{AreSound}
 use Rattle.lnt_wire.specs.FormBytes.{HasNoZero}
 use Rattle.lnt_older.specs.declared.directories.Directory.{Directory}
 
@@ -48,9 +51,6 @@ among offsets offset (Err i) h up =
 
 -- ---- the directory of a unit
 
-other_is : (m n : ℕ) → m ≢ n → (m == n) ≡ false
-other_is m n other = elim (eqb_tells m n) [ inl same ↦ absurd (other same.1) | inr e ↦ e.0 ]
-
 same_is : (m n : ℕ) → m ≡ n → (m == n) ≡ true
 same_is m n e = grind (arith, nat_tests)
 
@@ -66,13 +66,13 @@ found_at (e ∷ es) (suc k) offset d up lt same =
     let at : get_or (units_of es) k 0 ≡ offset = get_or-map (λ (x : Directory). x.unit) es k d 0 few ∙ same in
     let long : length (units_of es) ≡ length es = length-map es (λ (x : Directory). x.unit) in
     let less : e.unit < get_or (units_of es) k 0 = up 0 (suc k) 0 (omega arith) (omega (arith, few, long)) in
-    rw (other_is e.unit offset (λ is. omega (arith, less, at, is))) (found_at es k offset d (rising_tail e es up) few same)
+    rw (ne_eqb e.unit offset (λ is. omega (arith, less, at, is))) (found_at es k offset d (rising_tail e es up) few same)
 
 missing_at : (directories : List Directory) (offset : ℕ) → ((k : ℕ) (d : Directory) → k < length directories
     → (get_or directories k d).unit ≢ offset) → directory_at directories offset ≡ []
 missing_at [] offset none = refl
 missing_at (e ∷ es) offset none =
-    rw (other_is e.unit offset (none zero e (omega arith))) (missing_at es offset (λ k d lt. none (suc k) d (omega (arith, lt))))
+    rw (ne_eqb e.unit offset (none zero e (omega arith))) (missing_at es offset (λ k d lt. none (suc k) d (omega (arith, lt))))
 
 -- the comparisons with an offset rise
 comparisons_rise : (directories : List Directory) (offset : ℕ) → AreDirectories directories
@@ -134,43 +134,31 @@ columns_found false reader bytes fields read other = λ begins.
 
 -- ---- one directory after others
 
-map_more : (directories : List Directory) (directory : Directory) → units_of (directories ++ directory ∷ []) ≡ units_of directories ++ directory.unit ∷ []
+map_more : (directories : List Directory) (directory : Directory)
+    → units_of (directories ++ directory ∷ []) ≡ units_of directories ++ directory.unit ∷ []
 map_more directories directory = map-append (λ (x : Directory). x.unit) directories (directory ∷ [])
 
 long_is : (directories : List Directory) → length (units_of directories) ≡ length directories
 long_is directories = length-map directories (λ (x : Directory). x.unit)
 
--- the last one of a list, and those before it
-at_end : (xs : List ℕ) (x : ℕ) → get_or (xs ++ x ∷ []) (length xs) 0 ≡ x
-at_end [] x = refl
-at_end (y ∷ xs) x = at_end xs x
+-- an offset after the last of others is after each of them
+after_last : (xs : List ℕ) (x : ℕ) → AreRising xs → (0 < length xs → get_or xs (length xs - 1) 0 < x) → (k d : ℕ) → k < length xs
+    → get_or xs k d < x
+after_last xs x up less k d lt =
+    let last = less (omega (arith, lt)) in
+    let top = not_falling xs up k (length xs - 1) (omega (arith, lt)) (omega (arith, lt)) in
+    let same = get_or_default xs k d 0 lt in
+    omega (arith, last, top, same)
 
-pub rising_more : (xs : List ℕ) (x : ℕ) → AreRising xs → (0 < length xs → get_or xs (length xs - 1) 0 < x) → AreRising (xs ++ x ∷ [])
-rising_more xs x up less i j d lt few =
-    let n : length (xs ++ x ∷ []) ≡ length xs + 1 = length-append xs (x ∷ []) in
-    elim (cases_lt j (length xs)) [
-      | inl inside ↦
-          let at_i = get_or_append_left xs (x ∷ []) d i (omega (arith, lt, inside)) in
-          let at_j = get_or_append_left xs (x ∷ []) d j inside in
-          let pair = up i j d lt inside in
-          omega (arith, at_i, at_j, pair)
-      | inr outside ↦
-          let j_is : j ≡ length xs = omega (arith, outside, few, n) in
-          let at_i = get_or_append_left xs (x ∷ []) 0 i (omega (arith, lt, j_is)) in
-          let same_i = get_or_default (xs ++ x ∷ []) i d 0 (omega (arith, lt, few)) in
-          let at_j : get_or (xs ++ x ∷ []) j 0 ≡ x = subst (λ (k : ℕ). get_or (xs ++ x ∷ []) k 0 ≡ x) (sym j_is) (at_end xs x) in
-          let same_j = get_or_default (xs ++ x ∷ []) j d 0 few in
-          let top = not_falling xs up i (length xs - 1) (omega (arith, lt, j_is)) (omega (arith, lt, j_is)) in
-          let last = less (omega (arith, lt, j_is)) in
-          omega (arith, at_i, same_i, at_j, same_j, top, last)
-    ]
+rising_more : (xs : List ℕ) (x : ℕ) → AreRising xs → (0 < length xs → get_or xs (length xs - 1) 0 < x) → AreRising (xs ++ x ∷ [])
+rising_more xs x up less = all_pairs_push (λ (one other : ℕ). one < other) xs x up (after_last xs x up less)
 
 rising_last : (xs : List ℕ) (x : ℕ) → AreRising (xs ++ x ∷ []) → 0 < length xs → get_or xs (length xs - 1) 0 < x
 rising_last xs x up some =
     let n : length (xs ++ x ∷ []) ≡ length xs + 1 = length-append xs (x ∷ []) in
     let pair = up (length xs - 1) (length xs) 0 (omega (arith, some)) (omega (arith, n)) in
     let at_i = get_or_append_left xs (x ∷ []) 0 (length xs - 1) (omega (arith, some)) in
-    let at_j = at_end xs x in
+    let at_j = get_or-append_seam xs x [] 0 in
     omega (arith, pair, at_i, at_j)
 
 pub may_follow : (older : List ℕ) (directories : List Directory) (before : Option ℕ) (directory : Directory) → AreDirectories directories
@@ -228,12 +216,6 @@ zip_last R [] (b ∷ ys) x y h k = absurd h
 zip_last R (a ∷ xs) [] x y h k = absurd h
 zip_last R (a ∷ xs) (b ∷ ys) x y h k = zip_last R xs ys x y h.1 k.1
 
-pub zip_long : {A B : Type 0} (R : A → B → Type 0) (xs : List A) (ys : List B) → AllZip R xs ys → length xs ≡ length ys
-zip_long R [] [] h = refl
-zip_long R [] (b ∷ ys) h = absurd h
-zip_long R (a ∷ xs) [] h = absurd h
-zip_long R (a ∷ xs) (b ∷ ys) h = ap suc (zip_long R xs ys h.1)
-
 pub bad_record : (older bytes : List ℕ) (records : List Fields) (fields : Fields) (directories : List Directory) (reader : BytesReader)
     → AreRecords older records directories → HasRead reader bytes ((directory_names ∷ records) ++ fields ∷ [])
     → ((directory : Directory) → IsDirectoryRecord fields directory → MayFollow older directories directory → ⊥)
@@ -244,9 +226,11 @@ bad_record older bytes records fields directories reader so read none = record {
   fields = fields;
   begins = (reader_state reader, read.rest, read.reached);
   so = so;
-  count_is = zip_long IsDirectoryRecord records directories so.each;
-  bad = λ directory more. none directory (zip_last IsDirectoryRecord records directories fields directory so.each more.each)
-      (more.rising, zip_last (λ (f : Fields) (d : Directory). IsUnitOf older d.unit) records directories fields directory so.units more.units);
+  count_is = sym (AllZip-long IsDirectoryRecord records directories so.each);
+  bad = λ directory more.
+      let IsOlder : Fields → Directory → Type 0 = λ (f : Fields) (d : Directory). IsUnitOf older d.unit in
+      none directory (zip_last IsDirectoryRecord records directories fields directory so.each more.each)
+      (more.rising, zip_last IsOlder records directories fields directory so.units more.units);
 }
 
 pub suc_is : (n : ℕ) → suc n ≡ n + 1
@@ -269,4 +253,5 @@ sound_from older bytes directories file =
     record { rising = file.so.rising; no_zero = no_zero_at file.records directories file.so.each }
 
 pub sound_none : (directories : List Directory) → directories ≡ [] → AreSound directories
-sound_none directories none = subst AreSound (sym none) (record { rising = λ i j d lt few. absurd (omega (arith, few)); no_zero = λ offset. tt })
+sound_none directories none =
+    subst AreSound (sym none) (record { rising = λ i j d lt few. absurd (omega (arith, few)); no_zero = λ offset. tt })

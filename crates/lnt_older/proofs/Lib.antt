@@ -8,6 +8,7 @@ pub mod ListFaultLemmas
 pub mod ListLemmas
 pub mod NoUnitLemmas
 pub mod NumberLemmas
+pub mod PlacedLaws
 pub mod SameLemmas
 pub mod SameUnitLemmas
 pub mod SectionLemmas

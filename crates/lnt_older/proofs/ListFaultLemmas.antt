@@ -64,8 +64,8 @@ none_list format order pairs (u ∷ us) x rest bytes p whole none goes_on (v ∷
     (record { front = q.first.back; back = q.back; first = q.first.second; second = q.second; joined = refl })
     (append_assoc q.first.back q.back more ∙ one.past)
 
-none_listed_entry : (format : Format) (order : Order) (pairs : List Pair) (bytes : List ℕ) → NoneSpelled (EntryBytes format order pairs) bytes
-    → NoneSpelled (ListedBytes format order pairs) bytes
+none_listed_entry : (format : Format) (order : Order) (pairs : List Pair) (bytes : List ℕ)
+    → NoneSpelled (EntryBytes format order pairs) bytes → NoneSpelled (ListedBytes format order pairs) bytes
 none_listed_entry format order pairs bytes none v x more p e = none v x more p.spelled e
 
 zero_begins : (more rest : List ℕ) → 0 ∷ more ≡ rest → BeginsEntry rest → ⊥

@@ -9,11 +9,10 @@ use Rattle.lnt_header_bytes.specs.HeaderBytes.{unit_body}
 use Rattle.lnt_unit.specs.UnitBytes.{UnitBytesIn, UnitsFrom}
 use Rattle.lnt_unit.proofs.FrameLaws.{unit_frame}
 use Rattle.lnt_older.specs.OlderUnits.{AnyBytes, AnyParts, five_parts, older_parts}
-use Rattle.lnt_older.proofs.UpgradeLaws.{any_once, five_not_older, frame_once}
+use Rattle.lnt_older.proofs.UpgradeLaws.{any_once, five_not_older, frame_once, some_bytes}
 use Rattle.lnt_older.specs.Laws.{SameSection}
 use Rattle.lnt_older.specs.Sections.{UpgradedBytes}
 use Rattle.lnt_older.specs.declared.directories.Directory.{Directory}
-use Rattle.lnt_older.proofs.SectionLemmas.{any_some}
 
 -- the format and the body of a unit of version 5
 abbrev five_of : (order : Order) (unit : UnitParts) (x : List ℕ) → (p : UnitBytesIn order unit x) → AnyParts
@@ -24,11 +23,11 @@ same_from : (order : Order) (directories : List Directory) (m n : ℕ) (units : 
     → Each (UpgradedBytes order directories) others result → result ≡ section
 same_from order directories m n [] [] section result p q e = e ∙ sym p
 same_from order directories m n [] (other ∷ others) section result p (front, back, here, so, joined, rest) e =
-    absurd (omega (arith, any_some order other.1 front so, ap length joined, ap length p, length-append front back))
+    absurd (omega (arith, some_bytes order other.1 front so, ap length joined, ap length p, length-append front back))
 same_from order directories m n (unit ∷ units) [] section result (front, back, here, spelled, joined, rest) q e =
     absurd (omega (
       arith,
-      any_some order (five_of order unit.1 front spelled) front (unit_frame order unit.1 front spelled),
+      some_bytes order (five_of order unit.1 front spelled) front (unit_frame order unit.1 front spelled),
       ap length joined,
       ap length q,
       length-append front back,

@@ -158,7 +158,8 @@ fault_of order format version reason before from before' from' in_frame (of_fiel
     from_is there) so
 
 older_missing : (front : Front) (version : OlderVersion) (order : Order) (fault : Fault) (old new : At) → ReadsFront front old new
-    → front.version ≡ Older version → order ≡ old.order → IsBodyFault front version order fault → Refuses (IsAnyFault old.order) (AnyBytes old.order) old fault
+    → front.version ≡ Older version → order ≡ old.order → IsBodyFault front version order fault
+    → Refuses (IsAnyFault old.order) (AnyBytes old.order) old fault
 older_missing front version order fault old new r version_is order_is there =
     let b : IsBodyFault front version old.order fault = subst (λ (o : Order). IsBodyFault front version o fault) order_is there in
     let digits = number_bytes old.order 2 (version_number version) in

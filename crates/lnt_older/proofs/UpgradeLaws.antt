@@ -1,5 +1,4 @@
--- What a unit says that was read where it lies and written anew, by the bytes of both; and that the bytes of a place are those of one
--- unit.
+-- What a unit says that was read where it lies; and that the bytes of a place are those of one unit.
 use Rattle.std.proofs.Common.{◌≡◌, ℕ, ◌<◌, List, [], ◌++◌, length, refl, sym, ap, subst, ◌∙◌, inr, arith}
 use Rattle.std.proofs.lemmas.List.{append_cancel_right, length-append}
 use Rattle.lnt_wire.specs.At.{At}
@@ -11,18 +10,14 @@ use Rattle.lnt_wire.specs.declared.format.Format.{Format}
 use Rattle.lnt_wire.specs.declared.format.Order.{Order}
 use Rattle.lnt_wire.proofs.LengthLaws.{length-initial, same_number_front, width_2}
 use Rattle.lnt_header.specs.HeaderRules.{IsAddressSize}
-use Rattle.lnt_header.specs.declared.header.Entry.{Entry}
 use Rattle.lnt_header.specs.declared.header.HeaderParts.{HeaderParts}
-use Rattle.lnt_header_bytes.specs.HeaderBytes.{HeaderBytesIn, unit_body}
+use Rattle.lnt_header_bytes.specs.HeaderBytes.{unit_body}
 use Rattle.lnt_older.specs.OlderBytes.{older_body, OlderBytes}
-use Rattle.lnt_older.specs.OlderFields.{ListsLie}
-use Rattle.lnt_older.specs.OlderUnits.{AnyBytes, AnyParts, ReadsAny, ReadsFive, ReadsOlder, unit_header}
+use Rattle.lnt_older.specs.OlderUnits.{AnyBytes, AnyParts, ReadsFive, ReadsOlder, unit_header}
 use Rattle.lnt_older.specs.OlderUnits.AnyParts.{five_parts, older_parts}
-use Rattle.lnt_older.specs.Upgraded.{CopiedFields, IsUpgradedUnit, upgraded}
+use Rattle.lnt_older.specs.Upgraded.{CopiedFields, upgraded}
 use Rattle.lnt_older.specs.Upgrading.{AddsUpgraded, IsTooLong}
 use Rattle.lnt_older.specs.Versions.{version_number}
-use Rattle.lnt_older.specs.declared.unit.AnyUnit.{AnyUnit}
-use Rattle.lnt_older.specs.declared.unit.AnyUnit.TheVariants.{Five, Older}
 use Rattle.lnt_older.specs.declared.unit.OlderUnit.{OlderUnit}
 use Rattle.lnt_older.proofs.CopiedLemmas.{one_length, same_body_length}
 use Rattle.lnt_older.proofs.HeaderLemmas.{to_right}
@@ -46,7 +41,7 @@ counted order (older_parts h program) x p =
     record { format = h.format; body = body; fits = q.fits; joined = q.joined ∙ ap (λ (o : Order). frame_bytes o h.format body) p.0 }
 
 -- a unit has bytes
-some_bytes : (order : Order) (parts : AnyParts) (x : List ℕ) → AnyBytes order parts x → 0 < length x
+pub some_bytes : (order : Order) (parts : AnyParts) (x : List ℕ) → AnyBytes order parts x → 0 < length x
 some_bytes order parts x p =
     let c = counted order parts x p in
     let initial = initial_length c.format order (length c.body) in
@@ -85,49 +80,28 @@ five_not_older order format body h program x five older =
 
 -- ---- what was read
 
--- These parts and these bytes are of the unit that was read: of one of version 5 the bytes are known; of an older one its header, at
--- this address size, with directories and files that lie in its lists, and its program.
-abbrev pub SaysParts : AnyUnit → ℕ → AnyParts → List ℕ → Type 0
-SaysParts (Five bytes) size parts x = (format : Format) × (body : List ℕ) × (parts ≡ five_parts format body) × (bytes.now ≡ x)
-SaysParts (Older unit) size parts x =
-    (directories : List Entry) × (files : List Entry) × ListsLie unit.format unit.order unit.header directories files
-    × (parts ≡ older_parts (unit_header unit size directories files) unit.program.now)
+-- a unit of version 5 by its parts
+abbrev pub five_read : (bytes : List ℕ) (old new : At) → (r : ReadsFive bytes old new)
+    → Reads (AnyBytes old.order) (five_parts r.format r.body) old new
+five_read bytes old new r = record {
+  spelling = r.read.spelling;
+  spelled = r.read.spelled;
+  whole = r.read.whole;
+  place = r.read.place;
+  order = r.read.order;
+}
 
--- The read moved past the bytes of a unit, of which there are some.
-pub record ReadsUnit (unit : AnyUnit) (size : ℕ) (old new : At) : Type 0 where
-  pub parts : AnyParts
-  pub read : Reads (AnyBytes old.order) parts old new
-  pub says : SaysParts unit size parts read.spelling
-  pub some : 0 < length read.spelling
-
--- What was read is a unit, whatever size addresses have.
-pub read_spelled : (unit : AnyUnit) (size : ℕ) (old new : At) → IsAddressSize size → ReadsAny unit old new → ReadsUnit unit size old new
-read_spelled (Five bytes) size old new is_size r =
-    let parts = five_parts r.format r.body in
-    let read : Reads (AnyBytes old.order) parts old new = record {
-      spelling = r.read.spelling;
-      spelled = r.read.spelled;
-      whole = r.read.whole;
-      place = r.read.place;
-      order = r.read.order;
-    } in
+-- an older one, at this address size
+abbrev pub older_read : (unit : OlderUnit) (size : ℕ) (old new : At) → IsAddressSize size → (r : ReadsOlder unit old new)
+    → Reads (AnyBytes old.order) (older_parts (unit_header unit size r.directories r.files) unit.program.now) old new
+older_read unit size old new is_size r =
+    let one = r.read size is_size in
     record {
-      parts = parts;
-      read = read;
-      says = (r.format, r.body, refl, r.bytes_are);
-      some = some_bytes old.order parts r.read.spelling r.read.spelled;
-    }
-read_spelled (Older unit) size old new is_size r =
-    let s = r.read size is_size in
-    let parts = older_parts (unit_header unit size r.directories r.files) unit.program.now in
-    let spelled : AnyBytes old.order parts s.spelling = (s.spelled.order_is, s.spelled.spelled) in
-    let read : Reads (AnyBytes old.order) parts old new =
-    record { spelling = s.spelling; spelled = spelled; whole = s.whole; place = s.place; order = s.order } in
-    record {
-      parts = parts;
-      read = read;
-      says = (r.directories, r.files, r.lie, refl);
-      some = some_bytes old.order parts s.spelling spelled;
+      spelling = one.spelling;
+      spelled = (one.spelled.order_is, one.spelled.spelled);
+      whole = one.whole;
+      place = one.place;
+      order = one.order;
     }
 
 -- Where a unit of version 5 was read, no older one is read from the same bytes.
@@ -145,23 +119,6 @@ only_five order bytes five v at next bt after here there r first s second =
     (q.spelled.order_is ∙ there, subst (λ (z : List ℕ). OlderBytes h v.program.now z) other q.spelled.spelled)
 
 -- ---- what was written anew
-
--- What was added is the unit of version 5 that says what the unit says that was passed.
-pub unit_upgraded : (unit : OlderUnit) (size : ℕ) (directory old_text new_text : List ℕ) (old new : At) (is_size : IsAddressSize size)
-    (r : ReadsOlder unit old new) → AddsUpgraded unit size directory old_text new_text
-    → (bytes : List ℕ) × (new_text ≡ old_text ++ bytes) × IsUpgradedUnit old.order size directory (r.read size is_size).spelling bytes
-unit_upgraded unit size directory old_text new_text old new is_size r a =
-    let u = a r.directories r.files r.lie in
-    let h = unit_header unit size r.directories r.files in (
-      u.bytes,
-      u.joined,
-      record {
-        header = h;
-        program = unit.program.now;
-        older = (r.read size is_size).spelled;
-        newer = subst (λ (o : Order). HeaderBytesIn o (upgraded directory h, unit.program.now) u.bytes) r.order_is u.spelled;
-      },
-    )
 
 -- What was added for a unit fits its format, however the unit is read again from the same bytes.
 pub one_fit : (order : Order) (u v : OlderUnit) (at next bt after : At) (size : ℕ) (directory old new bytes : List ℕ) → at.order ≡ order

@@ -19,7 +19,8 @@ use Rattle.lnt_older.specs.OlderBytes.{directory_pairs, file_pairs}
 use Rattle.lnt_older.specs.OlderFields.{number_fields}
 use Rattle.lnt_older.specs.OlderUnits.{IsOlderUnit, unit_header}
 use Rattle.lnt_older.specs.Upgraded.{CountedTable, directory_head, file_head, from_zero, upgraded}
-use Rattle.lnt_older.specs.Upgrading.{AddsFiles, AddsTable, AddsUpgraded, AreUpgradedFields, HasFiles, IsCountFromZero, IsFileZero, IsTooLong}
+use Rattle.lnt_older.specs.Upgrading.{AddsFiles, AddsTable, AddsUpgraded, AreUpgradedFields, HasFiles}
+use Rattle.lnt_older.specs.Upgrading.{IsCountFromZero, IsFileZero, IsTooLong}
 use Rattle.lnt_older.specs.declared.unit.OlderUnit.{OlderUnit}
 use Rattle.lnt_older.specs.declared.version.OlderVersion.TheVariants.{Four}
 use Rattle.lnt_older.proofs.TableLemmas.{directory_spelled, each_append, each_listed, four_pairs, listed_few, one_pair, table_spelled}

@@ -1,21 +1,20 @@
 -- One unit that is written anew.
-use Rattle.std.proofs.Common.{◌≡◌, ◌∙◌, ℕ, ◌+◌, List, [], ◌∷◌, ◌++◌, length, refl, sym, ap, subst, arith, append_assoc}
+use Rattle.std.proofs.Common.{◌≡◌, ◌∙◌, ℕ, List, ◌++◌, refl, sym, ap, subst}
+use Rattle.std.proofs.lemmas.List.{append_cancel_right}
 use Rattle.lnt_wire.specs.At.{At}
-use Rattle.lnt_wire.specs.Reading.{Reads}
 use Rattle.lnt_wire.specs.declared.format.Order.{Order}
 use Rattle.lnt_header.specs.HeaderRules.{IsAddressSize}
 use Rattle.lnt_header_bytes.specs.HeaderBytes.{HeaderBytesIn}
-use Rattle.lnt_older.specs.OlderUnits.{AnyBytes, AnyParts, ReadsFive, ReadsOlder, five_parts, older_parts, older_spelling, unit_header}
+use Rattle.lnt_older.specs.OlderUnits.{ReadsFive, ReadsOlder, five_parts, older_parts, older_spelling, unit_header}
 use Rattle.lnt_older.specs.OlderBytes.{OlderBytesIn}
 use Rattle.lnt_older.specs.Upgraded.{upgraded}
-use Rattle.lnt_older.proofs.UpgradeLaws.{one_fit, only_five}
-use Rattle.std.proofs.lemmas.List.{append_cancel_right}
 use Rattle.lnt_older.specs.Upgrading.{AddsUpgraded, IsTooLong}
 use Rattle.lnt_older.specs.declared.unit.OlderUnit.{OlderUnit}
 use Rattle.lnt_older.specs.Directories.{directory_at}
-use Rattle.lnt_older.specs.Sections.{HasAddressSize, UpgradedBytes}
-use Rattle.lnt_older.specs.Walking.{AddsAny, Fits, IsLargeNext}
+use Rattle.lnt_older.specs.SectionSteps.{IsLargeNext}
+use Rattle.lnt_older.specs.Upgradable.{AddsAny}
 use Rattle.lnt_older.specs.declared.directories.Directory.{Directory}
+use Rattle.lnt_older.proofs.UpgradeLaws.{five_read, older_read, one_fit, only_five}
 
 -- ---- one unit
 
@@ -23,12 +22,16 @@ pub five_added : (size : ℕ) (directories : List Directory) (at next : At) (fiv
     → new ≡ old ++ five → AddsAny size directories at next old new
 five_added size directories at next five old new r added = record {
   parts = five_parts r.format r.body;
-  read = record { spelling = r.read.spelling; spelled = r.read.spelled; whole = r.read.whole; place = r.read.place; order = r.read.order };
-  size = tt;
-  bytes = r.read.spelling;
-  upgraded = r.read.spelled;
+  read = five_read five at next r;
+  can = record {
+    spelled = r.read.spelled;
+    size = tt;
+    fits = λ unit bt after same whole older long.
+        only_five at.order r.read.spelling five unit at next bt after refl same r r.read.whole older whole;
+    newer = r.read.spelling;
+    upgraded = r.read.spelled;
+  };
   joined = added ∙ ap (λ (b : List ℕ). old ++ b) r.bytes_are;
-  fits = λ unit bt after same whole older long. only_five at.order r.read.spelling five unit at next bt after refl same r r.read.whole older whole;
 }
 
 pub older_added : (size : ℕ) (directories : List Directory) (directory : List ℕ) (unit : OlderUnit) (at next : At) (old new : List ℕ)
@@ -42,20 +45,18 @@ older_added size directories directory unit at next old new is_size r here added
     let a = added_here r.directories r.files r.lie in
     record {
       parts = older_parts header unit.program.now;
-      read = record {
-        spelling = one.spelling;
+      read = older_read unit size at next is_size r;
+      can = record {
         spelled = (one.spelled.order_is, one.spelled.spelled);
-        whole = one.whole;
-        place = one.place;
-        order = one.order;
+        size = one.spelled.size_is;
+        fits = λ v bt after same whole older long.
+            one_fit at.order unit v at next bt after size (directory_at directories at.place) old new one.spelling refl same is_size r
+            one.whole older whole added_here long;
+        newer = a.bytes;
+        upgraded = subst (λ (o : Order). HeaderBytesIn o (upgraded (directory_at directories at.place) header, unit.program.now) a.bytes)
+            r.order_is a.spelled;
       };
-      size = one.spelled.size_is;
-      bytes = a.bytes;
-      upgraded = subst (λ (o : Order). HeaderBytesIn o (upgraded (directory_at directories at.place) header, unit.program.now) a.bytes)
-          r.order_is a.spelled;
       joined = a.joined;
-      fits = λ v bt after same whole older long. one_fit at.order unit v at next bt after size (directory_at directories at.place) old new
-          one.spelling refl same is_size r one.whole older whole added_here long;
     }
 
 -- ---- a unit that is too long

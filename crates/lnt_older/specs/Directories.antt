@@ -1,7 +1,8 @@
 -- The compilation directories of older units: comma-separated values with a record for each of some of these units. DWARF says the
 -- directory of a unit in .debug_info alone (DWARF 4, section 3.1.1), and a header of version 5 has it as directory 0.
 --     older   the offsets of the older units of a section, in their order
-use Rattle.std.specs.Prelude.{◌≡◌, ◌==◌, ℕ, ◌-◌, ◌<◌, List, [], ◌∷◌, ◌++◌, Option, Some, None, IfSome, codes, get_or, length, map, suc, zero}
+use Rattle.std.specs.Prelude.{◌≡◌, ◌==◌, ℕ, ◌-◌, ◌<◌, zero, suc, List, [], ◌∷◌, ◌++◌, get_or, length, map}
+use Rattle.std.specs.Prelude.{Option, Some, None, IfSome, codes}
 use Rattle.std.specs.List.{AllPairs, AllZip, Any, find}
 use Rattle.std.specs.Option.{option_map_or}
 use Rattle.lnt_header.specs.Joins.{AreRising}

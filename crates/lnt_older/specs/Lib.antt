@@ -7,10 +7,11 @@ pub mod ListReading
 pub mod OlderBytes
 pub mod OlderFields
 pub mod OlderUnits
+pub mod SectionSteps
 pub mod Sections
 pub mod UnitReading
+pub mod Upgradable
 pub mod Upgraded
 pub mod Upgrades
 pub mod Upgrading
 pub mod Versions
-pub mod Walking

@@ -10,10 +10,9 @@ use Rattle.lnt_header.specs.HeaderRules.{single_bytes}
 use Rattle.lnt_header.specs.Joins.{Each}
 use Rattle.lnt_header.specs.declared.header.Entry.{Entry}
 use Rattle.lnt_header.specs.declared.header.HeaderParts.{HeaderParts}
-use Rattle.lnt_header_bytes.specs.HeaderBytes.{HeaderBytesIn}
 use Rattle.lnt_header_bytes.specs.Layouts.{entry_of}
 use Rattle.lnt_header_bytes.specs.TableBytes.{EntryBytes}
-use Rattle.lnt_older.specs.OlderBytes.{file_pairs, OlderBytesIn}
+use Rattle.lnt_older.specs.OlderBytes.{file_pairs}
 
 -- ---- what it says
 
@@ -24,14 +23,6 @@ from_zero files = take 1 files ++ files
 -- the header in version 5, of a unit that was compiled in this directory: the numbers, the program and all else stay
 abbrev pub upgraded : List ℕ → HeaderParts → HeaderParts
 upgraded directory h = record h { directories = entry_of (Text directory ∷ []) ∷ h.directories; files = from_zero h.files }
-
--- The new bytes are a unit of version 5 that says what the older unit of the old bytes says, whose addresses have this size, and which
--- was compiled in this directory: its header in version 5, and its program byte for byte.
-pub record IsUpgradedUnit (order : Order) (address_size : ℕ) (directory old new : List ℕ) : Type 0 where
-  pub header : HeaderParts
-  pub program : List ℕ
-  pub older : OlderBytesIn order address_size (header, program) old
-  pub newer : HeaderBytesIn order (upgraded directory header, program) new
 
 -- ---- its bytes, where entries are copied
 

@@ -27,25 +27,3 @@ IsUpgradeFault order address_size section text (TooLarge offset) =
     (directories : List Directory) × HasUnits order section × AreListed order section text directories
     × IsLargeAt order address_size directories section offset
 IsUpgradeFault order address_size section text Memory = Unit {0}
-
--- ---- private: by parts
-
-abbrev pub IsUnitFault : Order → List ℕ → UpgradeFault → Type 0
-IsUnitFault order section (Malformed fault) = IsBroken order section fault
-IsUnitFault order section Memory = Unit {0}
-IsUnitFault order section other = ⊥
-
--- the directories for units at these offsets
-abbrev pub AreListedFor : List ℕ → Option (List ℕ) → List Directory → Type 0
-AreListedFor older None directories = directories ≡ []
-AreListedFor older (Some text) directories = IsDirectoryFile older text directories
-
-abbrev pub IsListFault : List ℕ → Option (List ℕ) → UpgradeFault → Type 0
-IsListFault older (Some text) (Directories place) = IsBadRecord older text place
-IsListFault older text Memory = Unit {0}
-IsListFault older text other = ⊥
-
-abbrev pub IsSizeFault : Order → ℕ → List Directory → List ℕ → UpgradeFault → Type 0
-IsSizeFault order address_size directories section (TooLarge offset) = IsLargeAt order address_size directories section offset
-IsSizeFault order address_size directories section Memory = Unit {0}
-IsSizeFault order address_size directories section other = ⊥

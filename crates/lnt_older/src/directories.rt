@@ -5,8 +5,8 @@ ghost use Rattle.lnt_header.specs.Joins.{AreRising};
 ghost use Rattle.csv.specs.Records.{fields_of};
 ghost use Rattle.lnt_records.specs.Reading.{HasRead};
 ghost use Rattle.lnt_records.specs.Table.{BeginsWith, Fields};
-ghost use Rattle.lnt_older.specs.Directories.{IsDirectoryFile, IsDirectoryFault, IsAdded, IsDirectoryRecord, IsLastUnit, IsNext, IsUnitOf, MayFollow, directory_at};
-ghost use Rattle.lnt_older.specs.Directories.{AreDirectories, directory_names};
+ghost use Rattle.lnt_older.specs.Directories.{AreDirectories, IsAdded, IsDirectoryFault, IsDirectoryFile, IsDirectoryRecord};
+ghost use Rattle.lnt_older.specs.Directories.{IsLastUnit, IsNext, IsUnitOf, MayFollow, directory_at, directory_names};
 ghost use Rattle.lnt_older.specs.declared.directories.Directory.{Directory as Spec};
 
 use csv::{ByteRecord, Reader};

@@ -6,8 +6,9 @@ ghost use Rattle.lnt_wire.specs.Bytes.{Extends};
 ghost use Rattle.lnt_header.specs.HeaderRules.{IsAddressSize};
 ghost use Rattle.lnt_older.specs.Directories.{directory_at};
 ghost use Rattle.lnt_older.specs.Sections.{HasOlder};
-ghost use Rattle.lnt_older.specs.Upgrades.{AreListed, AreListedFor, HasUnits, IsListFault, IsSizeFault, IsUnitFault, IsUpgradeFault};
-ghost use Rattle.lnt_older.specs.Walking.{AddsAny, AreSound, CanBeLeft, CanUpgrade, IsLargeNext, IsUnitNext};
+ghost use Rattle.lnt_older.specs.SectionSteps.{AreListedFor, IsLargeNext, IsListFault, IsSizeFault, IsUnitFault, IsUnitNext};
+ghost use Rattle.lnt_older.specs.Upgradable.{AddsAny, AreSound, CanBeLeft, CanUpgrade};
+ghost use Rattle.lnt_older.specs.Upgrades.{AreListed, HasUnits, IsUpgradeFault};
 
 use crate::directories::{DirectoriesFault, Directory, directory_of, read_directories};
 use crate::{AnyUnit, append_upgraded_unit, take_any_unit};
@@ -177,7 +178,7 @@ fn append_unit(
 /// Adds the unit of version 5 for the unit at the cursor, and moves the cursor past that unit, in a section of which each unit can be
 /// written anew (`judge_upgrade`). The caller sees to it that some bytes are left. It fails only if memory runs out. Then a part of
 /// the unit may be there.
-#[tactic(auto, using(crate::proofs::WritingLaws::can_next, crate::proofs::WritingLaws::can_after, crate::proofs::WritingLaws::never_large))]
+#[tactic(auto, using(crate::proofs::WritingLaws::can_next, crate::proofs::WritingLaws::never_large))]
 pub fn upgrade_next(
     alloc: Global,
     cursor: &mut Cursor<'_>,

@@ -27,15 +27,4 @@ impl OlderVersion {
             _ => None,
         }
     }
-
-    /// The number by which a unit names the version.
-    pub fn number(self) -> u16
-        ensures { result ≡ version_number self }
-    {
-        match self {
-            OlderVersion::Two => 2,
-            OlderVersion::Three => 3,
-            OlderVersion::Four => 4,
-        }
-    }
 }

@@ -11,7 +11,8 @@ returns-else-is_err c =
     record {
       directory = c.in-Some.directory;
       is_record = found.0;
-      follows = may_follow c.args.older.now c.args.directories.now.items c.last_unit-before.result c.in-Some.directory c.requires.rising last found.1;
+      follows = may_follow c.args.older.now c.args.directories.now.items c.last_unit-before.result c.in-Some.directory c.requires.rising
+          last found.1;
       added = rw good at c.push.ensures.items;
     }
 

@@ -5,9 +5,10 @@ use Rattle.lnt_older.proofs.DirectoryLemmas.{columns_found}
 use Rattle.lnt_older.proofs.directories.read_columns.Goals as goal
 
 pub returns-then-not-branch : goal.returns-then-not-branch
-returns-then-not-branch c bytes none x = no_record bytes directory_names (rw c.if-not-branch.true at c.in_ok-read_next.ensures.read bytes [] none) x
+returns-then-not-branch c bytes none x =
+    no_record bytes directory_names (rw c.if-not-branch.true at c.in_ok-read_next.ensures.read bytes [] none) x
 
 pub returns : goal.returns
 returns c bytes none =
-    columns_found c.names_columns.result c.read_next.new.reader bytes _ (rw c.if-not-branch.false at c.in_ok-read_next.ensures.read bytes [] none)
-    c.names_columns.ensures
+    columns_found c.names_columns.result c.read_next.new.reader bytes _
+    (rw c.if-not-branch.false at c.in_ok-read_next.ensures.read bytes [] none) c.names_columns.ensures

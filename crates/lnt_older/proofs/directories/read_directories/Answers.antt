@@ -8,8 +8,11 @@ pub returns-then-not-branch-clause-err : goal.returns-then-not-branch-clause-err
 returns-then-not-branch-clause-err c = rw c.if-not-branch.true at c.in_ok-read_columns.ensures c.args.text.now c.reader_of-reader.ensures
 
 pub loop-directories-init : goal.loop-directories-init
-loop-directories-init c =
-    ([], rw c.if-not-branch.false at c.in_ok-read_columns.ensures c.args.text.now c.reader_of-reader.ensures, rw c.new-directories.ensures.items (none_yet c.args.older.now))
+loop-directories-init c = (
+  [],
+  rw c.if-not-branch.false at c.in_ok-read_columns.ensures c.args.text.now c.reader_of-reader.ensures,
+  rw c.new-directories.ensures.items (none_yet c.args.older.now),
+)
 
 pub loop-directories-preserved : goal.loop-directories-preserved
 loop-directories-preserved c =

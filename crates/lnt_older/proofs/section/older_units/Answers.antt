@@ -1,6 +1,7 @@
-use Rattle.std.proofs.Common.{◌≡◌, true, rules}
+use Rattle.std.proofs.Common.{◌≡◌, ◌∙◌, true, length, sym, ap, arith, rules}
 use Rattle.std.specs.Result.{is_ok}
-use Rattle.lnt_older.proofs.SectionLemmas.{five_long, five_passed, older_long, older_passed}
+use Rattle.std.proofs.lemmas.Bool.{eqb-true}
+use Rattle.lnt_older.proofs.SectionLemmas.{five_long, five_passed, older_found, older_long, older_passed}
 use Rattle.lnt_older.proofs.section.older_units.Goals as goal
 
 pub loop-cursor-preserved-in-Ok-Five : goal.loop-cursor-preserved-in-Ok-Five
@@ -16,3 +17,8 @@ loop-cursor-preserved c =
     older_passed c.args.order c.args.bytes.now c.loop-cursor.cursor c.take_any_unit.new.cursor c.loop-cursor.older.items
     c.push.new.self.items c.place-offset.result c.in-Ok-Older.field-0-0 c.loop-cursor.invariant read c.place-offset.ensures.value
     (rw good at c.push.ensures.items)
+
+pub returns-clause-ok : goal.returns-clause-ok
+returns-clause-ok c =
+    older_found c.args.order c.args.bytes.now c.loop-cursor.cursor c.loop-cursor.older.items c.loop-cursor.invariant
+    (omega (arith, eqb-true _ _ (sym c.is_empty.ensures ∙ c.loop-cursor-test.false), ap length c.rest.ensures))

@@ -1,5 +1,5 @@
 use Rattle.std.proofs.Common.{length}
-use Rattle.lnt_older.specs.Walking.{OlderTo}
+use Rattle.lnt_older.proofs.SectionLemmas.{OlderTo}
 use Rattle.lnt_older.proofs.section.older_units.Given as goal
 
 abbrev pub invariant-loop-cursor : goal.invariant-loop-cursor

@@ -1,0 +1,59 @@
+-- Which units can be written anew, which of them are left at a cursor, and what it is to write one. Public contracts speak of all of it.
+use Rattle.std.specs.Prelude.{◌≡◌, ℕ, List, ◌++◌}
+use Rattle.lnt_wire.specs.At.{At}
+use Rattle.lnt_wire.specs.FormBytes.{HasNoZero}
+use Rattle.lnt_wire.specs.Reading.{Reads}
+use Rattle.lnt_wire.specs.declared.format.Order.{Order}
+use Rattle.lnt_header.specs.Joins.{PlacedFrom}
+use Rattle.lnt_older.specs.OlderUnits.{AnyBytes, AnyParts, ReadsOlder}
+use Rattle.lnt_older.specs.Upgrading.{IsTooLong}
+use Rattle.lnt_older.specs.declared.unit.OlderUnit.{OlderUnit}
+use Rattle.lnt_older.specs.Directories.{AreDirectories, directory_at}
+use Rattle.lnt_older.specs.Sections.{HasAddressSize, UpgradedBytes}
+use Rattle.lnt_older.specs.declared.directories.Directory.{Directory}
+
+-- ---- directories
+
+-- The units of the directories rise, and no path has a zero byte.
+pub record AreSound (directories : List Directory) : Type 0 where
+  pub rising : AreDirectories directories
+  pub no_zero : (offset : ℕ) → HasNoZero (directory_at directories offset)
+
+-- ---- what a unit needs
+
+-- However the unit is read from these bytes, if it is an older one, the unit of version 5 isn't too long.
+abbrev pub Fits : Order → ℕ → List ℕ → List ℕ → Type 0
+Fits order address_size directory bytes =
+    (unit : OlderUnit) (at next : At) → at.order ≡ order → at.rest ≡ bytes ++ next.rest → ReadsOlder unit at next
+    → IsTooLong unit address_size directory → ⊥
+
+-- The bytes are those of the unit, which can be written anew.
+pub record CanBeUpgraded (order : Order) (address_size : ℕ) (directories : List Directory) (unit : ℕ × AnyParts) (bytes : List ℕ) : Type 0
+  where
+    pub spelled : AnyBytes order unit.1 bytes
+    pub size : HasAddressSize address_size unit
+    pub fits : Fits order address_size (directory_at directories unit.0) bytes
+    pub newer : List ℕ
+    pub upgraded : UpgradedBytes order directories unit newer
+
+-- Each unit of the section can be written anew.
+abbrev pub CanUpgrade : Order → ℕ → List Directory → List ℕ → Type 0
+CanUpgrade order address_size directories section =
+    (units : List (ℕ × AnyParts)) × PlacedFrom (CanBeUpgraded order address_size directories) 0 units section
+
+-- ---- at a cursor
+
+-- Items are left from a cursor on, each of which is so (Says) in the cursor's byte order.
+abbrev pub AreLeft : {A : Type 0} → (Order → ℕ × A → List ℕ → Type 0) → At → Type 0
+AreLeft {A} Says at = (items : List (ℕ × A)) × PlacedFrom (Says at.order) at.place items at.rest
+
+-- Units that can be written anew are left.
+abbrev pub CanBeLeft : ℕ → List Directory → At → Type 0
+CanBeLeft address_size directories at = AreLeft (λ order. CanBeUpgraded order address_size directories) at
+
+-- The unit at a cursor, which can be written anew, was read, and the one of version 5 was added.
+pub record AddsAny (address_size : ℕ) (directories : List Directory) (old new : At) (text_old text_new : List ℕ) : Type 0 where
+  pub parts : AnyParts
+  pub read : Reads (AnyBytes old.order) parts old new
+  pub can : CanBeUpgraded old.order address_size directories (old.place, parts) read.spelling
+  pub joined : text_new ≡ text_old ++ can.newer
