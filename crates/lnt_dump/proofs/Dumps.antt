@@ -233,8 +233,8 @@ units_more order shown start mid now old then new of_reader next_order offset af
       units = told.units ++ (frame, parts) ∷ [];
       read = read_unit order shown start mid now told.units of_reader next_order offset after unit frame parts ordered told.read n;
       each = all_push (IsDumpedUnit order shown) told.units (frame, parts) told.each
-          (dumped_one order shown start mid now (map (λ unit. unit.0) told.units) of_reader offset after unit frame parts told.read n spelled
-          runs);
+          (dumped_one order shown start mid now (map (λ unit. unit.0) told.units) of_reader offset after unit frame parts told.read n
+          spelled runs);
       printed = subst (Appends old new) (push_lines shown told.units (frame, parts))
           (Appends-trans old then new (flat_map (unit_lines shown) told.units) (unit_lines shown (frame, parts)) told.printed
           (subst (Appends then new) text_is one.printed));
@@ -261,7 +261,8 @@ no_frame : (order : Order) (shown : DumpParts) (start now : Option (List ℕ)) (
     → IfSome now (λ rest. IsDumpFault order shown offset rest (Malformed fault))
 no_frame order shown start None frames of_reader offset fault read ends = tt
 no_frame order shown start (Some rest) frames of_reader offset fault read ends =
-    (ends.0, subst (λ (o : Order). BrokenUnit o fault offset rest) read.so_far.order_is (fault_of_section.alone of_reader offset rest fault ends))
+    let broken = fault_of_section.alone of_reader offset rest fault ends in
+    (ends.0, subst (λ (o : Order). BrokenUnit o fault offset rest) read.so_far.order_is broken)
 
 -- a fault follows them
 ends_faulty : (order : Order) (shown : DumpParts) (start now old then new : Option (List ℕ)) (of_reader : Order) (offset : ℕ)

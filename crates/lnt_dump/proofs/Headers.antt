@@ -54,8 +54,9 @@ pub header_told : {A E : Type 0} (result : Result A E) (frame : Frame) (header n
     → OnOk result (IsPaged (page ++ header_lines frame header) old new page3)
 header_told (Err error) frame header numbers directories files page page1 page2 page3 old now new same dp ds fp fs added p q = q
 header_told (Ok done) frame header numbers directories files page page1 page2 page3 old now new same dp ds fp fs added p q =
-    subst (λ (z : List ℕ). IsPaged z old new page3) (all_parts frame header numbers directories (table_lines (codes "file") files) page page1 same dp ds
-    (table_is (codes "file") files header.file_format header.files fp fs) added)
+    let all = all_parts frame header numbers directories (table_lines (codes "file") files) page page1 same dp ds
+    (table_is (codes "file") files header.file_format header.files fp fs) added in
+    subst (λ (z : List ℕ). IsPaged z old new page3) all
     (paged_more (page1 ++ table_lines (codes "dir") directories) (table_lines (codes "file") files) page2 page3 old now new p q)
 
 -- of the lines of directories a front was written

@@ -8,6 +8,7 @@ pub mod FramesAhead
 pub mod Headers
 pub mod Lines
 pub mod Operands
+pub mod PagedWalks
 pub mod Pages
 pub mod RowLemmas
 pub mod RunWalks

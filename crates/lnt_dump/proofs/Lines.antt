@@ -54,7 +54,8 @@ digits_more bytes rest piece more count old now new is split printed = record {
 }
 
 pub digits_all : {A E : Type 0} (result : Result A E) (bytes rest : List ℕ) (old now new : Option (List ℕ))
-    → AreDigitsTold bytes rest old now → OnOk result (Appends now new (encode_lower rest)) → OnOk result (Appends old new (encode_lower bytes))
+    → AreDigitsTold bytes rest old now → OnOk result (Appends now new (encode_lower rest))
+    → OnOk result (Appends old new (encode_lower bytes))
 digits_all (Ok done) bytes rest old now new is printed =
     let text : encode_lower is.front ++ encode_lower rest ≡ encode_lower bytes =
     sym (digits_join _ is.front rest) ∙ ap encode_lower (sym is.joined) in
@@ -80,8 +81,8 @@ numbered_front line first (x ∷ xs) ys =
     )
 
 -- the text that a call added, after that of others before it
-pub text_more : {A E : Type 0} (result : Result A E) (old mid new front back : List ℕ) → mid ≡ old ++ front → OnOk result (new ≡ mid ++ back)
-    → OnOk result (new ≡ old ++ (front ++ back))
+pub text_more : {A E : Type 0} (result : Result A E) (old mid new front back : List ℕ) → mid ≡ old ++ front
+    → OnOk result (new ≡ mid ++ back) → OnOk result (new ≡ old ++ (front ++ back))
 text_more (Ok done) old mid new front back before here =
     here ∙ ap (λ (z : List ℕ). z ++ back) before ∙ append_assoc old front back
 text_more (Err error) old mid new front back before here = here

@@ -1,5 +1,6 @@
 -- The program of a valid unit, run operation by operation, and the lines of its rows.
-use Rattle.std.proofs.Common.{◌≡◌, ◌∙◌, ℕ, zero, suc, ◌+◌, ◌^◌, ◌<◌, ◌≤◌, Bool, true, false, List, [], ◌∷◌, ◌++◌, length, take, drop, get_or, refl}
+use Rattle.std.proofs.Common.{◌≡◌, ◌∙◌, ℕ, zero, suc, ◌+◌, ◌^◌, ◌<◌, ◌≤◌, Bool, true, false, List, [], ◌∷◌, ◌++◌}
+use Rattle.std.proofs.Common.{length, take, drop, get_or, refl}
 use Rattle.std.proofs.Common.{sym, ap, subst, arith, append-nil, append_assoc, take_all, take-append-drop}
 use Rattle.std.specs.Prelude.{Option, Some, None, not}
 use Rattle.lnt_wire.specs.declared.fault.Fault.{Fault}
@@ -137,7 +138,8 @@ ran_next unit k run run' item made op r more few is stands on =
       lines = lines_more unit k r.lines (subst (λ (h : HeaderParts). IsLine (line h (done unit.ops (k + 1)))) header after.line);
       ended = cut.ended;
       left = cut.left;
-      cut = subst (λ (rows : List Row). IsCut rows cut.ended cut.left) (rows_taken unit k run run' item made op r more is stands on) cut.cut;
+      cut = subst (λ (rows : List Row). IsCut rows cut.ended cut.left) (rows_taken unit k run run' item made op r more is stands on)
+          cut.cut;
       open_is = on.open_is ∙ cut.open_is;
     }
 
@@ -209,7 +211,8 @@ running_next view ops walk walk' run run' item made header is r step on =
     record {
       k = r.k + 1;
       at = n.at;
-      ran = ran_next (unit_of view ops) r.k run run' item made n.op r.ran n.more (stands_room view ops r.k item walk walk' is r.at step) n.is
+      ran = ran_next (unit_of view ops) r.k run run' item made n.op r.ran n.more
+          (stands_room view ops r.k item walk walk' is r.at step) n.is
           n.stands on;
     }
 
@@ -301,7 +304,8 @@ row_pushed : (before : List ℕ) (list : List Row) (index : ℕ) (row : Row) →
 row_pushed before list index row is =
     let count : index ≡ 0 + length list = omega (arith, is) in
     append_assoc before (numbered row_line 0 list) (row_line index row)
-    ∙ ap (λ (z : List ℕ). before ++ z) (ap (λ (n : ℕ). numbered row_line 0 list ++ row_line n row) count ∙ sym (numbered_push row_line 0 list row))
+    ∙ ap (λ (z : List ℕ). before ++ z)
+    (ap (λ (n : ℕ). numbered row_line 0 list ++ row_line n row) count ∙ sym (numbered_push row_line 0 list row))
 
 -- an operation and the line of its row
 pub rows_more : (view : View) (ops : List Op) (index : ℕ) (walk walk' : Walk) (run run' : RunState) (item : OpView) (made : Option Row)

@@ -1,60 +1,101 @@
 -- A section that is converted and handed to a writer, page by page.
-use Rattle.std.proofs.Common.{◌≡◌, ℕ, ◌<◌, List, [], ◌++◌, length, Option, ap, subst, sym, ◌∙◌}
-use Rattle.std.proofs.KnownBytes.{Appends-nil, Appends-trans}
-use Rattle.std.proofs.lemmas.List.{append-nil}
-use Rattle.std.specs.Io.KnownBytes.{Appends}
+use Rattle.std.proofs.Common.{◌≡◌, ℕ, ◌+◌, ◌<◌, List, [], ◌∷◌, ◌++◌, length, Option, refl, sym, ap, subst, append_assoc, append-nil}
 use Rattle.lnt_wire.specs.At.{At}
+use Rattle.lnt_wire.specs.Bytes.{IsShortest}
 use Rattle.lnt_wire.specs.declared.format.Format.{Format}
 use Rattle.lnt_wire.specs.declared.format.Order.{Order}
-use Rattle.lnt_unit.specs.ConvertedUnits.{ConvertsUnit}
+use Rattle.lnt_header.specs.Conversion.{unit_in_format}
+use Rattle.lnt_header.specs.Joins.{Each, PlacedFrom}
+use Rattle.lnt_header.specs.declared.unit_parts.UnitParts.{UnitParts}
 use Rattle.lnt_unit.specs.ConversionSteps.{ConvertedTo}
-use Rattle.lnt_unit.specs.Converting.{IsConverted}
-use Rattle.lnt_unit.proofs.ConvertedLaws.{converted_none, converted_more, converted_all, converted_long}
-use Rattle.lnt_dump.specs.Printed.{IsPrintedIn}
+use Rattle.lnt_unit.specs.ConvertedUnits.{Converts, ConvertsUnit, IsNextStop}
+use Rattle.lnt_unit.specs.Converting.{IsConverted, units_in_format}
+use Rattle.lnt_unit.specs.UnitBytes.{UnitBytesIn, UnitsFrom}
+use Rattle.lnt_unit.specs.declared.convert.ConvertFault.{ConvertFault}
+use Rattle.lnt_unit.specs.declared.convert.ConvertFault.TheVariants.{Memory}
+use Rattle.lnt_unit.proofs.ConvertedLaws.{converted_all, converted_long, converted_more, converted_none, stops_by_memory}
+use Rattle.lnt_unit.proofs.UnitLaws.{one_spelling, unit_is_some}
+use Rattle.lnt_older.specs.Upgradable.{AreLeft}
+use Rattle.lnt_older.proofs.PlacedLaws.{left_after, left_all}
+use Rattle.lnt_dump.proofs.PagedWalks.{IsWalk, PagedTo, walk_begun}
 
--- The units up to a cursor were converted: what the writer has gained, and what waits in the page.
-pub record PrintedTo (order : Order) (section : List ℕ) (format : Format) (to : Order) (at : At) (old now : Option (List ℕ))
-    (page : List ℕ) : Type 0 where
-  pub done : List ℕ
-  pub gained : Appends old now done
-  pub so : ConvertedTo order section format to at (done ++ page)
+-- The bytes are those of the unit, which has an encoding in this format and order.
+pub record CanBeConverted (order : Order) (format : Format) (to : Order) (unit : ℕ × UnitParts) (bytes : List ℕ) : Type 0 where
+  pub spelled : UnitBytesIn order unit.1 bytes
+  pub newer : List ℕ
+  pub put : IsShortest (UnitBytesIn to) (unit_in_format unit.1 format to) newer
 
-pub section_begun : (order : Order) (section : List ℕ) (format : Format) (to : Order) (at : At) (old : Option (List ℕ)) (page : List ℕ)
-    → at.rest ≡ section → at.place ≡ 0 → at.order ≡ order → page ≡ []
-    → PrintedTo order section format to at old old page
-section_begun order section format to at old page rest place ordered empty =
-    record {
-      done = [];
-      gained = Appends-nil old;
-      so = subst (ConvertedTo order section format to at) (sym empty) (converted_none order section format to at rest place ordered);
-    }
+-- The units up to a cursor were converted to this text, and those that are left can be converted.
+pub record ConvertingTo (order : Order) (section : List ℕ) (format : Format) (to : Order) (at : At) (text : List ℕ) : Type 0 where
+  pub done : ConvertedTo order section format to at text
+  pub left : AreLeft (λ (o : Order). CanBeConverted order format to) at
 
-pub section_more : (order : Order) (section : List ℕ) (format : Format) (to : Order) (at next : At) (old now : Option (List ℕ))
-    (page new : List ℕ) → PrintedTo order section format to at old now page
-    → ConvertsUnit order format to at next page new → PrintedTo order section format to next old now new
-section_more order section format to at next old now page new p c =
-    record { done = p.done; gained = p.gained; so = converted_more order section format to p.done at next page new p.so c }
+module _ (order : Order) (section : List ℕ) (format : Format) (to : Order) where
+  can_convert : (offset : ℕ) (units : List (ℕ × UnitParts)) (bytes newer : List ℕ) → UnitsFrom order offset units bytes
+      → Each (IsShortest (UnitBytesIn to)) (units_in_format units format to) newer
+      → PlacedFrom (CanBeConverted order format to) offset units bytes
+  can_convert offset [] bytes newer none all = none
+  can_convert offset (unit ∷ units) bytes newer (front, back, here, so, joined, rest) all = (
+    front,
+    back,
+    here,
+    record { spelled = so; newer = all.front; put = all.first },
+    joined,
+    can_convert (offset + length front) units back all.back rest all.second,
+  )
 
--- the page is handed to the writer
-pub section_handed_on : (order : Order) (section : List ℕ) (format : Format) (to : Order) (at : At) (old now then : Option (List ℕ))
-    (page new : List ℕ) → PrintedTo order section format to at old now page → Appends now then page → new ≡ []
-    → PrintedTo order section format to at old then new
-section_handed_on order section format to at old now then page new p w empty = record {
-  done = p.done ++ page;
-  gained = Appends-trans old now then p.done page p.gained w;
-  so = subst (ConvertedTo order section format to at) (sym (ap (λ (z : List ℕ). (p.done ++ page) ++ z) empty ∙ append-nil (p.done ++ page)))
-      p.so;
-}
+  -- with what the units are converted to that are left, the text is the section converted
+  rest_converted : (units : List (ℕ × UnitParts)) (at : At) (text : List ℕ) → ConvertedTo order section format to at text
+      → PlacedFrom (CanBeConverted order format to) at.place units at.rest
+      → (more : List ℕ) × IsConverted order section format to (text ++ more)
+  rest_converted [] at text p none = (
+    [],
+    subst (IsConverted order section format to) (sym (append-nil text)) (converted_all order section format to at text p (ap length none)),
+  )
+  rest_converted (unit ∷ units) at text p (front, back, here, so, joined, rest) =
+      let next : At = record { place = at.place + length front; rest = back; order = at.order } in
+      let one : ConvertsUnit order format to at next [] so.newer = record {
+        unit = unit.1;
+        read = record { spelling = front; spelled = so.spelled; whole = joined; place = refl; order = refl };
+        put = record { spelling = so.newer; spelled = so.put; joined = refl };
+      } in
+      let before : ConvertedTo order section format to at (text ++ []) =
+      subst (ConvertedTo order section format to at) (sym (append-nil text)) p in
+      let all = rest_converted units next (text ++ so.newer)
+      (converted_more order section format to text at next [] so.newer before one) rest in
+      (so.newer ++ all.0, subst (IsConverted order section format to) (append_assoc text so.newer all.0) all.1)
 
-pub section_printed : (order : Order) (section : List ℕ) (format : Format) (to : Order) (at : At) (old now then : Option (List ℕ))
-    (page : List ℕ) → PrintedTo order section format to at old now page → length at.rest ≡ 0
-    → Appends now then page → IsPrintedIn (IsConverted order section format to) old then
-section_printed order section format to at old now then page p ended
-    w = (
-      p.done ++ page,
-      converted_all order section format to at (p.done ++ page) p.so ended,
-      Appends-trans old now then p.done page p.gained w,
-    )
+  converting_more : (at next : At) (text old new : List ℕ) → ConvertingTo order section format to at (text ++ old)
+      → ConvertsUnit order format to at next old new → ConvertingTo order section format to next (text ++ new)
+  converting_more at next text old new p c = record {
+    done = converted_more order section format to text at next old new p.done c;
+    left = left_after (λ (o : Order). CanBeConverted order format to) (UnitBytesIn order) c.unit at next c.read
+        (unit_is_some order c.unit c.read.spelling c.read.spelled)
+        (λ unit y m so e. ((one_spelling order).one unit.1 c.unit y c.read.spelling m next.rest so.spelled c.read.spelled e).1) p.left;
+  }
+
+  pub section_walk : IsWalk (ConvertingTo order section format to) (ConvertsUnit order format to) (IsConverted order section format to)
+  section_walk = record {
+    more = converting_more;
+    all = λ at text p ended. converted_all order section format to at text p.done ended;
+    rest = λ at text p. rest_converted p.left.0 at text p.done p.left.1;
+  }
+
+  pub section_begun : (at : At) (old : Option (List ℕ)) (page : List ℕ) → Converts order section format to → at.rest ≡ section
+      → at.place ≡ 0 → at.order ≡ order → page ≡ [] → PagedTo (ConvertingTo order section format to) at old old page
+  section_begun at old page c rest place ordered empty =
+      let all = c.converted in
+      walk_begun (ConvertingTo order section format to) at old page (record {
+        done = converted_none order section format to at rest place ordered;
+        left = left_all (λ (o : Order). CanBeConverted order format to) order section at
+            (all.units, can_convert 0 all.units section c.bytes all.sound all.shortest) rest place ordered;
+      }) empty
+
+  -- only want of memory stops it
+  pub section_stops : (at : At) (old now : Option (List ℕ)) (page : List ℕ) (stop : ConvertFault) → Converts order section format to
+      → PagedTo (ConvertingTo order section format to) at old now page → 0 < length at.rest → IsNextStop order format to at stop
+      → stop ≡ Memory
+  section_stops at old now page stop c p some is = stops_by_memory order section format to at p.text stop c p.made.done some is
 
 pub unit_long : (order : Order) (format : Format) (to : Order) (at next : At) (old new : List ℕ)
     → ConvertsUnit order format to at next old new → length next.rest < length at.rest

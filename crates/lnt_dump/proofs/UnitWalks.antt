@@ -106,7 +106,8 @@ pub stands_room : (view : View) (ops : List Op) (k : ℕ) (item : OpView) (old n
 stands_room view ops k item old new is s step = omega (arith, is.room, s.few, step.shorter)
 
 -- none is refused
-pub stands_fails : (view : View) (ops : List Op) (k : ℕ) (fault : Fault) (old new : Walk) → StandsAt view ops k old → Fails fault old new → ⊥
+pub stands_fails : (view : View) (ops : List Op) (k : ℕ) (fault : Fault) (old new : Walk) → StandsAt view ops k old
+    → Fails fault old new → ⊥
 stands_fails view ops k fault old new s fails = left_fails (without_entries view.header) (drop k ops) fault old new s.left fails
 
 -- all were given

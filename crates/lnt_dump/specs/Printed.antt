@@ -17,14 +17,10 @@ use Rattle.lnt_text.specs.Texts.{malformed_text}
 abbrev pub IsPrintedIn : (List ℕ → Type 0) → Option (List ℕ) → Option (List ℕ) → Type 0
 IsPrintedIn Is old new = (text : List ℕ) × Is text × Appends old new text
 
--- the line that says which unit is too large
-abbrev pub too_large_text : ConvertFault → List ℕ
-too_large_text fault = codes "no 20 " ++ convert_fault_text fault ++ codes "\n"
-
 -- why a section isn't converted; for lack of memory nothing is printed
 abbrev pub refusal_text : ConvertFault → List ℕ
 refusal_text (Malformed fault) = malformed_text fault ++ codes "\n"
-refusal_text (TooLarge offset) = too_large_text (TooLarge offset)
+refusal_text (TooLarge offset) = codes "no 20 " ++ convert_fault_text (TooLarge offset) ++ codes "\n"
 refusal_text Memory = []
 
 -- What was appended to a writer that held these bytes is the line that says why the section isn't converted, and that is true. Lack

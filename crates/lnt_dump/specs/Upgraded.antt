@@ -12,17 +12,13 @@ use Rattle.lnt_older.specs.declared.directories.Directory.{Directory}
 use Rattle.lnt_older.specs.declared.section.UpgradeFault.{UpgradeFault}
 use Rattle.lnt_older.specs.declared.section.UpgradeFault.TheVariants.{Malformed, Directories, TooLarge, Memory}
 use Rattle.lnt_wire.specs.declared.format.Order.{Order}
-use Rattle.lnt_dump.specs.Printed.{IsPrintedIn, too_large_text}
-
--- the line that says which record of the directories isn't so
-abbrev pub bad_record_line : ℕ → List ℕ
-bad_record_line place = codes "no 44 directories record " ++ (decimal place ++ codes "\n")
+use Rattle.lnt_dump.specs.Printed.{IsPrintedIn, refusal_text}
 
 -- why a section isn't written anew; for lack of memory nothing is printed
 abbrev pub upgrade_refusal : UpgradeFault → List ℕ
 upgrade_refusal (Malformed fault) = malformed_text fault ++ codes "\n"
-upgrade_refusal (Directories place) = bad_record_line place
-upgrade_refusal (TooLarge offset) = too_large_text (convert.TooLarge offset)
+upgrade_refusal (Directories place) = codes "no 44 directories record " ++ decimal place ++ codes "\n"
+upgrade_refusal (TooLarge offset) = refusal_text (convert.TooLarge offset)
 upgrade_refusal Memory = []
 
 -- How the work on a section ends, whose file of directories has these bytes (text), if there is one: the section of version 5 that says

@@ -6,12 +6,12 @@ ghost use Rattle.lnt_io.specs.Halts.{IsPrinting};
 ghost use Rattle.lnt_io.specs.declared.status.Status.TheVariants.{Done, No};
 ghost use Rattle.lnt_unit.specs.ConvertedUnits.{Converts};
 ghost use Rattle.lnt_unit.specs.Converting.{IsConverted};
-ghost use Rattle.lnt_dump.specs.Printed.{IsConversionBegun, IsPrintedIn, IsRefusalTold, refusal_text, too_large_text};
+ghost use Rattle.lnt_dump.specs.Printed.{IsConversionBegun, IsConversionTold, IsPrintedIn, IsRefusalTold, refusal_text};
 ghost use Rattle.lnt_dump.specs.Stepping.{IsFrontIn};
 
 use crate::faults::print_fault;
-use crate::page::PAGE;
-use lnt_io::{Halt, Source, Status, read_all, write_whole};
+use crate::page::{hand_on, turn_full};
+use lnt_io::{Halt, Source, Status, print_line, read_all};
 use lnt_unit::{ConvertFault, convert_unit, judge_conversion};
 use lnt_wire::{Cursor, Format, Order};
 use std::alloc::Global;
@@ -46,15 +46,34 @@ pub fn print_converted<R: Source, W: Write>(
     ensures too_long { IsErrOf result Halt.TooLong → IsTrue (R.too_long source.new) }
 {
     let bytes = read_all(alloc, source)?;
-    if let Err(fault) = judge_conversion(alloc, &bytes, order, format, to) {
-        return print_refusal(alloc, fault, out);
+    print_conversion(alloc, &bytes, order, format, to, out)
+}
+
+// Prints the section in the format and in the byte order `to`, or the line that says why there is no such section.
+#[tactic(auto, using(crate::proofs::SectionFronts::refusal_begun))]
+fn print_conversion<W: Write>(
+    alloc: Global,
+    bytes: &[u8],
+    order: Order,
+    format: Format,
+    to: Order,
+    out: &mut W,
+) -> Result<Status, Halt>
+    ensures told { IfOk result (IsConversionTold order bytes.now format to (W.contents out.old) (W.contents out.new)) }
+    ensures begun { OnErr result (IsConversionBegun order bytes.now format to (W.contents out.old) (W.contents out.new)) }
+    ensures err { IfErr result IsPrinting }
+{
+    match judge_conversion(alloc, bytes, order, format, to) {
+        Ok(()) => {
+            print_section(alloc, bytes, order, format, to, out)?;
+            Ok(Status::Done)
+        }
+        Err(fault) => print_refusal(alloc, fault, out),
     }
-    print_section(alloc, &bytes, order, format, to, out)?;
-    Ok(Status::Done)
 }
 
 // Prints a section that converts in the format and in the byte order `to`, unit by unit, or a prefix of it.
-#[tactic(auto, using(crate::proofs::Sections::section_begun, crate::proofs::Sections::section_handed_on, crate::proofs::Sections::unit_long))]
+#[tactic(auto, using(crate::proofs::Sections::section_begun, crate::proofs::Sections::unit_long))]
 fn print_section<W: Write>(
     alloc: Global,
     bytes: &[u8],
@@ -79,17 +98,18 @@ fn print_section<W: Write>(
                 _ => unreachable!(),
             },
         }
-        if page.len() >= PAGE {
-            write_whole(out, &page)?;
-            page.clear();
-        }
+        turn_full(&mut page, out)?;
     }
-    write_whole(out, &page)?;
+    hand_on(&mut page, out)?;
     Ok(())
 }
 
 // Prints the line that says why a section isn't converted, or a prefix of it. Lack of memory has no line: it is a stop.
-fn print_refusal<W: Write>(alloc: Global, fault: ConvertFault, out: &mut W) -> Result<Status, Halt>
+pub(crate) fn print_refusal<W: Write>(
+    alloc: Global,
+    fault: ConvertFault,
+    out: &mut W,
+) -> Result<Status, Halt>
     ensures no { IfOk result (λ status. status ≡ No) }
     ensures told { OnOk result (fault ≢ ConvertFault.Memory) }
     ensures err { IfErr result IsPrinting }
@@ -98,26 +118,10 @@ fn print_refusal<W: Write>(alloc: Global, fault: ConvertFault, out: &mut W) -> R
 {
     match fault {
         ConvertFault::Malformed(fault) => print_fault(alloc, fault, out),
-        ConvertFault::TooLarge(_) => print_too_large(alloc, fault, out),
+        ConvertFault::TooLarge(_) => {
+            print_line(alloc, &format_args!("no 20 {fault}"), out)?;
+            Ok(Status::No)
+        }
         ConvertFault::Memory => Err(Halt::Memory),
     }
-}
-
-// Prints the line that says which unit is too large, or a prefix of it.
-pub(crate) fn print_too_large<W: Write>(
-    alloc: Global,
-    fault: ConvertFault,
-    out: &mut W,
-) -> Result<Status, Halt>
-    ensures no { IfOk result (λ status. status ≡ No) }
-    ensures err { IfErr result IsPrinting }
-    ensures line { OnOk result (Appends (W.contents out.old) (W.contents out.new) (too_large_text fault)) }
-    ensures front { OnErr result (AppendsFront (W.contents out.old) (W.contents out.new) (too_large_text fault)) }
-{
-    let mut line = Vec::new(alloc);
-    if writeln!(line, "no 20 {fault}").is_err() {
-        return Err(Halt::Memory);
-    }
-    write_whole(out, &line)?;
-    Ok(Status::No)
 }

@@ -4,11 +4,10 @@ ghost use Rattle.std.specs.Io.KnownBytes.{Appends, Keeps};
 ghost use Rattle.lnt_io.specs.Fronts.{AppendsFront};
 ghost use Rattle.lnt_io.specs.Halts.{IsPrinting};
 ghost use Rattle.lnt_io.specs.declared.status.Status.TheVariants.{No};
-ghost use Rattle.lnt_machine.specs.FaultTexts.{run_text};
 ghost use Rattle.lnt_text.specs.Texts.{malformed_text};
 ghost use Rattle.lnt_dump.specs.Dumps.{fault_line};
 
-use lnt_io::{Halt, Status, write_whole};
+use lnt_io::{Halt, Status, print_line};
 use lnt_machine::{RowFault, RunFault, RunLine};
 use lnt_text::MalformedLine;
 use lnt_wire::{Fault, Reason};
@@ -31,11 +30,7 @@ pub(crate) fn print_fault<W: Write>(
     if fault.reason == Reason::Memory {
         return Err(Halt::Memory);
     }
-    let mut line = Vec::new(alloc);
-    if writeln!(line, "{}", MalformedLine(fault)).is_err() {
-        return Err(Halt::Memory);
-    }
-    write_whole(out, &line)?;
+    print_line(alloc, &MalformedLine(fault), out)?;
     Ok(Status::No)
 }
 
@@ -52,29 +47,10 @@ pub(crate) fn print_unit_fault<W: Write>(
 {
     match fault {
         RowFault::Malformed(fault) => print_fault(alloc, fault, out),
-        RowFault::Run(fault) => print_run_fault(alloc, offset, fault, out),
+        RowFault::Run(RunFault::Memory) => Err(Halt::Memory),
+        RowFault::Run(fault) => {
+            print_line(alloc, &RunLine(offset, fault), out)?;
+            Ok(Status::No)
+        }
     }
-}
-
-// Prints the line that says why the program of the unit at the offset doesn't run, or a prefix of it.
-fn print_run_fault<W: Write>(
-    alloc: Global,
-    offset: u64,
-    fault: RunFault,
-    out: &mut W,
-) -> Result<Status, Halt>
-    ensures no { IfOk result (λ status. status ≡ No) }
-    ensures err { IfErr result IsPrinting }
-    ensures line { OnOk result (Appends (W.contents out.old) (W.contents out.new) (run_text offset fault ++ codes "\n")) }
-    ensures front { OnErr result (AppendsFront (W.contents out.old) (W.contents out.new) (run_text offset fault ++ codes "\n")) }
-{
-    if fault == RunFault::Memory {
-        return Err(Halt::Memory);
-    }
-    let mut line = Vec::new(alloc);
-    if writeln!(line, "{}", RunLine(offset, fault)).is_err() {
-        return Err(Halt::Memory);
-    }
-    write_whole(out, &line)?;
-    Ok(Status::No)
 }

@@ -57,7 +57,8 @@ fn put_numbers(frame: &Frame<'_>, header: &Header, text: &mut Vec<u8>) -> Result
 
 // Prints the lines of a unit and of its header's numbers.
 fn print_numbers<W: Write>(frame: &Frame<'_>, header: &Header, out: &mut W) -> Result<(), Halt>
-    ensures { OnOk result (Appends (W.contents out.old) (W.contents out.new) ((codes "unit " ++ unit_line frame.now) ++ numbers_line header.now)) }
+    ensures { OnOk result (Appends (W.contents out.old) (W.contents out.new)
+        ((codes "unit " ++ unit_line frame.now) ++ numbers_line header.now)) }
 {
     print_unit_line(frame, out)?;
     print_header_line(header, out)
@@ -126,7 +127,7 @@ fn put_line(
     ensures { OnOk result (PassesPrinting (entry_line name.now pairs.now index) format pairs.now cursor.old cursor.new
         (Some text.old.items) (Some text.new.items)) }
 {
-    if print_line(alloc, name, index, format, pairs, cursor, text).is_err() {
+    if print_entry_line(alloc, name, index, format, pairs, cursor, text).is_err() {
         return Err(Halt::Memory);
     }
     Ok(())
@@ -134,7 +135,7 @@ fn put_line(
 
 // Prints the line of the next entry, which exists, and moves past it.
 #[tactic(auto, using(crate::proofs::Entries::line_read))]
-fn print_line<W: Write>(
+fn print_entry_line<W: Write>(
     alloc: Global,
     name: &str,
     index: u64,

@@ -9,7 +9,7 @@ use lnt_io::{Halt, write_whole};
 use std::io::Write;
 
 // A page is written once it has this many bytes.
-pub(crate) const PAGE: usize = 1 << 16;
+const PAGE: usize = 1 << 16;
 
 // Writes the page if it is full, and empties it.
 #[tactic(auto, using(crate::proofs::Pages::paged_kept, crate::proofs::Pages::paged_turned))]

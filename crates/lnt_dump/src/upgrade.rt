@@ -7,15 +7,15 @@ ghost use Rattle.lnt_header.specs.HeaderRules.{IsAddressSize};
 ghost use Rattle.lnt_io.specs.Halts.{IsPrinting};
 ghost use Rattle.lnt_io.specs.declared.status.Status.TheVariants.{No};
 ghost use Rattle.lnt_older.specs.Sections.{IsUpgraded};
-ghost use Rattle.lnt_older.specs.Walking.{AreSound, CanUpgrade};
+ghost use Rattle.lnt_older.specs.Upgradable.{AreSound, CanUpgrade};
 ghost use Rattle.lnt_dump.specs.Printed.{IsPrintedIn};
 ghost use Rattle.lnt_dump.specs.Stepping.{IsFrontIn};
-ghost use Rattle.lnt_dump.specs.Upgraded.{IsUpgradeBegun, IsUpgradeTold, bad_record_line, upgrade_refusal};
+ghost use Rattle.lnt_dump.specs.Upgraded.{IsUpgradeBegun, IsUpgradeTold, upgrade_refusal};
 
-use crate::convert::print_too_large;
+use crate::convert::print_refusal;
 use crate::faults::print_fault;
 use crate::page::{hand_on, turn_full};
-use lnt_io::{Halt, Status, write_whole};
+use lnt_io::{Halt, Status, print_line};
 use lnt_older::{Directory, UpgradeFault, judge_upgrade, upgrade_next};
 use lnt_unit::ConvertFault;
 use lnt_wire::{Cursor, Order};
@@ -93,25 +93,15 @@ fn print_reason<W: Write>(alloc: Global, fault: UpgradeFault, out: &mut W) -> Re
 {
     match fault {
         UpgradeFault::Malformed(fault) => print_fault(alloc, fault, out),
-        UpgradeFault::Directories(place) => print_bad_record(alloc, place, out),
-        UpgradeFault::TooLarge(offset) => {
-            print_too_large(alloc, ConvertFault::TooLarge(offset), out)
+        UpgradeFault::Directories(place) => {
+            print_line(
+                alloc,
+                &format_args!("no 44 directories record {place}"),
+                out,
+            )?;
+            Ok(Status::No)
         }
+        UpgradeFault::TooLarge(offset) => print_refusal(alloc, ConvertFault::TooLarge(offset), out),
         UpgradeFault::Memory => Err(Halt::Memory),
     }
-}
-
-// Prints the line that says which record of the directories, the one at this place, isn't so, or a prefix of it.
-fn print_bad_record<W: Write>(alloc: Global, place: u64, out: &mut W) -> Result<Status, Halt>
-    ensures no { IfOk result (λ status. status ≡ No) }
-    ensures err { IfErr result IsPrinting }
-    ensures line { OnOk result (Appends (W.contents out.old) (W.contents out.new) (bad_record_line place)) }
-    ensures front { OnErr result (AppendsFront (W.contents out.old) (W.contents out.new) (bad_record_line place)) }
-{
-    let mut line = Vec::new(alloc);
-    if writeln!(line, "no 44 directories record {place}").is_err() {
-        return Err(Halt::Memory);
-    }
-    write_whole(out, &line)?;
-    Ok(Status::No)
 }

@@ -22,7 +22,7 @@ use Rattle.lnt_paths.specs.PathLines.{AddsPlace, IsPlaceEnd, IsPlainByte, field_
 use Rattle.lnt_paths.specs.PathAnswers.{PathAnswer, path_answer}
 use Rattle.lnt_paths.specs.PathSpans.{AreCanonicalOf, PathSpan}
 use Rattle.lnt_paths.specs.PathTables.{IsPathRecord, SaysColumn, SaysPath, by_path, path_column_names}
-use Rattle.lnt_paths.specs.Written.{IsCanonicalPathTable, IsPlainPathRecord, plain_by_path}
+use Rattle.lnt_paths.specs.Written.{IsCanonicalPathTable, IsPlainPathRecord, IsPlainPathTable, plain_by_path}
 use Rattle.lnt_paths.proofs.OneWrittenLaws.{one_record}
 
 -- ---- the header
@@ -191,7 +191,7 @@ pub plain_canonical : (version : PathVersion) (records : List Fields) {answers :
     → AreCanonicalOf answers spans → AllZip (IsPlainPathRecord version) records spans
     → IsCanonicalPathTable version answers (text_of plain_by_path version records)
 plain_canonical version records {answers} {spans} canonical each =
-    let plain = record { records = records; lines = refl; each = each } in
     let bytes : List ℕ = text_of plain_by_path version records in
+    let plain : IsPlainPathTable version bytes spans = record { records = records; lines = refl; each = each } in
     let table = written_table by_path plain_by_path plain_paths version bytes spans plain canonical.canonical.in_order in
     record { spans = spans; canonical = canonical; table = table; plain = plain }

@@ -1,4 +1,5 @@
--- Spans joined by their answers by path. `tell` gives an answer by path; a joined span keeps the answer of its first part. No public contract speaks of it.
+-- Spans joined by their answers by path. `tell` gives an answer by path; a joined span keeps the answer of its first part. No public
+-- contract speaks of it.
 use Rattle.std.specs.Prelude.{◌≡◌, ◌≢◌, ◌⊎◌, List, [], ◌∷◌, ◌++◌, Option, Some, None}
 use Rattle.lnt_spans.specs.declared.answer.Answer.{Answer}
 use Rattle.lnt_spans.specs.declared.position.Position.{Position}

@@ -22,7 +22,8 @@ pub(crate) fn put_line<P: Paths>(
 ) -> Result<(), AllocError>
     requires { AreFieldsOf (P.bytes_of paths.now) fields.old.slots.items }
     ensures kept { OnOk result (AreFieldsOf (P.bytes_of paths.now) fields.new.slots.items) }
-    ensures added { OnOk result (AddsLine (plain_told (path_answer version (P.bytes_of paths.now))) version span.now line.old.items line.new.items) }
+    ensures added { OnOk result (AddsLine
+        (plain_told (path_answer version (P.bytes_of paths.now))) version span.now line.old.items line.new.items) }
 {
     put_address(line, span.low.address)?;
     line.extend_from_slice(b",")?;

@@ -6,7 +6,8 @@ use Rattle.lnt_dump.proofs.operations.put_spelled.Goals as goal
 pub unreachable-requires : goal.unreachable-requires
 unreachable-requires c =
     left_there c.args.bytes.now c.loop-cursor.cursor.rest c.args.text.now.items c.loop-cursor.text.items c.loop-cursor.invariant c.requires
-    (omega (arith, eqb-false _ _ (sym c.is_empty.ensures ∙ c.loop-cursor-test.true), ap length c.rest.ensures)) c.in_default.ensures.err.none
+    (omega (arith, eqb-false _ _ (sym c.is_empty.ensures ∙ c.loop-cursor-test.true), ap length c.rest.ensures))
+    c.in_default.ensures.err.none
 
 pub loop-cursor-preserved : goal.loop-cursor-preserved
 loop-cursor-preserved c =

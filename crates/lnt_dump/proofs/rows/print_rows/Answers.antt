@@ -1,7 +1,8 @@
 use Rattle.std.proofs.Common.{◌∙◌, ◌+◌, ◌^◌, ◌<◌, arith, subst, sym}
 use Rattle.lnt_io.proofs.FrontLaws.{so_stopped}
 use Rattle.lnt_ops.specs.Walks.{Walk}
-use Rattle.lnt_dump.proofs.RunWalks.{RowsTold, rows_all, rows_cut, rows_more, rows_none, rows_quiet, rows_room, running_allowed, running_fails, running_in}
+use Rattle.lnt_dump.proofs.RunWalks.{RowsTold, rows_all, rows_cut, rows_more, rows_none, rows_quiet, rows_room}
+use Rattle.lnt_dump.proofs.RunWalks.{running_allowed, running_fails, running_in}
 use Rattle.lnt_dump.proofs.UnitWalks.{fails_op, gives_op, stands_first}
 use Rattle.lnt_dump.proofs.rows.print_rows.Goals as goal
 

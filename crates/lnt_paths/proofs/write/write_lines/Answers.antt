@@ -12,8 +12,8 @@ use Rattle.lnt_paths.proofs.LineLemmas.{header_text}
 use Rattle.lnt_io.proofs.FrontLaws.{so_stopped}
 use Rattle.lnt_paths.proofs.write.write_lines.Goals as goal
 
-pub loop-span-init : goal.loop-span-init
-loop-span-init g c =
+pub loop-block-init : goal.loop-block-init
+loop-block-init g c =
     let tell : Answer → PathAnswer = path_answer c.args.version (g.P.Paths.bytes_of c.args.paths.now) in
     let new : List Span → Type 0 = WillGive tell c.of-joined.result.next (g.S.SpanSource.to_come c.of-joined.result.spans) in (
       [],
@@ -24,11 +24,11 @@ loop-span-init g c =
       λ list joined come joins. none_given joined new (c.of-joined.ensures.gives tell list joined come joins),
     )
 
-pub loop-span-preserved : goal.loop-span-preserved
-loop-span-preserved g c =
+pub loop-block-preserved : goal.loop-block-preserved
+loop-block-preserved g c =
     let tell : Answer → PathAnswer = path_answer c.args.version (g.P.Paths.bytes_of c.args.paths.now) in
-    let inv = c.loop-span.invariant in
-    let old : List Span → Type 0 = WillGive tell c.loop-span.joined.next (g.S.SpanSource.to_come c.loop-span.joined.spans) in
+    let inv = c.loop-block.invariant in
+    let old : List Span → Type 0 = WillGive tell c.loop-block.joined.next (g.S.SpanSource.to_come c.loop-block.joined.spans) in
     let new : List Span → Type 0 = WillGive tell c.next_joined.new.self.next (g.S.SpanSource.to_come c.next_joined.new.self.spans) in
     let gives : (spans : List Span) → old spans → GivesFirstSpan new spans (Some c.in-Some.span) =
     subst (λ (o : Option Span). (spans : List Span) → old spans → GivesFirstSpan new spans o) c.in-Some.is c.in_ok-span.ensures.gives in
@@ -45,8 +45,8 @@ loop-span-preserved g c =
 pub returns-clause-lines : goal.returns-clause-lines
 returns-clause-lines g c =
     let tell : Answer → PathAnswer = path_answer c.args.version (g.P.Paths.bytes_of c.args.paths.now) in
-    let inv = c.loop-span.invariant in
-    let old : List Span → Type 0 = WillGive tell c.loop-span.joined.next (g.S.SpanSource.to_come c.loop-span.joined.spans) in
+    let inv = c.loop-block.invariant in
+    let old : List Span → Type 0 = WillGive tell c.loop-block.joined.next (g.S.SpanSource.to_come c.loop-block.joined.spans) in
     let new : List Span → Type 0 = WillGive tell c.next_joined.new.self.next (g.S.SpanSource.to_come c.next_joined.new.self.spans) in
     let gives : (spans : List Span) → old spans → GivesFirstSpan new spans None =
     subst (λ (o : Option Span). (spans : List Span) → old spans → GivesFirstSpan new spans o) c.in_default.is c.in_ok-span.ensures.gives in
@@ -60,7 +60,7 @@ returns-clause-lines g c =
 pub returns-clause-begun : goal.returns-clause-begun
 returns-clause-begun g c =
     let tell : Answer → PathAnswer = path_answer c.args.version (g.P.Paths.bytes_of c.args.paths.now) in
-    let inv = c.loop-span.invariant in
+    let inv = c.loop-block.invariant in
     on_err_weaker c.send.result
     (λ front. (
       inv.0,
@@ -84,7 +84,7 @@ returns-in_err-put_header-clause-begun g c =
 pub returns-in_err-span-clause-begun : goal.returns-in_err-span-clause-begun
 returns-in_err-span-clause-begun g c =
     let tell : Answer → PathAnswer = path_answer c.args.version (g.P.Paths.bytes_of c.args.paths.now) in
-    let inv = c.loop-span.invariant in
+    let inv = c.loop-block.invariant in
     so_stopped c.from_residual-in_err-span.result _ (
       inv.0,
       so_far_begun (plain_told tell) c.args.version _ _ _ inv.0 inv.1,
@@ -95,7 +95,7 @@ returns-in_err-span-clause-begun g c =
 pub returns-in_err-put_line-clause-begun : goal.returns-in_err-put_line-clause-begun
 returns-in_err-put_line-clause-begun g c =
     let tell : Answer → PathAnswer = path_answer c.args.version (g.P.Paths.bytes_of c.args.paths.now) in
-    let inv = c.loop-span.invariant in
+    let inv = c.loop-block.invariant in
     so_stopped c.from_residual-in_err-put_line.result _ (
       inv.0,
       so_far_begun (plain_told tell) c.args.version _ _ _ inv.0 inv.1,
@@ -106,8 +106,8 @@ returns-in_err-put_line-clause-begun g c =
 pub returns-in_err-send_full-clause-begun : goal.returns-in_err-send_full-clause-begun
 returns-in_err-send_full-clause-begun g c =
     let tell : Answer → PathAnswer = path_answer c.args.version (g.P.Paths.bytes_of c.args.paths.now) in
-    let inv = c.loop-span.invariant in
-    let old : List Span → Type 0 = WillGive tell c.loop-span.joined.next (g.S.SpanSource.to_come c.loop-span.joined.spans) in
+    let inv = c.loop-block.invariant in
+    let old : List Span → Type 0 = WillGive tell c.loop-block.joined.next (g.S.SpanSource.to_come c.loop-block.joined.spans) in
     let new : List Span → Type 0 = WillGive tell c.next_joined.new.self.next (g.S.SpanSource.to_come c.next_joined.new.self.spans) in
     let gives : (spans : List Span) → old spans → GivesFirstSpan new spans (Some c.in-Some.span) =
     subst (λ (o : Option Span). (spans : List Span) → old spans → GivesFirstSpan new spans o) c.in-Some.is c.in_ok-span.ensures.gives in

@@ -9,8 +9,8 @@ use Rattle.lnt_paths.specs.PathLines.{AreFieldsOf, plain_told}
 use Rattle.lnt_records.proofs.LineLaws.{Lines}
 use Rattle.lnt_paths.proofs.write.write_lines.Given as goal
 
-abbrev pub invariant-loop-span : goal.invariant-loop-span
-invariant-loop-span g l = (given : List Span) × Lines (plain_told (path_answer l.version (g.P.Paths.bytes_of l.paths))) l.version
+abbrev pub invariant-loop-block : goal.invariant-loop-block
+invariant-loop-block g l = (given : List Span) × Lines (plain_told (path_answer l.version (g.P.Paths.bytes_of l.paths))) l.version
     (g.W.Write.contents l.fn.out) (g.W.Write.contents l.out) l.block.items given
     × AreFieldsOf (g.P.Paths.bytes_of l.paths) l.fields.slots.items
     × AreCompared (g.P.Paths.bytes_of l.paths) l.joined.compared.slots
@@ -19,5 +19,5 @@ invariant-loop-span g l = (given : List Span) × Lines (plain_told (path_answer 
     → HasGiven joined given (WillGive (path_answer l.version (g.P.Paths.bytes_of l.paths)) l.joined.next
     (g.S.SpanSource.to_come l.joined.spans)))
 
-abbrev pub decreases-loop-span : goal.decreases-loop-span
-decreases-loop-span g l = count_ahead l.joined.next (g.S.SpanSource.left l.joined.spans)
+abbrev pub decreases-loop-block : goal.decreases-loop-block
+decreases-loop-block g l = count_ahead l.joined.next (g.S.SpanSource.left l.joined.spans)

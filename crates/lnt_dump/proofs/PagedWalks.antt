@@ -1,0 +1,77 @@
+-- A text that is made step by step from a cursor on, and handed to a writer page by page.
+use Rattle.std.proofs.Common.{◌≡◌, ◌∙◌, ℕ, List, [], ◌++◌, length, Option, refl, sym, ap, subst, append_assoc}
+use Rattle.std.proofs.KnownBytes.{Appends-nil, Appends-trans}
+use Rattle.std.specs.Io.KnownBytes.{Appends}
+use Rattle.lnt_io.specs.Fronts.{AppendsFront}
+use Rattle.lnt_io.proofs.FrontLaws.{front_before}
+use Rattle.lnt_wire.specs.At.{At}
+use Rattle.lnt_dump.specs.Printed.{IsPrintedIn}
+use Rattle.lnt_dump.specs.Stepping.{IsFrontIn, IsPaged}
+use Rattle.lnt_dump.proofs.Pages.{paged_all, paged_cut, paged_kept_front}
+
+-- The steps up to a cursor make a text (To), a step adds to it (Adds), and at the end it is so (Is), of which each text on the way is a
+-- front.
+pub record IsWalk (To : At → List ℕ → Type 0) (Adds : At → At → List ℕ → List ℕ → Type 0) (Is : List ℕ → Type 0) : Type 0 where
+  pub more : (at next : At) (text old new : List ℕ) → To at (text ++ old) → Adds at next old new → To next (text ++ new)
+  pub all : (at : At) (text : List ℕ) → To at text → length at.rest ≡ 0 → Is text
+  pub rest : (at : At) (text : List ℕ) → To at text → (more : List ℕ) × Is (text ++ more)
+
+-- The text of the steps up to a cursor: what the writer has of it, and what waits in the page.
+pub record PagedTo (To : At → List ℕ → Type 0) (at : At) (old now : Option (List ℕ)) (page : List ℕ) : Type 0 where
+  pub text : List ℕ
+  pub paged : IsPaged text old now page
+  pub made : To at text
+
+pub walk_begun : (To : At → List ℕ → Type 0) (at : At) (old : Option (List ℕ)) (page : List ℕ) → To at [] → page ≡ []
+    → PagedTo To at old old page
+walk_begun To at old page none empty =
+    record { text = []; paged = record { written = []; gained = Appends-nil old; joined = sym empty }; made = none }
+
+module _ {To : At → List ℕ → Type 0} {Adds : At → At → List ℕ → List ℕ → Type 0} {Is : List ℕ → Type 0} (walk : IsWalk To Adds Is) where
+  -- a step added to the page
+  walk_more : {at next : At} {old now : Option (List ℕ)} {page new : List ℕ} → PagedTo To at old now page → Adds at next page new
+      → PagedTo To next old now new
+  walk_more {at} {next} {old} {now} {page} {new} p a = record {
+    text = p.paged.written ++ new;
+    paged = record { written = p.paged.written; gained = p.paged.gained; joined = refl };
+    made = walk.more at next p.paged.written page new (subst (To at) p.paged.joined p.made) a;
+  }
+
+  -- and the page was written, if it is full
+  pub walk_turned : {at next : At} {old now then : Option (List ℕ)} {page new left : List ℕ} → PagedTo To at old now page
+      → Adds at next page new → IsPaged new now then left → PagedTo To next old then left
+  walk_turned {old = old} {now = now} {then = then} {left = left} p a q =
+      let m = walk_more p a in
+      record {
+        text = m.text;
+        paged = record {
+          written = m.paged.written ++ q.written;
+          gained = Appends-trans old now then m.paged.written q.written m.paged.gained q.gained;
+          joined = m.paged.joined ∙ (ap (λ (z : List ℕ). m.paged.written ++ z) q.joined
+              ∙ sym (append_assoc m.paged.written q.written left));
+        };
+        made = m.made;
+      }
+
+  walk_front : {at : At} {old now : Option (List ℕ)} {text : List ℕ} → To at text → AppendsFront old now text → IsFrontIn Is old now
+  walk_front {at} {old} {now} {text} made f =
+      let rest = walk.rest at text made in
+      (text ++ rest.0, rest.1, front_before old now text rest.0 f)
+
+  -- nothing more was written
+  pub walk_stopped : {at : At} {old now : Option (List ℕ)} {page : List ℕ} → PagedTo To at old now page → IsFrontIn Is old now
+  walk_stopped {at} {old} {now} {page} p = walk_front p.made (paged_kept_front p.text page old now p.paged)
+
+  -- of the page a front was written
+  pub walk_last_cut : {at : At} {old now then : Option (List ℕ)} {page : List ℕ} → PagedTo To at old now page
+      → AppendsFront now then page → IsFrontIn Is old then
+  walk_last_cut {at} {old} {now} {then} {page} p f = walk_front p.made (paged_cut p.text page old now then p.paged f)
+
+  pub walk_cut : {at next : At} {old now then : Option (List ℕ)} {page new : List ℕ} → PagedTo To at old now page
+      → Adds at next page new → AppendsFront now then new → IsFrontIn Is old then
+  walk_cut p a f = walk_last_cut (walk_more p a) f
+
+  pub walk_printed : {at : At} {old now : Option (List ℕ)} {page : List ℕ} (then : Option (List ℕ)) → PagedTo To at old now page
+      → length at.rest ≡ 0 → Appends now then page → IsPrintedIn Is old then
+  walk_printed {at} {old} {now} {page} then p ended w =
+      (p.text, walk.all at p.text p.made ended, paged_all p.text page old now then p.paged w)
