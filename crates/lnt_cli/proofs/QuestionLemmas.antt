@@ -1,7 +1,7 @@
 -- Questions that were answered.
 use Rattle.std.proofs.Common.{ℕ, List, Option, Result, Ok, Err, IfOk, IfSome, true, false}
 use Rattle.std.specs.Io.KnownBytes.{Appends}
-use Rattle.lnt_io.specs.Files.{FileState, TellsNoMore}
+use Rattle.lnt_io.specs.Files.{FileState, Readable, TellsNoMore}
 use Rattle.lnt_io.specs.declared.status.Status.{Status}
 use Rattle.lnt_lines.specs.declared.options.Options.{Options}
 use Rattle.lnt_lines.specs.declared.section.JudgedIndex.{JudgedIndex}
@@ -41,7 +41,7 @@ judged_later tells tells' options question (Bad reason) old new status later so 
 
 -- What is told of a judged section is told of the section in its file.
 pub told_of_section : (tells : List ℕ → FileState → Type 0) (from : Judging) (IsTold : JudgedIndex → Type 0)
-    (line general : List ℕ) (section : Option (List ℕ)) → AreTextsOf tells from line general → tells from.section.now section
+    (line general : List ℕ) (section : Option (List ℕ)) → AreTextsOf tells from line general → tells from.section.now (Readable section)
     → (judged : JudgedIndex) × IfSome section (λ bytes. IsJudgedIndex line general (options_in from) bytes judged) × IsTold judged
     → IsOfSection tells from IsTold
 told_of_section tells from IsTold line general section texts of_section so = record {
@@ -58,7 +58,7 @@ told_of_section tells from IsTold line general section texts of_section so = rec
 -- An answer for a judged section, from a time when less might be told of the files, is the answer to the question.
 pub question_of : {T E : Type 0} (tells tells' : List ℕ → FileState → Type 0) (from : Judging) (question : Question)
     (old new : Option (List ℕ)) (line general : List ℕ) (section : Option (List ℕ)) (ended : Result T E) (status_of : T → Status)
-    → AreTextsOf tells from line general → tells from.section.now section → TellsNoMore tells tells'
+    → AreTextsOf tells from line general → tells from.section.now (Readable section) → TellsNoMore tells tells'
     → IfOk ended (λ answered. (judged : JudgedIndex)
     × IfSome section (λ bytes. IsJudgedIndex line general (options_in from) bytes judged)
     × AnswersJudged tells' (options_in from) question judged old new (status_of answered))
@@ -72,7 +72,7 @@ question_of tells tells' from question old new line general section (Err stop) s
 -- What is told of a judged section and of the bytes of a file is told of that file.
 pub told_of_file : (tells : List ℕ → FileState → Type 0) (from : Judging) (file : List ℕ)
     (IsTold : JudgedIndex → Option (List ℕ) → Type 0) (line general : List ℕ) (section text : Option (List ℕ))
-    → AreTextsOf tells from line general → tells from.section.now section → tells file text
+    → AreTextsOf tells from line general → tells from.section.now (Readable section) → tells file (Readable text)
     → (judged : JudgedIndex) × IfSome section (λ bytes. IsJudgedIndex line general (options_in from) bytes judged) × IsTold judged text
     → IsOfFile tells from file IsTold
 told_of_file tells from file IsTold line general section text texts of_section of_file so = record {
@@ -85,7 +85,7 @@ told_of_file tells from file IsTold line general section text texts of_section o
 pub of_file_answered : {T E : Type 0} (tells : List ℕ → FileState → Type 0) (from : Judging) (file : List ℕ)
     (IsTold : T → JudgedIndex → Option (List ℕ) → Type 0) (line general : List ℕ) (section text : Option (List ℕ))
     (ended : Result T E)
-    → AreTextsOf tells from line general → tells from.section.now section → tells file text
+    → AreTextsOf tells from line general → tells from.section.now (Readable section) → tells file (Readable text)
     → IfOk ended (λ answered. (judged : JudgedIndex)
     × IfSome section (λ bytes. IsJudgedIndex line general (options_in from) bytes judged) × IsTold answered judged text)
     → IfOk ended (λ answered. IsOfFile tells from file (IsTold answered))
@@ -96,7 +96,7 @@ of_file_answered tells from file IsTold line general section text (Err stop) tex
 -- What is true of the bytes of a section and of a table answers the check of their files, once its line is printed.
 pub checked_of : {E : Type 0} (tells : List ℕ → FileState → Type 0) (from : Judging) (table line general : List ℕ)
     (section text : Option (List ℕ)) (ended : Result Checked E)
-    → AreTextsOf tells from line general → tells from.section.now section → tells table text
+    → AreTextsOf tells from line general → tells from.section.now (Readable section) → tells table (Readable text)
     → IfOk ended (λ checked. IfSome section (λ bytes. IfSome text (λ text.
     IsTrueCheck line general (options_in from) bytes text checked)))
     → IfOk ended (λ checked. IfSome section (λ bytes. IsTrueCheckOfSection line general (options_in from) bytes checked))

@@ -1,7 +1,7 @@
 -- Sections that are read.
 use Rattle.std.proofs.Common.{◌≡◌, ℕ, Bool, List, ◌⊎◌, Option, Some, None, IfSome, Result, Ok, Err, IfOk, OnErr, inl, inr, refl}
 use Rattle.std.specs.Io.KnownBytes.{Keeps}
-use Rattle.lnt_io.specs.Files.{FileState}
+use Rattle.lnt_io.specs.Files.{FileState, Readable}
 use Rattle.lnt_io.specs.Fronts.{HasBegun}
 use Rattle.lnt_wire.specs.declared.format.Format.{Format}
 use Rattle.lnt_wire.specs.declared.format.Order.{Order}
@@ -63,7 +63,7 @@ dump_stopped order ops rows (Some bytes) old new (Err halt) begun = inr begun
 
 -- a front of the answer for the section's bytes is one for the named file
 begun_read : (tells : List ℕ → FileState → Type 0) (name : List ℕ) (order : Order) (reading : Reading)
-    (section old new : Option (List ℕ)) → tells name section
+    (section old new : Option (List ℕ)) → tells name (Readable section)
     → IfSome section (λ bytes. Keeps old new ⊎ BeginsReading order reading bytes old new)
     → Keeps old new ⊎ StopsRead tells name order reading old new
 begun_read tells name order reading None old new told begun = inr (record { section_bytes = None; of_section = told; begun = tt })
@@ -73,7 +73,7 @@ begun_read tells name order reading (Some bytes) old new told (inr begun) =
 
 -- the same where the reading was stopped
 pub read_stopped : {T E : Type 0} (tells : List ℕ → FileState → Type 0) (name : List ℕ) (order : Order) (reading : Reading)
-    (section old new : Option (List ℕ)) (printed : Result T E) → tells name section
+    (section old new : Option (List ℕ)) (printed : Result T E) → tells name (Readable section)
     → OnErr printed (IfSome section (λ bytes. Keeps old new ⊎ BeginsReading order reading bytes old new))
     → OnErr printed (Keeps old new ⊎ StopsRead tells name order reading old new)
 read_stopped tells name order reading section old new (Ok value) told begun = tt
@@ -82,7 +82,7 @@ read_stopped tells name order reading section old new (Err stop) told begun =
 
 -- The answer for the section's bytes is the answer for the named file.
 pub read_told : {E : Type 0} (tells : List ℕ → FileState → Type 0) (name : List ℕ) (order : Order) (reading : Reading)
-    (section old new : Option (List ℕ)) (printed : Result Status E) → tells name section
+    (section old new : Option (List ℕ)) (printed : Result Status E) → tells name (Readable section)
     → IfOk printed (λ status. IfSome section (λ bytes. AnswersReading order reading bytes old new status))
     → IfOk printed (λ status. AnswersRead tells name order reading old new status)
 read_told tells name order reading section old new (Ok status) told so =

@@ -5,7 +5,7 @@ use Rattle.std.proofs.lemmas.Bool.{false≢true}
 use Rattle.std.specs.Io.KnownBytes.{Appends, Keeps, append_known}
 use Rattle.lnt_io.specs.Fronts.{AppendsFront, HasBegun}
 use Rattle.lnt_io.proofs.FrontLaws.{appends_known}
-use Rattle.lnt_io.specs.Files.{FileState, TellsNoMore}
+use Rattle.lnt_io.specs.Files.{FileState, Readable, TellsNoMore}
 use Rattle.lnt_header.specs.declared.unit_parts.UnitParts.{UnitParts}
 use Rattle.lnt_lines.specs.declared.no.No.{No}
 use Rattle.lnt_lines.specs.declared.options.Options.{Options}
@@ -20,7 +20,7 @@ use Rattle.lnt_table.specs.declared.by_path.Checked.{Checked}
 use Rattle.lnt_answers.specs.Lines.{HasBegunLine}
 use Rattle.lnt_answers.specs.SumLines.{listed_files}
 use Rattle.lnt_lines.specs.FaultTexts.{no_text}
-use Rattle.lnt_answers.proofs.SumLaws.{sums_later}
+use Rattle.lnt_answers.proofs.SumLaws.{begun_later}
 use Rattle.lnt_answers.specs.Stretches.{AreStretchesBegun}
 use Rattle.lnt_answers.specs.Verdicts.{checked_line, checked_status}
 use Rattle.lnt_cli.specs.Answered.{AnswersCheck, AreTextsOf, IsChecked, IsOfFile, options_in}
@@ -53,15 +53,6 @@ check_stopped tells from table checked old new (Ok value) (Err stop) so is front
 check_stopped tells from table checked old new (Err halt) (Err stop) so is front =
     inr (check_begun tells from table checked old new so front)
 
--- ---- sections that are read
-
--- what holds where the work on a file was stopped holds where the run was stopped by it
-pub file_stopped : {R T S E : Type 0} (Gained : Type 0) (worked : Result R E) (ended : Result T S) → OnErr ended (IsErr worked)
-    → OnErr worked Gained → OnErr ended Gained
-file_stopped Gained worked (Ok value) is gained = tt
-file_stopped Gained (Ok value) (Err stop) is gained = absurd (false≢true is)
-file_stopped Gained (Err halt) (Err stop) is gained = gained
-
 -- ---- sections that are judged
 
 -- The writer has gained nothing; or a judgement is true, and a part of its answer was written.
@@ -88,13 +79,8 @@ good_begun_later tells tells' options Files index old new later begun = begun
 good_begun_later tells tells' options (Table version) index old new later begun = begun
 good_begun_later tells tells' options (TableByPath true) index old new later begun = begun
 good_begun_later tells tells' options (TableByPath false) index old new later begun = begun
-good_begun_later tells tells' options Md5 index old new later begun = record {
-  whole = begun.whole;
-  ending = begun.ending;
-  is_end =
-      sums_later tells tells' index (listed_files index) old (append_known old begun.whole) begun.ending later begun.is_end;
-  front = begun.front;
-}
+good_begun_later tells tells' options Md5 index old new later begun =
+    begun_later tells tells' index (listed_files index) old new later begun
 
 judged_begun_later : (tells tells' : List ℕ → FileState → Type 0) (options : Options) (question : Question) (judged : JudgedIndex)
     (old new : Option (List ℕ)) → TellsNoMore tells tells' → BeginsJudged tells' options question judged old new
@@ -106,7 +92,7 @@ judged_begun_later tells tells' options question (Bad reason) old new later begu
 -- A front of an answer for a judged section, from a time when less might be told of the files, is one to the question.
 pub question_stopped : {T E : Type 0} (tells tells' : List ℕ → FileState → Type 0) (from : Judging) (question : Question)
     (old new : Option (List ℕ)) (line general : List ℕ) (section : Option (List ℕ)) (ended : Result T E)
-    → AreTextsOf tells from line general → tells from.section.now section → TellsNoMore tells tells'
+    → AreTextsOf tells from line general → tells from.section.now (Readable section) → TellsNoMore tells tells'
     → OnErr ended (BeginsOf (λ judged. IfSome section (λ bytes. IsJudgedIndex line general (options_in from) bytes judged))
     (λ judged. BeginsJudged tells' (options_in from) question judged old new) old new)
     → OnErr ended (Keeps old new ⊎ BeginsQuestion tells from question old new)
@@ -123,7 +109,7 @@ question_stopped tells tells' from question old new line general section (Err st
 pub of_file_stopped : {T E : Type 0} (tells : List ℕ → FileState → Type 0) (from : Judging) (file : List ℕ)
     (HasBegunOf : JudgedIndex → Option (List ℕ) → Type 0) (old new : Option (List ℕ)) (line general : List ℕ)
     (section text : Option (List ℕ)) (ended : Result T E)
-    → AreTextsOf tells from line general → tells from.section.now section → tells file text
+    → AreTextsOf tells from line general → tells from.section.now (Readable section) → tells file (Readable text)
     → OnErr ended (BeginsOf (λ judged. IfSome section (λ bytes. IsJudgedIndex line general (options_in from) bytes judged))
     (λ judged. HasBegunOf judged text) old new)
     → OnErr ended (Keeps old new ⊎ IsOfFile tells from file HasBegunOf)

@@ -1,6 +1,6 @@
 -- A section that is written anew, and the file of its directories.
 use Rattle.std.proofs.Common.{◌≡◌, ℕ, List, Option, Some, None, subst}
-use Rattle.lnt_io.specs.Files.{FileState, TellsNoMore}
+use Rattle.lnt_io.specs.Files.{FileState, Readable, TellsNoMore}
 use Rattle.lnt_io.specs.declared.status.Status.{Status}
 use Rattle.lnt_wire.specs.declared.format.Order.{Order}
 use Rattle.lnt_dump.specs.Upgraded.{IsUpgradeTold}
@@ -13,7 +13,7 @@ text_before before later None None less is = tt
 text_before before later None (Some text) less is = is
 text_before before later (Some name) None less is = is
 text_before before later (Some name) (Some text) less is =
-    record { told = is.told; is_told = less name is.told is.is_told; same = is.same }
+    record { told = is.told; is_told = less name (Readable is.told) is.is_told; same = is.same }
 
 -- the same bytes
 pub told_of : (order : Order) (size : ℕ) (bytes same : List ℕ) (text old new : Option (List ℕ)) (status : Status) → bytes ≡ same

@@ -1,10 +1,10 @@
 -- The answers to requests, and the bytes of which they are true.
---     tells       what the opener may give for the file with a name, as the run begins
+--     tells       what the opener may say of the file with a name, as the run begins
 --     old, new    what the writer of the answer holds before and afterwards
 use Rattle.std.specs.Prelude.{◌≡◌, ℕ, List, [], Option, None, Some, IfSome, true, false, string_bytes}
 use Rattle.std.specs.Option.{option_copied}
 use Rattle.std.specs.Io.KnownBytes.{Appends}
-use Rattle.lnt_io.specs.Files.{AreBytesOf, FileState}
+use Rattle.lnt_io.specs.Files.{AreBytesOf, FileState, Readable}
 use Rattle.lnt_io.specs.declared.status.Status.{Status}
 use Rattle.lnt_io.specs.declared.status.Status.TheVariants.{Done}
 use Rattle.lnt_wire.specs.declared.format.Order.{Order}
@@ -47,9 +47,9 @@ pub record IsChecked (tells : List ℕ → FileState → Type 0) (from : Judging
   pub general : List ℕ
   pub texts : AreTextsOf tells from line general
   pub section_bytes : Option (List ℕ)
-  pub of_section : tells from.section.now section_bytes
+  pub of_section : tells from.section.now (Readable section_bytes)
   pub table_bytes : Option (List ℕ)
-  pub of_table : tells table table_bytes
+  pub of_table : tells table (Readable table_bytes)
   pub is_true : IfSome section_bytes (λ section. IfSome table_bytes (λ text.
       IsTrueCheck line general (options_in from) section text checked))
   pub is_true_of_section : IfSome section_bytes (λ section. IsTrueCheckOfSection line general (options_in from) section checked)
@@ -71,7 +71,7 @@ pub record IsOfSection (tells : List ℕ → FileState → Type 0) (from : Judgi
   pub general : List ℕ
   pub texts : AreTextsOf tells from line general
   pub section_bytes : Option (List ℕ)
-  pub of_section : tells from.section.now section_bytes
+  pub of_section : tells from.section.now (Readable section_bytes)
   pub judged : JudgedIndex
   pub is_true : IfSome section_bytes (λ section. IsJudgedIndex line general (options_in from) section judged)
   pub told : IsTold judged
@@ -86,7 +86,7 @@ AnswersQuestion tells from question old new status =
 pub record IsOfFile (tells : List ℕ → FileState → Type 0) (from : Judging) (file : List ℕ)
     (IsTold : JudgedIndex → Option (List ℕ) → Type 0) : Type 0 where
   pub file_bytes : Option (List ℕ)
-  pub of_file : tells file file_bytes
+  pub of_file : tells file (Readable file_bytes)
   pub so : IsOfSection tells from (λ judged. IsTold judged file_bytes)
 
 -- The answers to the positions in the lines of the file with this name were written, or why the section isn't good.
@@ -107,7 +107,7 @@ AnswersPlaces tells from table old new status =
 pub record AnswersRead (tells : List ℕ → FileState → Type 0) (section : List ℕ) (order : Order) (reading : Reading)
     (old new : Option (List ℕ)) (status : Status) : Type 0 where
   pub section_bytes : Option (List ℕ)
-  pub of_section : tells section section_bytes
+  pub of_section : tells section (Readable section_bytes)
   pub answered : IfSome section_bytes (λ bytes. AnswersReading order reading bytes old new status)
 
 -- the bytes of a file that is named, or not

@@ -1,5 +1,5 @@
 -- The answer to a question about a section that was judged.
---     tells       what the opener may give for the file with a name
+--     tells       what the opener may say of the file with a name
 --     old, new    what the writer of the answer holds before and afterwards
 use Rattle.std.specs.Prelude.{◌≡◌, ℕ, List, ◌++◌, Option, true, false, codes}
 use Rattle.std.specs.List.{flat_map}

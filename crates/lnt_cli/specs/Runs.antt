@@ -1,5 +1,5 @@
 -- The answer of a run to its words. The first word is the program's own name.
---     tells       what the opener may give for the file with a name, as the run begins
+--     tells       what the opener may say of the file with a name, as the run begins
 --     old, new    what the writer of the answer holds before and afterwards
 use Rattle.std.specs.Prelude.{ℕ, List, Option}
 use Rattle.lnt_io.specs.Files.{FileState}

@@ -1,5 +1,5 @@
 -- What was written if the answer to a request was stopped: nothing, or a prefix of an answer.
---     tells       what the opener may give for the file with a name, as the run begins
+--     tells       what the opener may say of the file with a name, as the run begins
 --     old, new    what that writer holds before and afterwards
 use Rattle.std.specs.Prelude.{ℕ, List, ◌++◌, ◌⊎◌, Option, IfSome, true, false, codes, string_bytes}
 use Rattle.std.specs.List.{flat_map}
@@ -24,11 +24,11 @@ use Rattle.lnt_words.specs.declared.request.Request.TheVariants.{Help, Read, Upg
 use Rattle.lnt_answers.specs.AddressLines.{AreAddressesBegun}
 use Rattle.lnt_answers.specs.FileLines.{files_text}
 use Rattle.lnt_answers.specs.Lines.{lookup_line}
-use Rattle.lnt_answers.specs.SumLines.{AreSumsTold, listed_files}
+use Rattle.lnt_answers.specs.SumLines.{AreSumsBegun, listed_files}
 use Rattle.lnt_lines.specs.FaultTexts.{no_text}
 use Rattle.lnt_answers.specs.PathTables.{BeginsPrintedTable}
 use Rattle.lnt_answers.specs.Stretches.{AreStretchesBegun}
-use Rattle.lnt_io.specs.Files.{AreBytesOf, FileState}
+use Rattle.lnt_io.specs.Files.{AreBytesOf, FileState, Readable}
 use Rattle.lnt_words.specs.Sizes.{size_bytes}
 use Rattle.lnt_dump.specs.Upgraded.{IsUpgradeBegun}
 use Rattle.lnt_cli.specs.Answered.{AnswersCheck, IsOfFile, IsOfSection, IsTextOf, options_in}
@@ -49,7 +49,7 @@ BeginsGood tells options (Lookup positions) index old new =
     ForUnitsOf options index
     (λ units. AppendsFront old new (flat_map (lookup_line index options.dead options.skip_copies units) positions.items))
 BeginsGood tells options Files index old new = AppendsFront old new (files_text index)
-BeginsGood tells options Md5 index old new = HasBegun (AreSumsTold tells index (listed_files index) old) old new
+BeginsGood tells options Md5 index old new = AreSumsBegun tells index (listed_files index) old new
 BeginsGood tells options (Table version) index old new =
     ForUnitsOf options index (λ units. BeginsTableOfUnits version options.dead options.skip_copies units old new)
 BeginsGood tells options (TableByPath true) index old new = BeginsPathTableText Three options index old new
@@ -90,7 +90,7 @@ BeginsPlaces tells from table old new = IsOfFile tells from table (λ judged tex
 pub record StopsRead (tells : List ℕ → FileState → Type 0) (section : List ℕ) (order : Order) (reading : Reading)
     (old new : Option (List ℕ)) : Type 0 where
   pub section_bytes : Option (List ℕ)
-  pub of_section : tells section section_bytes
+  pub of_section : tells section (Readable section_bytes)
   pub begun : IfSome section_bytes (λ bytes. BeginsReading order reading bytes old new)
 
 -- A prefix of the section with its older units anew, or of the line that says why there is none, was written.

@@ -90,7 +90,8 @@ pub(crate) fn open_judged<'c, O: Opener>(
         AreTextsOf (O.tells opener.old) from.now opened.texts.line.items opened.texts.general.items) }
     ensures failures { IfOk result (λ opened.
         ⟦<Counted<BufReader<WatchedReader<'c, O::Reader>>> as Source>⟧.failures opened.section ≡ 0) }
-    ensures told { IfOk result (λ opened. O.tells opener.old from.now.section.now (Readable (⟦<Counted<BufReader<WatchedReader<'c, O::Reader>>> as Source>⟧.remaining opened.section))) }
+    ensures told { IfOk result (λ opened. O.tells opener.old from.now.section.now
+        (Readable (⟦<Counted<BufReader<WatchedReader<'c, O::Reader>>> as Source>⟧.remaining opened.section))) }
     ensures later { TellsNoMore (O.tells opener.old) (O.tells opener.new) }
 {
     let texts = read_texts(alloc, opener, from)?;
@@ -138,7 +139,8 @@ pub(crate) fn open_both<'c, O: Opener>(
         AreTextsOf (O.tells opener.old) from.now opened.texts.line.items opened.texts.general.items) }
     ensures section_fails { IfOk result (λ opened.
         ⟦<Counted<BufReader<WatchedReader<'c, O::Reader>>> as Source>⟧.failures opened.section ≡ 0) }
-    ensures section_told { IfOk result (λ opened. O.tells opener.old from.now.section.now (Readable (⟦<Counted<BufReader<WatchedReader<'c, O::Reader>>> as Source>⟧.remaining opened.section))) }
+    ensures section_told { IfOk result (λ opened. O.tells opener.old from.now.section.now
+        (Readable (⟦<Counted<BufReader<WatchedReader<'c, O::Reader>>> as Source>⟧.remaining opened.section))) }
     ensures file_fails { IfOk result (λ opened. ⟦<Counted<BufReader<O::Reader>> as Source>⟧.failures opened.file ≡ 0) }
     ensures file_told { IfOk result (λ opened.
         O.tells opener.old file.now (Readable (⟦<Counted<BufReader<O::Reader>> as Source>⟧.remaining opened.file))) }

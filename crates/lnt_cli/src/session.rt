@@ -66,10 +66,7 @@ impl<O: Opener, W: Write, N: Write> Session<'_, '_, '_, O, W, N> {
                 section,
                 order,
                 reading,
-            } => {
-                let ended = self.read_section(section, *order, *reading);
-                of_file(self.alloc, section, ended)
-            }
+            } => self.read_section(section, *order, *reading),
             Request::Upgrade {
                 section,
                 order,
@@ -108,7 +105,9 @@ impl<O: Opener, W: Write, N: Write> Session<'_, '_, '_, O, W, N> {
         section: &str,
         order: Order,
         reading: Reading,
-    ) -> Result<Status, Halt>
+    ) -> Result<Status, CliStop>
+        ensures usage { IfErr result (λ stop. IsUsage stop → ⊥) }
+        ensures named { IfErr result (λ stop. (name : List ℕ) → TellsFile stop name → section.now ≡ name) }
         ensures answer { IfOk result (λ status. AnswersRead (O.tells self.old.opener.now) section.now order reading
             (W.contents self.old.out.now) (W.contents self.new.out.now) status) }
         ensures stopped { OnErr result (Keeps (W.contents self.old.out.now) (W.contents self.new.out.now)
@@ -117,7 +116,7 @@ impl<O: Opener, W: Write, N: Write> Session<'_, '_, '_, O, W, N> {
         ensures same_reference { self.new.out.ghost_name ≡ self.old.out.ghost_name }
     {
         let seen = Cell::new(Seen::nothing());
-        let status = print_section(
+        let printed = print_section(
             self.alloc,
             section,
             order,
@@ -125,7 +124,8 @@ impl<O: Opener, W: Write, N: Write> Session<'_, '_, '_, O, W, N> {
             self.opener,
             &seen,
             self.out,
-        )?;
+        );
+        let status = of_file(self.alloc, section, printed)?;
         if status == Status::No && !self.quiet {
             let _ = tell_refused(&seen.get(), order, self.notes);
         }
