@@ -1,5 +1,5 @@
 -- Fronts of the line that says why a section isn't converted.
-use Rattle.std.proofs.Common.{◌≡◌, ℕ, List, [], ◌∷◌, ◌++◌, Option, Some, None, Result, Ok, Err, OnErr, ap, ◌∙◌, append-nil, inl, inr}
+use Rattle.std.proofs.Common.{◌≡◌, ℕ, List, [], ◌∷◌, ◌++◌, Option, Some, None, Result, Ok, Err, OnErr, ap, ◌∙◌, append-nil, inl, inr, refl}
 use Rattle.std.specs.Io.KnownBytes.{Keeps}
 use Rattle.lnt_io.specs.Fronts.{AppendsFront}
 use Rattle.lnt_io.specs.declared.halt.Halt.{Halt}

@@ -8,6 +8,8 @@ use Rattle.lnt_records.proofs.LineLaws.{lines_put, lines_sent, lines_written, no
 use Rattle.lnt_paths.specs.Joining.{WillGive}
 use Rattle.lnt_paths.specs.PathAnswers.{PathAnswer, path_answer}
 use Rattle.lnt_paths.specs.PathLines.{plain_told}
+use Rattle.lnt_paths.specs.PathTables.{path_column_names}
+use Rattle.lnt_records.specs.Written.{line_text}
 use Rattle.lnt_paths.proofs.LineLemmas.{header_text}
 use Rattle.lnt_io.proofs.FrontLaws.{so_stopped}
 use Rattle.lnt_paths.proofs.write.write_lines.Goals as goal
@@ -18,7 +20,7 @@ loop-block-init g c =
     let new : List Span → Type 0 = WillGive tell c.of-joined.result.next (g.S.SpanSource.to_come c.of-joined.result.spans) in (
       [],
       no_lines (plain_told tell) c.args.version _ _ (c.in_ok-put_header.ensures
-          ∙ ap (λ (t : List ℕ). t ++ _) c.new-block.ensures.items ∙ header_text c.args.version),
+          ∙ ap (λ (t : List ℕ). t ++ line_text (path_column_names c.args.version)) c.new-block.ensures.items ∙ header_text c.args.version),
       c.in_ok-fields.ensures (g.P.Paths.bytes_of c.args.paths.now),
       c.of-joined.ensures.compared (g.P.Paths.bytes_of c.args.paths.now),
       λ list joined come joins. none_given joined new (c.of-joined.ensures.gives tell list joined come joins),
