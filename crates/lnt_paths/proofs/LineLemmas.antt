@@ -4,35 +4,33 @@ use Rattle.std.proofs.Common.{ap, subst, append_assoc, arith, length-append}
 use Rattle.std.proofs.lemmas.List.{append-nil, take-append-le, take_all}
 use Rattle.std.specs.List.{All, AllByRecursion, AllZip}
 use Rattle.std.proofs.lemmas.List.Elements.{recursion_from_All}
-use Rattle.csv.specs.Reading.{Reached, default_config, strip_bom}
-use Rattle.csv.specs.Writing.{default_writer, field_text, fields_text, is_blank, needs_byte, read_back, row_text}
-use Rattle.csv.specs.declared.parser.State.TheVariants as st
-use Rattle.csv.proofs.RoundTrip.{read-write}
+use Rattle.csv.specs.Reading.{strip_bom}
+use Rattle.csv.specs.Writing.{default_writer, field_text, fields_text, is_blank, needs_byte, row_text}
 use Rattle.lnt_digits.specs.Digits.{IsDecimal, IsPlainAddress, IsPlainDecimal, Puts}
 use Rattle.lnt_digits.proofs.TextLaws.{plain_address}
-use Rattle.lnt_records.specs.Table.{Fields, RecordsOf}
-use Rattle.lnt_records.proofs.QuotingLaws.{IsQuiet, address_text, none_left, number_text, quiet_text, same_back}
+use Rattle.lnt_records.specs.Table.{Fields}
+use Rattle.lnt_records.specs.Progress.{AddsLine}
+use Rattle.lnt_records.specs.Written.{line_text}
+use Rattle.lnt_records.proofs.LineLaws.{LineLaws, text_of, written_table}
+use Rattle.lnt_records.proofs.QuotingLaws.{IsQuiet, address_text, number_text, quiet_text}
 use Rattle.lnt_spans.specs.declared.answer.Answer.{Answer}
+use Rattle.lnt_spans.specs.declared.position.Position.{Position}
 use Rattle.lnt_spans.specs.declared.span.Span.{Span}
 use Rattle.lnt_paths.specs.declared.version.PathVersion.{PathVersion}
 use Rattle.lnt_paths.specs.declared.version.PathVersion.TheVariants.{Three, Four}
-use Rattle.lnt_paths.specs.Joining.{AddsPathLine, AddsPlace, IsPlaceEnd, IsPlainByte, field_with_comma}
+use Rattle.lnt_paths.specs.PathLines.{AddsPlace, IsPlaceEnd, IsPlainByte, field_with_comma, plain_told}
 use Rattle.lnt_paths.specs.PathAnswers.{PathAnswer, path_answer}
-use Rattle.lnt_paths.specs.PathSpans.{PathSpan, StandInOrder}
-use Rattle.lnt_paths.specs.PathTables.{IsPathRecord, IsPathTableOf, SaysColumn, SaysPath, path_column_names}
-use Rattle.lnt_paths.specs.Written.{IsPlainPathRecord, records_text}
+use Rattle.lnt_paths.specs.PathSpans.{AreCanonicalOf, PathSpan}
+use Rattle.lnt_paths.specs.PathTables.{IsPathRecord, SaysColumn, SaysPath, by_path, path_column_names}
+use Rattle.lnt_paths.specs.Written.{IsCanonicalPathTable, IsPlainPathRecord, IsPlainPathTable, plain_by_path}
+use Rattle.lnt_paths.proofs.OneWrittenLaws.{one_record}
 
 -- ---- the header
 
-pub names_three : (108 ∷ 111 ∷ 119 ∷ 44 ∷ 104 ∷ 105 ∷ 103 ∷ 104 ∷ 44 ∷ 112 ∷ 97 ∷ 116 ∷ 104 ∷ 44 ∷ 108 ∷ 105 ∷ 110 ∷ 101 ∷ 44 ∷ 99 ∷ 111
-    ∷ 108 ∷ 117 ∷ 109 ∷ 110 ∷ 10 ∷ []) ≡ row_text default_writer (path_column_names Three)
+pub header_text : (version : PathVersion) → line_text (path_column_names version) ≡ row_text default_writer (path_column_names version)
 unfolding is_blank fields_text
-names_three = refl
-
-pub names_four : (108 ∷ 111 ∷ 119 ∷ 44 ∷ 104 ∷ 105 ∷ 103 ∷ 104 ∷ 44 ∷ 112 ∷ 97 ∷ 116 ∷ 104 ∷ 44 ∷ 108 ∷ 105 ∷ 110 ∷ 101 ∷ 10 ∷ [])
-    ≡ row_text default_writer (path_column_names Four)
-unfolding is_blank fields_text
-names_four = refl
+header_text Three = refl
+header_text Four = refl
 
 -- ---- the field of a path
 
@@ -122,7 +120,7 @@ pub line_put : (version : PathVersion) (path : ℕ → ℕ → List ℕ) (span :
     → Puts IsPlainAddress span.low.address old b1 → b2 ≡ b1 ++ 44 ∷ []
     → Puts IsPlainAddress span.high.address b2 b3 → b4 ≡ b3 ++ 44 ∷ []
     → b5 ≡ b4 ++ field_with_comma (path span.answer.unit span.answer.file) → AddsPlace version span.answer b5 new
-    → AddsPathLine (path_answer version path) version span old new
+    → AddsLine (plain_told (path_answer version path)) version span old new
 line_put version path span old b1 b2 b3 b4 b5 new low e2 high e4 e5 place =
     let file : List ℕ = path span.answer.unit span.answer.file in
     let end = end_fields version span.answer place.more place.column in
@@ -142,49 +140,19 @@ line_put version path span old b1 b2 b3 b4 b5 new low e2 high e4 e5 place =
 
 -- ---- lines are read back
 
-abbrev AreSome : List Fields → Type 0
-AreSome records = AllByRecursion (λ fields. 2 ≤ length fields) records
-
-lines_read : (records : List Fields) → AreSome records
-    → Reached default_config st.StartRecord (records_text records) records st.StartRecord []
-unfolding Reached
-lines_read [] q = (refl, refl)
-lines_read (fields ∷ records) q = (
-  (read_back fields, st.StartRecord, records_text records),
-  read-write fields (records_text records),
-  same_back fields q.0,
-  lines_read records q.1,
-)
-
--- a table doesn't begin with a byte order mark
-no_mark : (version : PathVersion) (records : List Fields)
-    → strip_bom (records_text (path_column_names version ∷ records)) ≡ records_text (path_column_names version ∷ records)
+-- a header doesn't begin with a byte order mark
+no_mark : (version : PathVersion) (rest : List ℕ) → strip_bom (row_text default_writer (path_column_names version) ++ rest)
+    ≡ row_text default_writer (path_column_names version) ++ rest
 unfolding strip_bom is_blank fields_text
-no_mark Three records = refl
-no_mark Four records = refl
+no_mark Three rest = refl
+no_mark Four rest = refl
 
-pub names_some : (version : PathVersion) → 2 ≤ length (path_column_names version)
+names_some : (version : PathVersion) → 2 ≤ length (path_column_names version)
 names_some Three = omega arith
 names_some Four = omega arith
 
-record_some : (version : PathVersion) (fields : Fields) (low high : ℕ) (answer : PathAnswer)
-    → SaysPath IsPlainAddress IsPlainDecimal version fields low high answer → 2 ≤ length fields
-record_some Three fields low high answer s = omega (arith, s.count)
-record_some Four fields low high answer s = omega (arith, s.count)
-
-records_some : (version : PathVersion) (records : List Fields) (spans : List PathSpan) → AllZip (IsPlainPathRecord version) records spans
-    → AreSome records
-records_some version [] [] z = tt
-records_some version [] (s ∷ spans) z = absurd z
-records_some version (r ∷ records) [] z = absurd z
-records_some version (r ∷ records) (s ∷ spans) z =
-    (record_some version r s.low.address s.high.address s.answer z.0.says, records_some version records spans z.1)
-
-records_of_lines : (version : PathVersion) (records : List Fields) → AreSome records
-    → RecordsOf (records_text (path_column_names version ∷ records)) (path_column_names version ∷ records)
-records_of_lines version records some =
-    let all : AreSome (path_column_names version ∷ records) = (names_some version, some) in
-    (st.StartRecord, [], rw (no_mark version records) (lines_read (path_column_names version ∷ records) all), none_left)
+record_some : (version : PathVersion) (fields : Fields) (span : PathSpan) → IsPathRecord version fields span → 2 ≤ length fields
+record_some version fields span s = subst (λ (n : ℕ). 2 ≤ n) (sym s.says.count) (names_some version)
 
 -- ---- plain records are records
 
@@ -209,19 +177,21 @@ record_said version fields span s = record {
   high_op = s.high_op;
 }
 
-records_said : (version : PathVersion) (records : List Fields) (spans : List PathSpan) → AllZip (IsPlainPathRecord version) records spans
-    → AllZip (IsPathRecord version) records spans
-records_said version [] [] z = tt
-records_said version [] (s ∷ spans) z = absurd z
-records_said version (r ∷ records) [] z = absurd z
-records_said version (r ∷ records) (s ∷ spans) z = (record_said version r s z.0, records_said version records spans z.1)
+pub plain_paths : LineLaws by_path plain_by_path
+plain_paths = record {
+  names = λ version. refl;
+  one_record = one_record;
+  says = record_said;
+  back = λ version fields span says. record { some = record_some version fields span says; line_is = refl };
+  names_back = λ version. record { some = names_some version; line_is = refl };
+  unmarked = no_mark;
+}
 
-pub table_of : (version : PathVersion) (bytes : List ℕ) (records : List Fields) (spans : List PathSpan)
-    → bytes ≡ records_text (path_column_names version ∷ records)
-    → AllZip (IsPlainPathRecord version) records spans → StandInOrder spans → IsPathTableOf version bytes spans
-table_of version bytes records spans e z o = (
-  path_column_names version ∷ records,
-  subst (λ (b : List ℕ). RecordsOf b (path_column_names version ∷ records)) (sym e)
-      (records_of_lines version records (records_some version records spans z)),
-  (refl, record { each = records_said version records spans z; in_order = o }),
-)
+pub plain_canonical : (version : PathVersion) (records : List Fields) {answers : Position → Option PathAnswer} {spans : List PathSpan}
+    → AreCanonicalOf answers spans → AllZip (IsPlainPathRecord version) records spans
+    → IsCanonicalPathTable version answers (text_of plain_by_path version records)
+plain_canonical version records {answers} {spans} canonical each =
+    let bytes : List ℕ = text_of plain_by_path version records in
+    let plain : IsPlainPathTable version bytes spans = record { records = records; lines = refl; each = each } in
+    let table = written_table by_path plain_by_path plain_paths version bytes spans plain canonical.canonical.in_order in
+    record { spans = spans; canonical = canonical; table = table; plain = plain }

@@ -80,7 +80,7 @@ one_version Four Four e = refl
 one_version Three Four e = let lengths : 5 ≡ 4 = ap length e in absurd (omega (arith, lengths))
 one_version Four Three e = let lengths : 4 ≡ 5 = ap length e in absurd (omega (arith, lengths))
 
-few_names : (version : PathVersion) → path_column_count version ≤ 11
+pub few_names : (version : PathVersion) → path_column_count version ≤ 11
 few_names Three = omega arith
 few_names Four = omega arith
 

@@ -12,7 +12,6 @@ use Rattle.csv.specs.Reading.{Reached, default_config, strip_bom}
 use Rattle.csv.specs.Writing.{default_writer, field_text, fields_text, is_blank, row_body, row_text}
 use Rattle.csv.specs.declared.parser.State.{State}
 use Rattle.csv.specs.declared.parser.State.TheVariants as st
-use Rattle.csv.proofs.RoundTrip.{read-write}
 use Rattle.lnt_digits.specs.Digits.{IsAddress, IsDecimal}
 use Rattle.lnt_records.proofs.BeginningLaws.{records_begin}
 use Rattle.lnt_records.proofs.ReadingLaws.{first_same, no_record}
@@ -22,12 +21,14 @@ use Rattle.lnt_records.specs.Reading.{BytesReader, HasRead, IsNarrow}
 use Rattle.lnt_records.specs.Table.{BeginsWith, Fields, RecordsOf}
 use Rattle.lnt_spans.specs.declared.answer.Answer.{Answer}
 use Rattle.lnt_spans.specs.declared.span.Span.{Span}
-use Rattle.lnt_records.proofs.QuotingLaws.{address_text, number_text, quiet_text, same_back}
+use Rattle.lnt_records.proofs.LineLaws as any
+use Rattle.lnt_records.proofs.LineLaws.{IsReadBack}
+use Rattle.lnt_records.proofs.QuotingLaws.{address_text, number_text, quiet_text}
 use Rattle.lnt_paths.specs.declared.comparison.PathComparison.{PathComparison}
 use Rattle.lnt_paths.specs.declared.record.PathRecord.{PathRecord}
 use Rattle.lnt_paths.specs.declared.version.PathVersion.{PathVersion}
 use Rattle.lnt_paths.specs.declared.version.PathVersion.TheVariants.{Three, Four}
-use Rattle.lnt_paths.specs.Joining.{IsPlainByte}
+use Rattle.lnt_paths.specs.PathLines.{IsPlainByte}
 use Rattle.lnt_paths.specs.Merging.{IsMerged, JudgesByPath}
 use Rattle.lnt_paths.specs.Passing.{GoesOnAs, HasTaken, IsAfter, IsPathBefore, IsPathLine, IsPlace}
 use Rattle.lnt_paths.specs.PathAnswers.{PathAnswer}
@@ -35,10 +36,11 @@ use Rattle.lnt_paths.specs.PathSpans.{PathSpan, whole}
 use Rattle.lnt_paths.specs.PathFaults.{IsFaultyRecord, IsPathFault}
 use Rattle.lnt_paths.specs.PathTables.{IsPathTable, SaysPath, by_path, path_column_names}
 use Rattle.lnt_paths.specs.Reading.{record_answer, record_span}
+use Rattle.lnt_paths.specs.Written.{plain_by_path}
 use Rattle.lnt_records.specs.declared.fault.TableFault.{TableFault}
 use Rattle.lnt_paths.proofs.ComparisonLemmas.{record_taken}
 use Rattle.lnt_paths.proofs.OneTableLemmas.{pathed}
-use Rattle.lnt_paths.proofs.LineLemmas.{line_fields, names_some, quiet_by_recursion}
+use Rattle.lnt_paths.proofs.LineLemmas.{line_fields, plain_paths, quiet_by_recursion}
 
 -- ---- parts of a line
 
@@ -157,17 +159,16 @@ line_taken version said s0 s1 s2 s3 s4 low high path place = by version said.col
 
 -- ---- `csv` reads it as its fields
 
-some_fields : (version : PathVersion) (fields : Fields) (low high : ℕ) (answer : PathAnswer)
-    → SaysPath IsAddress IsDecimal version fields low high answer → 2 ≤ length fields
-some_fields Three fields low high answer s = omega (arith, s.count)
-some_fields Four fields low high answer s = omega (arith, s.count)
+line_back : (version : PathVersion) (said : PathRecord) (bytes rest : List ℕ) → (l : IsPathLine version said bytes rest)
+    → IsReadBack (row_text default_writer) l.fields
+line_back version said bytes rest l =
+    plain_paths.back version l.fields (record_span said) (record { says = l.says; low_op = refl; high_op = refl })
 
 pub line_read : (version : PathVersion) (said : PathRecord) (bytes rest : List ℕ) → (l : IsPathLine version said bytes rest)
     → next_record default_config st.StartRecord [] [] bytes ≡ Some (l.fields, st.StartRecord, rest)
 line_read version said bytes rest l =
-    ap (λ (t : List ℕ). next_record default_config st.StartRecord [] [] t) l.joined ∙ read-write l.fields rest
-    ∙ ap (λ (r : Fields). Some (r, st.StartRecord, rest))
-    (sym (same_back l.fields (some_fields version l.fields said.low said.high (record_answer said) l.says)))
+    ap (λ (t : List ℕ). next_record default_config st.StartRecord [] [] t) l.joined
+    ∙ any.line_read (row_text default_writer) l.fields rest (line_back version said bytes rest l)
 
 -- a line that begins with a zero doesn't begin with a byte order mark
 zero_mark : (rest : List ℕ) → strip_bom (48 ∷ rest) ≡ 48 ∷ rest
@@ -189,12 +190,13 @@ row_begins low fields digits e q = (
 
 line_begins : (version : PathVersion) (said : PathRecord) (bytes rest : List ℕ) → IsPathLine version said bytes rest
     → (more : List ℕ) × (bytes ≡ 48 ∷ more)
-line_begins version said bytes rest l = by l.fields l.joined l.says
+line_begins version said bytes rest l = by l.fields l.joined l.says (line_back version said bytes rest l).some
   where
     by : (fields : Fields) → bytes ≡ row_text default_writer fields ++ rest
-        → SaysPath IsAddress IsDecimal version fields said.low said.high (record_answer said) → (more : List ℕ) × (bytes ≡ 48 ∷ more)
-    by [] e s = absurd (let some = some_fields version [] said.low said.high (record_answer said) s in omega (arith, some))
-    by (low ∷ fields) e s =
+        → SaysPath IsAddress IsDecimal version fields said.low said.high (record_answer said) → 2 ≤ length fields
+        → (more : List ℕ) × (bytes ≡ 48 ∷ more)
+    by [] e s some = absurd (omega (arith, some))
+    by (low ∷ fields) e s some =
         let begins = row_begins low fields s.low_is.digits s.low_is.written (address_text low said.low s.low_is) in
         (begins.0 ++ rest, e ∙ ap (λ (t : List ℕ). t ++ rest) begins.1)
 
@@ -254,12 +256,6 @@ reached_on bytes text records more first after left h r =
 
 -- ---- the lines so far
 
-header_mark : (version : PathVersion) (rest : List ℕ) → strip_bom (row_text default_writer (path_column_names version) ++ rest)
-    ≡ row_text default_writer (path_column_names version) ++ rest
-unfolding strip_bom is_blank fields_text
-header_mark Three rest = refl
-header_mark Four rest = refl
-
 one_reached : (bytes rest : List ℕ) (fields : Fields)
     → next_record default_config st.StartRecord [] [] bytes ≡ Some (fields, st.StartRecord, rest)
     → Reached default_config st.StartRecord bytes (fields ∷ []) st.StartRecord rest
@@ -270,14 +266,11 @@ one_reached bytes rest fields e = ((fields, st.StartRecord, rest), e, refl, (ref
 pub header_passed : (version : PathVersion) (bytes header rest : List ℕ) → header ≡ row_text default_writer (path_column_names version)
     → bytes ≡ header ++ rest → GoesOnAs bytes bytes (path_column_names version ∷ []) st.StartRecord rest
 header_passed version bytes header rest e f =
-    let names : Fields = path_column_names version in
-    let whole : bytes ≡ row_text default_writer names ++ rest = f ∙ ap (λ (t : List ℕ). t ++ rest) e in
-    let plain : strip_bom bytes ≡ row_text default_writer names ++ rest = ap strip_bom whole ∙ header_mark version rest in
-    let read : next_record default_config st.StartRecord [] [] (strip_bom bytes) ≡ Some (names, st.StartRecord, rest) =
-    ap (λ (t : List ℕ). next_record default_config st.StartRecord [] [] t) plain ∙ read-write names rest
-    ∙ ap (λ (r : Fields). Some (r, st.StartRecord, rest)) (sym (same_back names (names_some version))) in
-    let reached = one_reached (strip_bom bytes) rest names read in
-    record { last = names; reached = reached; text_reached = reached; narrow = pathed.narrow version }
+    let whole : bytes ≡ row_text default_writer (path_column_names version) ++ rest = f ∙ ap (λ (t : List ℕ). t ++ rest) e in
+    let reached = subst
+    (λ (t : List ℕ). Reached default_config st.StartRecord (strip_bom t) (path_column_names version ∷ []) st.StartRecord rest) (sym whole)
+    (any.header_reached by_path plain_by_path plain_paths version rest) in
+    record { last = path_column_names version; reached = reached; text_reached = reached; narrow = pathed.narrow version }
 
 -- one more line was passed
 pub line_passed : (version : PathVersion) (said : PathRecord) (bytes text next rest : List ℕ) (records : List Fields)

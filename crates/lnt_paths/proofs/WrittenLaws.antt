@@ -5,6 +5,7 @@ use Rattle.std.proofs.lemmas.Bool.{cases_Bool, eqb-true}
 use Rattle.std.specs.List.{AllByRecursion, AllZip, Contains}
 use Rattle.lnt_digits.proofs.WrittenLaws.{has_address, has_decimal}
 use Rattle.lnt_records.specs.Table.{Fields}
+use Rattle.lnt_records.proofs.LineLaws.{text_of}
 use Rattle.lnt_spans.specs.declared.answer.Answer.{Answer}
 use Rattle.lnt_spans.specs.declared.position.Position.{Position}
 use Rattle.lnt_spans.specs.declared.span.Span.{Span}
@@ -18,10 +19,9 @@ use Rattle.lnt_paths.specs.Borders.{IsPathSpanOfInstructions, IsLeastOperation, 
 use Rattle.lnt_paths.specs.Joining.{AllJoinTo, JoinsTo, grown, tell_span}
 use Rattle.lnt_paths.specs.PathAnswers.{PathAnswer, path_answer, spans_by_path}
 use Rattle.lnt_paths.specs.PathSpans.{AreCanonicalOf, PathSpan}
-use Rattle.lnt_paths.specs.PathTables.{path_column_names}
-use Rattle.lnt_paths.specs.Written.{IsCanonicalPathTable, IsPlainPathRecord, records_text}
+use Rattle.lnt_paths.specs.Written.{IsCanonicalPathTable, IsPlainPathRecord, plain_by_path}
 use Rattle.lnt_paths.proofs.JoiningLemmas.{all_join, joined_canonical}
-use Rattle.lnt_paths.proofs.LineLemmas.{table_of}
+use Rattle.lnt_paths.proofs.LineLemmas.{plain_canonical}
 use Rattle.lnt_paths.proofs.UniqueLemmas.{one_list}
 
 -- ---- joined spans are of the borders and answers of those that were joined
@@ -90,15 +90,7 @@ whole_or_none version path given spans order fit canonical none =
     let records = has_records version path all.0 (all_join_fit tell given all.0 fit all.1)
     (subst (AllByRecursion IsPathSpanOfInstructions) (sym same) none) in
     let each = subst (AllZip (IsPlainPathRecord version) records.0) same records.1 in
-    let bytes : List ℕ = records_text (path_column_names version ∷ records.0) in (
-      bytes,
-      record {
-        spans = spans;
-        canonical = canonical;
-        table = table_of version bytes records.0 spans refl each canonical.canonical.in_order;
-        plain = record { records = records.0; lines = refl; each = each };
-      },
-    )
+    (text_of plain_by_path version records.0, plain_canonical version records.0 canonical each)
 
 -- ---- a least border with another operation index
 

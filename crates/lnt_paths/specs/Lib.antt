@@ -8,6 +8,7 @@ pub mod Passing
 pub mod PathAnswers
 pub mod PathDifferences
 pub mod PathFaults
+pub mod PathLines
 pub mod PathSpans
 pub mod PathStretches
 pub mod PathTables

@@ -15,7 +15,7 @@ use Rattle.lnt_paths.specs.declared.comparison.PathComparison.{PathComparison}
 use Rattle.lnt_paths.specs.declared.record.PathRecord.{PathRecord}
 use Rattle.lnt_paths.specs.declared.version.PathVersion.{PathVersion}
 use Rattle.lnt_paths.specs.declared.version.PathVersion.TheVariants.{Three, Four}
-use Rattle.lnt_paths.specs.Joining.{IsPlainByte}
+use Rattle.lnt_paths.specs.PathLines.{IsPlainByte}
 use Rattle.lnt_paths.specs.Merging.{JudgesByPath}
 use Rattle.lnt_paths.specs.PathAnswers.{PathAnswer}
 use Rattle.lnt_paths.specs.PathTables.{SaysPath, path_column_names}

@@ -1,8 +1,9 @@
 -- An address table by path, in terms of the records that `csv` reads from its bytes.
 use Rattle.std.specs.Prelude.{◌≡◌, ℕ, List, [], ◌∷◌, Option, Some, None, length, get_or, codes}
 use Rattle.lnt_digits.specs.Digits.{IsAddress, IsDecimal}
-use Rattle.lnt_records.specs.Table.Kind.{address, decimal, text}
-use Rattle.lnt_records.specs.Table.{Fields, IsTableIn, IsTableOfIn, Kind, TableFormat}
+use Rattle.lnt_records.specs.declared.column.Kind.{Kind}
+use Rattle.lnt_records.specs.declared.column.Kind.TheVariants.{Address, Decimal, Text}
+use Rattle.lnt_records.specs.Table.{Fields, IsTableIn, IsTableOfIn, TableFormat}
 use Rattle.lnt_paths.specs.declared.version.PathVersion.{PathVersion}
 use Rattle.lnt_paths.specs.declared.version.PathVersion.TheVariants.{Three, Four}
 use Rattle.lnt_paths.specs.PathAnswers.{PathAnswer}
@@ -17,7 +18,7 @@ abbrev pub path_column_count : PathVersion → ℕ
 path_column_count version = length (path_column_names version)
 
 abbrev pub path_kinds : List Kind
-path_kinds = address ∷ address ∷ text ∷ decimal ∷ decimal ∷ []
+path_kinds = Address ∷ Address ∷ Text ∷ Decimal ∷ Decimal ∷ []
 
 -- the column, which only version 3 has
 abbrev pub SaysColumn : (List ℕ → ℕ → Type 0) → PathVersion → Fields → Option ℕ → Type 0

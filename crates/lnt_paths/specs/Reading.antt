@@ -1,13 +1,7 @@
 -- Reading one record of a table by path. No public contract speaks of it.
-use Rattle.std.specs.Prelude.{[], ◌∷◌, codes}
-use Rattle.lnt_records.specs.Table.{Fields}
 use Rattle.lnt_paths.specs.declared.record.PathRecord.{PathRecord}
 use Rattle.lnt_paths.specs.PathAnswers.{PathAnswer}
 use Rattle.lnt_paths.specs.PathSpans.{PathSpan, whole}
-
--- the columns that both versions have
-abbrev pub place_names : Fields
-place_names = codes "low" ∷ codes "high" ∷ codes "path" ∷ codes "line" ∷ []
 
 -- the answer of a record
 abbrev pub record_answer : PathRecord → PathAnswer

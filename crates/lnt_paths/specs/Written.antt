@@ -1,12 +1,13 @@
 -- An address table by path, in the form in which it is written.
-use Rattle.std.specs.Prelude.{◌≡◌, ◌⊎◌, ℕ, List, [], ◌∷◌, ◌++◌, Option}
+use Rattle.std.specs.Prelude.{◌⊎◌, ℕ, List, Option}
 use Rattle.std.specs.Io.KnownBytes.{Appends, Keeps}
-use Rattle.std.specs.List.{AllByRecursion, AllZip}
+use Rattle.std.specs.List.{AllByRecursion}
 use Rattle.csv.specs.Writing.{default_writer, row_text}
 use Rattle.lnt_digits.specs.Digits.{IsPlainAddress, IsPlainDecimal}
 use Rattle.lnt_io.specs.Fronts.{AppendsFront}
 use Rattle.lnt_spans.specs.declared.position.Position.{Position}
 use Rattle.lnt_records.specs.Table.{Fields}
+use Rattle.lnt_records.specs.Written.{BeginsTableIn, IsPlainTableIn, LineFormat}
 use Rattle.lnt_paths.specs.declared.version.PathTable.{PathTable}
 use Rattle.lnt_paths.specs.declared.version.PathTable.TheVariants.{OperationIndex, Written}
 use Rattle.lnt_paths.specs.declared.version.PathVersion.{PathVersion}
@@ -19,16 +20,12 @@ use Rattle.lnt_paths.specs.PathTables.{IsPathTableOf, path_column_names, SaysPat
 abbrev pub IsPlainPathRecord : PathVersion → Fields → PathSpan → Type 0
 IsPlainPathRecord version fields span = SaysPathSpan IsPlainAddress IsPlainDecimal version fields span
 
--- records as lines, with a field in quotes only if it needs them
-abbrev pub records_text : List Fields → List ℕ
-records_text [] = []
-records_text (fields ∷ records) = row_text default_writer fields ++ records_text records
+-- Records are lines as `csv` writes them: with a field in quotes only if it needs them.
+abbrev pub plain_by_path : LineFormat PathVersion PathSpan
+plain_by_path = record { names = path_column_names; line = row_text default_writer; Says = IsPlainPathRecord }
 
--- the header as a line, and a line for each span
-pub record IsPlainPathTable (version : PathVersion) (bytes : List ℕ) (spans : List PathSpan) : Type 0 where
-  pub records : List Fields
-  pub lines : bytes ≡ records_text (path_column_names version ∷ records)
-  pub each : AllZip (IsPlainPathRecord version) records spans
+abbrev pub IsPlainPathTable : PathVersion → List ℕ → List PathSpan → Type 0
+IsPlainPathTable version bytes spans = IsPlainTableIn plain_by_path version bytes spans
 
 -- The bytes are a table of this version, on plain lines, of the canonical spans with these answers.
 pub record IsCanonicalPathTable (version : PathVersion) (answers : Position → Option PathAnswer) (bytes : List ℕ) : Type 0 where
@@ -50,12 +47,7 @@ pub record HasOperationIndex (answers : Position → Option PathAnswer) (positio
 pub record BeginsPathTable (version : PathVersion) (answers : Position → Option PathAnswer) (old new : Option (List ℕ)) : Type 0 where
   pub spans : List PathSpan
   pub canonical : AreCanonicalOf answers spans
-  pub first : List PathSpan
-  pub rest : List PathSpan
-  pub joined : first ++ rest ≡ spans
-  pub records : List Fields
-  pub each : AllZip (IsPlainPathRecord version) records first
-  pub front : AppendsFront old new (records_text (path_column_names version ∷ records))
+  pub begun : BeginsTableIn plain_by_path version spans old new
   pub of_whole : (bytes : List ℕ) → IsCanonicalPathTable version answers bytes → AppendsFront old new bytes
   pub decided : Keeps old new ⊎ AllByRecursion IsPathSpanOfInstructions spans
 

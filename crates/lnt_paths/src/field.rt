@@ -3,7 +3,7 @@ ghost use Rattle.std.specs.Prelude.{◌≡◌, ◌++◌, ◌∷◌, ℕ, List, [
 ghost use Rattle.std.specs.Bool.{MatchBool};
 ghost use Rattle.std.specs.List.{All};
 ghost use Rattle.csv.specs.Writing.{default_writer, row_text};
-ghost use Rattle.lnt_paths.specs.Joining.{AreFieldsOf, IsPlainByte, field_with_comma};
+ghost use Rattle.lnt_paths.specs.PathLines.{AreFieldsOf, IsPlainByte, field_with_comma};
 
 use crate::paths::Paths;
 use csv::Writer;

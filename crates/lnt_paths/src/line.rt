@@ -1,9 +1,8 @@
 //! Writes the line of a span.
-ghost use Rattle.std.specs.Prelude.{◌≡◌, ◌++◌, OnOk};
-ghost use Rattle.csv.specs.Writing.{default_writer, row_text};
-ghost use Rattle.lnt_paths.specs.Joining.{AddsPathLine, AddsPlace, AreFieldsOf};
+ghost use Rattle.std.specs.Prelude.{OnOk};
+ghost use Rattle.lnt_records.specs.Progress.{AddsLine};
 ghost use Rattle.lnt_paths.specs.PathAnswers.{path_answer};
-ghost use Rattle.lnt_paths.specs.PathTables.{path_column_names};
+ghost use Rattle.lnt_paths.specs.PathLines.{AddsPlace, AreFieldsOf, plain_told};
 
 use crate::field::PathFields;
 use crate::paths::Paths;
@@ -11,16 +10,6 @@ use crate::version::PathVersion;
 use lnt_digits::{put_address, put_decimal};
 use lnt_spans::{Answer, Span};
 use std::alloc::{AllocError, Global};
-
-// The header as a line.
-pub(crate) fn header_line(version: PathVersion) -> &'static [u8]
-    ensures { result.now ≡ row_text default_writer (path_column_names version) }
-{
-    match version {
-        PathVersion::Three => b"low,high,path,line,column\n",
-        PathVersion::Four => b"low,high,path,line\n",
-    }
-}
 
 // Adds the line of a span; of its positions only the addresses are written.
 pub(crate) fn put_line<P: Paths>(
@@ -33,7 +22,8 @@ pub(crate) fn put_line<P: Paths>(
 ) -> Result<(), AllocError>
     requires { AreFieldsOf (P.bytes_of paths.now) fields.old.slots.items }
     ensures kept { OnOk result (AreFieldsOf (P.bytes_of paths.now) fields.new.slots.items) }
-    ensures added { OnOk result (AddsPathLine (path_answer version (P.bytes_of paths.now)) version span.now line.old.items line.new.items) }
+    ensures added { OnOk result (AddsLine
+        (plain_told (path_answer version (P.bytes_of paths.now))) version span.now line.old.items line.new.items) }
 {
     put_address(line, span.low.address)?;
     line.extend_from_slice(b",")?;

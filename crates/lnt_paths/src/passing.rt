@@ -7,10 +7,10 @@ ghost use Rattle.lnt_paths.specs.PathAnswers.{path_answer};
 ghost use Rattle.lnt_paths.specs.PathTables.{path_column_names};
 
 use crate::comparison::PathComparison;
-use crate::line::header_line;
 use crate::paths::Paths;
 use crate::plain::line_at;
 use crate::version::PathVersion;
+use lnt_records::Columns;
 use lnt_spans::SpanSource;
 use std::alloc::{AllocError, Global};
 
@@ -34,7 +34,7 @@ impl<S: SpanSource + Drop> PathComparison<S> {
             × HasTaken S.to_come (path_answer version (P.bytes_of paths.now)) version self.old self.new table.now
             (drop at table.now) records) }
     {
-        let header = header_line(version);
+        let header = version.header_line();
         if !table.starts_with(header) {
             return Ok(0);
         }

@@ -1,7 +1,7 @@
 //! Parses lines of a table by path that have nothing in quotes, each in one pass over its bytes.
 ghost use Rattle.std.specs.Prelude.{◌≡◌, ◌≤◌, ◌∷◌, ◌++◌, drop, length, IfSome};
 ghost use Rattle.std.specs.List.{All};
-ghost use Rattle.lnt_paths.specs.Joining.{IsPlainByte};
+ghost use Rattle.lnt_paths.specs.PathLines.{IsPlainByte};
 ghost use Rattle.lnt_paths.specs.Passing.{IsPathBefore, IsPathLine, IsPlace};
 
 use crate::field::calls_for_quotes;

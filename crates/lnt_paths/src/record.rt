@@ -1,5 +1,5 @@
 //! Reads the span of a record of a table by path.
-ghost use Rattle.std.specs.Prelude.{◌≡◌, ◌<◌, ◌≤◌, List, length, IfOk, IfErr};
+ghost use Rattle.std.specs.Prelude.{◌≡◌, ◌<◌, ◌≤◌, [], List, get_or, IfOk, IfErr};
 ghost use Rattle.std.specs.Bool.{MatchBool};
 ghost use Rattle.csv.specs.Records.{fields_of};
 ghost use Rattle.lnt_digits.specs.Digits.{IsAddress, IsDecimal};
@@ -8,12 +8,12 @@ ghost use Rattle.lnt_paths.specs.PathFaults.{IsFaultyRecord};
 ghost use Rattle.lnt_paths.specs.PathSpans.{PathSpan, whole};
 ghost use Rattle.lnt_paths.specs.PathTables.{SaysColumn, SaysPath, path_column_count, path_kinds};
 ghost use Rattle.lnt_paths.specs.Reading.{record_answer};
-ghost use Rattle.lnt_records.specs.Progress.{AreSoundBefore, IsColumnFault, IsRecordFault};
+ghost use Rattle.lnt_records.specs.Progress.{AreValues};
+ghost use Rattle.lnt_records.specs.Table.{Fields};
 
-use crate::header::columns;
 use crate::version::PathVersion;
 use csv::ByteRecord;
-use lnt_records::{Columns, RecordFault, TableFault, address_at, decimal_at, field};
+use lnt_records::{MOST, TableFault, field, values_of};
 
 // The fields of a record, as values; the path is borrowed from the record.
 #[derive(Clone, Copy)]
@@ -36,16 +36,8 @@ impl PathRecord<'_> {
     }
 }
 
-// The columns of a table by path.
-pub(crate) enum ByPath {}
-
-impl Columns for ByPath {
-    ghost use Rattle.lnt_paths.specs.PathTables.{path_kinds};
-
-    ghost columns = { path_kinds };
-}
-
-// The values of the record with this number, or its fault, if the records before it end at this address.
+// The record with this number, or its fault, if the records before it end at this address.
+#[tactic(auto, using(crate::proofs::OneTableLemmas::few_names, crate::proofs::ReadingLemmas::four_columns))]
 pub(crate) fn record_after<'r>(
     row: &'r ByteRecord,
     version: PathVersion,
@@ -57,60 +49,40 @@ pub(crate) fn record_after<'r>(
     ensures err { IfErr result (λ fault. (table : List PathSpan) → whole at ≡ path_end table
         → IsFaultyRecord version table number (fields_of row.now) fault) }
 {
-    let said = match record_of(row, version) {
-        Ok(said) => said,
-        Err(RecordFault::Fields) => return Err(TableFault::Fields(number)),
-        Err(RecordFault::Number(column)) => return Err(TableFault::Number(number, column)),
+    let values = match values_of(row, &version, number) {
+        Ok(values) => values,
+        Err(fault) => return Err(fault),
     };
+    let said = record_with(field(row, 2), &values, version);
     if !said.holds_from(at) {
         return Err(TableFault::Order(number));
     }
     Ok(said)
 }
 
-// The values of a record, or why it has none.
-fn record_of<'r>(row: &'r ByteRecord, version: PathVersion) -> Result<PathRecord<'r>, RecordFault>
-    ensures ok { IfOk result (λ said. SaysPath IsAddress IsDecimal version (fields_of row.now) said.low said.high (record_answer said)) }
-    ensures err { IfErr result (λ fault. IsRecordFault path_kinds (path_column_count version) (fields_of row.now) fault) }
+// The record with this path and these values.
+#[inline(always)]
+fn record_with<'r>(path: &'r [u8], values: &[u64; MOST], version: PathVersion) -> PathRecord<'r>
+    ensures { (fields : Fields) → AreValues path_kinds (path_column_count version) fields values.now → get_or fields 2 [] ≡ path.now
+        → SaysPath IsAddress IsDecimal version fields result.low result.high (record_answer result) }
 {
-    if row.len() != columns(version) {
-        return Err(RecordFault::Fields);
-    }
-    record_in(row, version)
-}
-
-#[tactic(auto, using(crate::proofs::ReadingLemmas::four_columns, lnt_records::proofs::RecordLemmas::none_before, crate::proofs::ReadingLemmas::path_is_sound, crate::proofs::ReadingLemmas::says_path, lnt_records::proofs::RecordLemmas::column_fault))]
-fn record_in<'r>(row: &'r ByteRecord, version: PathVersion) -> Result<PathRecord<'r>, RecordFault>
-    requires { length (fields_of row.now) ≡ path_column_count version }
-    ensures ok { IfOk result (λ said. SaysPath IsAddress IsDecimal version (fields_of row.now) said.low said.high (record_answer said)) }
-    ensures err { IfErr result (λ fault. IsRecordFault path_kinds (path_column_count version) (fields_of row.now) fault) }
-{
-    let low = address_at::<ByPath>(row, 0)?;
-    let high = address_at::<ByPath>(row, 1)?;
-    let path = field(row, 2);
-    let line = decimal_at::<ByPath>(row, 3)?;
-    let column = column_in(row, version)?;
-    Ok(PathRecord {
-        low,
-        high,
+    PathRecord {
+        low: values[0],
+        high: values[1],
         path,
-        line,
-        column,
-    })
+        line: values[3],
+        column: column_with(values, version),
+    }
 }
 
 // The column, which only version 3 has.
-fn column_in(row: &ByteRecord, version: PathVersion) -> Result<Option<u64>, RecordFault>
-    requires count { length (fields_of row.now) ≡ path_column_count version }
-    requires before { AreSoundBefore path_kinds (fields_of row.now) 4 }
-    ensures ok { IfOk result (λ column. SaysColumn IsDecimal version (fields_of row.now) column) }
-    ensures err { IfErr result (λ fault. IsColumnFault path_kinds (fields_of row.now) fault) }
+#[inline(always)]
+fn column_with(values: &[u64; MOST], version: PathVersion) -> Option<u64>
+    ensures { (fields : Fields) → AreValues path_kinds (path_column_count version) fields values.now
+        → SaysColumn IsDecimal version fields result }
 {
     match version {
-        PathVersion::Three => {
-            let column = decimal_at::<ByPath>(row, 4)?;
-            Ok(Some(column))
-        }
-        PathVersion::Four => Ok(None),
+        PathVersion::Three => Some(values[4]),
+        PathVersion::Four => None,
     }
 }

@@ -2,30 +2,30 @@
 ghost use Rattle.std.specs.Prelude.{◌≡◌, ℕ, List, IfOk, OnErr, OnOk};
 ghost use Rattle.std.specs.Io.KnownBytes.{Appends};
 ghost use Rattle.std.specs.List.{AllByRecursion};
-ghost use Rattle.lnt_io.specs.Fronts.{AppendsFront};
+ghost use Rattle.lnt_records.specs.Progress.{HasBegunLines, HasWrittenLines};
 ghost use Rattle.lnt_spans.specs.declared.position.Position as position;
 ghost use Rattle.lnt_spans.specs.declared.span.Span as spec;
 ghost use Rattle.lnt_spans.specs.Spans.{AreInOrder, span_answer};
 ghost use Rattle.lnt_spans.specs.Instructions.{IsOfInstructions};
-ghost use Rattle.lnt_paths.specs.Joining.{AllJoinTo, AreFirstOf, HasBegunLines, HasWritten};
+ghost use Rattle.lnt_paths.specs.Joining.{AllJoinTo, AreFirstOf};
 ghost use Rattle.lnt_paths.specs.PathAnswers.{path_answer, spans_by_path};
+ghost use Rattle.lnt_paths.specs.PathLines.{plain_told};
 ghost use Rattle.lnt_paths.specs.Written.{BeginsPathTable, HasBecome, IsCanonicalPathTable};
 
 use crate::border::first_operation;
 use crate::field::PathFields;
 use crate::joined::Joined;
-use crate::line::{header_line, put_line};
+use crate::line::put_line;
 use crate::paths::Paths;
 use crate::version::{PathTable, PathVersion};
-use lnt_io::write_whole;
-use lnt_records::WriteStop;
+use lnt_records::{WriteStop, put_header, send, send_full};
 use lnt_spans::SpanSource;
 use std::alloc::Global;
 use std::io::Write;
 
-/// Writes the table by path of the spans of a source, line by line, as they come. Another source gives spans that answer the
+/// Writes the table by path of the spans of a source, block by block, as they come. Another source gives spans that answer the
 /// same; they decide first whether there is such a table. The spans of both must be in order, and none empty. Only one span
-/// of each source is kept at a time. The writer should be buffered, like `BufWriter`, to make this fast.
+/// of each source is kept at a time.
 ///
 /// On `Written`, the bytes that were written are a table of exactly the canonical spans that answer as the spans do, with
 /// paths: the one shortest table that does. Adjacent spans are joined if their path, line and, in version 3, column are the
@@ -91,32 +91,20 @@ fn write_lines<S: SpanSource + Drop, P: Paths, W: Write>(
     out: &mut W,
 ) -> Result<(), WriteStop>
     ensures lines { OnOk result ((joined : List spec.Span)
-        × HasWritten (path_answer version (P.bytes_of paths.now)) version (W.contents out.old) (W.contents out.new) joined
+        × HasWrittenLines (plain_told (path_answer version (P.bytes_of paths.now))) version (W.contents out.old) (W.contents out.new) joined
         × ((list all : List spec.Span) → S.to_come spans list → AllJoinTo (path_answer version (P.bytes_of paths.now)) list all
         → all ≡ joined)) }
     ensures begun { OnErr result ((first : List spec.Span)
-        × HasBegunLines (path_answer version (P.bytes_of paths.now)) version (W.contents out.old) (W.contents out.new) first
+        × HasBegunLines (plain_told (path_answer version (P.bytes_of paths.now))) version (W.contents out.old) (W.contents out.new) first
         × ((list : List spec.Span) → S.to_come spans list → AreFirstOf (path_answer version (P.bytes_of paths.now)) list first)) }
 {
     let mut joined = Joined::of(spans);
     let mut fields = PathFields::new(alloc)?;
-    let mut line = Vec::new(alloc);
-    send(header_line(version), out)?;
+    let mut block = Vec::new(alloc);
+    put_header(&mut block, &version)?;
     while let Some(span) = joined.next_joined(alloc, paths, version)? {
-        line.clear();
-        put_line(alloc, paths, version, &mut fields, &span, &mut line)?;
-        send(line.as_slice(), out)?;
+        put_line(alloc, paths, version, &mut fields, &span, &mut block)?;
+        send_full(&mut block, out)?;
     }
-    Ok(())
-}
-
-// Sends a line to the writer.
-fn send<W: Write>(line: &[u8], out: &mut W) -> Result<(), WriteStop>
-    ensures sent { OnOk result (Appends (W.contents out.old) (W.contents out.new) line.now) }
-    ensures front { OnErr result (AppendsFront (W.contents out.old) (W.contents out.new) line.now) }
-{
-    if write_whole(out, line).is_err() {
-        return Err(WriteStop::Write);
-    }
-    Ok(())
+    send(&mut block, out)
 }

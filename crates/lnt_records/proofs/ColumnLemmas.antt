@@ -1,11 +1,17 @@
 -- The fields of a record, by column.
-use Rattle.std.proofs.Common.{◌≡◌, ℕ, zero, suc, ◌+◌, ◌<◌, ◌≤◌, List, [], ◌∷◌, Bool, Some, None, get_or, length, sym, subst, arith, ⊎_elim}
+use Rattle.std.proofs.Common.{◌≡◌, ◌≢◌, ℕ, zero, suc, ◌+◌, ◌<◌, ◌≤◌, List, [], ◌∷◌, ◌==◌, Option, Some, None, get_or, length, sym, subst, arith}
+use Rattle.std.proofs.Common.{slice_set, ⊎_elim}
 use Rattle.std.proofs.lemmas.Bool.{cases_lt}
+use Rattle.std.proofs.lemmas.List.{get_or-set_other, get_or-set_same}
+use Rattle.std.specs.Prelude.{MatchOption}
 use Rattle.csv.specs.Records.{field_at}
-use Rattle.lnt_digits.specs.Digits.{IsAddress, IsDecimal}
-use Rattle.lnt_records.specs.Faults.{IsFaultyColumn}
-use Rattle.lnt_records.specs.Progress.{AreSoundBefore, IsColumnOf}
-use Rattle.lnt_records.specs.Table.{Fields, IsFlag, IsOfColumn, IsOfKind, Kind, address, decimal, flag}
+use Rattle.lnt_records.specs.declared.column.Kind.{Kind}
+use Rattle.lnt_records.specs.declared.column.Kind.TheVariants.{Address, Decimal, Flag, Text}
+use Rattle.lnt_records.specs.declared.fault.TableFault.{TableFault}
+use Rattle.lnt_records.specs.declared.fault.TableFault.TheVariants as fault
+use Rattle.lnt_records.specs.Faults.{IsFaultyColumn, IsFaultyIn}
+use Rattle.lnt_records.specs.Progress.{AreValues, IsRecordFault, IsValue}
+use Rattle.lnt_records.specs.Table.{Fields, IsOfColumn, IsOfKind, TableFormat}
 
 pub field_is : (fields : Fields) (i : ℕ) (f : List ℕ) → Some f ≡ field_at fields i → f ≡ get_or fields i []
 unfolding field_at
@@ -19,47 +25,63 @@ field_there [] i lt e = omega arith
 field_there (g ∷ fields) zero lt e = cc
 field_there (g ∷ fields) (suc i) lt e = field_there fields i (omega arith) e
 
--- ---- one column more
+-- ---- values
 
-of_kind : (columns : List Kind) (kind : Kind) (fields : Fields) (i : ℕ) → IsColumnOf columns kind i → IsOfKind kind (get_or fields i [])
-    → IsOfColumn columns fields i
-of_kind columns kind fields i e h = subst (λ (k : Kind). IsOfKind k (get_or fields i [])) (sym e) h
+-- what a reader of addresses or numbers says, by kind
+pub value_by : (kind other : Kind) (field : List ℕ) (value : Option ℕ) → kind ≡ other
+    → MatchOption value (IsOfKind other field → ⊥) (λ n. IsValue other field n)
+    → MatchOption value (IsOfKind kind field → ⊥) (λ n. IsValue kind field n)
+value_by kind other field value e h =
+    subst (λ (k : Kind). MatchOption value (IsOfKind k field → ⊥) (λ n. IsValue k field n)) (sym e) h
 
-not_of_kind : (columns : List Kind) (kind : Kind) (fields : Fields) (i : ℕ) → IsColumnOf columns kind i
-    → (IsOfKind kind (get_or fields i []) → ⊥) → IsOfColumn columns fields i → ⊥
-not_of_kind columns kind fields i e h s = h (subst (λ (k : Kind). IsOfKind k (get_or fields i [])) e s)
+pub number_by : (Is : ℕ → Type 0) (value : Option ℕ) → MatchOption value ((n : ℕ) → Is n → ⊥) Is
+    → MatchOption value ((n : ℕ) × Is n → ⊥) Is
+number_by Is None h = λ k. h k.0 k.1
+number_by Is (Some n) h = h
 
-pub sound_more : (columns : List Kind) (fields : Fields) (i : ℕ) → AreSoundBefore columns fields i → IsOfColumn columns fields i
-    → AreSoundBefore columns fields (i + 1)
-sound_more columns fields i before s k lt =
-    ⊎_elim (λ (h : k < i). before k h) (λ (h : i ≤ k). subst (IsOfColumn columns fields) (same h) s) (cases_lt k i)
+-- the values of the fields before column i
+abbrev pub ValuesBefore : List Kind → Fields → List ℕ → ℕ → Type 0
+ValuesBefore columns fields values i = (k : ℕ) → k < i → IsValue (get_or columns k Text) (get_or fields k []) (get_or values k 0)
+
+value_sound : (kind : Kind) (field : List ℕ) (value : ℕ) → IsValue kind field value → IsOfKind kind field
+value_sound Address field value is = (value, is)
+value_sound Decimal field value is = (value, is)
+value_sound Flag field value is = (value == 1, is)
+value_sound Text field value is = tt
+
+-- a field that isn't of its column's kind, after others that are
+pub first_faulty : (columns : List Kind) (fields : Fields) (values : List ℕ) (i : ℕ) → i < length fields
+    → ValuesBefore columns fields values i → (IsOfKind (get_or columns i Text) (get_or fields i []) → ⊥) → IsFaultyColumn columns fields i
+first_faulty columns fields values i there before faulty = record {
+  there = there;
+  before = λ k lt. value_sound (get_or columns k Text) (get_or fields k []) (get_or values k 0) (before k lt);
+  faulty = faulty;
+}
+
+-- one more value
+pub value_more : (columns : List Kind) (fields : Fields) (values : List ℕ) (i value : ℕ) → i < length values
+    → ValuesBefore columns fields values i → IsValue (get_or columns i Text) (get_or fields i []) value
+    → ValuesBefore columns fields (slice_set values i value) (i + 1)
+value_more columns fields values i value fits before is k lt =
+    ⊎_elim (λ (h : k < i). other h) (λ (h : i ≤ k). subst (λ (j : ℕ). Is j (get_or (slice_set values i value) j 0)) (same h) here) (cases_lt k i)
   where
+    Is : ℕ → ℕ → Type 0
+    Is j n = IsValue (get_or columns j Text) (get_or fields j []) n
+
     same : i ≤ k → i ≡ k
     same h = omega (arith, h, lt)
 
-pub sound_address : (columns : List Kind) (fields : Fields) (i n : ℕ) → IsColumnOf columns address i → AreSoundBefore columns fields i
-    → IsAddress (get_or fields i []) n → AreSoundBefore columns fields (i + 1)
-sound_address columns fields i n e before h = sound_more columns fields i before (of_kind columns address fields i e (n, h))
+    here : Is i (get_or (slice_set values i value) i 0)
+    here = subst (Is i) (sym (get_or-set_same values i value 0 fits)) is
 
-pub sound_decimal : (columns : List Kind) (fields : Fields) (i n : ℕ) → IsColumnOf columns decimal i → AreSoundBefore columns fields i
-    → IsDecimal (get_or fields i []) n → AreSoundBefore columns fields (i + 1)
-sound_decimal columns fields i n e before h = sound_more columns fields i before (of_kind columns decimal fields i e (n, h))
+    other : k < i → Is k (get_or (slice_set values i value) k 0)
+    other h = subst (Is k) (sym (get_or-set_other values i k value 0 (λ e. omega (arith, h, e)))) (before k h)
 
-pub sound_flag : (columns : List Kind) (fields : Fields) (i : ℕ) (on : Bool) → IsColumnOf columns flag i → AreSoundBefore columns fields i
-    → IsFlag (get_or fields i []) on → AreSoundBefore columns fields (i + 1)
-sound_flag columns fields i on e before h = sound_more columns fields i before (of_kind columns flag fields i e (on, h))
-
-pub no_address : (columns : List Kind) (fields : Fields) (i : ℕ) → i < length fields → IsColumnOf columns address i
-    → AreSoundBefore columns fields i → ((n : ℕ) → IsAddress (get_or fields i []) n → ⊥) → IsFaultyColumn columns fields i
-no_address columns fields i lt e before h =
-    record { there = lt; before = before; faulty = not_of_kind columns address fields i e (λ k. h k.0 k.1) }
-
-pub no_decimal : (columns : List Kind) (fields : Fields) (i : ℕ) → i < length fields → IsColumnOf columns decimal i
-    → AreSoundBefore columns fields i → ((n : ℕ) → IsDecimal (get_or fields i []) n → ⊥) → IsFaultyColumn columns fields i
-no_decimal columns fields i lt e before h =
-    record { there = lt; before = before; faulty = not_of_kind columns decimal fields i e (λ k. h k.0 k.1) }
-
-pub no_flag : (columns : List Kind) (fields : Fields) (i : ℕ) → i < length fields → IsColumnOf columns flag i
-    → AreSoundBefore columns fields i → ((on : Bool) → IsFlag (get_or fields i []) on → ⊥) → IsFaultyColumn columns fields i
-no_flag columns fields i lt e before h =
-    record { there = lt; before = before; faulty = not_of_kind columns flag fields i e (λ k. h k.0 k.1) }
+-- the fault of a record, in its format
+pub record_faulty : {V X : Type 0} (format : TableFormat V X) (version : V) (spans : List X) (number : ℕ) (fields : Fields)
+    (told : TableFault) → IsRecordFault format.columns (length (format.names version)) number fields told
+    → IsFaultyIn format version spans number fields told
+record_faulty format version spans number fields fault.Header f = f
+record_faulty format version spans number fields (fault.Fields k) f = f
+record_faulty format version spans number fields (fault.Number k i) f = f
+record_faulty format version spans number fields (fault.Order k) f = absurd f

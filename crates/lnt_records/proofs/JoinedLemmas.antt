@@ -16,8 +16,9 @@ use Rattle.lnt_spans.proofs.JoinedLaws.{BeginCanonical, joined_rest}
 use Rattle.lnt_spans.specs.Spans.{AreInOrder, IsCanonical, span_answer, version_answer}
 use Rattle.lnt_records.proofs.BegunLaws.{canonical_begins}
 use Rattle.lnt_records.proofs.VersionLaws.{HasVersion, answers_of_version}
-use Rattle.lnt_records.specs.Written.{BeginsCanonicalTable, BeginsTable, IsCanonicalTable, TellsAll}
-use Rattle.lnt_records.proofs.WriteLemmas.{Lines, begun_sending, begun_so_far, lines_done}
+use Rattle.lnt_records.specs.Written.{BeginsCanonicalTable, BeginsTable, IsCanonicalTable, TellsAll, plain_by_number}
+use Rattle.lnt_records.proofs.LineLaws.{Lines, lines_written, sending_begun, so_far_begun}
+use Rattle.lnt_records.proofs.WriteLemmas.{begun, lines_done}
 
 -- ---- answers of the version
 
@@ -93,10 +94,11 @@ rest_of_version version list pushed given last AreLeft told h all =
 pub canonical_written : (version : Version) (old now new : Option (List ℕ)) (block : List ℕ) (written : List Span) (known : List Span)
     (IsGiven : List Span → Type 0) → IsGiven known → AreInOrder known
     → ((list : List Span) → IsGiven list → AreInOrder list → AreGiven version list written)
-    → Lines version old now block written → Appends now new block
+    → Lines plain_by_number version old now block written → Appends now new block
     → (bytes : List ℕ) × Appends old new bytes × ((list : List Span) → IsGiven list → AreInOrder list → IsCanonicalTable version list bytes)
 canonical_written version old now new block written known IsGiven given order canonical l more =
-    let all = lines_done version old now new block written (canonical known given order).0.in_order l more in (
+    let all = lines_done version old new written (canonical known given order).0.in_order
+    (lines_written plain_by_number version old now new block written l more) in (
       all.0,
       all.1,
       λ list is o. record {
@@ -132,12 +134,14 @@ canonical_begun version list given old new begins begun =
 
 -- writing stopped: first while the block was filled, then while it was sent
 pub canonical_so_far : (version : Version) (list given : List Span) (old now : Option (List ℕ)) (block : List ℕ)
-    → BeginCanonical version list given → Lines version old now block given → BeginsCanonicalTable version list old now
+    → BeginCanonical version list given → Lines plain_by_number version old now block given → BeginsCanonicalTable version list old now
 canonical_so_far version list given old now block begins l =
-    canonical_begun version list given old now begins (begun_so_far version old now block given begins.more _ l refl)
+    canonical_begun version list given old now begins (begun version old now given begins.more _
+    (so_far_begun plain_by_number version old now block given l) refl)
 
 pub canonical_sending : (version : Version) (list given : List Span) (old now new : Option (List ℕ)) (block : List ℕ)
-    → BeginCanonical version list given → Lines version old now block given → AppendsFront now new block
+    → BeginCanonical version list given → Lines plain_by_number version old now block given → AppendsFront now new block
     → BeginsCanonicalTable version list old new
 canonical_sending version list given old now new block begins l f =
-    canonical_begun version list given old new begins (begun_sending version old now new block given begins.more _ l refl f)
+    canonical_begun version list given old new begins (begun version old new given begins.more _
+    (sending_begun plain_by_number version old now new block given l f) refl)

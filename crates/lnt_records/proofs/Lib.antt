@@ -7,13 +7,13 @@ pub mod GatherLemmas
 pub mod HeaderLaws
 pub mod JoinedLemmas
 pub mod LawLemmas
+pub mod LineLaws
 pub mod LineLemmas
 pub mod OneWrittenLaws
 pub mod PassingLemmas
 pub mod QuotingLaws
 pub mod ReadingLaws
 pub mod RecordLaws
-pub mod RecordLemmas
 pub mod SaidLemmas
 pub mod StreamLemmas
 pub mod TableLaws

@@ -2,11 +2,6 @@
 use Rattle.std.proofs.Common.{◌≡◌, ◌∙◌, ℕ, ◌<◌, ◌≤◌, List, [], ◌∷◌, ◌++◌, Option, Some, None, length, length-append, refl, sym, ap, subst}
 use Rattle.std.proofs.Common.{append_assoc, arith}
 use Rattle.std.proofs.lemmas.List.{append-nil}
-use Rattle.std.specs.List.{AllByRecursion}
-use Rattle.csv.specs.Machine.{next_record}
-use Rattle.csv.specs.Reading.{Reached, default_config, strip_bom}
-use Rattle.csv.specs.declared.parser.State.TheVariants as st
-use Rattle.csv.proofs.RoundTrip.{read-write}
 use Rattle.lnt_spans.specs.declared.answer.Answer.{Answer}
 use Rattle.lnt_spans.specs.declared.answer.More.{More}
 use Rattle.lnt_spans.specs.declared.answer.Version.{Version}
@@ -17,8 +12,6 @@ use Rattle.lnt_digits.specs.Delimited.{Begins}
 use Rattle.lnt_records.specs.Lines.{AreMoreFields, IsAnswer, IsFlagBefore, IsMore, IsPosition, SaysLine}
 use Rattle.lnt_records.specs.Table.{AreMore, Fields, IsSpanRecord, column_count, column_names}
 use Rattle.lnt_records.specs.Written.{following, line_text}
-use Rattle.lnt_records.proofs.QuotingLaws.{IsQuiet, same_back}
-use Rattle.lnt_records.proofs.WriteLemmas.{count_some, names_count, quiet_line, quiet_names, quiet_record}
 
 -- ---- parts of a line
 
@@ -131,41 +124,7 @@ line_taken Address Number version span s0 s1 s2 s3 low high answer =
       };
     }
 
--- ---- `csv` reads a line as its fields
-
-line_read : (fields : Fields) (rest : List ℕ) → 2 ≤ length fields → AllByRecursion IsQuiet fields
-    → next_record default_config st.StartRecord [] [] (line_text fields ++ rest) ≡ Some (fields, st.StartRecord, rest)
-line_read fields rest some quiet =
-    ap (λ (t : List ℕ). next_record default_config st.StartRecord [] [] (t ++ rest)) (sym (quiet_line fields some quiet))
-    ∙ read-write fields rest
-    ∙ ap (λ (r : Fields). Some (r, st.StartRecord, rest)) (sym (same_back fields some))
-
-pub span_read : (version : Version) (fields : Fields) (span : Span) (rest : List ℕ) → IsSpanRecord version fields span
-    → next_record default_config st.StartRecord [] [] (line_text fields ++ rest) ≡ Some (fields, st.StartRecord, rest)
-span_read version fields span rest s =
-    let some : 2 ≤ length fields = subst (λ (n : ℕ). 2 ≤ n) (sym s.count) (count_some version) in
-    line_read fields rest some (quiet_record version fields span s)
-
-pub names_read : (version : Version) (rest : List ℕ)
-    → next_record default_config st.StartRecord [] [] (line_text (column_names version) ++ rest)
-    ≡ Some (column_names version, st.StartRecord, rest)
-names_read version rest =
-    let some : 2 ≤ length (column_names version) = subst (λ (n : ℕ). 2 ≤ n) (sym (names_count version)) (count_some version) in
-    line_read (column_names version) rest some (quiet_names version)
-
--- a header doesn't begin with a byte order mark
-pub no_mark : (version : Version) (rest : List ℕ) → strip_bom (line_text (column_names version) ++ rest) ≡ line_text (column_names version)
-    ++ rest
-unfolding strip_bom
-no_mark One rest = refl
-no_mark Two rest = refl
-
-pub header_reached : (version : Version) (rest : List ℕ)
-    → Reached default_config st.StartRecord (strip_bom (line_text (column_names version) ++ rest)) (column_names version ∷ [])
-    st.StartRecord rest
-unfolding Reached
-header_reached version rest =
-    rw (no_mark version rest) ((column_names version, st.StartRecord, rest), names_read version rest, refl, (refl, refl))
+-- ---- a line has bytes
 
 some_end : (field fields : List ℕ) → 0 < length (field ++ fields ++ 10 ∷ [])
 some_end field fields = omega (arith, length-append (field ++ fields) (10 ∷ []))

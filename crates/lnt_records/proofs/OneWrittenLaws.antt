@@ -1,46 +1,17 @@
--- Where each thing has one record, so have all of a list of things. A span has one plain record, so spans have one plain table.
-use Rattle.std.proofs.Common.{◌≡◌, ◌∙◌, ℕ, zero, suc, ◌<◌, Bool, true, false, List, [], ◌∷◌, ◌++◌, Option, Some, None, get_or}
-use Rattle.std.proofs.Common.{ap, append-nil, refl, subst, sym, arith}
+-- A span has one plain record, so spans have one plain table.
+use Rattle.std.proofs.Common.{◌≡◌, ◌∙◌, ℕ, zero, suc, ◌<◌, Bool, true, false, List, [], Option, Some, None, get_or}
+use Rattle.std.proofs.Common.{sym, arith}
 use Rattle.std.proofs.lemmas.List.{ext_get_or}
-use Rattle.std.specs.List.{AllZip}
 use Rattle.lnt_digits.specs.Digits.{IsPlainDecimal}
 use Rattle.lnt_digits.proofs.OneTextLaws.{one_address, one_decimal}
 use Rattle.lnt_spans.specs.declared.answer.More.{More}
 use Rattle.lnt_spans.specs.declared.answer.Version.{Version}
 use Rattle.lnt_spans.specs.declared.answer.Version.TheVariants.{One, Two}
 use Rattle.lnt_spans.specs.declared.span.Span.{Span}
-use Rattle.lnt_records.specs.Table.{AreMore, Fields, IsFlag, column_count, column_names}
-use Rattle.lnt_records.specs.Written.{IsPlainRecord, IsPlainTable, lines_text}
+use Rattle.lnt_records.specs.Table.{AreMore, Fields, IsFlag, column_count}
+use Rattle.lnt_records.specs.Written.{IsPlainRecord, IsPlainTable, plain_by_number}
+use Rattle.lnt_records.proofs.LineLaws.{HasOneRecord, one_plain_table}
 use Rattle.lnt_records.proofs.SaidLemmas.{count_at_most}
-
--- ---- things that have one record each
-
-abbrev pub HasOneRecord : {X : Type 0} → (Fields → X → Type 0) → Type 0
-HasOneRecord {X} Says = (xs ys : Fields) (x : X) → Says xs x → Says ys x → xs ≡ ys
-
--- The records of the first things are a front of those of all, and the others are those of the rest.
-pub front_records : {X : Type 0} (Says : Fields → X → Type 0) → HasOneRecord Says → (records all : List Fields) (first rest : List X)
-    → AllZip Says records first → AllZip Says all (first ++ rest)
-    → (more : List Fields) × (all ≡ records ++ more) × AllZip Says more rest
-front_records Says one [] all [] rest a b = (all, refl, b)
-front_records Says one [] all (x ∷ first) rest a b = absurd a
-front_records Says one (r ∷ records) all [] rest a b = absurd a
-front_records Says one (r ∷ records) [] (x ∷ first) rest a b = absurd b
-front_records Says one (r ∷ records) (s ∷ all) (x ∷ first) rest a b =
-    let same : s ≡ r = one s r x b.0 a.0 in
-    let past = front_records Says one records all first rest a.1 b.1 in
-    let others = past.1 in
-    (past.0, cc, past.2)
-
-pub one_records : {X : Type 0} (Says : Fields → X → Type 0) → HasOneRecord Says → (records others : List Fields) (list : List X)
-    → AllZip Says records list → AllZip Says others list → records ≡ others
-one_records Says one records others list a b =
-    let all = front_records Says one records others list [] a (subst (AllZip Says others) (sym (append-nil list)) b) in
-    none_more all.0 all.2 all.1
-  where
-    none_more : (more : List Fields) → AllZip Says more [] → others ≡ records ++ more → records ≡ others
-    none_more [] none is = sym (is ∙ append-nil records)
-    none_more (fields ∷ more) none is = absurd none
 
 -- ---- a span has one plain record
 
@@ -83,7 +54,4 @@ one_plain_record version xs ys span a b =
 
 pub one_plain : (version : Version) (one other : List ℕ) (spans : List Span) → IsPlainTable version one spans
     → IsPlainTable version other spans → one ≡ other
-one_plain version one other spans a b = a.lines
-    ∙ ap (λ (records : List Fields). lines_text (column_names version ∷ records))
-    (one_records (IsPlainRecord version) (one_plain_record version) a.records b.records spans a.each b.each)
-    ∙ sym b.lines
+one_plain version = one_plain_table plain_by_number version (one_plain_record version)

@@ -27,7 +27,7 @@ use Rattle.lnt_records.specs.Table.{Fields, IsSpanRecord}
 use Rattle.lnt_records.specs.Written.{line_text, lines_text}
 use Rattle.lnt_records.proofs.TableLaws.{zip_push}
 use Rattle.lnt_records.proofs.LineLemmas.{line_some}
-use Rattle.lnt_records.proofs.WriteLemmas.{lines_append}
+use Rattle.lnt_records.proofs.LineLaws.{lines_append}
 
 pub passes_none : (a : Option (List ℕ)) (l : ℕ) (window : List ℕ) → Passes a a l l window window []
 passes_none a l window = record { given = []; joined = append-nil window; pulls = pulls_none a; count = omega arith }
@@ -105,7 +105,7 @@ lines_more version text table count fields span a says = record {
   text_is =
       ap (λ (t : List ℕ). t ++ line_text fields) a.text_is
       ∙ ap (λ (t : List ℕ). lines_text a.records ++ t) (sym (append-nil (line_text fields)))
-      ∙ sym (lines_append a.records (fields ∷ []));
+      ∙ sym (lines_append line_text a.records (fields ∷ []));
   each = zip_push (IsSpanRecord version) a.records table fields span a.each says;
   count_is = omega (arith, a.count_is, length-append a.records (fields ∷ []));
 }

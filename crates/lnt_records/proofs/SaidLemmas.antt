@@ -1,31 +1,36 @@
 -- What each column of a span's record holds, and that it is the record of one span only.
 use Rattle.std.proofs.Common.{◌≡◌, ◌∙◌, ℕ, zero, suc, ◌<◌, ◌≤◌, Bool, true, false, List, [], ◌∷◌, Option, Some, None, get_or, refl, sym, ap}
 use Rattle.std.proofs.Common.{arith}
-use Rattle.std.specs.List.{AllZip}
 use Rattle.lnt_digits.specs.Digits.{IsAddress, IsDecimal, IsPlainDecimal}
 use Rattle.lnt_digits.proofs.TextLaws.{one_address_number, one_decimal_number, plain_address}
 use Rattle.lnt_spans.specs.declared.answer.More.{More}
 use Rattle.lnt_spans.specs.declared.answer.Version.{Version}
 use Rattle.lnt_spans.specs.declared.answer.Version.TheVariants.{One, Two}
 use Rattle.lnt_spans.specs.declared.span.Span.{Span}
-use Rattle.lnt_records.specs.Table.{AreMore, Fields, IsFlag, IsOfColumn, IsOfKind, IsSpanRecord, Kind, SaysSpan, address, column_count}
-use Rattle.lnt_records.specs.Table.{decimal, flag, kinds, text}
+use Rattle.lnt_records.specs.Table.{AreMore, Fields, IsFlag, IsOfColumn, IsOfKind, IsSpanRecord, SaysSpan, column_count}
+use Rattle.lnt_records.specs.Table.{kinds}
+use Rattle.lnt_records.specs.declared.column.Kind.{Kind}
+use Rattle.lnt_records.specs.declared.column.Kind.TheVariants as kind
 use Rattle.lnt_records.specs.Written.{IsPlainRecord}
 
 -- ---- each column
 
 -- The property `Is` holds of every address, number and flag, by kind.
 pub record Holds (Address Number : List ℕ → ℕ → Type 0) (Is : Kind → List ℕ → Type 0) : Type 0 where
-  pub of_address : (field : List ℕ) (n : ℕ) → Address field n → Is address field
-  pub of_number : (field : List ℕ) (n : ℕ) → Number field n → Is decimal field
-  pub of_flag : (field : List ℕ) (on : Bool) → IsFlag field on → Is flag field
+  pub of_address : (field : List ℕ) (n : ℕ) → Address field n → Is kind.Address field
+  pub of_number : (field : List ℕ) (n : ℕ) → Number field n → Is kind.Decimal field
+  pub of_flag : (field : List ℕ) (on : Bool) → IsFlag field on → Is kind.Flag field
 
 more_hold : (Address Number : List ℕ → ℕ → Type 0) (Is : Kind → List ℕ → Type 0) (version : Version) (fields : Fields) (more : Option More)
     → Holds Address Number Is
-    → AreMore Number version fields more → 9 < column_count version → Is decimal (get_or fields 9 []) × Is decimal (get_or fields 10 [])
+    → AreMore Number version fields more → 9 < column_count version → Is kind.Decimal (get_or fields 9 []) × Is kind.Decimal (get_or fields 10 [])
 more_hold Address Number Is One fields more h m lt = absurd (omega (arith, lt))
 more_hold Address Number Is Two fields None h m lt = absurd m
 more_hold Address Number Is Two fields (Some more) h m lt = (h.of_number _ _ m.0, h.of_number _ _ m.1)
+
+pub common_columns : (version : Version) → 9 ≤ column_count version
+common_columns One = omega arith
+common_columns Two = omega arith
 
 pub count_at_most : (version : Version) → column_count version ≤ 11
 count_at_most One = omega arith
@@ -33,7 +38,7 @@ count_at_most Two = omega arith
 
 pub each_holds : (Address Number : List ℕ → ℕ → Type 0) (Is : Kind → List ℕ → Type 0) (version : Version) (fields : Fields) (span : Span)
     → Holds Address Number Is
-    → SaysSpan Address Number version fields span → (i : ℕ) → i < column_count version → Is (get_or kinds i text) (get_or fields i [])
+    → SaysSpan Address Number version fields span → (i : ℕ) → i < column_count version → Is (get_or kinds i kind.Text) (get_or fields i [])
 each_holds Address Number Is version fields span h s zero lt = h.of_address _ _ s.low
 each_holds Address Number Is version fields span h s (suc zero) lt = h.of_number _ _ s.low_op
 each_holds Address Number Is version fields span h s (suc (suc zero)) lt = h.of_address _ _ s.high
@@ -135,10 +140,3 @@ record_plain version fields span s = record {
   is_stmt = s.is_stmt;
   more = more_plain version fields span.answer.more s.more;
 }
-
-pub records_plain : (version : Version) (records : List Fields) (spans : List Span) → AllZip (IsPlainRecord version) records spans
-    → AllZip (IsSpanRecord version) records spans
-records_plain version [] [] h = tt
-records_plain version [] (s ∷ spans) h = absurd h
-records_plain version (r ∷ records) [] h = absurd h
-records_plain version (r ∷ records) (s ∷ spans) h = (record_plain version r s h.0, records_plain version records spans h.1)

@@ -6,7 +6,6 @@ use Rattle.std.specs.List.{AllByRecursion, AllZip}
 use Rattle.csv.specs.Reading.{Reached, default_config, strip_bom}
 use Rattle.csv.specs.declared.parser.State.{State}
 use Rattle.csv.specs.declared.parser.State.TheVariants as st
-use Rattle.csv.specs.Machine.{Read, next_record}
 use Rattle.lnt_spans.specs.declared.answer.Version.{Version}
 use Rattle.lnt_spans.specs.declared.position.Position.{Position}
 use Rattle.lnt_spans.specs.declared.span.Span.{Span}
@@ -22,56 +21,28 @@ use Rattle.lnt_records.specs.Faults.{IsComparison, IsTableRead}
 use Rattle.lnt_records.proofs.BeginningLaws.{first_begins}
 use Rattle.lnt_records.specs.Passing.{AreLines, Ends, HasPassed, IsCut, LeavesOff, Passes}
 use Rattle.lnt_records.specs.Progress.{Judges}
-use Rattle.lnt_records.specs.Table.{BeginsWith, Fields, IsSpanRecord, column_names}
-use Rattle.lnt_records.specs.Written.{line_text, lines_text}
+use Rattle.lnt_records.specs.Table.{BeginsWith, Fields, IsSpanRecord, by_number, column_names}
+use Rattle.lnt_records.specs.Written.{line_text, lines_text, plain_by_number}
 use Rattle.lnt_records.proofs.ComparisonLemmas.{AnswersSo}
-use Rattle.lnt_records.proofs.LineLemmas.{header_reached, line_some, names_read, no_mark, span_read}
+use Rattle.lnt_records.proofs.LineLaws as any
+use Rattle.lnt_records.proofs.LineLaws.{IsReadBack}
+use Rattle.lnt_records.proofs.LineLemmas.{line_some}
+use Rattle.lnt_records.proofs.WriteLemmas.{plain_numbers}
 use Rattle.lnt_records.proofs.PassingLemmas.{few_passed, few_records, passes_line}
 
 -- ---- lines cut out
 
-lines_reached : (version : Version) (records : List Fields) (table : List Span) (rest : List ℕ) (more : List Fields) (after : State)
-    (left : List ℕ) → AllZip (IsSpanRecord version) records table
-    → Reached default_config st.StartRecord rest more after left
-    → Reached default_config st.StartRecord (lines_text records ++ rest) (records ++ more) after left
-unfolding Reached
-lines_reached version [] [] rest more after left z r = r
-lines_reached version [] (s ∷ table) rest more after left z r = absurd z
-lines_reached version (f ∷ records) [] rest more after left z r = absurd z
-lines_reached version (f ∷ records) (s ∷ table) rest more after left z r =
-    let past : List ℕ = lines_text records ++ rest in
-    let read : next_record default_config st.StartRecord [] [] ((line_text f ++ lines_text records) ++ rest)
-    ≡ Some (f, st.StartRecord, past) =
-    ap (λ (t : List ℕ). next_record default_config st.StartRecord [] [] t) (append_assoc (line_text f) (lines_text records) rest)
-    ∙ span_read version f s past z.0 in
-    ((f, st.StartRecord, past), read, refl, lines_reached version records table rest more after left z.1 r)
-
-same_some : (p q : Read) → Some p ≡ Some q → p ≡ q
-same_some p q e = cc
-
--- the records after the header
-after_header : (version : Version) (rest : List ℕ) (more : List Fields) (after : State) (left : List ℕ)
-    → Reached default_config st.StartRecord (strip_bom (line_text (column_names version) ++ rest)) (column_names version ∷ more) after left
-    → Reached default_config st.StartRecord rest more after left
-unfolding Reached
-after_header version rest more after left r =
-    let plain = rw (no_mark version rest) at r in
-    let same : (column_names version, st.StartRecord, rest) ≡ plain.0 =
-    same_some (column_names version, st.StartRecord, rest) plain.0 (sym (names_read version rest) ∙ plain.1) in
-    subst (λ (p : Read). Reached default_config p.1 p.2 more after left) (sym same) plain.3
-
-with_header : (version : Version) (rest : List ℕ) (more : List Fields) (after : State) (left : List ℕ)
-    → Reached default_config st.StartRecord rest more after left
-    → Reached default_config st.StartRecord (strip_bom (line_text (column_names version) ++ rest)) (column_names version ∷ more) after left
-unfolding Reached
-with_header version rest more after left r =
-    rw (no_mark version rest) ((column_names version, st.StartRecord, rest), names_read version rest, refl, r)
+all_back : (version : Version) (records : List Fields) (table : List Span) → AllZip (IsSpanRecord version) records table
+    → AllByRecursion (IsReadBack line_text) records
+all_back version [] [] z = tt
+all_back version [] (s ∷ table) z = absurd z
+all_back version (f ∷ records) [] z = absurd z
+all_back version (f ∷ records) (s ∷ table) z = (plain_numbers.back version f s z.0, all_back version records table z.1)
 
 cut_lines : (version : Version) (records : List Fields) (table : List Span) (rest : List ℕ) → AllZip (IsSpanRecord version) records table
     → IsCut version (line_text (column_names version) ++ rest) (line_text (column_names version) ++ (lines_text records ++ rest)) records
-cut_lines version records table rest z more after left r =
-    with_header version (lines_text records ++ rest) (records ++ more) after left
-    (lines_reached version records table rest more after left z (after_header version rest more after left r))
+cut_lines version records table rest z =
+    any.cut_lines by_number plain_by_number plain_numbers version records rest (all_back version records table z)
 
 -- ---- the stages
 
@@ -139,7 +110,7 @@ pub rest_begins : (version : Version) (d : Option (List ℕ)) (ld : ℕ) (names 
 rest_begins version d ld names window all e ends =
     let rest = rest_is version names window ends.given all e ends.joined in
     subst (λ (t : List ℕ). BeginsWith t (column_names version ∷ [])) (sym rest.joined)
-    (st.StartRecord, window ++ ends.given, header_reached version (window ++ ends.given))
+    (st.StartRecord, window ++ ends.given, any.header_reached by_number plain_by_number plain_numbers version (window ++ ends.given))
 
 pub few_all : (version : Version) (a d : Option (List ℕ)) (la ld : ℕ) (names window text all : List ℕ) (table : List Span) (count : ℕ)
     → names ≡ line_text (column_names version)

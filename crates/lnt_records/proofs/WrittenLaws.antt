@@ -16,7 +16,7 @@ use Rattle.lnt_records.specs.Table.{Fields, IsFlag, column_names}
 use Rattle.lnt_records.specs.Written.{IsCanonicalTable, IsOfVersion, IsPlainRecord, IsWrittenTable, TellsAll, lines_text}
 use Rattle.lnt_records.proofs.VersionLaws.{HasVersion}
 use Rattle.lnt_records.proofs.LineLemmas.{more_said}
-use Rattle.lnt_records.proofs.WriteLemmas.{written_table}
+use Rattle.lnt_records.proofs.WriteLemmas.{plain_written}
 
 -- ---- a record of a span
 
@@ -87,7 +87,7 @@ pub whole_table : (version : Version) (spans : List Span) → AreInOrder spans �
 whole_table version spans order fit told =
     let records = has_records version spans fit told in
     let bytes : List ℕ = lines_text (column_names version ∷ records.0) in
-    (bytes, written_table version bytes records.0 spans records.1 order refl)
+    (bytes, plain_written version bytes spans (record { records = records.0; lines = refl; each = records.1 }) order)
 
 -- ---- a canonical table
 

@@ -9,9 +9,10 @@ use Rattle.lnt_records.specs.declared.comparison.Compared.{Compared}
 use Rattle.lnt_records.specs.declared.comparison.Compared.TheVariants.{Same, Fault, Differs}
 use Rattle.lnt_records.specs.declared.stream.TableRead.{TableRead}
 use Rattle.lnt_records.specs.declared.stream.TableRead.TheVariants.{Compared as Read, Other}
+use Rattle.lnt_records.specs.declared.column.Kind.{Kind}
 use Rattle.lnt_records.specs.declared.fault.TableFault.{TableFault}
 use Rattle.lnt_records.specs.declared.fault.TableFault.TheVariants as fault
-use Rattle.lnt_records.specs.Table.{BeginsWith, Fields, IsOfColumn, IsTableIn, IsTableOf, Kind, TableFormat, by_number, column_names}
+use Rattle.lnt_records.specs.Table.{BeginsWith, Fields, IsOfColumn, IsTableIn, IsTableOf, TableFormat, by_number, column_names}
 
 -- ---- one record
 

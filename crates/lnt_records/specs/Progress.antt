@@ -1,8 +1,10 @@
 -- How far a table was read and compared. No public contract speaks of it.
-use Rattle.std.specs.Prelude.{◌≡◌, ◌≢◌, ℕ, ◌+◌, ◌<◌, List, [], ◌++◌, Option, length, get_or}
+use Rattle.std.specs.Prelude.{◌≡◌, ◌≢◌, ◌==◌, ℕ, ◌<◌, List, [], ◌∷◌, ◌++◌, Option, length, get_or}
+use Rattle.std.specs.Io.KnownBytes.{Appends}
 use Rattle.std.specs.List.{AllZip}
 use Rattle.std.specs.Option.{option_map}
 use Rattle.lnt_digits.specs.Digits.{IsAddress, IsDecimal}
+use Rattle.lnt_io.specs.Fronts.{AppendsFront}
 use Rattle.lnt_spans.specs.declared.answer.Answer.{Answer}
 use Rattle.lnt_spans.specs.declared.answer.Version.{Version}
 use Rattle.lnt_spans.specs.declared.position.Position.{Position}
@@ -13,44 +15,35 @@ use Rattle.lnt_spans.specs.Spans.{AreInOrder, version_answer}
 use Rattle.lnt_records.specs.declared.comparison.Comparison.{Comparison}
 use Rattle.lnt_records.specs.declared.gather.Gathered.{Gathered}
 use Rattle.lnt_records.specs.declared.gather.Gathered.TheVariants as gathered
-use Rattle.lnt_records.specs.declared.record.RecordFault.{RecordFault}
-use Rattle.lnt_records.specs.declared.record.RecordFault.TheVariants as record_fault
+use Rattle.lnt_records.specs.declared.column.Kind.{Kind}
+use Rattle.lnt_records.specs.declared.column.Kind.TheVariants.{Address, Decimal, Flag, Text}
+use Rattle.lnt_records.specs.declared.fault.TableFault.{TableFault}
+use Rattle.lnt_records.specs.declared.fault.TableFault.TheVariants as fault
 use Rattle.lnt_records.specs.Faults.{IsFaultyColumn, IsFault}
-use Rattle.lnt_records.specs.Table.{AreMore, Fields, IsFlag, IsOfColumn, IsTable, IsTableOf, Kind, text}
-use Rattle.lnt_records.specs.Written.{IsPlainRecord, line_text, lines_text}
+use Rattle.lnt_records.specs.Table.{Fields, IsFlag, IsTable, IsTableOf}
+use Rattle.lnt_records.specs.Written.{LineFormat, lines_of}
 
 -- ---- one record
 
-abbrev pub IsColumnOf : List Kind → Kind → ℕ → Type 0
-IsColumnOf columns kind i = get_or columns i text ≡ kind
+-- The value of a field of this kind: 0 or 1 if it is a flag, and any number if it is a text.
+abbrev pub IsValue : Kind → List ℕ → ℕ → Type 0
+IsValue Address field value = IsAddress field value
+IsValue Decimal field value = IsDecimal field value
+IsValue Flag field value = IsFlag field (value == 1)
+IsValue Text field value = Unit {0}
 
--- each field before column i is of its column's kind
-abbrev pub AreSoundBefore : List Kind → Fields → ℕ → Type 0
-AreSoundBefore columns fields i = (k : ℕ) → k < i → IsOfColumn columns fields k
+-- As many fields as columns, with these values.
+pub record AreValues (columns : List Kind) (count : ℕ) (fields : Fields) (values : List ℕ) : Type 0 where
+  pub count_is : length fields ≡ count
+  pub each : (i : ℕ) → i < count → IsValue (get_or columns i Text) (get_or fields i []) (get_or values i 0)
 
--- the fault names the first column whose field isn't of its kind
-abbrev pub IsColumnFault : List Kind → Fields → RecordFault → Type 0
-IsColumnFault columns fields record_fault.Fields = ⊥
-IsColumnFault columns fields (record_fault.Number i) = IsFaultyColumn columns fields i
-
--- either that, or the number of the record's fields isn't that of the columns
-abbrev pub IsRecordFault : List Kind → ℕ → Fields → RecordFault → Type 0
-IsRecordFault columns count fields record_fault.Fields = length fields ≢ count
-IsRecordFault columns count fields (record_fault.Number i) = (length fields ≡ count) × IsFaultyColumn columns fields i
-
--- the position in columns i and i + 1
-pub record SaysPosition (fields : Fields) (i : ℕ) (position : Position) : Type 0 where
-  pub address : IsAddress (get_or fields i []) position.address
-  pub op : IsDecimal (get_or fields (i + 1) []) position.op
-
--- the answer in the columns after the positions
-pub record SaysAnswer (version : Version) (fields : Fields) (answer : Answer) : Type 0 where
-  pub unit : IsDecimal (get_or fields 4 []) answer.unit
-  pub file : IsDecimal (get_or fields 5 []) answer.file
-  pub line : IsDecimal (get_or fields 6 []) answer.line
-  pub column : IsDecimal (get_or fields 7 []) answer.column
-  pub is_stmt : IsFlag (get_or fields 8 []) answer.is_stmt
-  pub more : AreMore IsDecimal version fields answer.more
+-- The record with this number and these fields has not as many fields as columns, or this is the first column whose field isn't of its
+-- kind.
+abbrev pub IsRecordFault : List Kind → ℕ → ℕ → Fields → TableFault → Type 0
+IsRecordFault columns count number fields fault.Header = ⊥
+IsRecordFault columns count number fields (fault.Fields k) = (k ≡ number) × (length fields ≢ count)
+IsRecordFault columns count number fields (fault.Number k i) = (k ≡ number) × (length fields ≡ count) × IsFaultyColumn columns fields i
+IsRecordFault columns count number fields (fault.Order k) = ⊥
 
 -- ---- all records
 
@@ -73,16 +66,28 @@ pub record Gathers {S : Type 0} (to_come : S → List Span → Type 0) (comparis
 -- ---- lines that are added
 
 -- The line of the span was appended.
-pub record AddsRecord (version : Version) (span : Span) (old new : List ℕ) : Type 0 where
+pub record AddsLine {V X : Type 0} (plain : LineFormat V X) (version : V) (span : X) (old new : List ℕ) : Type 0 where
   pub fields : Fields
-  pub joined : new ≡ old ++ line_text fields
-  pub plain : IsPlainRecord version fields span
+  pub joined : new ≡ old ++ plain.line fields
+  pub says : plain.Says version fields span
 
 -- A line for each of the spans was appended.
-pub record AddsRecords (version : Version) (spans : List Span) (old new : List ℕ) : Type 0 where
+pub record AddsLines {V X : Type 0} (plain : LineFormat V X) (version : V) (spans : List X) (old new : List ℕ) : Type 0 where
   pub records : List Fields
-  pub joined : new ≡ old ++ lines_text records
-  pub each : AllZip (IsPlainRecord version) records spans
+  pub joined : new ≡ old ++ lines_of plain.line records
+  pub each : AllZip (plain.Says version) records spans
+
+-- What was written is the header, and a line for each of these spans.
+pub record HasWrittenLines {V X : Type 0} (plain : LineFormat V X) (version : V) (old new : Option (List ℕ)) (spans : List X) : Type 0 where
+  pub records : List Fields
+  pub written : Appends old new (lines_of plain.line (plain.names version ∷ records))
+  pub each : AllZip (plain.Says version) records spans
+
+-- The writer stopped, and a prefix of the header and the lines of these spans has been written.
+pub record HasBegunLines {V X : Type 0} (plain : LineFormat V X) (version : V) (old new : Option (List ℕ)) (spans : List X) : Type 0 where
+  pub records : List Fields
+  pub front : AppendsFront old new (lines_of plain.line (plain.names version ∷ records))
+  pub each : AllZip (plain.Says version) records spans
 
 -- ---- differences so far
 

@@ -1,5 +1,5 @@
 -- An address table, in terms of the records that `csv` reads from its bytes: first of any format, then by number.
-use Rattle.std.specs.Prelude.{◌≡◌, ℕ, Bool, true, false, List, [], ◌∷◌, ◌++◌, Option, Some, None, length, get_or, codes, suc}
+use Rattle.std.specs.Prelude.{◌≡◌, ℕ, Bool, true, false, List, [], ◌∷◌, ◌++◌, Option, Some, None, length, get_or, codes}
 use Rattle.std.specs.List.{AllZip}
 use Rattle.csv.specs.Reading.{AreRecords, Reached, default_config, strip_bom}
 use Rattle.csv.specs.declared.parser.State.{State}
@@ -10,6 +10,8 @@ use Rattle.lnt_spans.specs.declared.answer.Version.{Version}
 use Rattle.lnt_spans.specs.declared.answer.Version.TheVariants.{One, Two}
 use Rattle.lnt_spans.specs.declared.span.Span.{Span}
 use Rattle.lnt_spans.specs.Spans.{AreInOrder}
+use Rattle.lnt_records.specs.declared.column.Kind.{Kind}
+use Rattle.lnt_records.specs.declared.column.Kind.TheVariants.{Address, Decimal, Flag, Text}
 
 -- A record is a list of fields, and a field is a list of bytes.
 abbrev pub Fields : Type 0
@@ -23,19 +25,7 @@ RecordsOf bytes records = AreRecords default_config state.StartRecord (strip_bom
 abbrev pub BeginsWith : List ℕ → List Fields → Type 0
 BeginsWith bytes records = (after : State) × (rest : List ℕ) × Reached default_config state.StartRecord (strip_bom bytes) records after rest
 
--- the fields from column i on are these names
-abbrev pub AreNamed : ℕ → Fields → Fields → Type 0
-AreNamed i [] fields = Unit {0}
-AreNamed i (name ∷ names) fields = (get_or fields i [] ≡ name) × AreNamed (suc i) names fields
-
 -- ---- columns
-
--- the kinds of columns
-pub data Kind : Type 0 where
-  address : Kind
-  decimal : Kind
-  flag : Kind
-  text : Kind
 
 -- 0 or 1
 abbrev pub IsFlag : List ℕ → Bool → Type 0
@@ -43,14 +33,14 @@ IsFlag field false = field ≡ codes "0"
 IsFlag field true = field ≡ codes "1"
 
 abbrev pub IsOfKind : Kind → List ℕ → Type 0
-IsOfKind address field = (n : ℕ) × IsAddress field n
-IsOfKind decimal field = (n : ℕ) × IsDecimal field n
-IsOfKind flag field = (on : Bool) × IsFlag field on
-IsOfKind text field = Unit {0}
+IsOfKind Address field = (n : ℕ) × IsAddress field n
+IsOfKind Decimal field = (n : ℕ) × IsDecimal field n
+IsOfKind Flag field = (on : Bool) × IsFlag field on
+IsOfKind Text field = Unit {0}
 
 -- the field in column i is of the column's kind
 abbrev pub IsOfColumn : List Kind → Fields → ℕ → Type 0
-IsOfColumn columns fields i = IsOfKind (get_or columns i text) (get_or fields i [])
+IsOfColumn columns fields i = IsOfKind (get_or columns i Text) (get_or fields i [])
 
 -- ---- a table of any format
 
@@ -92,7 +82,7 @@ abbrev pub column_count : Version → ℕ
 column_count version = length (column_names version)
 
 abbrev pub kinds : List Kind
-kinds = address ∷ decimal ∷ address ∷ decimal ∷ decimal ∷ decimal ∷ decimal ∷ decimal ∷ flag ∷ decimal ∷ decimal ∷ []
+kinds = Address ∷ Decimal ∷ Address ∷ Decimal ∷ Decimal ∷ Decimal ∷ Decimal ∷ Decimal ∷ Flag ∷ Decimal ∷ Decimal ∷ []
 
 -- ---- a span's record
 

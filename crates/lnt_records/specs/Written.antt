@@ -31,15 +31,47 @@ abbrev pub line_text : Fields → List ℕ
 line_text [] = 10 ∷ []
 line_text (field ∷ fields) = field ++ following fields ++ 10 ∷ []
 
+-- records, each as the line that this function gives
+abbrev pub lines_of : (Fields → List ℕ) → List Fields → List ℕ
+lines_of line [] = []
+lines_of line (fields ∷ records) = line fields ++ lines_of line records
+
 abbrev pub lines_text : List Fields → List ℕ
-lines_text [] = []
-lines_text (fields ∷ records) = line_text fields ++ lines_text records
+lines_text records = lines_of line_text records
+
+-- ---- tables of any format
+--     old, new    the known bytes that the writer holds before and afterwards
+
+-- How tables with versions `V` are written: the header of each version, a record as a line, and the records that are written of spans.
+pub record LineFormat (V X : Type 0) : Type 1 where
+  pub names : V → Fields
+  pub line : Fields → List ℕ
+  pub Says : V → Fields → X → Type 0
 
 -- the header as a line, and a line for each span
-pub record IsPlainTable (version : Version) (bytes : List ℕ) (spans : List Span) : Type 0 where
+pub record IsPlainTableIn {V X : Type 0} (format : LineFormat V X) (version : V) (bytes : List ℕ) (spans : List X) : Type 0 where
   pub records : List Fields
-  pub lines : bytes ≡ lines_text (column_names version ∷ records)
-  pub each : AllZip (IsPlainRecord version) records spans
+  pub lines : bytes ≡ lines_of format.line (format.names version ∷ records)
+  pub each : AllZip (format.Says version) records spans
+
+-- What was written is a prefix of the header and the lines of the first of these spans. Every table of the spans on plain lines
+-- begins with it.
+pub record BeginsTableIn {V X : Type 0} (format : LineFormat V X) (version : V) (spans : List X) (old new : Option (List ℕ)) : Type 0 where
+  pub first : List X
+  pub rest : List X
+  pub joined : first ++ rest ≡ spans
+  pub records : List Fields
+  pub each : AllZip (format.Says version) records first
+  pub front : AppendsFront old new (lines_of format.line (format.names version ∷ records))
+  pub of_whole : (bytes : List ℕ) → IsPlainTableIn format version bytes spans → AppendsFront old new bytes
+
+-- ---- tables by number
+
+abbrev pub plain_by_number : LineFormat Version Span
+plain_by_number = record { names = column_names; line = line_text; Says = IsPlainRecord }
+
+abbrev pub IsPlainTable : Version → List ℕ → List Span → Type 0
+IsPlainTable version bytes spans = IsPlainTableIn plain_by_number version bytes spans
 
 -- The bytes are a table of these spans, on plain lines.
 pub record IsWrittenTable (version : Version) (bytes : List ℕ) (spans : List Span) : Type 0 where
@@ -58,22 +90,11 @@ pub record IsCanonicalTable (version : Version) (given : List Span) (bytes : Lis
   pub same : (p : Position) → span_answer spans p ≡ version_answer version given p
   pub written : IsWrittenTable version bytes spans
 
--- ---- tables whose writing stopped
---     old, new    the known bytes that the writer holds before and afterwards
+abbrev pub BeginsTable : Version → List Span → Option (List ℕ) → Option (List ℕ) → Type 0
+BeginsTable version spans old new = BeginsTableIn plain_by_number version spans old new
 
--- What was written is a prefix of the header and the lines of the first of these spans. Every table of the spans on plain lines
--- begins with it.
-pub record BeginsTable (version : Version) (spans : List Span) (old new : Option (List ℕ)) : Type 0 where
-  pub first : List Span
-  pub rest : List Span
-  pub joined : first ++ rest ≡ spans
-  pub records : List Fields
-  pub each : AllZip (IsPlainRecord version) records first
-  pub front : AppendsFront old new (lines_text (column_names version ∷ records))
-  pub of_whole : (bytes : List ℕ) → IsPlainTable version bytes spans → AppendsFront old new bytes
-
--- The same for the canonical spans that answer as the given ones do, in the fields of the version: every table of them on plain lines
--- begins with what was written.
+-- What was written is such a prefix for the canonical spans that answer as the given ones do, in the fields of the version: every table
+-- of them on plain lines begins with it.
 pub record BeginsCanonicalTable (version : Version) (given : List Span) (old new : Option (List ℕ)) : Type 0 where
   pub spans : List Span
   pub canonical : IsCanonical spans

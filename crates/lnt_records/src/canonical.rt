@@ -5,8 +5,8 @@ ghost use Rattle.std.specs.List.{AllByRecursion, cons_option};
 ghost use Rattle.lnt_spans.specs.declared.answer.Version.{Version};
 ghost use Rattle.lnt_spans.specs.declared.span.Span as spec;
 ghost use Rattle.lnt_spans.specs.Spans.{AreInOrder};
-ghost use Rattle.lnt_records.specs.Written.{BeginsCanonicalTable, IsCanonicalTable, IsOfVersion, TellsAll};
-ghost use Rattle.lnt_records.specs.Progress.{AddsRecords};
+ghost use Rattle.lnt_records.specs.Written.{BeginsCanonicalTable, IsCanonicalTable, IsOfVersion, TellsAll, plain_by_number};
+ghost use Rattle.lnt_records.specs.Progress.{AddsLines};
 
 use crate::fault::WriteStop;
 use crate::text::ROOM;
@@ -40,7 +40,7 @@ pub fn write_canonical<S: SpanSource + Drop, W: Write>(
     let mut spans = spans;
     let mut joiner = Joiner::new(version);
     let mut block = Vec::new(alloc);
-    put_header(&mut block, version)?;
+    put_header(&mut block, &version)?;
     let mut room = [0; ROOM];
     while let Some(span) = spans.next_span() {
         let joined = joiner.push(&span);
@@ -59,7 +59,7 @@ fn put_some(
     span: Option<Span>,
 ) -> Result<(), AllocError>
     ensures { (version : Version) → IfSome span (λ span. IsOfVersion version span.answer)
-        → OnOk result (AddsRecords version (cons_option span []) block.old.items block.new.items) }
+        → OnOk result (AddsLines plain_by_number version (cons_option span []) block.old.items block.new.items) }
 {
     match &span {
         Some(span) => put_span(block, room, span),

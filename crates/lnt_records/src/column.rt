@@ -1,30 +1,27 @@
 //! The fields of a record, by column.
-ghost use Rattle.std.specs.Prelude.{◌≡◌, ◌≢◌, ◌+◌, ◌<◌, [], length, get_or, IfOk, IfErr, OnOk, MatchOption, Bool};
+ghost use Rattle.std.specs.Prelude.{◌≡◌, ◌≢◌, ◌<◌, ◌≤◌, [], length, get_or, IfOk, IfErr, MatchOption};
 ghost use Rattle.std.specs.Bool.{MatchBool};
 ghost use Rattle.csv.specs.Records.{fields_of};
-ghost use Rattle.lnt_digits.specs.Digits.{IsAddress, IsDecimal};
-ghost use Rattle.lnt_records.specs.Progress.{AreSoundBefore, IsColumnFault, IsColumnOf};
-ghost use Rattle.lnt_records.specs.Table.{IsFlag};
-ghost use Rattle.lnt_records.specs.Table as table;
+ghost use Rattle.lnt_records.specs.declared.column.Kind.TheVariants as kind;
+ghost use Rattle.lnt_records.specs.Progress.{AreValues, IsRecordFault, IsValue};
+ghost use Rattle.lnt_records.specs.Table.{IsOfKind};
 
-use crate::record::RecordFault;
+use crate::fault::TableFault;
+use crate::header::Columns;
+use crate::wide::MOST;
 use csv::ByteRecord;
 
-/// The columns of a table. Contracts see their kinds, `columns`; at run time there is nothing of them.
-pub trait Columns {
-    ghost use Rattle.std.specs.Prelude.{List};
-    ghost use Rattle.lnt_records.specs.Table.{Kind};
-
-    ghost columns: { List Kind };
-}
-
-/// The columns of a table by number.
-pub enum ByNumber {}
-
-impl Columns for ByNumber {
-    ghost use Rattle.lnt_records.specs.Table.{kinds};
-
-    ghost columns = { kinds };
+/// The kind of a column: what its fields are.
+#[derive(Clone, Copy)]
+pub enum Kind {
+    /// An address, in hexadecimal digits after `0x`.
+    Address,
+    /// A decimal number.
+    Decimal,
+    /// `0` or `1`.
+    Flag,
+    /// Any bytes.
+    Text,
 }
 
 /// The field in column `i` of a record. The caller makes sure that the record has that column.
@@ -47,62 +44,51 @@ pub fn is_field(row: &ByteRecord, i: usize, text: &[u8]) -> bool
     field(row, i) == text
 }
 
-/// Reads the address in column `i`. The caller makes sure that this is a column of addresses, that the record has it, and that
-/// the fields before it are of their columns' kinds. So the fault, `Number`, names the first column whose field isn't of its kind.
-#[tactic(auto, using(crate::proofs::ColumnLemmas::sound_address, crate::proofs::ColumnLemmas::no_address))]
-pub fn address_at<C: Columns>(row: &ByteRecord, i: usize) -> Result<u64, RecordFault>
-    requires there { i < length (fields_of row.now) }
-    requires kind { IsColumnOf C.columns table.address i }
-    requires before { AreSoundBefore C.columns (fields_of row.now) i }
-    ensures ok { IfOk result (λ n. IsAddress (get_or (fields_of row.now) i []) n) }
-    ensures after { OnOk result (AreSoundBefore C.columns (fields_of row.now) (i + 1)) }
-    ensures err { IfErr result (λ fault. IsColumnFault C.columns (fields_of row.now) fault) }
+/// The values of a record's fields, by column: addresses, numbers, 0 or 1 for flags, and 0 for texts. Or the fault of the record,
+/// which has this number: `Fields` if it doesn't have as many fields as the version has columns, else `Number` with the first
+/// column whose field isn't of its kind.
+pub fn values_of<V: Columns>(
+    row: &ByteRecord,
+    version: &V,
+    number: u64,
+) -> Result<[u64; MOST], TableFault>
+    requires { length (V.names version.now) ≤ 11 }
+    ensures ok { IfOk result (λ values. AreValues V.kinds (length (V.names version.now)) (fields_of row.now) values) }
+    ensures err { IfErr result (λ fault. IsRecordFault V.kinds (length (V.names version.now)) number (fields_of row.now) fault) }
 {
-    match lnt_digits::address(field(row, i)) {
-        Some(address) => Ok(address),
-        None => Err(RecordFault::Number(i as u64)),
+    let mut values = [0; MOST];
+    if row.len() != version.columns() {
+        return Err(TableFault::Fields(number));
+    }
+    for i in 0..row.len() {
+        let Some(value) = value_of(V::kind(i), field(row, i)) else {
+            return Err(TableFault::Number(number, i as u64));
+        };
+        values[i] = value;
+    }
+    Ok(values)
+}
+
+// The value of a field, if it is of this kind.
+#[inline(always)]
+fn value_of(kind: Kind, field: &[u8]) -> Option<u64>
+    ensures { MatchOption result (IsOfKind kind field.now → ⊥) (λ value. IsValue kind field.now value) }
+{
+    match kind {
+        Kind::Address => lnt_digits::address(field),
+        Kind::Decimal => lnt_digits::decimal(field),
+        Kind::Flag => flag(field),
+        Kind::Text => Some(0),
     }
 }
 
-/// Reads the decimal number in column `i`, as [`address_at`] reads an address.
-#[tactic(auto, using(crate::proofs::ColumnLemmas::sound_decimal, crate::proofs::ColumnLemmas::no_decimal))]
-pub fn decimal_at<C: Columns>(row: &ByteRecord, i: usize) -> Result<u64, RecordFault>
-    requires there { i < length (fields_of row.now) }
-    requires kind { IsColumnOf C.columns table.decimal i }
-    requires before { AreSoundBefore C.columns (fields_of row.now) i }
-    ensures ok { IfOk result (λ n. IsDecimal (get_or (fields_of row.now) i []) n) }
-    ensures after { OnOk result (AreSoundBefore C.columns (fields_of row.now) (i + 1)) }
-    ensures err { IfErr result (λ fault. IsColumnFault C.columns (fields_of row.now) fault) }
+// 0 or 1, if the field is `0` or `1`.
+fn flag(field: &[u8]) -> Option<u64>
+    ensures { MatchOption result (IsOfKind kind.Flag field.now → ⊥) (λ value. IsValue kind.Flag field.now value) }
 {
-    match lnt_digits::decimal(field(row, i)) {
-        Some(number) => Ok(number),
-        None => Err(RecordFault::Number(i as u64)),
-    }
-}
-
-// Reads the flag in column `i`, as `address_at` reads an address.
-#[tactic(auto, using(crate::proofs::ColumnLemmas::sound_flag, crate::proofs::ColumnLemmas::no_flag))]
-pub(crate) fn flag_at<C: Columns>(row: &ByteRecord, i: usize) -> Result<bool, RecordFault>
-    requires there { i < length (fields_of row.now) }
-    requires kind { IsColumnOf C.columns table.flag i }
-    requires before { AreSoundBefore C.columns (fields_of row.now) i }
-    ensures ok { IfOk result (λ on. IsFlag (get_or (fields_of row.now) i []) on) }
-    ensures after { OnOk result (AreSoundBefore C.columns (fields_of row.now) (i + 1)) }
-    ensures err { IfErr result (λ fault. IsColumnFault C.columns (fields_of row.now) fault) }
-{
-    match flag(field(row, i)) {
-        Some(on) => Ok(on),
-        None => Err(RecordFault::Number(i as u64)),
-    }
-}
-
-// Reads a field that is `0` or `1`.
-fn flag(text: &[u8]) -> Option<bool>
-    ensures { MatchOption result ((on : Bool) → IsFlag text.now on → ⊥) (λ on. IsFlag text.now on) }
-{
-    match text {
-        [b'0'] => Some(false),
-        [b'1'] => Some(true),
+    match field {
+        [b'0'] => Some(0),
+        [b'1'] => Some(1),
         _ => None,
     }
 }

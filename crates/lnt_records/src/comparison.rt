@@ -11,7 +11,7 @@ ghost use Rattle.lnt_records.specs.Table.{BeginsWith, Fields, IsSpanRecord, IsTa
 
 use crate::fault::TableFault;
 use crate::header::header_of;
-use crate::record::{RecordFault, span_of};
+use crate::record::span_of;
 use crate::taking::{TakesRecords, take_records};
 use csv::ByteRecord;
 use lnt_spans::{Difference, Merge, Span, SpanSlice, SpanSource, Version};
@@ -113,12 +113,9 @@ impl<S: SpanSource + Drop> Comparison<S> {
             → (table : List Span) × IsTable self.old.version records table
             × IsFaulty self.old.version table (length records) (fields_of row.now) fault) }
     {
-        let span = match span_of(row, self.version) {
+        let span = match span_of(row, self.version, self.count) {
             Ok(span) => span,
-            Err(RecordFault::Fields) => return Err(TableFault::Fields(self.count)),
-            Err(RecordFault::Number(column)) => {
-                return Err(TableFault::Number(self.count, column));
-            }
+            Err(fault) => return Err(fault),
         };
         if !self.merge.takes(&span) {
             return Err(TableFault::Order(self.count));

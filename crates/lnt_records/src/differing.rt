@@ -11,7 +11,7 @@ ghost use Rattle.lnt_records.specs.Table.{BeginsWith, column_names};
 
 use crate::fault::{TableFault, told};
 use crate::gather::{Gathered, gather_after};
-use crate::header::{header_line, header_of};
+use crate::header::{Columns, header_of};
 use crate::lines::pass_header;
 use crate::passing::pass_spans;
 use crate::remaining::Remaining;
@@ -102,7 +102,7 @@ pub fn differ_or_take<S: SpanSource + Drop, T: Source>(
         return told(differ_taken(alloc, text, spans));
     };
     let passed = pass_spans::<S, T, Differing<S>>(alloc, spans, version, table, &mut window)?;
-    let text = window.rest_after(alloc, header_line(version), table)?;
+    let text = window.rest_after(alloc, version.header_line(), table)?;
     let merge = Merge::past(SpanSlice::of(&[]), version, passed.end);
     let gathered = gather_after(alloc, &text, merge, version, passed.count);
     told(differ_after(gathered, passed.spans, version, passed.end)).map(DifferingRead::Differing)

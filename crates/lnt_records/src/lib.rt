@@ -28,14 +28,14 @@ mod window;
 mod write;
 
 pub use canonical::write_canonical;
-pub use column::{Columns, address_at, decimal_at, field, is_field};
+pub use column::{Kind, field, is_field, values_of};
 pub use comparison::{Compared, compare};
 pub use differing::{Differing, DifferingRead, compare_all, differ_or_take};
 pub use fault::{TableFault, WriteStop};
-pub use header::{TableVersion, header_of};
+pub use header::{Columns, TableVersion, header_of, is_header};
 pub use reading::{read_next, reader_of};
-pub use record::RecordFault;
 pub use remaining::Remaining;
 pub use stream::{TableRead, compare_or_take, compare_table};
 pub use taking::{TakesRecords, take_records};
-pub use write::write_spans;
+pub use wide::MOST;
+pub use write::{put_header, send, send_full, write_spans};

@@ -9,7 +9,7 @@ ghost use Rattle.lnt_records.specs.Passing.{HasPassed, Passes};
 ghost use Rattle.lnt_records.specs.Table.{column_names};
 ghost use Rattle.lnt_records.specs.Written.{line_text};
 
-use crate::header::header_line;
+use crate::header::Columns;
 use crate::window::Window;
 use lnt_digits::{address_until, decimal_until, past};
 use lnt_io::{Source, Stop};
@@ -55,10 +55,10 @@ pub(crate) fn push_lines<S: SpanSource + Drop, T: Source>(
 pub(crate) fn pass_header(window: &mut Window) -> Option<Version>
     ensures { MatchOption result (window.new ≡ window.old) (λ version. window.old ≡ line_text (column_names version) ++ window.new) }
 {
-    if window.pass_text(header_line(Version::One)) {
+    if window.pass_text(Version::One.header_line()) {
         return Some(Version::One);
     }
-    if window.pass_text(header_line(Version::Two)) {
+    if window.pass_text(Version::Two.header_line()) {
         return Some(Version::Two);
     }
     None

@@ -1,100 +1,61 @@
 //! Reads the span of a record.
-ghost use Rattle.std.specs.Prelude.{◌≡◌, ◌+◌, ◌<◌, length, IfOk, IfErr, OnOk};
+ghost use Rattle.std.specs.Prelude.{IfOk, IfErr};
 ghost use Rattle.csv.specs.Records.{fields_of};
 ghost use Rattle.lnt_digits.specs.Digits.{IsDecimal};
-ghost use Rattle.lnt_records.specs.Progress.{AreSoundBefore, IsColumnFault, IsColumnOf, IsRecordFault, SaysAnswer, SaysPosition};
-ghost use Rattle.lnt_records.specs.Table.{AreMore, IsSpanRecord, column_count, kinds};
-ghost use Rattle.lnt_records.specs.Table as table;
+ghost use Rattle.lnt_records.specs.Progress.{AreValues, IsRecordFault};
+ghost use Rattle.lnt_records.specs.Table.{AreMore, Fields, IsSpanRecord, column_count, kinds};
 
-use crate::column::{ByNumber, address_at, decimal_at, flag_at};
-use crate::header::columns;
+use crate::column::values_of;
+use crate::fault::TableFault;
+use crate::wide::MOST;
 use csv::ByteRecord;
 use lnt_spans::{Answer, More, Position, Span, Version};
 
-/// Why a record has no span.
-#[derive(Clone, Copy, Debug, PartialEq, Eq)]
-pub enum RecordFault {
-    /// The number of its fields isn't the number of columns.
-    Fields,
-    /// This column is the first whose field isn't of its kind.
-    Number(u64),
+// The span of the record with this number, or its fault.
+#[tactic(auto, using(crate::proofs::SaidLemmas::count_at_most))]
+pub(crate) fn span_of(row: &ByteRecord, version: Version, number: u64) -> Result<Span, TableFault>
+    ensures ok { IfOk result (λ span. IsSpanRecord version (fields_of row.now) span) }
+    ensures err { IfErr result (λ fault. IsRecordFault kinds (column_count version) number (fields_of row.now) fault) }
+{
+    let values = values_of(row, &version, number)?;
+    Ok(span_with(&values, version))
 }
 
-// The span of a record, or why it has none.
-pub(crate) fn span_of(row: &ByteRecord, version: Version) -> Result<Span, RecordFault>
-    ensures ok { IfOk result (λ span. IsSpanRecord version (fields_of row.now) span) }
-    ensures err { IfErr result (λ fault. IsRecordFault kinds (column_count version) (fields_of row.now) fault) }
+// The span of a record with these values.
+#[inline(always)]
+fn span_with(values: &[u64; MOST], version: Version) -> Span
+    ensures { (fields : Fields) → AreValues kinds (column_count version) fields values.now → IsSpanRecord version fields result }
 {
-    if row.len() != columns(version) {
-        return Err(RecordFault::Fields);
+    Span {
+        low: Position {
+            address: values[0],
+            op: values[1],
+        },
+        high: Position {
+            address: values[2],
+            op: values[3],
+        },
+        answer: Answer {
+            unit: values[4],
+            file: values[5],
+            line: values[6],
+            column: values[7],
+            is_stmt: values[8] == 1,
+            more: more_with(values, version),
+        },
     }
-    span_in(row, version)
-}
-
-#[tactic(auto, using(crate::proofs::RecordLemmas::common_columns, crate::proofs::RecordLemmas::none_before, crate::proofs::RecordLemmas::says_span, crate::proofs::RecordLemmas::column_fault))]
-fn span_in(row: &ByteRecord, version: Version) -> Result<Span, RecordFault>
-    requires { length (fields_of row.now) ≡ column_count version }
-    ensures ok { IfOk result (λ span. IsSpanRecord version (fields_of row.now) span) }
-    ensures err { IfErr result (λ fault. IsRecordFault kinds (column_count version) (fields_of row.now) fault) }
-{
-    let low = position_at(row, 0)?;
-    let high = position_at(row, 2)?;
-    let answer = answer_in(row, version)?;
-    Ok(Span { low, high, answer })
-}
-
-// The position in columns `i` and `i + 1`. The caller makes sure that the fields before them are of their kinds.
-fn position_at(row: &ByteRecord, i: usize) -> Result<Position, RecordFault>
-    requires there { i + 1 < length (fields_of row.now) }
-    requires address { IsColumnOf kinds table.address i }
-    requires op { IsColumnOf kinds table.decimal (i + 1) }
-    requires before { AreSoundBefore kinds (fields_of row.now) i }
-    ensures ok { IfOk result (λ position. SaysPosition (fields_of row.now) i position) }
-    ensures after { OnOk result (AreSoundBefore kinds (fields_of row.now) (i + 2)) }
-    ensures err { IfErr result (λ fault. IsColumnFault kinds (fields_of row.now) fault) }
-{
-    let address = address_at::<ByNumber>(row, i)?;
-    let op = decimal_at::<ByNumber>(row, i + 1)?;
-    Ok(Position { address, op })
-}
-
-// The answer in the columns from 4 on. The caller makes sure that the fields before them are of their kinds.
-#[tactic(auto, using(crate::proofs::RecordLemmas::common_columns))]
-fn answer_in(row: &ByteRecord, version: Version) -> Result<Answer, RecordFault>
-    requires count { length (fields_of row.now) ≡ column_count version }
-    requires before { AreSoundBefore kinds (fields_of row.now) 4 }
-    ensures ok { IfOk result (λ answer. SaysAnswer version (fields_of row.now) answer) }
-    ensures err { IfErr result (λ fault. IsColumnFault kinds (fields_of row.now) fault) }
-{
-    let unit = decimal_at::<ByNumber>(row, 4)?;
-    let file = decimal_at::<ByNumber>(row, 5)?;
-    let line = decimal_at::<ByNumber>(row, 6)?;
-    let column = decimal_at::<ByNumber>(row, 7)?;
-    let is_stmt = flag_at::<ByNumber>(row, 8)?;
-    let more = more_in(row, version)?;
-    Ok(Answer {
-        unit,
-        file,
-        line,
-        column,
-        is_stmt,
-        more,
-    })
 }
 
 // What only version 2 has: the instruction set and the discriminator.
-fn more_in(row: &ByteRecord, version: Version) -> Result<Option<More>, RecordFault>
-    requires count { length (fields_of row.now) ≡ column_count version }
-    requires before { AreSoundBefore kinds (fields_of row.now) 9 }
-    ensures ok { IfOk result (λ more. AreMore IsDecimal version (fields_of row.now) more) }
-    ensures err { IfErr result (λ fault. IsColumnFault kinds (fields_of row.now) fault) }
+#[inline(always)]
+fn more_with(values: &[u64; MOST], version: Version) -> Option<More>
+    ensures { (fields : Fields) → AreValues kinds (column_count version) fields values.now → AreMore IsDecimal version fields result }
 {
     match version {
-        Version::One => Ok(None),
-        Version::Two => {
-            let isa = decimal_at::<ByNumber>(row, 9)?;
-            let discriminator = decimal_at::<ByNumber>(row, 10)?;
-            Ok(Some(More { isa, discriminator }))
-        }
+        Version::One => None,
+        Version::Two => Some(More {
+            isa: values[9],
+            discriminator: values[10],
+        }),
     }
 }

@@ -7,7 +7,7 @@ ghost use Rattle.lnt_records.specs.Faults.{IsComparison, IsTableRead};
 
 use crate::comparison::{Compared, compare_after, compare_records};
 use crate::fault::{TableFault, told};
-use crate::header::{header_line, header_of};
+use crate::header::{Columns, header_of};
 use crate::lines::{pass_header, push_lines};
 use crate::passing::pass_spans;
 use crate::window::Window;
@@ -87,7 +87,7 @@ pub fn compare_or_take<S: SpanSource + Drop, T: Source>(
     let mut merge = Merge::past(passed.spans, version, passed.end);
     let mut count = passed.count;
     push_lines(alloc, &mut merge, &mut count, version, table, &mut window)?;
-    let text = window.rest_after(alloc, header_line(version), table)?;
+    let text = window.rest_after(alloc, version.header_line(), table)?;
     told(compare_after(alloc, &text, merge, version, count)).map(TableRead::Compared)
 }
 

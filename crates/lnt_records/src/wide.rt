@@ -7,8 +7,8 @@ use crate::reading::{read_next, reader_of};
 use csv::ByteRecord;
 use std::alloc::{AllocError, Global};
 
-// The most columns that a table of any version has.
-const MOST: usize = 11;
+/// The most columns that a table of any version has.
+pub const MOST: usize = 11;
 
 // The number of bytes in a block. A record without quotes that fills none has less than twice as many.
 const LONG: usize = 1 << 16;

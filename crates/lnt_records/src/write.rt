@@ -5,12 +5,11 @@ ghost use Rattle.std.specs.List.{All};
 ghost use Rattle.lnt_io.specs.Fronts.{AppendsFront};
 ghost use Rattle.lnt_spans.specs.declared.answer.Version.{Version};
 ghost use Rattle.lnt_spans.specs.Spans.{AreInOrder};
-ghost use Rattle.lnt_records.specs.Table.{column_names};
-ghost use Rattle.lnt_records.specs.Written.{BeginsTable, IsOfVersion, IsWrittenTable, line_text};
-ghost use Rattle.lnt_records.specs.Progress.{AddsRecord};
+ghost use Rattle.lnt_records.specs.Written.{BeginsTable, IsOfVersion, IsWrittenTable, line_text, plain_by_number};
+ghost use Rattle.lnt_records.specs.Progress.{AddsLine};
 
 use crate::fault::WriteStop;
-use crate::header::header_line;
+use crate::header::Columns;
 use crate::text::{ROOM, line_of};
 use lnt_io::write_whole;
 use lnt_spans::{Span, Version};
@@ -43,7 +42,7 @@ pub fn write_spans<W: Write>(
     ensures begun { OnErr result (BeginsTable version spans.now (W.contents out.old) (W.contents out.new)) }
 {
     let mut block = Vec::new(alloc);
-    put_header(&mut block, version)?;
+    put_header(&mut block, &version)?;
     let mut room = [0; ROOM];
     for span in spans {
         put_span(&mut block, &mut room, span)?;
@@ -52,8 +51,8 @@ pub fn write_spans<W: Write>(
     send(&mut block, out)
 }
 
-// Sends the block to the writer if it is full.
-pub(crate) fn send_full<W: Write>(block: &mut Vec<u8>, out: &mut W) -> Result<(), WriteStop>
+/// Sends a block of lines to the writer if it is full.
+pub fn send_full<W: Write>(block: &mut Vec<u8>, out: &mut W) -> Result<(), WriteStop>
     ensures handed { OnOk result ((sent : List ℕ) × Appends (W.contents out.old) (W.contents out.new) sent
         × (block.old.items ≡ sent ++ block.new.items)) }
     ensures front { OnErr result (AppendsFront (W.contents out.old) (W.contents out.new) block.old.items) }
@@ -64,8 +63,8 @@ pub(crate) fn send_full<W: Write>(block: &mut Vec<u8>, out: &mut W) -> Result<()
     send(block, out)
 }
 
-// Sends the block to the writer and empties it.
-pub(crate) fn send<W: Write>(block: &mut Vec<u8>, out: &mut W) -> Result<(), WriteStop>
+/// Sends a block of lines to the writer and empties it.
+pub fn send<W: Write>(block: &mut Vec<u8>, out: &mut W) -> Result<(), WriteStop>
     ensures handed { OnOk result (Appends (W.contents out.old) (W.contents out.new) block.old.items) }
     ensures empty { OnOk result (block.new.items ≡ []) }
     ensures front { OnErr result (AppendsFront (W.contents out.old) (W.contents out.new) block.old.items) }
@@ -77,11 +76,11 @@ pub(crate) fn send<W: Write>(block: &mut Vec<u8>, out: &mut W) -> Result<(), Wri
     Ok(())
 }
 
-// Adds the header.
-pub(crate) fn put_header(block: &mut Vec<u8>, version: Version) -> Result<(), AllocError>
-    ensures { OnOk result (block.new.items ≡ block.old.items ++ line_text (column_names version)) }
+/// Adds the header.
+pub fn put_header<V: Columns>(block: &mut Vec<u8>, version: &V) -> Result<(), AllocError>
+    ensures { OnOk result (block.new.items ≡ block.old.items ++ line_text (V.names version.now)) }
 {
-    block.extend_from_slice(header_line(version))
+    block.extend_from_slice(version.header_line())
 }
 
 // Adds the line of a span, which is written into `room` first.
@@ -92,7 +91,7 @@ pub(crate) fn put_span(
     span: &Span,
 ) -> Result<(), AllocError>
     ensures { (version : Version) → IsOfVersion version span.now.answer
-        → OnOk result (AddsRecord version span.now block.old.items block.new.items) }
+        → OnOk result (AddsLine plain_by_number version span.now block.old.items block.new.items) }
 {
     let start = line_of(room, span);
     block.extend_from_slice(&room[start..])

@@ -2,7 +2,7 @@ use Rattle.std.proofs.Common.{rules, subst, length, ◌<◌, ◌≤◌}
 use Rattle.std.specs.List.{All}
 use Rattle.std.proofs.lemmas.List.{take_all}
 use Rattle.std.proofs.lemmas.List.Elements.{All-more}
-use Rattle.lnt_paths.specs.Joining.{IsPlainByte}
+use Rattle.lnt_paths.specs.PathLines.{IsPlainByte}
 use Rattle.lnt_paths.proofs.field.is_plain.Goals as goal
 
 pub loop-byte-preserved : goal.loop-byte-preserved

@@ -1,6 +1,6 @@
 use Rattle.std.proofs.Common.{rules, length, ◌<◌}
 use Rattle.std.proofs.lemmas.List.Elements.{All-more}
-use Rattle.lnt_paths.specs.Joining.{IsPlainByte}
+use Rattle.lnt_paths.specs.PathLines.{IsPlainByte}
 use Rattle.lnt_paths.proofs.PassingLemmas.{path_found}
 use Rattle.lnt_paths.proofs.plain.plain_field.Goals as goal
 

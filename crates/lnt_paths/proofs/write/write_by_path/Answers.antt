@@ -6,7 +6,7 @@ use Rattle.lnt_spans.specs.declared.position.Position.{Position}
 use Rattle.lnt_spans.specs.Instructions.{IsOfInstructions}
 use Rattle.lnt_paths.specs.Joining.{IsFirstOperation}
 use Rattle.lnt_paths.specs.PathAnswers.{PathAnswer, path_answer}
-use Rattle.lnt_paths.proofs.WriteLemmas.{keeps_same, operation_found, table_begun, table_begun_none, table_written}
+use Rattle.lnt_paths.proofs.WriteLemmas.{keeps_same, lines_begun, operation_found, table_begun_none, table_written}
 use Rattle.lnt_io.proofs.FrontLaws.{so_stopped}
 use Rattle.lnt_paths.proofs.write.write_by_path.Goals as goal
 
@@ -45,7 +45,7 @@ returns-in_err-write_lines-clause-begun g c =
     let begun = c.in_err-write_lines.ensures.begun in
     so_stopped c.from_residual-in_err-write_lines.result _
     (λ list other come come' o o' same.
-    table_begun tell c.args.version (g.W.Write.contents c.args.out.now) (g.W.Write.contents c.write_lines.new.out) other list begun.0
+    lines_begun tell c.args.version (g.W.Write.contents c.args.out.now) (g.W.Write.contents c.write_lines.new.out) other list begun.0
     (record { first = o; second = o'; same = same })
     (λ whole joins.
     subst (λ (f : Option Position). MatchOption f (AllByRecursion IsOfInstructions whole) (λ position. IsFirstOperation position whole))

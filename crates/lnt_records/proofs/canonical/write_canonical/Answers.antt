@@ -8,10 +8,11 @@ use Rattle.lnt_spans.specs.Joined.{HasJoined}
 use Rattle.lnt_spans.proofs.ComingLaws.{all_given, HasGiven, none_given, one_given}
 use Rattle.lnt_spans.specs.Spans.{AreInOrder}
 use Rattle.lnt_records.specs.Table.{column_names}
-use Rattle.lnt_records.specs.Written.{line_text}
+use Rattle.lnt_records.specs.Written.{line_text, plain_by_number}
 use Rattle.lnt_records.proofs.JoinedLemmas.{AreGiven, all_begun, canonical_begun, canonical_sending, canonical_so_far}
 use Rattle.lnt_records.proofs.JoinedLemmas.{canonical_written, given_begun, given_of_version, rest_of_version}
-use Rattle.lnt_records.proofs.WriteLemmas.{begun_none, lines_put, lines_sent, no_lines}
+use Rattle.lnt_records.proofs.LineLaws.{lines_put, lines_sent, no_lines}
+use Rattle.lnt_records.proofs.WriteLemmas.{begun_none}
 use Rattle.lnt_records.proofs.canonical.write_canonical.Goals as goal
 
 pub loop-span-init : goal.loop-span-init
@@ -20,7 +21,7 @@ loop-span-init g c = (
   [],
   c.new-joiner.ensures.joined,
   c.new-joiner.ensures.version,
-  no_lines c.args.version _ _ (c.in_ok-put_header.ensures
+  no_lines plain_by_number c.args.version _ _ (c.in_ok-put_header.ensures
       ∙ ap (λ (t : List ℕ). t ++ line_text (column_names c.args.version)) c.new-block.ensures.items),
   λ list coming. none_given list (g.S.SpanSource.to_come c.args.spans) coming,
 )
@@ -48,7 +49,7 @@ loop-span-preserved g c =
       inv.1 ++ cons_option one [],
       joined,
       c.push-joined.ensures.version ∙ inv.3,
-      lines_sent version _ _ _ _ _ handed.0 (inv.1 ++ cons_option one []) (lines_put version _ _ _ _ inv.1 (cons_option one []) inv.4 added)
+      lines_sent plain_by_number version _ _ _ _ _ handed.0 (inv.1 ++ cons_option one []) (lines_put plain_by_number version _ _ _ _ inv.1 (cons_option one []) inv.4 added)
           handed.1 handed.2,
       pushed,
     )
@@ -75,7 +76,7 @@ returns-clause-table g c =
     (all (subst AreInOrder (ends known.0 known.1) known.2))) in
     on_ok_weaker c.send.result
     (λ handed. canonical_written version _ _ _ _ (inv.1 ++ cons_option last []) known.0 (g.S.SpanSource.to_come c.args.spans) known.1
-    known.2 canonical (lines_put version _ _ _ _ inv.1 (cons_option last []) inv.4 added) handed)
+    known.2 canonical (lines_put plain_by_number version _ _ _ _ inv.1 (cons_option last []) inv.4 added) handed)
     c.send.ensures.handed
 
 pub returns-clause-begun : goal.returns-clause-begun
@@ -99,7 +100,7 @@ returns-clause-begun g c =
     (all_begun version list (inv.1 ++ cons_option last [])
     (subst (λ (xs : List Span). AreGiven version xs (inv.1 ++ cons_option last [])) (sym (ends list coming))
     (all (subst AreInOrder (ends list coming) order))))
-    (lines_put version _ _ _ _ inv.1 (cons_option last []) inv.4 added) front)
+    (lines_put plain_by_number version _ _ _ _ inv.1 (cons_option last []) inv.4 added) front)
     c.send.ensures.front
 
 pub returns-in_err-put_header-clause-begun : goal.returns-in_err-put_header-clause-begun
@@ -151,4 +152,4 @@ returns-in_err-send_full-clause-begun g c =
     (λ list coming order. canonical_sending version list (inv.1 ++ cons_option one []) _ _ _ _
     (given_begun version list (inv.0 ++ span ∷ []) (inv.1 ++ cons_option one []) c.push-joined.new.self.last new joined (pushed list coming)
     order)
-    (lines_put version _ _ _ _ inv.1 (cons_option one []) inv.4 added) c.in_err-send_full.ensures.front)
+    (lines_put plain_by_number version _ _ _ _ inv.1 (cons_option one []) inv.4 added) c.in_err-send_full.ensures.front)

@@ -1,9 +1,10 @@
-use Rattle.std.proofs.Common.{arith, refl, true}
+use Rattle.std.proofs.Common.{◌∙◌, arith, refl, true}
 use Rattle.std.proofs.lemmas.Bool.Decides.{Decides-eqb}
 use Rattle.std.proofs.lemmas.List.Elements.{All-nil}
 use Rattle.std.proofs.lemmas.Slice.Eq.{starts_is}
-use Rattle.lnt_paths.specs.Joining.{IsPlainByte}
+use Rattle.lnt_paths.specs.PathLines.{IsPlainByte}
 use Rattle.lnt_paths.specs.PathAnswers.{path_answer}
+use Rattle.lnt_paths.proofs.LineLemmas.{header_text}
 use Rattle.lnt_paths.proofs.PassingLemmas.{stands_first, stands_more}
 use Rattle.lnt_paths.proofs.comparison.PathComparison.pass_lines.Goals as goal
 
@@ -12,7 +13,7 @@ loop-said-init g c =
     let header = c.header_line-header.result.now in
     let begins = (starts_is Decides-eqb c.args.table.now header true c.if-not-starts_with.ensures.value).0 refl in (
       stands_first g.S.SpanSource.to_come (path_answer c.args.version (g.P.Paths.bytes_of c.args.paths.now)) c.args.version c.args.self.now
-          c.args.table.now header c.as_slice-last.result.now c.requires.count c.header_line-header.ensures begins
+          c.args.table.now header c.as_slice-last.result.now c.requires.count (c.header_line-header.ensures ∙ header_text c.args.version) begins
           (rw c.as_slice-last.ensures (All-nil IsPlainByte)),
       c.requires.known,
     )
