@@ -24,5 +24,5 @@ AreKnownOf path slots = All (λ slot. IfSome slot (λ kept. kept.path.items ≡ 
 
 -- All that is remembered of paths is correct.
 pub record IsRemembered (path : ℕ → ℕ → List ℕ) (memory : PathMemory) : Type 0 where
-  pub known : AreKnownOf path memory.known.slots.items
+  pub known : IfSome memory.known (λ known. AreKnownOf path known.slots.items)
   pub compared : AreCompared path memory.compared.slots

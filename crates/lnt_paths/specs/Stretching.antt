@@ -24,15 +24,6 @@ use Rattle.lnt_paths.specs.PathSpans.{path_span_answer, PathSpan, StandInOrder, 
 
 -- ---- one side
 
--- These spans of a section are still to come, and from `at` on they answer as the function does.
-pub record IsSectionAt {S : Type 0} (to_come : S → List Span → Type 0) (tell : Answer → PathAnswer) (section : Section S) (at : Position)
-    (answers : Position → Option PathAnswer) : Type 0 where
-  pub rest : List Span
-  pub left : SpansAreLeft to_come section.next section.spans rest
-  pub order : AreInOrder rest
-  pub past : EndsAfter at rest
-  pub same : (p : Position) → IsAtMost at p → answer_told tell rest p ≡ answers p
-
 -- The first span, if there is one, ends after p.
 abbrev pub PathsEndAfter : Position → List PathSpan → Type 0
 PathsEndAfter p [] = Unit {0}
@@ -45,11 +36,16 @@ pub record IsTableAt (table : List HeldSpan) (at : Position) (answers : Position
   pub same : (p : Position) → IsAtMost at p → path_span_answer (map held_span table) p ≡ answers p
 
 -- The answer is that of the first of these spans.
-pub record IsOfFirst (answer : AnswerByPath) (table : List HeldSpan) : Type 0 where
+pub record IsOfFirst (answer : PathAnswer) (table : List HeldSpan) : Type 0 where
   pub first : HeldSpan
   pub more : List HeldSpan
   pub table_is : table ≡ first ∷ more
-  pub answer_is : answer ≡ first.answer
+  pub answer_is : answer ≡ told_path_answer first.answer
+
+-- where the table's answer at a position may end
+abbrev pub held_end : Position → List HeldSpan → Option Position
+held_end at [] = None
+held_end at (held ∷ table) = Some (cond (is_below at (whole held.low)) (whole held.low) (whole held.high))
 
 -- For the files in these slots, it is remembered correctly whether they have the path of the first span, if there is one.
 abbrev pub AreToldOfFirst : (ℕ → ℕ → List ℕ) → List HeldSpan → List (Option ToldFile) → Type 0
@@ -71,16 +67,12 @@ held_runs at table = length table + length table + held_gap at table
 -- What is remembered of paths is correct.
 pub record HasToldByPath {S : Type 0} (to_come : S → List Span → Type 0) (path : ℕ → ℕ → List ℕ) (differences : DifferencesByPath S)
     (by_section by_table : Position → Option PathAnswer) (told : List (Stretch PathAnswer)) : Type 0 where
-  pub section : IsSectionAt to_come (path_answer differences.version path) differences.section differences.at by_section
-  pub table : IsTableAt differences.table.now differences.at by_table
-  pub below : AreToldBelow by_section by_table differences.at (option_map (path_answer differences.version path) differences.by_section)
-      (option_map told_path_answer (option_copied differences.by_table)) told
-  pub files : AreToldOfFirst path differences.table.now differences.told.slots
-  pub compared : AreCompared path differences.compared.slots
+  pub given : HasGiven to_come (λ table at answers. IsTableAt table.now at answers)
+      (λ table recalled. AreToldOfFirst path table.now recalled.slots) (path_answer differences.version path) said_answer
+      differences.stretches by_section by_table told
+  pub memory : IsRemembered path differences.memory
 
--- An upper bound on the stretches that are left to give, if the function bounds the spans that are left in the section's
--- source. Each stretch begins where a run of one side does, so the runs left on both sides are added up.
+-- an upper bound on the stretches that are left to give, if the function bounds the spans that are left in the section's source
 abbrev pub path_stretches_left : {S : Type 0} → (S → ℕ) → DifferencesByPath S → ℕ
 path_stretches_left of_section differences =
-    runs_left differences.at differences.section.next (of_section differences.section.spans)
-    + held_runs differences.at differences.table.now
+    stretches_to_give of_section (λ table at. held_runs at table.now) differences.stretches

@@ -29,7 +29,8 @@ pub(crate) struct SaidPath<'r> {
 // What is remembered of the paths of files.
 #[derive(Drop)]
 pub(crate) struct PathMemory {
-    known: KnownPaths,
+    // `None` if no paths are cached
+    known: Option<KnownPaths>,
     compared: ComparedPaths,
 }
 
@@ -40,9 +41,19 @@ impl PathMemory {
     {
         let known = KnownPaths::new(alloc)?;
         Ok(PathMemory {
-            known,
+            known: Some(known),
             compared: ComparedPaths::none(),
         })
+    }
+
+    // Nothing is remembered yet, and no paths will be cached.
+    pub(crate) fn none() -> PathMemory
+        ensures { (path : ℕ → ℕ → List ℕ) → IsRemembered path result }
+    {
+        PathMemory {
+            known: None,
+            compared: ComparedPaths::none(),
+        }
     }
 }
 
@@ -114,9 +125,14 @@ impl<'p, 'r, P: Paths> Telling for PathTelling<'p, 'r, P> {
         if answer.line != held.line || column_in(self.version, answer.column) != held.column {
             return Ok(false);
         }
-        memory
-            .known
-            .has_told_path(self.alloc, self.paths, recalled, answer, held.path)
+        let Some(known) = &mut memory.known else {
+            return recalled.has_path(self.alloc, self.paths, answer, held.path);
+        };
+        known.has_told_path(self.alloc, self.paths, recalled, answer, held.path)
+    }
+
+    fn same_said(&self, one: SaidPath<'r>, other: SaidPath<'r>) -> bool {
+        one.line == other.line && one.column == other.column && one.path == other.path
     }
 
     fn difference(

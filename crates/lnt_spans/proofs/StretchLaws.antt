@@ -1,6 +1,7 @@
 -- The stretches given so far are a front of the list of all stretches.
 use Rattle.std.proofs.Common.{List, [], ◌∷◌, ◌++◌, Option, subst, sym}
 use Rattle.std.proofs.lemmas.List.{map-append}
+use Rattle.std.specs.Option.{option_map}
 use Rattle.lnt_spans.specs.declared.answer.Answer.{Answer}
 use Rattle.lnt_spans.specs.declared.difference.Difference.{Difference}
 use Rattle.lnt_spans.specs.declared.position.Position.{Position}
@@ -42,6 +43,7 @@ stretches_on of_section of_table differences by_section by_table told h =
     let tell = in_version differences.version in
     all_told (same_options same_answers) by_section by_table begun
     (λ at s t told. AreToldBelow by_section by_table at s t (stretches_of told)) (AreStretches by_section by_table)
-    (goes_on by_section by_table) differences.at differences.by_section differences.by_table told
-    (span_runs tell h.section.rest differences.at by_section h.section.order h.section.past h.section.same)
-    (span_runs tell h.table.rest differences.at by_table h.table.order h.table.past h.table.same) h.below
+    (goes_on by_section by_table) differences.stretches.at (option_map tell differences.stretches.before.section)
+    (option_map (λ answer. answer) differences.stretches.before.table) told
+    (span_runs tell h.section.rest differences.stretches.at by_section h.section.order h.section.past h.section.same)
+    (span_runs (λ answer. answer) h.table.rest differences.stretches.at by_table h.table.order h.table.past h.table.same) h.below

@@ -1,21 +1,10 @@
 -- What the bodies of this crate say of one step, and those of lnt_paths. No public contract speaks of it.
-use Rattle.std.specs.Prelude.{◌≡◌, List, [], ◌∷◌, ◌++◌, Option, Some, None, cond, ◌≢◌, MatchOption, ℕ, ◌+◌, Bool, true}
-use Rattle.lnt_spans.specs.declared.answer.Answer.{Answer}
-use Rattle.lnt_spans.specs.declared.difference.Difference.{Difference}
+use Rattle.std.specs.Prelude.{◌≡◌, List, [], ◌∷◌, Option, Some, None, cond}
 use Rattle.lnt_spans.specs.declared.position.Position.{Position}
 use Rattle.lnt_spans.specs.declared.span.Span.{Span}
-use Rattle.lnt_spans.specs.declared.stretches.Differences.{Differences}
-use Rattle.lnt_spans.specs.declared.stretches.Step.{Step}
-use Rattle.lnt_spans.specs.declared.stretches.Step.TheVariants.{Ended, Known, Told}
-use Rattle.lnt_spans.specs.Differing.{HasTold}
 use Rattle.lnt_spans.specs.Positions.{IsBelow, IsAtMost, is_below}
-use Rattle.lnt_spans.specs.Stretches.{AreStretches}
-use Rattle.lnt_spans.specs.declared.answer.Version.{Version}
-use Rattle.lnt_spans.specs.Spans.{AreInOrder, span_answer, version_answer, span_in_version}
-use Rattle.lnt_spans.specs.Remaining.{EndsAfter}
-use Rattle.lnt_spans.specs.Ahead.{gap_before, IsAhead}
 
--- ---- one step on to where one of the two answers ends: how far each of them goes, and what the step brings
+-- ---- one step on to where one of the two answers ends: how far each of them goes
 
 -- The position isn't after the end, if there is one.
 abbrev pub IsUpTo : Position → Option Position → Type 0
@@ -36,15 +25,6 @@ pub record IsRun {X : Type 0} (answers : Position → Option X) (at : Position) 
 abbrev pub run_end : Position → Option Span → Option Position
 run_end at None = None
 run_end at (Some span) = Some (cond (is_below at span.low) span.low span.high)
-
--- what one step brings
-abbrev pub StretchStep : {S T : Type 0} → (S → List Span → Type 0) → (T → List Span → Type 0) → Differences S T → (Position → Option Answer)
-    → (Position → Option Answer) → List Difference → Step → Type 0
-StretchStep of_section of_table differences by_section by_table told Ended = AreStretches by_section by_table told
-StretchStep of_section of_table differences by_section by_table told Known =
-    HasTold of_section of_table differences by_section by_table told
-StretchStep of_section of_table differences by_section by_table told (Told difference) =
-    HasTold of_section of_table differences by_section by_table (told ++ difference ∷ [])
 
 -- ---- spans ahead
 

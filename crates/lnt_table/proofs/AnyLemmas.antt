@@ -44,10 +44,10 @@ compared_so bytes f g (Differs difference) e h = record {
   table = h.table;
   is_table = h.is_table;
   least = record {
-    section_is = h.least.section_is ∙ e h.version difference.position;
-    table_is = h.least.table_is;
+    section = h.least.section ∙ e h.version difference.position;
+    table = h.least.table;
     differ = h.least.differ;
-    before = λ p k. sym (e h.version p) ∙ h.least.before p k;
+    least = λ p k. sym (e h.version p) ∙ h.least.least p k;
   };
 }
 
