@@ -1,5 +1,5 @@
 //! The files and the standard input of the process.
-use lnt_io::{Counted, Opener};
+use lnt_io::{OpenedFile, Opener};
 use std::alloc::Global;
 use std::cell::Cell;
 use std::fs::{self, File};
@@ -103,7 +103,7 @@ impl<'a> Opener for System<'a> {
         Some(self.reader(Input::Standard(self.rt.stdin())))
     }
 
-    fn could_not_read(&mut self, _name: &str, _source: &Counted<Reader<'a>>) {}
+    fn could_not_read<'n>(&mut self, _file: &OpenedFile<'n, Reader<'a>>) {}
 
     // A pipe that was read has nothing left, and opening one again might wait for ever.
     fn reader_again(&mut self, name: &str) -> Option<Reader<'a>> {

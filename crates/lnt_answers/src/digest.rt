@@ -32,6 +32,7 @@ pub fn sum_of<R: Source>(source: &mut R) -> Result<[u8; 16], Stop>
     ensures no_failure { result ≢ Err Stop.Read → R.failures source.new ≡ R.failures source.old }
     ensures too_long { IsErrOf result Stop.TooLong → IsTrue (R.too_long source.new) }
     ensures no_memory { IsErrOf result Stop.Memory → ⊥ }
+    ensures name { R.name source.new ≡ R.name source.old }
     ensures more { IsErrOf result Stop.TooLong → HasMoreThan (R.remaining source.old) (R.left source.old) }
 {
     let mut hasher = Md5::new();
@@ -65,6 +66,7 @@ pub fn md5_agrees<R: Source>(source: &mut R, listed: &[u8; 16]) -> Result<Agreem
     ensures no_failure { result ≢ Err Stop.Read → R.failures source.new ≡ R.failures source.old }
     ensures too_long { IsErrOf result Stop.TooLong → IsTrue (R.too_long source.new) }
     ensures no_memory { IsErrOf result Stop.Memory → ⊥ }
+    ensures name { R.name source.new ≡ R.name source.old }
     ensures more { IsErrOf result Stop.TooLong → HasMoreThan (R.remaining source.old) (R.left source.old) }
 {
     let sum = sum_of(source)?;

@@ -11,7 +11,7 @@ ghost use Rattle.lnt_answers.specs.SumLines.{listed_at, listed_files, listed_in}
 
 use crate::files::path_of;
 use crate::{Agreement, md5_agrees};
-use lnt_io::{Counted, Halt, LIMIT, Opener, Status, write_whole};
+use lnt_io::{Halt, OpenedFile, Opener, Status, write_whole};
 use lnt_lines::Index;
 use lnt_text::Quoted;
 use std::alloc::Global;
@@ -114,11 +114,11 @@ fn found_of<O: Opener>(path: &[u8], listed: &[u8; 16], opener: &mut O) -> Option
     if name == "-" || !opener.is_regular(name) {
         return None;
     }
-    let mut source = Counted::new(opener.reader_of(name)?, LIMIT);
-    match md5_agrees(&mut source, listed) {
+    let mut file = OpenedFile::open(opener, name)?;
+    match md5_agrees(&mut file, listed) {
         Ok(agreement) => Some(agreement),
         Err(_) => {
-            opener.could_not_read(name, &source);
+            opener.could_not_read(&file);
             None
         }
     }

@@ -7,6 +7,7 @@ use Rattle.lnt_wire.specs.declared.put.EncodeFault.TheVariants.{Memory}
 use Rattle.lnt_wire.specs.Bytes.{Exactly, Then, IsShortest, Appends}
 use Rattle.lnt_header.specs.Encoding.{RefusedPut}
 use Rattle.lnt_header.specs.Joins.{Each}
+use Rattle.lnt_header.proofs.ReaderLaws.{each_push}
 
 -- ---- joins
 
@@ -58,23 +59,6 @@ each_begun P old = record {
   spelling = [];
   spelled = record { spelled = refl; shortest = λ other p. omega arith };
   joined = sym (append-nil old);
-}
-
-pub each_push : {X : Type 0} (P : X → List ℕ → Type 0) (us : List X) (u : X) (x y : List ℕ) → Each P us x → P u y
-    → Each P (us ++ u ∷ []) (x ++ y)
-each_push P [] u x y p q = record {
-  front = y;
-  back = [];
-  first = q;
-  second = refl;
-  joined = ap (λ (z : List ℕ). z ++ y) p ∙ sym (append-nil y);
-}
-each_push P (v ∷ us) u x y p q = record {
-  front = p.front;
-  back = p.back ++ y;
-  first = p.first;
-  second = each_push P us u p.back y p.second q;
-  joined = ap (λ (z : List ℕ). z ++ y) p.joined ∙ append_assoc p.front p.back y;
 }
 
 -- a spelling of a list with one more value, in two

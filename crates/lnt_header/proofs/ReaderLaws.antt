@@ -190,20 +190,20 @@ second_refused OfSecond P Q u old middle fault code r s =
 
 -- ---- lists
 
-pub each_more : {X : Type 0} (P : X → List ℕ → Type 0) (us : List X) (u : X) (x y : List ℕ) → Each P us x → P u y
+pub each_push : {X : Type 0} (P : X → List ℕ → Type 0) (us : List X) (u : X) (x y : List ℕ) → Each P us x → P u y
     → Each P (us ++ u ∷ []) (x ++ y)
-each_more P [] u x y p q = record {
+each_push P [] u x y p q = record {
   front = y;
   back = [];
   first = q;
   second = refl;
   joined = ap (λ (z : List ℕ). z ++ y) p ∙ sym (append-nil y);
 }
-each_more P (v ∷ us) u x y p q = record {
+each_push P (v ∷ us) u x y p q = record {
   front = p.front;
   back = p.back ++ y;
   first = p.first;
-  second = each_more P us u p.back y p.second q;
+  second = each_push P us u p.back y p.second q;
   joined = ap (λ (z : List ℕ). z ++ y) p.joined ∙ append_assoc p.front p.back y;
 }
 
@@ -216,7 +216,7 @@ reads_more P us u old middle new r s =
     let one : P old.order u s.spelling = subst (λ (o : Order). P o u s.spelling) r.order s.spelled in
     record {
       spelling = r.spelling ++ s.spelling;
-      spelled = each_more (P old.order) us u r.spelling s.spelling r.spelled one;
+      spelled = each_push (P old.order) us u r.spelling s.spelling r.spelled one;
       whole = r.whole ∙ ap (λ (z : List ℕ). r.spelling ++ z) s.whole ∙ sym (append_assoc r.spelling s.spelling new.rest);
       place = omega (arith, s.place, r.place, length-append r.spelling s.spelling);
       order = s.order ∙ r.order;

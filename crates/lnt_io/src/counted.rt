@@ -4,8 +4,8 @@ ghost use Rattle.std.specs.Prelude.{◌≡◌, ◌+◌, ◌-◌, ◌^◌, ◌<�
 use crate::source::{ReadFault, Source};
 use std::io::Read;
 
-// The greatest limit, in bytes: 1 TiB.
-const MOST: u64 = 1 << 40;
+/// The greatest number of bytes that are read from a file, 2^40 (1 TiB).
+pub const LIMIT: u64 = 1 << 40;
 
 /// Gives the bytes of a reader, up to a limit.
 ///
@@ -34,7 +34,7 @@ impl<R: Read> Counted<R> {
     {
         Counted {
             reader,
-            left: limit.min(MOST),
+            left: limit.min(LIMIT),
             failures: 0,
             beyond: None,
         }

@@ -2,7 +2,7 @@
 //!
 //! A [`Source`] gives the bytes of a file piece by piece, up to a limit; [`Counted`] is one over any reader, such as a file; and
 //! [`read_all`] reads them all, or stops for one of the reasons of [`Stop`]. An [`Opener`] gives readers of files by their
-//! names. [`open_file`] makes a source of one, [`source_of`] of any reader, and [`bytes_of_file`] reads a file whole. Work on a
+//! names. An [`OpenedFile`] is the source of one, with its name, [`open_file`] makes a source of one, [`source_of`] of any reader, and [`bytes_of_file`] reads a file whole. Work on a
 //! file ends with a [`Status`], or stops with a [`Halt`].
 //!
 //! The library's `write_all` says nothing about what a writer holds after it failed. [`write_whole`] does. [`print_line`] prints
@@ -12,16 +12,18 @@
 mod counted;
 mod halt;
 mod line;
+mod opened;
 mod opener;
 mod source;
 mod status;
 mod stop;
 mod whole;
 
-pub use counted::Counted;
+pub use counted::{Counted, LIMIT};
 pub use halt::Halt;
 pub use line::print_line;
-pub use opener::{LIMIT, Opener, bytes_of_file, open_file, source_of};
+pub use opened::OpenedFile;
+pub use opener::{Opener, bytes_of_file, open_file, source_of};
 pub use source::{BLOCK, ReadFault, Source, read_all, take_block};
 pub use status::Status;
 pub use stop::Stop;

@@ -5,12 +5,9 @@ ghost use Rattle.lnt_io.specs.Halts.{IsOpening};
 ghost use Rattle.lnt_io.specs.declared.halt.Halt.TheVariants.{Write};
 
 use crate::halt::Halt;
-use crate::{Counted, Source, read_all};
+use crate::{Counted, LIMIT, OpenedFile, Source, read_all};
 use std::alloc::{AllocError, Global};
 use std::io::{BufReader, Read};
-
-/// The greatest number of bytes that are read from a file, 2^40.
-pub const LIMIT: u64 = 1 << 40;
 
 // The number of bytes that are read from a file at once.
 const BLOCK: usize = 1 << 16;
@@ -32,10 +29,11 @@ pub trait Opener {
         ensures none { IsNone result → tells self.old name.now Unreadable }
         ensures later { TellsNoMore (tells self.old) (tells self.new) };
 
-    /// Takes note that the file with this name couldn't be read whole: its source failed, or was found too long.
-    fn could_not_read(&mut self, name: &str, source: &Counted<Self::Reader>)
-        requires { 0 < ⟦<Counted<Self::Reader> as Source>⟧.failures source.now ⊎ IsTrue (⟦<Counted<Self::Reader> as Source>⟧.too_long source.now) }
-        ensures unread { tells self.old name.now Unreadable }
+    /// Takes note that a file couldn't be read whole: its source failed, or was found too long.
+    fn could_not_read<'n>(&mut self, file: &OpenedFile<'n, Self::Reader>)
+        requires { 0 < ⟦<OpenedFile<'n, Self::Reader> as Source>⟧.failures file.now
+            ⊎ IsTrue (⟦<OpenedFile<'n, Self::Reader> as Source>⟧.too_long file.now) }
+        ensures unread { tells self.old (⟦<OpenedFile<'n, Self::Reader> as Source>⟧.name file.now) Unreadable }
         ensures later { TellsNoMore (tells self.old) (tells self.new) };
 
     /// Another reader of a file that was read before. `None` if its bytes can't be read a second time, like those of

@@ -1,6 +1,6 @@
 //! Sources of the bytes of a file, which come piece by piece, up to a limit.
 ghost use Rattle.std.specs.Prelude.{◌≡◌, ◌≢◌, ℕ, ◌+◌, ◌-◌, ◌^◌, ◌<◌, ◌≤◌, length, take};
-ghost use Rattle.std.specs.Prelude.{IfOk, IsErrOf, IfSome, IsTrue, true, Bool, Option, List, MatchResult, Some, codes};
+ghost use Rattle.std.specs.Prelude.{IfOk, IsErrOf, IfSome, IsTrue, true, Bool, Option, List, [], MatchResult, Some, codes};
 ghost use Rattle.lnt_io.specs.Pulling.{Pulls, GivesMore, IsAtEnd, HasMoreThan};
 
 use crate::stop::Stop;
@@ -24,9 +24,10 @@ impl Error for ReadFault {}
 
 /// Gives bytes in order, piece by piece, up to a limit, and may fail.
 ///
-/// Contracts see it by four ghost members: `remaining`, the bytes that it gives from here on, if they are known;
-/// `failures`, the number of pulls that failed; `too_long`, whether it was found to have more bytes than it may give; and
-/// `left`, the number of bytes that it may still give.
+/// Contracts see it by five ghost members: `remaining`, the bytes that it gives from here on, if they are known;
+/// `failures`, the number of pulls that failed; `too_long`, whether it was found to have more bytes than it may give;
+/// `left`, the number of bytes that it may still give; and `name`, that of the file that it reads, which stays the same and
+/// is empty where none is known.
 pub trait Source {
     ghost remaining: { Self → Option (List ℕ) };
 
@@ -35,6 +36,8 @@ pub trait Source {
     ghost too_long: { Self → Bool };
 
     ghost left: { Self → ℕ };
+
+    ghost name: { Self → List ℕ } = { λ _. [] };
 
     /// Writes the next bytes to the start of `buf`, and returns how many, at most the length of `buf`.
     ///
@@ -47,6 +50,7 @@ pub trait Source {
         ensures bytes { IfOk result (λ k. Pulls (remaining self.old) (remaining self.new) (take k buf.new)) }
         ensures end { IfOk result (λ k. k ≡ 0 → 0 < length buf.new → IsAtEnd (remaining self.new) (too_long self.new)) }
         ensures left { IfOk result (λ k. left self.new + k ≡ left self.old) }
+        ensures name { name self.new ≡ name self.old }
         ensures failures { MatchResult result
             (λ _. failures self.new ≡ failures self.old) (λ _. failures self.new ≡ failures self.old + 1) };
 

@@ -8,7 +8,7 @@ use Rattle.lnt_wire.specs.Leb128.{UnsignedLeb, IsLargeUnsigned, IsLebFault}
 use Rattle.lnt_wire.specs.declared.fault.Fault.{Fault}
 use Rattle.lnt_wire.specs.Reading.{Reads, RefusesField}
 use Rattle.lnt_header.specs.Joins.{Each}
-use Rattle.lnt_header.proofs.ReaderLaws.{each_more}
+use Rattle.lnt_header.proofs.ReaderLaws.{each_push}
 use Rattle.lnt_header.specs.OpRules.{StandsFor}
 use Rattle.lnt_header.specs.declared.op.Op.{Op}
 use Rattle.lnt_header.specs.declared.op.Op.TheVariants as ops
@@ -40,7 +40,7 @@ pub numbers_more : (bytes numbers : List ℕ) (n : ℕ) (at new : At) → Number
     → NumbersSoFar bytes (numbers ++ n ∷ []) new
 numbers_more bytes numbers n at new so r = record {
   front = so.front ++ r.spelling;
-  spelled = each_more UnsignedLeb numbers n so.front r.spelling so.spelled r.spelled;
+  spelled = each_push UnsignedLeb numbers n so.front r.spelling so.spelled r.spelled;
   whole = so.whole ∙ ap (λ (z : List ℕ). so.front ++ z) r.whole ∙ sym (append_assoc so.front r.spelling new.rest);
 }
 

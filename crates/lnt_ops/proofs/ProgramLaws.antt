@@ -14,7 +14,7 @@ use Rattle.lnt_header.specs.declared.op.Op.{Op}
 use Rattle.lnt_header.specs.declared.op.OpView.{OpView}
 use Rattle.lnt_header.specs.HeaderRules.{IsHeader}
 use Rattle.lnt_header.specs.Joins.{Each}
-use Rattle.lnt_header.proofs.ReaderLaws.{each_more}
+use Rattle.lnt_header.proofs.ReaderLaws.{each_push}
 use Rattle.lnt_header.specs.OpRules.{Admits, StandsFor}
 use Rattle.lnt_ops.proofs.FaultLemmas.{op_fault, op_later}
 use Rattle.lnt_ops.proofs.OpLaws.{op_code, op_is_some}
@@ -54,7 +54,7 @@ ops_more h place program ops op view at new so g stands =
     let same : g.op ≡ op = same_op view g.op op g.stands stands in
     record {
       front = so.front ++ r.spelling;
-      spelled = each_more (OpBytes h) ops op so.front r.spelling so.spelled (subst (λ (o : Op). OpBytes h o r.spelling) same r.spelled);
+      spelled = each_push (OpBytes h) ops op so.front r.spelling so.spelled (subst (λ (o : Op). OpBytes h o r.spelling) same r.spelled);
       admitted = all_more h ops op so.admitted (subst (Admits h) same g.admitted);
       whole = so.whole ∙ ap (λ (z : List ℕ). so.front ++ z) r.whole ∙ sym (append_assoc so.front r.spelling new.rest);
       place_is = omega (arith, r.place, so.place_is, length-append so.front r.spelling);

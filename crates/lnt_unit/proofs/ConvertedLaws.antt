@@ -9,7 +9,7 @@ use Rattle.lnt_wire.specs.declared.format.Order.{Order}
 use Rattle.lnt_wire.proofs.LengthLaws.{same_rest}
 use Rattle.lnt_header.specs.Encoding.{NoSpelling}
 use Rattle.lnt_header.specs.Joins.{Each}
-use Rattle.lnt_header.proofs.PutLaws.{each_push}
+use Rattle.lnt_header.proofs.ReaderLaws.{each_push}
 use Rattle.lnt_unit.specs.BrokenUnits.{BrokenUnit, IsTrueFault}
 use Rattle.lnt_unit.specs.ConvertedUnits.{Converts, ConvertsUnit, IsNextStop}
 use Rattle.lnt_unit.specs.ConversionSteps.{ConvertedTo}

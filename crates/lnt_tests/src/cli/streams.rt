@@ -1,7 +1,7 @@
 //! Files by their names, and the command over them.
 use crate::samples::{Narrow, Reader, TABLE, failing, whole};
 use lnt_cli::{CliStop, Opener, Status, run};
-use lnt_io::Counted;
+use lnt_io::OpenedFile;
 use std::alloc::{AllocError, Global};
 use std::io;
 
@@ -50,7 +50,7 @@ impl<'a> Opener for Files<'a> {
         Some(failing(bytes))
     }
 
-    fn could_not_read(&mut self, _name: &str, _source: &Counted<Reader<'a>>) {}
+    fn could_not_read<'n>(&mut self, _file: &OpenedFile<'n, Reader<'a>>) {}
 }
 
 fn words(alloc: Global, line: &str) -> Result<Vec<String>, AllocError> {

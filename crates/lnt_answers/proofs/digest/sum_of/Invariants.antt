@@ -4,7 +4,7 @@ use Rattle.lnt_answers.proofs.digest.sum_of.Given as goal
 
 abbrev pub invariant-loop-count : goal.invariant-loop-count
 invariant-loop-count g l =
-    (g.R.Source.failures l.source ≡ g.R.Source.failures l.initial.source)
+    (g.R.Source.name l.source ≡ g.R.Source.name l.initial.source) × (g.R.Source.failures l.source ≡ g.R.Source.failures l.initial.source)
     × Summed l.hasher (g.R.Source.remaining l.initial.source) (g.R.Source.remaining l.source) (g.R.Source.left l.initial.source)
     (g.R.Source.left l.source)
 
