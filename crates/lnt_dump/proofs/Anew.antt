@@ -1,11 +1,11 @@
 -- A section that is written anew and handed to a writer, page by page.
-use Rattle.std.proofs.Common.{◌≡◌, ℕ, ◌<◌, List, [], length, Option}
+use Rattle.std.proofs.Common.{◌≡◌, ℕ, List, [], Option}
 use Rattle.lnt_wire.specs.At.{At}
 use Rattle.lnt_wire.specs.declared.format.Order.{Order}
 use Rattle.lnt_older.specs.Sections.{IsUpgraded}
 use Rattle.lnt_older.specs.Upgradable.{AddsAny, CanBeLeft, CanUpgrade}
 use Rattle.lnt_older.specs.declared.directories.Directory.{Directory}
-use Rattle.lnt_older.proofs.WritingLaws.{WritingTo, writing_all, writing_long, writing_more, writing_none, writing_rest}
+use Rattle.lnt_older.proofs.WritingLaws.{WritingTo, writing_all, writing_more, writing_none, writing_rest}
 use Rattle.lnt_dump.proofs.PagedWalks.{IsWalk, PagedTo, walk_begun}
 
 module _ (order : Order) (size : ℕ) (directories : List Directory) (section : List ℕ) where
@@ -25,7 +25,3 @@ module _ (order : Order) (size : ℕ) (directories : List Directory) (section : 
   pub anew_left : (at : At) (old now : Option (List ℕ)) (page : List ℕ)
       → PagedTo (WritingTo order size directories section) at old now page → CanBeLeft size directories at
   anew_left at old now page p = p.made.left
-
-pub anew_long : (size : ℕ) (directories : List Directory) (at next : At) (old new : List ℕ) → AddsAny size directories at next old new
-    → length next.rest < length at.rest
-anew_long size directories at next old new a = writing_long size directories at next old new a

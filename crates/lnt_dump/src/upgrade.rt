@@ -7,7 +7,7 @@ ghost use Rattle.lnt_header.specs.HeaderRules.{IsAddressSize};
 ghost use Rattle.lnt_io.specs.Halts.{IsPrinting};
 ghost use Rattle.lnt_io.specs.declared.status.Status.TheVariants.{No};
 ghost use Rattle.lnt_older.specs.Sections.{IsUpgraded};
-ghost use Rattle.lnt_older.specs.Upgradable.{AreSound, CanUpgrade};
+ghost use Rattle.lnt_older.specs.Upgradable.{AreSoundDirectories, CanUpgrade};
 ghost use Rattle.lnt_dump.specs.Printed.{IsPrintedIn};
 ghost use Rattle.lnt_dump.specs.Stepping.{IsFrontIn};
 ghost use Rattle.lnt_dump.specs.Upgraded.{IsUpgradeBegun, IsUpgradeTold, upgrade_refusal};
@@ -55,7 +55,7 @@ pub fn print_upgraded<W: Write>(
 }
 
 // Prints a section of which each unit can be written anew, unit by unit, or a prefix of it.
-#[tactic(auto, using(crate::proofs::Anew::anew_begun, crate::proofs::Anew::anew_left, crate::proofs::Anew::anew_long))]
+#[tactic(auto, using(crate::proofs::Anew::anew_begun, crate::proofs::Anew::anew_left, lnt_older::proofs::SizeLemmas::added_long))]
 fn print_anew<W: Write>(
     alloc: Global,
     bytes: &[u8],
@@ -65,7 +65,7 @@ fn print_anew<W: Write>(
     out: &mut W,
 ) -> Result<(), Halt>
     requires size { IsAddressSize address_size }
-    requires sound { AreSound directories.now }
+    requires sound { AreSoundDirectories directories.now }
     requires can { CanUpgrade order address_size directories.now bytes.now }
     ensures whole { OnOk result (IsPrintedIn (IsUpgraded order address_size directories.now bytes.now)
         (W.contents out.old) (W.contents out.new)) }

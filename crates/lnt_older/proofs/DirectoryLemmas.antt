@@ -1,17 +1,18 @@
 -- Offsets that rise, and the directories of units.
-use Rattle.std.proofs.Common.{◌≡◌, ◌≢◌, ◌∙◌, ◌==◌, ℕ, ◌+◌, ◌-◌, ◌<◌, ◌≤◌, Bool, true, false, List, [], ◌∷◌, ◌++◌, length, get_or}
-use Rattle.std.proofs.Common.{Result, Ok, Err, Option, Some, None, inl, inr, refl, sym, ap, subst, arith, zero, suc}
+use Rattle.std.proofs.Common.{◌≡◌, ◌≢◌, ◌∙◌, ℕ, ◌+◌, ◌-◌, ◌<◌, ◌≤◌, Bool, true, false, List, [], ◌∷◌, ◌++◌, length, get_or}
+use Rattle.std.proofs.Common.{Result, Ok, Err, Option, Some, None, inl, inr, refl, sym, ap, arith, zero, suc}
 use Rattle.std.specs.Bool.{MatchBool}
-use Rattle.std.specs.Prelude.{codes}
+use Rattle.std.specs.Prelude.{IfSome, codes}
 use Rattle.lnt_records.specs.Reading.{BytesReader, HasRead}
 use Rattle.lnt_records.proofs.ReadingLaws.{first_same}
 use Rattle.lnt_records.specs.Table.{BeginsWith, Fields}
+use Rattle.lnt_records.proofs.TableLaws.{zip_push}
 use Rattle.csv.specs.Reading.{reader_state}
 use Rattle.std.specs.List.{AllZip}
-use Rattle.std.specs.List.Sorted.{IsBinarySearchResult, IsNonDecreasingBy, IsSearchInRange}
+use Rattle.std.specs.List.Sorted.{IsBinarySearchResult, IsNonDecreasingBy}
 use Rattle.std.specs.Ordering.{nat_cmp, ordering_index}
 use Rattle.std.specs.Result.{is_ok}
-use Rattle.std.proofs.lemmas.Bool.{cases_lt, ne_eqb}
+use Rattle.std.proofs.lemmas.Bool.{cases_lt, eq-eqb, ne_eqb}
 use Rattle.std.proofs.lemmas.Bool.Decides.{eqb_tells, nat_tests}
 use Rattle.std.proofs.lemmas.Cmp.{ranked}
 use Rattle.std.proofs.Math.Seq.{get_or-append_seam}
@@ -21,8 +22,8 @@ use Rattle.std.proofs.lemmas.List.Sorted.{searched}
 use Rattle.std.proofs.lemmas.Slice.Zip.{AllZip-long}
 use Rattle.lnt_header.specs.Joins.{AreRising}
 use Rattle.lnt_older.specs.Directories.{AreDirectories, AreRecords, HasBadRecord, IsAdded, IsDirectoryFile, IsDirectoryRecord}
-use Rattle.lnt_older.specs.Directories.{IsLastUnit, IsNext, IsUnitOf, MayFollow, directory_at, directory_names, units_of}
-use Rattle.lnt_older.specs.Upgradable.{AreSound}
+use Rattle.lnt_older.specs.Directories.{IsLastUnit, IsNext, IsAmong, MayFollow, directory_at, directory_names, units_of}
+use Rattle.lnt_older.specs.Upgradable.{AreSoundDirectories}
 use Rattle.lnt_wire.specs.FormBytes.{HasNoZero}
 use Rattle.lnt_older.specs.declared.directories.Directory.{Directory}
 
@@ -35,7 +36,7 @@ not_falling offsets up i j le lt = elim (cases_lt i j) [
 ]
 
 pub among : (offsets : List ℕ) (offset : ℕ) (r : Result ℕ ℕ) → IsBinarySearchResult (λ y. nat_cmp y offset) offsets r → AreRising offsets
-    → MatchBool (is_ok r) (IsUnitOf offsets offset) (IsUnitOf offsets offset → ⊥)
+    → MatchBool (is_ok r) (IsAmong offsets offset) (IsAmong offsets offset → ⊥)
 among offsets offset (Ok i) h up =
     let s = searched offsets offset (Ok i) h (not_falling offsets up) in
     (i, offset, s.0, get_or_default offsets i offset 0 s.0 ∙ s.1, refl)
@@ -51,22 +52,25 @@ among offsets offset (Err i) h up =
 
 -- ---- the directory of a unit
 
-same_is : (m n : ℕ) → m ≡ n → (m == n) ≡ true
-same_is m n e = grind (arith, nat_tests)
-
 rising_tail : (directory : Directory) (directories : List Directory) → AreDirectories (directory ∷ directories) → AreDirectories directories
 rising_tail directory directories up i j d lt few = up (suc i) (suc j) d (omega arith) (omega arith)
+
+long_is : (directories : List Directory) → length (units_of directories) ≡ length directories
+long_is directories = length-map directories (λ (x : Directory). x.unit)
+
+unit_at : (directories : List Directory) (k : ℕ) (d : Directory) → k < length directories
+    → get_or (units_of directories) k 0 ≡ (get_or directories k d).unit
+unit_at directories k d lt = get_or-map (λ (x : Directory). x.unit) directories k d 0 lt
 
 found_at : (directories : List Directory) (k offset : ℕ) (d : Directory) → AreDirectories directories → k < length directories
     → (get_or directories k d).unit ≡ offset → directory_at directories offset ≡ (get_or directories k d).path.items
 found_at [] k offset d up lt same = absurd (omega (arith, lt))
-found_at (e ∷ es) zero offset d up lt same = rw (same_is e.unit offset same) refl
+found_at (e ∷ es) zero offset d up lt same = rw (eq-eqb e.unit offset same) refl
 found_at (e ∷ es) (suc k) offset d up lt same =
     let few : k < length es = omega (arith, lt) in
-    let at : get_or (units_of es) k 0 ≡ offset = get_or-map (λ (x : Directory). x.unit) es k d 0 few ∙ same in
-    let long : length (units_of es) ≡ length es = length-map es (λ (x : Directory). x.unit) in
-    let less : e.unit < get_or (units_of es) k 0 = up 0 (suc k) 0 (omega arith) (omega (arith, few, long)) in
-    rw (ne_eqb e.unit offset (λ is. omega (arith, less, at, is))) (found_at es k offset d (rising_tail e es up) few same)
+    let less : e.unit < get_or (units_of es) k 0 = up 0 (suc k) 0 (omega arith) (omega (arith, few, long_is es)) in
+    rw (ne_eqb e.unit offset (λ is. omega (arith, less, unit_at es k d few, same, is)))
+    (found_at es k offset d (rising_tail e es up) few same)
 
 missing_at : (directories : List Directory) (offset : ℕ) → ((k : ℕ) (d : Directory) → k < length directories
     → (get_or directories k d).unit ≢ offset) → directory_at directories offset ≡ []
@@ -78,14 +82,9 @@ missing_at (e ∷ es) offset none =
 comparisons_rise : (directories : List Directory) (offset : ℕ) → AreDirectories directories
     → IsNonDecreasingBy (λ (directory : Directory). ordering_index (nat_cmp directory.unit offset)) directories
 comparisons_rise directories offset up i j d le lt =
-    let long : length (units_of directories) ≡ length directories = length-map directories (λ (x : Directory). x.unit) in
-    let at_i : get_or (units_of directories) i 0 ≡ (get_or directories i d).unit =
-    get_or-map (λ (x : Directory). x.unit) directories i d 0 (omega (arith, le, lt)) in
-    let at_j : get_or (units_of directories) j 0 ≡ (get_or directories j d).unit =
-    get_or-map (λ (x : Directory). x.unit) directories j d 0 lt in
-    let keys : get_or (units_of directories) i 0 ≤ get_or (units_of directories) j 0 =
-    not_falling (units_of directories) up i j le (omega (arith, lt, long)) in
-    higher (get_or directories i d).unit (get_or directories j d).unit (omega (arith, keys, at_i, at_j))
+    let keys = not_falling (units_of directories) up i j le (omega (arith, lt, long_is directories)) in
+    higher (get_or directories i d).unit (get_or directories j d).unit
+    (omega (arith, keys, unit_at directories i d (omega (arith, le, lt)), unit_at directories j d lt))
   where
     higher : (a b : ℕ) → a ≤ b → ordering_index (nat_cmp a offset) ≤ ordering_index (nat_cmp b offset)
     higher a b le = grind (arith, nat_tests)
@@ -128,7 +127,7 @@ pub columns_found : (named : Bool) (reader : BytesReader) (bytes : List ℕ) (fi
     → HasRead reader bytes (fields ∷ [])
     → MatchBool named (fields ≡ directory_names) (fields ≢ directory_names)
     → MatchBool named (HasRead reader bytes (directory_names ∷ [])) (BeginsWith bytes (directory_names ∷ []) → ⊥)
-columns_found true reader bytes fields read is = subst (λ (f : Fields). HasRead reader bytes (f ∷ [])) is read
+columns_found true reader bytes fields read is = rw is at read
 columns_found false reader bytes fields read other = λ begins.
     other (first_same bytes fields directory_names (reader_state reader, read.rest, read.reached) begins)
 
@@ -137,9 +136,6 @@ columns_found false reader bytes fields read other = λ begins.
 map_more : (directories : List Directory) (directory : Directory)
     → units_of (directories ++ directory ∷ []) ≡ units_of directories ++ directory.unit ∷ []
 map_more directories directory = map-append (λ (x : Directory). x.unit) directories (directory ∷ [])
-
-long_is : (directories : List Directory) → length (units_of directories) ≡ length directories
-long_is directories = length-map directories (λ (x : Directory). x.unit)
 
 -- an offset after the last of others is after each of them
 after_last : (xs : List ℕ) (x : ℕ) → AreRising xs → (0 < length xs → get_or xs (length xs - 1) 0 < x) → (k d : ℕ) → k < length xs
@@ -163,50 +159,34 @@ rising_last xs x up some =
 
 pub may_follow : (older : List ℕ) (directories : List Directory) (before : Option ℕ) (directory : Directory) → AreDirectories directories
     → IsLastUnit directories before → IsNext before older directory → MayFollow older directories directory
-may_follow older directories None directory up none next = (
-  subst AreRising (sym (map_more directories directory))
-      (rising_more (units_of directories) directory.unit up (λ some. absurd (omega (arith, some, none, long_is directories)))),
-  next.1,
-)
-may_follow older directories (Some unit) directory up last next = (
-  subst AreRising (sym (map_more directories directory))
-      (rising_more (units_of directories) directory.unit up (λ some.
-      let at = last.1 in
-      let n = long_is directories in
-      let here : get_or (units_of directories) (length (units_of directories) - 1) 0 ≡ unit =
-      rw n (sym at) in
-      omega (arith, here, next.0))),
-  next.1,
-)
+may_follow older directories before directory up last next =
+    (rw (map_more directories directory) (rising_more (units_of directories) directory.unit up (after before last next.0)), next.1)
+  where
+    after : (before : Option ℕ) → IsLastUnit directories before → IfSome before (λ unit. unit < directory.unit)
+        → 0 < length (units_of directories) → get_or (units_of directories) (length (units_of directories) - 1) 0 < directory.unit
+    after None none less some = absurd (omega (arith, some, none, long_is directories))
+    after (Some unit) last less some = rw (long_is directories, ← last.1) less
 
 pub must_follow : (older : List ℕ) (directories : List Directory) (before : Option ℕ) (directory : Directory)
     → IsLastUnit directories before → MayFollow older directories directory → IsNext before older directory
 must_follow older directories None directory last may = (tt, may.1)
 must_follow older directories (Some unit) directory last may =
-    let n = long_is directories in
-    let up : AreRising (units_of directories ++ directory.unit ∷ []) = subst AreRising (map_more directories directory) may.0 in
-    let top = rising_last (units_of directories) directory.unit up (omega (arith, n, last.0)) in
-    let here : get_or (units_of directories) (length (units_of directories) - 1) 0 ≡ unit = rw n (sym last.1) in
-    (omega (arith, top, here), may.1)
+    let up = rw (map_more directories directory) at may.0 in
+    let top = rising_last (units_of directories) directory.unit up (omega (arith, long_is directories, last.0)) in
+    let here = rw (long_is directories) at top in
+    (rw last.1 here, may.1)
 
 -- ---- all records
 
 pub none_yet : (older : List ℕ) → AreRecords older [] []
 none_yet older = record { each = tt; rising = λ i j d lt few. absurd (omega (arith, few)); units = tt }
 
-zip_more : {A B : Type 0} (R : A → B → Type 0) (xs : List A) (ys : List B) (x : A) (y : B) → AllZip R xs ys → R x y
-    → AllZip R (xs ++ x ∷ []) (ys ++ y ∷ [])
-zip_more R [] [] x y h r = (r, tt)
-zip_more R [] (b ∷ ys) x y h r = absurd h
-zip_more R (a ∷ xs) [] x y h r = absurd h
-zip_more R (a ∷ xs) (b ∷ ys) x y h r = (h.0, zip_more R xs ys x y h.1 r)
-
 pub one_more : (older : List ℕ) (records : List Fields) (fields : Fields) (old new : List Directory) → AreRecords older records old
     → IsAdded older fields old new → AreRecords older (records ++ fields ∷ []) new
-one_more older records fields old new so a = subst (AreRecords older (records ++ fields ∷ [])) (sym a.added) (record {
-  each = zip_more IsDirectoryRecord records old fields a.directory so.each a.is_record;
+one_more older records fields old new so a = rw a.added (record {
+  each = zip_push IsDirectoryRecord records old fields a.directory so.each a.is_record;
   rising = a.follows.0;
-  units = zip_more (λ (f : Fields) (d : Directory). IsUnitOf older d.unit) records old fields a.directory so.units a.follows.1;
+  units = zip_push (λ (f : Fields) (d : Directory). IsAmong older d.unit) records old fields a.directory so.units a.follows.1;
 })
 
 zip_last : {A B : Type 0} (R : A → B → Type 0) (xs : List A) (ys : List B) (x : A) (y : B) → AllZip R xs ys
@@ -228,7 +208,7 @@ bad_record older bytes records fields directories reader so read none = record {
   so = so;
   count_is = sym (AllZip-long IsDirectoryRecord records directories so.each);
   bad = λ directory more.
-      let IsOlder : Fields → Directory → Type 0 = λ (f : Fields) (d : Directory). IsUnitOf older d.unit in
+      let IsOlder : Fields → Directory → Type 0 = λ (f : Fields) (d : Directory). IsAmong older d.unit in
       none directory (zip_last IsDirectoryRecord records directories fields directory so.each more.each)
       (more.rising, zip_last IsOlder records directories fields directory so.units more.units);
 }
@@ -241,17 +221,16 @@ suc_is n = omega arith
 no_zero_at : (records : List Fields) (directories : List Directory) → AllZip IsDirectoryRecord records directories → (offset : ℕ)
     → HasNoZero (directory_at directories offset)
 no_zero_at [] [] h offset = tt
-no_zero_at [] (d ∷ ds) h offset = absurd h
-no_zero_at (f ∷ fs) [] h offset = absurd h
 no_zero_at (f ∷ fs) (d ∷ ds) h offset = elim (eqb_tells d.unit offset) [
-  | inl same ↦ rw (same.0) (subst HasNoZero (sym h.0.path) h.0.no_zero)
+  | inl same ↦ rw (same.0, h.0.path) h.0.no_zero
   | inr other ↦ rw (other.0) (no_zero_at fs ds h.1 offset)
 ]
+no_zero_at fs ds h offset = absurd h
 
-pub sound_from : (older bytes : List ℕ) (directories : List Directory) → IsDirectoryFile older bytes directories → AreSound directories
+pub sound_from : (older bytes : List ℕ) (directories : List Directory) → IsDirectoryFile older bytes directories
+    → AreSoundDirectories directories
 sound_from older bytes directories file =
     record { rising = file.so.rising; no_zero = no_zero_at file.records directories file.so.each }
 
-pub sound_none : (directories : List Directory) → directories ≡ [] → AreSound directories
-sound_none directories none =
-    subst AreSound (sym none) (record { rising = λ i j d lt few. absurd (omega (arith, few)); no_zero = λ offset. tt })
+pub sound_none : (directories : List Directory) → directories ≡ [] → AreSoundDirectories directories
+sound_none directories none = rw none (record { rising = λ i j d lt few. absurd (omega (arith, few)); no_zero = λ offset. tt })

@@ -6,7 +6,8 @@ use Rattle.lnt_wire.specs.Reading.{Reads, Refuses}
 use Rattle.lnt_wire.specs.declared.fault.Fault.{Fault}
 use Rattle.lnt_wire.specs.declared.format.Format.{Format}
 use Rattle.lnt_wire.specs.declared.format.Order.{Order}
-use Rattle.lnt_wire.proofs.LengthLaws.{same_front, same_rest}
+use Rattle.lnt_wire.proofs.CodeLaws.{peel}
+use Rattle.lnt_wire.proofs.LengthLaws.{same_front}
 use Rattle.lnt_header.proofs.ReaderLaws.{first_refused, second_refused, reads_both}
 use Rattle.lnt_header.specs.declared.header.Entry.{Entry}
 use Rattle.lnt_header.specs.declared.header.Pair.{Pair}
@@ -17,7 +18,7 @@ use Rattle.lnt_older.specs.OlderFields.{AfterNumbers, AfterNumbersFault, FieldsO
 use Rattle.lnt_older.specs.OlderFields.{TwoListsFault, zero_reasons}
 use Rattle.lnt_older.specs.declared.numbers.OlderNumbers.{OlderNumbers}
 use Rattle.lnt_older.specs.declared.version.OlderVersion.{OlderVersion}
-use Rattle.lnt_older.proofs.ListFaultLemmas.{ends_here, listed_code}
+use Rattle.lnt_older.proofs.ListFaultLemmas.{begins_front, ends_here, listed_code}
 use Rattle.lnt_older.proofs.NumberLemmas.{numbers_code}
 
 -- ---- one value for its bytes
@@ -25,8 +26,7 @@ use Rattle.lnt_older.proofs.NumberLemmas.{numbers_code}
 pub lengths_code : (opcode_base : ℕ) → IsCode (LengthsBytes opcode_base)
 lengths_code opcode_base = record {
   one = λ s t x y r q p p' e.
-      let size : length x ≡ length y = omega (arith, ap length p.2, ap length p'.2, p.0, p'.0) in
-      let same : x ≡ y = same_front x y r q size e in
+      let same = same_front x y r q (omega (arith, ap length p.2, ap length p'.2, p.0, p'.0)) e in
       (sym p.2 ∙ same ∙ p'.2, same);
 }
 
@@ -34,17 +34,11 @@ lengths_code opcode_base = record {
 begins_list : (format : Format) (order : Order) (pairs : List Pair) (v : Entry) (vs : List Entry) (y : List ℕ)
     → ListBytes format order pairs (v ∷ vs) y → (rest : List ℕ) → BeginsEntry (y ++ rest)
 begins_list format order pairs v vs y q rest =
-    let b = q.first.first.some in
-    record {
-      first = b.first;
-      more = ((b.more ++ q.first.back) ++ q.back) ++ rest;
-      some = b.some;
-      joined = ap (λ (z : List ℕ). z ++ rest) (q.joined ∙ ap (λ (z : List ℕ). z ++ q.back)
-          (q.first.joined ∙ ap (λ (z : List ℕ). z ++ q.first.back) b.joined));
-    }
+    begins_front q.first.front ((q.first.back ++ q.back) ++ rest) (y ++ rest) q.first.first.some
+    (simp (q.joined, q.first.joined, append_assoc))
 
 end_of : (format : Format) (order : Order) (pairs : List Pair) (x : List ℕ) → ListBytes format order pairs [] x → x ≡ 0 ∷ []
-end_of format order pairs x p = p.joined ∙ ap (λ (z : List ℕ). z ++ p.back) p.first ∙ p.second
+end_of format order pairs x p = rw (p.joined, p.first, p.second) refl
 
 same_list : (format : Format) (order : Order) (pairs : List Pair) (us vs : List Entry) (x y r s : List ℕ)
     → ListBytes format order pairs us x → ListBytes format order pairs vs y → x ++ r ≡ y ++ s → (us ≡ vs) × (x ≡ y)
@@ -55,25 +49,15 @@ same_list format order pairs [] (v ∷ vs) x y r s p q e =
 same_list format order pairs (u ∷ us) [] x y r s p q e =
     absurd (ends_here y s (x ++ r) (end_of format order pairs y q) (sym e) (begins_list format order pairs u us x p r))
 same_list format order pairs (u ∷ us) (v ∷ vs) x y r s p q e =
-    let left : x ≡ p.first.front ++ (p.first.back ++ p.back) =
-    p.joined ∙ ap (λ (z : List ℕ). z ++ p.back) p.first.joined ∙ append_assoc p.first.front p.first.back p.back in
-    let right : y ≡ q.first.front ++ (q.first.back ++ q.back) =
-    q.joined ∙ ap (λ (z : List ℕ). z ++ q.back) q.first.joined ∙ append_assoc q.first.front q.first.back q.back in
-    let whole : p.first.front ++ ((p.first.back ++ p.back) ++ r) ≡ q.first.front ++ ((q.first.back ++ q.back) ++ s) =
-    sym (append_assoc p.first.front (p.first.back ++ p.back) r) ∙ ap (λ (z : List ℕ). z ++ r) (sym left) ∙ e
-    ∙ ap (λ (z : List ℕ). z ++ s) right ∙ append_assoc q.first.front (q.first.back ++ q.back) s in
-    let one = (listed_code format order pairs).one u v p.first.front q.first.front ((p.first.back ++ p.back) ++ r)
-    ((q.first.back ++ q.back) ++ s) p.first.first q.first.first whole in
-    let past : (p.first.back ++ p.back) ++ r ≡ (q.first.back ++ q.back) ++ s =
-    same_rest p.first.front q.first.front ((p.first.back ++ p.back) ++ r) ((q.first.back ++ q.back) ++ s) one.1 whole in
+    let all : p.front ++ (p.back ++ r) ≡ q.front ++ (q.back ++ s) = simp (p.joined, q.joined, append_assoc) at e in
+    let one = peel (listed_code format order pairs) u v p.front q.front (p.back ++ r) (q.back ++ s) p.first q.first all in
     let rest = same_list format order pairs us vs (p.first.back ++ p.back) (q.first.back ++ q.back) r s
     (record { front = p.first.back; back = p.back; first = p.first.second; second = p.second; joined = refl })
-    (record { front = q.first.back; back = q.back; first = q.first.second; second = q.second; joined = refl }) past in
-    let heads : u ≡ v = one.0 in
-    let tails : us ≡ vs = rest.0 in
-    let fronts = one.1 in
-    let backs = rest.1 in
-    (cc (heads, tails), cc (left, right, fronts, backs))
+    (record { front = q.first.back; back = q.back; first = q.first.second; second = q.second; joined = refl })
+    (simp append_assoc one.past) in (
+      cc (one.value, rest.0),
+      simp (p.joined, p.first.joined, q.joined, q.first.joined, append_assoc, one.bytes, rest.1),
+    )
 
 pub list_code : (format : Format) (order : Order) (pairs : List Pair) → IsCode (ListBytes format order pairs)
 list_code format order pairs = record { one = same_list format order pairs }

@@ -1,13 +1,12 @@
 -- The front of a unit that is read, and the faults of it.
-use Rattle.std.proofs.Common.{◌≡◌, ◌≢◌, ℕ, ◌+◌, ◌-◌, ◌<◌, ◌^◌, List, ◌++◌, length, take, refl, sym, ap, subst, ◌∙◌, append_assoc, arith}
-use Rattle.std.proofs.Math.Seq.{take-append_seam}
+use Rattle.std.proofs.Common.{◌≡◌, ◌≢◌, ℕ, ◌+◌, ◌-◌, ◌<◌, ◌^◌, List, ◌++◌, length, take, refl, sym, ap, ◌∙◌, append_assoc, arith}
 use Rattle.std.proofs.lemmas.List.{length-append}
 use Rattle.lnt_wire.specs.At.{At}
-use Rattle.lnt_wire.specs.Bytes.{NoneSpelled, TakenBytes}
+use Rattle.lnt_wire.specs.Bytes.{TakenBytes}
 use Rattle.lnt_wire.specs.FrameBytes.{FrameBytes, frame_bytes}
 use Rattle.lnt_wire.specs.FrameFaults.{IsFrameFault}
-use Rattle.lnt_wire.specs.InitialFaults.{IsInitialFault, IsVersionFault}
-use Rattle.lnt_wire.specs.InitialLength.{initial_length, InitialBytes, LengthFits}
+use Rattle.lnt_wire.specs.InitialFaults.{IsInitialFault}
+use Rattle.lnt_wire.specs.InitialLength.{initial_length, InitialBytes}
 use Rattle.lnt_wire.specs.Numbers.{NumberBytes, number_bytes}
 use Rattle.lnt_wire.specs.Reading.{Reads, RefusesField, Refuses, IsCutShort}
 use Rattle.lnt_wire.specs.declared.fault.Fault.{Fault}
@@ -24,6 +23,7 @@ use Rattle.lnt_older.specs.Versions.{version_number}
 use Rattle.lnt_older.specs.declared.front.Front.{Front}
 use Rattle.lnt_older.specs.declared.front.UnitVersion.{UnitVersion}
 use Rattle.lnt_older.specs.declared.front.UnitVersion.TheVariants.{Five, Older}
+use Rattle.lnt_older.proofs.Fronts.{front_taken}
 use Rattle.lnt_older.proofs.NoUnitLemmas.{IsNoOlder, none_in_frame}
 
 -- ---- faults
@@ -36,8 +36,7 @@ frame_fault old fault other r = record {
   split = r.split;
   place = r.place;
   reason = frame other r.reason;
-  none = subst (λ (z : List ℕ). NoneSpelled (AnyBytes old.order) z) (sym r.split)
-      (none_in_frame old.order fault.reason r.before r.left other r.reason);
+  none = rw r.split (none_in_frame old.order fault.reason r.before r.left other r.reason);
 }
 
 truncated_other : (reason : Reason) → reason ≡ Truncated → IsNoOlder reason
@@ -64,10 +63,9 @@ pub version_cut : (old ahead new inside : At) (initial : Format × ℕ) (body : 
     → inside.rest ≡ body → inside.place ≡ ahead.place
     → RefusesField (IsCutShort 2) (NumberBytes inside.order 2) inside fault → Refuses (IsAnyFault old.order) (AnyBytes old.order) old fault
 version_cut old ahead new inside initial body fault r q rest_is place_is s =
-    let short : IsVersionFault old.order Truncated body = omega (arith, s.reason.short, ap length rest_is) in
     frame_fault old fault (truncated_other fault.reason s.reason.reason_is)
     (refuses_version old ahead new initial body fault r q (s.place ∙ place_is)
-    (subst (λ (c : Reason). IsVersionFault old.order c body) (sym s.reason.reason_is) short))
+    (rw s.reason.reason_is (omega (arith, s.reason.short, ap length rest_is))))
 
 pub version_unknown : (old ahead new inside after : At) (initial : Format × ℕ) (number : ℕ) (body : List ℕ) (fault : Fault)
     → Reads (InitialBytes old.order) initial old ahead → Reads (TakenBytes initial.1) body ahead new
@@ -76,17 +74,14 @@ pub version_unknown : (old ahead new inside after : At) (initial : Format × ℕ
     → Refuses (IsAnyFault old.order) (AnyBytes old.order) old fault
 version_unknown old ahead new inside after initial number body fault r q rest_is order_is s none place reason =
     let joined : body ≡ number_bytes old.order 2 number ++ after.rest =
-    sym rest_is ∙ s.whole ∙ ap (λ (z : List ℕ). z ++ after.rest) (s.spelled.spelled
-    ∙ ap (λ (o : Order). number_bytes o 2 number) order_is) in
-    let unknown : IsVersionFault old.order (VersionNotFive number) body =
-    (after.rest, omega (arith, s.spelled.fits), (λ e. none Five (sym e)), joined) in
+    sym rest_is ∙ simp (s.whole, s.spelled.spelled, order_is) in
     let other : IsNoOlder fault.reason =
     λ version e.
     let both : VersionNotFive number ≡ VersionNotFive (version_number version) = sym reason ∙ e in
     let same : number ≡ version_number version = cc in
     none (Older version) (sym same) in
     frame_fault old fault other (refuses_version old ahead new initial body fault r q place
-    (subst (λ (c : Reason). IsVersionFault old.order c body) (sym reason) unknown))
+    (rw reason (after.rest, omega (arith, s.spelled.fits), (λ e. none Five (sym e)), joined)))
 
 -- ---- what is read
 
@@ -97,24 +92,15 @@ pub front_read : (old ahead new inside after : At) (initial : Format × ℕ) (nu
     → ReadsFront front old new
 front_read old ahead new inside after initial number body front r q rest_is order_is s format_is number_is place past =
     let whole = front_body old.order front in
-    let counted : initial.1 ≡ length body = sym q.spelled.count_is ∙ ap length (sym q.spelled.taken_is) in
-    let digits : s.spelling ≡ number_bytes old.order 2 (unit_number front.version) =
-    s.spelled.spelled ∙ ap (λ (o : Order). number_bytes o 2 number) order_is ∙ ap (number_bytes old.order 2) (sym number_is) in
-    let body_is : body ≡ whole =
-    sym rest_is ∙ s.whole ∙ ap (λ (z : List ℕ). z ++ after.rest) digits
-    ∙ ap (λ (z : List ℕ). number_bytes old.order 2 (unit_number front.version) ++ z) (sym past) in
-    let count : initial.1 ≡ length whole = counted ∙ ap length body_is in
-    let head : r.spelling ≡ initial_length front.format old.order (length whole) =
-    r.spelled.spelled ∙ ap (λ (n : ℕ). initial_length initial.0 old.order n) count
-    ∙ ap (λ (f : Format). initial_length f old.order (length whole)) (sym format_is) in
+    let body_is : body ≡ whole = sym rest_is ∙ simp (s.whole, s.spelled.spelled, order_is, number_is, past) in
     let tail : q.spelling ≡ whole = sym q.spelled.taken_is ∙ body_is in
-    let joined : r.spelling ++ q.spelling ≡ frame_bytes old.order front.format whole =
-    ap (λ (z : List ℕ). z ++ q.spelling) head
-    ∙ ap (λ (z : List ℕ). initial_length front.format old.order (length whole) ++ z) tail in
+    let count : initial.1 ≡ length whole = sym q.spelled.count_is ∙ ap length tail in
+    let head : r.spelling ≡ initial_length front.format old.order (length whole) =
+    r.spelled.spelled ∙ rw (count, format_is) refl in
+    let joined : r.spelling ++ q.spelling ≡ frame_bytes old.order front.format whole = rw (head, tail) refl in
     record {
-      fits = subst (λ (f : Format). LengthFits f (length whole)) (sym format_is) (subst (LengthFits initial.0) count r.spelled.fits);
-      whole = r.whole ∙ ap (λ (z : List ℕ). r.spelling ++ z) q.whole ∙ sym (append_assoc r.spelling q.spelling new.rest)
-          ∙ ap (λ (z : List ℕ). z ++ new.rest) joined;
+      fits = rw (format_is, ← count) r.spelled.fits;
+      whole = r.whole ∙ rw q.whole (sym (append_assoc r.spelling q.spelling new.rest)) ∙ ap (λ (z : List ℕ). z ++ new.rest) joined;
       body_place = place ∙ r.place ∙ ap (λ (z : List ℕ). old.place + length z) head;
       place = omega (arith, q.place, r.place, length-append r.spelling q.spelling, ap length joined);
       order = q.order ∙ r.order;
@@ -123,51 +109,29 @@ front_read old ahead new inside after initial number body front r q rest_is orde
 -- the bytes after the version end below 2 ^ 64
 pub front_room : (front : Front) (old new : At) → ReadsFront front old new → old.place + length old.rest < 2 ^ 64
     → front.place + 2 + length front.past.now < 2 ^ 64
-front_room front old new r room =
-    let body = front_body old.order front in
-    let initial = initial_length front.format old.order (length body) in
-    let digits = number_bytes old.order 2 (unit_number front.version) in
-    omega (
-      arith,
-      room,
-      r.body_place,
-      ap length r.whole,
-      length-append (initial ++ body) new.rest,
-      length-append initial body,
-      length-append digits front.past.now,
-      length-number_bytes old.order 2 (unit_number front.version),
-    )
-
-front_is : (x y z : List ℕ) → z ≡ x ++ y → take (length z - length y) z ≡ x
-front_is x y z e =
-    let size : length z - length y ≡ length x = omega (arith, ap length e, length-append x y) in
-    ap (λ (n : ℕ). take n z) size ∙ ap (take (length x)) e ∙ take-append_seam x y
+front_room front old new r room = omega (arith, room, r.body_place, ap length r.whole, length-append {A = ℕ}, length-number_bytes)
 
 -- a unit of version 5
 pub five_read : (front : Front) (bytes all left : List ℕ) (old new : At) → ReadsFront front old new → front.version ≡ Five
     → all ≡ old.rest → left ≡ new.rest → bytes ≡ take (length all - length left) all → ReadsFive bytes old new
 five_read front bytes all left old new r version_is all_is left_is bytes_are =
     let whole = front_body old.order front in
+    let spelling = frame_bytes old.order front.format whole in
     record {
       format = front.format;
       body = whole;
       read = record {
-        spelling = frame_bytes old.order front.format whole;
+        spelling = spelling;
         spelled = record {
           fits = r.fits;
-          version = record {
-            past = front.past.now;
-            joined = ap (λ (v : UnitVersion). number_bytes old.order 2 (unit_number v) ++ front.past.now) version_is;
-          };
+          version = record { past = front.past.now; joined = rw version_is refl };
           joined = refl;
         };
         whole = r.whole;
         place = r.place;
         order = r.order;
       };
-      bytes_are = bytes_are ∙ ap (λ (z : List ℕ). take (length z - length left) z) all_is
-          ∙ ap (λ (z : List ℕ). take (length old.rest - length z) old.rest) left_is
-          ∙ front_is (frame_bytes old.order front.format whole) new.rest old.rest r.whole;
+      bytes_are = front_taken spelling (all_is ∙ r.whole) left_is bytes_are;
     }
 
 -- what the reader of a front cites

@@ -1,6 +1,6 @@
 pub mod CopiedLemmas
 pub mod DirectoryLemmas
-pub mod EntryLemmas
+pub mod Fronts
 pub mod FieldLemmas
 pub mod FrontLemmas
 pub mod HeaderLemmas

@@ -1,6 +1,6 @@
 -- Lists of older units that aren't read.
-use Rattle.std.proofs.Common.{◌≡◌, ℕ, ◌<◌, List, [], ◌∷◌, ◌++◌, length, refl, sym, ap, subst, ◌∙◌, append_assoc, arith}
-use Rattle.std.proofs.lemmas.List.{length-append}
+use Rattle.std.proofs.Common.{◌≡◌, ℕ, List, [], ◌∷◌, ◌++◌, refl, sym, ◌∙◌, append_assoc, arith}
+use Rattle.std.proofs.lemmas.List.{length-append, nil_from_length}
 use Rattle.lnt_wire.specs.At.{At}
 use Rattle.lnt_wire.specs.Bytes.{IsCode, NoneSpelled}
 use Rattle.lnt_wire.specs.Numbers.{NumberBytes}
@@ -17,7 +17,7 @@ use Rattle.lnt_older.specs.ListFaults.{IsListFault}
 use Rattle.lnt_older.specs.ListFaults.IsListFault.{no_entry, no_end}
 use Rattle.lnt_header_bytes.specs.TableBytes.{EntryBytes}
 use Rattle.lnt_header_bytes.specs.TableFaults.{IsEntryFault}
-use Rattle.lnt_older.proofs.ListLemmas.{ListedSoFar}
+use Rattle.lnt_older.proofs.ListLemmas.{ListedSoFar, zero_begins}
 use Rattle.lnt_header_bytes.proofs.TableLaws.{entry_code}
 
 pub listed_code : (format : Format) (order : Order) (pairs : List Pair) → IsCode (ListedBytes format order pairs)
@@ -27,38 +27,25 @@ listed_code format order pairs = record {
 
 -- a list that ends doesn't begin with an entry
 pub ends_here : (bytes more whole : List ℕ) → bytes ≡ 0 ∷ [] → bytes ++ more ≡ whole → BeginsEntry whole → ⊥
-ends_here bytes more whole p e b =
-    let zero_is : 0 ∷ more ≡ b.first ∷ b.more = ap (λ (z : List ℕ). z ++ more) (sym p) ∙ e ∙ b.joined in
-    let same : 0 ≡ b.first = cc in
-    omega (arith, same, b.some)
+ends_here bytes more whole p e b = zero_begins more whole (rw p at e) b
 
-begins_front : (x rest whole : List ℕ) → BeginsEntry x → whole ≡ x ++ rest → BeginsEntry whole
-begins_front x rest whole b e = record {
-  first = b.first;
-  more = b.more ++ rest;
-  some = b.some;
-  joined = e ∙ ap (λ (z : List ℕ). z ++ rest) b.joined;
-}
+pub begins_front : (x rest whole : List ℕ) → BeginsEntry x → whole ≡ x ++ rest → BeginsEntry whole
+begins_front x rest whole b e = record { first = b.first; more = b.more ++ rest; some = b.some; joined = rw (e, b.joined) refl }
 
 -- after some entries no list goes on: no entry is there, and no zero byte
 none_list : (format : Format) (order : Order) (pairs : List Pair) (us : List Entry) (x rest bytes : List ℕ)
     → Each (ListedBytes format order pairs) us x → bytes ≡ x ++ rest → NoneSpelled (ListedBytes format order pairs) rest
     → ((more : List ℕ) → 0 ∷ more ≡ rest → ⊥) → NoneSpelled (ListBytes format order pairs) bytes
 none_list format order pairs [] x rest bytes p whole none goes_on [] y more q e =
-    goes_on more (ap (λ (z : List ℕ). z ++ more) (sym (q.joined ∙ ap (λ (z : List ℕ). z ++ q.back) q.first ∙ q.second)) ∙ e ∙ whole
-    ∙ ap (λ (z : List ℕ). z ++ rest) p)
+    goes_on more (rw (q.joined, q.first, q.second, whole, p) at e)
 none_list format order pairs [] x rest bytes p whole none goes_on (v ∷ vs) y more q e =
     none v q.first.front (q.first.back ++ (q.back ++ more)) q.first.first
-    (sym (append_assoc q.first.front q.first.back (q.back ++ more)) ∙ ap (λ (z : List ℕ). z ++ (q.back ++ more)) (sym q.first.joined)
-    ∙ sym (append_assoc q.front q.back more) ∙ ap (λ (z : List ℕ). z ++ more) (sym q.joined) ∙ e ∙ whole
-    ∙ ap (λ (z : List ℕ). z ++ rest) p)
+    (simp (q.joined, q.first.joined, append_assoc, whole, p) at e)
 none_list format order pairs (u ∷ us) x rest bytes p whole none goes_on [] y more q e =
-    ends_here y more (x ++ rest) (q.joined ∙ ap (λ (z : List ℕ). z ++ q.back) q.first ∙ q.second) (e ∙ whole)
-    (begins_front p.front (p.back ++ rest) (x ++ rest) p.first.some
-    (ap (λ (z : List ℕ). z ++ rest) p.joined ∙ append_assoc p.front p.back rest))
+    zero_begins more (x ++ rest) (rw (q.joined, q.first, q.second, whole) at e)
+    (begins_front p.front (p.back ++ rest) (x ++ rest) p.first.some (simp (p.joined, append_assoc)))
 none_list format order pairs (u ∷ us) x rest bytes p whole none goes_on (v ∷ vs) y more q e =
-    let all : q.front ++ (q.back ++ more) ≡ x ++ rest =
-    sym (append_assoc q.front q.back more) ∙ ap (λ (z : List ℕ). z ++ more) (sym q.joined) ∙ e ∙ whole in
+    let all : q.front ++ (q.back ++ more) ≡ x ++ rest = rw (q.joined, append_assoc, whole) at e in
     let one = peel (listed_code format order pairs) v u q.front x (q.back ++ more) rest q.first p all in
     none_list format order pairs us p.back rest (p.back ++ rest) p.second refl none goes_on vs (q.first.back ++ q.back) more
     (record { front = q.first.back; back = q.back; first = q.first.second; second = q.second; joined = refl })
@@ -68,12 +55,6 @@ none_listed_entry : (format : Format) (order : Order) (pairs : List Pair) (bytes
     → NoneSpelled (EntryBytes format order pairs) bytes → NoneSpelled (ListedBytes format order pairs) bytes
 none_listed_entry format order pairs bytes none v x more p e = none v x more p.spelled e
 
-zero_begins : (more rest : List ℕ) → 0 ∷ more ≡ rest → BeginsEntry rest → ⊥
-zero_begins more rest e b =
-    let whole : 0 ∷ more ≡ b.first ∷ b.more = e ∙ b.joined in
-    let same : 0 ≡ b.first = cc in
-    omega (arith, same, b.some)
-
 -- the next entry isn't there
 pub entry_missing : (format : Format) (pairs : List Pair) (count : ℕ) (old middle : At) (fault : Fault)
     → ListedSoFar format pairs count old middle → BeginsEntry middle.rest
@@ -81,23 +62,16 @@ pub entry_missing : (format : Format) (pairs : List Pair) (count : ℕ) (old mid
     → Refuses (IsListFault format old.order pairs) (ListBytes format old.order pairs) old fault
 entry_missing format pairs count old middle fault so_far begins s =
     let r = so_far.read in
-    let none : NoneSpelled (EntryBytes format old.order pairs) middle.rest =
-    subst (λ (o : Order). NoneSpelled (EntryBytes format o pairs) middle.rest) r.order s.none in
-    let so : IsEntryFault format old.order pairs fault.reason s.before s.left =
-    subst (λ (o : Order). IsEntryFault format o pairs fault.reason s.before s.left) r.order s.reason in
     record {
       before = r.spelling ++ s.before;
       left = s.left;
-      split = r.whole ∙ ap (λ (z : List ℕ). r.spelling ++ z) s.split ∙ sym (append_assoc r.spelling s.before s.left);
+      split = simp (r.whole, s.split, append_assoc);
       place = omega (arith, s.place, r.place, length-append r.spelling s.before);
-      reason = no_entry so_far.entries r.spelling s.before r.spelled refl (subst BeginsEntry s.split begins) so;
+      reason = no_entry so_far.entries r.spelling s.before r.spelled refl (rw s.split at begins) (rw r.order at s.reason);
       none = none_list format old.order pairs so_far.entries r.spelling middle.rest old.rest r.spelled r.whole
-          (none_listed_entry format old.order pairs middle.rest none) (λ more e. zero_begins more middle.rest e begins);
+          (none_listed_entry format old.order pairs middle.rest (rw r.order at s.none))
+          (λ more e. zero_begins more middle.rest e begins);
     }
-
-empty : (bytes : List ℕ) → length bytes < 1 → bytes ≡ []
-empty [] lt = refl
-empty (b ∷ bytes) lt = absurd (omega (arith, lt))
 
 -- the zero byte after the entries isn't there
 pub end_missing : (format : Format) (pairs : List Pair) (count : ℕ) (old middle : At) (fault : Fault)
@@ -105,7 +79,7 @@ pub end_missing : (format : Format) (pairs : List Pair) (count : ℕ) (old middl
     → Refuses (IsListFault format old.order pairs) (ListBytes format old.order pairs) old fault
 end_missing format pairs count old middle fault so_far s =
     let r = so_far.read in
-    let none_left : middle.rest ≡ [] = empty middle.rest s.reason.short in
+    let none_left = nil_from_length middle.rest (omega (arith, s.reason.short)) in
     record {
       before = r.spelling;
       left = middle.rest;
@@ -113,11 +87,8 @@ end_missing format pairs count old middle fault so_far s =
       place = s.place ∙ r.place;
       reason = no_end so_far.entries r.spelled none_left s.reason.reason_is;
       none = none_list format old.order pairs so_far.entries r.spelling middle.rest old.rest r.spelled r.whole
-          (λ v x more p e.
-          let b = p.some in
-          let whole : b.first ∷ (b.more ++ more) ≡ [] = ap (λ (z : List ℕ). z ++ more) (sym b.joined) ∙ e ∙ none_left in
-          absurd cc)
-          (λ more e. let whole : 0 ∷ more ≡ [] = e ∙ none_left in absurd cc);
+          (λ v x more p e. let b = begins_front x more [] p.some (sym (e ∙ none_left)) in absurd (cc b.joined))
+          (λ more e. absurd (cc (e, none_left)));
     }
 
 -- what the walk cites

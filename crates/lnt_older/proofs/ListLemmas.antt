@@ -1,7 +1,6 @@
 -- Lists of older units.
 use Rattle.std.proofs.Common.{◌≡◌, ℕ, ◌+◌, ◌<◌, ◌≤◌, ◌-◌, zero, suc, List, [], ◌∷◌, ◌++◌, length, take}
-use Rattle.std.proofs.Common.{refl, sym, ap, subst, ◌∙◌, append_assoc, arith}
-use Rattle.std.proofs.Math.Seq.{take-append_seam}
+use Rattle.std.proofs.Common.{refl, sym, ap, ◌∙◌, append_assoc, arith}
 use Rattle.std.proofs.lemmas.List.{length-append}
 use Rattle.lnt_wire.specs.At.{At}
 use Rattle.lnt_wire.specs.FormBytes.{FormBytes, form_of}
@@ -21,30 +20,39 @@ use Rattle.lnt_older.specs.OlderBytes.{BeginsEntry, ListedBytes}
 use Rattle.lnt_older.specs.ListReading.{BeginsWithPath, PassesList}
 use Rattle.lnt_header_bytes.specs.Stepping.{Passes}
 use Rattle.lnt_header_bytes.specs.TableBytes.{ValuesBytes, EntryBytes}
+use Rattle.lnt_header_bytes.proofs.PassLemmas.{refuses_value_passed, values_begun, values_next_passed, values_passed}
+use Rattle.lnt_older.proofs.Fronts.{front_taken}
 
--- a text has a byte
-text_long : (format : Format) (order : Order) (value : FormValue) (bytes : List ℕ) → form_of value ≡ forms.Text
-    → FormBytes format order value bytes → 0 < length bytes
-text_long format order (Text b) bytes is p = omega (arith, ap length p.joined, length-append b (0 ∷ []))
-text_long format order value bytes is p = absurd cc
+-- the bytes of a text end with a zero byte
+text_ends : (format : Format) (order : Order) (value : FormValue) (bytes : List ℕ) → form_of value ≡ forms.Text
+    → FormBytes format order value bytes → (text : List ℕ) × (bytes ≡ text ++ 0 ∷ [])
+text_ends format order (Text b) bytes is p = (b, p.joined)
+text_ends format order value bytes is p = absurd cc
 
--- and so has an entry that begins with one
-values_long : (format : Format) (order : Order) (pair : Pair) (past : List Pair) (values : List FormValue) (bytes : List ℕ)
-    → pair.form ≡ forms.Text → ValuesBytes format order (pair ∷ past) values bytes → 0 < length bytes
-values_long format order pair past [] bytes is p = absurd p
-values_long format order pair past (v ∷ vs) bytes is p =
-    omega (
-      arith,
-      text_long format order v p.1.front (p.0 ∙ is) p.1.first,
-      ap length p.1.joined,
-      length-append p.1.front p.1.back,
-    )
+-- and so does the first value of an entry that begins with one
+pub path_first : (format : Format) (order : Order) (pairs : List Pair) (entry : Entry) (bytes : List ℕ) → BeginsWithPath pairs
+    → EntryBytes format order pairs entry bytes → (text : List ℕ) × (past : List ℕ) × (bytes ≡ text ++ 0 ∷ past)
+path_first format order pairs entry bytes b p = of_values entry.values (rw b.joined at p)
+  where
+    of_values : (values : List FormValue) → ValuesBytes format order (b.pair ∷ b.past) values bytes
+        → (text : List ℕ) × (past : List ℕ) × (bytes ≡ text ++ 0 ∷ past)
+    of_values [] q = absurd q
+    of_values (v ∷ values) q =
+        let first = text_ends format order v q.1.front (q.0 ∙ b.is_text) q.1.first in
+        (first.0, q.1.back, simp (q.1.joined, first.1, append_assoc))
 
 entry_long : (format : Format) (order : Order) (pairs : List Pair) (entry : Entry) (bytes : List ℕ) → BeginsWithPath pairs
     → EntryBytes format order pairs entry bytes → 0 < length bytes
 entry_long format order pairs entry bytes b p =
-    values_long format order b.pair b.past entry.values bytes b.is_text
-    (subst (λ (ps : List Pair). ValuesBytes format order ps entry.values bytes) b.joined p)
+    let first = path_first format order pairs entry bytes b p in
+    omega (arith, ap length first.2, length-append first.0 (0 ∷ first.1))
+
+-- no entry begins with a zero byte
+pub zero_begins : (more rest : List ℕ) → 0 ∷ more ≡ rest → BeginsEntry rest → ⊥
+zero_begins more rest e b =
+    let whole : 0 ∷ more ≡ b.first ∷ b.more = e ∙ b.joined in
+    let same : 0 ≡ b.first = cc in
+    omega (arith, same, b.some)
 
 -- the first byte of what is read is that of what is left
 same_first : (x rest : List ℕ) (first : ℕ) (more : List ℕ) → 0 < length x → x ++ rest ≡ first ∷ more
@@ -105,12 +113,8 @@ one_more_listed format pairs count old middle new path so_far begins p =
 pub list_shorter : (format : Format) (pairs : List Pair) (old new : At) → BeginsWithPath pairs
     → Passes (EntryBytes format old.order pairs) old new → length new.rest < length old.rest
 list_shorter format pairs old new path p =
-    omega (
-      arith,
-      entry_long format old.order pairs p.value p.read.spelling path p.read.spelled,
-      ap length p.read.whole,
-      length-append p.read.spelling new.rest,
-    )
+    let long = entry_long format old.order pairs p.value p.read.spelling path p.read.spelled in
+    omega (arith, long, ap length p.read.whole, length-append p.read.spelling new.rest)
 
 -- the byte that ends a list is zero
 zero_read : (order : Order) (n : ℕ) (bytes rest whole : List ℕ) → NumberBytes order 1 n bytes → whole ≡ bytes ++ rest
@@ -118,44 +122,32 @@ zero_read : (order : Order) (n : ℕ) (bytes rest whole : List ℕ) → NumberBy
 zero_read order zero bytes rest whole p e none = p.spelled ∙ one_digit order 0 (omega arith)
 zero_read order (suc n) bytes rest whole p e none =
     let digit : bytes ≡ suc n ∷ [] = p.spelled ∙ one_digit order (suc n) (omega (arith, p.fits)) in
-    absurd (none (record {
-      first = suc n;
-      more = rest;
-      some = omega arith;
-      joined = e ∙ ap (λ (z : List ℕ). z ++ rest) digit;
-    }))
-
-front_taken : (front back all : List ℕ) → all ≡ front ++ back → take (length all - length back) all ≡ front
-front_taken front back all e =
-    ap (λ (z : List ℕ). take (length z - length back) z) e
-    ∙ ap (λ (k : ℕ). take k (front ++ back)) (omega (arith, length-append front back)) ∙ take-append_seam front back
+    absurd (none (record { first = suc n; more = rest; some = omega arith; joined = rw (e, digit) refl }))
 
 pub list_ended : (format : Format) (pairs : List Pair) (count n : ℕ) (bytes all left : List ℕ) (old middle new : At)
     → ListedSoFar format pairs count old middle → (BeginsEntry middle.rest → ⊥) → Reads (NumberBytes middle.order 1) n middle new
     → all ≡ old.rest → left ≡ middle.rest → bytes ≡ take (length all - length left) all
     → PassesList format pairs count bytes old new
 list_ended format pairs count n bytes all left old middle new so_far none r all_is left_is bytes_are =
-    let front : bytes ≡ so_far.read.spelling = bytes_are ∙ ap (λ (z : List ℕ). take (length z - length left) z) all_is
-    ∙ ap (λ (z : List ℕ). take (length old.rest - length z) old.rest) left_is
-    ∙ front_taken so_far.read.spelling middle.rest old.rest so_far.read.whole in
+    let q = so_far.read in
+    let front = front_taken q.spelling (all_is ∙ q.whole) left_is bytes_are in
     let ended = zero_read middle.order n r.spelling new.rest middle.rest r.spelled r.whole none in
     record {
       entries = so_far.entries;
       count_is = so_far.count_is;
-      each = subst (λ (z : List ℕ). Each (ListedBytes format old.order pairs) so_far.entries z) (sym front) so_far.read.spelled;
+      each = rw front q.spelled;
       read = record {
-        spelling = so_far.read.spelling ++ r.spelling;
-        spelled = record { front = so_far.read.spelling; back = r.spelling; first = so_far.read.spelled; second = ended; joined = refl };
-        whole = so_far.read.whole ∙ ap (λ (z : List ℕ). so_far.read.spelling ++ z) r.whole
-            ∙ sym (append_assoc so_far.read.spelling r.spelling new.rest);
-        place = omega (arith, r.place, so_far.read.place, length-append so_far.read.spelling r.spelling);
-        order = r.order ∙ so_far.read.order;
+        spelling = q.spelling ++ r.spelling;
+        spelled = record { front = q.spelling; back = r.spelling; first = q.spelled; second = ended; joined = refl };
+        whole = simp (q.whole, r.whole, append_assoc);
+        place = omega (arith, r.place, q.place, length-append q.spelling r.spelling);
+        order = r.order ∙ q.order;
       };
-      joined = so_far.read.whole
-          ∙ ap (λ (z : List ℕ). so_far.read.spelling ++ z) (r.whole ∙ ap (λ (z : List ℕ). z ++ new.rest) ended)
-          ∙ sym (append_assoc so_far.read.spelling (0 ∷ []) new.rest)
-          ∙ ap (λ (z : List ℕ). (z ++ 0 ∷ []) ++ new.rest) (sym front);
+      joined = simp (q.whole, r.whole, ended, front, append_assoc);
     }
+
+-- what the walk over an entry cites
+pub ruleset entry_walk = (values_begun, values_next_passed, values_passed, refuses_value_passed)
 
 -- what the walk cites
 pub ruleset list_walk = (none_listed, one_more_listed, list_shorter, list_ended)

@@ -1,5 +1,5 @@
 -- Items one after another, each with its offset, and those that are left from a cursor on.
-use Rattle.std.proofs.Common.{◌≡◌, ◌∙◌, ℕ, ◌+◌, ◌<◌, List, [], ◌∷◌, ◌++◌, length, length-append, refl, sym, ap, subst, arith, append_assoc}
+use Rattle.std.proofs.Common.{◌≡◌, ◌∙◌, ℕ, ◌+◌, ◌<◌, List, [], ◌∷◌, ◌++◌, length, length-append, refl, sym, ap, arith, append_assoc}
 use Rattle.std.proofs.lemmas.List.{append-nil}
 use Rattle.lnt_wire.specs.At.{At}
 use Rattle.lnt_wire.specs.Reading.{Reads}
@@ -13,16 +13,16 @@ pub placed_more : {A : Type 0} (Says : ℕ × A → List ℕ → Type 0) (offset
     (x : List ℕ) → PlacedFrom Says offset items bytes → item.0 ≡ offset + length bytes → Says item x
     → PlacedFrom Says offset (items ++ item ∷ []) (bytes ++ x)
 placed_more Says offset [] bytes item x none at says =
-    (x, [], omega (arith, at, ap length none), says, ap (λ (b : List ℕ). b ++ x) none ∙ sym (append-nil x), refl)
-placed_more Says offset (i ∷ items) bytes item x (front, back, here, so, joined, rest) at says =
-    let long : length bytes ≡ length front + length back = ap length joined ∙ length-append front back in (
-      front,
-      back ++ x,
-      here,
-      so,
-      ap (λ (b : List ℕ). b ++ x) joined ∙ append_assoc front back x,
-      placed_more Says (offset + length front) items back item x rest (omega (arith, at, long)) says,
-    )
+    (x, [], omega (arith, at, ap length none), says, rw none (sym (append-nil x)), refl)
+placed_more Says offset (i ∷ items) bytes item x (front, back, here, so, joined, rest) at says = (
+  front,
+  back ++ x,
+  here,
+  so,
+  rw joined (append_assoc front back x),
+  placed_more Says (offset + length front) items back item x rest
+      (omega (arith, at, ap length joined, length-append front back)) says,
+)
 
 -- the items after the first one, whose bytes are these
 placed_past : {A : Type 0} (Says : ℕ × A → List ℕ → Type 0) (offset : ℕ) (items : List (ℕ × A)) (bytes x rest : List ℕ) → 0 < length x
@@ -31,23 +31,14 @@ placed_past : {A : Type 0} (Says : ℕ × A → List ℕ → Type 0) (offset : �
 placed_past Says offset [] bytes x rest some once none whole =
     absurd (omega (arith, some, ap length none, ap length whole, length-append x rest))
 placed_past Says offset (item ∷ items) bytes x rest some once (front, back, here, so, joined, others) whole =
-    let same : front ≡ x = once item front back so (sym joined ∙ whole) in
-    let past : back ≡ rest = same_rest front x back rest same (sym joined ∙ whole) in (
-      items,
-      subst (λ (z : List ℕ). PlacedFrom Says (offset + length z) items rest) same
-          (subst (λ (z : List ℕ). PlacedFrom Says (offset + length front) items z) past others),
-    )
+    let same = once item front back so (sym joined ∙ whole) in
+    (items, rw (same, same_rest front x back rest same (sym joined ∙ whole)) at others)
 
 module _ {A : Type 0} (Says : Order → ℕ × A → List ℕ → Type 0) where
   -- at the beginning all are left
   pub left_all : (order : Order) (bytes : List ℕ) (at : At) → ((items : List (ℕ × A)) × PlacedFrom (Says order) 0 items bytes)
       → at.rest ≡ bytes → at.place ≡ 0 → at.order ≡ order → AreLeft Says at
-  left_all order bytes at (items, placed) rest place ordered = (
-    items,
-    subst (λ (o : Order). PlacedFrom (Says o) at.place items at.rest) (sym ordered)
-        (subst (λ (b : List ℕ). PlacedFrom (Says order) at.place items b) (sym rest)
-        (subst (λ (n : ℕ). PlacedFrom (Says order) n items bytes) (sym place) placed)),
-  )
+  left_all order bytes at (items, placed) rest place ordered = (items, rw (ordered, rest, place) placed)
 
   -- after a read of bytes with which every item there begins
   pub left_after : {V : Type 0} (Spells : V → List ℕ → Type 0) (v : V) (at next : At) (r : Reads Spells v at next)
@@ -55,8 +46,5 @@ module _ {A : Type 0} (Says : Order → ℕ × A → List ℕ → Type 0) where
       → ((item : ℕ × A) (y m : List ℕ) → Says at.order item y → y ++ m ≡ r.spelling ++ next.rest → y ≡ r.spelling)
       → AreLeft Says at → AreLeft Says next
   left_after Spells v at next r some once (items, placed) =
-      let others = placed_past (Says at.order) at.place items at.rest r.spelling next.rest some once placed r.whole in (
-        others.0,
-        subst (λ (o : Order). PlacedFrom (Says o) next.place others.0 next.rest) (sym r.order)
-            (subst (λ (n : ℕ). PlacedFrom (Says at.order) n others.0 next.rest) (sym r.place) others.1),
-      )
+      let others = placed_past (Says at.order) at.place items at.rest r.spelling next.rest some once placed r.whole in
+      (others.0, rw (r.order, r.place) others.1)

@@ -1,7 +1,6 @@
 -- A section of version 5 alone is written anew as itself.
 use Rattle.std.proofs.Common.{◌≡◌, ◌∙◌, ℕ, ◌+◌, List, [], ◌∷◌, ◌++◌, length, length-append, sym, ap, subst, arith}
 use Rattle.std.proofs.lemmas.List.{append_cancel_left}
-use Rattle.lnt_wire.specs.declared.format.Format.{Format}
 use Rattle.lnt_wire.specs.declared.format.Order.{Order}
 use Rattle.lnt_header.specs.Joins.{Each, PlacedFrom}
 use Rattle.lnt_header.specs.declared.unit_parts.UnitParts.{UnitParts}

@@ -1,5 +1,5 @@
 -- Units that were read from the same bytes have the same parts.
-use Rattle.std.proofs.Common.{◌≡◌, ℕ, ◌^◌, ◌<◌, ◌≤◌, List, [], ◌∷◌, ◌++◌, length, refl, sym, ap, subst, ◌∙◌, append_assoc, arith}
+use Rattle.std.proofs.Common.{◌≡◌, ℕ, ◌^◌, ◌<◌, List, [], ◌∷◌, ◌++◌, length, refl, sym, ap, subst, ◌∙◌, append_assoc, arith}
 use Rattle.std.proofs.lemmas.List.{append_cancel_right, length-append}
 use Rattle.lnt_wire.specs.At.{At}
 use Rattle.lnt_wire.specs.FrameBytes.{frame_bytes}
@@ -16,16 +16,14 @@ use Rattle.lnt_header.specs.declared.header.Entry.{Entry}
 use Rattle.lnt_header.specs.declared.header.Pair.{Pair}
 use Rattle.lnt_header_bytes.specs.HeaderFaults.{LengthsBytes}
 use Rattle.lnt_header_bytes.proofs.HeaderLaws.{below}
-use Rattle.lnt_older.specs.OlderBytes.{body_bytes, directory_pairs, file_pairs, ListBytes, ListedBytes, SaysOperations}
-use Rattle.lnt_older.specs.OlderFields.{header_of, header_spelling, ListsLie, NumbersBytes, number_fields}
+use Rattle.lnt_older.specs.OlderBytes.{body_bytes, directory_pairs, file_pairs, ListBytes, ListedBytes}
+use Rattle.lnt_older.specs.OlderFields.{header_spelling, ListsLie, NumbersBytes, number_fields}
 use Rattle.lnt_older.specs.OlderUnits.{ReadsOlder, unit_header}
 use Rattle.lnt_older.specs.Versions.{version_number}
 use Rattle.lnt_older.specs.declared.header.OlderHeader.{OlderHeader}
-use Rattle.lnt_older.specs.declared.numbers.OlderNumbers.{OlderNumbers}
 use Rattle.lnt_older.specs.declared.unit.OlderUnit.{OlderUnit}
 use Rattle.lnt_older.specs.declared.version.OlderVersion.{OlderVersion}
 use Rattle.lnt_older.proofs.FieldLemmas.{lengths_code, list_code}
-use Rattle.lnt_older.proofs.HeaderLemmas.{to_right}
 use Rattle.lnt_older.proofs.NoUnitLemmas.{one_body, same_version, small_version}
 use Rattle.lnt_older.proofs.NumberLemmas.{numbers_code}
 
@@ -40,24 +38,17 @@ record SameBody (v w : OlderVersion) (fields other program past : List ℕ) : Ty
 fields_fit : (format : Format) (order : Order) (v : OlderVersion) (fields program : List ℕ)
     → LengthFits format (length (body_bytes format order v fields program)) → length fields < 256 ^ offset_size format
 fields_fit format order v fields program fits =
-    let digits = number_bytes order 2 (version_number v) in
-    let number = number_bytes order (offset_size format) (length fields) in
-    let few : length fields ≤ length (body_bytes format order v fields program) =
-    omega (arith, length-append ((digits ++ number) ++ fields) program, length-append (digits ++ number) fields) in
-    below format (length (body_bytes format order v fields program)) (length fields) fits few
+    below format (length (body_bytes format order v fields program)) (length fields) fits (omega (arith, length-append {A = ℕ}))
 
 one_version : (format : Format) (order : Order) (v w : OlderVersion) (fields other program past : List ℕ)
     → body_bytes format order v fields program ≡ body_bytes format order w other past
     → (v ≡ w) × (number_bytes order (offset_size format) (length fields) ++ (fields ++ program)
     ≡ number_bytes order (offset_size format) (length other) ++ (other ++ past))
 one_version format order v w fields other program past e =
-    let size = offset_size format in
-    let number = number_bytes order size (length fields) in
-    let number' = number_bytes order size (length other) in
+    let number = number_bytes order (offset_size format) (length fields) in
+    let number' = number_bytes order (offset_size format) (length other) in
     let found = same_number_front order 2 width_2 (version_number v) (version_number w) (number ++ (fields ++ program))
-    (number' ++ (other ++ past)) (small_version v) (small_version w)
-    (sym (to_right (number_bytes order 2 (version_number v)) number fields program) ∙ e
-    ∙ to_right (number_bytes order 2 (version_number w)) number' other past) in
+    (number' ++ (other ++ past)) (small_version v) (small_version w) (simp append_assoc at e) in
     (same_version v w found.0, found.1)
 
 same_body : (format : Format) (order : Order) (v w : OlderVersion) (fields other program past : List ℕ)
@@ -175,15 +166,8 @@ record IsJoined (unit : OlderUnit) (order : Order) (bytes : List ℕ) : Type 0 w
 
 initial_size : (format : Format) (order : Order) (m n : ℕ)
     → length (initial_length format order m) ≡ length (initial_length format order n)
-initial_size D32 order m n = length-number_bytes order 4 m ∙ sym (length-number_bytes order 4 n)
-initial_size D64 order m n =
-    omega (
-      arith,
-      length-append (number_bytes order 4 0xffffffff) (number_bytes order 8 m),
-      length-append (number_bytes order 4 0xffffffff) (number_bytes order 8 n),
-      length-number_bytes order 8 m,
-      length-number_bytes order 8 n,
-    )
+initial_size D32 order m n = omega (arith, length-number_bytes)
+initial_size D64 order m n = omega (arith, length-append {A = ℕ}, length-number_bytes)
 
 -- in one format and order the bytes of a frame are those of one body
 frame_body : (format : Format) (order : Order) (body other : List ℕ) → frame_bytes order format body ≡ frame_bytes order format other
@@ -198,7 +182,6 @@ joined_here : (unit : OlderUnit) (size : ℕ) (at next : At) (bytes : List ℕ) 
 joined_here unit size at next bytes is_size r whole =
     let s = r.read size is_size in
     let q = s.spelled.spelled in
-    let n = unit.header.numbers in
     let fields = header_spelling r.version unit.header in
     let program = unit.program.now in
     let body = body_bytes unit.format unit.order r.version fields program in
@@ -208,7 +191,7 @@ joined_here unit size at next bytes is_size r whole =
     let there : bytes ≡ s.spelling = append_cancel_right bytes s.spelling next.rest (sym whole ∙ s.whole) in
     let bodies : body ≡ other = frame_body unit.format unit.order body other (sym here ∙ there ∙ q.joined) in
     let versions = one_version unit.format unit.order r.version q.version fields q.fields program program bodies in
-    let some : 0 < n.opcode_base = omega (arith, q.counted.numbers.opcode_base) in
+    let some : 0 < unit.header.numbers.opcode_base = omega (arith, q.counted.numbers.opcode_base) in
     record {
       version = r.version;
       order_is = refl;
@@ -218,7 +201,7 @@ joined_here unit size at next bytes is_size r whole =
         lie = r.lie;
         numbers = record {
           spelled = refl;
-          operations = subst (λ (w : OlderVersion). SaysOperations w n.max_ops) (sym versions.0) q.counted.operations;
+          operations = rw versions.0 q.counted.operations;
           line_base = q.counted.numbers.line_base;
           max_ops = q.counted.numbers.max_ops;
           line_range = q.counted.numbers.line_range;
@@ -243,15 +226,12 @@ joined_once u v order bytes a b =
     let past = v.program.now in
     let body = body_bytes u.format order a.version fields program in
     let other = body_bytes v.format order b.version others past in
-    let found = one_body order u.format v.format body other [] [] (bytes ++ []) a.fits b.fits (ap (λ (z : List ℕ). z ++ []) a.joined)
-    (ap (λ (z : List ℕ). z ++ []) (sym b.joined)) in
-    let fits : LengthFits u.format (length (body_bytes u.format order b.version others past)) =
-    subst (λ (f : Format). LengthFits f (length (body_bytes f order b.version others past))) found.0 b.fits in
+    let found = one_body order u.format v.format body other [] [] (frame_bytes order u.format body ++ []) a.fits b.fits refl
+    (ap (λ (z : List ℕ). z ++ []) (sym b.joined ∙ a.joined)) in
+    let fits : LengthFits u.format (length (body_bytes u.format order b.version others past)) = rw (← found.0) b.fits in
     let same = same_body u.format order a.version b.version fields others program past a.fits fits
     (sym found.1 ∙ ap (λ (f : Format). body_bytes f order b.version others past) found.0) in
-    let parts : HasParts a.version u.format order v.header =
-    subst (λ (f : Format). HasParts a.version f order v.header) found.0
-    (subst (λ (w : OlderVersion). HasParts w v.format order v.header) (sym same.version) b.parts) in
+    let parts : HasParts a.version u.format order v.header = rw (same.version, ← found.0) b.parts in
     record {
       format_is = sym found.0;
       order_is = a.order_is ∙ sym b.order_is;
@@ -271,31 +251,15 @@ same_unit u v size order at next bt after bytes is_size here there r first s sec
 pub one_header : (u v : OlderUnit) (size : ℕ) (directories files : List Entry) → SameUnit u v
     → unit_header v size directories files ≡ unit_header u size directories files
 one_header u v size directories files s =
-    let formats : v.format ≡ u.format = sym s.format_is in
-    let orders : v.order ≡ u.order = sym s.order_is in
-    let numbers : v.header.numbers ≡ u.header.numbers = sym s.header.numbers in
-    let lengths : v.header.standard_lengths.now ≡ u.header.standard_lengths.now = sym s.header.lengths in
-    let extra : v.header.extra.now ≡ u.header.extra.now = sym s.header.extra in
-    ap (λ (f : Format). header_of f v.order size v.header.numbers v.header.standard_lengths.now directories files v.header.extra.now)
-    formats
-    ∙ ap (λ (o : Order). header_of u.format o size v.header.numbers v.header.standard_lengths.now directories files v.header.extra.now)
-    orders
-    ∙ ap (λ (n : OlderNumbers). header_of u.format u.order size n v.header.standard_lengths.now directories files v.header.extra.now)
-    numbers
-    ∙ ap (λ (l : List ℕ). header_of u.format u.order size u.header.numbers l directories files v.header.extra.now) lengths
-    ∙ ap (λ (x : List ℕ). header_of u.format u.order size u.header.numbers u.header.standard_lengths.now directories files x) extra
+    let h = s.header in
+    rw (s.format_is, s.order_is, h.numbers, h.lengths, h.extra) refl
 
 -- what lies in the lists of one unit lies in those of the other
 pub lies_in : (u v : OlderUnit) (directories files : List Entry) → SameUnit u v
     → ListsLie v.format v.order v.header directories files → ListsLie u.format u.order u.header directories files
-lies_in u v directories files s lie =
-    let there : ListsLie u.format u.order v.header directories files =
-    subst (λ (o : Order). ListsLie u.format o v.header directories files) (sym s.order_is)
-    (subst (λ (f : Format). ListsLie f v.order v.header directories files) (sym s.format_is) lie) in
-    record {
-      directory_count = there.directory_count ∙ sym s.header.directory_count;
-      file_count = there.file_count ∙ sym s.header.file_count;
-      directories_lie = subst (Each (ListedBytes u.format u.order directory_pairs) directories) (sym s.header.directories)
-          there.directories_lie;
-      files_lie = subst (Each (ListedBytes u.format u.order file_pairs) files) (sym s.header.files) there.files_lie;
-    }
+lies_in u v directories files s lie = rw (s.format_is, s.order_is) (record {
+  directory_count = lie.directory_count ∙ sym s.header.directory_count;
+  file_count = lie.file_count ∙ sym s.header.file_count;
+  directories_lie = rw s.header.directories lie.directories_lie;
+  files_lie = rw s.header.files lie.files_lie;
+})

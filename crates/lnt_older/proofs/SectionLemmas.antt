@@ -1,5 +1,5 @@
 -- Walks over the units of a section.
-use Rattle.std.proofs.Common.{◌≡◌, ◌∙◌, ℕ, ◌+◌, ◌<◌, ◌≤◌, List, [], ◌∷◌, ◌++◌, length, length-append, inr, refl, sym, ap, subst, arith}
+use Rattle.std.proofs.Common.{◌≡◌, ◌∙◌, ℕ, ◌+◌, ◌<◌, ◌≤◌, List, [], ◌∷◌, ◌++◌, length, length-append, inr, refl, sym, ap, arith}
 use Rattle.std.proofs.Common.{append_assoc}
 use Rattle.std.specs.List.{All}
 use Rattle.std.proofs.lemmas.List.{append-nil, nil_from_length}
@@ -10,7 +10,6 @@ use Rattle.lnt_wire.specs.At.{At}
 use Rattle.lnt_wire.specs.Reading.{Reads, Refuses}
 use Rattle.lnt_wire.specs.declared.fault.Fault.{Fault}
 use Rattle.lnt_wire.specs.declared.format.Order.{Order}
-use Rattle.lnt_header.specs.HeaderRules.{IsAddressSize}
 use Rattle.lnt_older.specs.OlderUnits.{AnyBytes, AnyParts, IsAnyFault, ReadsFive, ReadsOlder, five_parts, older_parts, unit_header}
 use Rattle.lnt_older.specs.SectionSteps.{IsUnitNext}
 use Rattle.lnt_older.specs.Sections.{HasOlder, IsBroken, older_offsets}
@@ -61,19 +60,15 @@ module _ (Says : Order → ℕ × AnyParts → List ℕ → Type 0) (order : Ord
       → WalkedTo Says order section next (units ++ (at.place, parts) ∷ [])
   walked_more at next units parts w r so = record {
     done = w.done ++ r.spelling;
-    sound = placed_more (Says order) 0 units w.done (at.place, parts) r.spelling w.sound (omega (arith, w.place))
-        (subst (λ (o : Order). Says o (at.place, parts) r.spelling) w.order_is so);
-    joined = w.joined ∙ (ap (λ (b : List ℕ). w.done ++ b) r.whole ∙ sym (append_assoc w.done r.spelling next.rest));
-    place = r.place ∙ (ap (λ (n : ℕ). n + length r.spelling) w.place ∙ sym (length-append w.done r.spelling));
+    sound = placed_more (Says order) 0 units w.done (at.place, parts) r.spelling w.sound (omega (arith, w.place)) (rw w.order_is at so);
+    joined = simp (w.joined, r.whole, append_assoc);
+    place = omega (arith, r.place, w.place, length-append w.done r.spelling);
     order_is = r.order ∙ w.order_is;
   }
 
   pub walked_all : (at : At) (units : List (ℕ × AnyParts)) → WalkedTo Says order section at units → length at.rest ≡ 0
       → PlacedFrom (Says order) 0 units section
-  walked_all at units w ended =
-      let same : section ≡ w.done =
-      w.joined ∙ (ap (λ (b : List ℕ). w.done ++ b) (nil_from_length at.rest ended) ∙ append-nil w.done) in
-      subst (PlacedFrom (Says order) 0 units) (sym same) w.sound
+  walked_all at units w ended = rw (w.joined, nil_from_length at.rest ended, append-nil) w.sound
 
 -- ---- the older ones among them
 
@@ -82,28 +77,29 @@ older_more [] more = refl
 older_more ((offset, five_parts format body) ∷ units) more = older_more units more
 older_more ((offset, older_parts header program) ∷ units) more = ap (λ (l : List ℕ). offset ∷ l) (older_more units more)
 
+later_on : {low high : ℕ} (offsets : List ℕ) → low ≤ high → All (λ (other : ℕ). high ≤ other) offsets
+    → All (λ (other : ℕ). low ≤ other) offsets
+later_on {low} {high} offsets le all =
+    All-weaker (λ (other : ℕ). high ≤ other) (λ (other : ℕ). low ≤ other) (λ other more. omega arith) offsets all
+
 -- each unit has bytes, so it stands after those before it
 older_from : (order : Order) (offset : ℕ) (units : List (ℕ × AnyParts)) (bytes : List ℕ) → PlacedFrom (IsSpelled order) offset units bytes
     → All (λ (other : ℕ). offset ≤ other) (older_offsets units)
 older_from order offset [] bytes h = All-nil (λ (other : ℕ). offset ≤ other)
 older_from order offset ((place, five_parts format body) ∷ units) bytes h =
-    All-weaker (λ (other : ℕ). offset + length h.0 ≤ other) (λ (other : ℕ). offset ≤ other) (λ other le. omega arith)
-    (older_offsets units) (older_from order (offset + length h.0) units h.1 h.5)
+    later_on (older_offsets units) (omega arith) (older_from order (offset + length h.0) units h.1 h.5)
 older_from order offset ((place, older_parts header program) ∷ units) bytes h =
-    let at = h.2 in
-    All-cons (λ (other : ℕ). offset ≤ other) place (older_offsets units) (omega arith)
-    (All-weaker (λ (other : ℕ). offset + length h.0 ≤ other) (λ (other : ℕ). offset ≤ other) (λ other le. omega arith)
-    (older_offsets units) (older_from order (offset + length h.0) units h.1 h.5))
+    All-cons (λ (other : ℕ). offset ≤ other) place (older_offsets units) (omega (arith, h.2))
+    (later_on (older_offsets units) (omega arith) (older_from order (offset + length h.0) units h.1 h.5))
 
 older_rise : (order : Order) (offset : ℕ) (units : List (ℕ × AnyParts)) (bytes : List ℕ) → PlacedFrom (IsSpelled order) offset units bytes
     → AreRising (older_offsets units)
 older_rise order offset [] bytes h = λ i j d lt few. absurd (omega (arith, few))
 older_rise order offset ((place, five_parts format body) ∷ units) bytes h = older_rise order (offset + length h.0) units h.1 h.5
 older_rise order offset ((place, older_parts header program) ∷ units) bytes h =
-    let at = h.2 in
-    let some = some_bytes order (older_parts header program) h.0 h.3 in
     AllPairs-cons (λ (one other : ℕ). one < other) place (older_offsets units)
-    (All-weaker (λ (other : ℕ). offset + length h.0 ≤ other) (λ (other : ℕ). place < other) (λ other le. omega arith)
+    (All-weaker (λ (other : ℕ). offset + length h.0 ≤ other) (λ (other : ℕ). place < other)
+    (λ other le. omega (arith, h.2, some_bytes order (older_parts header program) h.0 h.3))
     (older_offsets units) (older_from order (offset + length h.0) units h.1 h.5))
     (older_rise order (offset + length h.0) units h.1 h.5)
 
@@ -124,8 +120,7 @@ module _ (order : Order) (section : List ℕ) where
   older_next at next older new parts o r more = record {
     units = o.units ++ (at.place, parts) ∷ [];
     walked = walked_more IsSpelled order section at next o.units parts o.walked r r.spelled;
-    older_are = more ∙ (ap (λ (l : List ℕ). l ++ older_offsets ((at.place, parts) ∷ [])) o.older_are
-        ∙ sym (older_more o.units ((at.place, parts) ∷ [])));
+    older_are = more ∙ rw o.older_are (sym (older_more o.units ((at.place, parts) ∷ [])));
   }
 
   -- one of version 5 is passed over
@@ -139,14 +134,14 @@ module _ (order : Order) (section : List ℕ) where
       → ReadsOlder unit at next → offset ≡ at.place → new ≡ older ++ offset ∷ [] → OlderTo order section next new
   older_passed at next older new offset unit o r here added =
       older_next at next older new (older_parts (unit_header unit 8 r.directories r.files) unit.program.now) o
-      (older_read unit 8 at next (inr (inr refl)) r) (added ∙ ap (λ (n : ℕ). older ++ n ∷ []) here)
+      (older_read unit 8 at next (inr (inr refl)) r) (rw here at added)
 
   pub older_found : (at : At) (older : List ℕ) → OlderTo order section at older → length at.rest ≡ 0
       → HasOlder order section older × AreRising older
   older_found at older o ended =
       let sound = walked_all IsSpelled order section at o.units o.walked ended in (
         record { units = o.units; sound = sound; older_are = o.older_are },
-        subst AreRising (sym o.older_are) (older_rise order 0 o.units section sound),
+        rw o.older_are (older_rise order 0 o.units section sound),
       )
 
   pub broken_there : (at : At) (older : List ℕ) (fault : Fault) → OlderTo order section at older
@@ -161,9 +156,9 @@ module _ (order : Order) (section : List ℕ) where
       before = r.before;
       left = r.left;
       split = r.split;
-      place = r.place ∙ ap (λ (n : ℕ). n + length r.before) o.walked.place;
-      reason = subst (λ (o : Order). IsAnyFault o fault.reason r.before r.left) o.walked.order_is r.reason;
-      none = subst (λ (o : Order). (u : AnyParts) (x m : List ℕ) → AnyBytes o u x → x ++ m ≡ at.rest → ⊥) o.walked.order_is r.none;
+      place = omega (arith, r.place, o.walked.place);
+      reason = rw o.walked.order_is at r.reason;
+      none = rw o.walked.order_is at r.none;
     };
   }
 

@@ -1,5 +1,5 @@
 -- A walk that tests of each unit that it can be written anew.
-use Rattle.std.proofs.Common.{◌≡◌, ◌∙◌, ℕ, ◌+◌, ◌<◌, List, [], ◌∷◌, ◌++◌, length, refl, sym, ap, subst}
+use Rattle.std.proofs.Common.{◌≡◌, ℕ, ◌+◌, ◌<◌, List, [], ◌∷◌, ◌++◌, length, refl}
 use Rattle.std.specs.List.{AllByRecursion}
 use Rattle.lnt_wire.specs.At.{At}
 use Rattle.lnt_wire.specs.declared.format.Order.{Order}
@@ -7,7 +7,7 @@ use Rattle.lnt_header.specs.Joins.{Each, PlacedFrom}
 use Rattle.lnt_older.specs.OlderUnits.{AnyParts}
 use Rattle.lnt_older.specs.Directories.{directory_at}
 use Rattle.lnt_older.specs.SectionSteps.{IsLargeNext, IsUnitNext}
-use Rattle.lnt_older.specs.Sections.{HasAddressSize, IsLargeAt, IsLargeUnit, UpgradedBytes}
+use Rattle.lnt_older.specs.Sections.{HasAddressSize, IsLargeAt, UpgradedBytes}
 use Rattle.lnt_older.specs.Upgradable.{AddsAny, AreLeft, CanBeUpgraded, CanUpgrade}
 use Rattle.lnt_older.specs.Upgrades.{HasUnits}
 use Rattle.lnt_older.specs.declared.directories.Directory.{Directory}
@@ -76,13 +76,13 @@ module _ (order : Order) (size : ℕ) (directories : List Directory) (section : 
   sized_large at offset s l here =
       let w = s.walked in
       let before = newer_of order size directories 0 s.units w.done w.sound in
-      subst (IsLargeAt order size directories section) (sym here) (record {
+      rw here (record {
         front = w.done;
         unit = l.unit;
         rest = l.more;
-        joined = w.joined ∙ ap (λ (z : List ℕ). w.done ++ z) l.joined;
+        joined = rw (w.joined, l.joined) refl;
         place = w.place;
         before = before.newer;
         upgraded_before = record { units = s.units; sound = before.sound; sizes = before.sizes; upgraded = before.upgraded };
-        large = subst (λ (o : Order). IsLargeUnit o size (directory_at directories at.place) l.unit) w.order_is l.large;
+        large = rw w.order_is at l.large;
       })

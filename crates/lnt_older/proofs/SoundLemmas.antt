@@ -1,8 +1,7 @@
 -- Fields of one byte that are read one after another, and the first that isn't there.
 use Rattle.std.proofs.Common.{◌≡◌, ◌≢◌, ℕ, ◌+◌, ◌-◌, ◌<◌, ◌≤◌, List, [], ◌∷◌, ◌++◌, length, take, drop, get_or, refl, sym, ap, subst, ◌∙◌}
 use Rattle.std.proofs.Common.{append_assoc, add-zero, arith, Option, Some, None}
-use Rattle.std.proofs.Math.Seq.{take-append_seam}
-use Rattle.std.proofs.lemmas.List.{length-append, take_more, drop_more, take-append-drop, take_all}
+use Rattle.std.proofs.lemmas.List.{length-append, nil_from_length, take_more, drop_more, take-append-drop, take_all}
 use Rattle.lnt_wire.specs.At.{At}
 use Rattle.lnt_wire.specs.Bytes.{NoneSpelled}
 use Rattle.lnt_wire.specs.Numbers.{NumberBytes}
@@ -14,17 +13,14 @@ use Rattle.lnt_header.proofs.ByteLaws.{one_digit}
 use Rattle.lnt_header.proofs.ReaderLaws.{reads_map}
 use Rattle.lnt_older.specs.ByteReading.{ByteOf, IsByteFault}
 use Rattle.lnt_older.specs.ByteReading.IsByteFault.{no_byte, is_zero}
-use Rattle.lnt_older.specs.OlderFields.{AreSound, IsSoundFault, MayBe, SoundBytes}
+use Rattle.lnt_older.specs.OlderFields.{AreFieldBytes, IsSoundFault, MayBe, SoundBytes}
 use Rattle.lnt_older.specs.OlderFields.IsSoundFault.{missing, zero_byte}
+use Rattle.lnt_older.proofs.Fronts.{front_taken}
 
 -- ---- one byte
 
 byte_is : (order : Order) (n : ℕ) (x : List ℕ) → NumberBytes order 1 n x → x ≡ n ∷ []
 byte_is order n x p = p.spelled ∙ one_digit order n p.fits
-
-empty : (bytes : List ℕ) → length bytes < 1 → bytes ≡ []
-empty [] lt = refl
-empty (b ∷ bytes) lt = absurd (omega (arith, lt))
 
 reads_byte : (zero_reason : Option Reason) (n : ℕ) (old new : At) → MayBe zero_reason n → Reads (NumberBytes old.order 1) n old new
     → Reads (ByteOf zero_reason) n old new
@@ -33,20 +29,17 @@ reads_byte zero_reason n old new may r =
 
 pub reads_any : (zero_reason : Option Reason) (n : ℕ) (old new : At) → zero_reason ≡ None → Reads (NumberBytes old.order 1) n old new
     → Reads (ByteOf zero_reason) n old new
-reads_any zero_reason n old new is r =
-    reads_byte zero_reason n old new (subst (λ (z : Option Reason). MayBe z n) (sym is) tt) r
+reads_any zero_reason n old new is r = reads_byte zero_reason n old new (rw is tt) r
 
 pub reads_some : (zero_reason : Option Reason) (reason : Reason) (n : ℕ) (old new : At) → zero_reason ≡ Some reason → n ≢ 0
     → Reads (NumberBytes old.order 1) n old new → Reads (ByteOf zero_reason) n old new
-reads_some zero_reason reason n old new is some r =
-    let more : 0 < n = omega (arith, some) in
-    reads_byte zero_reason n old new (subst (λ (z : Option Reason). MayBe z n) (sym is) more) r
+reads_some zero_reason reason n old new is some r = reads_byte zero_reason n old new (rw is (omega (arith, some))) r
 
 pub byte_cut : (zero_reason : Option Reason) (old : At) (fault : Fault) → RefusesField (IsCutShort 1) (NumberBytes old.order 1) old fault
     → RefusesField (IsByteFault zero_reason) (ByteOf zero_reason) old fault
 byte_cut zero_reason old fault r = record {
   place = r.place;
-  reason = no_byte r.reason.reason_is (empty old.rest r.reason.short);
+  reason = no_byte r.reason.reason_is (nil_from_length old.rest (omega (arith, r.reason.short)));
   none = λ n x more p e. omega (arith, r.reason.short, ap length e, length-append x more, ap length p.1);
 }
 
@@ -54,16 +47,14 @@ pub byte_zero : (zero_reason : Option Reason) (reason : Reason) (n : ℕ) (old n
     → n ≡ 0 → Reads (NumberBytes old.order 1) n old new → fault.place ≡ old.place → fault.reason ≡ reason
     → RefusesField (IsByteFault zero_reason) (ByteOf zero_reason) old fault
 byte_zero zero_reason reason n old new fault is zero_is r place same =
-    let whole : old.rest ≡ 0 ∷ new.rest =
-    r.whole ∙ ap (λ (z : List ℕ). z ++ new.rest) (byte_is old.order n r.spelling r.spelled) ∙ ap (λ (k : ℕ). k ∷ new.rest) zero_is in
+    let whole : old.rest ≡ 0 ∷ new.rest = simp (r.whole, byte_is old.order n r.spelling r.spelled, zero_is) in
     record {
       place = place;
       reason = is_zero new.rest (is ∙ ap Some (sym same)) whole;
       none = λ m x more p e.
           let all : m ∷ more ≡ 0 ∷ new.rest = ap (λ (z : List ℕ). z ++ more) (sym p.1) ∙ e ∙ whole in
           let here : m ≡ 0 = cc in
-          let may : 0 < m = subst (λ (z : Option Reason). MayBe z m) is p.0 in
-          omega (arith, here, may);
+          omega (arith, here, rw is at p.0);
     }
 
 -- what the reader of one byte cites
@@ -76,12 +67,11 @@ pub record BytesSoFar (zero_reasons : List (Option Reason)) (count : ℕ) (old n
   pub bytes : List ℕ
   pub read : Reads (SoundBytes (take count zero_reasons)) bytes old now
 
-sound_push : (rules : List (Option Reason)) (rule : Option Reason) (bytes : List ℕ) (b : ℕ) → AreSound rules bytes → MayBe rule b
-    → AreSound (rules ++ rule ∷ []) (bytes ++ b ∷ [])
+sound_push : (rules : List (Option Reason)) (rule : Option Reason) (bytes : List ℕ) (b : ℕ) → AreFieldBytes rules bytes → MayBe rule b
+    → AreFieldBytes (rules ++ rule ∷ []) (bytes ++ b ∷ [])
 sound_push [] rule [] b s may = (may, tt)
-sound_push [] rule (c ∷ bytes) b s may = absurd s
-sound_push (r ∷ rules) rule [] b s may = absurd s
 sound_push (r ∷ rules) rule (c ∷ bytes) b s may = (s.0, sound_push rules rule bytes b s.1 may)
+sound_push rules rule bytes b s may = absurd s
 
 pub none_so_far : (zero_reasons : List (Option Reason)) (at : At) → BytesSoFar zero_reasons 0 at at
 none_so_far zero_reasons at = record {
@@ -94,58 +84,43 @@ pub next_so_far : (zero_reasons : List (Option Reason)) (i : ℕ) (d : Option Re
     → BytesSoFar zero_reasons (i + 1) old new
 next_so_far zero_reasons i d b old middle new lt s r =
     let q = s.read in
-    let bytes : q.spelling ++ r.spelling ≡ q.spelling ++ b ∷ [] = ap (λ (z : List ℕ). q.spelling ++ z) r.spelled.1 in
-    let pushed : AreSound (take i zero_reasons ++ get_or zero_reasons i d ∷ []) (q.spelling ++ b ∷ []) =
-    sound_push (take i zero_reasons) (get_or zero_reasons i d) q.spelling b q.spelled.0 r.spelled.0 in
-    let sound : AreSound (take (i + 1) zero_reasons) (q.spelling ++ b ∷ []) =
-    subst (λ (z : List (Option Reason)). AreSound z (q.spelling ++ b ∷ [])) (sym (take_more zero_reasons i d lt)) pushed in
+    let pushed = sound_push (take i zero_reasons) (get_or zero_reasons i d) q.spelling b q.spelled.0 r.spelled.0 in
     record {
       bytes = q.spelling ++ r.spelling;
       read = record {
         spelling = q.spelling ++ r.spelling;
-        spelled = (subst (λ (z : List ℕ). AreSound (take (i + 1) zero_reasons) z) (sym bytes) sound, refl);
-        whole = q.whole ∙ ap (λ (z : List ℕ). q.spelling ++ z) r.whole ∙ sym (append_assoc q.spelling r.spelling new.rest);
+        spelled = (rw (r.spelled.1, take_more zero_reasons i d lt) pushed, refl);
+        whole = simp (q.whole, r.whole, append_assoc);
         place = omega (arith, r.place, q.place, length-append q.spelling r.spelling);
         order = r.order ∙ q.order;
       };
     }
-
-front_is : (x y z : List ℕ) → z ≡ x ++ y → take (length z - length y) z ≡ x
-front_is x y z e =
-    let size : length z - length y ≡ length x = omega (arith, ap length e, length-append x y) in
-    ap (λ (n : ℕ). take n z) size ∙ ap (take (length x)) e ∙ take-append_seam x y
 
 pub all_so_far : (zero_reasons : List (Option Reason)) (count : ℕ) (bytes all left : List ℕ) (old new : At) → length zero_reasons ≤ count
     → BytesSoFar zero_reasons count old new → all ≡ old.rest → left ≡ new.rest → bytes ≡ take (length all - length left) all
     → Reads (SoundBytes zero_reasons) bytes old new
 all_so_far zero_reasons count bytes all left old new le s all_is left_is bytes_are =
     let q = s.read in
-    let front : bytes ≡ q.spelling = bytes_are ∙ ap (λ (z : List ℕ). take (length z - length left) z) all_is
-    ∙ ap (λ (z : List ℕ). take (length old.rest - length z) old.rest) left_is ∙ front_is q.spelling new.rest old.rest q.whole in
     record {
       spelling = q.spelling;
-      spelled = (
-        subst (λ (z : List (Option Reason)). AreSound z q.spelling) (take_all count zero_reasons le) q.spelled.0,
-        front,
-      );
+      spelled = (rw (take_all count zero_reasons le) at q.spelled.0, front_taken q.spelling (all_is ∙ q.whole) left_is bytes_are);
       whole = q.whole;
       place = q.place;
       order = q.order;
     }
 
 none_sound : (done : List (Option Reason)) (rule : Option Reason) (past : List (Option Reason)) (front rest x more : List ℕ)
-    → AreSound done front → NoneSpelled (ByteOf rule) rest → AreSound (done ++ rule ∷ past) x → x ++ more ≡ front ++ rest → ⊥
+    → AreFieldBytes done front → NoneSpelled (ByteOf rule) rest → AreFieldBytes (done ++ rule ∷ past) x → x ++ more ≡ front ++ rest → ⊥
 none_sound [] rule past [] rest [] more s none p e = p
 none_sound [] rule past [] rest (b ∷ x) more s none p e = none b (b ∷ []) (x ++ more) (p.0, refl) e
-none_sound [] rule past (f ∷ front) rest x more s none p e = s
-none_sound (d ∷ done) rule past [] rest x more s none p e = s
 none_sound (d ∷ done) rule past (f ∷ front) rest [] more s none p e = p
 none_sound (d ∷ done) rule past (f ∷ front) rest (b ∷ x) more s none p e =
     let tails : x ++ more ≡ front ++ rest = cc in
     none_sound done rule past front rest x more s.1 none p.1 tails
+none_sound done rule past front rest x more s none p e = s
 
 fault_of : (rules done : List (Option Reason)) (rule : Option Reason) (past : List (Option Reason)) (reason : Reason) (before left : List ℕ)
-    → rules ≡ done ++ rule ∷ past → AreSound done before → IsByteFault rule reason left → IsSoundFault rules reason before left
+    → rules ≡ done ++ rule ∷ past → AreFieldBytes done before → IsByteFault rule reason left → IsSoundFault rules reason before left
 fault_of rules done rule past reason before left e s (no_byte reason_is ends) = missing done rule past e s reason_is ends
 fault_of rules done rule past reason before left e s (is_zero more rule_is joined) =
     zero_byte done past more (e ∙ ap (λ (r : Option Reason). done ++ r ∷ past) rule_is) s joined
@@ -156,19 +131,19 @@ pub byte_missing : (zero_reasons : List (Option Reason)) (i : ℕ) (d : Option R
     → Refuses (IsSoundFault zero_reasons) (SoundBytes zero_reasons) old fault
 byte_missing zero_reasons i d old middle fault lt s r =
     let q = s.read in
-    let whole : take i zero_reasons ++ get_or zero_reasons i d ∷ drop (i + 1) zero_reasons ≡ zero_reasons =
-    ap (λ (z : List (Option Reason)). take i zero_reasons ++ z) (sym (drop_more zero_reasons i d lt))
-    ∙ take-append-drop i zero_reasons in
+    let done = take i zero_reasons in
+    let rule = get_or zero_reasons i d in
+    let past = drop (i + 1) zero_reasons in
+    let whole : zero_reasons ≡ done ++ rule ∷ past = rw (← drop_more zero_reasons i d lt) (sym (take-append-drop i zero_reasons)) in
     record {
       before = q.spelling;
       left = middle.rest;
       split = q.whole;
       place = r.place ∙ q.place;
-      reason = fault_of zero_reasons (take i zero_reasons) (get_or zero_reasons i d) (drop (i + 1) zero_reasons) fault.reason q.spelling
-          middle.rest (sym whole) q.spelled.0 r.reason;
+      reason = fault_of zero_reasons done rule past fault.reason q.spelling middle.rest whole q.spelled.0 r.reason;
       none = λ v x more p e.
-          none_sound (take i zero_reasons) (get_or zero_reasons i d) (drop (i + 1) zero_reasons) q.spelling middle.rest x more q.spelled.0
-          r.none (subst (λ (z : List (Option Reason)). AreSound z x) (sym whole) p.0) (e ∙ q.whole);
+          none_sound done rule past q.spelling middle.rest x more q.spelled.0 r.none
+          (subst (λ (z : List (Option Reason)). AreFieldBytes z x) whole p.0) (e ∙ q.whole);
     }
 
 -- what the walk over the fields cites

@@ -1,14 +1,12 @@
 -- The tables of version 5 that say what the lists of an older unit say.
 use Rattle.std.proofs.Common.{◌≡◌, ◌≢◌, ℕ, ◌+◌, ◌*◌, ◌-◌, ◌<◌, ◌≤◌, List, [], ◌∷◌, ◌++◌, length, take}
 use Rattle.std.proofs.Common.{refl, sym, ap, subst, ◌∙◌, append_assoc, arith}
-use Rattle.std.proofs.Math.Seq.{take-append_seam}
 use Rattle.std.proofs.lemmas.List.{length-append, append-nil}
 use Rattle.lnt_wire.specs.At.{At}
 use Rattle.lnt_wire.specs.Bytes.{NoneSpelled}
-use Rattle.lnt_wire.specs.FormBytes.{form_code, form_of, FormBytes, HasNoZero}
+use Rattle.lnt_wire.specs.FormBytes.{form_code, HasNoZero}
 use Rattle.lnt_wire.specs.Leb128.{UnsignedLeb}
 use Rattle.lnt_wire.specs.declared.form.Form.TheVariants as forms
-use Rattle.lnt_wire.specs.declared.form.FormValue.{FormValue}
 use Rattle.lnt_wire.specs.declared.form.FormValue.TheVariants.{Text}
 use Rattle.lnt_wire.specs.declared.format.Format.{Format}
 use Rattle.lnt_wire.specs.declared.format.Order.{Order}
@@ -17,10 +15,13 @@ use Rattle.lnt_header.specs.declared.header.Entry.{Entry}
 use Rattle.lnt_header.specs.declared.header.Pair.{Pair}
 use Rattle.lnt_header_bytes.specs.Layouts.{entry_of}
 use Rattle.lnt_header_bytes.specs.Stepping.{Passes}
-use Rattle.lnt_header_bytes.specs.TableBytes.{PairBytes, EntryBytes, TableBytes, ValuesBytes}
+use Rattle.lnt_header_bytes.specs.TableBytes.{PairBytes, EntryBytes, TableBytes}
 use Rattle.lnt_header_bytes.proofs.TableLaws.{entry_code}
-use Rattle.lnt_older.specs.OlderBytes.{directory_pairs, file_pairs, ListedBytes}
+use Rattle.lnt_older.specs.ListReading.{BeginsWithPath}
+use Rattle.lnt_older.specs.OlderBytes.{BeginsEntry, directory_pairs, file_pairs, ListedBytes}
 use Rattle.lnt_older.specs.Upgraded.{CountedTable}
+use Rattle.lnt_older.proofs.Fronts.{front_taken}
+use Rattle.lnt_older.proofs.ListLemmas.{path_first, zero_begins}
 use Rattle.lnt_older.specs.Upgrading.{HasFiles, IsCountFromZero, IsFileZero}
 
 -- ---- tables
@@ -34,8 +35,8 @@ pair_spelled : (content code : ℕ) (pair : Pair) → pair.content ≡ content �
 pair_spelled content code pair content_is code_is lt lu = record {
   front = content ∷ [];
   back = code ∷ [];
-  first = subst (λ (k : ℕ). UnsignedLeb k (content ∷ [])) (sym content_is) (one_byte_leb content lt);
-  second = subst (λ (k : ℕ). UnsignedLeb k (code ∷ [])) (sym code_is) (one_byte_leb code lu);
+  first = rw content_is (one_byte_leb content lt);
+  second = rw code_is (one_byte_leb code lu);
   joined = refl;
 }
 
@@ -108,40 +109,21 @@ each_listed format order pairs (entry ∷ entries) bytes p = record {
   joined = p.joined;
 }
 
-text_long : (format : Format) (order : Order) (value : FormValue) (front back : List ℕ) (first : ℕ) (more : List ℕ)
-    → form_of value ≡ forms.Text → FormBytes format order value front → front ++ back ≡ first ∷ more → 0 < first → 2 ≤ length front
-text_long format order (Text []) front back first more is p e some =
-    let whole : 0 ∷ back ≡ first ∷ more = ap (λ (z : List ℕ). z ++ back) (sym p.joined) ∙ e in
-    let same : 0 ≡ first = cc in
-    absurd (omega (arith, same, some))
-text_long format order (Text (c ∷ text)) front back first more is p e some =
-    omega (arith, ap length p.joined, length-append (c ∷ text) (0 ∷ []))
-text_long format order value front back first more is p e some = absurd cc
-
-path_long : (format : Format) (order : Order) (pair : Pair) (past : List Pair) (values : List FormValue) (bytes : List ℕ) (first : ℕ)
-    (more : List ℕ) → pair.form ≡ forms.Text → ValuesBytes format order (pair ∷ past) values bytes → bytes ≡ first ∷ more → 0 < first
-    → 2 ≤ length bytes
-path_long format order pair past [] bytes first more is p e some = absurd p
-path_long format order pair past (v ∷ values) bytes first more is p e some =
-    omega (
-      arith,
-      text_long format order v p.1.front p.1.back first more (p.0 ∙ is) p.1.first (sym p.1.joined ∙ e) some,
-      ap length p.1.joined,
-      length-append p.1.front p.1.back,
-    )
+two_bytes : (bytes : List ℕ) → BeginsEntry bytes → ((text : List ℕ) × (past : List ℕ) × (bytes ≡ text ++ 0 ∷ past)) → 2 ≤ length bytes
+two_bytes bytes b ([], past, e) = absurd (zero_begins past bytes (sym e) b)
+two_bytes bytes b (c ∷ text, past, e) = omega (arith, ap length e, length-append text (0 ∷ past))
 
 -- each entry has a path that isn't empty, and the zero byte after it
-pub listed_few : (format : Format) (order : Order) (pair : Pair) (past : List Pair) (entries : List Entry) (bytes : List ℕ)
-    → pair.form ≡ forms.Text → Each (ListedBytes format order (pair ∷ past)) entries bytes → 2 * length entries ≤ length bytes
-listed_few format order pair past [] bytes is p = omega arith
-listed_few format order pair past (entry ∷ entries) bytes is p =
-    let begins = p.first.some in
+pub listed_few : (format : Format) (order : Order) (pairs : List Pair) (entries : List Entry) (bytes : List ℕ) → BeginsWithPath pairs
+    → Each (ListedBytes format order pairs) entries bytes → 2 * length entries ≤ length bytes
+listed_few format order pairs [] bytes path p = omega arith
+listed_few format order pairs (entry ∷ entries) bytes path p =
     omega (
       arith,
-      listed_few format order pair past entries p.back is p.second,
+      listed_few format order pairs entries p.back path p.second,
       ap length p.joined,
       length-append p.front p.back,
-      path_long format order pair past entry.values p.front begins.first begins.more is p.first.spelled begins.joined begins.some,
+      two_bytes p.front p.first.some (path_first format order pairs entry p.front path p.first.spelled),
     )
 
 pub each_append : {X : Type 0} (P : X → List ℕ → Type 0) (us vs : List X) (x y : List ℕ) → Each P us x → Each P vs y
@@ -184,28 +166,20 @@ no_file_zero format order count listed bytes none same [] count_is lie =
     record { others = []; joined = sym same ∙ sym (append-nil bytes); spelled = same ∙ lie }
 no_file_zero format order count listed bytes none same (file ∷ files) count_is lie = absurd (omega (arith, none, count_is))
 
-front_is : (x y z : List ℕ) → z ≡ x ++ y → take (length z - length y) z ≡ x
-front_is x y z e =
-    let size : length z - length y ≡ length x = omega (arith, ap length e, length-append x y) in
-    ap (λ (n : ℕ). take n z) size ∙ ap (take (length x)) e ∙ take-append_seam x y
-
 pub first_file_zero : (format : Format) (order : Order) (count : ℕ) (listed bytes left : List ℕ) (old new : At) → count ≢ 0
     → old.rest ≡ listed → old.order ≡ order → Passes (EntryBytes format old.order file_pairs) old new → left ≡ new.rest
     → bytes ≡ take (length listed - length left) listed → IsFileZero format order count listed bytes
 first_file_zero format order count listed bytes left old new some rest_is order_is p left_is bytes_are [] count_is lie =
     absurd (some (sym count_is))
 first_file_zero format order count listed bytes left old new some rest_is order_is p left_is bytes_are (file ∷ files) count_is each =
-    let spelled : EntryBytes format order file_pairs p.value p.read.spelling =
-    subst (λ (o : Order). EntryBytes format o file_pairs p.value p.read.spelling) order_is p.read.spelled in
     let whole : listed ≡ p.read.spelling ++ new.rest = sym rest_is ∙ p.read.whole in
     let same = (entry_code format order file_pairs).one file p.value each.front p.read.spelling each.back new.rest
-    each.first.spelled spelled (sym each.joined ∙ whole) in
-    let here : bytes ≡ each.front =
-    bytes_are ∙ ap (λ (z : List ℕ). take (length listed - length z) listed) left_is ∙ front_is p.read.spelling new.rest listed whole
-    ∙ sym same.1 in
+    each.first.spelled (subst (λ (o : Order). EntryBytes format o file_pairs p.value p.read.spelling) order_is p.read.spelled)
+    (sym each.joined ∙ whole) in
+    let here : bytes ≡ each.front = front_taken p.read.spelling whole left_is bytes_are ∙ sym same.1 in
     record {
       others = each.back;
-      joined = each.joined ∙ ap (λ (z : List ℕ). z ++ each.back) (sym here);
+      joined = rw here each.joined;
       spelled = record {
         front = each.front;
         back = [];
@@ -222,6 +196,5 @@ first_file_there format order count listed old has some rest_is order_is none = 
     at : (files : List Entry) → length files ≡ count → Each (ListedBytes format order file_pairs) files listed → ⊥
     at [] count_is lie = some (sym count_is)
     at (file ∷ files) count_is each =
-        none file each.front each.back
-        (subst (λ (o : Order). EntryBytes format o file_pairs file each.front) (sym order_is) each.first.spelled)
-        (sym each.joined ∙ sym rest_is)
+        none file each.front each.back (subst (λ (o : Order). EntryBytes format o file_pairs file each.front) (sym order_is)
+        each.first.spelled) (sym each.joined ∙ sym rest_is)

@@ -2,7 +2,6 @@
 use Rattle.std.proofs.Common.{◌≡◌, ℕ, ◌+◌, ◌-◌, ◌≤◌, List, [], ◌++◌, length, take, refl, sym, ap, subst, ◌∙◌, append_assoc, add-zero, arith}
 use Rattle.std.proofs.lemmas.List.{length-append, append-nil}
 use Rattle.lnt_wire.specs.At.{At}
-use Rattle.lnt_wire.specs.Bytes.{NoneSpelled}
 use Rattle.lnt_wire.specs.FrameBytes.{frame_bytes}
 use Rattle.lnt_wire.specs.FrameFaults.{InFrame}
 use Rattle.lnt_wire.specs.InitialLength.{initial_length, LengthFits}
@@ -13,47 +12,37 @@ use Rattle.lnt_wire.specs.declared.fault.Reason.{Reason}
 use Rattle.lnt_wire.specs.declared.format.Format.{Format}
 use Rattle.lnt_wire.specs.declared.format.Order.{Order}
 use Rattle.lnt_wire.proofs.LengthLaws.{length-number_bytes}
-use Rattle.lnt_header.specs.declared.header.HeaderParts.{HeaderParts}
 use Rattle.lnt_header_bytes.specs.HeaderReading.{standing}
 use Rattle.lnt_header_bytes.specs.StartBytes.{CountedBytes}
 use Rattle.lnt_header_bytes.specs.StartFaults.{IsCountedFault}
-use Rattle.lnt_older.specs.OlderBytes.{body_bytes, OlderBytesIn}
-use Rattle.lnt_older.specs.OlderFields.{FieldsOf, header_of, header_spelling, IsFieldsFault, IsReadHeader, ListsLie}
-use Rattle.lnt_older.specs.OlderUnits.{AnyBytes, IsAnyFault, IsOlderUnit, IsSoundUnit, older_spelling, ReadsAny, ReadsOlder, unit_header}
+use Rattle.lnt_older.specs.OlderFields.{FieldsOf, IsFieldsFault, IsReadHeader}
+use Rattle.lnt_older.specs.OlderUnits.{AnyBytes, IsAnyFault, IsOlderUnit, IsSoundUnit, ReadsAny, ReadsOlder}
 use Rattle.lnt_older.specs.OlderUnits.IsAnyFault.{header_length, of_fields}
-use Rattle.lnt_older.specs.UnitReading.{front_body, IsAnyBodyFault, IsAnyOf, IsBodyFault, IsPastFault, IsUnitOf, ReadsFront, unit_number}
+use Rattle.lnt_older.specs.UnitReading.{front_body, IsAnyBodyFault, IsAnyOf, IsBodyFault, IsPastFault, IsOlderOf, ReadsFront}
 use Rattle.lnt_older.specs.UnitReading.IsPastFault.{of_length, of_field}
 use Rattle.lnt_older.specs.Versions.{version_number}
 use Rattle.lnt_older.specs.declared.front.Front.{Front}
-use Rattle.lnt_older.specs.declared.front.UnitVersion.{UnitVersion}
 use Rattle.lnt_older.specs.declared.front.UnitVersion.TheVariants.{Older}
 use Rattle.lnt_older.specs.declared.unit.AnyUnit.{AnyUnit}
 use Rattle.lnt_older.specs.declared.unit.AnyUnit.TheVariants as units
 use Rattle.lnt_older.specs.declared.unit.OlderUnit.{OlderUnit}
 use Rattle.lnt_older.specs.declared.version.OlderVersion.{OlderVersion}
 use Rattle.lnt_older.proofs.FrontLemmas.{five_read}
-use Rattle.lnt_older.proofs.HeaderLemmas.{to_right}
+use Rattle.lnt_older.proofs.HeaderLemmas.{moved_numbers}
 use Rattle.lnt_older.proofs.NoUnitLemmas.{none_counted, none_of_fields, none_of_unit, to_pairs}
 
 -- ---- what stands after the version
 
 counted_is : (format : Format) (order : Order) (counted x : List ℕ) → CountedBytes format order counted x
     → x ≡ number_bytes order (offset_size format) (length counted) ++ counted
-counted_is format order counted x p =
-    p.joined ∙ ap (λ (z : List ℕ). z ++ p.back) p.first.spelled
-    ∙ ap (λ (z : List ℕ). number_bytes order (offset_size format) (length counted) ++ z) p.second
+counted_is format order counted x p = rw (p.joined, p.first.spelled, p.second) refl
 
 -- where the counted bytes stand
 counted_place : (format : Format) (order : Order) (counted : List ℕ) (old new : At) → Reads (CountedBytes format order) counted old new
     → new.place ≡ old.place + offset_size format + length counted
 counted_place format order counted old new r =
-    omega (
-      arith,
-      r.place,
-      ap length (counted_is format order counted r.spelling r.spelled),
-      length-append (number_bytes order (offset_size format) (length counted)) counted,
-      length-number_bytes order (offset_size format) (length counted),
-    )
+    let joined = counted_is format order counted r.spelling r.spelled in
+    omega (arith, r.place, ap length joined, length-append {A = ℕ}, length-number_bytes)
 
 pub counted_before : (format : Format) (order : Order) (counted : List ℕ) (old new : At) → Reads (CountedBytes format order) counted old new
     → length counted ≤ new.place
@@ -62,39 +51,30 @@ counted_before format order counted old new r = omega (arith, counted_place form
 pub unit_found : (front : Front) (version : OlderVersion) (order : Order) (unit : OlderUnit) (counted : List ℕ) (c0 c1 : At)
     → c0.rest ≡ front.past.now → c0.order ≡ order → Reads (CountedBytes front.format c0.order) counted c0 c1
     → IsReadHeader version front.format order counted unit.header → unit.format ≡ front.format → unit.order ≡ order
-    → unit.program.now ≡ c1.rest → IsUnitOf front version order unit
+    → unit.program.now ≡ c1.rest → IsOlderOf front version order unit
 unit_found front version order unit counted c0 c1 rest_is order_is there header format unit_order program =
-    let r : Reads (CountedBytes front.format order) counted c0 c1 =
-    subst (λ (o : Order). Reads (CountedBytes front.format o) counted c0 c1) order_is there in
-    let number = number_bytes order (offset_size front.format) (length counted) in
+    let r = subst (λ (o : Order). Reads (CountedBytes front.format o) counted c0 c1) order_is there in
     record {
       format_is = format;
       order_is = unit_order;
       counted = counted;
       header = header;
       small = r.spelled.first.fits;
-      joined = sym rest_is ∙ r.whole ∙ ap (λ (z : List ℕ). z ++ c1.rest) (counted_is front.format order counted r.spelling r.spelled)
-          ∙ append_assoc number counted c1.rest ∙ ap (λ (z : List ℕ). number ++ (counted ++ z)) (sym program);
+      joined = sym rest_is ∙ simp (r.whole, counted_is front.format order counted r.spelling r.spelled, program, append_assoc);
     }
 
 pub length_missing : (front : Front) (version : OlderVersion) (order : Order) (c0 : At) (fault : Fault)
     → c0.rest ≡ front.past.now → c0.place ≡ front.place + 2 → c0.order ≡ order
     → RefusesField (IsCountedFault front.format c0.order) (CountedBytes front.format c0.order) c0 fault
     → IsBodyFault front version order fault
-length_missing front version order c0 fault rest_is place_is order_is r =
-    let so : IsCountedFault front.format order fault.reason c0.rest =
-    subst (λ (o : Order). IsCountedFault front.format o fault.reason c0.rest) order_is r.reason in
-    let none : NoneSpelled (CountedBytes front.format order) front.past.now =
-    subst (λ (z : List ℕ). NoneSpelled (CountedBytes front.format order) z) rest_is
-    (subst (λ (o : Order). NoneSpelled (CountedBytes front.format o) c0.rest) order_is r.none) in
-    record {
-      before = [];
-      left = c0.rest;
-      split = sym rest_is;
-      place = r.place ∙ place_is ∙ sym (add-zero (front.place + 2));
-      reason = of_length refl so;
-      none = none_counted front.format version order front.past.now none;
-    }
+length_missing front version order c0 fault rest_is place_is order_is r = record {
+  before = [];
+  left = c0.rest;
+  split = sym rest_is;
+  place = r.place ∙ place_is ∙ sym (add-zero (front.place + 2));
+  reason = of_length refl (rw order_is at r.reason);
+  none = none_counted front.format version order front.past.now (rw (order_is, rest_is) at r.none);
+}
 
 pub field_missing : (front : Front) (version : OlderVersion) (order : Order) (counted : List ℕ) (c0 c1 : At) (place : ℕ) (fault : Fault)
     → c0.rest ≡ front.past.now → c0.place ≡ front.place + 2 → c0.order ≡ order → Reads (CountedBytes front.format c0.order) counted c0 c1
@@ -102,12 +82,9 @@ pub field_missing : (front : Front) (version : OlderVersion) (order : Order) (co
     → Refuses (IsFieldsFault version front.format order) (FieldsOf version front.format order) (standing place counted order) fault
     → IsBodyFault front version order fault
 field_missing front version order counted c0 c1 place fault rest_is place_is order_is there placed s =
-    let r : Reads (CountedBytes front.format order) counted c0 c1 =
-    subst (λ (o : Order). Reads (CountedBytes front.format o) counted c0 c1) order_is there in
+    let r = subst (λ (o : Order). Reads (CountedBytes front.format o) counted c0 c1) order_is there in
     let size = offset_size front.format in
     let number = number_bytes order size (length counted) in
-    let number_is : number ≡ number_bytes order size (length (s.before ++ s.left)) =
-    ap (λ (z : List ℕ). number_bytes order size (length z)) s.split in
     let past : front.past.now ≡ (number ++ counted) ++ c1.rest =
     sym rest_is ∙ r.whole ∙ ap (λ (z : List ℕ). z ++ c1.rest) (counted_is front.format order counted r.spelling r.spelled) in
     record {
@@ -123,7 +100,7 @@ field_missing front version order counted c0 c1 place fault rest_is place_is ord
         length-append number s.before,
         length-number_bytes order size (length counted),
       );
-      reason = of_field s.before s.left c1.rest (ap (λ (z : List ℕ). z ++ s.before) number_is) refl s.reason;
+      reason = of_field s.before s.left c1.rest (rw (← s.split) refl) refl s.reason;
       none = none_of_fields front.format version order counted c1.rest front.past.now r.spelled.first.fits
           (past ∙ append_assoc number counted c1.rest) s.none;
     }
@@ -133,134 +110,80 @@ field_missing front version order counted c0 c1 place fault rest_is place_is ord
 in_front : (order : Order) (format : Format) (digits before from more body : List ℕ) → LengthFits format (length body)
     → body ≡ (digits ++ before) ++ from
     → InFrame order format (digits ++ before) from (initial_length format order (length body) ++ (digits ++ before)) (from ++ more)
-in_front order format digits before from more body fits e = record {
-  more = more;
-  fits = subst (λ (z : List ℕ). LengthFits format (length z)) e fits;
-  before_is = ap (λ (z : List ℕ). initial_length format order (length z) ++ (digits ++ before)) e;
-  from_is = refl;
-}
+in_front order format digits before from more body fits e =
+    record { more = more; fits = rw e at fits; before_is = rw e refl; from_is = refl }
 
 fault_of : (order : Order) (format : Format) (version : OlderVersion) (reason : Reason) (before from before' from' : List ℕ)
     → InFrame order format (number_bytes order 2 (version_number version) ++ before) from before' from'
     → IsPastFault format version order reason before from → IsAnyFault order reason before' from'
 fault_of order format version reason before from before' from' in_frame (of_length nothing so) =
-    let digits = number_bytes order 2 (version_number version) in
-    let same : digits ++ before ≡ digits = ap (λ (z : List ℕ). digits ++ z) nothing ∙ append-nil digits in
-    header_length format version from (subst (λ (z : List ℕ). InFrame order format z from before' from') same in_frame) so
+    header_length format version from (rw (nothing, append-nil) at in_frame) so
 fault_of order format version reason before from before' from' in_frame (of_field fields left program before_is from_is so) =
-    let digits = number_bytes order 2 (version_number version) in
-    let number = number_bytes order (offset_size format) (length (fields ++ left)) in
-    let same : digits ++ before ≡ digits ++ number ++ fields =
-    ap (λ (z : List ℕ). digits ++ z) before_is ∙ sym (append_assoc digits number fields) in
-    let there : InFrame order format (digits ++ number ++ fields) from before' from' =
-    subst (λ (z : List ℕ). InFrame order format z from before' from') same in_frame in
-    of_fields format version fields left program (subst (λ (z : List ℕ). InFrame order format (digits ++ number ++ fields) z before' from')
-    from_is there) so
+    of_fields format version fields left program (rw (before_is, from_is, ← append_assoc) at in_frame) so
 
 older_missing : (front : Front) (version : OlderVersion) (order : Order) (fault : Fault) (old new : At) → ReadsFront front old new
     → front.version ≡ Older version → order ≡ old.order → IsBodyFault front version order fault
     → Refuses (IsAnyFault old.order) (AnyBytes old.order) old fault
 older_missing front version order fault old new r version_is order_is there =
-    let b : IsBodyFault front version old.order fault = subst (λ (o : Order). IsBodyFault front version o fault) order_is there in
+    let b = rw order_is at there in
     let digits = number_bytes old.order 2 (version_number version) in
     let body = front_body old.order front in
     let initial = initial_length front.format old.order (length body) in
-    let body_is : body ≡ (digits ++ b.before) ++ b.left =
-    ap (λ (v : UnitVersion). number_bytes old.order 2 (unit_number v) ++ front.past.now) version_is
-    ∙ ap (λ (z : List ℕ). digits ++ z) b.split ∙ sym (append_assoc digits b.before b.left) in
+    let body_is : body ≡ (digits ++ b.before) ++ b.left = rw (version_is, b.split) (sym (append_assoc digits b.before b.left)) in
     record {
       before = initial ++ (digits ++ b.before);
       left = b.left ++ new.rest;
       split = r.whole ∙ ap (λ (z : List ℕ). (initial ++ z) ++ new.rest) body_is ∙ to_pairs initial (digits ++ b.before) b.left new.rest;
-      place = omega (
-        arith,
-        b.place,
-        r.body_place,
-        length-append initial (digits ++ b.before),
-        length-append digits b.before,
-        length-number_bytes old.order 2 (version_number version),
-      );
+      place = omega (arith, b.place, r.body_place, length-append {A = ℕ}, length-number_bytes);
       reason = fault_of old.order front.format version fault.reason b.before b.left (initial ++ (digits ++ b.before)) (b.left ++ new.rest)
           (in_front old.order front.format digits b.before b.left new.rest body r.fits body_is) b.reason;
       none = none_of_unit front version old new r version_is b.none;
     }
 
 older_read : (front : Front) (version : OlderVersion) (order : Order) (unit : OlderUnit) (old new : At) → ReadsFront front old new
-    → front.version ≡ Older version → order ≡ old.order → IsUnitOf front version order unit → ReadsOlder unit old new
+    → front.version ≡ Older version → order ≡ old.order → IsOlderOf front version order unit → ReadsOlder unit old new
 older_read front version order unit old new r version_is order_is there =
-    let u : IsUnitOf front version old.order unit = subst (λ (o : Order). IsUnitOf front version o unit) order_is there in
-    let o = unit.header in
-    let d = u.header.directories in
-    let f = u.header.files in
+    let u = rw order_is at there in
     let program = unit.program.now in
-    let digits = number_bytes old.order 2 (version_number version) in
-    let number = number_bytes old.order (offset_size front.format) (length u.counted) in
     let body = front_body old.order front in
-    let body_is : body ≡ digits ++ number ++ u.counted ++ program =
-    ap (λ (v : UnitVersion). number_bytes old.order 2 (unit_number v) ++ front.past.now) version_is
-    ∙ ap (λ (z : List ℕ). digits ++ z) u.joined ∙ sym (to_right digits number u.counted program) in
-    let fields = header_spelling version o in
-    let parts : frame_bytes old.order front.format body ≡ older_spelling version unit =
-    ap (λ (z : List ℕ). frame_bytes old.order front.format z)
-    (body_is ∙ ap (λ (z : List ℕ). body_bytes front.format old.order version z program) u.header.joined)
-    ∙ ap (λ (g : Format). frame_bytes old.order g (body_bytes g old.order version fields program)) (sym u.format_is)
-    ∙ ap (λ (k : Order). frame_bytes k unit.format (body_bytes unit.format k version fields program)) (sym u.order_is) in
+    let number = number_bytes old.order (offset_size front.format) (length u.counted) in
+    let body_is : body ≡ number_bytes old.order 2 (version_number version) ++ number ++ u.counted ++ program =
+    simp (version_is, u.joined, append_assoc) in
     record {
-      directories = d;
-      files = f;
+      directories = u.header.directories;
+      files = u.header.files;
       order_is = u.order_is;
-      lie = subst (λ (g : Format). ListsLie g unit.order o d f) (sym u.format_is)
-          (subst (λ (k : Order). ListsLie front.format k o d f) (sym u.order_is) u.header.lie);
-      read = λ size is.
-          let h = header_of front.format old.order size o.numbers o.standard_lengths.now d f o.extra.now in
-          let same : h ≡ unit_header unit size d f =
-          ap (λ (g : Format). header_of g old.order size o.numbers o.standard_lengths.now d f o.extra.now) (sym u.format_is)
-          ∙ ap (λ (k : Order). header_of unit.format k size o.numbers o.standard_lengths.now d f o.extra.now) (sym u.order_is) in
-          let reads : Reads (OlderBytesIn old.order size) (h, program) old new = record {
-            spelling = frame_bytes old.order front.format body;
-            spelled = record {
-              order_is = refl;
-              size_is = refl;
-              spelled = record {
-                version = version;
-                fields = u.counted;
-                counted = u.header.spelled size is;
-                fits = subst (λ (z : List ℕ). LengthFits front.format (length z)) body_is r.fits;
-                joined = ap (λ (z : List ℕ). frame_bytes old.order front.format z) body_is;
-              };
-            };
-            whole = r.whole;
-            place = r.place;
-            order = r.order;
-          } in
-          subst (λ (g : HeaderParts). Reads (OlderBytesIn old.order size) (g, program) old new) same reads;
+      lie = rw (u.format_is, u.order_is) u.header.lie;
+      read = λ size is. rw (u.format_is, u.order_is) (record {
+        spelling = frame_bytes old.order front.format body;
+        spelled = record {
+          order_is = refl;
+          size_is = refl;
+          spelled = record {
+            version = version;
+            fields = u.counted;
+            counted = u.header.spelled size is;
+            fits = rw body_is at r.fits;
+            joined = ap (λ (z : List ℕ). frame_bytes old.order front.format z) body_is;
+          };
+        };
+        whole = r.whole;
+        place = r.place;
+        order = r.order;
+      });
       version = version;
-      joined = r.whole ∙ ap (λ (z : List ℕ). z ++ new.rest) parts;
+      joined = r.whole ∙ rw (u.format_is, u.order_is, ← u.header.joined) (ap (λ (z : List ℕ). frame_bytes old.order front.format z ++
+          new.rest) body_is);
     }
 
-older_sound : (front : Front) (version : OlderVersion) (order : Order) (unit : OlderUnit) → IsUnitOf front version order unit
+older_sound : (front : Front) (version : OlderVersion) (order : Order) (unit : OlderUnit) → IsOlderOf front version order unit
     → IsOlderUnit unit
-older_sound front version order unit u =
-    let o = unit.header in
-    let d = u.header.directories in
-    let f = u.header.files in
-    record {
-      directories = d;
-      files = f;
-      lie = subst (λ (g : Format). ListsLie g unit.order o d f) (sym u.format_is)
-          (subst (λ (k : Order). ListsLie front.format k o d f) (sym u.order_is) u.header.lie);
-      numbers = λ size is.
-          let n = (u.header.spelled size is).numbers in
-          record {
-            address_size = n.address_size;
-            line_base = n.line_base;
-            bytes = n.bytes;
-            max_ops = n.max_ops;
-            line_range = n.line_range;
-            opcode_base = n.opcode_base;
-            lengths = n.lengths;
-          };
-    }
+older_sound front version order unit u = record {
+  directories = u.header.directories;
+  files = u.header.files;
+  lie = rw (u.format_is, u.order_is) u.header.lie;
+  numbers = λ size is. moved_numbers (u.header.spelled size is).numbers;
+}
 
 -- ---- units of any version
 
@@ -282,24 +205,15 @@ any_missing front order fault old new r order_is p = older_missing front p.0 ord
 
 -- ---- another cursor at the same place
 
-at_with : ℕ → List ℕ → Order → At
-at_with place rest order = record { place = place; rest = rest; order = order }
-
-at_is : (at : At) → at_with at.place at.rest at.order ≡ at
-unfolding at_with
-at_is at = refl
-
 same_at : (a b : At) → a.place ≡ b.place → a.rest ≡ b.rest → a.order ≡ b.order → a ≡ b
 same_at a b place rest order =
-    let both : at_with a.place a.rest a.order ≡ at_with b.place b.rest b.order = cc in
-    sym (at_is a) ∙ both ∙ at_is b
+    let by_parts : record { place = a.place; rest = a.rest; order = a.order } ≡ b = rw (place, rest, order) refl in
+    by_parts
 
 pub reads_there : (unit : AnyUnit) (other at new : At) → other.place ≡ at.place → other.rest ≡ at.rest → other.order ≡ at.order
     → ReadsAny unit other new → ReadsAny unit at new
-reads_there unit other at new place rest order p =
-    subst (λ (z : At). ReadsAny unit z new) (same_at other at place rest order) p
+reads_there unit other at new place rest order p = rw (same_at other at place rest order) at p
 
 pub fault_there : (other at : At) (fault : Fault) → other.place ≡ at.place → other.rest ≡ at.rest → other.order ≡ at.order
     → Refuses (IsAnyFault other.order) (AnyBytes other.order) other fault → Refuses (IsAnyFault at.order) (AnyBytes at.order) at fault
-fault_there other at fault place rest order p =
-    subst (λ (z : At). Refuses (IsAnyFault z.order) (AnyBytes z.order) z fault) (same_at other at place rest order) p
+fault_there other at fault place rest order p = rw (same_at other at place rest order) at p

@@ -1,9 +1,9 @@
 -- What a unit says that was read where it lies; and that the bytes of a place are those of one unit.
-use Rattle.std.proofs.Common.{◌≡◌, ℕ, ◌<◌, List, [], ◌++◌, length, refl, sym, ap, subst, ◌∙◌, inr, arith}
+use Rattle.std.proofs.Common.{◌≡◌, ℕ, ◌<◌, List, [], ◌++◌, length, refl, sym, ap, subst, ◌∙◌, append_assoc, inr, arith}
 use Rattle.std.proofs.lemmas.List.{append_cancel_right, length-append}
 use Rattle.lnt_wire.specs.At.{At}
 use Rattle.lnt_wire.specs.FrameBytes.{FrameBytes, frame_bytes}
-use Rattle.lnt_wire.specs.InitialLength.{initial_length, LengthFits}
+use Rattle.lnt_wire.specs.InitialLength.{LengthFits}
 use Rattle.lnt_wire.specs.Numbers.{number_bytes, offset_size}
 use Rattle.lnt_wire.specs.Reading.{Reads}
 use Rattle.lnt_wire.specs.declared.format.Format.{Format}
@@ -12,7 +12,7 @@ use Rattle.lnt_wire.proofs.LengthLaws.{length-initial, same_number_front, width_
 use Rattle.lnt_header.specs.HeaderRules.{IsAddressSize}
 use Rattle.lnt_header.specs.declared.header.HeaderParts.{HeaderParts}
 use Rattle.lnt_header_bytes.specs.HeaderBytes.{unit_body}
-use Rattle.lnt_older.specs.OlderBytes.{older_body, OlderBytes}
+use Rattle.lnt_older.specs.OlderBytes.{older_body}
 use Rattle.lnt_older.specs.OlderUnits.{AnyBytes, AnyParts, ReadsFive, ReadsOlder, unit_header}
 use Rattle.lnt_older.specs.OlderUnits.AnyParts.{five_parts, older_parts}
 use Rattle.lnt_older.specs.Upgraded.{CopiedFields, upgraded}
@@ -20,7 +20,6 @@ use Rattle.lnt_older.specs.Upgrading.{AddsUpgraded, IsTooLong}
 use Rattle.lnt_older.specs.Versions.{version_number}
 use Rattle.lnt_older.specs.declared.unit.OlderUnit.{OlderUnit}
 use Rattle.lnt_older.proofs.CopiedLemmas.{one_length, same_body_length}
-use Rattle.lnt_older.proofs.HeaderLemmas.{to_right}
 use Rattle.lnt_older.proofs.NoUnitLemmas.{not_five, one_body, small_version}
 use Rattle.lnt_older.proofs.SameUnitLemmas.{lies_in, one_header, same_unit}
 
@@ -44,18 +43,16 @@ counted order (older_parts h program) x p =
 pub some_bytes : (order : Order) (parts : AnyParts) (x : List ℕ) → AnyBytes order parts x → 0 < length x
 some_bytes order parts x p =
     let c = counted order parts x p in
-    let initial = initial_length c.format order (length c.body) in
-    omega (arith, ap length c.joined, length-append initial c.body, length-initial c.format order (length c.body))
+    omega (arith, ap length c.joined, length-append {A = ℕ}, length-initial c.format order (length c.body))
 
 -- Two units that begin the same bytes have the same bytes.
 pub any_once : (order : Order) (u v : AnyParts) (x y m n : List ℕ) → AnyBytes order u x → AnyBytes order v y → x ++ m ≡ y ++ n → x ≡ y
 any_once order u v x y m n p q e =
     let a = counted order u x p in
     let b = counted order v y q in
-    let found = one_body order a.format b.format a.body b.body m n (x ++ m) a.fits b.fits (ap (λ (z : List ℕ). z ++ m) a.joined)
-    (ap (λ (z : List ℕ). z ++ n) (sym b.joined) ∙ sym e) in
-    a.joined ∙ ap (λ (f : Format). frame_bytes order f a.body) (sym found.0) ∙ ap (frame_bytes order b.format) (sym found.1)
-    ∙ sym b.joined
+    let found = one_body order a.format b.format a.body b.body m n (frame_bytes order a.format a.body ++ m) a.fits b.fits refl
+    (sym (rw (a.joined, b.joined) at e)) in
+    rw (a.joined, b.joined, found.0, found.1) refl
 
 -- One format and one body have the same bytes.
 pub frame_once : (order : Order) (format : Format) (body x y : List ℕ) → FrameBytes order (format, body) x
@@ -66,16 +63,14 @@ frame_once order format body x y p q = p.joined ∙ sym q.joined
 pub five_not_older : (order : Order) (format : Format) (body : List ℕ) (h : HeaderParts) (program x : List ℕ)
     → AnyBytes order (five_parts format body) x → AnyBytes order (older_parts h program) x → ⊥
 five_not_older order format body h program x five older =
-    let p : FrameBytes h.order (format, body) x = subst (λ (o : Order). FrameBytes o (format, body) x) (sym older.0) five in
+    let p : FrameBytes h.order (format, body) x = rw older.0 five in
     let q = older.1 in
     let other = older_body q.version h q.fields program in
-    let digits = number_bytes h.order 2 (version_number q.version) in
     let number = number_bytes h.order (offset_size h.format) (length q.fields) in
-    let found = one_body h.order format h.format body other [] [] (x ++ []) p.fits q.fits (ap (λ (z : List ℕ). z ++ []) p.joined)
-    (ap (λ (z : List ℕ). z ++ []) (sym q.joined)) in
+    let found = one_body h.order format h.format body other [] [] (frame_bytes h.order format body ++ []) p.fits q.fits refl
+    (ap (λ (z : List ℕ). z ++ []) (sym q.joined ∙ p.joined)) in
     let same = same_number_front h.order 2 width_2 5 (version_number q.version) p.version.past (number ++ (q.fields ++ program))
-    (omega arith) (small_version q.version)
-    (sym p.version.joined ∙ sym found.1 ∙ to_right digits number q.fields program) in
+    (omega arith) (small_version q.version) (simp append_assoc at (sym p.version.joined ∙ sym found.1)) in
     not_five q.version same.0
 
 -- ---- what was read
@@ -110,13 +105,10 @@ pub only_five : (order : Order) (bytes five : List ℕ) (v : OlderUnit) (at next
 only_five order bytes five v at next bt after here there r first s second =
     let p = r.read in
     let q = s.read 8 (inr (inr refl)) in
-    let same : p.spelling ≡ bytes = append_cancel_right p.spelling bytes next.rest (sym p.whole ∙ first) in
-    let other : q.spelling ≡ bytes = append_cancel_right q.spelling bytes after.rest (sym q.whole ∙ second) in
-    let h = unit_header v 8 s.directories s.files in
-    five_not_older order r.format r.body h v.program.now bytes
-    (subst (λ (z : List ℕ). FrameBytes order (r.format, r.body) z) same
-    (subst (λ (o : Order). FrameBytes o (r.format, r.body) p.spelling) here p.spelled))
-    (q.spelled.order_is ∙ there, subst (λ (z : List ℕ). OlderBytes h v.program.now z) other q.spelled.spelled)
+    let same = append_cancel_right p.spelling bytes next.rest (sym p.whole ∙ first) in
+    let other = append_cancel_right q.spelling bytes after.rest (sym q.whole ∙ second) in
+    five_not_older order r.format r.body (unit_header v 8 s.directories s.files) v.program.now bytes (rw (here, same) at p.spelled)
+    (q.spelled.order_is ∙ there, rw other at q.spelled.spelled)
 
 -- ---- what was written anew
 
@@ -130,16 +122,12 @@ one_fit order u v at next bt after size directory old new bytes here there is_si
     let h = unit_header u size long.directories long.files in
     let k = unit_header v size long.directories long.files in
     let b = added.spelled.spelled in
-    let headers : k ≡ h = one_header u v size long.directories long.files same in
     let copied : CopiedFields h directory u.header.directories.bytes.now u.header.files.bytes.now long.fields =
-    subst (λ (f : List ℕ). CopiedFields h directory u.header.directories.bytes.now f long.fields) (sym same.header.files)
-    (subst (λ (d : List ℕ). CopiedFields h directory d v.header.files.bytes.now long.fields) (sym same.header.directories)
-    (subst (λ (g : HeaderParts). CopiedFields g directory v.header.directories.bytes.now v.header.files.bytes.now long.fields) headers
-    long.copied)) in
-    let size_is = one_length h directory u.header.directories.bytes.now u.header.files.bytes.now b.fields long.fields added.copied
-    copied in
+    rw (same.header.directories, same.header.files)
+    (subst (λ (g : HeaderParts). CopiedFields g directory v.header.directories.bytes.now v.header.files.bytes.now long.fields)
+    (one_header u v size long.directories long.files same) long.copied) in
     let bodies = same_body_length (upgraded directory h) (upgraded directory k) b.fields long.fields u.program.now v.program.now
-    same.format_is size_is same.program_is in
+    same.format_is (one_length added.copied copied) same.program_is in
     let fits : LengthFits v.format (length (unit_body (upgraded directory h) b.fields u.program.now)) =
     subst (λ (f : Format). LengthFits f (length (unit_body (upgraded directory h) b.fields u.program.now))) same.format_is b.fits in
-    long.too_long (subst (LengthFits v.format) bodies fits)
+    long.too_long (rw bodies at fits)

@@ -40,8 +40,8 @@ pub older_added : (size : ℕ) (directories : List Directory) (directory : List 
 older_added size directories directory unit at next old new is_size r here added =
     let one = r.read size is_size in
     let header = unit_header unit size r.directories r.files in
-    let added_here : AddsUpgraded unit size (directory_at directories at.place) old new =
-    subst (λ (d : List ℕ). AddsUpgraded unit size d old new) here added in
+    let there = directory_at directories at.place in
+    let added_here : AddsUpgraded unit size there old new = subst (λ (d : List ℕ). AddsUpgraded unit size d old new) here added in
     let a = added_here r.directories r.files r.lie in
     record {
       parts = older_parts header unit.program.now;
@@ -50,11 +50,10 @@ older_added size directories directory unit at next old new is_size r here added
         spelled = (one.spelled.order_is, one.spelled.spelled);
         size = one.spelled.size_is;
         fits = λ v bt after same whole older long.
-            one_fit at.order unit v at next bt after size (directory_at directories at.place) old new one.spelling refl same is_size r
-            one.whole older whole added_here long;
+            one_fit at.order unit v at next bt after size there old new one.spelling refl same is_size r one.whole older whole added_here
+            long;
         newer = a.bytes;
-        upgraded = subst (λ (o : Order). HeaderBytesIn o (upgraded (directory_at directories at.place) header, unit.program.now) a.bytes)
-            r.order_is a.spelled;
+        upgraded = subst (λ (o : Order). HeaderBytesIn o (upgraded there header, unit.program.now) a.bytes) r.order_is a.spelled;
       };
       joined = a.joined;
     }

@@ -1,5 +1,5 @@
 -- A walk that writes each unit anew, where each can be: laws that proofs of the crates above cite.
-use Rattle.std.proofs.Common.{◌≡◌, ◌∙◌, ℕ, ◌+◌, ◌<◌, List, [], ◌∷◌, ◌++◌, length, length-append, refl, sym, ap, subst, arith, append_assoc}
+use Rattle.std.proofs.Common.{◌≡◌, ◌∙◌, ℕ, ◌<◌, List, [], ◌∷◌, ◌++◌, length, length-append, refl, sym, ap, subst, arith, append_assoc}
 use Rattle.std.specs.List.{AllByRecursion}
 use Rattle.std.proofs.lemmas.List.{append-nil, nil_from_length}
 use Rattle.lnt_wire.specs.At.{At}
@@ -9,11 +9,11 @@ use Rattle.lnt_older.specs.OlderUnits.{AnyParts, older_parts}
 use Rattle.lnt_older.specs.Directories.{directory_at}
 use Rattle.lnt_older.specs.SectionSteps.{IsLargeNext, IsUnitNext}
 use Rattle.lnt_older.specs.Sections.{HasAddressSize, IsUpgraded, UpgradedBytes}
-use Rattle.lnt_older.specs.Upgradable.{AddsAny, CanBeLeft, CanBeUpgraded, CanUpgrade, Fits}
+use Rattle.lnt_older.specs.Upgradable.{AddsAny, CanBeLeft, CanBeUpgraded, CanUpgrade}
 use Rattle.lnt_older.specs.declared.directories.Directory.{Directory}
 use Rattle.lnt_older.proofs.PlacedLaws.{left_all}
 use Rattle.lnt_older.proofs.SectionLemmas.{IsSpelled, fewer_left, unit_next}
-use Rattle.lnt_older.proofs.SizeLemmas.{added_long, newer_of}
+use Rattle.lnt_older.proofs.SizeLemmas.{newer_of}
 use Rattle.lnt_older.proofs.UpgradeLaws.{any_once, some_bytes}
 
 -- ---- the units that are left
@@ -31,18 +31,13 @@ module _ (size : ℕ) (directories : List Directory) where
   pub never_large : (at : At) → CanBeLeft size directories at → IsLargeNext size (directory_at directories at.place) at → ⊥
   never_large at ([], none) l =
       let older = l.large.older in
-      absurd (omega (
-        arith,
-        ap length (sym l.joined ∙ none),
-        length-append l.unit l.more,
-        some_bytes at.order (older_parts l.large.header l.large.program) l.unit (older.order_is, older.spelled),
-      ))
+      let some = some_bytes at.order (older_parts l.large.header l.large.program) l.unit (older.order_is, older.spelled) in
+      absurd (omega (arith, ap length (sym l.joined ∙ none), length-append l.unit l.more, some))
   never_large at (unit ∷ units, (front, back, here, so, joined, rest)) l =
       let older = l.large.older in
       let same : front ≡ l.unit = any_once at.order unit.1 (older_parts l.large.header l.large.program) front l.unit back l.more so.spelled
       (older.order_is, older.spelled) (sym joined ∙ l.joined) in
-      l.misfit (subst (λ (b : List ℕ). Fits at.order size (directory_at directories at.place) b) same
-      (subst (λ (n : ℕ). Fits at.order size (directory_at directories n) front) here so.fits))
+      l.misfit (rw (here, same) at so.fits)
 
 -- ---- the walk
 
@@ -61,11 +56,9 @@ module _ (order : Order) (size : ℕ) (directories : List Directory) (section : 
     left = left_all (λ o. CanBeUpgraded o size directories) order section at can rest place ordered;
     all = λ units more sound sizes upgraded. record {
       units = units;
-      sound = subst (λ (o : Order). PlacedFrom (IsSpelled o) 0 units section) ordered
-          (subst (λ (b : List ℕ). PlacedFrom (IsSpelled at.order) 0 units b) rest
-          (subst (λ (n : ℕ). PlacedFrom (IsSpelled at.order) n units at.rest) place sound));
+      sound = rw (place, rest, ordered) at sound;
       sizes = sizes;
-      upgraded = subst (λ (o : Order). Each (UpgradedBytes o directories) units more) ordered upgraded;
+      upgraded = rw ordered at upgraded;
     };
   }
 
@@ -76,14 +69,9 @@ module _ (order : Order) (size : ℕ) (directories : List Directory) (section : 
     all = λ units more sound sizes upgraded.
         let here = a.read.spelling in
         let first = a.can.newer in
-        let others : PlacedFrom (IsSpelled at.order) (at.place + length here) units next.rest =
-        subst (λ (o : Order). PlacedFrom (IsSpelled o) (at.place + length here) units next.rest) a.read.order
-        (subst (λ (n : ℕ). PlacedFrom (IsSpelled next.order) n units next.rest) a.read.place sound) in
-        let newer : Each (UpgradedBytes at.order directories) units more =
-        subst (λ (o : Order). Each (UpgradedBytes o directories) units more) a.read.order upgraded in
-        let joined : (text ++ old) ++ (first ++ more) ≡ (text ++ new) ++ more =
-        sym (append_assoc (text ++ old) first more) ∙ ap (λ (z : List ℕ). z ++ more)
-        (append_assoc text old first ∙ ap (λ (z : List ℕ). text ++ z) (sym a.joined)) in
+        let others = rw (a.read.order, a.read.place) at sound in
+        let newer = rw a.read.order at upgraded in
+        let joined : (text ++ old) ++ (first ++ more) ≡ (text ++ new) ++ more = simp (a.joined, append_assoc) in
         subst (IsUpgraded order size directories section) joined
         (w.all ((at.place, a.parts) ∷ units) (first ++ more) (here, next.rest, refl, a.read.spelled, a.read.whole, others)
         (a.can.size, sizes) (record { front = first; back = more; first = a.can.upgraded; second = newer; joined = refl }));
@@ -91,8 +79,7 @@ module _ (order : Order) (size : ℕ) (directories : List Directory) (section : 
 
   pub writing_all : (at : At) (text : List ℕ) → WritingTo order size directories section at text → length at.rest ≡ 0
       → IsUpgraded order size directories section text
-  writing_all at text w ended =
-      subst (IsUpgraded order size directories section) (append-nil text) (w.all [] [] (nil_from_length at.rest ended) tt refl)
+  writing_all at text w ended = rw append-nil at (w.all [] [] (nil_from_length at.rest ended) tt refl)
 
   -- with what can be written for the others it is a section of version 5
   pub writing_rest : (at : At) (text : List ℕ) → WritingTo order size directories section at text
@@ -100,7 +87,3 @@ module _ (order : Order) (size : ℕ) (directories : List Directory) (section : 
   writing_rest at text w =
       let others = newer_of at.order size directories at.place w.left.0 at.rest w.left.1 in
       (others.newer, w.all w.left.0 others.newer others.sound others.sizes others.upgraded)
-
-pub writing_long : (size : ℕ) (directories : List Directory) (at next : At) (old new : List ℕ) → AddsAny size directories at next old new
-    → length next.rest < length at.rest
-writing_long size directories at next old new a = added_long size directories at next old new a

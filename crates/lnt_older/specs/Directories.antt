@@ -3,7 +3,7 @@
 --     older   the offsets of the older units of a section, in their order
 use Rattle.std.specs.Prelude.{◌≡◌, ◌==◌, ℕ, ◌-◌, ◌<◌, zero, suc, List, [], ◌∷◌, ◌++◌, get_or, length, map}
 use Rattle.std.specs.Prelude.{Option, Some, None, IfSome, codes}
-use Rattle.std.specs.List.{AllPairs, AllZip, Any, find}
+use Rattle.std.specs.List.{AllZip, Any, find}
 use Rattle.std.specs.Option.{option_map_or}
 use Rattle.lnt_header.specs.Joins.{AreRising}
 use Rattle.lnt_digits.specs.Digits.{IsDecimal}
@@ -39,14 +39,14 @@ pub record IsDirectoryRecord (fields : Fields) (directory : Directory) : Type 0 
   pub no_zero : HasNoZero (get_or fields 1 [])
 
 -- one of the offsets is this one
-abbrev pub IsUnitOf : List ℕ → ℕ → Type 0
-IsUnitOf older offset = Any (λ other. other ≡ offset) older
+abbrev pub IsAmong : List ℕ → ℕ → Type 0
+IsAmong older offset = Any (λ other. other ≡ offset) older
 
 -- Each record has its directory. Their units rise, and each is an older unit.
 pub record AreRecords (older : List ℕ) (records : List Fields) (directories : List Directory) : Type 0 where
   pub each : AllZip IsDirectoryRecord records directories
   pub rising : AreDirectories directories
-  pub units : AllZip (λ (fields : Fields) directory. IsUnitOf older directory.unit) records directories
+  pub units : AllZip (λ (fields : Fields) directory. IsAmong older directory.unit) records directories
 
 -- ---- the bytes of a file
 
@@ -85,11 +85,11 @@ IsLastUnit directories (Some unit) =
 
 -- The unit of the directory is an older unit, and comes after the one before it.
 abbrev pub IsNext : Option ℕ → List ℕ → Directory → Type 0
-IsNext before older directory = IfSome before (λ unit. unit < directory.unit) × IsUnitOf older directory.unit
+IsNext before older directory = IfSome before (λ unit. unit < directory.unit) × IsAmong older directory.unit
 
 -- The directory may come after these.
 abbrev pub MayFollow : List ℕ → List Directory → Directory → Type 0
-MayFollow older directories directory = AreDirectories (directories ++ directory ∷ []) × IsUnitOf older directory.unit
+MayFollow older directories directory = AreDirectories (directories ++ directory ∷ []) × IsAmong older directory.unit
 
 -- The directory in a record was added to these.
 pub record IsAdded (older : List ℕ) (fields : Fields) (old new : List Directory) : Type 0 where

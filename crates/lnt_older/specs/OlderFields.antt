@@ -31,23 +31,23 @@ MayBe None byte = Unit {0}
 MayBe (Some reason) byte = 0 < byte
 
 -- a byte for each field, and none is 0 that may not be
-abbrev pub AreSound : List (Option Reason) → List ℕ → Type 0
-AreSound [] [] = Unit {0}
-AreSound (zero_reason ∷ zero_reasons) (byte ∷ bytes) = MayBe zero_reason byte × AreSound zero_reasons bytes
-AreSound [] (byte ∷ bytes) = ⊥
-AreSound (zero_reason ∷ zero_reasons) [] = ⊥
+abbrev pub AreFieldBytes : List (Option Reason) → List ℕ → Type 0
+AreFieldBytes [] [] = Unit {0}
+AreFieldBytes (zero_reason ∷ zero_reasons) (byte ∷ bytes) = MayBe zero_reason byte × AreFieldBytes zero_reasons bytes
+AreFieldBytes [] (byte ∷ bytes) = ⊥
+AreFieldBytes (zero_reason ∷ zero_reasons) [] = ⊥
 
 abbrev pub SoundBytes : List (Option Reason) → List ℕ → List ℕ → Type 0
-SoundBytes zero_reasons values bytes = AreSound zero_reasons bytes × (values ≡ bytes)
+SoundBytes zero_reasons values bytes = AreFieldBytes zero_reasons bytes × (values ≡ bytes)
 
 -- The first field that isn't there, or is 0 and may not be, after sound ones.
 --     before   the bytes up to the place of the fault
 --     left     the bytes from the place on
 pub data IsSoundFault (zero_reasons : List (Option Reason)) (reason : Reason) (before left : List ℕ) : Type 0 where
   missing : (done : List (Option Reason)) (zero_reason : Option Reason) (past : List (Option Reason))
-      → zero_reasons ≡ done ++ zero_reason ∷ past → AreSound done before → reason ≡ Truncated → left ≡ []
+      → zero_reasons ≡ done ++ zero_reason ∷ past → AreFieldBytes done before → reason ≡ Truncated → left ≡ []
       → IsSoundFault zero_reasons reason before left
-  zero_byte : (done past : List (Option Reason)) (more : List ℕ) → zero_reasons ≡ done ++ Some reason ∷ past → AreSound done before
+  zero_byte : (done past : List (Option Reason)) (more : List ℕ) → zero_reasons ≡ done ++ Some reason ∷ past → AreFieldBytes done before
       → left ≡ 0 ∷ more → IsSoundFault zero_reasons reason before left
 
 -- their bytes; without maximum_operations_per_instruction before version 4

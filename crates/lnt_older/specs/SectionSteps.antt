@@ -36,10 +36,10 @@ abbrev pub AreListedFor : List ℕ → Option (List ℕ) → List Directory → 
 AreListedFor older None directories = directories ≡ []
 AreListedFor older (Some text) directories = IsDirectoryFile older text directories
 
-abbrev pub IsListFault : List ℕ → Option (List ℕ) → UpgradeFault → Type 0
-IsListFault older (Some text) (Directories place) = IsBadRecord older text place
-IsListFault older text Memory = Unit {0}
-IsListFault older text other = ⊥
+abbrev pub IsListingFault : List ℕ → Option (List ℕ) → UpgradeFault → Type 0
+IsListingFault older (Some text) (Directories place) = IsBadRecord older text place
+IsListingFault older text Memory = Unit {0}
+IsListingFault older text other = ⊥
 
 abbrev pub IsSizeFault : Order → ℕ → List Directory → List ℕ → UpgradeFault → Type 0
 IsSizeFault order address_size directories section (TooLarge offset) = IsLargeAt order address_size directories section offset

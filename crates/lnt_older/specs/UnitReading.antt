@@ -40,7 +40,7 @@ pub record ReadsFront (front : Front) (old new : At) : Type 0 where
   pub order : new.order ≡ old.order
 
 -- What stands after the version spells an older unit's header and program.
-pub record IsUnitOf (front : Front) (version : OlderVersion) (order : Order) (unit : OlderUnit) : Type 0 where
+pub record IsOlderOf (front : Front) (version : OlderVersion) (order : Order) (unit : OlderUnit) : Type 0 where
   pub format_is : unit.format ≡ front.format
   pub order_is : unit.order ≡ order
   pub counted : List ℕ
@@ -75,7 +75,7 @@ IsBodyFault front version order fault =
 abbrev pub IsAnyOf : Front → List ℕ → Order → AnyUnit → Type 0
 IsAnyOf front bytes order (units.Five five) = (front.version ≡ Five) × (five.now ≡ bytes)
 IsAnyOf front bytes order (units.Older unit) =
-    (version : OlderVersion) × (front.version ≡ Older version) × IsUnitOf front version order unit
+    (version : OlderVersion) × (front.version ≡ Older version) × IsOlderOf front version order unit
 
 -- a fault of an older one
 abbrev pub IsAnyBodyFault : Front → Order → Fault → Type 0

@@ -15,7 +15,7 @@ use Rattle.lnt_older.specs.declared.directories.Directory.{Directory}
 -- ---- directories
 
 -- The units of the directories rise, and no path has a zero byte.
-pub record AreSound (directories : List Directory) : Type 0 where
+pub record AreSoundDirectories (directories : List Directory) : Type 0 where
   pub rising : AreDirectories directories
   pub no_zero : (offset : ℕ) → HasNoZero (directory_at directories offset)
 

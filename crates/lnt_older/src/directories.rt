@@ -6,7 +6,7 @@ ghost use Rattle.csv.specs.Records.{fields_of};
 ghost use Rattle.lnt_records.specs.Reading.{HasRead};
 ghost use Rattle.lnt_records.specs.Table.{BeginsWith, Fields};
 ghost use Rattle.lnt_older.specs.Directories.{AreDirectories, IsAdded, IsDirectoryFault, IsDirectoryFile, IsDirectoryRecord};
-ghost use Rattle.lnt_older.specs.Directories.{IsLastUnit, IsNext, IsUnitOf, MayFollow, directory_at, directory_names};
+ghost use Rattle.lnt_older.specs.Directories.{IsLastUnit, IsNext, IsAmong, MayFollow, directory_at, directory_names};
 ghost use Rattle.lnt_older.specs.declared.directories.Directory.{Directory as Spec};
 
 use csv::{ByteRecord, Reader};
@@ -159,7 +159,7 @@ fn directory_in(
 #[tactic(auto, using(crate::proofs::DirectoryLemmas::among))]
 fn is_among(offset: u64, offsets: &[u64]) -> bool
     requires { AreRising offsets.now }
-    ensures { MatchBool result (IsUnitOf offsets.now offset) (IsUnitOf offsets.now offset → ⊥) }
+    ensures { MatchBool result (IsAmong offsets.now offset) (IsAmong offsets.now offset → ⊥) }
 {
     offsets.binary_search(&offset).is_ok()
 }

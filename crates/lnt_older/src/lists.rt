@@ -76,7 +76,7 @@ fn is_listed(cursor: &Cursor<'_>) -> bool
 }
 
 // Moves past the next entry.
-#[tactic(auto, using(crate::proofs::EntryLemmas::entry_walk))]
+#[tactic(auto, using(crate::proofs::ListLemmas::entry_walk))]
 pub(crate) fn pass_entry(
     cursor: &mut Cursor<'_>,
     format: Format,

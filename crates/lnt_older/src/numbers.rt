@@ -2,7 +2,7 @@
 ghost use Rattle.std.specs.Prelude.{IfOk, IfErr};
 ghost use Rattle.lnt_wire.specs.Reading.{Reads, RefusesField, Refuses};
 ghost use Rattle.lnt_older.specs.ByteReading.{ByteOf, IsByteFault};
-ghost use Rattle.lnt_older.specs.OlderFields.{AreSound, IsSoundFault, NumbersBytes, SoundBytes, zero_reasons};
+ghost use Rattle.lnt_older.specs.OlderFields.{AreFieldBytes, IsSoundFault, NumbersBytes, SoundBytes, zero_reasons};
 
 use crate::version::OlderVersion;
 use lnt_wire::{Cursor, Fault, Reason};
@@ -71,7 +71,7 @@ const ZERO_REASONS_BEFORE_4: [Option<Reason>; 5] = [
 
 // The numbers that these bytes say.
 fn numbers_of(version: OlderVersion, bytes: &[u8]) -> OlderNumbers
-    requires { AreSound (zero_reasons version) bytes.now }
+    requires { AreFieldBytes (zero_reasons version) bytes.now }
     ensures { NumbersBytes version result bytes.now }
 {
     match version {

@@ -6,8 +6,8 @@ ghost use Rattle.lnt_wire.specs.Bytes.{Extends};
 ghost use Rattle.lnt_header.specs.HeaderRules.{IsAddressSize};
 ghost use Rattle.lnt_older.specs.Directories.{directory_at};
 ghost use Rattle.lnt_older.specs.Sections.{HasOlder};
-ghost use Rattle.lnt_older.specs.SectionSteps.{AreListedFor, IsLargeNext, IsListFault, IsSizeFault, IsUnitFault, IsUnitNext};
-ghost use Rattle.lnt_older.specs.Upgradable.{AddsAny, AreSound, CanBeLeft, CanUpgrade};
+ghost use Rattle.lnt_older.specs.SectionSteps.{AreListedFor, IsLargeNext, IsListingFault, IsSizeFault, IsUnitFault, IsUnitNext};
+ghost use Rattle.lnt_older.specs.Upgradable.{AddsAny, AreSoundDirectories, CanBeLeft, CanUpgrade};
 ghost use Rattle.lnt_older.specs.Upgrades.{AreListed, HasUnits, IsUpgradeFault};
 
 use crate::directories::{DirectoriesFault, Directory, directory_of, read_directories};
@@ -53,7 +53,7 @@ pub fn judge_upgrade(
     text: Option<&[u8]>,
 ) -> Result<Vec<Directory>, UpgradeFault>
     requires { IsAddressSize address_size }
-    ensures sound { IfOk result (λ directories. AreSound directories.items) }
+    ensures sound { IfOk result (λ directories. AreSoundDirectories directories.items) }
     ensures can { IfOk result (λ directories. CanUpgrade order address_size directories.items bytes.now) }
     ensures listed { IfOk result (λ directories. AreListed order bytes.now (option_copied text.entry) directories.items) }
     ensures err { IfErr result (IsUpgradeFault order address_size bytes.now (option_copied text.entry)) }
@@ -94,9 +94,9 @@ fn list_directories(
     older: &[u64],
 ) -> Result<Vec<Directory>, UpgradeFault>
     requires { AreRising older.now }
-    ensures sound { IfOk result (λ directories. AreSound directories.items) }
+    ensures sound { IfOk result (λ directories. AreSoundDirectories directories.items) }
     ensures ok { IfOk result (λ directories. AreListedFor older.now (option_copied text.entry) directories.items) }
-    ensures err { IfErr result (IsListFault older.now (option_copied text.entry)) }
+    ensures err { IfErr result (IsListingFault older.now (option_copied text.entry)) }
 {
     let Some(text) = text else {
         return Ok(Vec::new(alloc));
@@ -118,7 +118,7 @@ fn judge_sizes(
     directories: &[Directory],
 ) -> Result<(), UpgradeFault>
     requires size { IsAddressSize address_size }
-    requires sound { AreSound directories.now }
+    requires sound { AreSoundDirectories directories.now }
     requires units { HasUnits order bytes.now }
     ensures ok { OnOk result (CanUpgrade order address_size directories.now bytes.now) }
     ensures err { IfErr result (λ fault. IsSizeFault order address_size directories.now bytes.now fault) }
@@ -150,7 +150,7 @@ fn append_unit(
     out: &mut Vec<u8>,
 ) -> Result<(), EncodeFault>
     requires size { IsAddressSize address_size }
-    requires sound { AreSound directories.now }
+    requires sound { AreSoundDirectories directories.now }
     requires next { IsUnitNext cursor.old }
     ensures ok { OnOk result (AddsAny address_size directories.now cursor.old cursor.new out.old.items out.new.items) }
     ensures err { IfErr result (λ fault. fault ≡ EncodeFault.TooLarge
@@ -187,7 +187,7 @@ pub fn upgrade_next(
     out: &mut Vec<u8>,
 ) -> Result<(), AllocError>
     requires size { IsAddressSize address_size }
-    requires sound { AreSound directories.now }
+    requires sound { AreSoundDirectories directories.now }
     requires left { CanBeLeft address_size directories.now cursor.old }
     requires some { 0 < length cursor.old.rest }
     ensures ok { OnOk result (AddsAny address_size directories.now cursor.old cursor.new out.old.items out.new.items) }

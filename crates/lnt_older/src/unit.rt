@@ -2,7 +2,7 @@
 ghost use Rattle.std.specs.Prelude.{◌≡◌, ◌+◌, ◌<◌, ◌^◌, length, IfErr, IfOk, OnErr};
 ghost use Rattle.lnt_wire.specs.Reading.{Refuses};
 ghost use Rattle.lnt_older.specs.OlderUnits.{AnyBytes, IsAnyFault, IsSoundUnit, ReadsAny};
-ghost use Rattle.lnt_older.specs.UnitReading.{IsAnyBodyFault, IsAnyOf, IsBodyFault, IsUnitOf};
+ghost use Rattle.lnt_older.specs.UnitReading.{IsAnyBodyFault, IsAnyOf, IsBodyFault, IsOlderOf};
 
 use crate::front::{Front, UnitVersion, take_front};
 use crate::header::{OlderHeader, read_older_header};
@@ -87,7 +87,7 @@ fn older_unit<'a>(
     order: Order,
 ) -> Result<OlderUnit<'a>, Fault>
     requires { front.now.place + 2 + length front.now.past.now < 2 ^ 64 }
-    ensures ok { IfOk result (λ unit. IsUnitOf front.now version order unit) }
+    ensures ok { IfOk result (λ unit. IsOlderOf front.now version order unit) }
     ensures err { IfErr result (λ fault. IsBodyFault front.now version order fault) }
 {
     let mut cursor = Cursor::new(front.past, front.place + 2, order);

@@ -1,4 +1,4 @@
-use Rattle.std.proofs.Common.{rules, ◌≡◌, ◌∙◌, sym}
+use Rattle.std.proofs.Common.{rules, ◌∙◌, sym}
 use Rattle.std.proofs.lemmas.List.Sorted.{answers_always}
 use Rattle.lnt_older.specs.declared.directories.Directory.{Directory}
 use Rattle.lnt_older.proofs.DirectoryLemmas.{found_directory, no_directory}

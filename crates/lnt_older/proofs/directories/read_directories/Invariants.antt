@@ -1,4 +1,4 @@
-use Rattle.std.specs.Prelude.{◌∷◌, ℕ, List}
+use Rattle.std.specs.Prelude.{◌∷◌, List}
 use Rattle.lnt_records.specs.Reading.{HasRead, bytes_left, known_length}
 use Rattle.lnt_records.specs.Table.{Fields}
 use Rattle.lnt_older.specs.Directories.{AreRecords, directory_names}

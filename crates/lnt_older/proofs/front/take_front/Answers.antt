@@ -1,7 +1,5 @@
 use Rattle.std.proofs.Common.{◌∙◌, refl}
 use Rattle.std.proofs.lemmas.Result.{err_from_is_err_and}
-use Rattle.lnt_wire.specs.Reading.{Refuses}
-use Rattle.lnt_older.specs.OlderUnits.{AnyBytes, IsAnyFault}
 use Rattle.lnt_older.proofs.FrontLemmas.{initial_missing, body_missing, version_cut, version_unknown}
 use Rattle.lnt_older.proofs.front.take_front.Goals as goal
 
@@ -18,11 +16,9 @@ returns-in_err-number-clause-err c =
     let p = err_from_is_err_and c.from_residual.result c.from_residual.ensures.1 in
     let old = c.args.cursor.now in
     let fault = c.in_err-number.field-0.0 in
-    let rest : Refuses (IsAnyFault old.order) (AnyBytes old.order) old fault =
-    version_cut old c.initial_length.new.cursor c.take.new.self c.new-inside.result c.in-Ok.initial c.in-Ok-take.body.now fault
-    c.in-Ok.ensures.ok c.in-Ok-take.ensures.ok c.new-inside.ensures.rest (c.new-inside.ensures.place ∙ c.place-place.ensures.value)
-    c.in_err-number.ensures.err in
-    rw (p.1, p.2) rest
+    rw (p.1, p.2) (version_cut old c.initial_length.new.cursor c.take.new.self c.new-inside.result c.in-Ok.initial c.in-Ok-take.body.now
+    fault c.in-Ok.ensures.ok c.in-Ok-take.ensures.ok c.new-inside.ensures.rest (c.new-inside.ensures.place ∙ c.place-place.ensures.value)
+    c.in_err-number.ensures.err)
 
 pub returns-in-None-clause-err : goal.returns-in-None-clause-err
 returns-in-None-clause-err c =

@@ -1,6 +1,4 @@
 use Rattle.std.proofs.lemmas.Result.{err_from_is_err_and}
-use Rattle.lnt_wire.specs.Reading.{Refuses}
-use Rattle.lnt_older.specs.OlderFields.{FieldsOf, IsFieldsFault}
 use Rattle.lnt_older.proofs.FieldLemmas.{files_missing, lengths_missing}
 use Rattle.lnt_older.proofs.HeaderLemmas.{parts_read}
 use Rattle.lnt_older.proofs.header.read_parts.Goals as goal
@@ -10,10 +8,8 @@ returns-in_err-standard_lengths-clause-err c =
     let p = err_from_is_err_and c.from_residual-in_err-standard_lengths.result c.from_residual-in_err-standard_lengths.ensures.1 in
     let old = c.args.cursor.now in
     let fault = c.in_err-standard_lengths.field-0.0 in
-    let rest : Refuses (IsFieldsFault c.args.version c.args.format old.order) (FieldsOf c.args.version c.args.format old.order) old fault =
-    lengths_missing c.args.version c.args.format c.in_ok-numbers.numbers old c.read_numbers.new.cursor fault c.in_ok-numbers.ensures.ok
-    c.in_err-standard_lengths.ensures.err in
-    rw (p.1, p.2) rest
+    rw (p.1, p.2) (lengths_missing c.args.version c.args.format c.in_ok-numbers.numbers old c.read_numbers.new.cursor fault
+    c.in_ok-numbers.ensures.ok c.in_err-standard_lengths.ensures.err)
 
 pub returns-in_err-files-clause-err : goal.returns-in_err-files-clause-err
 returns-in_err-files-clause-err c =
@@ -21,11 +17,9 @@ returns-in_err-files-clause-err c =
     let old = c.args.cursor.now in
     let fault = c.in_err-files.field-0.0 in
     let directories = c.in_ok-directories.ensures.ok in
-    let rest : Refuses (IsFieldsFault c.args.version c.args.format old.order) (FieldsOf c.args.version c.args.format old.order) old fault =
-    files_missing c.args.version c.args.format c.in_ok-numbers.numbers c.in_ok-standard_lengths.standard_lengths.now directories.entries old
-    c.read_numbers.new.cursor c.read_lengths.new.cursor c.pass_listed.new.cursor fault c.in_ok-numbers.ensures.ok
-    c.in_ok-standard_lengths.ensures.ok directories.read c.in_err-files.ensures.err in
-    rw (p.1, p.2) rest
+    rw (p.1, p.2) (files_missing c.args.version c.args.format c.in_ok-numbers.numbers c.in_ok-standard_lengths.standard_lengths.now
+    directories.entries old c.read_numbers.new.cursor c.read_lengths.new.cursor c.pass_listed.new.cursor fault c.in_ok-numbers.ensures.ok
+    c.in_ok-standard_lengths.ensures.ok directories.read c.in_err-files.ensures.err)
 
 pub returns-clause-ok : goal.returns-clause-ok
 returns-clause-ok c =

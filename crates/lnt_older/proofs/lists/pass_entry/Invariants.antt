@@ -1,4 +1,4 @@
-use Rattle.lnt_older.proofs.EntryLemmas.{ArePassed}
+use Rattle.lnt_header_bytes.proofs.PassLemmas.{ArePassed}
 use Rattle.lnt_older.proofs.lists.pass_entry.Given as goal
 
 abbrev pub invariant-loop-pair : goal.invariant-loop-pair

@@ -1,9 +1,7 @@
 use Rattle.std.proofs.Common.{arith}
 use Rattle.std.proofs.lemmas.Grind.{common_steps}
 use Rattle.std.proofs.lemmas.Result.{err_from_is_err_and}
-use Rattle.lnt_wire.specs.Reading.{Refuses}
-use Rattle.lnt_older.specs.OlderBytes.{BeginsEntry, ListBytes}
-use Rattle.lnt_older.specs.ListFaults.{IsListFault}
+use Rattle.lnt_older.specs.OlderBytes.{BeginsEntry}
 use Rattle.lnt_older.proofs.ListFaultLemmas.{entry_missing, end_missing}
 use Rattle.lnt_older.proofs.ListLemmas.{list_ended}
 use Rattle.lnt_older.proofs.lists.pass_listed.Goals as goal
@@ -26,10 +24,8 @@ returns-in_err-pass_entry-clause-err c =
     let old = c.args.cursor.now in
     let fault = c.in_err-pass_entry.field-0.0 in
     let begins : BeginsEntry c.loop-format.cursor.rest = grind (arith, common_steps, c.is_listed.ensures, c.loop-format-test.true) in
-    let rest : Refuses (IsListFault c.args.format old.order pairs) (ListBytes c.args.format old.order pairs) old fault =
-    entry_missing c.args.format pairs c.loop-format.count old c.loop-format.cursor fault c.loop-format.invariant begins
-    c.in_err-pass_entry.ensures.err in
-    rw (p.1, p.2) rest
+    rw (p.1, p.2) (entry_missing c.args.format pairs c.loop-format.count old c.loop-format.cursor fault c.loop-format.invariant begins
+    c.in_err-pass_entry.ensures.err)
 
 pub returns-in_err-u8-clause-err : goal.returns-in_err-u8-clause-err
 returns-in_err-u8-clause-err c =
@@ -37,7 +33,5 @@ returns-in_err-u8-clause-err c =
     let pairs = c.args.pairs.now in
     let old = c.args.cursor.now in
     let fault = c.in_err-u8.field-0.0 in
-    let rest : Refuses (IsListFault c.args.format old.order pairs) (ListBytes c.args.format old.order pairs) old fault =
-    end_missing c.args.format pairs c.loop-format.count old c.loop-format.cursor fault c.loop-format.invariant
-    c.in_err-u8.ensures.err in
-    rw (p.1, p.2) rest
+    rw (p.1, p.2) (end_missing c.args.format pairs c.loop-format.count old c.loop-format.cursor fault c.loop-format.invariant
+    c.in_err-u8.ensures.err)

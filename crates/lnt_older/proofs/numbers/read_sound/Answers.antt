@@ -1,6 +1,4 @@
 use Rattle.std.proofs.lemmas.Result.{err_from_is_err_and}
-use Rattle.lnt_wire.specs.Reading.{Refuses}
-use Rattle.lnt_older.specs.OlderFields.{IsSoundFault, SoundBytes}
 use Rattle.lnt_older.proofs.SoundLemmas.{byte_missing}
 use Rattle.lnt_older.proofs.numbers.read_sound.Goals as goal
 
@@ -9,7 +7,5 @@ returns-in_err-read_byte-clause-err c =
     let p = err_from_is_err_and c.from_residual.result c.from_residual.ensures.1 in
     let reasons = c.args.zero_reasons.now in
     let old = c.args.cursor.now in
-    let rest : Refuses (IsSoundFault reasons) (SoundBytes reasons) old c.in_err-read_byte.field-0.0 =
-    byte_missing reasons c.loop-zero_reason.zero_reason-index _ old c.loop-zero_reason.cursor c.in_err-read_byte.field-0.0
-    c.loop-zero_reason-test.true c.loop-zero_reason.invariant c.in_err-read_byte.ensures.err in
-    rw (p.1, p.2) rest
+    rw (p.1, p.2) (byte_missing reasons c.loop-zero_reason.zero_reason-index _ old c.loop-zero_reason.cursor c.in_err-read_byte.field-0.0
+    c.loop-zero_reason-test.true c.loop-zero_reason.invariant c.in_err-read_byte.ensures.err)

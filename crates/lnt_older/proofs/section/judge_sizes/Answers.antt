@@ -1,4 +1,4 @@
-use Rattle.std.proofs.Common.{◌≡◌, ◌∙◌, ◌<◌, length, ap, arith, rules, sym}
+use Rattle.std.proofs.Common.{◌∙◌, ◌<◌, length, ap, arith, rules, sym}
 use Rattle.std.proofs.lemmas.Bool.{eqb-false}
 use Rattle.lnt_older.proofs.SizeLemmas.{sized_large, sized_next}
 use Rattle.lnt_older.proofs.section.judge_sizes.Goals as goal
