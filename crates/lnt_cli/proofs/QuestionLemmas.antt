@@ -6,7 +6,6 @@ use Rattle.lnt_io.specs.declared.status.Status.{Status}
 use Rattle.lnt_lines.specs.declared.options.Options.{Options}
 use Rattle.lnt_lines.specs.declared.section.JudgedIndex.{JudgedIndex}
 use Rattle.lnt_lines.specs.declared.section.JudgedIndex.TheVariants.{Good, Bad}
-use Rattle.lnt_lines.specs.Drafts.{IsJudgedIndex}
 use Rattle.lnt_lines.specs.Indexed.{Indexed}
 use Rattle.lnt_words.specs.declared.request.Judging.{Judging}
 use Rattle.lnt_words.specs.declared.request.Question.{Question}
@@ -18,6 +17,8 @@ use Rattle.lnt_answers.specs.SumLines.{listed_files}
 use Rattle.lnt_answers.proofs.SumLaws.{sums_later}
 use Rattle.lnt_cli.specs.Answered.{AnswersQuestion, AreTextsOf, IsChecked, IsOfFile, IsOfSection, options_in}
 use Rattle.lnt_cli.specs.Questions.{AnswersGood, AnswersJudged}
+use Rattle.lnt_cli.specs.Stepping.{IsJudgedSo}
+use Rattle.lnt_cli.specs.declared.inputs.Texts.{Texts}
 
 -- an answer stays true where more may be told of the files
 good_later : (tells tells' : List ℕ → FileState → Type 0) (options : Options) (question : Question) (index : Indexed)
@@ -32,22 +33,22 @@ good_later tells tells' options (TableByPath false) index old new status later s
 good_later tells tells' options Md5 index old new status later so =
     sums_later tells tells' index (listed_files index) old new status later so
 
-judged_later : (tells tells' : List ℕ → FileState → Type 0) (options : Options) (question : Question) (judged : JudgedIndex)
-    (old new : Option (List ℕ)) (status : Status) → TellsNoMore tells tells'
-    → AnswersJudged tells' options question judged old new status → AnswersJudged tells options question judged old new status
-judged_later tells tells' options question (Good index) old new status later so =
+judged_later : (tells tells' : List ℕ → FileState → Type 0) (options : Options) (question : Question) (old new : Option (List ℕ))
+    (status : Status) (judged : JudgedIndex) → TellsNoMore tells tells'
+    → AnswersJudged (AnswersGood tells' options question) old new status judged
+    → AnswersJudged (AnswersGood tells options question) old new status judged
+judged_later tells tells' options question old new status (Good index) later so =
     good_later tells tells' options question index old new status later so
-judged_later tells tells' options question (Bad reason) old new status later so = so
+judged_later tells tells' options question old new status (Bad reason) later so = so
 
 -- What is told of a judged section is told of the section in its file.
-pub told_of_section : (tells : List ℕ → FileState → Type 0) (from : Judging) (IsTold : JudgedIndex → Type 0)
-    (line general : List ℕ) (section : Option (List ℕ)) → AreTextsOf tells from line general → tells from.section.now (Readable section)
-    → (judged : JudgedIndex) × IfSome section (λ bytes. IsJudgedIndex line general (options_in from) bytes judged) × IsTold judged
-    → IsOfSection tells from IsTold
-told_of_section tells from IsTold line general section texts of_section so = record {
-  line = line;
-  general = general;
-  texts = texts;
+pub told_of_section : (tells : List ℕ → FileState → Type 0) (from : Judging) (IsTold : JudgedIndex → Type 0) (texts : Texts)
+    (section : Option (List ℕ)) → AreTextsOf tells from texts.line.items texts.general.items
+    → tells from.section.now (Readable section) → IsJudgedSo texts from section IsTold → IsOfSection tells from IsTold
+told_of_section tells from IsTold texts section are_texts of_section so = record {
+  line = texts.line.items;
+  general = texts.general.items;
+  texts = are_texts;
   section_bytes = section;
   of_section = of_section;
   judged = so.0;
@@ -57,41 +58,38 @@ told_of_section tells from IsTold line general section texts of_section so = rec
 
 -- An answer for a judged section, from a time when less might be told of the files, is the answer to the question.
 pub question_of : {T E : Type 0} (tells tells' : List ℕ → FileState → Type 0) (from : Judging) (question : Question)
-    (old new : Option (List ℕ)) (line general : List ℕ) (section : Option (List ℕ)) (ended : Result T E) (status_of : T → Status)
-    → AreTextsOf tells from line general → tells from.section.now (Readable section) → TellsNoMore tells tells'
-    → IfOk ended (λ answered. (judged : JudgedIndex)
-    × IfSome section (λ bytes. IsJudgedIndex line general (options_in from) bytes judged)
-    × AnswersJudged tells' (options_in from) question judged old new (status_of answered))
+    (old new : Option (List ℕ)) (texts : Texts) (section : Option (List ℕ)) (ended : Result T E) (status_of : T → Status)
+    → AreTextsOf tells from texts.line.items texts.general.items → tells from.section.now (Readable section)
+    → TellsNoMore tells tells'
+    → IfOk ended (λ answered. IsJudgedSo texts from section
+    (AnswersJudged (AnswersGood tells' (options_in from) question) old new (status_of answered)))
     → IfOk ended (λ answered. AnswersQuestion tells from question old new (status_of answered))
-question_of tells tells' from question old new line general section (Ok answered) status_of texts of_section later so =
-    told_of_section tells from (λ judged. AnswersJudged tells (options_in from) question judged old new (status_of answered)) line
-    general section texts of_section
-    (so.0, so.1, judged_later tells tells' (options_in from) question so.0 old new (status_of answered) later so.2)
-question_of tells tells' from question old new line general section (Err stop) status_of texts of_section later so = so
+question_of tells tells' from question old new texts section (Ok answered) status_of are_texts of_section later so =
+    told_of_section tells from (AnswersJudged (AnswersGood tells (options_in from) question) old new (status_of answered)) texts section
+    are_texts of_section (so.0, so.1, judged_later tells tells' (options_in from) question old new (status_of answered) so.0 later so.2)
+question_of tells tells' from question old new texts section (Err stop) status_of are_texts of_section later so = so
 
 -- What is told of a judged section and of the bytes of a file is told of that file.
 pub told_of_file : (tells : List ℕ → FileState → Type 0) (from : Judging) (file : List ℕ)
-    (IsTold : JudgedIndex → Option (List ℕ) → Type 0) (line general : List ℕ) (section text : Option (List ℕ))
-    → AreTextsOf tells from line general → tells from.section.now (Readable section) → tells file (Readable text)
-    → (judged : JudgedIndex) × IfSome section (λ bytes. IsJudgedIndex line general (options_in from) bytes judged) × IsTold judged text
-    → IsOfFile tells from file IsTold
-told_of_file tells from file IsTold line general section text texts of_section of_file so = record {
-  file_bytes = text;
+    (IsTold : Option (List ℕ) → JudgedIndex → Type 0) (texts : Texts) (section bytes : Option (List ℕ))
+    → AreTextsOf tells from texts.line.items texts.general.items → tells from.section.now (Readable section)
+    → tells file (Readable bytes) → IsJudgedSo texts from section (IsTold bytes) → IsOfFile tells from file IsTold
+told_of_file tells from file IsTold texts section bytes are_texts of_section of_file so = record {
+  file_bytes = bytes;
   of_file = of_file;
-  so = told_of_section tells from (λ judged. IsTold judged text) line general section texts of_section so;
+  so = told_of_section tells from (IsTold bytes) texts section are_texts of_section so;
 }
 
 -- The answer for a judged section and the bytes of a file is the answer for that file.
 pub of_file_answered : {T E : Type 0} (tells : List ℕ → FileState → Type 0) (from : Judging) (file : List ℕ)
-    (IsTold : T → JudgedIndex → Option (List ℕ) → Type 0) (line general : List ℕ) (section text : Option (List ℕ))
-    (ended : Result T E)
-    → AreTextsOf tells from line general → tells from.section.now (Readable section) → tells file (Readable text)
-    → IfOk ended (λ answered. (judged : JudgedIndex)
-    × IfSome section (λ bytes. IsJudgedIndex line general (options_in from) bytes judged) × IsTold answered judged text)
+    (IsTold : T → Option (List ℕ) → JudgedIndex → Type 0) (texts : Texts) (section bytes : Option (List ℕ)) (ended : Result T E)
+    → AreTextsOf tells from texts.line.items texts.general.items → tells from.section.now (Readable section)
+    → tells file (Readable bytes)
+    → IfOk ended (λ answered. IsJudgedSo texts from section (IsTold answered bytes))
     → IfOk ended (λ answered. IsOfFile tells from file (IsTold answered))
-of_file_answered tells from file IsTold line general section text (Ok answered) texts of_section of_file so =
-    told_of_file tells from file (IsTold answered) line general section text texts of_section of_file so
-of_file_answered tells from file IsTold line general section text (Err stop) texts of_section of_file so = so
+of_file_answered tells from file IsTold texts section bytes (Ok answered) are_texts of_section of_file so =
+    told_of_file tells from file (IsTold answered) texts section bytes are_texts of_section of_file so
+of_file_answered tells from file IsTold texts section bytes (Err stop) are_texts of_section of_file so = so
 
 -- What is true of the bytes of a section and of a table answers the check of their files, once its line is printed.
 pub checked_of : {E : Type 0} (tells : List ℕ → FileState → Type 0) (from : Judging) (table line general : List ℕ)

@@ -1,27 +1,45 @@
--- Runs whose words ask for a request.
-use Rattle.std.proofs.Common.{ℕ, List, ◌⊎◌, Option, Result, Ok, Err, IfOk, OnErr, inr}
+-- How runs end.
+use Rattle.std.proofs.Common.{◌≡◌, ◌≢◌, ℕ, List, Option, Result, Ok, Err, IfErr, IfOk, IsErrAnd, MatchResult, OnErr, inl, inr}
 use Rattle.std.specs.Io.KnownBytes.{Keeps}
 use Rattle.lnt_io.specs.Files.{FileState}
 use Rattle.lnt_io.specs.declared.status.Status.{Status}
-use Rattle.lnt_words.specs.Asking.{IsAskedBy}
+use Rattle.lnt_words.specs.Asking.{AskForNothing, IsAskedBy}
 use Rattle.lnt_words.specs.declared.request.Asked.{Asked}
+use Rattle.lnt_words.specs.declared.stop.WordsStop.{WordsStop}
+use Rattle.lnt_words.specs.declared.stop.WordsStop.TheVariants.{Memory}
 use Rattle.lnt_cli.specs.Answered.{IsAnswered}
-use Rattle.lnt_cli.specs.Runs.{AnswersWords, StopsWords}
+use Rattle.lnt_cli.specs.Runs.{AnswersWords, IsStopOf}
 use Rattle.lnt_cli.specs.Stopped.{IsStopped}
+use Rattle.lnt_cli.specs.Stops.{IsFileIn, IsOfWords, NamesOneOf}
+use Rattle.lnt_cli.specs.declared.stop.CliStop.{CliStop}
+use Rattle.lnt_cli.specs.declared.stop.CliStop.TheVariants.{File, Usage}
+use Rattle.lnt_cli.specs.declared.stop.FileStop.{FileStop}
+
+-- Words that aren't a request stop the run.
+pub words_refused : (tells : List ℕ → FileState → Type 0) (words : List (List ℕ)) (old new : Option (List ℕ)) (stop : WordsStop)
+    (told : CliStop) → IsOfWords stop told → (stop ≢ Memory → AskForNothing words) → Keeps old new
+    → IsStopOf tells words old new told
+words_refused tells words old new stop (Usage text) is refused kept = (refused is, kept)
+words_refused tells words old new stop (File told) is refused kept = rw is ((λ name named. absurd named), inl kept)
+
+-- how a run ends whose answer ended so
+abbrev pub IsEndOf : Result Status FileStop → Result Status CliStop → Type 0
+IsEndOf ended run = MatchResult ended (λ status. run ≡ Ok status) (λ stop. IsErrAnd run (λ told. told ≡ File stop))
 
 -- The answer to the request is the answer to the words.
-pub words_answered : {E : Type 0} (tells : List ℕ → FileState → Type 0) (words : List (List ℕ)) (asked : Asked)
-    (old new : Option (List ℕ)) (ended : Result Status E) → IsAskedBy words asked
-    → IfOk ended (λ status. IsAnswered tells asked.request old new status)
-    → IfOk ended (λ status. AnswersWords tells words old new status)
-words_answered tells words asked old new (Ok status) is_asked so = record { asked = asked; is_asked = is_asked; answered = so }
-words_answered tells words asked old new (Err stop) is_asked so = tt
+pub words_answered : (tells : List ℕ → FileState → Type 0) (words : List (List ℕ)) (asked : Asked) (old new : Option (List ℕ))
+    (ended : Result Status FileStop) (run : Result Status CliStop) → IsEndOf ended run → IsAskedBy words asked
+    → IfOk ended (IsAnswered tells asked.request old new) → IfOk run (AnswersWords tells words old new)
+words_answered tells words asked old new (Ok status) run is is_asked so = rw is (asked, is_asked, so)
+words_answered tells words asked old new (Err stop) (Ok status) is is_asked so = absurd is
+words_answered tells words asked old new (Err stop) (Err told) is is_asked so = tt
 
 -- the same where that answer was stopped
-pub words_stopped : {E : Type 0} (tells : List ℕ → FileState → Type 0) (words : List (List ℕ)) (asked : Asked)
-    (old new : Option (List ℕ)) (ended : Result Status E) → IsAskedBy words asked
-    → OnErr ended (IsStopped tells asked.request old new)
-    → OnErr ended (Keeps old new ⊎ StopsWords tells words old new)
-words_stopped tells words asked old new (Ok status) is_asked stopped = tt
-words_stopped tells words asked old new (Err stop) is_asked stopped =
-    inr (record { asked = asked; is_asked = is_asked; stopped = stopped })
+pub words_stopped : (tells : List ℕ → FileState → Type 0) (words : List (List ℕ)) (asked : Asked) (old new : Option (List ℕ))
+    (ended : Result Status FileStop) (run : Result Status CliStop) → IsEndOf ended run → IsAskedBy words asked
+    → IfErr ended (NamesOneOf (IsFileIn asked.request)) → OnErr ended (IsStopped tells asked.request old new)
+    → IfErr run (IsStopOf tells words old new)
+words_stopped tells words asked old new (Ok status) run is is_asked named stopped = rw is tt
+words_stopped tells words asked old new (Err stop) (Ok status) is is_asked named stopped = tt
+words_stopped tells words asked old new (Err stop) (Err told) is is_asked named stopped =
+    rw is ((λ name is_told. (asked, is_asked, named name is_told)), inr (asked, is_asked, stopped))

@@ -11,7 +11,6 @@ use Rattle.lnt_lines.specs.declared.no.No.{No}
 use Rattle.lnt_lines.specs.declared.options.Options.{Options}
 use Rattle.lnt_lines.specs.declared.section.JudgedIndex.{JudgedIndex}
 use Rattle.lnt_lines.specs.declared.section.JudgedIndex.TheVariants.{Good, Bad}
-use Rattle.lnt_lines.specs.Drafts.{IsJudgedIndex}
 use Rattle.lnt_lines.specs.Indexed.{Indexed, IsIndexOf}
 use Rattle.lnt_words.specs.declared.request.Judging.{Judging}
 use Rattle.lnt_words.specs.declared.request.Question.{Question}
@@ -24,7 +23,10 @@ use Rattle.lnt_answers.proofs.SumLaws.{begun_later}
 use Rattle.lnt_answers.specs.Stretches.{AreStretchesBegun}
 use Rattle.lnt_answers.specs.Verdicts.{checked_line, checked_status}
 use Rattle.lnt_cli.specs.Answered.{AnswersCheck, AreTextsOf, IsChecked, IsOfFile, options_in}
-use Rattle.lnt_cli.specs.Stopped.{ArePlacesBegun, BeginsGood, BeginsJudged, BeginsQuestion}
+use Rattle.lnt_cli.specs.Stepping.{IsJudgedSo, IsTrueOf}
+use Rattle.lnt_cli.specs.Stopped.{BeginsGood, BeginsGoodFile, BeginsJudged, BeginsQuestion}
+use Rattle.lnt_cli.specs.declared.inputs.Texts.{Texts}
+use Rattle.lnt_cli.specs.declared.question.FileQuestion.TheVariants.{Places}
 use Rattle.lnt_cli.proofs.QuestionLemmas.{told_of_file, told_of_section}
 
 -- a front of the line of a check's result, which is the answer once its line is printed
@@ -55,17 +57,16 @@ check_stopped tells from table checked old new (Err halt) (Err stop) so is front
 
 -- ---- sections that are judged
 
--- The writer has gained nothing; or a judgement is true, and a part of its answer was written.
-abbrev pub BeginsOf : (JudgedIndex → Type 0) → (JudgedIndex → Type 0) → Option (List ℕ) → Option (List ℕ) → Type 0
-BeginsOf IsSo HasBegunOf old new = Keeps old new ⊎ ((judged : JudgedIndex) × IsSo judged × HasBegunOf judged)
-
 -- a front of the line of a section that isn't good
-pub begins_bad : {T E : Type 0} (IsSo HasBegunOf : JudgedIndex → Type 0) (old new : Option (List ℕ)) (ended : Result T E)
+pub begins_bad : {T E : Type 0} (texts : Texts) (from : Judging) (section : Option (List ℕ)) (HasBegunOf : JudgedIndex → Type 0)
+    (old new : Option (List ℕ)) (ended : Result T E)
     → ((reason : No) → AppendsFront old new (no_text reason ++ codes "\n") → HasBegunOf (Bad reason))
-    → Keeps old new ⊎ HasBegunLine IsSo old new → OnErr ended (BeginsOf IsSo HasBegunOf old new)
-begins_bad IsSo HasBegunOf old new (Ok answered) of_bad begun = tt
-begins_bad IsSo HasBegunOf old new (Err stop) of_bad (inl kept) = inl kept
-begins_bad IsSo HasBegunOf old new (Err stop) of_bad (inr line) = inr (Bad line.reason, line.is_so, of_bad line.reason line.front)
+    → Keeps old new ⊎ HasBegunLine (IsTrueOf texts from section) old new
+    → OnErr ended (Keeps old new ⊎ IsJudgedSo texts from section HasBegunOf)
+begins_bad texts from section HasBegunOf old new (Ok answered) of_bad begun = tt
+begins_bad texts from section HasBegunOf old new (Err stop) of_bad (inl kept) = inl kept
+begins_bad texts from section HasBegunOf old new (Err stop) of_bad (inr line) =
+    inr (Bad line.reason, line.is_so, of_bad line.reason line.front)
 
 -- ---- questions
 
@@ -82,41 +83,40 @@ good_begun_later tells tells' options (TableByPath false) index old new later be
 good_begun_later tells tells' options Md5 index old new later begun =
     begun_later tells tells' index (listed_files index) old new later begun
 
-judged_begun_later : (tells tells' : List ℕ → FileState → Type 0) (options : Options) (question : Question) (judged : JudgedIndex)
-    (old new : Option (List ℕ)) → TellsNoMore tells tells' → BeginsJudged tells' options question judged old new
-    → BeginsJudged tells options question judged old new
-judged_begun_later tells tells' options question (Good index) old new later begun =
+judged_begun_later : (tells tells' : List ℕ → FileState → Type 0) (options : Options) (question : Question)
+    (old new : Option (List ℕ)) (judged : JudgedIndex) → TellsNoMore tells tells'
+    → BeginsJudged (BeginsGood tells' options question) old new judged → BeginsJudged (BeginsGood tells options question) old new judged
+judged_begun_later tells tells' options question old new (Good index) later begun =
     good_begun_later tells tells' options question index old new later begun
-judged_begun_later tells tells' options question (Bad reason) old new later begun = begun
+judged_begun_later tells tells' options question old new (Bad reason) later begun = begun
 
 -- A front of an answer for a judged section, from a time when less might be told of the files, is one to the question.
 pub question_stopped : {T E : Type 0} (tells tells' : List ℕ → FileState → Type 0) (from : Judging) (question : Question)
-    (old new : Option (List ℕ)) (line general : List ℕ) (section : Option (List ℕ)) (ended : Result T E)
-    → AreTextsOf tells from line general → tells from.section.now (Readable section) → TellsNoMore tells tells'
-    → OnErr ended (BeginsOf (λ judged. IfSome section (λ bytes. IsJudgedIndex line general (options_in from) bytes judged))
-    (λ judged. BeginsJudged tells' (options_in from) question judged old new) old new)
+    (old new : Option (List ℕ)) (texts : Texts) (section : Option (List ℕ)) (ended : Result T E)
+    → AreTextsOf tells from texts.line.items texts.general.items → tells from.section.now (Readable section)
+    → TellsNoMore tells tells'
+    → OnErr ended (Keeps old new ⊎ IsJudgedSo texts from section (BeginsJudged (BeginsGood tells' (options_in from) question) old new))
     → OnErr ended (Keeps old new ⊎ BeginsQuestion tells from question old new)
-question_stopped tells tells' from question old new line general section (Ok answered) texts of_section later begun = tt
-question_stopped tells tells' from question old new line general section (Err stop) texts of_section later (inl kept) = inl kept
-question_stopped tells tells' from question old new line general section (Err stop) texts of_section later (inr begun) =
-    inr (told_of_section tells from (λ judged. BeginsJudged tells (options_in from) question judged old new) line general section texts
-    of_section
-    (begun.0, begun.1, judged_begun_later tells tells' (options_in from) question begun.0 old new later begun.2))
+question_stopped tells tells' from question old new texts section (Ok answered) are_texts of_section later begun = tt
+question_stopped tells tells' from question old new texts section (Err stop) are_texts of_section later (inl kept) = inl kept
+question_stopped tells tells' from question old new texts section (Err stop) are_texts of_section later (inr begun) =
+    inr (told_of_section tells from (BeginsJudged (BeginsGood tells (options_in from) question) old new) texts section are_texts
+    of_section (begun.0, begun.1, judged_begun_later tells tells' (options_in from) question old new begun.0 later begun.2))
 
 -- ---- a section and another file
 
 -- A part of an answer that was written for the bytes of a file was written for that file.
 pub of_file_stopped : {T E : Type 0} (tells : List ℕ → FileState → Type 0) (from : Judging) (file : List ℕ)
-    (HasBegunOf : JudgedIndex → Option (List ℕ) → Type 0) (old new : Option (List ℕ)) (line general : List ℕ)
-    (section text : Option (List ℕ)) (ended : Result T E)
-    → AreTextsOf tells from line general → tells from.section.now (Readable section) → tells file (Readable text)
-    → OnErr ended (BeginsOf (λ judged. IfSome section (λ bytes. IsJudgedIndex line general (options_in from) bytes judged))
-    (λ judged. HasBegunOf judged text) old new)
+    (HasBegunOf : Option (List ℕ) → JudgedIndex → Type 0) (old new : Option (List ℕ)) (texts : Texts)
+    (section bytes : Option (List ℕ)) (ended : Result T E)
+    → AreTextsOf tells from texts.line.items texts.general.items → tells from.section.now (Readable section)
+    → tells file (Readable bytes)
+    → OnErr ended (Keeps old new ⊎ IsJudgedSo texts from section (HasBegunOf bytes))
     → OnErr ended (Keeps old new ⊎ IsOfFile tells from file HasBegunOf)
-of_file_stopped tells from file HasBegunOf old new line general section text (Ok answered) texts of_section of_text begun = tt
-of_file_stopped tells from file HasBegunOf old new line general section text (Err stop) texts of_section of_text (inl kept) = inl kept
-of_file_stopped tells from file HasBegunOf old new line general section text (Err stop) texts of_section of_text (inr begun) =
-    inr (told_of_file tells from file HasBegunOf line general section text texts of_section of_text begun)
+of_file_stopped tells from file HasBegunOf old new texts section bytes (Ok answered) are_texts of_section of_file begun = tt
+of_file_stopped tells from file HasBegunOf old new texts section bytes (Err stop) are_texts of_section of_file (inl kept) = inl kept
+of_file_stopped tells from file HasBegunOf old new texts section bytes (Err stop) are_texts of_section of_file (inr begun) =
+    inr (told_of_file tells from file HasBegunOf texts section bytes are_texts of_section of_file begun)
 
 -- ---- all places
 
@@ -128,7 +128,7 @@ BeginsStretches index table old new = Keeps old new ⊎ ((dead : Option ℕ) (sk
 -- The printing of the places stopped the run.
 pub places_stopped : {R T S E : Type 0} (index : Indexed) (table old new : Option (List ℕ)) (worked : Result R E) (ended : Result T S)
     → OnErr ended (IsErr worked) → OnErr worked (BeginsStretches index table old new)
-    → OnErr ended (Keeps old new ⊎ ((options : Options) → ArePlacesBegun options (Good index) table old new))
+    → OnErr ended (Keeps old new ⊎ ((options : Options) → BeginsGoodFile Places options table index old new))
 places_stopped index table old new worked (Ok told) is begun = tt
 places_stopped index table old new (Ok value) (Err stop) is begun = absurd (false≢true is)
 places_stopped index table old new (Err halt) (Err stop) is (inl kept) = inl kept

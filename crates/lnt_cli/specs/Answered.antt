@@ -21,8 +21,9 @@ use Rattle.lnt_table.specs.AnyVersion.{IsTrueCheck, IsTrueCheckOfSection}
 use Rattle.lnt_answers.specs.Verdicts.{checked_line, checked_status}
 use Rattle.lnt_words.specs.Sizes.{size_bytes}
 use Rattle.lnt_dump.specs.Upgraded.{IsUpgradeTold}
-use Rattle.lnt_cli.specs.Places.{ArePlacesTold}
-use Rattle.lnt_cli.specs.Questions.{AnswersAddressesJudged, AnswersJudged}
+use Rattle.lnt_cli.specs.declared.question.FileQuestion.{FileQuestion}
+use Rattle.lnt_cli.specs.declared.question.FileQuestion.TheVariants.{Lines, Places}
+use Rattle.lnt_cli.specs.Questions.{AnswersGood, AnswersGoodFile, AnswersJudged}
 use Rattle.lnt_cli.specs.Readings.{AnswersReading}
 
 -- the options with which a section is read and judged
@@ -80,26 +81,20 @@ pub record IsOfSection (tells : List ℕ → FileState → Type 0) (from : Judgi
 abbrev pub AnswersQuestion : (List ℕ → FileState → Type 0) → Judging → Question → Option (List ℕ) → Option (List ℕ) → Status
     → Type 0
 AnswersQuestion tells from question old new status =
-    IsOfSection tells from (λ judged. AnswersJudged tells (options_in from) question judged old new status)
+    IsOfSection tells from (AnswersJudged (AnswersGood tells (options_in from) question) old new status)
 
--- The same for a statement about the judgement and the bytes of another file.
+-- The same for a statement about the bytes of another file and the judgement.
 pub record IsOfFile (tells : List ℕ → FileState → Type 0) (from : Judging) (file : List ℕ)
-    (IsTold : JudgedIndex → Option (List ℕ) → Type 0) : Type 0 where
+    (IsTold : Option (List ℕ) → JudgedIndex → Type 0) : Type 0 where
   pub file_bytes : Option (List ℕ)
   pub of_file : tells file (Readable file_bytes)
-  pub so : IsOfSection tells from (λ judged. IsTold judged file_bytes)
+  pub so : IsOfSection tells from (IsTold file_bytes)
 
--- The answers to the positions in the lines of the file with this name were written, or why the section isn't good.
-abbrev pub AnswersAddresses : (List ℕ → FileState → Type 0) → Judging → List ℕ → ℕ → Option (List ℕ) → Option (List ℕ) → Status
+-- The answer to the question about the section and the file with this name was written, or why the section isn't good.
+abbrev pub AnswersFile : (List ℕ → FileState → Type 0) → Judging → List ℕ → FileQuestion → Option (List ℕ) → Option (List ℕ) → Status
     → Type 0
-AnswersAddresses tells from file op old new status =
-    IsOfFile tells from file (λ judged text. AnswersAddressesJudged judged op text old new status)
-
--- The lines of the places at which the table in the file with this name answers otherwise were written, or why the section isn't
--- good.
-abbrev pub AnswersPlaces : (List ℕ → FileState → Type 0) → Judging → List ℕ → Option (List ℕ) → Option (List ℕ) → Status → Type 0
-AnswersPlaces tells from table old new status =
-    IsOfFile tells from table (λ judged text. ArePlacesTold (options_in from) judged text old new status)
+AnswersFile tells from file question old new status =
+    IsOfFile tells from file (λ bytes. AnswersJudged (AnswersGoodFile question (options_in from) bytes) old new status)
 
 -- ---- sections that are read
 
@@ -137,6 +132,6 @@ IsAnswered tells (Read section order reading) old new status = AnswersRead tells
 IsAnswered tells (Upgrade section order size directories) old new status =
     AnswersUpgrade tells section.now order (size_bytes size) (option_copied directories) old new status
 IsAnswered tells (Judge from question) old new status = AnswersQuestion tells from question old new status
-IsAnswered tells (Addresses from file op) old new status = AnswersAddresses tells from file.now op old new status
+IsAnswered tells (Addresses from file op) old new status = AnswersFile tells from file.now (Lines op) old new status
 IsAnswered tells (Check from table false) old new status = AnswersCheck tells from table.now old new status
-IsAnswered tells (Check from table true) old new status = AnswersPlaces tells from table.now old new status
+IsAnswered tells (Check from table true) old new status = AnswersFile tells from table.now Places old new status

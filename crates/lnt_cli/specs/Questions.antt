@@ -1,7 +1,7 @@
--- The answer to a question about a section that was judged.
+-- The answer to a question about a section that was judged, alone or with another file.
 --     tells       what the opener may say of the file with a name
 --     old, new    what the writer of the answer holds before and afterwards
-use Rattle.std.specs.Prelude.{◌≡◌, ℕ, List, ◌++◌, Option, true, false, codes}
+use Rattle.std.specs.Prelude.{◌≡◌, ℕ, List, ◌++◌, Option, IfSome, true, false, codes}
 use Rattle.std.specs.List.{flat_map}
 use Rattle.std.specs.Io.KnownBytes.{Appends}
 use Rattle.lnt_io.specs.Files.{FileState}
@@ -10,7 +10,6 @@ use Rattle.lnt_io.specs.declared.status.Status.TheVariants as ending
 use Rattle.lnt_header.specs.declared.unit_parts.UnitParts.{UnitParts}
 use Rattle.lnt_spans.specs.declared.answer.Version.{Version}
 use Rattle.lnt_spans.specs.declared.position.Position.{Position}
-use Rattle.lnt_lines.specs.declared.no.No.{No}
 use Rattle.lnt_lines.specs.declared.options.Options.{Options}
 use Rattle.lnt_lines.specs.declared.section.JudgedIndex.{JudgedIndex}
 use Rattle.lnt_lines.specs.declared.section.JudgedIndex.TheVariants.{Good, Bad}
@@ -27,6 +26,10 @@ use Rattle.lnt_answers.specs.Lines.{lookup_line}
 use Rattle.lnt_answers.specs.SumLines.{AreSumsTold, listed_files}
 use Rattle.lnt_lines.specs.FaultTexts.{no_text}
 use Rattle.lnt_answers.specs.PathTables.{IsPrintedTable}
+use Rattle.lnt_answers.specs.declared.stretches.Stretches.{Stretches}
+use Rattle.lnt_answers.specs.Stretches.{AreStretchesOf, IsFaultTold, told_status}
+use Rattle.lnt_cli.specs.declared.question.FileQuestion.{FileQuestion}
+use Rattle.lnt_cli.specs.declared.question.FileQuestion.TheVariants.{Lines, Places}
 
 -- It holds for all units of which, with these options, the index may have been made.
 abbrev pub ForUnitsOf : Options → Indexed → (List (ℕ × UnitParts) → Type 0) → Type 0
@@ -61,17 +64,21 @@ AnswersGood tells options (TableByPath true) index old new status = IsPathTableT
 AnswersGood tells options (TableByPath false) index old new status = IsPathTableTold Four options index old new status
 AnswersGood tells options Md5 index old new status = AreSumsTold tells index (listed_files index) old new status
 
--- The line that says why the section isn't good was printed, and nothing else, and the run ends with No.
-abbrev pub IsNoTold : No → Option (List ℕ) → Option (List ℕ) → Status → Type 0
-IsNoTold reason old new status = Appends old new (no_text reason ++ codes "\n") × (status ≡ ending.No)
+-- What is written for a good section with this index and a table: the table's first fault, or all places where the two differ.
+pub record AreTableTold (options : Options) (index : Indexed) (table old new : Option (List ℕ)) (status : Status) : Type 0 where
+  pub told : Stretches
+  pub fault : IsFaultTold told old new
+  pub status_is : status ≡ told_status told
+  pub so : ForUnitsOf options index (λ units. IfSome table
+      (λ text. AreStretchesOf index options.dead options.skip_copies units text old new told))
 
--- The answer for a section with this judgement.
-abbrev pub AnswersJudged : (List ℕ → FileState → Type 0) → Options → Question → JudgedIndex → Option (List ℕ) → Option (List ℕ)
-    → Status → Type 0
-AnswersJudged tells options question (Good index) old new status = AnswersGood tells options question index old new status
-AnswersJudged tells options question (Bad reason) old new status = IsNoTold reason old new status
+-- The answer for a good section with this index and another file, of these bytes.
+abbrev pub AnswersGoodFile : FileQuestion → Options → Option (List ℕ) → Indexed → Option (List ℕ) → Option (List ℕ) → Status → Type 0
+AnswersGoodFile (Lines op) options bytes index old new status = AreAddressesTold index op bytes old new status
+AnswersGoodFile Places options bytes index old new status = AreTableTold options index bytes old new status
 
--- The answer to a text of positions, for a section with this judgement.
-abbrev pub AnswersAddressesJudged : JudgedIndex → ℕ → Option (List ℕ) → Option (List ℕ) → Option (List ℕ) → Status → Type 0
-AnswersAddressesJudged (Good index) op text old new status = AreAddressesTold index op text old new status
-AnswersAddressesJudged (Bad reason) op text old new status = IsNoTold reason old new status
+-- The answer for a section with this judgement: for a good one this, and for another the line that says why it isn't good.
+abbrev pub AnswersJudged : (Indexed → Option (List ℕ) → Option (List ℕ) → Status → Type 0) → Option (List ℕ) → Option (List ℕ) → Status
+    → JudgedIndex → Type 0
+AnswersJudged AnswersOfGood old new status (Good index) = AnswersOfGood index old new status
+AnswersJudged AnswersOfGood old new status (Bad reason) = Appends old new (no_text reason ++ codes "\n") × (status ≡ ending.No)

@@ -1,28 +1,34 @@
 -- The answer of a run to its words. The first word is the program's own name.
 --     tells       what the opener may say of the file with a name, as the run begins
 --     old, new    what the writer of the answer holds before and afterwards
-use Rattle.std.specs.Prelude.{ℕ, List, Option}
+use Rattle.std.specs.Prelude.{◌⊎◌, ℕ, List, Option}
+use Rattle.std.specs.Io.KnownBytes.{Keeps}
 use Rattle.lnt_io.specs.Files.{FileState}
 use Rattle.lnt_io.specs.declared.status.Status.{Status}
-use Rattle.lnt_words.specs.Asking.{IsAskedBy}
+use Rattle.lnt_words.specs.Asking.{AskForNothing, IsAskedBy}
 use Rattle.lnt_words.specs.declared.request.Asked.{Asked}
+use Rattle.lnt_words.specs.declared.request.Request.{Request}
 use Rattle.lnt_cli.specs.Answered.{IsAnswered}
 use Rattle.lnt_cli.specs.Stopped.{IsStopped}
-use Rattle.lnt_cli.specs.Stops.{IsFileIn}
+use Rattle.lnt_cli.specs.Stops.{IsFileIn, NamesOneOf}
+use Rattle.lnt_cli.specs.declared.stop.CliStop.{CliStop}
+use Rattle.lnt_cli.specs.declared.stop.CliStop.TheVariants.{File, Usage}
+
+-- The words ask for a request, and this holds of it.
+abbrev pub AskForOne : List (List ℕ) → (Request → Type 0) → Type 0
+AskForOne words IsSo = (asked : Asked) × IsAskedBy words asked × IsSo asked.request
 
 -- The words ask for a request, and the text that was written and the status are its answer.
-pub record AnswersWords (tells : List ℕ → FileState → Type 0) (words : List (List ℕ)) (old new : Option (List ℕ)) (status : Status)
-    : Type 0 where
-  pub asked : Asked
-  pub is_asked : IsAskedBy words asked
-  pub answered : IsAnswered tells asked.request old new status
-
--- The words ask for a request, its answer was stopped, and no more was written than may be in that case.
-pub record StopsWords (tells : List ℕ → FileState → Type 0) (words : List (List ℕ)) (old new : Option (List ℕ)) : Type 0 where
-  pub asked : Asked
-  pub is_asked : IsAskedBy words asked
-  pub stopped : IsStopped tells asked.request old new
+abbrev pub AnswersWords : (List ℕ → FileState → Type 0) → List (List ℕ) → Option (List ℕ) → Option (List ℕ) → Status → Type 0
+AnswersWords tells words old new status = AskForOne words (λ request. IsAnswered tells request old new status)
 
 -- The words ask for a request, and it names this file.
 abbrev pub NameFile : List (List ℕ) → List ℕ → Type 0
-NameFile words name = (asked : Asked) × IsAskedBy words asked × IsFileIn asked.request name
+NameFile words name = AskForOne words (λ request. IsFileIn request name)
+
+-- Why the run was stopped. With Usage the words ask for nothing, and nothing was written. Otherwise a file that can't be read or is too
+-- long is one that they name; and nothing was written, or no more than may be where the answer to their request is stopped.
+abbrev pub IsStopOf : (List ℕ → FileState → Type 0) → List (List ℕ) → Option (List ℕ) → Option (List ℕ) → CliStop → Type 0
+IsStopOf tells words old new (Usage text) = AskForNothing words × Keeps old new
+IsStopOf tells words old new (File stop) =
+    NamesOneOf (NameFile words) stop × (Keeps old new ⊎ AskForOne words (λ request. IsStopped tells request old new))

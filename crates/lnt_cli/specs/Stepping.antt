@@ -1,18 +1,18 @@
--- What the bodies of this crate say of the work on one file. No public contract speaks of it.
-use Rattle.std.specs.Prelude.{◌≡◌, ℕ, List, string_bytes}
+-- What the bodies of this crate say of their work. No public contract speaks of it.
+use Rattle.std.specs.Prelude.{◌≡◌, ℕ, List, Option, IfSome, string_bytes}
 use Rattle.lnt_io.specs.declared.halt.Halt.{Halt}
 use Rattle.lnt_io.specs.declared.halt.Halt.TheVariants as halt
-use Rattle.lnt_io.specs.declared.status.Status.{Status}
-use Rattle.lnt_io.specs.declared.status.Status.TheVariants as ending
-use Rattle.lnt_answers.specs.Stretches.{told_status}
-use Rattle.lnt_cli.specs.declared.judge.Places.{Places}
-use Rattle.lnt_cli.specs.declared.judge.Places.TheVariants.{Section, Table}
-use Rattle.lnt_cli.specs.declared.stop.CliStop.{CliStop}
-use Rattle.lnt_cli.specs.declared.stop.CliStop.TheVariants.{Read, TooLong, Write, Memory}
+use Rattle.lnt_lines.specs.Drafts.{IsJudgedIndex}
+use Rattle.lnt_lines.specs.declared.section.JudgedIndex.{JudgedIndex}
+use Rattle.lnt_words.specs.declared.request.Judging.{Judging}
+use Rattle.lnt_cli.specs.Answered.{options_in}
+use Rattle.lnt_cli.specs.declared.inputs.Texts.{Texts}
+use Rattle.lnt_cli.specs.declared.stop.FileStop.{FileStop}
+use Rattle.lnt_cli.specs.declared.stop.FileStop.TheVariants.{Read, TooLong, Write, Memory}
 
 -- The stop of a run if the work on the file with this name was stopped. Instead of a stop with the name it may be Memory, since
 -- memory may run out for the copy of the name.
-abbrev pub IsFileStop : Halt → List ℕ → CliStop → Type 0
+abbrev pub IsFileStop : Halt → List ℕ → FileStop → Type 0
 IsFileStop halt.Read name (Read told) = string_bytes told ≡ name
 IsFileStop halt.Read name stop = stop ≡ Memory
 IsFileStop halt.TooLong name (TooLong told) = string_bytes told ≡ name
@@ -21,12 +21,16 @@ IsFileStop halt.Write name stop = stop ≡ Write
 IsFileStop halt.Memory name stop = stop ≡ Memory
 
 -- The file that a stop names is one that failed, or one that was found too long.
-abbrev pub IsOfCause : (List ℕ → Type 0) → (List ℕ → Type 0) → CliStop → Type 0
+abbrev pub IsOfCause : (List ℕ → Type 0) → (List ℕ → Type 0) → FileStop → Type 0
 IsOfCause HasFailed IsLong (Read told) = HasFailed (string_bytes told)
 IsOfCause HasFailed IsLong (TooLong told) = IsLong (string_bytes told)
 IsOfCause HasFailed IsLong _ = Unit {0}
 
--- how a run ends if this was printed for a section and a table
-abbrev pub places_status : Places → Status
-places_status (Section reason) = ending.No
-places_status (Table told) = told_status told
+-- the judgement of a section with these bytes, where they are known, and with these texts
+abbrev pub IsTrueOf : Texts → Judging → Option (List ℕ) → JudgedIndex → Type 0
+IsTrueOf texts from section judged =
+    IfSome section (λ bytes. IsJudgedIndex texts.line.items texts.general.items (options_in from) bytes judged)
+
+-- that judgement, and a statement about it
+abbrev pub IsJudgedSo : Texts → Judging → Option (List ℕ) → (JudgedIndex → Type 0) → Type 0
+IsJudgedSo texts from section IsTold = (judged : JudgedIndex) × IsTrueOf texts from section judged × IsTold judged

@@ -31,6 +31,8 @@ use Rattle.lnt_answers.specs.Stretches.{AreStretchesBegun}
 use Rattle.lnt_io.specs.Files.{AreBytesOf, FileState, Readable}
 use Rattle.lnt_words.specs.Sizes.{size_bytes}
 use Rattle.lnt_dump.specs.Upgraded.{IsUpgradeBegun}
+use Rattle.lnt_cli.specs.declared.question.FileQuestion.{FileQuestion}
+use Rattle.lnt_cli.specs.declared.question.FileQuestion.TheVariants.{Lines, Places}
 use Rattle.lnt_cli.specs.Answered.{AnswersCheck, IsOfFile, IsOfSection, IsTextOf, options_in}
 use Rattle.lnt_cli.specs.Questions.{ForUnitsOf}
 use Rattle.lnt_cli.specs.Readings.{BeginsReading}
@@ -55,34 +57,27 @@ BeginsGood tells options (Table version) index old new =
 BeginsGood tells options (TableByPath true) index old new = BeginsPathTableText Three options index old new
 BeginsGood tells options (TableByPath false) index old new = BeginsPathTableText Four options index old new
 
+-- A prefix of the answer for a good section with this index and another file, of these bytes. Lines that weren't read yet count among
+-- those of that file.
+abbrev pub BeginsGoodFile : FileQuestion → Options → Option (List ℕ) → Indexed → Option (List ℕ) → Option (List ℕ) → Type 0
+BeginsGoodFile (Lines op) options bytes index old new = AreAddressesBegun index op bytes old new
+BeginsGoodFile Places options bytes index old new = ForUnitsOf options index (λ units. IfSome bytes
+    (λ text. AreStretchesBegun index options.dead options.skip_copies units text old new))
+
 -- A prefix of the answer for a section with this judgement.
-abbrev pub BeginsJudged : (List ℕ → FileState → Type 0) → Options → Question → JudgedIndex → Option (List ℕ) → Option (List ℕ)
+abbrev pub BeginsJudged : (Indexed → Option (List ℕ) → Option (List ℕ) → Type 0) → Option (List ℕ) → Option (List ℕ) → JudgedIndex
     → Type 0
-BeginsJudged tells options question (Good index) old new = BeginsGood tells options question index old new
-BeginsJudged tells options question (Bad reason) old new = AppendsFront old new (no_text reason ++ codes "\n")
+BeginsJudged BeginsOfGood old new (Good index) = BeginsOfGood index old new
+BeginsJudged BeginsOfGood old new (Bad reason) = AppendsFront old new (no_text reason ++ codes "\n")
 
 -- The judgement of the section in the named file is true, and a prefix of the answer to the question was written.
 abbrev pub BeginsQuestion : (List ℕ → FileState → Type 0) → Judging → Question → Option (List ℕ) → Option (List ℕ) → Type 0
-BeginsQuestion tells from question old new = IsOfSection tells from (λ judged. BeginsJudged tells (options_in from) question judged old new)
+BeginsQuestion tells from question old new = IsOfSection tells from (BeginsJudged (BeginsGood tells (options_in from) question) old new)
 
--- A prefix of the answers to all lines of a text of positions, for a section with this judgement.
-abbrev pub BeginsAddressesJudged : JudgedIndex → ℕ → Option (List ℕ) → Option (List ℕ) → Option (List ℕ) → Type 0
-BeginsAddressesJudged (Good index) op text old new = AreAddressesBegun index op text old new
-BeginsAddressesJudged (Bad reason) op text old new = AppendsFront old new (no_text reason ++ codes "\n")
-
--- A prefix of the lines of all places at which a table answers otherwise than a section with this judgement.
-abbrev pub ArePlacesBegun : Options → JudgedIndex → Option (List ℕ) → Option (List ℕ) → Option (List ℕ) → Type 0
-ArePlacesBegun options (Good index) table old new = ForUnitsOf options index (λ units. IfSome table
-    (λ text. AreStretchesBegun index options.dead options.skip_copies units text old new))
-ArePlacesBegun options (Bad reason) table old new = AppendsFront old new (no_text reason ++ codes "\n")
-
--- A prefix of the answers to all lines of the file with this name was written. Lines that weren't read yet count among them.
-abbrev pub BeginsAddresses : (List ℕ → FileState → Type 0) → Judging → List ℕ → ℕ → Option (List ℕ) → Option (List ℕ) → Type 0
-BeginsAddresses tells from file op old new = IsOfFile tells from file (λ judged text. BeginsAddressesJudged judged op text old new)
-
--- A prefix of the lines of all places at which the table in the file with this name answers otherwise was written.
-abbrev pub BeginsPlaces : (List ℕ → FileState → Type 0) → Judging → List ℕ → Option (List ℕ) → Option (List ℕ) → Type 0
-BeginsPlaces tells from table old new = IsOfFile tells from table (λ judged text. ArePlacesBegun (options_in from) judged text old new)
+-- The same of the answer to a question about the section and the file with this name.
+abbrev pub BeginsFile : (List ℕ → FileState → Type 0) → Judging → List ℕ → FileQuestion → Option (List ℕ) → Option (List ℕ) → Type 0
+BeginsFile tells from file question old new =
+    IsOfFile tells from file (λ bytes. BeginsJudged (BeginsGoodFile question (options_in from) bytes) old new)
 
 -- ---- sections that are read
 
@@ -111,6 +106,6 @@ IsStopped tells (Read section order reading) old new = Keeps old new ⊎ StopsRe
 IsStopped tells (Upgrade section order size directories) old new =
     Keeps old new ⊎ StopsUpgrade tells section.now order (size_bytes size) (option_copied directories) old new
 IsStopped tells (Judge from question) old new = Keeps old new ⊎ BeginsQuestion tells from question old new
-IsStopped tells (Addresses from file op) old new = Keeps old new ⊎ BeginsAddresses tells from file.now op old new
+IsStopped tells (Addresses from file op) old new = Keeps old new ⊎ BeginsFile tells from file.now (Lines op) old new
 IsStopped tells (Check from table false) old new = Keeps old new ⊎ HasBegun (AnswersCheck tells from table.now old) old new
-IsStopped tells (Check from table true) old new = Keeps old new ⊎ BeginsPlaces tells from table.now old new
+IsStopped tells (Check from table true) old new = Keeps old new ⊎ BeginsFile tells from table.now Places old new

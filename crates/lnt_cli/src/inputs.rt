@@ -1,12 +1,12 @@
 //! The files that a run reads.
-ghost use Rattle.std.specs.Prelude.{◌≡◌, ◌⊎◌, ℕ, List, IfErr, IfOk, IsErr, Ok, OnErr, Some, option_map};
+ghost use Rattle.std.specs.Prelude.{◌≡◌, IfErr, IfOk, IsErr, Ok, OnErr, Some, option_map};
 ghost use Rattle.std.specs.Option.{option_copied};
 ghost use Rattle.lnt_io.specs.Files.{AreBytesOf, Readable, TellsNoMore};
 ghost use Rattle.lnt_cli.specs.Answered.{AreStringsOf, AreTextsOf, IsTextOf};
 ghost use Rattle.lnt_cli.specs.Stepping.{IsFileStop};
-ghost use Rattle.lnt_cli.specs.Stops.{IsFileOf, IsUsage, TellsFile};
+ghost use Rattle.lnt_cli.specs.Stops.{IsFileOf, IsFileOfBoth, NamesOneOf};
 
-use crate::stop::CliStop;
+use crate::stop::FileStop;
 use lnt_io::{Counted, Halt, Opener, Source, bytes_of_file, open_file, read_all, source_of};
 use lnt_notes::{Seen, WatchedReader};
 use lnt_wire::Strings;
@@ -16,7 +16,10 @@ use std::cell::Cell;
 use std::io::{BufReader, Read};
 
 // A section, read from its file. `WatchedReader` keeps its first bytes and counts all of them, for notes.
-pub(crate) type Section<'c, R> = Counted<BufReader<WatchedReader<'c, R>>>;
+pub(crate) type Section<'c, R> = Blocks<WatchedReader<'c, R>>;
+
+// A file, read block by block.
+pub(crate) type Blocks<R> = Counted<BufReader<R>>;
 
 // The bytes of both string sections.
 #[derive(Drop)]
@@ -38,16 +41,15 @@ impl Texts {
 }
 
 // The result of the work on a file. A stop has the file's name.
-pub(crate) fn of_file<T>(alloc: Global, name: &str, ended: Result<T, Halt>) -> Result<T, CliStop>
+pub(crate) fn of_file<T>(alloc: Global, name: &str, ended: Result<T, Halt>) -> Result<T, FileStop>
     ensures ok { IfOk result (λ value. ended ≡ Ok value) }
     ensures told { IfErr result (λ stop. IfErr ended (λ halt. IsFileStop halt name.now stop)) }
     ensures err { OnErr result (IsErr ended) }
-    ensures named { IfErr result (λ stop. (told : List ℕ) → TellsFile stop told → name.now ≡ told) }
-    ensures usage { IfErr result (λ stop. IsUsage stop → ⊥) }
+    ensures named { IfErr result (NamesOneOf (λ told. name.now ≡ told)) }
 {
     match ended {
         Ok(value) => Ok(value),
-        Err(halt) => Err(CliStop::of_file(alloc, name, halt)),
+        Err(halt) => Err(FileStop::of_file(alloc, name, halt)),
     }
 }
 
@@ -58,10 +60,8 @@ pub(crate) fn open_section<'c, O: Opener>(
     name: &str,
     seen: &'c Cell<Seen>,
 ) -> Result<Section<'c, O::Reader>, Halt>
-    ensures failures { IfOk result (λ source.
-        ⟦<Counted<BufReader<WatchedReader<'c, O::Reader>>> as Source>⟧.failures source ≡ 0) }
-    ensures told { IfOk result (λ source.
-        O.tells opener.old name.now (Readable (⟦<Counted<BufReader<WatchedReader<'c, O::Reader>>> as Source>⟧.remaining source))) }
+    ensures failures { IfOk result (λ source. ⟦<Section<'c, O::Reader> as Source>⟧.failures source ≡ 0) }
+    ensures told { IfOk result (λ source. O.tells opener.old name.now (Readable (⟦<Section<'c, O::Reader> as Source>⟧.remaining source))) }
     ensures later { TellsNoMore (O.tells opener.old) (O.tells opener.new) }
 {
     match opener.reader_of(name) {
@@ -83,37 +83,19 @@ pub(crate) fn open_judged<'c, O: Opener>(
     opener: &mut O,
     from: &Judging<'_>,
     seen: &'c Cell<Seen>,
-) -> Result<Opened<Section<'c, O::Reader>>, CliStop>
-    ensures usage { IfErr result (λ stop. IsUsage stop → ⊥) }
-    ensures named { IfErr result (λ stop. (name : List ℕ) → TellsFile stop name → IsFileOf from.now name) }
+) -> Result<Opened<Section<'c, O::Reader>>, FileStop>
+    ensures named { IfErr result (NamesOneOf (IsFileOf from.now)) }
     ensures texts { IfOk result (λ opened.
         AreTextsOf (O.tells opener.old) from.now opened.texts.line.items opened.texts.general.items) }
-    ensures failures { IfOk result (λ opened.
-        ⟦<Counted<BufReader<WatchedReader<'c, O::Reader>>> as Source>⟧.failures opened.section ≡ 0) }
+    ensures failures { IfOk result (λ opened. ⟦<Section<'c, O::Reader> as Source>⟧.failures opened.section ≡ 0) }
     ensures told { IfOk result (λ opened. O.tells opener.old from.now.section.now
-        (Readable (⟦<Counted<BufReader<WatchedReader<'c, O::Reader>>> as Source>⟧.remaining opened.section))) }
+        (Readable (⟦<Section<'c, O::Reader> as Source>⟧.remaining opened.section))) }
     ensures later { TellsNoMore (O.tells opener.old) (O.tells opener.new) }
 {
     let texts = read_texts(alloc, opener, from)?;
     let opened = open_section(alloc, opener, from.section, seen);
     let section = of_file(alloc, from.section, opened)?;
     Ok(Opened { texts, section })
-}
-
-// Opens the file with this name.
-pub(crate) fn open<O: Opener>(
-    alloc: Global,
-    opener: &mut O,
-    file: &str,
-) -> Result<Counted<BufReader<O::Reader>>, CliStop>
-    ensures usage { IfErr result (λ stop. IsUsage stop → ⊥) }
-    ensures named { IfErr result (λ stop. (name : List ℕ) → TellsFile stop name → file.now ≡ name) }
-    ensures failures { IfOk result (λ source. ⟦<Counted<BufReader<O::Reader>> as Source>⟧.failures source ≡ 0) }
-    ensures told { IfOk result (λ source.
-        O.tells opener.old file.now (Readable (⟦<Counted<BufReader<O::Reader>> as Source>⟧.remaining source))) }
-    ensures later { TellsNoMore (O.tells opener.old) (O.tells opener.new) }
-{
-    of_file(alloc, file, open_file(alloc, opener, file))
 }
 
 // The open files of a section that is to be judged, and another open file.
@@ -132,21 +114,20 @@ pub(crate) fn open_both<'c, O: Opener>(
     from: &Judging<'_>,
     file: &str,
     seen: &'c Cell<Seen>,
-) -> Result<OpenedBoth<Section<'c, O::Reader>, Counted<BufReader<O::Reader>>>, CliStop>
-    ensures usage { IfErr result (λ stop. IsUsage stop → ⊥) }
-    ensures named { IfErr result (λ stop. (name : List ℕ) → TellsFile stop name → IsFileOf from.now name ⊎ (file.now ≡ name)) }
+) -> Result<OpenedBoth<Section<'c, O::Reader>, Blocks<O::Reader>>, FileStop>
+    ensures named { IfErr result (NamesOneOf (IsFileOfBoth from.now file.now)) }
     ensures texts { IfOk result (λ opened.
         AreTextsOf (O.tells opener.old) from.now opened.texts.line.items opened.texts.general.items) }
-    ensures section_fails { IfOk result (λ opened.
-        ⟦<Counted<BufReader<WatchedReader<'c, O::Reader>>> as Source>⟧.failures opened.section ≡ 0) }
+    ensures section_fails { IfOk result (λ opened. ⟦<Section<'c, O::Reader> as Source>⟧.failures opened.section ≡ 0) }
     ensures section_told { IfOk result (λ opened. O.tells opener.old from.now.section.now
-        (Readable (⟦<Counted<BufReader<WatchedReader<'c, O::Reader>>> as Source>⟧.remaining opened.section))) }
-    ensures file_fails { IfOk result (λ opened. ⟦<Counted<BufReader<O::Reader>> as Source>⟧.failures opened.file ≡ 0) }
+        (Readable (⟦<Section<'c, O::Reader> as Source>⟧.remaining opened.section))) }
+    ensures file_fails { IfOk result (λ opened. ⟦<Blocks<O::Reader> as Source>⟧.failures opened.file ≡ 0) }
     ensures file_told { IfOk result (λ opened.
-        O.tells opener.old file.now (Readable (⟦<Counted<BufReader<O::Reader>> as Source>⟧.remaining opened.file))) }
+        O.tells opener.old file.now (Readable (⟦<Blocks<O::Reader> as Source>⟧.remaining opened.file))) }
 {
     let judged = open_judged(alloc, opener, from, seen)?;
-    let file = open(alloc, opener, file)?;
+    let opened = open_file(alloc, opener, file);
+    let file = of_file(alloc, file, opened)?;
     Ok(OpenedBoth {
         texts: judged.texts,
         section: judged.section,
@@ -173,9 +154,8 @@ pub(crate) fn read_named<O: Opener>(
     alloc: Global,
     opener: &mut O,
     file: Option<&str>,
-) -> Result<Option<Vec<u8>>, CliStop>
-    ensures usage { IfErr result (λ stop. IsUsage stop → ⊥) }
-    ensures named { IfErr result (λ stop. (name : List ℕ) → TellsFile stop name → option_copied file.entry ≡ Some name) }
+) -> Result<Option<Vec<u8>>, FileStop>
+    ensures named { IfErr result (NamesOneOf (λ name. option_copied file.entry ≡ Some name)) }
     ensures text { IfOk result (λ text.
         IsTextOf (O.tells opener.old) (option_copied file.entry) (option_map (λ bytes. bytes.items) text)) }
 {
@@ -190,9 +170,8 @@ pub(crate) fn read_texts<O: Opener>(
     alloc: Global,
     opener: &mut O,
     from: &Judging<'_>,
-) -> Result<Texts, CliStop>
-    ensures usage { IfErr result (λ stop. IsUsage stop → ⊥) }
-    ensures named { IfErr result (λ stop. (name : List ℕ) → TellsFile stop name → IsFileOf from.now name) }
+) -> Result<Texts, FileStop>
+    ensures named { IfErr result (NamesOneOf (IsFileOf from.now)) }
     ensures texts { IfOk result (λ texts. AreTextsOf (O.tells opener.old) from.now texts.line.items texts.general.items) }
     ensures later { TellsNoMore (O.tells opener.old) (O.tells opener.new) }
 {
@@ -206,9 +185,8 @@ fn read_strings<O: Opener>(
     alloc: Global,
     opener: &mut O,
     file: Option<&str>,
-) -> Result<Vec<u8>, CliStop>
-    ensures usage { IfErr result (λ stop. IsUsage stop → ⊥) }
-    ensures named { IfErr result (λ stop. (name : List ℕ) → TellsFile stop name → option_copied file.entry ≡ Some name) }
+) -> Result<Vec<u8>, FileStop>
+    ensures named { IfErr result (NamesOneOf (λ name. option_copied file.entry ≡ Some name)) }
     ensures strings { IfOk result (λ bytes. AreStringsOf (O.tells opener.old) (option_copied file.entry) bytes.items) }
     ensures later { TellsNoMore (O.tells opener.old) (O.tells opener.new) }
 {

@@ -6,8 +6,9 @@
 //! already.
 #![tactic(auto)]
 
+mod check;
 mod inputs;
-mod judge;
+mod notes;
 mod program;
 mod question;
 mod session;
@@ -16,7 +17,7 @@ mod stop;
 // Running the command.
 pub use lnt_words::{Asked, WordsStop};
 pub use program::{answer, run, run_with_notes};
-pub use stop::CliStop;
+pub use stop::{CliStop, FileStop};
 
 // Files by their names, and how a run ends.
 pub use lnt_io::{Halt, Opener, Status};

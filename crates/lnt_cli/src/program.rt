@@ -1,14 +1,12 @@
 //! One run of the command.
-ghost use Rattle.std.specs.Prelude.{◌⊎◌, ℕ, List, map, string_bytes, IfErr, IfOk, OnErr};
-ghost use Rattle.std.specs.Io.KnownBytes.{Keeps};
+ghost use Rattle.std.specs.Prelude.{map, string_bytes, IfErr, IfOk, OnErr};
 ghost use Rattle.lnt_cli.specs.Answered.{IsAnswered};
-ghost use Rattle.lnt_cli.specs.Runs.{AnswersWords, NameFile, StopsWords};
+ghost use Rattle.lnt_cli.specs.Runs.{AnswersWords, IsStopOf};
 ghost use Rattle.lnt_cli.specs.Stopped.{IsStopped};
-ghost use Rattle.lnt_cli.specs.Stops.{IsFileIn, IsUsage, TellsFile};
-ghost use Rattle.lnt_words.specs.Asking.{AskForNothing};
+ghost use Rattle.lnt_cli.specs.Stops.{IsFileIn, NamesOneOf};
 
 use crate::session::Session;
-use crate::stop::CliStop;
+use crate::stop::{CliStop, FileStop};
 use lnt_io::{Opener, Status};
 use lnt_notes::print_note;
 use lnt_text::Note;
@@ -18,11 +16,12 @@ use std::io::{self, Write};
 
 /// Runs the command that the words give, and writes its answer to `out`. The first word is the program's own name.
 ///
-/// `out` isn't flushed, except after each answered block of lines of a file of addresses. A run stops with `Usage` only if the
-/// words ask for nothing (`AskForNothing`), before a file is opened and with nothing written; with `Read` or `TooLong` for a
-/// file that the words name (`NameFile`); with `Write` if `out` failed, after a prefix of the text; and with `Memory`.
-/// Otherwise the words ask for a request, by `lnt_words::request_of`, and it is answered as by [`answer`] (`AnswersWords`).
-/// If that stops, what [`answer`] states was written (`StopsWords`).
+/// The words ask for a request, by `lnt_words::request_of`, and it is answered as by [`answer`] (`AnswersWords`). `out` isn't
+/// flushed, except after each answered block of lines of a file of addresses.
+///
+/// A run stops with `Usage` only if the words ask for nothing (`AskForNothing`), before a file is opened and with nothing
+/// written; with `Read` or `TooLong` for a file that the words name (`NameFile`); with `Write` if `out` failed, after a prefix
+/// of the text; and with `Memory` (`IsStopOf`). What [`answer`] states was written if it stops.
 ///
 /// Advice for a person is written to `notes`, a line for each note, to be shown after the answer; nothing if the words ask for
 /// no notes. A run doesn't stop if `notes` fails.
@@ -33,13 +32,10 @@ pub fn run_with_notes<O: Opener, W: Write, N: Write>(
     out: &mut W,
     notes: &mut N,
 ) -> Result<Status, CliStop>
-    ensures usage { IfErr result (λ stop. IsUsage stop → AskForNothing (map string_bytes words.items)
-        × Keeps (W.contents out.old) (W.contents out.new)) }
-    ensures named { IfErr result (λ stop. (name : List ℕ) → TellsFile stop name → NameFile (map string_bytes words.items) name) }
-    ensures answer { IfOk result (λ status. AnswersWords (O.tells opener.old) (map string_bytes words.items)
-        (W.contents out.old) (W.contents out.new) status) }
-    ensures stopped { OnErr result (Keeps (W.contents out.old) (W.contents out.new)
-        ⊎ StopsWords (O.tells opener.old) (map string_bytes words.items) (W.contents out.old) (W.contents out.new)) }
+    ensures answer { IfOk result (AnswersWords (O.tells opener.old) (map string_bytes words.items)
+        (W.contents out.old) (W.contents out.new)) }
+    ensures stop { IfErr result (IsStopOf (O.tells opener.old) (map string_bytes words.items)
+        (W.contents out.old) (W.contents out.new)) }
 {
     let asked = match request_of(alloc, words.as_slice()) {
         Ok(asked) => asked,
@@ -48,7 +44,7 @@ pub fn run_with_notes<O: Opener, W: Write, N: Write>(
             return Err(CliStop::from(stop));
         }
     };
-    answer(alloc, &asked, opener, out, notes)
+    answer(alloc, &asked, opener, out, notes).map_err(CliStop::File)
 }
 
 /// Runs the command as [`run_with_notes`] does, and drops its notes.
@@ -58,13 +54,10 @@ pub fn run<O: Opener, W: Write>(
     opener: &mut O,
     out: &mut W,
 ) -> Result<Status, CliStop>
-    ensures usage { IfErr result (λ stop. IsUsage stop → AskForNothing (map string_bytes words.items)
-        × Keeps (W.contents out.old) (W.contents out.new)) }
-    ensures named { IfErr result (λ stop. (name : List ℕ) → TellsFile stop name → NameFile (map string_bytes words.items) name) }
-    ensures answer { IfOk result (λ status. AnswersWords (O.tells opener.old) (map string_bytes words.items)
-        (W.contents out.old) (W.contents out.new) status) }
-    ensures stopped { OnErr result (Keeps (W.contents out.old) (W.contents out.new)
-        ⊎ StopsWords (O.tells opener.old) (map string_bytes words.items) (W.contents out.old) (W.contents out.new)) }
+    ensures answer { IfOk result (AnswersWords (O.tells opener.old) (map string_bytes words.items)
+        (W.contents out.old) (W.contents out.new)) }
+    ensures stop { IfErr result (IsStopOf (O.tells opener.old) (map string_bytes words.items)
+        (W.contents out.old) (W.contents out.new)) }
 {
     run_with_notes(alloc, words, opener, out, &mut io::sink())
 }
@@ -74,25 +67,24 @@ pub fn run<O: Opener, W: Write>(
 /// For a check of a table, one line is written, and nothing else: `yes`, if all that `check_any` of `lnt_table` states for a
 /// yes is true of the bytes that the opener gives for the files; or the first thing that is wrong, which is true of these
 /// bytes (`AnswersCheck`). It returns `Done` exactly if that line is `yes`, and otherwise `No`. For all places at which a table
-/// answers otherwise, a line is written for each of them, or `yes` if there is none (`AnswersPlaces`).
+/// answers otherwise, a line is written for each of them, or `yes` if there is none (`AnswersFile`).
 ///
 /// For a question about a section that isn't good, the line of a true reason is written, and it returns `No`; for one about a
 /// good section, what the section's rows and headers say (`AnswersQuestion`). For a conversion, the converted section is
 /// written, or the line that says why there is none; for a list of units, the lines of the section's frames and of its first
 /// fault; for a dump, those of its units and of its first fault (`AnswersRead`). For the lines of a file, a line is written for
-/// each of them (`AnswersAddresses`).
+/// each of them (`AnswersFile`).
 ///
-/// If it stops, a prefix of an answer has been written, and nothing else (`IsStopped`). It stops as `run` does, with the name
-/// of a file that the request has, and never with `Usage`.
+/// If it stops, a prefix of an answer has been written, and nothing else (`IsStopped`). It stops with `Read` or `TooLong` for a
+/// file that the request names (`IsFileIn`); with `Write` if `out` failed; and with `Memory`.
 pub fn answer<O: Opener, W: Write, N: Write>(
     alloc: Global,
     asked: &Asked<'_>,
     opener: &mut O,
     out: &mut W,
     notes: &mut N,
-) -> Result<Status, CliStop>
-    ensures usage { IfErr result (λ stop. IsUsage stop → ⊥) }
-    ensures named { IfErr result (λ stop. (name : List ℕ) → TellsFile stop name → IsFileIn asked.now.request name) }
+) -> Result<Status, FileStop>
+    ensures named { IfErr result (NamesOneOf (IsFileIn asked.now.request)) }
     ensures answer { IfOk result (λ status.
         IsAnswered (O.tells opener.old) asked.now.request (W.contents out.old) (W.contents out.new) status) }
     ensures stopped { OnErr result (IsStopped (O.tells opener.old) asked.now.request (W.contents out.old) (W.contents out.new)) }
@@ -104,7 +96,11 @@ pub fn answer<O: Opener, W: Write, N: Write>(
         out,
         notes,
     };
-    session.answer(&asked.request)
+    let ended = session.answer(&asked.request);
+    if let Err(FileStop::Read(_)) = &ended {
+        session.tell_reason();
+    }
+    ended
 }
 
 // Writes a note that says what a bad word has to be, unless notes are left out.

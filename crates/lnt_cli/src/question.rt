@@ -1,26 +1,24 @@
-//! Questions about a good section.
-ghost use Rattle.std.specs.Prelude.{◌≡◌, ◌-◌, ◌^◌, ◌<◌, ◌⊎◌, ℕ, List, IfErr, IfOk, IfSome, OnErr};
+//! Questions about a section that is judged, alone or with another file.
+ghost use Rattle.std.specs.Prelude.{◌≡◌, ◌-◌, ◌^◌, ◌<◌, ◌⊎◌, IfErr, IfOk, OnErr};
 ghost use Rattle.std.specs.Io.KnownBytes.{Keeps};
-ghost use Rattle.lnt_answers.specs.AddressLines.{AreAddressesBegun, AreAddressesTold};
 ghost use Rattle.lnt_answers.specs.Lines.{HasBegunLine, IsIndexGiven, IsReasonTold};
-ghost use Rattle.lnt_cli.specs.Answered.{AnswersAddresses, AnswersQuestion, options_in};
-ghost use Rattle.lnt_cli.specs.Questions.{AnswersAddressesJudged, AnswersGood, AnswersJudged};
-ghost use Rattle.lnt_cli.specs.Stopped.{BeginsAddresses, BeginsAddressesJudged, BeginsGood, BeginsJudged, BeginsQuestion};
-ghost use Rattle.lnt_cli.specs.Stops.{IsFileOf, IsUsage, TellsFile};
-ghost use Rattle.lnt_lines.specs.Drafts.{IsJudgedIndex};
+ghost use Rattle.lnt_cli.specs.Answered.{AnswersFile, AnswersQuestion, options_in};
+ghost use Rattle.lnt_cli.specs.Questions.{AnswersGood, AnswersGoodFile, AnswersJudged};
+ghost use Rattle.lnt_cli.specs.Stepping.{IsJudgedSo, IsTrueOf};
+ghost use Rattle.lnt_cli.specs.Stopped.{BeginsFile, BeginsGood, BeginsGoodFile, BeginsJudged, BeginsQuestion};
+ghost use Rattle.lnt_cli.specs.Stops.{IsFileOf, IsFileOfBoth, NamesOneOf};
 ghost use Rattle.lnt_lines.specs.declared.options.Options.{Options as OptionsSpec};
-ghost use Rattle.lnt_lines.specs.declared.section.JudgedIndex.{JudgedIndex};
 
 use crate::inputs::{Opened, OpenedBoth, Texts, of_file, open_both, open_judged};
-use crate::judge::options_of;
+use crate::notes::{Answered, Occasion};
 use crate::session::Session;
-use crate::stop::CliStop;
+use crate::stop::FileStop;
 use lnt_answers::{
     judge_section, lists_sums, print_addresses, print_files, print_lookups, print_path_table,
-    print_sums, print_table,
+    print_stretches, print_sums, print_table,
 };
 use lnt_io::{Halt, Opener, Source, Status, write_whole};
-use lnt_lines::{Index, JudgedIndex, No};
+use lnt_lines::{Index, JudgedIndex, Options};
 use lnt_notes::{Hints, Seen, hints_of};
 use lnt_paths::PathVersion;
 use lnt_words::{Judging, Question};
@@ -28,18 +26,13 @@ use std::alloc::Global;
 use std::cell::Cell;
 use std::io::Write;
 
-// What the notes depend on: the hints of a good section, or why the section isn't good.
+// What is asked about a section and another file.
 #[derive(Clone, Copy)]
-enum Occasion {
-    Good(Hints),
-    Bad(No),
-}
-
-// The status of an answered question, and what the notes depend on.
-#[derive(Clone, Copy)]
-struct Answered {
-    status: Status,
-    occasion: Occasion,
+pub(crate) enum FileQuestion {
+    // The answers to the file's lines. This is the op index of a line that has none.
+    Lines(u64),
+    // All places at which the table in the file answers otherwise than the section.
+    Places,
 }
 
 impl<O: Opener, W: Write, N: Write> Session<'_, '_, '_, O, W, N> {
@@ -48,9 +41,8 @@ impl<O: Opener, W: Write, N: Write> Session<'_, '_, '_, O, W, N> {
         &mut self,
         from: &Judging<'_>,
         question: &Question,
-    ) -> Result<Status, CliStop>
-        ensures usage { IfErr result (λ stop. IsUsage stop → ⊥) }
-        ensures named { IfErr result (λ stop. (name : List ℕ) → TellsFile stop name → IsFileOf from.now name) }
+    ) -> Result<Status, FileStop>
+        ensures named { IfErr result (NamesOneOf (IsFileOf from.now)) }
         ensures answer { IfOk result (λ status. AnswersQuestion (O.tells self.old.opener.now) from.now question.now
             (W.contents self.old.out.now) (W.contents self.new.out.now) status) }
         ensures stopped { OnErr result (Keeps (W.contents self.old.out.now) (W.contents self.new.out.now)
@@ -60,53 +52,51 @@ impl<O: Opener, W: Write, N: Write> Session<'_, '_, '_, O, W, N> {
     {
         let seen = Cell::new(Seen::nothing());
         let answered = answer_alone(self.alloc, from, question, self.opener, &seen, self.out)?;
-        self.tell_answered(&answered, &seen.get(), from);
+        self.tell(&answered, &seen.get(), from);
         Ok(answered.status)
     }
 
-    // Answers the lines of the file with this name, or prints the line that says why the section isn't good.
-    pub(crate) fn answer_addresses(
+    // Answers a question about a good section and the file with this name, or prints the line that says why the section isn't
+    // good.
+    pub(crate) fn answer_file(
         &mut self,
         from: &Judging<'_>,
         file: &str,
-        op: u64,
-    ) -> Result<Status, CliStop>
-        ensures usage { IfErr result (λ stop. IsUsage stop → ⊥) }
-        ensures named { IfErr result (λ stop. (name : List ℕ) → TellsFile stop name → IsFileOf from.now name ⊎ (file.now ≡ name)) }
-        ensures answer { IfOk result (λ status. AnswersAddresses (O.tells self.old.opener.now) from.now file.now op
-            (W.contents self.old.out.now) (W.contents self.new.out.now) status) }
+        question: FileQuestion,
+    ) -> Result<Status, FileStop>
+        ensures named { IfErr result (NamesOneOf (IsFileOfBoth from.now file.now)) }
+        ensures answer { IfOk result (AnswersFile (O.tells self.old.opener.now) from.now file.now question
+            (W.contents self.old.out.now) (W.contents self.new.out.now)) }
         ensures stopped { OnErr result (Keeps (W.contents self.old.out.now) (W.contents self.new.out.now)
-            ⊎ BeginsAddresses (O.tells self.old.opener.now) from.now file.now op (W.contents self.old.out.now)
+            ⊎ BeginsFile (O.tells self.old.opener.now) from.now file.now question (W.contents self.old.out.now)
             (W.contents self.new.out.now)) }
         ensures same_reference { self.new.out.ghost_name ≡ self.old.out.ghost_name }
     {
         let seen = Cell::new(Seen::nothing());
-        let answered = answer_lines(self.alloc, from, file, op, self.opener, &seen, self.out)?;
-        self.tell_answered(&answered, &seen.get(), from);
+        let answered = answer_both(
+            self.alloc,
+            from,
+            file,
+            question,
+            self.opener,
+            &seen,
+            self.out,
+        )?;
+        self.tell(&answered, &seen.get(), from);
         Ok(answered.status)
-    }
-
-    fn tell_answered(&mut self, answered: &Answered, seen: &Seen, from: &Judging<'_>)
-        ensures { self.new.out ≡ self.old.out }
-    {
-        match &answered.occasion {
-            Occasion::Good(hints) => self.tell_good(hints, from),
-            Occasion::Bad(no) => self.tell_bad(no, seen, from),
-        }
     }
 }
 
 // Answers a question about a section. `seen` keeps what notes need of the section's bytes.
-fn answer_alone<O: Opener, W: Write>(
+fn answer_alone<'t, O: Opener, W: Write>(
     alloc: Global,
     from: &Judging<'_>,
     question: &Question,
     opener: &mut O,
     seen: &Cell<Seen>,
     out: &mut W,
-) -> Result<Answered, CliStop>
-    ensures usage { IfErr result (λ stop. IsUsage stop → ⊥) }
-    ensures named { IfErr result (λ stop. (name : List ℕ) → TellsFile stop name → IsFileOf from.now name) }
+) -> Result<Answered<'t>, FileStop>
+    ensures named { IfErr result (NamesOneOf (IsFileOf from.now)) }
     ensures answer { IfOk result (λ answered. AnswersQuestion (O.tells opener.old) from.now question.now
         (W.contents out.old) (W.contents out.new) answered.status) }
     ensures stopped { OnErr result (Keeps (W.contents out.old) (W.contents out.new)
@@ -117,44 +107,40 @@ fn answer_alone<O: Opener, W: Write>(
 }
 
 // Answers a question about a section whose files are open.
-fn answer_opened<S: Source, O: Opener, W: Write>(
+fn answer_opened<'t, S: Source, O: Opener, W: Write>(
     alloc: Global,
     from: &Judging<'_>,
     question: &Question,
     files: &mut Opened<S>,
     opener: &mut O,
     out: &mut W,
-) -> Result<Answered, CliStop>
+) -> Result<Answered<'t>, FileStop>
     requires { S.failures files.old.section < 2 ^ 64 - 1 }
-    ensures usage { IfErr result (λ stop. IsUsage stop → ⊥) }
-    ensures named { IfErr result (λ stop. (name : List ℕ) → TellsFile stop name → IsFileOf from.now name) }
-    ensures answer { IfOk result (λ answered. (judged : JudgedIndex)
-        × IfSome (S.remaining files.old.section) (λ bytes.
-        IsJudgedIndex files.old.texts.line.items files.old.texts.general.items (options_in from.now) bytes judged)
-        × AnswersJudged (O.tells opener.old) (options_in from.now) question.now judged (W.contents out.old) (W.contents out.new)
-        answered.status) }
-    ensures stopped { OnErr result (Keeps (W.contents out.old) (W.contents out.new) ⊎ ((judged : JudgedIndex)
-        × IfSome (S.remaining files.old.section) (λ bytes.
-        IsJudgedIndex files.old.texts.line.items files.old.texts.general.items (options_in from.now) bytes judged)
-        × BeginsJudged (O.tells opener.old) (options_in from.now) question.now judged (W.contents out.old) (W.contents out.new))) }
+    ensures named { IfErr result (NamesOneOf (IsFileOf from.now)) }
+    ensures answer { IfOk result (λ answered. IsJudgedSo files.old.texts from.now (S.remaining files.old.section)
+        (AnswersJudged (AnswersGood (O.tells opener.old) (options_in from.now) question.now)
+        (W.contents out.old) (W.contents out.new) answered.status)) }
+    ensures stopped { OnErr result (Keeps (W.contents out.old) (W.contents out.new)
+        ⊎ IsJudgedSo files.old.texts from.now (S.remaining files.old.section)
+        (BeginsJudged (BeginsGood (O.tells opener.old) (options_in from.now) question.now)
+        (W.contents out.old) (W.contents out.new))) }
 {
     match judge(alloc, &mut files.section, &files.texts, from, out)? {
         JudgedIndex::Good(index) => answer_good(alloc, from.section, &index, question, opener, out),
-        JudgedIndex::Bad(no) => Ok(refused(no)),
+        JudgedIndex::Bad(no) => Ok(Answered::no(Occasion::Bad(no))),
     }
 }
 
 // Answers a question about a good section, whose file has this name.
-fn answer_good<O: Opener, W: Write>(
+fn answer_good<'t, O: Opener, W: Write>(
     alloc: Global,
     section: &str,
     index: &Index<'_>,
     question: &Question,
     opener: &mut O,
     out: &mut W,
-) -> Result<Answered, CliStop>
-    ensures usage { IfErr result (λ stop. IsUsage stop → ⊥) }
-    ensures named { IfErr result (λ stop. (name : List ℕ) → TellsFile stop name → section.now ≡ name) }
+) -> Result<Answered<'t>, FileStop>
+    ensures named { IfErr result (NamesOneOf (λ name. section.now ≡ name)) }
     ensures answer { IfOk result (λ answered. (options : OptionsSpec)
         → AnswersGood (O.tells opener.old) options question.now index.now (W.contents out.old) (W.contents out.new) answered.status) }
     ensures stopped { OnErr result ((options : OptionsSpec)
@@ -166,110 +152,115 @@ fn answer_good<O: Opener, W: Write>(
     Ok(Answered { status, occasion })
 }
 
-// Answers the lines of a file, which is opened before the section is judged.
-fn answer_lines<O: Opener, W: Write>(
+// Answers a question about a section and the file with this name, which is opened before the section is judged. `seen` keeps
+// what notes need of the section's bytes.
+fn answer_both<'f, O: Opener, W: Write>(
     alloc: Global,
     from: &Judging<'_>,
-    file: &str,
-    op: u64,
+    file: &'f str,
+    question: FileQuestion,
     opener: &mut O,
     seen: &Cell<Seen>,
     out: &mut W,
-) -> Result<Answered, CliStop>
-    ensures usage { IfErr result (λ stop. IsUsage stop → ⊥) }
-    ensures named { IfErr result (λ stop. (name : List ℕ) → TellsFile stop name → IsFileOf from.now name ⊎ (file.now ≡ name)) }
-    ensures answer { IfOk result (λ answered. AnswersAddresses (O.tells opener.old) from.now file.now op
+) -> Result<Answered<'f>, FileStop>
+    ensures named { IfErr result (NamesOneOf (IsFileOfBoth from.now file.now)) }
+    ensures answer { IfOk result (λ answered. AnswersFile (O.tells opener.old) from.now file.now question
         (W.contents out.old) (W.contents out.new) answered.status) }
     ensures stopped { OnErr result (Keeps (W.contents out.old) (W.contents out.new)
-        ⊎ BeginsAddresses (O.tells opener.old) from.now file.now op (W.contents out.old) (W.contents out.new)) }
+        ⊎ BeginsFile (O.tells opener.old) from.now file.now question (W.contents out.old) (W.contents out.new)) }
 {
     let mut files = open_both(alloc, opener, from, file, seen)?;
-    answer_lines_of(alloc, from, file, op, &mut files, out)
+    answer_both_of(alloc, from, file, question, &mut files, out)
 }
 
-// Answers the lines of the file with this name. That file and the section's files are open.
-fn answer_lines_of<S: Source, F: Source, W: Write>(
+// The same. The files are open.
+fn answer_both_of<'f, S: Source, F: Source, W: Write>(
     alloc: Global,
     from: &Judging<'_>,
-    file: &str,
-    op: u64,
+    file: &'f str,
+    question: FileQuestion,
     files: &mut OpenedBoth<S, F>,
     out: &mut W,
-) -> Result<Answered, CliStop>
+) -> Result<Answered<'f>, FileStop>
     requires section { S.failures files.old.section < 2 ^ 64 - 1 }
-    requires lines { F.failures files.old.file < 2 ^ 64 - 1 }
-    ensures usage { IfErr result (λ stop. IsUsage stop → ⊥) }
-    ensures named { IfErr result (λ stop. (name : List ℕ) → TellsFile stop name → IsFileOf from.now name ⊎ (file.now ≡ name)) }
-    ensures answer { IfOk result (λ answered. (judged : JudgedIndex)
-        × IfSome (S.remaining files.old.section) (λ bytes.
-        IsJudgedIndex files.old.texts.line.items files.old.texts.general.items (options_in from.now) bytes judged)
-        × AnswersAddressesJudged judged op (F.remaining files.old.file) (W.contents out.old) (W.contents out.new) answered.status) }
-    ensures stopped { OnErr result (Keeps (W.contents out.old) (W.contents out.new) ⊎ ((judged : JudgedIndex)
-        × IfSome (S.remaining files.old.section) (λ bytes.
-        IsJudgedIndex files.old.texts.line.items files.old.texts.general.items (options_in from.now) bytes judged)
-        × BeginsAddressesJudged judged op (F.remaining files.old.file) (W.contents out.old) (W.contents out.new))) }
+    requires file { F.failures files.old.file < 2 ^ 64 - 1 }
+    ensures named { IfErr result (NamesOneOf (IsFileOfBoth from.now file.now)) }
+    ensures answer { IfOk result (λ answered. IsJudgedSo files.old.texts from.now (S.remaining files.old.section)
+        (AnswersJudged (AnswersGoodFile question (options_in from.now) (F.remaining files.old.file))
+        (W.contents out.old) (W.contents out.new) answered.status)) }
+    ensures stopped { OnErr result (Keeps (W.contents out.old) (W.contents out.new)
+        ⊎ IsJudgedSo files.old.texts from.now (S.remaining files.old.section)
+        (BeginsJudged (BeginsGoodFile question (options_in from.now) (F.remaining files.old.file))
+        (W.contents out.old) (W.contents out.new))) }
 {
     match judge(alloc, &mut files.section, &files.texts, from, out)? {
-        JudgedIndex::Good(index) => print_lines(alloc, &index, file, op, &mut files.file, out),
-        JudgedIndex::Bad(no) => Ok(refused(no)),
+        JudgedIndex::Good(index) => {
+            answer_good_file(alloc, &index, file, question, &mut files.file, out)
+        }
+        JudgedIndex::Bad(no) => Ok(Answered::no(Occasion::Bad(no))),
     }
 }
 
-// Prints the answers of a good section to the lines of the file with this name.
-fn print_lines<T: Source, W: Write>(
+// Answers a question about a good section and the file with this name, whose bytes these are.
+fn answer_good_file<'f, F: Source, W: Write>(
     alloc: Global,
     index: &Index<'_>,
-    file: &str,
-    op: u64,
-    lines: &mut T,
+    file: &'f str,
+    question: FileQuestion,
+    bytes: &mut F,
     out: &mut W,
-) -> Result<Answered, CliStop>
-    requires { T.failures lines.old < 2 ^ 64 - 1 }
-    ensures usage { IfErr result (λ stop. IsUsage stop → ⊥) }
-    ensures named { IfErr result (λ stop. (name : List ℕ) → TellsFile stop name → file.now ≡ name) }
-    ensures answer { IfOk result (λ answered. AreAddressesTold index.now op (T.remaining lines.old)
-        (W.contents out.old) (W.contents out.new) answered.status) }
-    ensures stopped { OnErr result (AreAddressesBegun index.now op (T.remaining lines.old)
-        (W.contents out.old) (W.contents out.new)) }
+) -> Result<Answered<'f>, FileStop>
+    requires { F.failures bytes.old < 2 ^ 64 - 1 }
+    ensures named { IfErr result (NamesOneOf (λ name. file.now ≡ name)) }
+    ensures answer { IfOk result (λ answered. (options : OptionsSpec) → AnswersGoodFile question options (F.remaining bytes.old)
+        index.now (W.contents out.old) (W.contents out.new) answered.status) }
+    ensures stopped { OnErr result (Keeps (W.contents out.old) (W.contents out.new) ⊎ ((options : OptionsSpec)
+        → BeginsGoodFile question options (F.remaining bytes.old) index.now (W.contents out.old) (W.contents out.new))) }
 {
-    let printed = print_addresses(alloc, index, lines, op, out);
-    let status = of_file(alloc, file, printed)?;
-    let occasion = Occasion::Good(hints_of(index));
-    Ok(Answered { status, occasion })
+    match question {
+        FileQuestion::Lines(op) => {
+            let printed = print_addresses(alloc, index, bytes, op, out);
+            let status = of_file(alloc, file, printed)?;
+            let occasion = Occasion::Good(hints_of(index));
+            Ok(Answered { status, occasion })
+        }
+        FileQuestion::Places => {
+            let printed = print_stretches(alloc, bytes, index, out);
+            let told = of_file(alloc, file, printed)?;
+            Ok(Answered::of_stretches(&told, file))
+        }
+    }
+}
+
+// The options with which the section is read and judged.
+pub(crate) fn options_of(from: &Judging<'_>) -> Options
+    ensures { result ≡ options_in from.now }
+{
+    Options {
+        order: from.order,
+        dead: from.dead,
+        skip_copies: from.skip_copies,
+    }
 }
 
 // Judges the section, and if it isn't good, prints the line that says why.
-pub(crate) fn judge<'t, R: Source, W: Write>(
+fn judge<'t, R: Source, W: Write>(
     alloc: Global,
     section: &mut R,
     texts: &'t Texts,
     from: &Judging<'_>,
     out: &mut W,
-) -> Result<JudgedIndex<'t>, CliStop>
+) -> Result<JudgedIndex<'t>, FileStop>
     requires { R.failures section.old < 2 ^ 64 - 1 }
-    ensures usage { IfErr result (λ stop. IsUsage stop → ⊥) }
-    ensures named { IfErr result (λ stop. (name : List ℕ) → TellsFile stop name → from.now.section.now ≡ name) }
-    ensures judged { IfOk result (λ judged. IfSome (R.remaining section.old) (λ bytes.
-        IsJudgedIndex texts.now.line.items texts.now.general.items (options_in from.now) bytes judged)) }
+    ensures named { IfErr result (NamesOneOf (λ name. from.now.section.now ≡ name)) }
+    ensures judged { IfOk result (IsTrueOf texts.now from.now (R.remaining section.old)) }
     ensures told { IfOk result (λ judged. IsReasonTold judged (W.contents out.old) (W.contents out.new)) }
     ensures silent { IfOk result (λ judged. IsIndexGiven judged → out.new ≡ out.old) }
-    ensures stopped { OnErr result (Keeps (W.contents out.old) (W.contents out.new) ⊎ HasBegunLine (λ judged.
-        IfSome (R.remaining section.old) (λ bytes.
-        IsJudgedIndex texts.now.line.items texts.now.general.items (options_in from.now) bytes judged))
-        (W.contents out.old) (W.contents out.new)) }
+    ensures stopped { OnErr result (Keeps (W.contents out.old) (W.contents out.new)
+        ⊎ HasBegunLine (IsTrueOf texts.now from.now (R.remaining section.old)) (W.contents out.old) (W.contents out.new)) }
 {
     let judged = judge_section(alloc, section, &texts.strings(), &options_of(from), out);
     of_file(alloc, from.section, judged)
-}
-
-// The answer if the section isn't good.
-fn refused(no: No) -> Answered
-    ensures { result.status ≡ Status.No }
-{
-    Answered {
-        status: Status::No,
-        occasion: Occasion::Bad(no),
-    }
 }
 
 // Prints the answer of a good section. It is never inlined: some answers have large blocks on the stack, which is short, and

@@ -1,5 +1,5 @@
 //! The files and writers of a run, and how it answers a request.
-ghost use Rattle.std.specs.Prelude.{◌≡◌, ◌-◌, ◌^◌, ◌<◌, ◌⊎◌, ℕ, List, IfErr, IfOk, IfSome, OnErr, Some, option_map};
+ghost use Rattle.std.specs.Prelude.{◌≡◌, ◌-◌, ◌^◌, ◌<◌, ◌⊎◌, IfErr, IfOk, IfSome, OnErr, Some, option_map};
 ghost use Rattle.std.specs.Io.KnownBytes.{Keeps};
 ghost use Rattle.std.specs.Option.{option_copied};
 ghost use Rattle.lnt_words.specs.Sizes.{size_bytes};
@@ -7,10 +7,11 @@ ghost use Rattle.lnt_dump.specs.Upgraded.{IsUpgradeBegun, IsUpgradeTold};
 ghost use Rattle.lnt_cli.specs.Answered.{AnswersRead, AnswersUpgrade, IsAnswered};
 ghost use Rattle.lnt_cli.specs.Readings.{AnswersReading, BeginsReading};
 ghost use Rattle.lnt_cli.specs.Stopped.{IsStopped, StopsRead, StopsUpgrade};
-ghost use Rattle.lnt_cli.specs.Stops.{IsFileIn, IsUsage, TellsFile};
+ghost use Rattle.lnt_cli.specs.Stops.{IsFileIn, NamesOneOf};
 
 use crate::inputs::{of_file, open_section, read_named, read_whole};
-use crate::stop::CliStop;
+use crate::question::FileQuestion;
+use crate::stop::FileStop;
 use lnt_dump::{DumpParts, print_converted, print_dump, print_units, print_upgraded};
 use lnt_io::{Halt, Opener, Source, Status, write_whole};
 use lnt_notes::{Seen, tell_refused};
@@ -31,26 +32,9 @@ pub(crate) struct Session<'o, 'w, 'n, O, W, N> {
 }
 
 impl<O: Opener, W: Write, N: Write> Session<'_, '_, '_, O, W, N> {
-    // Answers a request. If a file can't be read, it writes the system's reason as a note.
-    pub(crate) fn answer(&mut self, request: &Request<'_>) -> Result<Status, CliStop>
-        ensures usage { IfErr result (λ stop. IsUsage stop → ⊥) }
-        ensures named { IfErr result (λ stop. (name : List ℕ) → TellsFile stop name → IsFileIn request.now name) }
-        ensures answer { IfOk result (λ status. IsAnswered (O.tells self.old.opener.now) request.now
-            (W.contents self.old.out.now) (W.contents self.new.out.now) status) }
-        ensures stopped { OnErr result (IsStopped (O.tells self.old.opener.now) request.now
-            (W.contents self.old.out.now) (W.contents self.new.out.now)) }
-        ensures same_reference { self.new.out.ghost_name ≡ self.old.out.ghost_name }
-    {
-        let ended = self.answer_request(request);
-        if let Err(CliStop::Read(_)) = &ended {
-            self.tell_reason();
-        }
-        ended
-    }
-
-    fn answer_request(&mut self, request: &Request<'_>) -> Result<Status, CliStop>
-        ensures usage { IfErr result (λ stop. IsUsage stop → ⊥) }
-        ensures named { IfErr result (λ stop. (name : List ℕ) → TellsFile stop name → IsFileIn request.now name) }
+    // Answers a request.
+    pub(crate) fn answer(&mut self, request: &Request<'_>) -> Result<Status, FileStop>
+        ensures named { IfErr result (NamesOneOf (IsFileIn request.now)) }
         ensures answer { IfOk result (λ status. IsAnswered (O.tells self.old.opener.now) request.now
             (W.contents self.old.out.now) (W.contents self.new.out.now) status) }
         ensures stopped { OnErr result (IsStopped (O.tells self.old.opener.now) request.now
@@ -74,7 +58,9 @@ impl<O: Opener, W: Write, N: Write> Session<'_, '_, '_, O, W, N> {
                 directories,
             } => self.upgrade_section(section, *order, *address_size, *directories),
             Request::Judge { from, question } => self.answer_question(from, question),
-            Request::Addresses { from, file, op } => self.answer_addresses(from, file, *op),
+            Request::Addresses { from, file, op } => {
+                self.answer_file(from, file, FileQuestion::Lines(*op))
+            }
             Request::Check {
                 from,
                 table,
@@ -84,11 +70,12 @@ impl<O: Opener, W: Write, N: Write> Session<'_, '_, '_, O, W, N> {
                 from,
                 table,
                 all: true,
-            } => self.check_all(from, table),
+            } => self.answer_file(from, table, FileQuestion::Places),
         }
     }
 
-    fn tell_reason(&mut self)
+    // Writes why the system couldn't open or read the last file that failed, as a note.
+    pub(crate) fn tell_reason(&mut self)
         ensures { self.new.out ≡ self.old.out }
     {
         if self.quiet {
@@ -105,9 +92,8 @@ impl<O: Opener, W: Write, N: Write> Session<'_, '_, '_, O, W, N> {
         section: &str,
         order: Order,
         reading: Reading,
-    ) -> Result<Status, CliStop>
-        ensures usage { IfErr result (λ stop. IsUsage stop → ⊥) }
-        ensures named { IfErr result (λ stop. (name : List ℕ) → TellsFile stop name → section.now ≡ name) }
+    ) -> Result<Status, FileStop>
+        ensures named { IfErr result (NamesOneOf (λ name. section.now ≡ name)) }
         ensures answer { IfOk result (λ status. AnswersRead (O.tells self.old.opener.now) section.now order reading
             (W.contents self.old.out.now) (W.contents self.new.out.now) status) }
         ensures stopped { OnErr result (Keeps (W.contents self.old.out.now) (W.contents self.new.out.now)
@@ -139,10 +125,8 @@ impl<O: Opener, W: Write, N: Write> Session<'_, '_, '_, O, W, N> {
         order: Order,
         address_size: AddressSize,
         directories: Option<&str>,
-    ) -> Result<Status, CliStop>
-        ensures usage { IfErr result (λ stop. IsUsage stop → ⊥) }
-        ensures named { IfErr result (λ stop. (name : List ℕ) → TellsFile stop name
-            → (section.now ≡ name) ⊎ (option_copied directories.entry ≡ Some name)) }
+    ) -> Result<Status, FileStop>
+        ensures named { IfErr result (NamesOneOf (λ name. (section.now ≡ name) ⊎ (option_copied directories.entry ≡ Some name))) }
         ensures answer { IfOk result (λ status. AnswersUpgrade (O.tells self.old.opener.now) section.now order
             (size_bytes address_size) (option_copied directories.entry) (W.contents self.old.out.now) (W.contents self.new.out.now)
             status) }
@@ -179,10 +163,8 @@ fn upgrade_file<O: Opener, W: Write>(
     opener: &mut O,
     seen: &Cell<Seen>,
     out: &mut W,
-) -> Result<Status, CliStop>
-    ensures usage { IfErr result (λ stop. IsUsage stop → ⊥) }
-    ensures named { IfErr result (λ stop. (name : List ℕ) → TellsFile stop name
-        → (section.now ≡ name) ⊎ (option_copied directories.entry ≡ Some name)) }
+) -> Result<Status, FileStop>
+    ensures named { IfErr result (NamesOneOf (λ name. (section.now ≡ name) ⊎ (option_copied directories.entry ≡ Some name))) }
     ensures answer { IfOk result (λ status. AnswersUpgrade (O.tells opener.old) section.now order (size_bytes address_size)
         (option_copied directories.entry) (W.contents out.old) (W.contents out.new) status) }
     ensures stopped { OnErr result (Keeps (W.contents out.old) (W.contents out.new)

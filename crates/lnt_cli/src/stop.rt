@@ -1,9 +1,9 @@
 //! Why a run is stopped.
-ghost use Rattle.std.specs.Prelude.{◌≡◌, ◌≢◌, ℕ, List, IfOk, OnErr};
+ghost use Rattle.std.specs.Prelude.{◌≡◌, IfOk, OnErr};
 ghost use Rattle.lnt_cli.specs.Stepping.{IsFileStop};
-ghost use Rattle.lnt_cli.specs.Stops.{IsUsage, TellsFile};
-ghost use Rattle.lnt_cli.specs.declared.stop.CliStop.TheVariants.{Memory, Write};
-ghost use Rattle.lnt_words.specs.declared.stop.WordsStop.TheVariants as words;
+ghost use Rattle.lnt_cli.specs.Stops.{IsOfWords, NamesOneOf};
+ghost use Rattle.lnt_cli.specs.declared.stop.CliStop.TheVariants.{File};
+ghost use Rattle.lnt_cli.specs.declared.stop.FileStop.TheVariants.{Memory, Write};
 
 use lnt_io::Halt;
 use lnt_text::Shown;
@@ -19,6 +19,14 @@ pub enum CliStop {
     /// bad, and ends in a line feed.
     #[error("{0}")]
     Usage(String),
+    /// A file or the writer failed, or memory ran out.
+    #[error(transparent)]
+    File(FileStop),
+}
+
+/// Why the answer to a request was stopped.
+#[derive(Debug, Drop, Error)]
+pub enum FileStop {
     /// The file with this name can't be opened or read. A name with control characters is shown between quotes.
     #[error("linetab: cannot read {}", Shown(.0))]
     Read(String),
@@ -33,59 +41,57 @@ pub enum CliStop {
     Memory,
 }
 
-impl CliStop {
-    // The stop of a run if the work on the file with this name was stopped. `Memory` also if it ran out for a copy of the name.
-    pub(crate) fn of_file(alloc: Global, name: &str, halt: Halt) -> CliStop
+impl FileStop {
+    // The stop if the work on the file with this name was stopped. `Memory` also if it ran out for a copy of the name.
+    pub(crate) fn of_file(alloc: Global, name: &str, halt: Halt) -> FileStop
         ensures told { IsFileStop halt name.now result }
-        ensures usage { IsUsage result → ⊥ }
-        ensures named { (told : List ℕ) → TellsFile result told → name.now ≡ told }
+        ensures named { NamesOneOf (λ told. name.now ≡ told) result }
     {
-        match CliStop::with_name(alloc, name, halt) {
+        match FileStop::with_name(alloc, name, halt) {
             Ok(stop) => stop,
-            Err(_) => CliStop::Memory,
+            Err(_) => FileStop::Memory,
         }
     }
 
     // The same, with a copy of the name for a stop that has one.
-    fn with_name(alloc: Global, name: &str, halt: Halt) -> Result<CliStop, AllocError>
+    fn with_name(alloc: Global, name: &str, halt: Halt) -> Result<FileStop, AllocError>
         ensures told { IfOk result (IsFileStop halt name.now) }
-        ensures usage { IfOk result (λ stop. IsUsage stop → ⊥) }
-        ensures named { IfOk result (λ stop. (told : List ℕ) → TellsFile stop told → name.now ≡ told) }
+        ensures named { IfOk result (NamesOneOf (λ told. name.now ≡ told)) }
         ensures err { OnErr result (IsFileStop halt name.now Memory) }
     {
         Ok(match halt {
-            Halt::Read => CliStop::Read(String::from_str(alloc, name)?),
-            Halt::TooLong => CliStop::TooLong(String::from_str(alloc, name)?),
-            Halt::Write => CliStop::Write,
-            Halt::Memory => CliStop::Memory,
+            Halt::Read => FileStop::Read(String::from_str(alloc, name)?),
+            Halt::TooLong => FileStop::TooLong(String::from_str(alloc, name)?),
+            Halt::Write => FileStop::Write,
+            Halt::Memory => FileStop::Memory,
         })
     }
 }
 
 impl From<WordsStop> for CliStop {
-    ghost from_gives = { λ stop made. (IsUsage made → stop ≢ words.Memory) × ((name : List ℕ) → TellsFile made name → ⊥) };
+    ghost from_gives = { IsOfWords };
 
     fn from(stop: WordsStop) -> CliStop {
         match stop {
             WordsStop::Usage(text) | WordsStop::BadWord { text, .. } => CliStop::Usage(text),
-            WordsStop::Memory => CliStop::Memory,
+            WordsStop::Memory => CliStop::File(FileStop::Memory),
         }
     }
 }
 
 impl From<AllocError> for CliStop {
-    ghost from_gives = { λ _ stop. stop ≡ Memory };
+    ghost from_gives = { λ _ stop. stop ≡ File Memory };
 
     fn from(_error: AllocError) -> CliStop {
-        CliStop::Memory
+        CliStop::File(FileStop::Memory)
     }
 }
 
 // Only a write gives this error: a source reports a failed read by itself.
-impl From<io::Error> for CliStop {
+impl From<io::Error> for FileStop {
     ghost from_gives = { λ _ stop. stop ≡ Write };
 
-    fn from(_error: io::Error) -> CliStop {
-        CliStop::Write
+    fn from(_error: io::Error) -> FileStop {
+        FileStop::Write
     }
 }

@@ -71,7 +71,7 @@ pub(crate) fn ran(
     let mut out = Narrow::new(alloc, room);
     let ended = match words(alloc, line) {
         Ok(words) => run(alloc, words, &mut files, &mut out),
-        Err(_) => Err(CliStop::Memory),
+        Err(error) => Err(CliStop::from(error)),
     };
     (ended, out.into_taken())
 }

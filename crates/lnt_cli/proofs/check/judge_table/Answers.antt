@@ -1,5 +1,5 @@
 use Rattle.lnt_cli.proofs.QuestionLemmas.{checked_of}
-use Rattle.lnt_cli.proofs.judge.judge_table.Goals as goal
+use Rattle.lnt_cli.proofs.check.judge_table.Goals as goal
 
 pub returns-clause-checked : goal.returns-clause-checked
 returns-clause-checked g c =
