@@ -1,6 +1,7 @@
 pub mod AddressFronts
 pub mod AddressLemmas
 pub mod AddressWholes
+pub mod AnswerLineLemmas
 pub mod CommaLemmas
 pub mod DifferenceLemmas
 pub mod DigestLemmas

@@ -4,6 +4,7 @@ pub mod Agreements
 pub mod DifferenceLines
 pub mod FileLines
 pub mod Laws
+pub mod LineEnds
 pub mod Lines
 pub mod PathTables
 pub mod Stepping

@@ -49,6 +49,13 @@ row_text answer = codes "line "
     ++ (decimal answer.line ++ (codes " column "
     ++ (decimal answer.column ++ (codes " stmt " ++ decimal (if answer.is_stmt then 1 else 0)))))
 
+-- the numbers of an answer, each with a word before it
+abbrev pub numbers_text : Answer → List ℕ
+numbers_text answer =
+    codes " unit " ++ (decimal answer.unit ++ (codes " file " ++ (decimal answer.file ++ (codes " line "
+    ++ (decimal answer.line ++ (codes " column "
+    ++ (decimal answer.column ++ (codes " stmt " ++ decimal (if answer.is_stmt then 1 else 0)))))))))
+
 -- the end of the line: the path of the file, if it has one
 abbrev pub path_end : Option (List ℕ) → List ℕ
 path_end (Some path) = codes " path " ++ (quoted_text path ++ codes "\n")

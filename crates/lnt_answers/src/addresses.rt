@@ -13,10 +13,10 @@ ghost use Rattle.lnt_answers.specs.AddressLines.{AreAddressesBegun, AreAddresses
 ghost use Rattle.lnt_answers.specs.Lines.{TellsPosition};
 ghost use Rattle.lnt_spans.specs.declared.position.Position.{Position as Spec};
 
-use crate::lookup::print_lookup;
+use crate::lookup::{CachedLookups, print_lookup};
 use lnt_digits::{address, decimal};
 use lnt_io::{Halt, Source, Status, write_whole};
-use lnt_lines::{Index, Lookups};
+use lnt_lines::Index;
 use lnt_spans::Position;
 use lnt_text::Quoted;
 use std::alloc::Global;
@@ -52,7 +52,7 @@ pub fn print_addresses<T: Source, W: Write>(
     ensures too_long { IsErrOf result halt.TooLong → IsTrue (T.too_long lines.new) }
 {
     let mut block = vec![in alloc; 0; BLOCK]?;
-    let mut lookups = Lookups::new(alloc, index)?;
+    let mut lookups = CachedLookups::new(alloc, index)?;
     let mut asked = Asked {
         op,
         line: Vec::new(alloc),
@@ -96,7 +96,7 @@ impl Asked {
     fn answer_block<W: Write>(
         &mut self,
         alloc: Global,
-        lookups: &mut Lookups<'_, '_>,
+        lookups: &mut CachedLookups<'_, '_>,
         block: &[u8],
         out: &mut W,
     ) -> Result<(), Halt>
@@ -124,7 +124,7 @@ impl Asked {
     fn answer_line<W: Write>(
         &mut self,
         alloc: Global,
-        lookups: &mut Lookups<'_, '_>,
+        lookups: &mut CachedLookups<'_, '_>,
         out: &mut W,
     ) -> Result<(), Halt>
         ensures err { IfErr result IsPrinting }

@@ -8,11 +8,13 @@
 #![tactic(auto)]
 
 mod addresses;
+mod answer_line;
 mod differences;
 mod digest;
 mod files;
 mod judge;
 pub mod laws;
+mod line_ends;
 mod lookup;
 mod stretches;
 mod sums;

@@ -1,20 +1,57 @@
 //! Prints the answer at a position.
-ghost use Rattle.std.specs.Prelude.{◌≡◌, Bool, ℕ, List, ◌++◌, Option, IfErr, IfOk, IsSome, OnErr, OnOk, Some};
+ghost use Rattle.std.specs.Prelude.{◌≡◌, Bool, ℕ, List, ◌++◌, Option, IfErr, IfOk, OnErr, OnOk};
 ghost use Rattle.std.specs.Io.KnownBytes.{Appends};
 ghost use Rattle.lnt_io.specs.declared.status.Status.TheVariants.{Done};
 ghost use Rattle.lnt_header.specs.declared.unit_parts.UnitParts.{UnitParts};
-ghost use Rattle.lnt_lines.specs.Indexed.{IsIndexOf, file_path_in};
+ghost use Rattle.lnt_lines.specs.Indexed.{IsIndexOf};
 ghost use Rattle.lnt_io.specs.Fronts.{AppendsFront};
 ghost use Rattle.lnt_io.specs.Halts.{IsPrinting};
 ghost use Rattle.std.specs.List.{flat_map};
-ghost use Rattle.lnt_answers.specs.Lines.{answer_line, lookup_line, path_end, place_text, row_text};
+ghost use Rattle.lnt_answers.specs.Lines.{lookup_line, none_text};
 
+use crate::answer_line::put_answer;
+use crate::line_ends::LineEnds;
 use lnt_io::{Halt, Status, write_whole};
 use lnt_lines::{Index, Lookups};
-use lnt_spans::{Answer, Position, Probes};
-use lnt_text::{PositionText, Quoted};
-use std::alloc::Global;
+use lnt_spans::{Position, Probes};
+use lnt_text::PositionText;
+use std::alloc::{AllocError, Global};
 use std::io::Write;
+use std::marker::Model;
+
+// Lookups in an index, with a cache of the ends of the lines that are printed.
+//
+// Contracts see the index, as those of `Lookups` do, but not the cache.
+#[derive(Drop)]
+pub(crate) struct CachedLookups<'i, 'a> {
+    lookups: Lookups<'i, 'a>,
+    ends: LineEnds,
+}
+
+impl<'i, 'a> Model for CachedLookups<'i, 'a> {
+    ghost use Rattle.lnt_answers.specs.LineEnds.{AreEndsOf};
+    ghost use Rattle.lnt_lines.specs.Indexed.{Indexed};
+
+    ghost Value = { Indexed };
+
+    ghost view = { λ c. c.lookups };
+
+    ghost invariant = { λ c. AreEndsOf c.lookups c.ends.slots.items };
+}
+
+impl<'i, 'a> CachedLookups<'i, 'a> {
+    // Lookups in this index. Fails only if memory runs out.
+    pub(crate) fn new(
+        alloc: Global,
+        index: &'i Index<'a>,
+    ) -> Result<CachedLookups<'i, 'a>, AllocError>
+        ensures { IfOk result (λ lookups. lookups ≡ index.entry.now) }
+    {
+        let lookups = Lookups::new(alloc, index)?;
+        let ends = LineEnds::new(alloc)?;
+        Ok(CachedLookups { lookups, ends })
+    }
+}
 
 // Prints the line with the answer at the position and the path of its file, or that there is no answer. The line is made in
 // `room` first, whose old contents are dropped.
@@ -23,7 +60,7 @@ use std::io::Write;
 // written, and nothing else.
 pub(crate) fn print_lookup<W: Write>(
     alloc: Global,
-    lookups: &mut Lookups<'_, '_>,
+    lookups: &mut CachedLookups<'_, '_>,
     position: Position,
     room: &mut Vec<u8>,
     out: &mut W,
@@ -37,58 +74,44 @@ pub(crate) fn print_lookup<W: Write>(
         → OnErr result (AppendsFront (W.contents out.old) (W.contents out.new) (lookup_line lookups.old dead skip units position)) }
 {
     room.clear();
-    // Writing to a vector fails only if memory runs out.
-    let Ok(()) = put_lookup(alloc, lookups, position, room) else {
-        return Err(Halt::Memory);
-    };
+    put_lookup(alloc, lookups, position, room)?;
     write_whole(out, room.as_slice())?;
     Ok(Status::Done)
 }
 
-// Prints the line with the answer at the position, piece by piece.
-fn put_lookup<W: Write>(
+// Appends the line with the answer at the position.
+fn put_lookup(
     alloc: Global,
-    lookups: &mut Lookups<'_, '_>,
+    lookups: &mut CachedLookups<'_, '_>,
     position: Position,
-    out: &mut W,
-) -> Result<(), Halt>
+    line: &mut Vec<u8>,
+) -> Result<(), AllocError>
     ensures index { lookups.new ≡ lookups.old }
     ensures line { (dead : Option ℕ) (skip : Bool) (units : List (ℕ × UnitParts)) → IsIndexOf dead skip units lookups.old
-        → OnOk result (Appends (W.contents out.old) (W.contents out.new) (lookup_line lookups.old dead skip units position)) }
+        → OnOk result (line.new.items ≡ line.old.items ++ lookup_line lookups.old dead skip units position) }
 {
-    let Some(answer) = lookups.lookup(alloc, position, &mut Probes::new())? else {
-        writeln!(out, "{} none", PositionText(position))?;
+    let found = lookups.lookups.lookup(alloc, position, &mut Probes::new())?;
+    let Some(answer) = found else {
+        put_none(position, line)?;
         return Ok(());
     };
-    print_answered(alloc, lookups.index(), position, &answer, out)
-}
-
-// Prints the line of an answer at the position. The caller ensures that its file has a path, as it does for each answer of
-// an index.
-fn print_answered<W: Write>(
-    alloc: Global,
-    index: &Index<'_>,
-    position: Position,
-    answer: &Answer,
-    out: &mut W,
-) -> Result<(), Halt>
-    requires { IsSome (file_path_in index.now answer.now.unit answer.now.file) }
-    ensures line { OnOk result (Appends (W.contents out.old) (W.contents out.new) (answer_line index.now position (Some answer.now))) }
-{
-    print_answer(position, answer, out)?;
-    match index.path_of(alloc, answer.unit, answer.file) {
-        Ok(Some(path)) => print_path(&path, out),
-        Ok(None) => unreachable!(),
-        Err(_) => Err(Halt::Memory),
-    }
-}
-
-// Prints the end of a line with this path.
-fn print_path<W: Write>(path: &[u8], out: &mut W) -> Result<(), Halt>
-    ensures text { OnOk result (Appends (W.contents out.old) (W.contents out.new) (path_end (Some path.now))) }
-{
-    writeln!(out, " path {}", Quoted(path))?;
+    put_answer(position, &answer, line)?;
+    let index = lookups.lookups.index();
+    lookups
+        .ends
+        .put_end(alloc, index, answer.unit, answer.file, line)?;
     Ok(())
+}
+
+// Appends the line of a position without an answer.
+fn put_none(position: Position, line: &mut Vec<u8>) -> Result<(), AllocError>
+    ensures { OnOk result (line.new.items ≡ line.old.items ++ none_text position) }
+{
+    // Writing to a vector fails only if memory runs out.
+    match writeln!(line, "{} none", PositionText(position)) {
+        Ok(()) => Ok(()),
+        Err(_) => Err(AllocError),
+    }
 }
 
 /// Prints a line for each of these positions, in their order: `0xADDRESS,OP unit U file F line L column C stmt S path "PATH"`,
@@ -110,22 +133,10 @@ pub fn print_lookups<W: Write>(
         → OnErr result (AppendsFront (W.contents out.old) (W.contents out.new)
         (flat_map (lookup_line index.now dead skip units) positions.now)) }
 {
-    let mut lookups = Lookups::new(alloc, index)?;
+    let mut lookups = CachedLookups::new(alloc, index)?;
     let mut room = Vec::new(alloc);
     for position in positions {
         print_lookup(alloc, &mut lookups, *position, &mut room, out)?;
     }
     Ok(Status::Done)
-}
-
-// Prints the position and the answer there, without the path.
-fn print_answer<W: Write>(position: Position, answer: &Answer, out: &mut W) -> Result<(), Halt>
-    ensures text { OnOk result (Appends (W.contents out.old) (W.contents out.new) (place_text position answer.now ++ row_text answer.now)) }
-{
-    let (unit, file, line, column) = (answer.unit, answer.file, answer.line, answer.column);
-    let stmt = u8::from(answer.is_stmt);
-    let at = PositionText(position);
-    write!(out, "{at} unit {unit} file {file} ")?;
-    write!(out, "line {line} column {column} stmt {stmt}")?;
-    Ok(())
 }

@@ -15,6 +15,9 @@ use lnt_spans::{Answer, Position, Probes};
 use std::alloc::{AllocError, Global};
 use std::marker::Model;
 
+// The number of marks that are close together at most, so that these take 3.3 MB.
+const CLOSE_MARKS: usize = 16_384;
+
 /// Lookups in an index. They leave marks in long sequences, so that a later lookup there walks over no more than the rows
 /// between two marks.
 ///
@@ -89,6 +92,8 @@ struct Known<'i> {
     // For each entry of the index, one more than the index of its sequence in `sequences`, or 0 if it has no marks. Only the time
     // of a lookup depends on it.
     places: Vec<u32>,
+    // The number of marks that may yet be close together. Only the time and the memory of a lookup depend on it.
+    close: usize,
 }
 
 impl<'i> Known<'i> {
@@ -99,6 +104,7 @@ impl<'i> Known<'i> {
         Ok(Known {
             sequences: Vec::new(alloc),
             places: vec![in alloc; 0; count]?,
+            close: CLOSE_MARKS,
         })
     }
 
@@ -118,10 +124,10 @@ impl<'i> Known<'i> {
         if let Some(known) = place_in(&self.sequences, &self.places, place, id) {
             return self.sequences[known]
                 .marks
-                .answer_at(id.unit, rows, position);
+                .answer_at(id.unit, rows, position, &mut self.close);
         }
         let mut marks = Marks::new(alloc);
-        let answer = marks.answer_at(id.unit, rows, position)?;
+        let answer = marks.answer_at(id.unit, rows, position, &mut self.close)?;
         if !marks.is_empty() {
             self.keep(place, Marked { id, marks })?;
         }

@@ -9,7 +9,7 @@ ghost use Rattle.lnt_sequences.specs.Sequences as sequence;
 
 use crate::collected::answer_of;
 use crate::extent::Extent;
-use crate::marks::Mark;
+use crate::marks::{Mark, WIDE};
 use lnt_machine::{Row, SequenceRows};
 use lnt_spans::{Answer, Position, Probes, Side, probe};
 
@@ -46,7 +46,7 @@ fn row_at(rows: SequenceRows<'_>, position: Position) -> Option<Row>
     ensures { (list : List spec.Row) → WillGive list rows.entry → IsOrdered list → result ≡ sequence.row_at position list }
 {
     let mut mark = Mark::before(rows);
-    while mark.go_on(position) {}
+    while mark.go_on(position, WIDE) {}
     mark.last
 }
 

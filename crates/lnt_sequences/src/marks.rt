@@ -15,8 +15,11 @@ use lnt_machine::{Row, SequenceRows};
 use lnt_spans::{Answer, Position};
 use std::alloc::{AllocError, Global};
 
-// The number of rows from one mark to the next. A mark takes 200 bytes, and a row of a section one at least.
-const SPACING: usize = 128;
+// The number of rows from one mark to the next where marks may be close together. A lookup decodes half of them, on average.
+const CLOSE: usize = 16;
+
+// The same where they may not. A mark takes 200 bytes, and a row of a section one at least.
+pub(crate) const WIDE: usize = 128;
 
 // A place in the rows of a sequence: the last row before it, if there is one, and the rows after it.
 #[derive(Drop)]
@@ -47,17 +50,19 @@ impl<'a> Mark<'a> {
         }
     }
 
-    // Goes on over the rows that aren't above the position, up to the next mark. True where it stands there. Else `last` is
-    // the last row of the sequence that isn't above the position, and nothing is said of the rows after it.
-    pub(crate) fn go_on(&mut self, position: Position) -> bool
-        requires { IsNotAbove self.old.last position }
+    // Goes on over the rows that aren't above the position, up to the next mark, which is after `spacing` rows. True where it
+    // stands there. Else `last` is the last row of the sequence that isn't above the position, and nothing is said of the rows
+    // after it.
+    pub(crate) fn go_on(&mut self, position: Position, spacing: usize) -> bool
+        requires not_above { IsNotAbove self.old.last position }
+        requires some { 0 < spacing }
         ensures not_above { IsNotAbove self.new.last position }
         ensures goes_on { (rows : List spec.Row) → IsMarkIn rows self.old → MatchBool result (IsMarkIn rows self.new)
             (IsOrdered rows → self.new.last ≡ sequence.row_at position rows) }
         ensures fewer { result ≡ true → rows_left self.new.after < rows_left self.old.after }
     {
         let mut after = self.after.fork();
-        for _ in 0..SPACING {
+        for _ in 0..spacing {
             let Some(row) = after.next() else {
                 return false;
             };
@@ -107,18 +112,20 @@ impl<'a> Marks<'a> {
     /// What the sequence that the marks are in answers at a position, as [`answer_at`](crate::answer_at) of all of its rows.
     ///
     /// It walks over the rows after the last mark that isn't above the position, and adds a mark wherever it comes to a next
-    /// one. The one error is that memory ran out. The marks are in the same sequence then, too.
+    /// one. Up to `close` marks are close together; each mark that is added lowers it by one. The one error is that memory ran
+    /// out. The marks are in the same sequence then, too.
     pub fn answer_at(
         &mut self,
         unit: u64,
         rows: SequenceRows<'a>,
         position: Position,
+        close: &mut usize,
     ) -> Result<Option<Answer>, AllocError>
         ensures marks { (list : List spec.Row) → WillGive list rows.entry → AreMarksIn list self.old → AreMarksIn list self.new }
         ensures answer { IfOk result (λ answer. (list : List spec.Row) → WillGive list rows.entry → AreMarksIn list self.old
             → IsOrdered list → answer ≡ option_map (sequence.answer_of unit) (sequence.row_at position list)) }
     {
-        Ok(said_by(unit, self.row_at(rows, position)?))
+        Ok(said_by(unit, self.row_at(rows, position, close)?))
     }
 
     // The last row of the sequence that isn't above the position.
@@ -126,13 +133,15 @@ impl<'a> Marks<'a> {
         &mut self,
         rows: SequenceRows<'a>,
         position: Position,
+        close: &mut usize,
     ) -> Result<Option<Row>, AllocError>
         ensures marks { (list : List spec.Row) → WillGive list rows.entry → AreMarksIn list self.old → AreMarksIn list self.new }
         ensures found { IfOk result (λ row. (list : List spec.Row) → WillGive list rows.entry → AreMarksIn list self.old
             → IsOrdered list → row ≡ sequence.row_at position list) }
     {
         let mut mark = self.nearest(rows, position);
-        while mark.go_on(position) {
+        while mark.go_on(position, spacing(*close)) {
+            *close = close.saturating_sub(1);
             self.marks.push(mark.fork())?;
         }
         Ok(mark.last)
@@ -158,4 +167,11 @@ impl<'a> Marks<'a> {
         }
         Mark::before(rows)
     }
+}
+
+// The number of rows from one mark to the next, where so many may yet be close together.
+fn spacing(close: usize) -> usize
+    ensures { 0 < result }
+{
+    if close == 0 { WIDE } else { CLOSE }
 }

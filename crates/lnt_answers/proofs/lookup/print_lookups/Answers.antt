@@ -1,7 +1,6 @@
-use Rattle.std.proofs.Common.{[], ◌∙◌, arith}
-use Rattle.std.proofs.lemmas.Grind.{common_steps}
+use Rattle.std.proofs.Common.{[], ◌∙◌}
 use Rattle.lnt_io.proofs.FrontLaws.{front_in_items, so_stopped}
-use Rattle.lnt_answers.proofs.FileLemmas.{gained_more}
+use Rattle.lnt_answers.proofs.FileLemmas.{gained_all, gained_more}
 use Rattle.lnt_answers.specs.Lines.{lookup_line}
 use Rattle.lnt_answers.proofs.lookup.print_lookups.Goals as goal
 
@@ -25,4 +24,7 @@ returns-in_err-print_lookup-clause-front g c dead skip units is =
     c.loop-position-test.true (c.loop-position.invariant.lines dead skip units is) (front dead skip units is))
 
 pub returns-clause-lines : goal.returns-clause-lines
-returns-clause-lines g c = grind (arith, common_steps)
+returns-clause-lines g c dead skip units is =
+    gained_all (lookup_line c.args.index.now dead skip units) [] c.args.positions.now c.loop-position.position-index
+    (g.W.Write.contents c.args.out.now) (g.W.Write.contents c.loop-position.out) c.loop-position-test.false
+    (c.loop-position.invariant.lines dead skip units is)

@@ -7,7 +7,7 @@ use Rattle.lnt_sequences.proofs.marks.Mark.go_on.Goals as goal
 pub loop-init : goal.loop-init
 loop-init c = record {
   in_rows = λ rows is. rw c.fork-after.ensures is;
-  not_above = c.requires;
+  not_above = c.requires.not_above;
   fewer = rw c.fork-after.ensures (omega arith);
 }
 
@@ -34,4 +34,4 @@ pub returns-clause-goes_on : goal.returns-clause-goes_on
 returns-clause-goes_on c rows is = c.loop.invariant.in_rows rows is
 
 pub returns-clause-fewer : goal.returns-clause-fewer
-returns-clause-fewer c = λ same. omega (arith, c.loop.invariant.fewer)
+returns-clause-fewer c = λ same. omega (arith, c.requires.some, c.loop.invariant.fewer)

@@ -1,0 +1,49 @@
+-- Texts that are written from their ends on.
+use Rattle.std.proofs.Common.{◌≡◌, ◌∙◌, ℕ, Bool, true, false, if◌then◌else◌, List, [], ◌++◌, codes, decimal, append_assoc, append-nil, ap, refl, sym}
+use Rattle.std.specs.Int.{from_bool}
+use Rattle.lnt_spans.specs.declared.answer.Answer.{Answer}
+use Rattle.lnt_spans.specs.declared.position.Position.{Position}
+use Rattle.lnt_text.specs.Texts.{position_text}
+use Rattle.lnt_answers.specs.Lines.{numbers_text, place_text, row_text}
+
+-- the number of a truth value
+bool_number : (b : Bool) → from_bool b ≡ (if b then 1 else 0)
+bool_number true = refl
+bool_number false = refl
+
+-- the numbers of an answer and the words before them, from the end on
+pub numbers_of : {t0 t1 t2 t3 t4 t5 t6 t7 t8 t9 t10 : List ℕ} (answer : Answer) (stmt : ℕ) → t0 ≡ [] → stmt ≡ from_bool answer.is_stmt
+    → t1 ≡ decimal stmt ++ t0 → t2 ≡ codes " stmt " ++ t1 → t3 ≡ decimal answer.column ++ t2 → t4 ≡ codes " column " ++ t3
+    → t5 ≡ decimal answer.line ++ t4 → t6 ≡ codes " line " ++ t5 → t7 ≡ decimal answer.file ++ t6 → t8 ≡ codes " file " ++ t7
+    → t9 ≡ decimal answer.unit ++ t8 → t10 ≡ codes " unit " ++ t9 → t10 ≡ numbers_text answer
+numbers_of answer stmt e0 stmt_is e1 e2 e3 e4 e5 e6 e7 e8 e9 e10 =
+    let s1 = e1 ∙ ap (λ rest. decimal stmt ++ rest) e0 ∙ append-nil (decimal stmt) ∙ ap decimal (stmt_is ∙ bool_number answer.is_stmt) in
+    let s2 = e2 ∙ ap (λ rest. codes " stmt " ++ rest) s1 in
+    let s3 = e3 ∙ ap (λ rest. decimal answer.column ++ rest) s2 in
+    let s4 = e4 ∙ ap (λ rest. codes " column " ++ rest) s3 in
+    let s5 = e5 ∙ ap (λ rest. decimal answer.line ++ rest) s4 in
+    let s6 = e6 ∙ ap (λ rest. codes " line " ++ rest) s5 in
+    let s7 = e7 ∙ ap (λ rest. decimal answer.file ++ rest) s6 in
+    let s8 = e8 ∙ ap (λ rest. codes " file " ++ rest) s7 in
+    let s9 = e9 ∙ ap (λ rest. decimal answer.unit ++ rest) s8 in
+    e10 ∙ ap (λ rest. codes " unit " ++ rest) s9
+
+-- the position before them is the beginning of the line
+pub answer_text : (position : Position) (answer : Answer)
+    → position_text position ++ numbers_text answer ≡ place_text position answer ++ row_text answer
+answer_text position answer =
+    let row = row_text answer in
+    let file = codes " file " ++ (decimal answer.file ++ codes " ") in
+    let unit = codes " unit " ++ (decimal answer.unit ++ file) in
+    sym (append_assoc (position_text position) unit row
+    ∙ ap (λ (rest : List ℕ). position_text position ++ (codes " unit " ++ rest))
+    (append_assoc (decimal answer.unit) file row
+    ∙ ap (λ (rest : List ℕ). decimal answer.unit ++ (codes " file " ++ rest)) (append_assoc (decimal answer.file) (codes " ") row)))
+
+-- a line with the position and then the numbers
+pub answer_put : (old mid new : List ℕ) (position : Position) (answer : Answer) (numbers : List ℕ) → mid ≡ old ++ position_text position
+    → numbers ≡ numbers_text answer → new ≡ mid ++ numbers → new ≡ old ++ (place_text position answer ++ row_text answer)
+answer_put old mid new position answer numbers before numbers_are here =
+    here ∙ ap (λ (z : List ℕ). z ++ numbers) before ∙ ap (λ (z : List ℕ). (old ++ position_text position) ++ z) numbers_are
+    ∙ append_assoc old (position_text position) (numbers_text answer)
+    ∙ ap (λ (z : List ℕ). old ++ z) (answer_text position answer)
