@@ -6,9 +6,9 @@ mod output;
 mod system;
 
 use exit::exit_code;
-use lnt_cli::{CliStop, Status, run_with_notes};
+use lnt_cli::{CliStop, FileStop, Status, run_with_notes};
 use output::Output;
-use std::alloc::Global;
+use std::alloc::{AllocError, Global};
 use std::cell::Cell;
 use std::env;
 use std::io::{self, BufWriter, ErrorKind, Write};
@@ -21,7 +21,7 @@ fn main(rt: HostRuntime) -> ExitCode {
     let is_unread = Cell::new(false);
     let ended = run_words(&rt, &is_unread, &mut notes);
     // Whoever closed the pipe wants nothing more from it.
-    if !(is_unread.get() && matches!(&ended, Err(CliStop::Write))) {
+    if !(is_unread.get() && matches!(&ended, Err(CliStop::File(FileStop::Write)))) {
         tell(&rt, &ended, &notes);
     }
     exit_code(&ended)
@@ -33,7 +33,7 @@ fn tell(rt: &HostRuntime, ended: &Result<Status, CliStop>, notes: &[u8]) {
         let _ = match stop {
             // A usage text already ends in a line feed.
             CliStop::Usage(text) => rt.eprint(text),
-            _ => rt.eprintln(stop),
+            CliStop::File(stop) => rt.eprintln(stop),
         };
     }
     let _ = rt.stderr().write_all(whole_lines(notes));
@@ -53,13 +53,13 @@ fn run_words(
         is_unread,
     };
     let Ok(mut out) = BufWriter::new(alloc, output) else {
-        return Err(CliStop::Memory);
+        return Err(CliStop::from(AllocError));
     };
     let reason = Cell::new(None);
     let ended = run_with_notes(alloc, words, &mut System::new(rt, &reason), &mut out, notes);
     let flushed = out.flush();
     if ended.is_ok() && flushed.is_err() {
-        return Err(CliStop::Write);
+        return Err(CliStop::File(FileStop::Write));
     }
     ended
 }
@@ -77,7 +77,7 @@ fn whole_lines(notes: &[u8]) -> &[u8] {
 fn words_of(rt: &HostRuntime, alloc: Global) -> Result<Vec<String>, CliStop> {
     match env::args(rt) {
         Ok(words) => Ok(words.collect(alloc)?),
-        Err(error) if error.kind() == ErrorKind::OutOfMemory => Err(CliStop::Memory),
+        Err(error) if error.kind() == ErrorKind::OutOfMemory => Err(CliStop::from(AllocError)),
         Err(_) => {
             let text = "error: a word isn't UTF-8\n\nFor more information, try '--help'.\n";
             Err(CliStop::Usage(String::from_str(alloc, text)?))

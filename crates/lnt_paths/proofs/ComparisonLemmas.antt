@@ -6,6 +6,8 @@ use Rattle.std.proofs.lemmas.Bool.{cases_lt}
 use Rattle.lnt_digits.specs.Digits.{IsAddress, IsDecimal}
 use Rattle.lnt_records.specs.declared.fault.TableFault.TheVariants as fault
 use Rattle.lnt_records.specs.declared.fault.TableFault.{TableFault}
+use Rattle.lnt_records.specs.declared.outcome.Outcome.{Outcome}
+use Rattle.lnt_records.specs.declared.outcome.Outcome.TheVariants.{Fault, Found}
 use Rattle.lnt_records.specs.Reading.{IsReadAs}
 use Rattle.lnt_records.specs.Table.{BeginsWith, Fields, RecordsOf}
 use Rattle.lnt_spans.specs.declared.answer.Answer.{Answer}
@@ -18,8 +20,11 @@ use Rattle.lnt_paths.specs.declared.record.PathRecord.{PathRecord}
 use Rattle.lnt_paths.specs.declared.version.PathVersion.{PathVersion}
 use Rattle.lnt_paths.specs.Merging.{IsMerged, JudgesByPath, path_end}
 use Rattle.lnt_paths.specs.PathAnswers.{PathAnswer}
-use Rattle.lnt_spans.specs.Merged.{answer_told, end_of_records}
-use Rattle.lnt_paths.specs.PathDifferences.{AnswersByPath, DiffersByPath, IsLeastPathDifference}
+use Rattle.lnt_spans.specs.declared.found.Found.{Found as FoundSpec}
+use Rattle.lnt_spans.specs.Merged.{AreFound, answer_told, end_of_records, first_of}
+use Rattle.lnt_paths.specs.PathDifferences.{IsLeastPathDifference, IsPathComparison}
+use Rattle.lnt_paths.specs.PathOutcomes.{IsPathOutcome, compared_of, whole_of}
+use Rattle.lnt_paths.specs.PathStretches.{stretch_of}
 use Rattle.lnt_paths.specs.PathFaults.{IsFaultyRecord, IsPathFault}
 use Rattle.lnt_paths.specs.PathSpans.{PathSpan, StandInOrder, path_span_answer, whole}
 use Rattle.lnt_paths.specs.PathTables.{IsPathRecord, IsPathTable, SaysPath, by_path, path_column_names}
@@ -111,23 +116,28 @@ judges_none to_come tell version comparison list merged count = record {
   merged = merged;
 }
 
-pub same_told : {S : Type 0} (to_come : S → List Span → Type 0) (tell : PathVersion → Answer → PathAnswer) (version : PathVersion)
+pub found_told : {S : Type 0} (to_come : S → List Span → Type 0) (tell : PathVersion → Answer → PathAnswer) (version : PathVersion)
     (comparison : PathComparison S)
-    (bytes : List ℕ) (list : List Span) (records : List Fields) → (j : JudgesByPath to_come (tell version) version comparison list records)
-    → RecordsOf bytes records
-    → ((p : Position) → answer_told (tell version) list p ≡ path_span_answer j.table p)
-    → AnswersByPath bytes (λ version. answer_told (tell version) list)
-same_told to_come tell version comparison bytes list records j all agree =
-    record { version = version; table = j.table; is_table = (records, all, j.is_table); agree = agree }
-
-pub difference_told : {S : Type 0} (to_come : S → List Span → Type 0) (tell : PathVersion → Answer → PathAnswer) (version : PathVersion)
-    (comparison : PathComparison S)
-    (bytes : List ℕ) (list : List Span) (records : List Fields) (difference : DifferenceByPath)
+    (bytes : List ℕ) (list : List Span) (records : List Fields) (found : FoundSpec DifferenceByPath)
     → (j : JudgesByPath to_come (tell version) version comparison list records)
-    → RecordsOf bytes records → IsLeastPathDifference (answer_told (tell version) list) (path_span_answer j.table) difference
-    → DiffersByPath bytes (λ version. answer_told (tell version) list) difference
-difference_told to_come tell version comparison bytes list records difference j all least =
-    record { version = version; table = j.table; is_table = (records, all, j.is_table); least = least }
+    → RecordsOf bytes records → AreFound stretch_of (answer_told (tell version) list) (path_span_answer j.table) found
+    → IsPathOutcome bytes (λ version. answer_told (tell version) list) (Found found)
+found_told to_come tell version comparison bytes list records found j all told =
+    record { version = version; table = j.table; is_table = (records, all, j.is_table); found = told }
+
+-- at all positions
+pub compared_whole : (bytes : List ℕ) (section : PathVersion → Position → Option PathAnswer) (outcome : Outcome DifferenceByPath)
+    → IsPathOutcome bytes section outcome → IsPathComparison bytes section (whole_of outcome)
+compared_whole bytes section (Fault told) h = h
+compared_whole bytes section (Found found) h = by_first (first_of found) h.found.first
+  where
+    by_first : (first : Option DifferenceByPath)
+        → MatchOption first ((p : Position) → section h.version p ≡ path_span_answer h.table p)
+        (λ difference. IsLeastPathDifference (section h.version) (path_span_answer h.table) difference)
+        → IsPathComparison bytes section (compared_of first)
+    by_first None agree = record { version = h.version; table = h.table; is_table = h.is_table; agree = agree }
+    by_first (Some difference) least =
+        record { version = h.version; table = h.table; is_table = h.is_table; least = least }
 
 -- a record was taken, or its fault is that of the bytes
 pub found_in : (version : PathVersion) (records : List Fields) (fields : Fields) (found : Option TableFault) (Taken : Type 0)

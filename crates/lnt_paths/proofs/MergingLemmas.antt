@@ -1,15 +1,16 @@
 -- A section's spans are compared with the records of a table by path, one after another.
-use Rattle.std.proofs.Common.{◌≡◌, ◌∙◌, ℕ, ◌<◌, ◌≤◌, List, [], ◌∷◌, ◌++◌, inl, inr, refl, sym, subst, Some, None, Option, arith}
+use Rattle.std.proofs.Common.{◌≡◌, ◌∙◌, ℕ, ◌<◌, ◌≤◌, List, [], ◌∷◌, ◌++◌, inl, inr, refl, sym, subst, None, Option, arith}
 use Rattle.lnt_spans.specs.declared.answer.Answer.{Answer}
 use Rattle.lnt_spans.specs.declared.merge.Merge.{Merge}
 use Rattle.lnt_spans.specs.declared.position.Position.{Position}
 use Rattle.lnt_spans.specs.declared.span.Span.{Span}
 use Rattle.lnt_spans.specs.Ahead.{IsAhead}
-use Rattle.lnt_spans.specs.Merged.{HasMerged, HasOneMore, end_of_records}
+use Rattle.lnt_spans.specs.Merged.{BeginFrom, HasMerged, HasOneMore, end_of_records}
 use Rattle.lnt_spans.specs.Positions.{IsBelow, IsAtMost}
 use Rattle.lnt_spans.specs.Spans.{AreInOrder}
 use Rattle.lnt_spans.proofs.MergedLemmas as any
-use Rattle.lnt_spans.proofs.PositionLaws.{at_most_trans, below_at_most, below_is_at_most, order_cases}
+use Rattle.lnt_spans.proofs.PassedLaws.{begin_after}
+use Rattle.lnt_spans.proofs.PositionLaws.{at_most_trans, below_at_most, below_is_at_most, not_both, order_cases}
 use Rattle.lnt_paths.specs.declared.answer.DifferenceByPath.{DifferenceByPath}
 use Rattle.lnt_paths.specs.declared.record.PathRecord.{PathRecord}
 use Rattle.lnt_paths.specs.Merging.{IsMerged, path_end}
@@ -27,11 +28,13 @@ origin_first p = record { address = omega arith; op = λ e. omega arith }
 
 -- none was compared yet
 pub merged_none : {S : Type 0} (to_come : S → List Span → Type 0) (tell : Answer → PathAnswer) (merge : Merge S DifferenceByPath)
-    (list : List Span) → end_of_records merge ≡ whole 0 → merge.first ≡ None → IsAhead to_come merge.spans list → AreInOrder list
-    → IsMerged to_come tell merge list []
-merged_none to_come tell merge list at none ahead order = record {
+    (list : List Span) → end_of_records merge ≡ whole 0 → merge.gap ≡ None → merge.mistake ≡ None → merge.missed ≡ 0
+    → IsAhead to_come merge.spans list → AreInOrder list → IsMerged to_come tell merge list []
+merged_none to_come tell merge list at gap mistake missed ahead order = record {
   at_is = at;
-  merged = any.merged_start to_come tell stretch_of merge list (path_span_answer []) at none ahead order (λ p. refl);
+  merged = any.merged_past to_come tell stretch_of merge list (path_span_answer []) gap mistake missed (λ p h. refl)
+      (λ p h. absurd (not_both h (subst (λ (q : Position). IsAtMost q p) (sym at) (origin_first p)))) list ahead order
+      (subst (λ (q : Position). BeginFrom q list) (sym at) (begin_after [] list order)) (λ p h. refl);
 }
 
 -- a record after those that give no answer at p
@@ -79,10 +82,8 @@ one_more at table said h ended =
     let span = record_span said in
     record {
       before = λ p k. answer_push_before table span p (below_at_most k h.past);
-      next = record {
-        gap = λ p k l. answer_push_before table span p l ∙ ended p k;
-        says = λ p k l. answer_push_none table (span ∷ []) p (ended p (at_most_trans h.past k)) ∙ answer_in span [] p k l;
-      };
+      gap = λ p k l. answer_push_before table span p l ∙ ended p k;
+      says = λ p k l. answer_push_none table (span ∷ []) p (ended p (at_most_trans h.past k)) ∙ answer_in span [] p k l;
       ended = λ p k. answer_push_none table (span ∷ []) p (ended p (at_most_trans h.past (at_most_trans (below_is_at_most h.holds) k)))
           ∙ answer_after span [] p k;
     }

@@ -1,11 +1,9 @@
 -- The lines of a table by path that are passed are the records that `csv` reads.
-use Rattle.std.proofs.Common.{◌≡◌, ◌≢◌, ◌∙◌, ℕ, ◌+◌, ◌-◌, ◌<◌, ◌≤◌, Bool, true, false, List, [], ◌∷◌, ◌++◌, Option, Some}
+use Rattle.std.proofs.Common.{◌≡◌, ◌∙◌, ℕ, ◌+◌, ◌-◌, ◌<◌, ◌≤◌, List, [], ◌∷◌, ◌++◌, Option, Some}
 use Rattle.std.proofs.Common.{None, length, length-append, length-drop, get_or, drop, take, if◌then◌else◌}
 use Rattle.std.proofs.Common.{refl, sym, ap, subst, append_assoc, append-nil, arith}
 use Rattle.std.proofs.lemmas.List.{drop-drop, drop_more, take-append-drop, take_all}
 use Rattle.std.proofs.lemmas.List.Elements.{recursion_from_All}
-use Rattle.std.specs.Bool.{MatchBool}
-use Rattle.std.specs.Prelude.{MatchOption}
 use Rattle.std.specs.List.{All}
 use Rattle.csv.specs.Machine.{Read, next_record}
 use Rattle.csv.specs.Reading.{Reached, default_config, strip_bom}
@@ -13,12 +11,9 @@ use Rattle.csv.specs.Writing.{default_writer, field_text, fields_text, is_blank,
 use Rattle.csv.specs.declared.parser.State.{State}
 use Rattle.csv.specs.declared.parser.State.TheVariants as st
 use Rattle.lnt_digits.specs.Digits.{IsAddress, IsDecimal}
-use Rattle.lnt_records.proofs.BeginningLaws.{records_begin}
-use Rattle.lnt_records.proofs.ReadingLaws.{first_same, no_record}
 use Rattle.lnt_digits.specs.Delimited.{Begins}
 use Rattle.lnt_spans.specs.Merged.{end_of_records}
-use Rattle.lnt_records.specs.Reading.{BytesReader, HasRead, IsNarrow}
-use Rattle.lnt_records.specs.Table.{BeginsWith, Fields, RecordsOf}
+use Rattle.lnt_records.specs.Table.{Fields}
 use Rattle.lnt_spans.specs.declared.answer.Answer.{Answer}
 use Rattle.lnt_spans.specs.declared.span.Span.{Span}
 use Rattle.lnt_records.proofs.LineLaws as any
@@ -29,15 +24,13 @@ use Rattle.lnt_paths.specs.declared.record.PathRecord.{PathRecord}
 use Rattle.lnt_paths.specs.declared.version.PathVersion.{PathVersion}
 use Rattle.lnt_paths.specs.declared.version.PathVersion.TheVariants.{Three, Four}
 use Rattle.lnt_paths.specs.PathLines.{IsPlainByte}
-use Rattle.lnt_paths.specs.Merging.{IsMerged, JudgesByPath}
+use Rattle.lnt_paths.specs.Merging.{IsMerged}
 use Rattle.lnt_paths.specs.Passing.{GoesOnAs, HasTaken, IsAfter, IsPathBefore, IsPathLine, IsPlace}
 use Rattle.lnt_paths.specs.PathAnswers.{PathAnswer}
 use Rattle.lnt_paths.specs.PathSpans.{PathSpan, whole}
-use Rattle.lnt_paths.specs.PathFaults.{IsFaultyRecord, IsPathFault}
-use Rattle.lnt_paths.specs.PathTables.{IsPathTable, SaysPath, by_path, path_column_names}
+use Rattle.lnt_paths.specs.PathTables.{SaysPath, by_path, path_column_names}
 use Rattle.lnt_paths.specs.Reading.{record_answer, record_span}
 use Rattle.lnt_paths.specs.Written.{plain_by_path}
-use Rattle.lnt_records.specs.declared.fault.TableFault.{TableFault}
 use Rattle.lnt_paths.proofs.ComparisonLemmas.{record_taken}
 use Rattle.lnt_paths.proofs.OneTableLemmas.{pathed}
 use Rattle.lnt_paths.proofs.LineLemmas.{line_fields, plain_paths, quiet_by_recursion}

@@ -9,6 +9,7 @@ pub mod PathAnswers
 pub mod PathDifferences
 pub mod PathFaults
 pub mod PathLines
+pub mod PathOutcomes
 pub mod PathSpans
 pub mod PathStretches
 pub mod PathTables

@@ -2,7 +2,7 @@
 ghost use Rattle.std.specs.Prelude.{◌≡◌, ◌+◌, ◌^◌, ◌<◌, ◌≤◌, List, [], ◌∷◌, ◌++◌, length, IfOk, MatchOption, OnOk, ℕ};
 ghost use Rattle.csv.specs.Records.{fields_of};
 ghost use Rattle.lnt_records.specs.Reading.{IsNarrow};
-ghost use Rattle.lnt_records.specs.Table.{BeginsWith, Fields};
+ghost use Rattle.lnt_records.specs.Table.{Fields};
 ghost use Rattle.lnt_spans.specs.declared.answer.Answer as answer;
 ghost use Rattle.lnt_spans.specs.declared.span.Span as spec;
 ghost use Rattle.lnt_spans.specs.Spans.{AreInOrder};
@@ -10,19 +10,19 @@ ghost use Rattle.lnt_paths.specs.declared.version.PathVersion.{PathVersion};
 ghost use Rattle.lnt_paths.specs.Merging.{IsMerged, IsReady, JudgesByPath};
 ghost use Rattle.lnt_paths.specs.Passing.{IsAfter};
 ghost use Rattle.lnt_paths.specs.PathAnswers.{PathAnswer, path_answer, spans_by_path};
-ghost use Rattle.lnt_paths.specs.PathDifferences.{IsPathComparison};
 ghost use Rattle.lnt_paths.specs.PathFaults.{IsFaultyRecord};
+ghost use Rattle.lnt_paths.specs.PathOutcomes.{IsPathOutcome};
 ghost use Rattle.lnt_paths.specs.PathSpans.{PathSpan, whole};
-ghost use Rattle.lnt_paths.specs.PathTables.{IsPathTable, path_column_names};
-ghost use Rattle.lnt_paths.specs.Reading.{record_answer, record_span};
+ghost use Rattle.lnt_paths.specs.PathTables.{IsPathTable};
+ghost use Rattle.lnt_paths.specs.Reading.{record_span};
 
-use crate::answer::{ComparedByPath, DifferenceByPath};
+use crate::answer::DifferenceByPath;
 use crate::paths::Paths;
 use crate::record::{PathRecord, record_after};
 use crate::telling::{PathMemory, PathTelling};
 use crate::version::PathVersion;
 use csv::ByteRecord;
-use lnt_records::{TableFault, TakesRecords, header_of, take_records};
+use lnt_records::{Outcome, TableFault, TakesRecords, header_of, take_records};
 use lnt_spans::{Merge, Position, SpanSource};
 use std::alloc::{AllocError, Global};
 use std::marker::PhantomData;
@@ -30,10 +30,9 @@ use std::marker::PhantomData;
 /// Compares the table by path in these bytes with the spans of a section, which come from a source.
 ///
 /// As long as the table's lines have nothing in quotes, they are parsed in one pass over their bytes; the records after
-/// these are read one by one by `csv`. None is kept. `Same`: the bytes are a table by path that answers at every position as
-/// the spans do, with paths, in the fields of the table's version: paths are compared byte for byte. `Fault`: the bytes are
-/// not such a table. The first faulty record is reported, even if answers differed before it. `Differs`: all records are
-/// well formed, and the answers differ at this position and at no lower one; both are reported in the table's version.
+/// these are read one by one by `csv`. None is kept. `Found`: the bytes are a table by path, and this is what its comparison
+/// with the spans found, with paths, in the fields of the table's version: paths are compared byte for byte. `Fault`: the bytes
+/// are not such a table. The first faulty record is reported, even if answers differed before it.
 ///
 /// No list of the spans is made, and a path is made again only after another file took its slot in a cache. The caller makes
 /// sure that the spans are in order and none is empty. Fails only if memory runs out.
@@ -42,12 +41,12 @@ pub fn compare_by_path<S: SpanSource + Drop, P: Paths>(
     table: &[u8],
     spans: S,
     paths: &P,
-) -> Result<ComparedByPath, AllocError>
-    ensures { IfOk result (λ compared. (list : List spec.Span) → S.to_come spans list → AreInOrder list
-        → IsPathComparison table.now (λ version. spans_by_path version (P.bytes_of paths.now) list) compared) }
+) -> Result<Outcome<DifferenceByPath>, AllocError>
+    ensures { IfOk result (λ outcome. (list : List spec.Span) → S.to_come spans list → AreInOrder list
+        → IsPathOutcome table.now (λ version. spans_by_path version (P.bytes_of paths.now) list) outcome) }
 {
     let Some(version) = header_of::<PathVersion>(alloc, table)? else {
-        return Ok(ComparedByPath::Fault(TableFault::Header));
+        return Ok(Outcome::Fault(TableFault::Header));
     };
     let Ok(mut comparison) = PathComparison::new(alloc, spans) else {
         return Err(AllocError);
@@ -65,13 +64,13 @@ fn compare_after<S: SpanSource + Drop, P: Paths>(
     version: PathVersion,
     mut comparison: PathComparison<S>,
     paths: &P,
-) -> Result<ComparedByPath, AllocError>
+) -> Result<Outcome<DifferenceByPath>, AllocError>
     requires known { IsReady (P.bytes_of paths.now) comparison }
     requires past { (bytes : List ℕ) × (records : List Fields) × IsAfter bytes text.now records }
     requires few { comparison.count + length text.now < 2 ^ 64 + 1 }
-    ensures { IfOk result (λ compared. (bytes : List ℕ) (records : List Fields) (list : List spec.Span) → IsAfter bytes text.now records
+    ensures { IfOk result (λ outcome. (bytes : List ℕ) (records : List Fields) (list : List spec.Span) → IsAfter bytes text.now records
         → JudgesByPath S.to_come (path_answer version (P.bytes_of paths.now)) version comparison list records
-        → IsPathComparison bytes (λ version. spans_by_path version (P.bytes_of paths.now) list) compared) }
+        → IsPathOutcome bytes (λ version. spans_by_path version (P.bytes_of paths.now) list) outcome) }
 {
     let taker = PathTaker {
         alloc,
@@ -79,7 +78,7 @@ fn compare_after<S: SpanSource + Drop, P: Paths>(
         version,
     };
     if let Some(fault) = take_records(alloc, text, &taker, &mut comparison)? {
-        return Ok(ComparedByPath::Fault(fault));
+        return Ok(Outcome::Fault(fault));
     }
     let telling = PathTelling {
         alloc,
@@ -88,8 +87,7 @@ fn compare_after<S: SpanSource + Drop, P: Paths>(
         held: PhantomData,
     };
     match comparison.merge.finish(&telling) {
-        Ok(Some(difference)) => Ok(ComparedByPath::Differs(difference)),
-        Ok(None) => Ok(ComparedByPath::Same),
+        Ok(found) => Ok(Outcome::Found(found)),
         Err(_) => Err(AllocError),
     }
 }

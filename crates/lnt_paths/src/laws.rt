@@ -29,9 +29,9 @@ pub fn one_difference()
     ensures { OneLeastPathDifference }
 {}
 
-/// For given bytes, and what a section answers, [`compare_by_path`](crate::compare_by_path) has only one possible result:
-/// that both answer the same, one fault, or one position with two answers. Paths count by their bytes, not by where they are
-/// held.
+/// For given bytes, and what a section answers, a comparison at all positions
+/// ([`ComparedByPath::whole_of`](crate::ComparedByPath::whole_of)) has only one possible result: that both answer the same, one
+/// fault, or one position with two answers. Paths count by their bytes, not by where they are held.
 pub fn one_comparison()
     ensures { OnePathComparison }
 {

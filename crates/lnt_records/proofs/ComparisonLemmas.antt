@@ -1,17 +1,25 @@
 -- What a comparison knows after one more record, and its result.
-use Rattle.std.proofs.Common.{◌≡◌, ◌∙◌, ℕ, ◌+◌, ◌^◌, ◌<◌, List, [], ◌∷◌, ◌++◌, append-nil, append_assoc, length, length-append, refl}
-use Rattle.std.proofs.Common.{sym, subst, arith}
+use Rattle.std.proofs.Common.{◌≡◌, ◌∙◌, ℕ, ◌+◌, List, [], ◌∷◌, ◌++◌, length-append, refl}
+use Rattle.std.proofs.Common.{Option, None, Some, sym, arith}
+use Rattle.std.specs.Prelude.{MatchOption}
 use Rattle.lnt_spans.specs.declared.answer.Version.{Version}
 use Rattle.lnt_spans.specs.declared.position.Position.{Position}
 use Rattle.lnt_spans.specs.declared.difference.Difference.{Difference}
 use Rattle.lnt_spans.specs.declared.span.Span.{Span}
 use Rattle.lnt_spans.specs.Comparing.{Compares}
-use Rattle.lnt_spans.specs.Differences.{Agree, IsLeastDifference}
+use Rattle.lnt_spans.specs.declared.found.Found.{Found as FoundSpec}
+use Rattle.lnt_spans.specs.Differences.{Agree, IsFirstDifference}
+use Rattle.lnt_spans.specs.Merged.{AreFound, first_of}
 use Rattle.lnt_spans.specs.Spans.{AreInOrder, span_answer, version_answer}
+use Rattle.lnt_spans.specs.Stretches.{stretch_of}
+use Rattle.lnt_spans.proofs.FoundLaws.{found_so}
 use Rattle.lnt_records.specs.declared.comparison.Comparison.{Comparison}
-use Rattle.lnt_records.specs.Faults.{AnswersAs, DiffersSo}
+use Rattle.lnt_records.specs.declared.outcome.Outcome.{Outcome}
+use Rattle.lnt_records.specs.declared.outcome.Outcome.TheVariants.{Fault, Found}
+use Rattle.lnt_records.specs.Faults.{IsComparison}
+use Rattle.lnt_records.specs.Outcomes.{IsOutcome, compared_of, whole_of}
 use Rattle.lnt_records.specs.Progress.{Judges}
-use Rattle.lnt_records.specs.Table.{BeginsWith, Fields, IsSpanRecord, IsTable, RecordsOf, by_number, column_names}
+use Rattle.lnt_records.specs.Table.{Fields, IsSpanRecord, RecordsOf, by_number, column_names}
 use Rattle.lnt_records.proofs.TableLaws.{table_push}
 
 -- ---- one more record
@@ -51,33 +59,31 @@ record_taken to_come old new section records fields span j s o same count versio
 abbrev pub AnswersSo : Version → List Span → List Span → Type 0
 AnswersSo version list section = (p : Position) → version_answer version list p ≡ version_answer version section p
 
-pub same_told : {S : Type 0} (to_come : S → List Span → Type 0) (bytes : List ℕ) (comparison : Comparison S) (list section : List Span)
-    (records : List Fields) → (j : Judges to_come comparison list records) → RecordsOf bytes records
-    → AnswersSo comparison.version list section → Agree (version_answer comparison.merge.version list) (span_answer j.table)
-    → AnswersAs bytes section
-same_told to_come bytes comparison list section records j all same agree =
-    let own : Agree (version_answer comparison.version list) (span_answer j.table) = rw j.version at agree in
+pub found_told : {S : Type 0} (to_come : S → List Span → Type 0) (bytes : List ℕ) (comparison : Comparison S) (list section : List Span)
+    (records : List Fields) (found : FoundSpec Difference) → (j : Judges to_come comparison list records) → RecordsOf bytes records
+    → AnswersSo comparison.version list section
+    → AreFound stretch_of (version_answer comparison.merge.version list) (span_answer j.table) found
+    → IsOutcome bytes section (Found found)
+found_told to_come bytes comparison list section records found j all same told =
+    let own : AreFound stretch_of (version_answer comparison.version list) (span_answer j.table) found = rw j.version at told in
     record {
       version = comparison.version;
       table = j.table;
       is_table = (records, all, j.is_table);
-      agree = λ p. sym (same p) ∙ own p;
+      found = found_so stretch_of (span_answer j.table) (version_answer comparison.version list)
+          (version_answer comparison.version section) found same own;
     }
 
-pub difference_told : {S : Type 0} (to_come : S → List Span → Type 0) (bytes : List ℕ) (comparison : Comparison S)
-    (list section : List Span) (records : List Fields) (difference : Difference) → (j : Judges to_come comparison list records)
-    → RecordsOf bytes records → AnswersSo comparison.version list section
-    → IsLeastDifference (version_answer comparison.merge.version list) (span_answer j.table) difference → DiffersSo bytes section difference
-difference_told to_come bytes comparison list section records difference j all same least =
-    let own : IsLeastDifference (version_answer comparison.version list) (span_answer j.table) difference = rw j.version at least in
-    record {
-      version = comparison.version;
-      table = j.table;
-      is_table = (records, all, j.is_table);
-      least = record {
-        section = own.section ∙ same difference.position;
-        table = own.table;
-        differ = own.differ;
-        least = λ p below. sym (same p) ∙ own.least p below;
-      };
-    }
+-- at all positions
+pub compared_whole : (bytes : List ℕ) (section : List Span) (outcome : Outcome Difference) → IsOutcome bytes section outcome
+    → IsComparison bytes section (whole_of outcome)
+compared_whole bytes section (Fault told) h = h
+compared_whole bytes section (Found found) h = by_first (first_of found) h.found.first
+  where
+    by_first : (first : Option Difference)
+        → MatchOption first (Agree (version_answer h.version section) (span_answer h.table))
+        (λ difference. IsFirstDifference (version_answer h.version section) (span_answer h.table) (stretch_of difference))
+        → IsComparison bytes section (compared_of first)
+    by_first None agree = record { version = h.version; table = h.table; is_table = h.is_table; agree = agree }
+    by_first (Some difference) least =
+        record { version = h.version; table = h.table; is_table = h.is_table; least = least }

@@ -1,6 +1,6 @@
 -- The spans of a table's records are gathered.
 use Rattle.std.proofs.Common.{◌≡◌, ◌≢◌, ◌∙◌, ℕ, List, [], ◌∷◌, ◌++◌, append-nil, append_assoc, ap, map, Option, refl, subst, sym, arith}
-use Rattle.std.specs.List.{AllByRecursion, AllZip}
+use Rattle.std.specs.List.{AllByRecursion}
 use Rattle.std.specs.Prelude.{IfOk, Result}
 use Rattle.std.proofs.lemmas.Result.{IfOk-weaker}
 use Rattle.std.specs.Option.{option_map}
@@ -25,8 +25,7 @@ use Rattle.lnt_records.specs.Progress.{IsContinuedBy, IsGathered}
 use Rattle.lnt_records.specs.declared.comparison.Comparison.{Comparison}
 use Rattle.lnt_records.specs.Passing.{IsCut, LeavesOff}
 use Rattle.lnt_records.specs.Progress.{Gathers, Judges}
-use Rattle.lnt_records.specs.Reading.{BytesReader, HasRead}
-use Rattle.lnt_records.specs.Table.{BeginsWith, Fields, IsSpanRecord, IsTable, IsTableOf, RecordsOf, by_number, column_names}
+use Rattle.lnt_records.specs.Table.{BeginsWith, Fields, IsTable, IsTableOf, RecordsOf, by_number, column_names}
 use Rattle.lnt_records.proofs.PassingLemmas.{all_told, version_same}
 use Rattle.lnt_records.proofs.TableLaws.{table_order}
 

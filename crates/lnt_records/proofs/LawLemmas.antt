@@ -10,7 +10,7 @@ use Rattle.lnt_spans.specs.Spans.{span_answer, version_answer}
 use Rattle.lnt_records.specs.declared.comparison.Compared.TheVariants.{Differs, Fault, Same}
 use Rattle.lnt_records.specs.Faults.{DiffersSo}
 use Rattle.lnt_records.specs.Laws.{ComparisonAgrees, NoFault, OneFault, OneTable}
-use Rattle.lnt_records.specs.Table.{IsTableOf, by_number, column_count, column_names}
+use Rattle.lnt_records.specs.Table.{IsTableOf, by_number, column_names}
 use Rattle.lnt_records.proofs.SaidLemmas.{count_at_most, one_span, sound_column}
 use Rattle.lnt_records.proofs.TableLaws as any
 use Rattle.lnt_records.proofs.TableLaws.{FormatLaws}

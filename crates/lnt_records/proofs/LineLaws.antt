@@ -13,7 +13,7 @@ use Rattle.lnt_io.specs.Fronts.{AppendsFront}
 use Rattle.lnt_io.proofs.FrontLaws.{front_after, front_before, front_none, front_same}
 use Rattle.lnt_records.specs.Passing.{IsCutAfter}
 use Rattle.lnt_records.specs.Progress.{AddsLine, AddsLines, HasBegunLines, HasWrittenLines}
-use Rattle.lnt_records.specs.Table.{Fields, IsTableOfIn, RecordsOf, TableFormat}
+use Rattle.lnt_records.specs.Table.{Fields, IsTableOfIn, TableFormat}
 use Rattle.lnt_records.specs.Written.{BeginsTableIn, IsPlainTableIn, LineFormat, lines_of}
 use Rattle.lnt_records.proofs.QuotingLaws.{none_left, same_back}
 

@@ -1,5 +1,5 @@
 -- Lines that are parsed are the records that `csv` reads.
-use Rattle.std.proofs.Common.{◌≡◌, ◌∙◌, ℕ, ◌<◌, ◌≤◌, List, [], ◌∷◌, ◌++◌, Option, Some, None, length, length-append, refl, sym, ap, subst}
+use Rattle.std.proofs.Common.{◌≡◌, ◌∙◌, ℕ, ◌<◌, List, [], ◌∷◌, ◌++◌, Option, Some, None, length, length-append, refl, sym, ap}
 use Rattle.std.proofs.Common.{append_assoc, arith}
 use Rattle.std.proofs.lemmas.List.{append-nil}
 use Rattle.lnt_spans.specs.declared.answer.Answer.{Answer}
@@ -10,7 +10,7 @@ use Rattle.lnt_spans.specs.declared.position.Position.{Position}
 use Rattle.lnt_spans.specs.declared.span.Span.{Span}
 use Rattle.lnt_digits.specs.Delimited.{Begins}
 use Rattle.lnt_records.specs.Lines.{AreMoreFields, IsAnswer, IsFlagBefore, IsMore, IsPosition, SaysLine}
-use Rattle.lnt_records.specs.Table.{AreMore, Fields, IsSpanRecord, column_count, column_names}
+use Rattle.lnt_records.specs.Table.{AreMore, Fields, column_count}
 use Rattle.lnt_records.specs.Written.{following, line_text}
 
 -- ---- parts of a line

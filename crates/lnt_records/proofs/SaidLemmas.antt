@@ -1,7 +1,6 @@
 -- What each column of a span's record holds, and that it is the record of one span only.
-use Rattle.std.proofs.Common.{◌≡◌, ◌∙◌, ℕ, zero, suc, ◌<◌, ◌≤◌, Bool, true, false, List, [], ◌∷◌, Option, Some, None, get_or, refl, sym, ap}
+use Rattle.std.proofs.Common.{◌≡◌, ◌∙◌, ℕ, zero, suc, ◌<◌, ◌≤◌, Bool, true, false, List, [], Option, Some, None, get_or, refl, sym, ap}
 use Rattle.std.proofs.Common.{arith}
-use Rattle.std.specs.List.{AllZip}
 use Rattle.lnt_digits.specs.Digits.{IsAddress, IsDecimal, IsPlainDecimal}
 use Rattle.lnt_digits.proofs.TextLaws.{one_address_number, one_decimal_number, plain_address}
 use Rattle.lnt_spans.specs.declared.answer.More.{More}

@@ -3,21 +3,20 @@ use Rattle.std.proofs.Common.{◌≡◌, ◌≢◌, ◌∙◌, ℕ, ◌+◌, ◌
 use Rattle.std.proofs.Common.{length-append, refl, ap, subst, sym, arith}
 use Rattle.std.proofs.Common.{Result, Ok, Err, IfOk, IsOkAnd, MatchResult}
 use Rattle.std.specs.List.{AllByRecursion, AllZip}
-use Rattle.csv.specs.Reading.{Reached, default_config, strip_bom}
-use Rattle.csv.specs.declared.parser.State.{State}
 use Rattle.csv.specs.declared.parser.State.TheVariants as st
 use Rattle.lnt_spans.specs.declared.answer.Version.{Version}
+use Rattle.lnt_spans.specs.declared.difference.Difference.{Difference}
 use Rattle.lnt_spans.specs.declared.position.Position.{Position}
 use Rattle.lnt_spans.specs.declared.span.Span.{Span}
 use Rattle.lnt_spans.specs.Comparing.{Compares, IsTold, Merging, end_of}
 use Rattle.lnt_spans.proofs.AnsweringLaws.{front_in_order}
 use Rattle.lnt_spans.specs.Spans.{AreInOrder}
 use Rattle.lnt_io.specs.Pulling.{Pulls}
-use Rattle.lnt_records.specs.declared.comparison.Compared.{Compared}
-use Rattle.lnt_records.specs.declared.comparison.Compared.TheVariants.{Fault}
+use Rattle.lnt_records.specs.declared.outcome.Outcome.{Outcome}
+use Rattle.lnt_records.specs.declared.outcome.Outcome.TheVariants.{Fault}
 use Rattle.lnt_records.specs.declared.fault.TableFault.TheVariants as fault
 use Rattle.lnt_records.specs.declared.stream.TableRead.TheVariants.{Compared as Told}
-use Rattle.lnt_records.specs.Faults.{IsComparison, IsTableRead}
+use Rattle.lnt_records.specs.Outcomes.{IsOutcome, IsTableRead}
 use Rattle.lnt_records.proofs.BeginningLaws.{first_begins}
 use Rattle.lnt_records.specs.Passing.{AreLines, Ends, HasPassed, IsCut, LeavesOff, Passes}
 use Rattle.lnt_records.specs.Progress.{Judges}
@@ -144,10 +143,10 @@ told_bytes (Some all) bytes P e h = subst P e h
 -- ---- the header's fault
 
 -- Bytes that begin with a header don't have the header's fault.
-pub not_header : (bytes : List ℕ) (version : Version) (section : List Span) (compared : Compared)
+pub not_header : (bytes : List ℕ) (version : Version) (section : List Span) (outcome : Outcome Difference)
     → BeginsWith bytes (column_names version ∷ [])
-    → IsComparison bytes section compared → compared ≢ Fault fault.Header
-not_header bytes version section compared begins h e = subst (IsComparison bytes section) e h version begins
+    → IsOutcome bytes section outcome → outcome ≢ Fault fault.Header
+not_header bytes version section outcome begins h e = subst (IsOutcome bytes section) e h version begins
 
 -- If a text with lines cut out begins with a header, the bytes begin with the same one.
 pub cut_begins : (version : Version) (text bytes : List ℕ) (passed : List Fields) → IsCut version text bytes passed
@@ -158,14 +157,14 @@ cut_begins version text bytes passed cut b =
 
 -- the result for the rest is the result for the whole table
 pub whole_told : {S : Type 0} (to_come : S → List Span → Type 0) (merge : Merging S) (version : Version) (section : List Span)
-    (a d : Option (List ℕ)) (la ld : ℕ) (names window text all : List ℕ) (count : ℕ) (compared : Compared)
+    (a d : Option (List ℕ)) (la ld : ℕ) (names window text all : List ℕ) (count : ℕ) (outcome : Outcome Difference)
     → names ≡ line_text (column_names version) → Passes a d la ld [] window (line_text (column_names version) ++ text)
     → Ends d ld (names ++ window) all → HasPassed to_come merge version section text count
     → ((list section : List Span) (passed : List Fields) (bytes : List ℕ)
     → Judges to_come (record { merge = merge; version = version; count = count }) list (column_names version ∷ passed)
-    → IsCut version all bytes passed → AnswersSo version list section → IsComparison bytes section compared)
-    → IfSome a (λ bytes. IsTableRead bytes section (Told compared))
-whole_told to_come merge version section a d la ld names window text all count compared e p ends h compare =
+    → IsCut version all bytes passed → AnswersSo version list section → IsOutcome bytes section outcome)
+    → IfSome a (λ bytes. IsTableRead bytes section (Told outcome))
+whole_told to_come merge version section a d la ld names window text all count outcome e p ends h compare =
     let line : List ℕ = line_text (column_names version) in
     let rest : List ℕ = window ++ ends.given in
     let records = h.lines.records in
@@ -181,9 +180,9 @@ whole_told to_come merge version section a d la ld names window text all count c
     let told = compare h.follows.spans section records (p.given ++ ends.given)
     (judges_passed to_come merge version section text count h) cut_both h.follows.same in
     let begins = cut_begins version all (p.given ++ ends.given) records cut_both (rest_begins version d ld names window all e ends) in
-    told_bytes a (p.given ++ ends.given) (λ (bytes : List ℕ). IsTableRead bytes section (Told compared))
+    told_bytes a (p.given ++ ends.given) (λ (bytes : List ℕ). IsTableRead bytes section (Told outcome))
     (whole_bytes a d p.given ends.given p.pulls ends.whole)
-    (told, not_header (p.given ++ ends.given) version section compared begins told)
+    (told, not_header (p.given ++ ends.given) version section outcome begins told)
 
 -- the bytes from which the rest was cut
 pub rest_cut : (version : Version) (a d : Option (List ℕ)) (la ld : ℕ) (names window text all : List ℕ) (table : List Span) (count : ℕ)

@@ -1,5 +1,5 @@
 -- A text that is cut off in its first record: with more bytes that record keeps the fields that it has, or gets more.
-use Rattle.std.proofs.Common.{◌≡◌, ◌∙◌, ℕ, ◌+◌, ◌<◌, ◌≤◌, Bool, true, false, List, [], ◌∷◌, ◌++◌, Option, Some, None, length, take, drop}
+use Rattle.std.proofs.Common.{◌≡◌, ◌∙◌, ℕ, ◌+◌, ◌≤◌, Bool, true, false, List, [], ◌∷◌, ◌++◌, Option, Some, None, length, take, drop}
 use Rattle.std.proofs.Common.{length-append, refl, sym, ap, arith}
 use Rattle.std.specs.Prelude.{◌==◌, if◌then◌else◌}
 use Rattle.std.proofs.lemmas.List.{take-append-drop}
@@ -11,10 +11,8 @@ use Rattle.csv.specs.declared.parser.Action.TheVariants as act
 use Rattle.csv.specs.declared.parser.State.{State}
 use Rattle.csv.specs.declared.parser.State.TheVariants as st
 use Rattle.csv.specs.declared.parser.Terminator.TheVariants as term
-use Rattle.lnt_spans.specs.declared.answer.Version.{Version}
-use Rattle.lnt_spans.specs.declared.answer.Version.TheVariants.{One, Two}
 use Rattle.lnt_records.specs.Reading.{BytesReader, HasRead, IsFrontOf}
-use Rattle.lnt_records.specs.Table.{BeginsWith, Fields, column_names}
+use Rattle.lnt_records.specs.Table.{BeginsWith, Fields}
 use Rattle.lnt_records.proofs.ReadingLaws.{first_same, same_read}
 
 -- ---- a record that has begun

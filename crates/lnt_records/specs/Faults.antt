@@ -7,11 +7,9 @@ use Rattle.lnt_spans.specs.Differences.{Agree, IsLeastDifference}
 use Rattle.lnt_spans.specs.Spans.{span_answer, version_answer}
 use Rattle.lnt_records.specs.declared.comparison.Compared.{Compared}
 use Rattle.lnt_records.specs.declared.comparison.Compared.TheVariants.{Same, Fault, Differs}
-use Rattle.lnt_records.specs.declared.stream.TableRead.{TableRead}
-use Rattle.lnt_records.specs.declared.stream.TableRead.TheVariants.{Compared as Read, Other}
 use Rattle.lnt_records.specs.declared.fault.TableFault.{TableFault}
 use Rattle.lnt_records.specs.declared.fault.TableFault.TheVariants as fault
-use Rattle.lnt_records.specs.Table.{BeginsWith, Fields, IsOfColumn, IsTableIn, IsTableOf, Kind, TableFormat, by_number, column_names}
+use Rattle.lnt_records.specs.Table.{BeginsWith, Fields, IsOfColumn, IsTableIn, IsTableOf, Kind, TableFormat, by_number}
 
 -- ---- one record
 
@@ -77,9 +75,3 @@ abbrev pub IsComparison : List ℕ → List Span → Compared → Type 0
 IsComparison bytes section Same = AnswersAs bytes section
 IsComparison bytes section (Fault told) = IsFault bytes told
 IsComparison bytes section (Differs difference) = DiffersSo bytes section difference
-
--- Either the table was compared, which happens only if it begins with the header of a version, so the fault isn't the
--- header's; or the bytes begin with the header of neither version and were given back.
-abbrev pub IsTableRead : List ℕ → List Span → TableRead → Type 0
-IsTableRead bytes section (Read told) = IsComparison bytes section told × (told ≢ Fault fault.Header)
-IsTableRead bytes section (Other text) = (text.items ≡ bytes) × ((version : Version) → BeginsWith bytes (column_names version ∷ []) → ⊥)

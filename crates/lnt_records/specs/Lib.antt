@@ -3,6 +3,7 @@ pub mod FaultTexts
 pub mod Faults
 pub mod Laws
 pub mod Lines
+pub mod Outcomes
 pub mod Passing
 pub mod Progress
 pub mod Reading

@@ -5,12 +5,14 @@ ghost use Rattle.lnt_spans.specs.declared.span.Span.{Span};
 ghost use Rattle.lnt_spans.specs.declared.position.Position.{Position};
 ghost use Rattle.lnt_spans.specs.Spans.{AreInOrder, version_answer};
 ghost use Rattle.lnt_records.specs.Faults.{IsComparison, IsFaulty};
+ghost use Rattle.lnt_records.specs.Outcomes.{IsOutcome, compared_of};
 ghost use Rattle.lnt_records.specs.Passing.{IsCut};
 ghost use Rattle.lnt_records.specs.Progress.{Judges};
 ghost use Rattle.lnt_records.specs.Table.{BeginsWith, Fields, IsSpanRecord, IsTable, column_names};
 
 use crate::fault::TableFault;
 use crate::header::header_of;
+use crate::outcome::Outcome;
 use crate::record::{RecordFault, span_of};
 use crate::taking::{TakesRecords, take_records};
 use csv::ByteRecord;
@@ -28,6 +30,18 @@ pub enum Compared {
     Differs(Difference),
 }
 
+impl Compared {
+    // No difference, or this one.
+    pub(crate) fn of(difference: Option<Difference>) -> Compared
+        ensures { result ≡ compared_of difference }
+    {
+        match difference {
+            None => Compared::Same,
+            Some(difference) => Compared::Differs(difference),
+        }
+    }
+}
+
 /// Compares the table in these bytes with the spans of a section.
 ///
 /// The records are read one by one, as `csv` reads them, and none is kept. `Same`: the bytes are a table that answers at
@@ -41,20 +55,20 @@ pub fn compare(alloc: Global, table: &[u8], spans: &[Span]) -> Result<Compared, 
     requires { AreInOrder spans.now }
     ensures { IfOk result (λ compared. IsComparison table.now spans.now compared) }
 {
-    compare_records(alloc, table, SpanSlice::of(spans))
+    Ok(compare_records(alloc, table, SpanSlice::of(spans))?.whole())
 }
 
-// Does the same with the spans of a source.
+// Does the same with the spans of a source, and gives all that was found.
 pub(crate) fn compare_records<S: SpanSource + Drop>(
     alloc: Global,
     table: &[u8],
     spans: S,
-) -> Result<Compared, AllocError>
+) -> Result<Outcome<Difference>, AllocError>
     requires { (list : List Span) × S.to_come spans list × AreInOrder list }
-    ensures { IfOk result (λ compared. (list : List Span) → S.to_come spans list → AreInOrder list → IsComparison table.now list compared) }
+    ensures { IfOk result (λ outcome. (list : List Span) → S.to_come spans list → AreInOrder list → IsOutcome table.now list outcome) }
 {
     let Some(version) = header_of::<Version>(alloc, table)? else {
-        return Ok(Compared::Fault(TableFault::Header));
+        return Ok(Outcome::Fault(TableFault::Header));
     };
     compare_after(alloc, table, MergeByNumber::new(spans, version), version, 1)
 }
@@ -67,15 +81,15 @@ pub(crate) fn compare_after<S: SpanSource + Drop>(
     merge: MergeByNumber<S>,
     version: Version,
     count: u64,
-) -> Result<Compared, AllocError>
+) -> Result<Outcome<Difference>, AllocError>
     requires begins { BeginsWith text.now (column_names version ∷ []) }
     requires few { count + length text.now < 2 ^ 64 + 1 }
     requires judged { (list : List Span) × (passed : List Fields)
         × Judges S.to_come (record { merge = merge; version = version; count = count }) list (column_names version ∷ passed) }
-    ensures { IfOk result (λ compared. (list section : List Span) (passed : List Fields) (bytes : List ℕ)
+    ensures { IfOk result (λ outcome. (list section : List Span) (passed : List Fields) (bytes : List ℕ)
         → Judges S.to_come (record { merge = merge; version = version; count = count }) list (column_names version ∷ passed)
         → IsCut version text.now bytes passed → ((p : Position) → version_answer version list p ≡ version_answer version section p)
-        → IsComparison bytes section compared) }
+        → IsOutcome bytes section outcome) }
 {
     let mut comparison = Comparison {
         merge,
@@ -83,12 +97,9 @@ pub(crate) fn compare_after<S: SpanSource + Drop>(
         count,
     };
     if let Some(fault) = take_records(alloc, text, &version, &mut comparison)? {
-        return Ok(Compared::Fault(fault));
+        return Ok(Outcome::Fault(fault));
     }
-    match comparison.merge.finish() {
-        Some(difference) => Ok(Compared::Differs(difference)),
-        None => Ok(Compared::Same),
-    }
+    Ok(Outcome::Found(comparison.merge.finish()))
 }
 
 // The state of a comparison: the spans of a section, and the records of a table so far.

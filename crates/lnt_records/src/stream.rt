@@ -3,16 +3,18 @@ ghost use Rattle.std.specs.Prelude.{◌≡◌, ◌≢◌, ◌+◌, ◌-◌, ◌^
 ghost use Rattle.lnt_spans.specs.declared.span.Span.{Span};
 ghost use Rattle.lnt_spans.specs.Spans.{AreInOrder};
 ghost use Rattle.lnt_io.specs.Pulling.{HasMoreThan};
-ghost use Rattle.lnt_records.specs.Faults.{IsComparison, IsTableRead};
+ghost use Rattle.lnt_records.specs.Faults.{IsComparison};
+ghost use Rattle.lnt_records.specs.Outcomes.{IsTableRead};
 
 use crate::comparison::{Compared, compare_after, compare_records};
 use crate::fault::{TableFault, told};
 use crate::header::{TableVersion, header_of};
 use crate::lines::{pass_header, push_lines};
+use crate::outcome::Outcome;
 use crate::passing::pass_spans;
 use crate::window::Window;
 use lnt_io::{Source, Stop};
-use lnt_spans::{MergeByNumber, SpanSource, Version};
+use lnt_spans::{Difference, MergeByNumber, SpanSource, Version};
 use std::alloc::{AllocError, Global};
 
 /// Compares the table of a source with the spans of a section, as both come.
@@ -30,6 +32,7 @@ use std::alloc::{AllocError, Global};
 /// The caller makes sure that the spans are in order and none is empty, and that the number of the source's failures is
 /// below `u64::MAX`. Stops with `Memory`; with `Read` only if the source failed; and with `TooLong` only if the source has
 /// more bytes than it may give. The table is read to its end before a fault is reported.
+#[tactic(auto, using(crate::proofs::ComparisonLemmas::compared_whole))]
 pub fn compare_table<S: SpanSource + Drop, T: Source>(
     alloc: Global,
     table: &mut T,
@@ -45,7 +48,7 @@ pub fn compare_table<S: SpanSource + Drop, T: Source>(
     ensures more { IsErrOf result Stop.TooLong → HasMoreThan (T.remaining table.old) (T.left table.old) }
 {
     match compare_or_take(alloc, table, spans)? {
-        TableRead::Compared(compared) => Ok(compared),
+        TableRead::Compared(outcome) => Ok(outcome.whole()),
         TableRead::Other(_) => Ok(Compared::Fault(TableFault::Header)),
     }
 }
@@ -53,8 +56,8 @@ pub fn compare_table<S: SpanSource + Drop, T: Source>(
 /// The outcome for a table that may be of another kind.
 #[derive(Drop)]
 pub enum TableRead {
-    /// It was compared, with this result.
-    Compared(Compared),
+    /// It was compared, with this outcome.
+    Compared(Outcome<Difference>),
     /// Record 0 names the columns of neither version. These are all bytes of the table.
     Other(Vec<u8>),
 }
@@ -83,7 +86,13 @@ pub fn compare_or_take<S: SpanSource + Drop, T: Source>(
         let text = window.rest_after(alloc, &[], table)?;
         return told(compare_taken(alloc, text, spans));
     };
-    let passed = pass_spans::<S, T, Compared>(alloc, spans, version, table, &mut window)?;
+    let passed = pass_spans::<S, T, Outcome<Difference>>(
+        alloc,
+        spans,
+        version,
+        table,
+        &mut window,
+    )?;
     let mut merge = MergeByNumber::past(passed.spans, version, passed.end);
     let mut count = passed.count;
     push_lines(alloc, &mut merge, &mut count, version, table, &mut window)?;

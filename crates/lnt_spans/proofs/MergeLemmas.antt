@@ -1,5 +1,5 @@
 -- What a merge with a table by number knows after one more record, and at the end.
-use Rattle.std.proofs.Common.{append-nil, ◌≡◌, ◌∙◌, Bool, true, false, List, [], ◌∷◌, ◌++◌, inl, inr, refl, ap, sym, subst, Some, None, Option}
+use Rattle.std.proofs.Common.{append-nil, ◌≡◌, ◌∙◌, Bool, true, false, List, [], ◌∷◌, ◌++◌, inl, inr, refl, ap, sym, subst, None, Option}
 use Rattle.std.specs.Bool.{MatchBool}
 use Rattle.std.specs.List.{AllByRecursion}
 use Rattle.std.specs.Option.{option_map}
@@ -12,11 +12,12 @@ use Rattle.lnt_spans.specs.declared.span.Span.{Span}
 use Rattle.lnt_spans.specs.Ahead.{IsAhead}
 use Rattle.lnt_spans.specs.Answers.{in_version}
 use Rattle.lnt_spans.specs.Comparing.{Compares, IsTold, Merging, end_of}
-use Rattle.lnt_spans.specs.Merged.{AreMergedBy, HasMerged, HasOneMore}
+use Rattle.lnt_spans.specs.Merged.{BeginFrom, HasMerged, HasOneMore}
 use Rattle.lnt_spans.specs.Positions.{IsBelow, IsAtMost}
 use Rattle.lnt_spans.specs.Spans.{AreInOrder, span_answer}
 use Rattle.lnt_spans.specs.Stretches.{stretch_of}
 use Rattle.lnt_spans.proofs.AnsweringLaws.{answer_before, answer_after, answer_in, answer_same, back_in_order, front_in_order}
+use Rattle.lnt_spans.proofs.MergedLemmas.{merged_past}
 use Rattle.lnt_spans.proofs.PassedLaws.{answer_below, answer_from, begin_after, origin_first, told_same}
 use Rattle.lnt_spans.proofs.PositionLaws.{at_most_trans, below_at_most, below_is_at_most, not_both, order_cases}
 
@@ -91,10 +92,8 @@ one_more : (at : Position) (records : List Span) (span : Span) → Comes at span
     → HasOneMore (span_answer records) (span_answer (records ++ span ∷ [])) at span.low span.high span.answer
 one_more at records span h ended = record {
   before = λ p k. answer_push_before records span p (below_at_most k h.past);
-  next = record {
-    gap = λ p k l. answer_push_before records span p l ∙ ended p k;
-    says = λ p k l. answer_push_none records (span ∷ []) p (ended p (at_most_trans h.past k)) ∙ answer_in span [] p k l;
-  };
+  gap = λ p k l. answer_push_before records span p l ∙ ended p k;
+  says = λ p k l. answer_push_none records (span ∷ []) p (ended p (at_most_trans h.past k)) ∙ answer_in span [] p k l;
   ended = λ p k. answer_push_none records (span ∷ []) p (ended p (at_most_trans h.past (at_most_trans (below_is_at_most h.holds) k)))
       ∙ answer_after span [] p k;
 }
@@ -117,27 +116,22 @@ pushed to_come version old new span h at step spans records c = record {
 -- ---- records that the section begins with
 
 pub compares_passed : {S : Type 0} (to_come : S → List Span → Type 0) (version : Version) (merge : Merge S Difference) (at : Position)
-    (passed list : List Span) → merge.at ≡ at → merge.first ≡ None → IsAhead to_come merge.spans list → AreInOrder (passed ++ list)
-    → AllByRecursion (IsTold version) passed → at ≡ end_of passed
+    (passed list : List Span) → merge.at ≡ at → merge.gap ≡ None → merge.mistake ≡ None → merge.missed ≡ 0
+    → IsAhead to_come merge.spans list → AreInOrder (passed ++ list) → AllByRecursion (IsTold version) passed → at ≡ end_of passed
     → Compares to_come (record { version = version; merge = merge }) (passed ++ list) passed
-compares_passed to_come version merge at passed list is none ahead order told e =
-    let end : merge.at ≡ end_of passed = is ∙ e in
-    record {
-      order = front_in_order passed list order;
-      at = end;
-      merged = record {
-        ended = λ p h. ended passed p (front_in_order passed list order) (subst (λ (q : Position). IsAtMost q p) end h);
-        merged = rw (none, end) (record {
-          rest = list;
-          left = ahead;
-          order = back_in_order passed list order;
-          from = begin_after passed list order;
-          agree = λ p h. ap (option_map (in_version version)) (answer_below passed list p order h) ∙ told_same version passed p told;
-          same = λ p h. answer_from passed list p order h;
-        });
-      };
-    }
+compares_passed to_come version merge at passed list is gap mistake missed ahead order told e = record {
+  order = front_in_order passed list order;
+  at = end;
+  merged = merged_past to_come (in_version version) stretch_of merge (passed ++ list) (span_answer passed) gap mistake missed
+      (λ p h. ended passed p (front_in_order passed list order) (subst (λ (q : Position). IsAtMost q p) end h))
+      (λ p h. ap (option_map (in_version version)) (answer_below passed list p order (subst (IsBelow p) end h)) ∙ told_same version passed p told)
+      list ahead (back_in_order passed list order) (subst (λ (q : Position). BeginFrom q list) (sym end) (begin_after passed list order))
+      (λ p h. answer_from passed list p order (subst (λ (q : Position). IsAtMost q p) end h));
+}
   where
+    end : merge.at ≡ end_of passed
+    end = is ∙ e
+
     ended : (spans : List Span) (p : Position) → AreInOrder spans → IsAtMost (end_of spans) p → span_answer spans p ≡ None
     ended spans p o h = subst (λ (xs : List Span). span_answer xs p ≡ None) (append-nil spans)
         (answer_from spans [] p (subst AreInOrder (sym (append-nil spans)) o) h)

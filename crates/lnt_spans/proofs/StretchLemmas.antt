@@ -1,6 +1,6 @@
 -- The spans of both sides, passed as their stretches are told, and where nothing is told yet.
 use Rattle.std.proofs.Common.{◌≡◌, ◌∙◌, List, [], ◌∷◌, ◌++◌, inl}
-use Rattle.std.proofs.Common.{inr, refl, ap, sym, subst, Some, None, Option}
+use Rattle.std.proofs.Common.{inr, ap, sym, subst, Some, None, Option}
 use Rattle.std.specs.List.{AllByRecursion}
 use Rattle.std.specs.Option.{option_map}
 use Rattle.lnt_spans.specs.declared.ahead.Ahead.{Ahead}
@@ -14,15 +14,15 @@ use Rattle.lnt_spans.specs.AnyStretches.{AreRising, IsInOne, Stretch}
 use Rattle.lnt_spans.specs.Stepping.{BeginsWith}
 use Rattle.lnt_spans.specs.Comparing.{IsTold, end_of}
 use Rattle.lnt_spans.specs.Differing.{HasTold, IsSideAt}
-use Rattle.lnt_spans.specs.Positions.{IsBelow, IsAtMost}
+use Rattle.lnt_spans.specs.Positions.{IsAtMost}
 use Rattle.lnt_spans.specs.Remaining.{EndsAfter}
 use Rattle.lnt_spans.specs.Spans.{AreInOrder, span_answer, version_answer}
 use Rattle.lnt_spans.specs.Stepping.{IsRun, IsUpTo, run_end}
 use Rattle.lnt_spans.specs.Stretches.{stretch_of, stretches_of}
-use Rattle.lnt_spans.proofs.AnsweringLaws.{answer_after, answer_same, back_in_order, first_holds}
-use Rattle.lnt_spans.proofs.AnsweringLaws.{front_in_order, rest_in_order, rest_none}
+use Rattle.lnt_spans.proofs.AnsweringLaws.{answer_after, back_in_order}
+use Rattle.lnt_spans.proofs.AnsweringLaws.{rest_in_order}
 use Rattle.lnt_spans.proofs.PassedLaws.{answer_below, answer_from, ends_after, told_back, told_front, told_same}
-use Rattle.lnt_spans.proofs.PositionLaws.{at_most_below, at_most_itself, at_most_trans, below_is_at_most, not_both}
+use Rattle.lnt_spans.proofs.PositionLaws.{at_most_trans, below_is_at_most, not_both}
 use Rattle.lnt_spans.specs.Laws.{FirstStretch}
 use Rattle.lnt_spans.proofs.RunLaws.{after_high, same_run, up_to_high}
 use Rattle.lnt_spans.proofs.ToldStretchLaws.{told_none}

@@ -1,15 +1,18 @@
 -- A section's spans compared with the records of a table so far, whatever a table contains of an answer, which `tell` gives: what
 -- contracts see of a `Merge`. The table is a function from positions to answers.
-use Rattle.std.specs.Prelude.{◌≡◌, List, [], ◌∷◌, Option, Some, None}
-use Rattle.std.specs.Option.{option_map}
+use Rattle.std.specs.Prelude.{◌≡◌, ℕ, cond, List, [], ◌∷◌, MatchOption, Option, Some, None}
+use Rattle.std.specs.Option.{option_map, option_or}
 use Rattle.lnt_spans.specs.declared.answer.Answer.{Answer}
+use Rattle.lnt_spans.specs.declared.found.Found.{Found}
 use Rattle.lnt_spans.specs.declared.merge.Merge.{Merge}
 use Rattle.lnt_spans.specs.declared.position.Position.{Position}
 use Rattle.lnt_spans.specs.declared.span.Span.{Span}
 use Rattle.lnt_spans.specs.Ahead.{IsAhead}
 use Rattle.lnt_spans.specs.AnyStretches.{Stretch}
+use Rattle.lnt_spans.specs.Counts.{addresses_answered}
 use Rattle.lnt_spans.specs.Differences.{IsFirstDifference}
-use Rattle.lnt_spans.specs.Positions.{IsBelow, IsAtMost}
+use Rattle.lnt_spans.specs.Partial.{IsFirstMistake, IsRightAt, IsRightWherever, where_missed}
+use Rattle.lnt_spans.specs.Positions.{IsBelow, IsAtMost, is_below}
 use Rattle.lnt_spans.specs.Spans.{AreInOrder, span_answer}
 
 -- what spans answer at a position, as a table contains it
@@ -21,27 +24,50 @@ abbrev pub BeginFrom : Position → List Span → Type 0
 BeginFrom p [] = Unit {0}
 BeginFrom p (span ∷ spans) = IsAtMost p span.low
 
--- Below `to` the spans answer as the table does, and those that are left answer as they do from there on.
+-- the answers below a position, and None from there on
+abbrev pub until : {X : Type 0} → Position → (Position → Option X) → Position → Option X
+until to answers p = cond (is_below p to) (answers p) None
+
+-- ---- up to a position
+
+-- Below `to` the table is right wherever it answers, and the spans that are left answer as all of them do from there on.
 pub record ArePassed {X : Type 0} (tell : Answer → X) (spans : List Span) (by_table : Position → Option X) (to : Position)
     (AreLeft : List Span → Type 0) : Type 0 where
   pub rest : List Span
   pub left : AreLeft rest
   pub order : AreInOrder rest
   pub from : BeginFrom to rest
-  pub agree : (p : Position) → IsBelow p to → answer_told tell spans p ≡ by_table p
+  pub right : (p : Position) → IsBelow p to → IsRightAt by_table (answer_told tell spans) p
   pub same : (p : Position) → IsAtMost to p → span_answer spans p ≡ span_answer rest p
 
--- Their first difference lies below `to`.
-pub record DifferBelow {X : Type 0} (tell : Answer → X) (spans : List Span) (by_table : Position → Option X) (to : Position)
-    (found : Stretch X) : Type 0 where
-  pub first : IsFirstDifference (answer_told tell spans) by_table found
-  pub below : IsBelow found.position to
+-- The same, and below `to` the section answers at this many addresses at which the table doesn't.
+pub record AreCounted {X : Type 0} (tell : Answer → X) (spans : List Span) (by_table : Position → Option X) (to : Position)
+    (AreLeft : List Span → Type 0) (missed : ℕ) : Type 0 where
+  pub passed : ArePassed tell spans by_table to AreLeft
+  pub counted : missed ≡ addresses_answered (until to (where_missed by_table (answer_told tell spans)))
 
--- either of the two, by whether a difference was found
-abbrev pub AreMergedBy : {X : Type 0} → Option (Stretch X) → (Answer → X) → List Span → (Position → Option X) → Position
-    → (List Span → Type 0) → Type 0
-AreMergedBy None tell spans by_table to AreLeft = ArePassed tell spans by_table to AreLeft
-AreMergedBy (Some first) tell spans by_table to AreLeft = DifferBelow tell spans by_table to first
+-- Either the table answers wherever the section does below `to`; or their first difference lies below `to`.
+abbrev pub HasGap : {X : Type 0} → Option (Stretch X) → (Answer → X) → List Span → (Position → Option X) → Position → Type 0
+HasGap None tell spans by_table to = (p : Position) → IsBelow p to → where_missed by_table (answer_told tell spans) p ≡ None
+HasGap (Some first) tell spans by_table to =
+    IsFirstDifference (answer_told tell spans) by_table first × IsBelow first.position to
+
+-- The first mistake of the table lies from `from` up to `to`.
+pub record IsMistakenIn {X : Type 0} (tell : Answer → X) (spans : List Span) (by_table : Position → Option X) (from to : Position)
+    (mistake : Stretch X) : Type 0 where
+  pub first : IsFirstMistake by_table (answer_told tell spans) mistake
+  pub past : IsAtMost from mistake.position
+  pub below : IsBelow mistake.position to
+
+-- ---- a merge
+
+-- what is known up to `to`, by whether a mistake was found
+abbrev pub AreMergedBy : {X : Type 0} → Option (Stretch X) → Option (Stretch X) → (Answer → X) → List Span → (Position → Option X)
+    → Position → (List Span → Type 0) → ℕ → Type 0
+AreMergedBy None gap tell spans by_table to AreLeft missed =
+    AreCounted tell spans by_table to AreLeft missed × HasGap gap tell spans by_table to
+AreMergedBy (Some mistake) gap tell spans by_table to AreLeft missed =
+    IsMistakenIn tell spans by_table (record { address = 0; op = 0 }) to mistake × HasGap gap tell spans by_table mistake.position
 
 -- the end of the last record
 abbrev pub end_of_records : {S D : Type 0} → Merge S D → Position
@@ -51,15 +77,45 @@ end_of_records merge = merge.at
 pub record HasMerged {S D X : Type 0} (to_come : S → List Span → Type 0) (tell : Answer → X) (value_of : D → Stretch X) (merge : Merge S D)
     (spans : List Span) (by_table : Position → Option X) : Type 0 where
   pub ended : (p : Position) → IsAtMost merge.at p → by_table p ≡ None
-  pub merged : AreMergedBy (option_map value_of merge.first) tell spans by_table merge.at (IsAhead to_come merge.spans)
+  pub merged : AreMergedBy (option_map value_of merge.mistake) (option_map value_of merge.gap) tell spans by_table merge.at
+      (IsAhead to_come merge.spans) merge.missed
 
--- From `low` up to `high` the table answers `said`, and between `at` and `low` nothing.
-pub record IsNext {X : Type 0} (by_table : Position → Option X) (at low high : Position) (said : X) : Type 0 where
-  pub gap : (p : Position) → IsAtMost at p → IsBelow p low → by_table p ≡ None
-  pub says : (p : Position) → IsAtMost low p → IsBelow p high → by_table p ≡ Some said
+-- The table answers nothing from `at` up to `low`.
+abbrev pub AnswersNothing : {X : Type 0} → (Position → Option X) → Position → Position → Type 0
+AnswersNothing by_table at low = (p : Position) → IsAtMost at p → IsBelow p low → by_table p ≡ None
+
+-- The table answers `said` from `low` up to `high`.
+abbrev pub Says : {X : Type 0} → (Position → Option X) → Position → Position → X → Type 0
+Says by_table low high said = (p : Position) → IsAtMost low p → IsBelow p high → by_table p ≡ Some said
 
 -- One table is the other with one more record, after those that end at `at`.
 pub record HasOneMore {X : Type 0} (old new : Position → Option X) (at low high : Position) (said : X) : Type 0 where
   pub before : (p : Position) → IsBelow p at → new p ≡ old p
-  pub next : IsNext new at low high said
+  pub gap : AnswersNothing new at low
+  pub says : Says new low high said
   pub ended : (p : Position) → IsAtMost high p → new p ≡ None
+
+-- ---- what was found
+
+-- the first difference
+abbrev pub first_of : {D : Type 0} → Found D → Option D
+first_of found = option_or found.gap found.mistake
+
+-- the number, if there is no mistake
+abbrev pub unless : {D : Type 0} → Option D → ℕ → Option ℕ
+unless None missed = Some missed
+unless (Some mistake) missed = None
+
+-- the number of addresses at which the section answers and the table doesn't, if there is no mistake
+abbrev pub missed_of : {D : Type 0} → Found D → Option ℕ
+missed_of found = unless found.mistake found.missed
+
+-- Where both sides answer alike at every position, there is no first difference; where the table is right wherever it answers, no
+-- mistake. Without a mistake, the section answers at this many addresses at which the table doesn't.
+pub record AreFound {D X : Type 0} (value_of : D → Stretch X) (by_section by_table : Position → Option X) (found : Found D) : Type
+    0 where
+  pub first : MatchOption (first_of found) ((p : Position) → by_section p ≡ by_table p)
+      (λ difference. IsFirstDifference by_section by_table (value_of difference))
+  pub mistake : MatchOption found.mistake (IsRightWherever by_table by_section)
+      (λ mistake. IsFirstMistake by_table by_section (value_of mistake))
+  pub missed : found.mistake ≡ None → found.missed ≡ addresses_answered (where_missed by_table by_section)

@@ -1,5 +1,5 @@
 -- What the bodies of this crate say of one step, and those of lnt_paths. No public contract speaks of it.
-use Rattle.std.specs.Prelude.{◌≡◌, List, [], ◌∷◌, ◌++◌, Option, Some, None, cond, ◌≢◌, MatchOption, ℕ, ◌+◌, Bool, true}
+use Rattle.std.specs.Prelude.{◌≡◌, List, [], ◌∷◌, ◌++◌, Option, Some, None, cond}
 use Rattle.lnt_spans.specs.declared.answer.Answer.{Answer}
 use Rattle.lnt_spans.specs.declared.difference.Difference.{Difference}
 use Rattle.lnt_spans.specs.declared.position.Position.{Position}
@@ -10,10 +10,6 @@ use Rattle.lnt_spans.specs.declared.stretches.Step.TheVariants.{Ended, Known, To
 use Rattle.lnt_spans.specs.Differing.{HasTold}
 use Rattle.lnt_spans.specs.Positions.{IsBelow, IsAtMost, is_below}
 use Rattle.lnt_spans.specs.Stretches.{AreStretches}
-use Rattle.lnt_spans.specs.declared.answer.Version.{Version}
-use Rattle.lnt_spans.specs.Spans.{AreInOrder, span_answer, version_answer, span_in_version}
-use Rattle.lnt_spans.specs.Remaining.{EndsAfter}
-use Rattle.lnt_spans.specs.Ahead.{gap_before, IsAhead}
 
 -- ---- one step on to where one of the two answers ends: how far each of them goes, and what the step brings
 

@@ -4,11 +4,13 @@ ghost use Rattle.std.specs.Bool.{MatchBool};
 ghost use Rattle.std.specs.List.{AllByRecursion};
 ghost use Rattle.lnt_spans.specs.declared.span.Span.{Span};
 ghost use Rattle.lnt_spans.specs.Comparing.{Compares, IsTold, end_of};
-ghost use Rattle.lnt_spans.specs.Differences.{Agree, IsLeastDifference};
+ghost use Rattle.lnt_spans.specs.Merged.{AreFound};
 ghost use Rattle.lnt_spans.specs.Spans.{AreInOrder, span_answer, version_answer};
+ghost use Rattle.lnt_spans.specs.Stretches.{stretch_of};
 
 use crate::answer::Version;
 use crate::difference::Difference;
+use crate::found::Found;
 use crate::merge::Merge;
 use crate::position::Position;
 use crate::source::SpanSource;
@@ -90,12 +92,10 @@ impl<S: SpanSource + Drop> MergeByNumber<S> {
         }
     }
 
-    /// Gives the least position at which the section and the table answer differently, with both answers, once no record
-    /// follows. `None` if they answer alike at every position.
-    pub fn finish(self) -> Option<Difference>
+    /// What the comparison found, once no record follows.
+    pub fn finish(self) -> Found<Difference>
         ensures { (spans records : List Span) → Compares S.to_come self spans records
-            → MatchOption result (Agree (version_answer self.version spans) (span_answer records))
-            (λ difference. IsLeastDifference (version_answer self.version spans) (span_answer records) difference) }
+            → AreFound stretch_of (version_answer self.version spans) (span_answer records) result }
     {
         match self.merge.finish(&self.version) {
             Ok(found) => found,

@@ -1,15 +1,17 @@
-//! Finds where a section and a table first answer differently, in one pass over both.
-ghost use Rattle.std.specs.Prelude.{◌≡◌, ◌≢◌, List, Option, IfOk, IfSome, MatchOption, None, OnOk, Some};
-ghost use Rattle.std.specs.Bool.{MatchBool};
+//! Finds where a section and a table first answer differently, and where the table is first wrong, in one pass over both.
+ghost use Rattle.std.specs.Prelude.{◌≡◌, List, Option, IfOk, IfSome, MatchOption, None, OnOk, Some};
+ghost use Rattle.std.specs.Option.{option_map};
+ghost use Rattle.lnt_spans.specs.declared.answer.Answer.{Answer as SpecAnswer};
 ghost use Rattle.lnt_spans.specs.declared.position.Position as spec_position;
 ghost use Rattle.lnt_spans.specs.declared.span.Span as spec;
 ghost use Rattle.lnt_spans.specs.Ahead.{IsAhead};
-ghost use Rattle.lnt_spans.specs.Differences.{IsFirstDifference};
-ghost use Rattle.lnt_spans.specs.Merged.{AreMergedBy, ArePassed, DifferBelow, HasMerged, HasOneMore, IsNext, answer_told};
-ghost use Rattle.lnt_spans.specs.Merged.{end_of_records};
+ghost use Rattle.lnt_spans.specs.Merged.{AnswersNothing, AreCounted, AreFound, ArePassed, HasGap, HasMerged, HasOneMore, IsMistakenIn};
+ghost use Rattle.lnt_spans.specs.Merged.{Says, answer_told, end_of_records};
 ghost use Rattle.lnt_spans.specs.Positions.{IsAtMost, IsBelow};
 
 use crate::ahead::Ahead;
+use crate::counts::{AddressCount, count_rest};
+use crate::found::Found;
 use crate::position::Position;
 use crate::source::SpanSource;
 use crate::span::Span;
@@ -18,28 +20,36 @@ use crate::telling::Telling;
 /// Compares the spans of a section, which come one by one from a source, with the records of a table, which come one by one too.
 ///
 /// Contracts see which spans and records were compared (`HasMerged`): all spans of the section, with the records pushed so far. A
-/// merge keeps no record, only one span and the first difference.
+/// merge keeps no record, only one span, the first gap of the table and its first mistake.
 #[derive(Drop)]
 pub struct Merge<S, D> {
     // the spans that still matter at `at` and above; the next one is cut to begin no lower
     spans: Ahead<S>,
     // the end of the last record
     at: Position,
-    // the first difference below `at`
-    first: Option<D>,
+    // the first difference, if the table doesn't answer there, and it lies below the first mistake
+    gap: Option<D>,
+    // the first position below `at` at which the table answers, and the section otherwise or not at all
+    mistake: Option<D>,
+    // the addresses below `at` at which the section answers and the table doesn't, if there is no mistake
+    missed: AddressCount,
 }
 
 impl<S: SpanSource + Drop, D: Drop> Merge<S, D> {
     /// No difference was found below `at`, and the source gives the spans from there on.
     pub fn past(spans: S, at: Position) -> Merge<S, D>
         ensures at { end_of_records result ≡ at }
-        ensures first { result.first ≡ None }
+        ensures gap { result.gap ≡ None }
+        ensures mistake { result.mistake ≡ None }
+        ensures missed { result.missed ≡ 0 }
         ensures ahead { (list : List spec.Span) → S.to_come spans list → IsAhead S.to_come result.spans list }
     {
         Merge {
             spans: Ahead::of(spans),
             at,
-            first: None,
+            gap: None,
+            mistake: None,
+            missed: AddressCount::new(),
         }
     }
 
@@ -72,35 +82,116 @@ impl<S: SpanSource + Drop, D: Drop> Merge<S, D> {
             → HasMerged S.to_come (T.tell telling.now) T.value_of self.new spans by_more) }
     {
         self.at = high;
-        if self.first.is_some() {
+        if self.mistake.is_some() {
             return Ok(());
         }
-        self.first = first_apart(telling, memory, &mut self.spans, low, high, held)?;
+        pass_gap(
+            telling,
+            &mut self.spans,
+            &mut self.gap,
+            &mut self.missed,
+            low,
+        )?;
+        self.mistake = first_mistake(telling, memory, &mut self.spans, low, high, held)?;
         Ok(())
     }
 
-    /// The least position at which the section and the table answer differently, once no record follows. `None` if they answer
-    /// alike at every position.
-    pub fn finish<T: Telling<Difference = D>>(self, telling: &T) -> Result<Option<D>, T::Refusal>
+    /// What the comparison found, once no record follows.
+    pub fn finish<T: Telling<Difference = D>>(self, telling: &T) -> Result<Found<D>, T::Refusal>
         ensures { IfOk result (λ found. (spans : List spec.Span) (by_table : spec_position.Position → Option T.Told)
             → HasMerged S.to_come (T.tell telling.now) T.value_of self spans by_table
-            → MatchOption found ((p : spec_position.Position) → answer_told (T.tell telling.now) spans p ≡ by_table p)
-            (λ difference. IsFirstDifference (answer_told (T.tell telling.now) spans) by_table (T.value_of difference))) }
+            → AreFound T.value_of (answer_told (T.tell telling.now) spans) by_table found) }
     {
-        if self.first.is_some() {
-            return Ok(self.first);
+        let Merge {
+            spans,
+            gap,
+            mistake,
+            mut missed,
+            ..
+        } = self;
+        if mistake.is_some() {
+            let missed = missed.count();
+            return Ok(Found {
+                gap,
+                mistake,
+                missed,
+            });
         }
-        let Some(span) = self.spans.next else {
-            return Ok(None);
+        let Some(span) = spans.next else {
+            let missed = missed.count();
+            return Ok(Found {
+                gap,
+                mistake,
+                missed,
+            });
         };
-        let difference = telling.difference(span.low, None, Some(span.answer))?;
-        Ok(Some(difference))
+        let gap = match gap {
+            Some(gap) => gap,
+            None => telling.difference(span.low, None, Some(span.answer))?,
+        };
+        missed.add(span.low, span.high);
+        Ok(Found {
+            gap: Some(gap),
+            mistake: None,
+            missed: count_rest(spans.spans, missed),
+        })
     }
 }
 
-// The first difference below the end of a record. If there is none, `spans` is left with the spans that matter from that end on.
+// Passes the spans of a section in a gap of the table, up to its end, and counts their addresses. If they are the first, `gap` is
+// their first difference. `spans` is left with those that matter from that end on.
 #[inline(always)]
-fn first_apart<S: SpanSource, T: Telling>(
+fn pass_gap<S: SpanSource, T: Telling>(
+    telling: &T,
+    spans: &mut Ahead<S>,
+    gap: &mut Option<T::Difference>,
+    missed: &mut AddressCount,
+    end: Position,
+) -> Result<(), T::Refusal>
+    ensures { OnOk result ((list : List spec.Span) (by_table : spec_position.Position → Option T.Told) (at : spec_position.Position)
+        → IsAtMost at end → AnswersNothing by_table at end
+        → AreCounted (T.tell telling.now) list by_table at (IsAhead S.to_come spans.old) missed.old
+        → HasGap (option_map T.value_of gap.old) (T.tell telling.now) list by_table at
+        → AreCounted (T.tell telling.now) list by_table end (IsAhead S.to_come spans.new) missed.new
+        × HasGap (option_map T.value_of gap.new) (T.tell telling.now) list by_table end) }
+{
+    let Some(span) = begun_below(spans.next, end) else {
+        return Ok(());
+    };
+    if gap.is_none() {
+        *gap = Some(telling.difference(span.low, None, Some(span.answer))?);
+    }
+    pass_below::<S, T>(spans, missed, end);
+    Ok(())
+}
+
+// Passes the spans of a section below `end`, where the table doesn't answer, and counts their addresses. `T` says what the table
+// contains of an answer.
+fn pass_below<S: SpanSource, T: Telling>(
+    spans: &mut Ahead<S>,
+    missed: &mut AddressCount,
+    end: Position,
+)
+    ensures { (tell : SpecAnswer → T.Told) (list : List spec.Span) (by_table : spec_position.Position → Option T.Told)
+        (at : spec_position.Position) → IsAtMost at end → AnswersNothing by_table at end
+        → AreCounted tell list by_table at (IsAhead S.to_come spans.old) missed.old
+        → AreCounted tell list by_table end (IsAhead S.to_come spans.new) missed.new }
+{
+    while let Some(span) = begun_below(spans.next, end) {
+        if end.is_below(span.high) {
+            missed.add(span.low, end);
+            spans.next = Some(Span { low: end, ..span });
+            return;
+        }
+        missed.add(span.low, span.high);
+        spans.pass();
+    }
+}
+
+// The first mistake of a record, from its low end up to its high end, of which this is `low`. If there is none, `spans` is left with
+// the spans that matter from the high end on.
+#[inline(always)]
+fn first_mistake<S: SpanSource, T: Telling>(
     telling: &T,
     memory: &mut T::Memory,
     spans: &mut Ahead<S>,
@@ -111,26 +202,22 @@ fn first_apart<S: SpanSource, T: Telling>(
     requires sound { T.is_sound telling.now memory.old }
     requires holds { IsBelow low high }
     ensures sound { OnOk result (T.is_sound telling.now memory.new) }
-    ensures apart { IfOk result (λ found. (list : List spec.Span) (by_table : spec_position.Position → Option T.Told)
-        (at : spec_position.Position) → IsAtMost at low → IsNext by_table at low high (T.said held)
-        → ArePassed (T.tell telling.now) list by_table at (IsAhead S.to_come spans.old)
+    ensures mistaken { IfOk result (λ found. (list : List spec.Span) (by_table : spec_position.Position → Option T.Told)
+        → Says by_table low high (T.said held)
+        → ArePassed (T.tell telling.now) list by_table low (IsAhead S.to_come spans.old)
         → MatchOption found (ArePassed (T.tell telling.now) list by_table high (IsAhead S.to_come spans.new))
-        (λ difference. DifferBelow (T.tell telling.now) list by_table high (T.value_of difference))) }
+        (λ mistake. IsMistakenIn (T.tell telling.now) list by_table low high (T.value_of mistake))) }
 {
     let mut at = low;
     let mut recalled = telling.nothing();
-    if let Some(span) = begun_below(spans.next, low) {
-        let difference = telling.difference(span.low, None, Some(span.answer))?;
-        return Ok(Some(difference));
-    }
     while at.is_below(high) {
         let Some(span) = begun_by(spans.next, at) else {
-            let difference = telling.difference(at, Some(held), None)?;
-            return Ok(Some(difference));
+            let mistake = telling.difference(at, Some(held), None)?;
+            return Ok(Some(mistake));
         };
         if !telling.is_said(memory, &mut recalled, &span.answer, held)? {
-            let difference = telling.difference(at, Some(held), Some(span.answer))?;
-            return Ok(Some(difference));
+            let mistake = telling.difference(at, Some(held), Some(span.answer))?;
+            return Ok(Some(mistake));
         }
         if high.is_below(span.high) {
             spans.next = Some(Span { low: high, ..span });

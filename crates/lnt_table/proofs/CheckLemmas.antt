@@ -15,9 +15,12 @@ use Rattle.lnt_records.specs.declared.comparison.Compared.TheVariants.{Same, Fau
 use Rattle.lnt_records.specs.declared.fault.TableFault.{TableFault}
 use Rattle.lnt_records.specs.declared.fault.TableFault.TheVariants as fault
 use Rattle.lnt_records.specs.Faults.{IsComparison, IsFault}
+use Rattle.lnt_lines.specs.declared.no.No.{No as SectionNo}
 use Rattle.lnt_lines.specs.declared.options.Options.{Options}
 use Rattle.lnt_lines.specs.Drafts.{IsIndexOfSection}
 use Rattle.lnt_lines.specs.Indexed.{Indexed, IsIndexOf}
+use Rattle.lnt_table.specs.declared.verdict.TableNo.TheVariants as no
+use Rattle.lnt_table.specs.declared.verdict.Verdict.TheVariants.{No}
 use Rattle.lnt_table.specs.Headline.{IsFaultyTable, IsTrueOfSection, IsTrueVerdict, told_answer}
 use Rattle.lnt_table.specs.Stepping.{IsComparedWith, verdict_of}
 
@@ -116,3 +119,12 @@ pub good_told : (line general : List ℕ) (options : Options) (section : Option 
     → IfSome section (λ bytes. IsTrueOfSection line general options bytes (verdict_of compared))
 good_told line general options None index compared i = tt
 good_told line general options (Some section) index compared i = section_told line general options section index compared i
+
+-- the verdict of a comparison has no reason of the section
+pub none_of_section : (compared : Compared) (reason : SectionNo) → verdict_of compared ≡ No (no.Section reason) → ⊥
+none_of_section Same reason e = cc
+none_of_section (Fault fault.Header) reason e = cc
+none_of_section (Fault (fault.Fields k)) reason e = cc
+none_of_section (Fault (fault.Number k i)) reason e = cc
+none_of_section (Fault (fault.Order k)) reason e = cc
+none_of_section (Differs difference) reason e = cc

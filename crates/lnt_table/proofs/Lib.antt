@@ -1,4 +1,4 @@
-pub mod AnyLemmas
+pub mod JudgedLemmas
 mod CheckLemmas
 mod LawLemmas
 mod PathLemmas

@@ -1,11 +1,13 @@
 -- The lines that say whether a table answers as a section does, as their types print them.
-use Rattle.std.specs.Prelude.{ℕ, List, ◌++◌, codes}
+use Rattle.std.specs.Prelude.{ℕ, List, ◌++◌, codes, decimal}
 use Rattle.lnt_table.specs.declared.verdict.TableNo.{TableNo}
 use Rattle.lnt_table.specs.declared.verdict.TableNo.TheVariants as no
 use Rattle.lnt_table.specs.declared.verdict.Verdict.{Verdict}
 use Rattle.lnt_table.specs.declared.verdict.Verdict.TheVariants.{Yes, No}
 use Rattle.lnt_table.specs.declared.by_path.Checked.{Checked}
 use Rattle.lnt_table.specs.declared.by_path.Checked.TheVariants.{Numbered, ByPath}
+use Rattle.lnt_table.specs.declared.within.CheckedWithin.{CheckedWithin}
+use Rattle.lnt_table.specs.declared.within.CheckedWithin.TheVariants.{Checked as Told, Covered}
 use Rattle.lnt_table.specs.PathTexts.{path_stretch_text}
 use Rattle.lnt_table.specs.Verdicts.{no_of_fault}
 use Rattle.lnt_lines.specs.FaultTexts.{no_text}
@@ -41,3 +43,8 @@ compared_text (Differs difference) = path_stretch_text (stretch_of difference)
 abbrev pub checked_text : Checked → List ℕ
 checked_text (Numbered verdict) = verdict_text verdict
 checked_text (ByPath compared) = compared_text compared
+
+-- a check's answer in a scope: where the table is right wherever it answers, the second line says how much it answers
+abbrev pub within_text : CheckedWithin → List ℕ
+within_text (Told checked) = checked_text checked
+within_text (Covered coverage) = codes "yes\nanswers " ++ (decimal coverage.answered ++ (codes " of " ++ decimal coverage.all))

@@ -2,11 +2,13 @@ pub mod AnyVersion
 pub mod ByPath
 pub mod FaultTexts
 pub mod Headline
+pub mod Judged
 pub mod Laws
 pub mod PathTexts
 pub mod Stepping
 pub mod Stretches
 pub mod Verdicts
+pub mod Within
 pub mod Written
 -- what public clauses say of sources
 pub use Rattle.lnt_io.specs.FaultTexts as SourceTexts

@@ -1,5 +1,5 @@
 -- What the bodies of this crate say of a comparison of a table with a good section. No public contract speaks of it.
-use Rattle.std.specs.Prelude.{◌≡◌, ◌≢◌, ℕ, Bool, List, Option}
+use Rattle.std.specs.Prelude.{◌≡◌, ℕ, Bool, List, Option}
 use Rattle.lnt_header.specs.declared.unit_parts.UnitParts.{UnitParts}
 use Rattle.lnt_spans.specs.declared.position.Position.{Position}
 use Rattle.lnt_spans.specs.declared.span.Span.{Span}
@@ -8,13 +8,9 @@ use Rattle.lnt_sequences.specs.Sequences.{line_answer}
 use Rattle.lnt_records.specs.Faults.{IsComparison}
 use Rattle.lnt_records.specs.declared.comparison.Compared.{Compared}
 use Rattle.lnt_records.specs.declared.comparison.Compared.TheVariants.{Same, Fault, Differs}
-use Rattle.lnt_lines.specs.Indexed.{Indexed}
-use Rattle.lnt_table.specs.declared.by_path.Checked.{Checked}
-use Rattle.lnt_table.specs.declared.by_path.Checked.TheVariants.{Numbered, ByPath}
 use Rattle.lnt_table.specs.declared.verdict.TableNo.TheVariants as no
 use Rattle.lnt_table.specs.declared.verdict.Verdict.{Verdict}
 use Rattle.lnt_table.specs.declared.verdict.Verdict.TheVariants.{Yes, No}
-use Rattle.lnt_table.specs.AnyVersion.{IsComparedByPath}
 use Rattle.lnt_table.specs.Verdicts.{no_of_fault}
 
 -- ---- a table of version 1 or 2
@@ -31,17 +27,3 @@ pub record IsComparedWith (dead : Option ℕ) (skip : Bool) (units : List (ℕ �
   pub spans : List Span
   pub answers : (p : Position) → span_answer spans p ≡ line_answer dead skip units p
   pub comparison : IsComparison table spans compared
-
--- ---- a table of any version
-
--- What was checked is true of the table and of an index of these units. The header of a table of version 1 or 2 isn't at fault.
-abbrev pub IsCheckedWith : Indexed → Option ℕ → Bool → List (ℕ × UnitParts) → List ℕ → Checked → Type 0
-IsCheckedWith index dead skip units table (Numbered verdict) =
-    (compared : Compared) × IsComparedWith dead skip units table compared × (verdict ≡ verdict_of compared) × (verdict ≢ No no.TableHeader)
-IsCheckedWith index dead skip units table (ByPath compared) =
-    IsComparedByPath index.line index.general dead skip units table compared
-
--- A verdict is that of a comparison, not one on the section.
-abbrev pub IsOfGood : Checked → Type 0
-IsOfGood (Numbered verdict) = (compared : Compared) × (verdict ≡ verdict_of compared)
-IsOfGood (ByPath compared) = Unit {0}

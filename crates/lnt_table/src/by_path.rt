@@ -1,23 +1,19 @@
 //! Checks a section against an address table of any version.
-ghost use Rattle.std.specs.Prelude.{◌≡◌, ◌≢◌, ◌+◌, ◌-◌, ◌^◌, ◌<◌, ◌⊎◌, Bool, ℕ, List, Option, IfOk, IfSome, IsErrOf, Some};
+ghost use Rattle.std.specs.Prelude.{◌≡◌, ◌≢◌, ◌+◌, ◌-◌, ◌^◌, ◌<◌, ◌⊎◌, IfOk, IfSome, IsErrOf, Some};
 ghost use Rattle.lnt_lines.specs.declared.no.No.{No as SectionNo};
 ghost use Rattle.lnt_io.specs.declared.stop.Stop.TheVariants.{Read, TooLong};
-ghost use Rattle.lnt_header.specs.declared.unit_parts.UnitParts.{UnitParts};
-ghost use Rattle.lnt_lines.specs.Indexed.{IsIndexOf};
 ghost use Rattle.lnt_table.specs.AnyVersion.{IsTrueCheck, IsTrueCheckOfSection};
 ghost use Rattle.lnt_table.specs.FaultTexts.{checked_text};
 ghost use Rattle.lnt_table.specs.Headline.{IsFoundTooLong};
-ghost use Rattle.lnt_table.specs.Stepping.{IsCheckedWith, IsOfGood};
 
+use crate::judged::judge_index;
 use crate::path_lines::PathDifferenceLine;
-use crate::paths::IndexPaths;
-use crate::verdict::{TableNo, Verdict, verdict_of};
+use crate::verdict::{TableNo, Verdict};
 use lnt_io::{Source, Stop};
-use lnt_lines::{Index, JudgedIndex, Options, index_section};
-use lnt_paths::{ComparedByPath, compare_by_path};
-use lnt_records::{TableRead, compare_or_take};
+use lnt_lines::{JudgedIndex, Options, index_section};
+use lnt_paths::ComparedByPath;
 use lnt_wire::Strings;
-use std::alloc::{AllocError, Global};
+use std::alloc::Global;
 use std::fmt;
 
 /// The answer of `check_any`.
@@ -80,29 +76,6 @@ pub fn check_any<R: Source, T: Source>(
         JudgedIndex::Good(index) => index,
         JudgedIndex::Bad(no) => return Ok(Checked::Numbered(Verdict::No(TableNo::Section(no)))),
     };
-    let checked = check_index(alloc, table, &index)?;
-    Ok(checked)
-}
-
-// Compares the table with the spans of the index, by number or by path according to its header.
-fn check_index<T: Source>(alloc: Global, table: &mut T, index: &Index<'_>) -> Result<Checked, Stop>
-    requires { T.failures table.old < 2 ^ 64 - 1 }
-    ensures ok { IfOk result (λ checked. (dead : Option ℕ) (skip : Bool) (units : List (ℕ × UnitParts))
-        → IsIndexOf dead skip units index.now
-        → IfSome (T.remaining table.old) (λ text. IsCheckedWith index.now dead skip units text checked)) }
-    ensures good { IfOk result (λ checked. IsOfGood checked) }
-    ensures read { IsErrOf result Stop.Read → T.failures table.new ≡ T.failures table.old + 1 }
-    ensures no_failure { result ≢ Err Stop.Read → T.failures table.new ≡ T.failures table.old }
-    ensures too_long { IsErrOf result Stop.TooLong → IsFoundTooLong (T.too_long table.new) (T.remaining table.old) (T.left table.old) }
-{
-    let read = compare_or_take(alloc, table, index.spans())?;
-    let text = match read {
-        TableRead::Compared(compared) => return Ok(Checked::Numbered(verdict_of(compared))),
-        TableRead::Other(text) => text,
-    };
-    let paths = IndexPaths { index };
-    match compare_by_path(alloc, &text, index.spans(), &paths) {
-        Ok(compared) => Ok(Checked::ByPath(compared)),
-        Err(AllocError) => Err(Stop::Memory),
-    }
+    let judged = judge_index(alloc, table, &index)?;
+    Ok(judged.whole())
 }

@@ -2,18 +2,21 @@
 //! the section's answer at every address and operation index; otherwise the first thing that is wrong is reported. Tables of
 //! versions 1 and 2 name a file by its unit and number (*by number*), those of versions 3 and 4 by its path (*by path*).
 //!
-//! Start with [`check`], which takes versions 1 and 2, or with [`check_any`], which takes all four; with [`differences_any`]
+//! Start with [`check`], which takes versions 1 and 2, or with [`check_any`], which takes all four; with [`check_within`] for
+//! tables that answer at a part of the positions; with [`differences_any`]
 //! for all positions at which the two answers differ; or with [`write_table`] and [`write_paths`] for the one shortest table
 //! of a section.
 #![tactic(auto)]
 
 mod by_path;
 mod checking;
+mod judged;
 pub mod laws;
 mod path_lines;
 mod paths;
 mod stretches;
 mod verdict;
+mod within;
 mod write;
 
 // Checking.
@@ -24,6 +27,7 @@ pub use lnt_paths::{AnswerByPath, ComparedByPath, DifferenceByPath};
 pub use lnt_records::TableFault;
 pub use path_lines::{OperationLine, PathDifferenceLine};
 pub use verdict::{TableNo, Verdict};
+pub use within::{CheckedWithin, Coverage, Scope, check_within};
 
 // Every difference.
 pub use lnt_paths::{DifferencesByPath, HeldSpan, HeldTable};

@@ -6,4 +6,5 @@ mod records;
 mod spans;
 mod sums;
 mod table;
+mod within;
 mod worked;

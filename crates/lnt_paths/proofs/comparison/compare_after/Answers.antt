@@ -1,7 +1,7 @@
 use Rattle.std.proofs.Common.{◌++◌, refl}
 use Rattle.lnt_paths.specs.PathAnswers.{path_answer}
 use Rattle.lnt_paths.specs.PathSpans.{path_span_answer}
-use Rattle.lnt_paths.proofs.ComparisonLemmas.{difference_told, same_told}
+use Rattle.lnt_paths.proofs.ComparisonLemmas.{found_told}
 use Rattle.lnt_paths.proofs.PassingLemmas.{reached_on}
 use Rattle.lnt_paths.proofs.comparison.compare_after.Goals as goal
 
@@ -18,20 +18,11 @@ returns-in-Some g c bytes records list past j =
     (past.after, past.rest, past.goes_on.text_reached)
     (λ more after rest r. reached_on bytes c.args.text.now records more past.goes_on.last after rest past r) j
 
-pub returns-in-Ok-Some : goal.returns-in-Ok-Some
-returns-in-Ok-Some g c bytes records list past j =
+pub returns-in-Ok : goal.returns-in-Ok
+returns-in-Ok g c bytes records list past j =
     let now = rw c.in_default.is at c.in_ok-fault.ensures past.goes_on.last list records bytes past.goes_on.narrow
     (past.after, past.rest, past.goes_on.text_reached)
     (λ more after rest r. reached_on bytes c.args.text.now records more past.goes_on.last after rest past r) j in
-    difference_told g.S.SpanSource.to_come (λ version. path_answer version (g.P.Paths.bytes_of c.args.paths.now)) c.args.version
-    c.take_records.new.state bytes list (records ++ now.0) c.in-Ok-Some.difference now.2 now.1
-    (rw c.in-Ok-Some.field-0-is at c.in-Ok-Some.ensures list (path_span_answer now.2.table) now.2.merged.merged)
-
-pub returns-in-Ok-None : goal.returns-in-Ok-None
-returns-in-Ok-None g c bytes records list past j =
-    let now = rw c.in_default.is at c.in_ok-fault.ensures past.goes_on.last list records bytes past.goes_on.narrow
-    (past.after, past.rest, past.goes_on.text_reached)
-    (λ more after rest r. reached_on bytes c.args.text.now records more past.goes_on.last after rest past r) j in
-    same_told g.S.SpanSource.to_come (λ version. path_answer version (g.P.Paths.bytes_of c.args.paths.now)) c.args.version
-    c.take_records.new.state bytes list (records ++ now.0) now.2 now.1
-    (rw c.in-Ok-None.field-0-is at c.in-Ok-None.ensures list (path_span_answer now.2.table) now.2.merged.merged)
+    found_told g.S.SpanSource.to_come (λ version. path_answer version (g.P.Paths.bytes_of c.args.paths.now)) c.args.version
+    c.take_records.new.state bytes list (records ++ now.0) c.in-Ok.found now.2 now.1
+    (c.in-Ok.ensures list (path_span_answer now.2.table) now.2.merged.merged)

@@ -1,4 +1,4 @@
-use Rattle.std.proofs.Common.{◌∷◌, ◌++◌, []}
+use Rattle.std.proofs.Common.{◌∷◌, []}
 use Rattle.lnt_paths.specs.PathTables.{path_column_names}
 use Rattle.lnt_paths.proofs.HeldLemmas.{held_none, table_in_order}
 use Rattle.lnt_paths.proofs.OneTableLemmas.{pathed}

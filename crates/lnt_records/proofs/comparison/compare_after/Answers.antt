@@ -1,6 +1,6 @@
 use Rattle.std.proofs.Common.{◌∷◌, refl, sym}
 use Rattle.lnt_records.specs.Table.{column_names}
-use Rattle.lnt_records.proofs.ComparisonLemmas.{AnswersSo, difference_told, same_told}
+use Rattle.lnt_records.proofs.ComparisonLemmas.{AnswersSo, found_told}
 use Rattle.lnt_records.proofs.LawLemmas.{numbered}
 use Rattle.lnt_records.proofs.comparison.compare_after.Goals as goal
 
@@ -18,20 +18,11 @@ returns-in-Some g c list section passed bytes j cut same =
     rw c.in-Some.is at c.in_ok-fault.ensures names list (names ∷ passed) bytes (numbered.narrow c.args.version) c.requires.begins
     cut (refl, j)
 
-pub returns-in-Some-finish : goal.returns-in-Some-finish
-returns-in-Some-finish g c list section passed bytes j cut same =
+pub returns : goal.returns
+returns g c list section passed bytes j cut same =
     let names = column_names c.args.version in
     let now = rw c.in_default.is at c.in_ok-fault.ensures names list (names ∷ passed) bytes (numbered.narrow c.args.version)
     c.requires.begins cut (refl, j) in
     let so : AnswersSo c.take_records.new.state.version list section = rw now.2.0 same in
-    difference_told g.S.SpanSource.to_come bytes c.take_records.new.state list section _ c.in-Some-finish.difference now.2.1 now.1 so
-    (c.in-Some-finish.ensures list now.2.1.table now.2.1.compares)
-
-pub returns-in-None : goal.returns-in-None
-returns-in-None g c list section passed bytes j cut same =
-    let names = column_names c.args.version in
-    let now = rw c.in_default.is at c.in_ok-fault.ensures names list (names ∷ passed) bytes (numbered.narrow c.args.version)
-    c.requires.begins cut (refl, j) in
-    let so : AnswersSo c.take_records.new.state.version list section = rw now.2.0 same in
-    same_told g.S.SpanSource.to_come bytes c.take_records.new.state list section _ now.2.1 now.1 so
-    (c.in-None.ensures list now.2.1.table now.2.1.compares)
+    found_told g.S.SpanSource.to_come bytes c.take_records.new.state list section _ c.finish.result now.2.1 now.1 so
+    (c.finish.ensures list now.2.1.table now.2.1.compares)

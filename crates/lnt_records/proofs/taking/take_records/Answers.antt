@@ -1,4 +1,4 @@
-use Rattle.std.proofs.Common.{◌+◌, ◌++◌, ◌∷◌, [], ℕ, List, append-nil, append_assoc, arith, length, length-append, subst, sym}
+use Rattle.std.proofs.Common.{◌+◌, ◌++◌, ◌∷◌, [], append-nil, append_assoc, arith, length, length-append, subst, sym}
 use Rattle.csv.specs.Records.{fields_of}
 use Rattle.lnt_records.specs.Reading.{IsNarrow}
 use Rattle.lnt_records.proofs.ReadingLaws.{begins}

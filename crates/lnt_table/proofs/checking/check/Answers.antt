@@ -1,8 +1,7 @@
 use Rattle.std.proofs.Common.{◌≡◌, ◌∙◌, sym}
 use Rattle.lnt_table.specs.declared.verdict.TableNo.TheVariants as no
 use Rattle.lnt_table.specs.declared.verdict.Verdict.TheVariants.{No}
-use Rattle.lnt_table.proofs.AnyLemmas.{none_of_section}
-use Rattle.lnt_table.proofs.CheckLemmas.{good_told, verdict_told}
+use Rattle.lnt_table.proofs.CheckLemmas.{good_told, none_of_section, verdict_told}
 use Rattle.lnt_table.proofs.checking.check.Goals as goal
 
 pub returns-clause-verdict : goal.returns-clause-verdict

@@ -1,5 +1,5 @@
-use Rattle.lnt_table.proofs.AnyLemmas.{numbered_told, path_told}
-use Rattle.lnt_table.proofs.by_path.check_index.Goals as goal
+use Rattle.lnt_table.proofs.JudgedLemmas.{numbered_with, pathed_with}
+use Rattle.lnt_table.proofs.judged.judge_index.Goals as goal
 
 pub compare_or_take-requires-clause-spans : goal.compare_or_take-requires-clause-spans
 compare_or_take-requires-clause-spans g c =
@@ -10,14 +10,13 @@ compare_or_take-requires-clause-spans g c =
 pub returns-in-Compared-clause-ok : goal.returns-in-Compared-clause-ok
 returns-in-Compared-clause-ok g c dead skip units is =
     let all = c.spans.ensures.gives dead skip units is in
-    rw c.verdict_of.ensures
-    (numbered_told (g.T.Source.remaining c.args.table.now) dead skip units all.spans c.in-Compared.compared all.answers
-    (rw c.in-Compared.is at c.in_ok-read.ensures.ok all.spans all.to_come all.in_order))
+    numbered_with (g.T.Source.remaining c.args.table.now) dead skip units all.spans c.in-Compared.outcome all.answers
+    (rw c.in-Compared.is at c.in_ok-read.ensures.ok all.spans all.to_come all.in_order)
 
 pub returns-in-Ok-clause-ok : goal.returns-in-Ok-clause-ok
 returns-in-Ok-clause-ok g c dead skip units is =
     let one = c.spans.ensures.gives dead skip units is in
     let all = c.spans-2.ensures.gives dead skip units is in
-    path_told (g.T.Source.remaining c.args.table.now) c.in-Other.text.items c.args.index.now dead skip units all.spans c.in-Ok.compared is
+    pathed_with (g.T.Source.remaining c.args.table.now) c.in-Other.text.items c.args.index.now dead skip units all.spans c.in-Ok.outcome is
     (rw c.in-Other.is at c.in_ok-read.ensures.ok one.spans one.to_come one.in_order) all.answers
     (rw c.deref.ensures.value at c.in-Ok.ensures all.spans all.to_come all.in_order)

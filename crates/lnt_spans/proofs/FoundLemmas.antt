@@ -1,0 +1,202 @@
+-- What a comparison found, once no record of the table follows.
+use Rattle.std.proofs.Common.{◌≡◌, ◌∙◌, ℕ, ◌+◌, ◌^◌, ◌≤◌, true, false, List, [], ◌∷◌, ◌⊎◌, inl, inr, refl, ap, sym, subst}
+use Rattle.std.proofs.Common.{Some, None, Option, arith}
+use Rattle.std.specs.Option.{is_some, option_map, option_or}
+use Rattle.std.specs.Prelude.{MatchOption}
+use Rattle.std.proofs.lemmas.Bool.{true≢false}
+use Rattle.std.proofs.lemmas.Option.{same_Some}
+use Rattle.lnt_spans.specs.declared.answer.Answer.{Answer}
+use Rattle.lnt_spans.specs.declared.merge.Merge.{Merge}
+use Rattle.lnt_spans.specs.declared.position.Position.{Position}
+use Rattle.lnt_spans.specs.declared.span.Span.{Span}
+use Rattle.lnt_spans.specs.Ahead.{IsAhead}
+use Rattle.lnt_spans.specs.AnyStretches.{Stretch}
+use Rattle.lnt_spans.specs.Counts.{CountsTo, addresses_answered, addresses_between, addresses_of, is_answered, whole}
+use Rattle.lnt_spans.specs.Differences.{IsFirstDifference}
+use Rattle.lnt_spans.specs.Merged.{AreCounted, AreFound, AreMergedBy, ArePassed, HasGap, HasMerged}
+use Rattle.lnt_spans.specs.Merged.{answer_told, until}
+use Rattle.lnt_spans.specs.Partial.{IsRightWherever, where_missed}
+use Rattle.lnt_spans.specs.Positions.{IsAtMost}
+use Rattle.lnt_spans.specs.Spans.{span_answer}
+use Rattle.lnt_spans.proofs.AheadLaws.{left_first}
+use Rattle.lnt_spans.proofs.CountLemmas.{addresses_of_spans, count_either, most_addresses, one_if}
+use Rattle.lnt_spans.proofs.CountLemmas.{same_addresses}
+use Rattle.lnt_spans.proofs.PositionLaws.{order_cases}
+use Rattle.lnt_spans.proofs.MergedLemmas.{alike_here, gap_begins, missed_here, missed_unanswered, none_from, none_is, until_below, until_from}
+
+-- a mistake was found
+pub found_mistaken : {S D X : Type 0} (to_come : S → List Span → Type 0) (tell : Answer → X) (value_of : D → Stretch X) (merge : Merge S D)
+    (spans : List Span) (by_table : Position → Option X) (missed : ℕ) → true ≡ is_some merge.mistake
+    → HasMerged to_come tell value_of merge spans by_table
+    → AreFound value_of (answer_told tell spans) by_table (record { gap = merge.gap; mistake = merge.mistake; missed = missed })
+found_mistaken {S} {D} {X} to_come tell value_of merge spans by_table missed some m =
+    by_mistake merge.gap merge.mistake some m.merged
+  where
+    section : Position → Option X
+    section = answer_told tell spans
+
+    by_mistake : (gap mistake : Option D) → true ≡ is_some mistake
+        → AreMergedBy (option_map value_of mistake) (option_map value_of gap) tell spans by_table merge.at (IsAhead to_come merge.spans)
+        merge.missed
+        → AreFound value_of section by_table (record { gap = gap; mistake = mistake; missed = missed })
+    by_mistake gap None e c = absurd (true≢false e)
+    by_mistake None (Some d) e c = record {
+      first = record {
+        section = c.0.first.section;
+        table = c.0.first.table;
+        differ = c.0.first.differ;
+        least = λ p h. alike_here by_table section p (c.0.first.least p h) (c.1 p h);
+      };
+      mistake = c.0.first;
+      missed = λ none. cc none;
+    }
+    by_mistake (Some gap) (Some d) e c = record {
+      first = c.1.0;
+      mistake = c.0.first;
+      missed = λ none. cc none;
+    }
+
+-- none was found, and so the spans that are left count
+pub merged_none : {S D X : Type 0} (to_come : S → List Span → Type 0) (tell : Answer → X) (value_of : D → Stretch X) (merge : Merge S D)
+    (spans : List Span) (by_table : Position → Option X) → false ≡ is_some merge.mistake
+    → HasMerged to_come tell value_of merge spans by_table
+    → AreCounted tell spans by_table merge.at (IsAhead to_come merge.spans) merge.missed
+    × HasGap (option_map value_of merge.gap) tell spans by_table merge.at
+merged_none {S} {D} {X} to_come tell value_of merge spans by_table none m =
+    subst (λ (f : Option D). AreMergedBy (option_map value_of f) (option_map value_of merge.gap) tell spans by_table merge.at
+    (IsAhead to_come merge.spans) merge.missed) (none_is merge.mistake (sym none)) m.merged
+
+-- the table is right everywhere
+right_ended : {X : Type 0} (tell : Answer → X) (spans : List Span) (by_table : Position → Option X) (at : Position)
+    (AreLeft : List Span → Type 0) → ArePassed tell spans by_table at AreLeft → ((p : Position) → IsAtMost at p → by_table p ≡ None)
+    → IsRightWherever by_table (answer_told tell spans)
+right_ended tell spans by_table at AreLeft passed ended p = elim (order_cases p at) [
+  | inl early ↦ passed.right p early
+  | inr late ↦ inl (ended p late)
+]
+
+-- no span is left
+pub found_ended : {S D X : Type 0} (to_come : S → List Span → Type 0) (tell : Answer → X) (value_of : D → Stretch X) (merge : Merge S D)
+    (spans : List Span) (by_table : Position → Option X) (counted : ℕ) → false ≡ is_some merge.mistake → merge.spans.next ≡ None
+    → counted ≡ merge.missed → HasMerged to_come tell value_of merge spans by_table
+    → AreFound value_of (answer_told tell spans) by_table (record { gap = merge.gap; mistake = merge.mistake; missed = counted })
+unfolding merged_none
+found_ended {S} {D} {X} to_come tell value_of merge spans by_table counted none empty is m = rw (none_is merge.mistake (sym none)) (record {
+  first = first merge.gap now.1;
+  mistake = right_ended tell spans by_table merge.at (IsAhead to_come merge.spans) now.0.passed m.ended;
+  missed = λ e. is ∙ now.0.counted ∙ same_addresses (until merge.at missed) missed (λ p. ap is_some (elim (order_cases p merge.at) [
+    | inl early ↦ until_below merge.at p missed early
+    | inr late ↦ until_from merge.at p missed late ∙ sym (missed_unanswered by_table section p (nothing p late))
+  ]));
+})
+  where
+    section : Position → Option X
+    section = answer_told tell spans
+
+    missed : Position → Option X
+    missed = where_missed by_table (answer_told tell spans)
+
+    now : AreCounted tell spans by_table merge.at (IsAhead to_come merge.spans) merge.missed
+        × HasGap (option_map value_of merge.gap) tell spans by_table merge.at
+    now = merged_none to_come tell value_of merge spans by_table none m
+
+    no_more : (rest : List Span) → IsAhead to_come merge.spans rest → rest ≡ []
+    no_more [] left = refl
+    no_more (span ∷ rest) left = absurd (let h : None ≡ Some span = sym empty ∙ left.0 in cc h)
+
+    nothing : (p : Position) → IsAtMost merge.at p → section p ≡ None
+    nothing p h = ap (option_map tell) (now.0.passed.same p h
+        ∙ ap (λ (xs : List Span). span_answer xs p) (no_more now.0.passed.rest now.0.passed.left))
+
+    first : (gap : Option D) → HasGap (option_map value_of gap) tell spans by_table merge.at
+        → MatchOption (option_or gap None) ((p : Position) → section p ≡ by_table p)
+        (λ difference. IsFirstDifference section by_table (value_of difference))
+    first None h = λ p. elim (order_cases p merge.at) [
+      | inl early ↦ alike_here by_table section p (now.0.passed.right p early) (h p early)
+      | inr late ↦ nothing p late ∙ sym (m.ended p late)
+    ]
+    first (Some gap) h = h.0
+
+-- the addresses at which the table doesn't answer are those below a position, and those of the spans that are left there
+missed_rest : {X : Type 0} (tell : Answer → X) (spans : List Span) (by_table : Position → Option X) (at : Position)
+    (AreLeft : List Span → Type 0) (passed : ArePassed tell spans by_table at AreLeft) → ((p : Position) → IsAtMost at p → by_table p ≡ None)
+    → addresses_answered (where_missed by_table (answer_told tell spans))
+    ≡ addresses_answered (until at (where_missed by_table (answer_told tell spans))) + addresses_of passed.rest
+missed_rest {X} tell spans by_table at AreLeft passed ended =
+    count_either (is_answered missed) (is_answered (until at missed)) (is_answered (span_answer passed.rest)) (2 ^ 64) (λ a. here (whole a))
+    ∙ ap (λ (n : ℕ). addresses_answered (until at missed) + n) (addresses_of_spans passed.rest passed.order)
+  where
+    missed : Position → Option X
+    missed = where_missed by_table (answer_told tell spans)
+
+    is_some_told : (answer : Option Answer) → is_some (option_map tell answer) ≡ is_some answer
+    is_some_told None = refl
+    is_some_told (Some answer) = refl
+
+    counted : {Y : Type 0} → Option Y → ℕ
+    counted answer = one_if (is_some answer)
+
+    here : (p : Position) → counted (missed p) ≡ counted (until at missed p) + counted (span_answer passed.rest p)
+    here p = elim (order_cases p at) [
+      | inl early ↦
+          let before : counted (until at missed p) ≡ counted (missed p) = ap counted (until_below at p missed early) in
+          let none : counted (span_answer passed.rest p) ≡ 0 = ap counted (none_from passed.rest p at passed.order passed.from early) in
+          omega (arith, before, none)
+      | inr late ↦
+          let none : counted (until at missed p) ≡ 0 = ap counted (until_from at p missed late) in
+          let rest : counted (missed p) ≡ counted (span_answer passed.rest p) =
+          ap counted (missed_here by_table (answer_told tell spans) p (ended p late) ∙ ap (option_map tell) (passed.same p late))
+          ∙ ap one_if (is_some_told (span_answer passed.rest p)) in
+          omega (arith, none, rest)
+    ]
+
+-- some spans are left
+pub found_more : {S D X : Type 0} (to_come : S → List Span → Type 0) (tell : Answer → X) (value_of : D → Stretch X) (merge : Merge S D)
+    (spans : List Span) (by_table : Position → Option X) (span : Span) (gap : D) (counted missed : ℕ) → false ≡ is_some merge.mistake
+    → merge.spans.next ≡ Some span
+    → (merge.gap ≡ Some gap)
+    ⊎ ((merge.gap ≡ None) × (value_of gap ≡ record { position = span.low; by_section = Some (tell span.answer); by_table = None }))
+    → (merge.missed + addresses_between span.low span.high ≤ 2 ^ 64 → counted ≡ merge.missed + addresses_between span.low span.high)
+    → ((total : ℕ) (list : List Span) → CountsTo to_come total merge.spans.spans counted list → missed ≡ total)
+    → HasMerged to_come tell value_of merge spans by_table
+    → AreFound value_of (answer_told tell spans) by_table (record { gap = Some gap; mistake = None; missed = missed })
+unfolding merged_none
+found_more {S} {D} {X} to_come tell value_of merge spans by_table span gap counted missed none is found adds counts m = record {
+  first = first merge.gap found now.1;
+  mistake = right_ended tell spans by_table merge.at (IsAhead to_come merge.spans) now.0.passed m.ended;
+  missed = λ e. counts (addresses_answered all) one.0 (record {
+    coming = one.2;
+    counted = omega (arith, adds most, total, now.0.counted);
+    most = most_addresses all;
+  });
+}
+  where
+    section : Position → Option X
+    section = answer_told tell spans
+
+    all : Position → Option X
+    all = where_missed by_table (answer_told tell spans)
+
+    now : AreCounted tell spans by_table merge.at (IsAhead to_come merge.spans) merge.missed
+        × HasGap (option_map value_of merge.gap) tell spans by_table merge.at
+    now = merged_none to_come tell value_of merge spans by_table none m
+
+    one : (more : List Span) × (now.0.passed.rest ≡ span ∷ more) × to_come merge.spans.spans more
+    one = left_first to_come merge.spans now.0.passed.rest span is now.0.passed.left
+
+    total : addresses_answered all
+        ≡ addresses_answered (until merge.at all) + (addresses_between span.low span.high + addresses_of one.0)
+    total = missed_rest tell spans by_table merge.at (IsAhead to_come merge.spans) now.0.passed m.ended
+        ∙ ap (λ (xs : List Span). addresses_answered (until merge.at all) + addresses_of xs) one.1
+
+    most : merge.missed + addresses_between span.low span.high ≤ 2 ^ 64
+    most = omega (arith, total, now.0.counted, most_addresses all)
+
+    first : (old : Option D)
+        → (old ≡ Some gap) ⊎ ((old ≡ None) × (value_of gap ≡ record { position = span.low; by_section = Some (tell span.answer); by_table = None }))
+        → HasGap (option_map value_of old) tell spans by_table merge.at → IsFirstDifference section by_table (value_of gap)
+    first None (inl e) h = cc e
+    first None (inr e) h =
+        gap_begins to_come tell spans by_table merge.spans merge.at span (value_of gap) is (λ p k l. m.ended p k) e.1 now.0.passed h
+    first (Some old) (inl e) h = subst (λ (d : D). IsFirstDifference section by_table (value_of d)) (same_Some old gap e) h.0
+    first (Some old) (inr e) h = cc e.0

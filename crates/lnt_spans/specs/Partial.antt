@@ -1,0 +1,61 @@
+-- Tables that answer a part of the positions, and are right there, whatever an answer is.
+use Rattle.std.specs.Prelude.{◌≡◌, ◌≢◌, ◌⊎◌, ℕ, List, Option, Some, None, IsSome}
+use Rattle.std.specs.List.{AllByRecursion}
+use Rattle.lnt_spans.specs.declared.position.Position.{Position}
+use Rattle.lnt_spans.specs.AnyStretches.{AreRising, BeginsStretch, IsInOne, Stretch}
+use Rattle.lnt_spans.specs.Counts.{addresses_answered}
+use Rattle.lnt_spans.specs.Positions.{IsBelow}
+
+-- At p the table has no answer, or that of the section.
+abbrev pub IsRightAt : {X : Type 0} → (Position → Option X) → (Position → Option X) → Position → Type 0
+IsRightAt by_table by_section p = (by_table p ≡ None) ⊎ (by_table p ≡ by_section p)
+
+-- At every position at which the table answers, its answer is the section's.
+abbrev pub IsRightWherever : {X : Type 0} → (Position → Option X) → (Position → Option X) → Type 0
+IsRightWherever by_table by_section = (p : Position) → IsRightAt by_table by_section p
+
+-- This is the least position at which the table answers, and the section answers otherwise or not at all. Both answers are those
+-- given here.
+pub record IsFirstMistake {X : Type 0} (by_table by_section : Position → Option X) (first : Stretch X) : Type 0 where
+  pub table : first.by_table ≡ by_table first.position
+  pub section : first.by_section ≡ by_section first.position
+  pub answered : IsSome first.by_table
+  pub differ : first.by_table ≢ first.by_section
+  pub least : (p : Position) → IsBelow p first.position → IsRightAt by_table by_section p
+
+-- These are all stretches, in ascending order, at which the table answers and the section answers otherwise or not at all: each
+-- longest range of consecutive positions at which the two answers stay the same.
+pub record AreAllMistakes {X : Type 0} (by_table by_section : Position → Option X) (stretches : List (Stretch X)) : Type 0 where
+  pub each : AllByRecursion (λ stretch. IsSome stretch.by_table × BeginsStretch by_section by_table stretch) stretches
+  pub rising : AreRising stretches
+  pub all : (p : Position) → IsRightAt by_table by_section p ⊎ IsInOne by_section by_table stretches p
+
+-- ---- the section's answers at the positions where the table answers
+
+-- the second, where there is a first
+abbrev pub where_some : {X : Type 0} → Option X → Option X → Option X
+where_some None answer = None
+where_some (Some _) answer = answer
+
+-- The section's answers at the positions where the table answers, and None elsewhere. A table is right wherever it answers exactly if
+-- it answers so at every position.
+abbrev pub where_answered : {X : Type 0} → (Position → Option X) → (Position → Option X) → Position → Option X
+where_answered by_table by_section p = where_some (by_table p) (by_section p)
+
+-- ---- where a table doesn't answer
+
+-- the second, where there is no first
+abbrev pub where_none : {X : Type 0} → Option X → Option X → Option X
+where_none None answer = answer
+where_none (Some _) answer = None
+
+-- the section's answers at the positions where the table doesn't answer, and None elsewhere
+abbrev pub where_missed : {X : Type 0} → (Position → Option X) → (Position → Option X) → Position → Option X
+where_missed by_table by_section p = where_none (by_table p) (by_section p)
+
+-- ---- how much is answered
+
+-- Of the `of_section` addresses at which the section answers, the table answers at `of_both`.
+pub record AreCounts {X : Type 0} (by_table by_section : Position → Option X) (of_both of_section : ℕ) : Type 0 where
+  pub both : of_both ≡ addresses_answered (where_answered by_table by_section)
+  pub section : of_section ≡ addresses_answered by_section

@@ -1,0 +1,24 @@
+use Rattle.std.proofs.Common.{◌≡◌, ◌∙◌, sym}
+use Rattle.lnt_table.specs.declared.by_path.Checked.TheVariants.{Numbered}
+use Rattle.lnt_table.specs.declared.verdict.TableNo.TheVariants as no
+use Rattle.lnt_table.specs.declared.verdict.Verdict.TheVariants.{No}
+use Rattle.lnt_table.specs.declared.within.CheckedWithin.TheVariants.{Checked as Told}
+use Rattle.lnt_table.proofs.JudgedLemmas.{not_within, scope_told, section_within}
+use Rattle.lnt_table.proofs.within.check_within.Goals as goal
+
+pub returns-clause-checked : goal.returns-clause-checked
+returns-clause-checked g c =
+    scope_told c.args.scope c.args.strings.now.line.now c.args.strings.now.general.now c.args.options.now
+    (g.R.Source.remaining c.args.section.now) (g.T.Source.remaining c.args.table.now) c.in-Good.index c.in_ok-judged.judged _
+    (rw c.in-Good.is at c.in_ok-index.ensures.judged) c.in_ok-judged.ensures.ok c.within.ensures.within
+
+pub returns-clause-of_section : goal.returns-clause-of_section
+returns-clause-of_section g c =
+    rw c.within.ensures.some.1
+    (section_within c.args.strings.now.line.now c.args.strings.now.general.now c.args.options.now (g.R.Source.remaining c.args.section.now)
+    c.in-Good.index c.args.scope c.in_ok-judged.judged c.within.ensures.some.0 (rw c.in-Good.is at c.in_ok-index.ensures.judged))
+
+pub returns-clause-unread : goal.returns-clause-unread
+returns-clause-unread g c reason e =
+    let same : c.within.result ≡ Told (Numbered (No (no.Section reason))) = cc in
+    absurd (not_within c.args.scope c.in_ok-judged.judged c.within.ensures.some.0 reason (sym c.within.ensures.some.1 ∙ same))

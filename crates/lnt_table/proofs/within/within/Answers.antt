@@ -1,0 +1,6 @@
+use Rattle.std.proofs.Common.{ap}
+use Rattle.lnt_table.specs.declared.within.CheckedWithin.TheVariants.{Checked}
+use Rattle.lnt_table.proofs.within.within.Goals as goal
+
+pub returns-in-All-clause-some : goal.returns-in-All-clause-some
+returns-in-All-clause-some c = (0, rw c.in-All.is (ap Checked c.whole.ensures))

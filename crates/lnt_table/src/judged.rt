@@ -1,0 +1,84 @@
+//! What the comparison of a table of any version with a good section comes to.
+ghost use Rattle.std.specs.Prelude.{◌≡◌, ◌≢◌, ◌+◌, ◌-◌, ◌^◌, ◌<◌, Bool, ℕ, List, Option, IfOk, IfSome, IsErrOf};
+ghost use Rattle.lnt_header.specs.declared.unit_parts.UnitParts.{UnitParts};
+ghost use Rattle.lnt_lines.specs.Indexed.{IsIndexOf};
+ghost use Rattle.lnt_table.specs.Headline.{IsFoundTooLong};
+ghost use Rattle.lnt_table.specs.Judged.{IsJudgedWith, missed_in, part_checked, whole_checked};
+
+use crate::by_path::Checked;
+use crate::paths::IndexPaths;
+use crate::verdict::verdict_of;
+use lnt_io::{Source, Stop};
+use lnt_lines::Index;
+use lnt_paths::{ComparedByPath, DifferenceByPath, compare_by_path};
+use lnt_records::{Outcome, TableRead, compare_or_take};
+use lnt_spans::Difference;
+use std::alloc::{AllocError, Global};
+
+// What the comparison of a table of any version with a good section comes to.
+#[derive(Drop)]
+pub(crate) enum Judged {
+    // The table begins with the header of version 1 or 2.
+    Numbered(Outcome<Difference>),
+    // It begins with the header of neither.
+    ByPath(Outcome<DifferenceByPath>),
+}
+
+impl Judged {
+    // The answer at all positions.
+    pub(crate) fn whole(self) -> Checked
+        ensures { result ≡ whole_checked self }
+    {
+        match self {
+            Judged::Numbered(outcome) => Checked::Numbered(verdict_of(outcome.whole())),
+            Judged::ByPath(outcome) => Checked::ByPath(ComparedByPath::whole_of(outcome)),
+        }
+    }
+
+    // The answer at the positions at which the table answers.
+    pub(crate) fn part(self) -> Checked
+        ensures { result ≡ part_checked self }
+    {
+        match self {
+            Judged::Numbered(outcome) => Checked::Numbered(verdict_of(outcome.part())),
+            Judged::ByPath(outcome) => Checked::ByPath(ComparedByPath::part_of(outcome)),
+        }
+    }
+
+    // The number of addresses at which the section answers and the table doesn't, if it is right wherever it answers.
+    pub(crate) fn missed(&self) -> Option<u128>
+        ensures { result ≡ missed_in self.now }
+    {
+        match self {
+            Judged::Numbered(Outcome::Found(found)) => found.missed(),
+            Judged::ByPath(Outcome::Found(found)) => found.missed(),
+            Judged::Numbered(Outcome::Fault(_)) | Judged::ByPath(Outcome::Fault(_)) => None,
+        }
+    }
+}
+
+// Compares the table with the spans of the index, by number or by path according to its header.
+pub(crate) fn judge_index<T: Source>(
+    alloc: Global,
+    table: &mut T,
+    index: &Index<'_>,
+) -> Result<Judged, Stop>
+    requires { T.failures table.old < 2 ^ 64 - 1 }
+    ensures ok { IfOk result (λ judged. (dead : Option ℕ) (skip : Bool) (units : List (ℕ × UnitParts))
+        → IsIndexOf dead skip units index.now
+        → IfSome (T.remaining table.old) (λ text. IsJudgedWith index.now dead skip units text judged)) }
+    ensures read { IsErrOf result Stop.Read → T.failures table.new ≡ T.failures table.old + 1 }
+    ensures no_failure { result ≢ Err Stop.Read → T.failures table.new ≡ T.failures table.old }
+    ensures too_long { IsErrOf result Stop.TooLong → IsFoundTooLong (T.too_long table.new) (T.remaining table.old) (T.left table.old) }
+{
+    let read = compare_or_take(alloc, table, index.spans())?;
+    let text = match read {
+        TableRead::Compared(outcome) => return Ok(Judged::Numbered(outcome)),
+        TableRead::Other(text) => text,
+    };
+    let paths = IndexPaths { index };
+    match compare_by_path(alloc, &text, index.spans(), &paths) {
+        Ok(outcome) => Ok(Judged::ByPath(outcome)),
+        Err(AllocError) => Err(Stop::Memory),
+    }
+}

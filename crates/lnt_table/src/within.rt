@@ -1,0 +1,138 @@
+//! Checks a section against an address table at all positions, or at those at which the table answers.
+ghost use Rattle.std.specs.Prelude.{◌≡◌, ◌≢◌, ◌+◌, ◌-◌, ◌^◌, ◌<◌, ◌⊎◌, Bool, ℕ, List, Option, IfOk, IfSome, IsErrOf, Some};
+ghost use Rattle.lnt_lines.specs.declared.no.No.{No as SectionNo};
+ghost use Rattle.lnt_io.specs.declared.stop.Stop.TheVariants.{Read, TooLong};
+ghost use Rattle.lnt_header.specs.declared.unit_parts.UnitParts.{UnitParts};
+ghost use Rattle.lnt_lines.specs.Indexed.{IsIndexOf};
+ghost use Rattle.lnt_sequences.specs.Sequences.{line_answer};
+ghost use Rattle.lnt_spans.specs.Counts.{addresses_answered};
+ghost use Rattle.lnt_table.specs.FaultTexts.{within_text};
+ghost use Rattle.lnt_table.specs.Headline.{IsFoundTooLong};
+ghost use Rattle.lnt_table.specs.Judged.{part_check, within_scope};
+ghost use Rattle.lnt_table.specs.Within.{IsTrueOfSectionWithin, IsTrueWithin};
+
+use crate::by_path::Checked;
+use crate::judged::{Judged, judge_index};
+use crate::verdict::{TableNo, Verdict};
+use lnt_io::{Source, Stop};
+use lnt_lines::{Index, JudgedIndex, Options, index_section};
+use lnt_spans::count_all;
+use lnt_wire::Strings;
+use std::alloc::Global;
+use std::fmt;
+
+/// The positions at which a table is compared with a section.
+#[derive(Clone, Copy, Debug, PartialEq, Eq)]
+pub enum Scope {
+    /// All positions.
+    All,
+    /// Those at which the table answers.
+    Answered,
+}
+
+/// How much of a section a table answers. An address counts if its position with operation index 0 does.
+#[derive(Clone, Copy, Debug, PartialEq, Eq)]
+pub struct Coverage {
+    /// The number of addresses, from 0 to 2^64 - 1, at which both answer.
+    pub answered: u128,
+    /// The number of those at which the section does.
+    pub all: u128,
+}
+
+/// The answer of `check_within`.
+#[derive(Drop)]
+pub enum CheckedWithin {
+    /// The comparison was one at all positions, or something is wrong. This is the answer, as `check_any` gives it; a
+    /// difference is the table's first mistake if only the positions count at which it answers.
+    Checked(Checked),
+    /// The section is good, and the table is right wherever it answers. It answers this much of the section.
+    Covered(Coverage),
+}
+
+/// The lines that report it, without the last line feed.
+impl fmt::Display for CheckedWithin {
+    ghost output = { λ checked. Some (within_text checked) };
+
+    fn fmt<W: fmt::Write>(&self, f: &mut fmt::Formatter<W>) -> fmt::Result {
+        match self {
+            CheckedWithin::Checked(checked) => checked.fmt(f),
+            CheckedWithin::Covered(coverage) => write!(
+                f,
+                "yes\nanswers {} of {}",
+                coverage.answered, coverage.all
+            ),
+        }
+    }
+}
+
+/// Checks a section against an address table of any of the four versions, at the positions of this scope.
+///
+/// In the scope `All` it answers what `check_any` answers. In the scope `Answered` the table is right if at every position at
+/// which it answers, its answer is the section's, as its version tells it; then the answer says at how many addresses it
+/// answers. Otherwise the answer is the first thing that is wrong, as in the scope `All`, but the least position is that of a
+/// mistake: one at which the table answers, and the section otherwise or not at all.
+///
+/// Stops as `check_any` does.
+pub fn check_within<R: Source, T: Source>(
+    alloc: Global,
+    section: &mut R,
+    strings: &Strings<'_>,
+    table: &mut T,
+    options: &Options,
+    scope: Scope,
+) -> Result<CheckedWithin, Stop>
+    requires section_fails { R.failures section.old < 2 ^ 64 - 1 }
+    requires table_fails { T.failures table.old < 2 ^ 64 - 1 }
+    ensures checked { IfOk result (λ checked. IfSome (R.remaining section.old) (λ bytes. IfSome (T.remaining table.old) (λ text.
+        IsTrueWithin scope strings.now.line.now strings.now.general.now options.now bytes text checked))) }
+
+    // What it says of the section is true whatever the table is, and if the section isn't good, the table isn't read.
+    ensures of_section { IfOk result (λ checked. IfSome (R.remaining section.old) (λ bytes.
+        IsTrueOfSectionWithin strings.now.line.now strings.now.general.now options.now bytes checked)) }
+    ensures unread { (no : SectionNo) → result ≡ Ok (CheckedWithin.Checked (Checked.Numbered (Verdict.No (TableNo.Section no))))
+        → table.new ≡ table.old }
+    ensures read { IsErrOf result Stop.Read → R.failures section.new + T.failures table.new ≡ R.failures section.old + T.failures table.old
+        + 1 }
+    ensures section_fine { result ≢ Err Stop.Read → R.failures section.new ≡ R.failures section.old }
+    ensures table_fine { result ≢ Err Stop.Read → T.failures table.new ≡ T.failures table.old }
+    ensures too_long { IsErrOf result Stop.TooLong → IsFoundTooLong (R.too_long section.new) (R.remaining section.old) (R.left section.old)
+        ⊎ IsFoundTooLong (T.too_long table.new) (T.remaining table.old) (T.left table.old) }
+{
+    let index = match index_section(alloc, section, strings, options)? {
+        JudgedIndex::Good(index) => index,
+        JudgedIndex::Bad(no) => {
+            let verdict = Verdict::No(TableNo::Section(no));
+            return Ok(CheckedWithin::Checked(Checked::Numbered(verdict)));
+        }
+    };
+    let judged = judge_index(alloc, table, &index)?;
+    Ok(within(judged, scope, &index))
+}
+
+// The answer in this scope.
+fn within(judged: Judged, scope: Scope, index: &Index<'_>) -> CheckedWithin
+    ensures within { (dead : Option ℕ) (skip : Bool) (units : List (ℕ × UnitParts)) → IsIndexOf dead skip units index.now
+        → result ≡ within_scope scope judged (addresses_answered (line_answer dead skip units)) }
+    ensures some { (all : ℕ) × (result ≡ within_scope scope judged all) }
+{
+    match scope {
+        Scope::All => CheckedWithin::Checked(judged.whole()),
+        Scope::Answered => part_of(judged, index),
+    }
+}
+
+// The answer at the positions at which the table answers.
+fn part_of(judged: Judged, index: &Index<'_>) -> CheckedWithin
+    ensures part { (dead : Option ℕ) (skip : Bool) (units : List (ℕ × UnitParts)) → IsIndexOf dead skip units index.now
+        → result ≡ part_check judged (addresses_answered (line_answer dead skip units)) }
+    ensures some { (all : ℕ) × (result ≡ part_check judged all) }
+{
+    let Some(missed) = judged.missed() else {
+        return CheckedWithin::Checked(judged.part());
+    };
+    let all = count_all(index.spans());
+    CheckedWithin::Covered(Coverage {
+        answered: all.saturating_sub(missed),
+        all,
+    })
+}
