@@ -12,7 +12,7 @@ use Rattle.lnt_words.specs.declared.request.Question.{Question}
 use Rattle.lnt_words.specs.declared.request.Question.TheVariants.{Verify, Lookup, Files, Table, TableByPath, Md5}
 use Rattle.lnt_table.specs.declared.within.CheckedWithin.{CheckedWithin}
 use Rattle.lnt_table.specs.declared.within.Scope.{Scope}
-use Rattle.lnt_table.specs.Within.{IsTrueOfSectionWithin, IsTrueWithin}
+use Rattle.lnt_table.specs.Within.{IsOfScope, IsTrueOfSectionWithin, IsTrueWithin}
 use Rattle.lnt_answers.specs.Verdicts.{checked_line}
 use Rattle.lnt_answers.specs.SumLines.{listed_files}
 use Rattle.lnt_answers.proofs.SumLaws.{sums_later}
@@ -99,9 +99,10 @@ pub checked_of : {E : Type 0} (tells : List ℕ → FileState → Type 0) (from 
     → IfOk ended (λ checked. IfSome section (λ bytes. IfSome text (λ text.
     IsTrueWithin scope line general (options_in from) bytes text checked)))
     → IfOk ended (λ checked. IfSome section (λ bytes. IsTrueOfSectionWithin line general (options_in from) bytes checked))
+    → IfOk ended (λ checked. IsOfScope checked scope)
     → IfOk ended (λ checked. (old new : Option (List ℕ)) → Appends old new (checked_line checked)
     → IsChecked tells from table scope old new checked)
-checked_of tells from table scope line general section text (Ok checked) texts of_section of_table so so_of_section =
+checked_of tells from table scope line general section text (Ok checked) texts of_section of_table so so_of_section so_of_scope =
     λ old new printed. record {
       line = line;
       general = general;
@@ -112,6 +113,7 @@ checked_of tells from table scope line general section text (Ok checked) texts o
       of_table = of_table;
       is_true = so;
       is_true_of_section = so_of_section;
+      of_scope = so_of_scope;
       printed = printed;
     }
-checked_of tells from table scope line general section text (Err stop) texts of_section of_table so so_of_section = tt
+checked_of tells from table scope line general section text (Err stop) texts of_section of_table so so_of_section so_of_scope = tt

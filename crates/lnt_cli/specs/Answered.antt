@@ -19,7 +19,7 @@ use Rattle.lnt_words.specs.declared.request.Request.TheVariants.{Help, Read, Upg
 use Rattle.lnt_table.specs.declared.within.CheckedWithin.{CheckedWithin}
 use Rattle.lnt_table.specs.declared.within.Scope.{Scope}
 use Rattle.lnt_table.specs.declared.within.Scope.TheVariants as scopes
-use Rattle.lnt_table.specs.Within.{IsTrueOfSectionWithin, IsTrueWithin}
+use Rattle.lnt_table.specs.Within.{IsOfScope, IsTrueOfSectionWithin, IsTrueWithin}
 use Rattle.lnt_answers.specs.Verdicts.{checked_line, checked_status}
 use Rattle.lnt_words.specs.Sizes.{size_bytes}
 use Rattle.lnt_dump.specs.Upgraded.{IsUpgradeTold}
@@ -61,6 +61,7 @@ pub record IsChecked (tells : List ℕ → FileState → Type 0) (from : Judging
   pub is_true : IfSome section_bytes (λ section. IfSome table_bytes (λ text.
       IsTrueWithin scope line general (options_in from) section text checked))
   pub is_true_of_section : IfSome section_bytes (λ section. IsTrueOfSectionWithin line general (options_in from) section checked)
+  pub of_scope : IsOfScope checked scope
   pub printed : Appends old new (checked_line checked)
 
 -- Such an answer was written, and the run ends with that answer's status.

@@ -5,7 +5,7 @@ ghost use Rattle.lnt_io.specs.Fronts.{HasBegun};
 ghost use Rattle.lnt_cli.specs.Answered.{AnswersCheck, IsChecked, options_in, scope_in};
 ghost use Rattle.lnt_cli.specs.Stepping.{IsOfCause};
 ghost use Rattle.lnt_cli.specs.Stops.{IsFileOfBoth, NamesOneOf};
-ghost use Rattle.lnt_table.specs.Within.{IsTrueOfSectionWithin, IsTrueWithin};
+ghost use Rattle.lnt_table.specs.Within.{IsOfScope, IsTrueOfSectionWithin, IsTrueWithin};
 ghost use Rattle.lnt_answers.specs.Verdicts.{checked_line};
 
 use crate::inputs::{OpenedBoth, of_file, open_both};
@@ -88,6 +88,7 @@ fn judge_table_of<S: Source, F: Source>(
         IsTrueWithin scope files.old.texts.line.items files.old.texts.general.items (options_in from.now) bytes text checked))) }
     ensures of_section { IfOk result (λ checked. IfSome (S.remaining files.old.section) (λ bytes.
         IsTrueOfSectionWithin files.old.texts.line.items files.old.texts.general.items (options_in from.now) bytes checked)) }
+    ensures of_scope { IfOk result (λ checked. IsOfScope checked scope) }
     ensures cause { IfErr result (IsOfCause
         (λ name. ((name ≡ from.now.section.now) × (0 < S.failures files.new.section))
         ⊎ ((name ≡ table.now) × (0 < F.failures files.new.file)))
