@@ -1,5 +1,5 @@
 -- Tables that answer a part of the positions, and are right there, whatever an answer is.
-use Rattle.std.specs.Prelude.{◌≡◌, ◌≢◌, ◌⊎◌, ℕ, List, Option, Some, None, IsSome}
+use Rattle.std.specs.Prelude.{◌≡◌, ◌≢◌, ◌⊎◌, ℕ, List, [], ◌∷◌, Option, Some, None, IsSome}
 use Rattle.std.specs.List.{AllByRecursion}
 use Rattle.lnt_spans.specs.declared.position.Position.{Position}
 use Rattle.lnt_spans.specs.AnyStretches.{AreRising, BeginsStretch, IsInOne, Stretch}
@@ -29,6 +29,16 @@ pub record AreAllMistakes {X : Type 0} (by_table by_section : Position → Optio
   pub each : AllByRecursion (λ stretch. IsSome stretch.by_table × BeginsStretch by_section by_table stretch) stretches
   pub rising : AreRising stretches
   pub all : (p : Position) → IsRightAt by_table by_section p ⊎ IsInOne by_section by_table stretches p
+
+-- the list with the second in front, if there is a first
+abbrev pub if_some : {X Y : Type 0} → Option X → Y → List Y → List Y
+if_some None one list = list
+if_some (Some _) one list = one ∷ list
+
+-- those at which the table answers
+abbrev pub answered_stretches : {X : Type 0} → List (Stretch X) → List (Stretch X)
+answered_stretches [] = []
+answered_stretches (stretch ∷ stretches) = if_some stretch.by_table stretch (answered_stretches stretches)
 
 -- ---- the section's answers at the positions where the table answers
 

@@ -10,7 +10,7 @@ use Rattle.lnt_spans.specs.Counts.{addresses_answered, addresses_between, addres
 use Rattle.lnt_spans.specs.Differences.{IsLeastDifference}
 use Rattle.lnt_spans.specs.Fitting.{FitSpans}
 use Rattle.lnt_spans.specs.Instructions.{IsOfInstructions}
-use Rattle.lnt_spans.specs.Partial.{AreAllMistakes, AreCounts, IsFirstMistake, IsRightWherever, where_answered, where_missed}
+use Rattle.lnt_spans.specs.Partial.{answered_stretches, AreAllMistakes, AreCounts, IsFirstMistake, IsRightWherever, where_answered, where_missed}
 use Rattle.lnt_spans.specs.Positions.{IsBelow, IsAtMost}
 use Rattle.lnt_spans.specs.Spans.{AreInOrder, span_answer}
 use Rattle.lnt_spans.specs.Stretches.{stretch_of}
@@ -37,6 +37,11 @@ abbrev pub AllMistakes : Type 0 → Type 0
 AllMistakes X = (by_table by_section : Position → Option X) (stretches : List (Stretch X))
     → AreAllMistakes by_table by_section stretches
     ↔ AreAllStretches (where_answered by_table by_section) by_table stretches
+
+-- Of all stretches at which a table and a section answer differently, those at which the table answers are all its mistakes.
+abbrev pub MistakesAmong : Type 0 → Type 0
+MistakesAmong X = (by_table by_section : Position → Option X) (stretches : List (Stretch X))
+    → AreAllStretches by_section by_table stretches → AreAllMistakes by_table by_section (answered_stretches stretches)
 
 -- ---- counts of addresses
 
