@@ -72,24 +72,24 @@ broken_begun shown frame unit fault old new (Err halt) broken (inr other) line =
 })
 
 -- the line of any fault
-pub faulty_told : (shown : DumpParts) (frame : Frame) (unit : BufferedUnit) (fault : RowFault) (offset : ℕ) (old new : Option (List ℕ))
+pub faulty_told : {offset : ℕ} (shown : DumpParts) (frame : Frame) (unit : BufferedUnit) (fault : RowFault) (old new : Option (List ℕ))
     (printed : Result Status Halt) → offset ≡ unit.offset → IsFaultOf unit shown.rows fault → IfOk printed (λ status. status ≡ No)
     → OnOk printed (Appends old new (fault_line offset (Some fault))) → IfOk printed (UnitTold shown frame unit old new)
-faulty_told shown frame unit fault offset old new (Ok status) at is is_no line = record {
+faulty_told {offset} shown frame unit fault old new (Ok status) at is is_no line = record {
   fault = Some fault;
   text = fault_line offset (Some fault);
   ends = (is, ap (λ (n : ℕ). fault_line n (Some fault)) at);
   printed = line;
   status_is = is_no;
 }
-faulty_told shown frame unit fault offset old new (Err halt) at is is_no line = tt
+faulty_told shown frame unit fault old new (Err halt) at is is_no line = tt
 
-pub faulty_begun : (shown : DumpParts) (frame : Frame) (unit : BufferedUnit) (fault : RowFault) (offset : ℕ) (old new : Option (List ℕ))
+pub faulty_begun : {offset : ℕ} (shown : DumpParts) (frame : Frame) (unit : BufferedUnit) (fault : RowFault) (old new : Option (List ℕ))
     (printed : Result Status Halt) → offset ≡ unit.offset → IsFaultOf unit shown.rows fault
     → OnErr printed (AppendsFront old new (fault_line offset (Some fault)))
     → OnErr printed (Keeps old new ⊎ UnitBegun shown frame unit old new)
-faulty_begun shown frame unit fault offset old new (Ok status) at is line = tt
-faulty_begun shown frame unit fault offset old new (Err halt) at is line = inr (record {
+faulty_begun shown frame unit fault old new (Ok status) at is line = tt
+faulty_begun {offset} shown frame unit fault old new (Err halt) at is line = inr (record {
   fault = Some fault;
   text = fault_line offset (Some fault);
   ends = (is, ap (λ (n : ℕ). fault_line n (Some fault)) at);
@@ -97,11 +97,11 @@ faulty_begun shown frame unit fault offset old new (Err halt) at is line = inr (
 })
 
 -- the lines of a unit
-pub valid_told : (shown : DumpParts) (frame : Frame) (view : View) (old new : Option (List ℕ))
+pub valid_told : {shown : DumpParts} {frame : Frame} {old new : Option (List ℕ)} (view : View)
     → (sound : (ops : List Op) × IsUnitOf view ops × (IsTrue shown.rows → Runs (with_ops view ops)))
     → ((ops : List Op) → IsUnitOf view ops → Appends old new (unit_lines shown (frame, with_ops view ops)))
     → UnitTold shown frame view.unit old new Done
-valid_told shown frame view old new (ops, is, runs) lines = record {
+valid_told {shown} {frame} view (ops, is, runs) lines = record {
   fault = None;
   text = unit_lines shown (frame, with_ops view ops);
   ends = (with_ops view ops, is, runs, refl);
@@ -130,9 +130,9 @@ pub record UnitsTold (order : Order) (shown : DumpParts) (start now old new : Op
     pub each : AllByRecursion (IsDumpedUnit order shown) units
     pub printed : Appends old new (flat_map (unit_lines shown) units)
 
-pub units_none : (order : Order) (shown : DumpParts) (start now old : Option (List ℕ)) (of_reader : Order) (offset : ℕ)
-    → of_reader ≡ order → offset ≡ 0 → now ≡ start → UnitsTold order shown start now old old of_reader offset
-units_none order shown start now old of_reader offset ordered at same = record {
+pub units_none : {order : Order} {shown : DumpParts} {start now old : Option (List ℕ)} {of_reader : Order} {offset : ℕ} → of_reader ≡ order
+    → offset ≡ 0 → now ≡ start → UnitsTold order shown start now old old of_reader offset
+units_none {order} {shown} {start} {now} {old} {of_reader} {offset} ordered at same = record {
   units = [];
   read = record {
     front = [];
@@ -190,27 +190,27 @@ pub next_framed : {of_reader : Order} {offset after : ℕ} {mid now : Option (Li
     → comes ≡ NextUnit unit → IsNext offset after of_reader mid now comes → frame.offset ≡ unit.offset
     → frame_bytes unit.order frame.format frame.body.now ≡ unit.bytes → IsPlacedFrame unit.order frame
     → IsNextFramed of_reader offset after mid now unit frame
-next_framed {of_reader = of_reader} {offset = offset} {after = after} {mid = mid} {now = now} is comes at bytes placed =
+next_framed {of_reader} {offset} {after} {mid} {now} is comes at bytes placed =
     let next = subst (IsNext offset after of_reader mid now) is comes in
     record { next = next.0; after_is = next.1; offset_is = at; bytes_are = bytes; placed = placed }
 
 -- one more unit was read
-read_unit : (order : Order) (shown : DumpParts) (start mid now : Option (List ℕ)) (units : List FramedUnit) (of_reader next_order : Order)
-    (offset after : ℕ) (unit : BufferedUnit) (frame : Frame) (parts : UnitParts) → next_order ≡ of_reader
+read_unit : {order : Order} {start mid now : Option (List ℕ)} {of_reader next_order : Order} {offset after : ℕ} {unit : BufferedUnit}
+    {frame : Frame} (shown : DumpParts) (units : List FramedUnit) (parts : UnitParts) → next_order ≡ of_reader
     → FramesRead order start mid (map (λ unit. unit.0) units) of_reader offset → IsNextFramed of_reader offset after mid now unit frame
     → FramesRead order start now (map (λ unit. unit.0) (units ++ (frame, parts) ∷ [])) next_order after
-read_unit order shown start mid now units of_reader next_order offset after unit frame parts ordered read n =
+read_unit {order} {start} {mid} {now} {of_reader} {next_order} {offset} {after} {unit} {frame} shown units parts ordered read n =
     subst (λ (frames : List Frame). FramesRead order start now frames next_order after)
     (sym (map_push (λ (unit : FramedUnit). unit.0) units (frame, parts)))
-    (read_more order start mid now (map (λ unit. unit.0) units) of_reader next_order offset after unit frame ordered read n.next n.after_is
+    (read_more ordered read n.next n.after_is
     n.offset_is n.bytes_are n.placed)
 
 -- and is the unit of its frame
-dumped_one : (order : Order) (shown : DumpParts) (start mid now : Option (List ℕ)) (frames : List Frame) (of_reader : Order)
-    (offset after : ℕ) (unit : BufferedUnit) (frame : Frame) (parts : UnitParts)
-    → FramesRead order start mid frames of_reader offset → IsNextFramed of_reader offset after mid now unit frame
-    → UnitBytesIn unit.order parts unit.bytes → (IsTrue shown.rows → Runs parts) → IsDumpedUnit order shown (frame, parts)
-dumped_one order shown start mid now frames of_reader offset after unit frame parts read n spelled runs =
+dumped_one : {order : Order} {shown : DumpParts} {start mid now : Option (List ℕ)} {frames : List Frame} {of_reader : Order}
+    {offset after : ℕ} {unit : BufferedUnit} {frame : Frame} {parts : UnitParts} → FramesRead order start mid frames of_reader offset
+    → IsNextFramed of_reader offset after mid now unit frame → UnitBytesIn unit.order parts unit.bytes → (IsTrue shown.rows → Runs parts)
+    → IsDumpedUnit order shown (frame, parts)
+dumped_one {order = order} {unit = unit} {frame = frame} {parts = parts} read n spelled runs =
     let ordered : unit.order ≡ order = n.next.order_is ∙ read.so_far.order_is in
     record {
       spelled = subst (λ (o : Order). UnitBytesIn o parts (frame_bytes o frame.format frame.body.now)) ordered
@@ -219,11 +219,12 @@ dumped_one order shown start mid now frames of_reader offset after unit frame pa
     }
 
 -- one more unit was printed
-pub units_more : (order : Order) (shown : DumpParts) (start mid now old then new : Option (List ℕ)) (of_reader next_order : Order)
-    (offset after : ℕ) (unit : BufferedUnit) (frame : Frame) (status : Status) → next_order ≡ of_reader
+pub units_more : {order : Order} {shown : DumpParts} {start mid now old then new : Option (List ℕ)} {of_reader next_order : Order}
+    {offset after : ℕ} {unit : BufferedUnit} {frame : Frame} {status : Status} → next_order ≡ of_reader
     → UnitsTold order shown start mid old then of_reader offset → IsNextFramed of_reader offset after mid now unit frame
     → UnitTold shown frame unit then new status → (status ≡ No → ⊥) → UnitsTold order shown start now old new next_order after
-units_more order shown start mid now old then new of_reader next_order offset after unit frame status ordered told n one goes_on =
+units_more {order} {shown} {start} {mid} {now} {old} {then} {new} {of_reader} {next_order} {offset} {after} {unit} {frame} {status} ordered
+    told n one goes_on =
     by_fault one.fault one.ends one.status_is
   where
     by_fault : (fault : Option RowFault) → UnitEnds shown frame unit fault one.text → status ≡ fault_status fault
@@ -231,10 +232,9 @@ units_more order shown start mid now old then new of_reader next_order offset af
     by_fault (Some fault) ends is = absurd (goes_on is)
     by_fault None (parts, spelled, runs, text_is) is = record {
       units = told.units ++ (frame, parts) ∷ [];
-      read = read_unit order shown start mid now told.units of_reader next_order offset after unit frame parts ordered told.read n;
+      read = read_unit shown told.units parts ordered told.read n;
       each = all_push (IsDumpedUnit order shown) told.units (frame, parts) told.each
-          (dumped_one order shown start mid now (map (λ unit. unit.0) told.units) of_reader offset after unit frame parts told.read n
-          spelled runs);
+          (dumped_one told.read n spelled runs);
       printed = subst (Appends old new) (push_lines shown told.units (frame, parts))
           (Appends-trans old then new (flat_map (unit_lines shown) told.units) (unit_lines shown (frame, parts)) told.printed
           (subst (Appends then new) text_is one.printed));
@@ -243,10 +243,10 @@ units_more order shown start mid now old then new of_reader next_order offset af
 -- ---- the end of the section
 
 -- nothing is left
-pub units_end : (order : Order) (shown : DumpParts) (start now old new : Option (List ℕ)) (of_reader : Order) (offset : ℕ)
+pub units_end : {order : Order} {shown : DumpParts} {start now old new : Option (List ℕ)} {of_reader : Order} {offset : ℕ}
     → UnitsTold order shown start now old new of_reader offset → SectionEndsBy offset of_reader now None
     → IsDumped order shown start old new Done
-units_end order shown start now old new of_reader offset told ends = record {
+units_end {order} {shown} {start} {now} {old} {new} {of_reader} {offset} told ends = record {
   units = told.units;
   offset = offset;
   fault = None;
@@ -256,20 +256,20 @@ units_end order shown start now old new of_reader offset told ends = record {
 }
 
 -- no frame follows, and so no unit
-no_frame : (order : Order) (shown : DumpParts) (start now : Option (List ℕ)) (frames : List Frame) (of_reader : Order) (offset : ℕ)
-    (fault : Fault) → FramesRead order start now frames of_reader offset → SectionEndsBy offset of_reader now (Some fault)
-    → IfSome now (λ rest. IsDumpFault order shown offset rest (Malformed fault))
-no_frame order shown start None frames of_reader offset fault read ends = tt
-no_frame order shown start (Some rest) frames of_reader offset fault read ends =
+no_frame : {order : Order} {start : Option (List ℕ)} {frames : List Frame} {of_reader : Order} {offset : ℕ} (shown : DumpParts)
+    (now : Option (List ℕ)) (fault : Fault) → FramesRead order start now frames of_reader offset
+    → SectionEndsBy offset of_reader now (Some fault) → IfSome now (λ rest. IsDumpFault order shown offset rest (Malformed fault))
+no_frame shown None fault read ends = tt
+no_frame {of_reader = of_reader} {offset = offset} shown (Some rest) fault read ends =
     let broken = fault_of_section.alone of_reader offset rest fault ends in
     (ends.0, subst (λ (o : Order). BrokenUnit o fault offset rest) read.so_far.order_is broken)
 
 -- a fault follows them
-ends_faulty : (order : Order) (shown : DumpParts) (start now old then new : Option (List ℕ)) (of_reader : Order) (offset : ℕ)
+ends_faulty : {order : Order} {shown : DumpParts} {start now old then new : Option (List ℕ)} {of_reader : Order} {offset : ℕ}
     (fault : RowFault) → UnitsTold order shown start now old then of_reader offset
     → IfSome now (λ rest. IsDumpFault order shown offset rest fault) → Appends then new (fault_line offset (Some fault))
     → IsDumped order shown start old new No
-ends_faulty order shown start now old then new of_reader offset fault told is line = record {
+ends_faulty {order} {shown} {start} {now} {old} {then} {new} {of_reader} {offset} fault told is line = record {
   units = told.units;
   offset = offset;
   fault = Some fault;
@@ -278,11 +278,11 @@ ends_faulty order shown start now old then new of_reader offset fault told is li
   status_is = refl;
 }
 
-begun_faulty : (order : Order) (shown : DumpParts) (start now old then new : Option (List ℕ)) (of_reader : Order) (offset : ℕ)
+begun_faulty : {order : Order} {shown : DumpParts} {start now old then new : Option (List ℕ)} {of_reader : Order} {offset : ℕ}
     (fault : RowFault) → UnitsTold order shown start now old then of_reader offset
     → IfSome now (λ rest. IsDumpFault order shown offset rest fault) → AppendsFront then new (fault_line offset (Some fault))
     → IsDumpBegun order shown start old new
-begun_faulty order shown start now old then new of_reader offset fault told is line = record {
+begun_faulty {order} {shown} {start} {now} {old} {then} {new} {of_reader} {offset} fault told is line = record {
   units = told.units;
   offset = offset;
   fault = Some fault;
@@ -290,28 +290,26 @@ begun_faulty order shown start now old then new of_reader offset fault told is l
   begun = front_after old then new (flat_map (unit_lines shown) told.units) (fault_line offset (Some fault)) told.printed line;
 }
 
-pub units_faulty : (order : Order) (shown : DumpParts) (start now old then new : Option (List ℕ)) (of_reader : Order) (offset : ℕ)
-    (fault : Fault) (printed : Result Status Halt) → UnitsTold order shown start now old then of_reader offset
+pub units_faulty : {order : Order} {shown : DumpParts} {start now old then : Option (List ℕ)} {of_reader : Order} {offset : ℕ}
+    (new : Option (List ℕ)) (fault : Fault) (printed : Result Status Halt) → UnitsTold order shown start now old then of_reader offset
     → SectionEndsBy offset of_reader now (Some fault) → IfOk printed (λ status. status ≡ No)
     → OnOk printed (Appends then new (malformed_text fault ++ codes "\n")) → IfOk printed (IsDumped order shown start old new)
-units_faulty order shown start now old then new of_reader offset fault (Ok status) told ends is_no line =
+units_faulty {order} {shown} {start} {now} {old} new fault (Ok status) told ends is_no line =
     subst (IsDumped order shown start old new) (sym is_no)
-    (ends_faulty order shown start now old then new of_reader offset (Malformed fault) told
-    (no_frame order shown start now (map (λ unit. unit.0) told.units) of_reader offset fault told.read ends) line)
-units_faulty order shown start now old then new of_reader offset fault (Err halt) told ends is_no line = tt
+    (ends_faulty (Malformed fault) told (no_frame shown now fault told.read ends) line)
+units_faulty new fault (Err halt) told ends is_no line = tt
 
-pub units_fault_cut : (order : Order) (shown : DumpParts) (start now old then new : Option (List ℕ)) (of_reader : Order) (offset : ℕ)
-    (fault : Fault) (printed : Result Status Halt) → UnitsTold order shown start now old then of_reader offset
+pub units_fault_cut : {order : Order} {shown : DumpParts} {start now old then : Option (List ℕ)} {of_reader : Order} {offset : ℕ}
+    (new : Option (List ℕ)) (fault : Fault) (printed : Result Status Halt) → UnitsTold order shown start now old then of_reader offset
     → SectionEndsBy offset of_reader now (Some fault) → OnErr printed (AppendsFront then new (malformed_text fault ++ codes "\n"))
     → OnErr printed (IsDumpBegun order shown start old new)
-units_fault_cut order shown start now old then new of_reader offset fault (Ok status) told ends line = tt
-units_fault_cut order shown start now old then new of_reader offset fault (Err halt) told ends line =
-    begun_faulty order shown start now old then new of_reader offset (Malformed fault) told
-    (no_frame order shown start now (map (λ unit. unit.0) told.units) of_reader offset fault told.read ends) line
+units_fault_cut new fault (Ok status) told ends line = tt
+units_fault_cut {shown = shown} {now = now} new fault (Err halt) told ends line =
+    begun_faulty (Malformed fault) told (no_frame shown now fault told.read ends) line
 
 -- a whole unit has some byte
-frame_some : (unit : BufferedUnit) → (is : IsWholeUnit unit) → 0 < length unit.bytes
-frame_some unit is =
+frame_some : {unit : BufferedUnit} → (is : IsWholeUnit unit) → 0 < length unit.bytes
+frame_some {unit} is =
     omega (
       arith,
       ap length is.spelled.joined,
@@ -320,41 +318,40 @@ frame_some unit is =
     )
 
 -- the fault of a unit, with whatever follows it
-fault_here : (order : Order) (shown : DumpParts) (offset : ℕ) (unit : BufferedUnit) (more : List ℕ) (fault : RowFault)
-    → IsWholeUnit unit → unit.offset ≡ offset → unit.order ≡ order → IsFaultOf unit shown.rows fault
+fault_here : {order : Order} {offset : ℕ} {unit : BufferedUnit} (shown : DumpParts) (more : List ℕ) (fault : RowFault) → IsWholeUnit unit
+    → unit.offset ≡ offset → unit.order ≡ order → IsFaultOf unit shown.rows fault
     → IsDumpFault order shown offset (unit.bytes ++ more) fault
-fault_here order shown offset unit more (Malformed fault) is at ordered b = (
-  omega (arith, length-append unit.bytes more, frame_some unit is),
+fault_here {order} {offset} {unit} shown more (Malformed fault) is at ordered b = (
+  omega (arith, length-append unit.bytes more, frame_some is),
   subst (λ (o : Order). BrokenUnit o fault offset (unit.bytes ++ more)) ordered
       (subst (λ (n : ℕ). BrokenUnit unit.order fault n (unit.bytes ++ more)) at
       (broken_more unit.order fault unit.offset (is.format, is.body) unit.bytes more is.spelled b)),
 )
-fault_here order shown offset unit more (Run fault) is at ordered (shows, not_run) =
+fault_here {unit = unit} shown more (Run fault) is at ordered (shows, not_run) =
     (shows, unit.bytes, more, refl, subst (λ (o : Order). DoesNotRun o unit.bytes fault) ordered not_run)
 
-faulty_unit : (order : Order) (shown : DumpParts) (offset : ℕ) (mid now : Option (List ℕ)) (unit : BufferedUnit) (fault : RowFault)
+faulty_unit : {order : Order} {offset : ℕ} {unit : BufferedUnit} (shown : DumpParts) (mid now : Option (List ℕ)) (fault : RowFault)
     → IsWholeUnit unit → unit.offset ≡ offset → unit.order ≡ order → Pulls mid now unit.bytes → IsFaultOf unit shown.rows fault
     → IfSome mid (λ rest. IsDumpFault order shown offset rest fault)
-faulty_unit order shown offset None now unit fault is at ordered pulls b = tt
-faulty_unit order shown offset (Some rest) None unit fault is at ordered pulls b = absurd pulls
-faulty_unit order shown offset (Some rest) (Some more) unit fault is at ordered pulls b =
+faulty_unit shown None now fault is at ordered pulls b = tt
+faulty_unit shown (Some rest) None fault is at ordered pulls b = absurd pulls
+faulty_unit {order} {offset} shown (Some rest) (Some more) fault is at ordered pulls b =
     subst (λ (z : List ℕ). IsDumpFault order shown offset z fault) (sym pulls)
-    (fault_here order shown offset unit more fault is at ordered b)
+    (fault_here shown more fault is at ordered b)
 
 -- the last unit is faulty
-pub units_broken : (order : Order) (shown : DumpParts) (start mid now old then new : Option (List ℕ)) (of_reader : Order)
-    (offset after : ℕ) (unit : BufferedUnit) (frame : Frame) (status : Status)
-    → UnitsTold order shown start mid old then of_reader offset → IsNextFramed of_reader offset after mid now unit frame
-    → UnitTold shown frame unit then new status → status ≡ No → IsDumped order shown start old new No
-units_broken order shown start mid now old then new of_reader offset after unit frame status told n one is_no =
+pub units_broken : {order : Order} {shown : DumpParts} {start mid now old then new : Option (List ℕ)} {of_reader : Order} {offset after : ℕ}
+    {unit : BufferedUnit} {frame : Frame} {status : Status} → UnitsTold order shown start mid old then of_reader offset
+    → IsNextFramed of_reader offset after mid now unit frame → UnitTold shown frame unit then new status → status ≡ No
+    → IsDumped order shown start old new No
+units_broken {order} {shown} {start} {mid} {now} {old} {then} {new} {of_reader} {offset} {after} {unit} {frame} {status} told n one is_no =
     by_fault one.fault one.ends one.status_is
   where
     by_fault : (fault : Option RowFault) → UnitEnds shown frame unit fault one.text → status ≡ fault_status fault
         → IsDumped order shown start old new No
     by_fault None ends is = absurd (cc (is_no, is))
     by_fault (Some fault) ends is =
-        ends_faulty order shown start mid old then new of_reader offset fault told
-        (faulty_unit order shown offset mid now unit fault n.next.whole n.next.offset_is (n.next.order_is ∙ told.read.so_far.order_is)
+        ends_faulty fault told (faulty_unit shown mid now fault n.next.whole n.next.offset_is (n.next.order_is ∙ told.read.so_far.order_is)
         n.next.pulls ends.0)
         (subst (λ (at : ℕ). Appends then new (fault_line at (Some fault))) n.next.offset_is
         (subst (Appends then new) ends.1 one.printed))
@@ -362,9 +359,9 @@ units_broken order shown start mid now old then new of_reader offset after unit 
 -- ---- a run that stops
 
 -- nothing more is written
-pub units_stopped : (order : Order) (shown : DumpParts) (start now old then new : Option (List ℕ)) (of_reader : Order) (offset : ℕ)
+pub units_stopped : {order : Order} {shown : DumpParts} {start now old then new : Option (List ℕ)} {of_reader : Order} {offset : ℕ}
     → UnitsTold order shown start now old then of_reader offset → Keeps then new → IsDumpBegun order shown start old new
-units_stopped order shown start now old then new of_reader offset told kept =
+units_stopped {order} {shown} {start} {now} {old} {then} {new} {of_reader} {offset} told kept =
     let lines = flat_map (unit_lines shown) told.units in
     record {
       units = told.units;
@@ -379,13 +376,13 @@ units_stopped order shown start now old then new of_reader offset told kept =
     any (Some rest) = tt
 
 -- of the next unit a front is written
-pub units_cut : (order : Order) (shown : DumpParts) (start mid now old then new : Option (List ℕ)) (of_reader next_order : Order)
-    (offset after : ℕ) (unit : BufferedUnit) (frame : Frame) → next_order ≡ of_reader
+pub units_cut : {order : Order} {shown : DumpParts} {start mid now old then new : Option (List ℕ)} {of_reader next_order : Order}
+    {offset after : ℕ} {unit : BufferedUnit} {frame : Frame} → next_order ≡ of_reader
     → UnitsTold order shown start mid old then of_reader offset → IsNextFramed of_reader offset after mid now unit frame
     → Keeps then new ⊎ UnitBegun shown frame unit then new → IsDumpBegun order shown start old new
-units_cut order shown start mid now old then new of_reader next_order offset after unit frame ordered told n (inl kept) =
-    units_stopped order shown start mid old then new of_reader offset told kept
-units_cut order shown start mid now old then new of_reader next_order offset after unit frame ordered told n (inr one) =
+units_cut ordered told n (inl kept) = units_stopped told kept
+units_cut {order} {shown} {start} {mid} {now} {old} {then} {new} {of_reader} {next_order} {offset} {after} {unit} {frame} ordered told n
+    (inr one) =
     by_fault one.fault one.ends
   where
     any : (known : Option (List ℕ)) → IfSome known (λ rest. Unit {0})
@@ -394,8 +391,7 @@ units_cut order shown start mid now old then new of_reader next_order offset aft
 
     by_fault : (fault : Option RowFault) → UnitEnds shown frame unit fault one.text → IsDumpBegun order shown start old new
     by_fault (Some fault) ends =
-        begun_faulty order shown start mid old then new of_reader offset fault told
-        (faulty_unit order shown offset mid now unit fault n.next.whole n.next.offset_is (n.next.order_is ∙ told.read.so_far.order_is)
+        begun_faulty fault told (faulty_unit shown mid now fault n.next.whole n.next.offset_is (n.next.order_is ∙ told.read.so_far.order_is)
         n.next.pulls ends.0)
         (subst (λ (at : ℕ). AppendsFront then new (fault_line at (Some fault))) n.next.offset_is
         (front_same then new one.text (fault_line unit.offset (Some fault)) ends.1 one.begun))
@@ -408,10 +404,9 @@ units_cut order shown start mid now old then new of_reader next_order offset aft
           offset = after;
           fault = None;
           so = begins order shown start now units next_order after (λ rest. Unit {0})
-              (read_unit order shown start mid now told.units of_reader next_order offset after unit frame parts ordered told.read n)
+              (read_unit shown told.units parts ordered told.read n)
               (all_push (IsDumpedUnit order shown) told.units (frame, parts) told.each
-              (dumped_one order shown start mid now (map (λ unit. unit.0) told.units) of_reader offset after unit frame parts told.read n
-              spelled runs))
+              (dumped_one told.read n spelled runs))
               (any now);
           begun = front_before old new lines []
               (front_same old new (before ++ unit_lines shown (frame, parts)) lines (push_lines shown told.units (frame, parts))
@@ -424,7 +419,6 @@ keeps_same None = tt
 keeps_same (Some bytes) = refl
 
 -- nothing more was written
-pub units_stay : (order : Order) (shown : DumpParts) (start now old new : Option (List ℕ)) (of_reader : Order) (offset : ℕ)
+pub units_stay : {order : Order} {shown : DumpParts} {start now old new : Option (List ℕ)} {of_reader : Order} {offset : ℕ}
     → UnitsTold order shown start now old new of_reader offset → IsDumpBegun order shown start old new
-units_stay order shown start now old new of_reader offset told =
-    units_stopped order shown start now old new new of_reader offset told (keeps_same new)
+units_stay {new = new} told = units_stopped told (keeps_same new)

@@ -3,7 +3,7 @@
 --     older   the offsets of the older units of a section, in their order
 use Rattle.std.specs.Prelude.{◌≡◌, ◌==◌, ℕ, ◌-◌, ◌<◌, zero, suc, List, [], ◌∷◌, ◌++◌, get_or, length, map}
 use Rattle.std.specs.Prelude.{Option, Some, None, IfSome, codes}
-use Rattle.std.specs.List.{AllZip, Any, find}
+use Rattle.std.specs.List.{AllPairs, AllZip, Any, find}
 use Rattle.std.specs.Option.{option_map_or}
 use Rattle.lnt_header.specs.Joins.{AreRising}
 use Rattle.lnt_digits.specs.Digits.{IsDecimal}
