@@ -47,12 +47,13 @@ def read(module):
     constructors, each with its data."""
     brought, defined, made, name = {}, {}, {}, None
     with open(os.path.join(TOP, file_of(module)), encoding="utf-8") as file:
-        for line in file.read().split("\n"):
+        text = file.read()
+        for line in text.split("\n"):
             use = re.fullmatch(r"(?:pub )?use (Rattle\.lnt_\w+\.specs\.[\w.+-]+)\.\{(.*)\}", line)
-            alias = re.fullmatch(r"(?:pub )?use (Rattle\.lnt_\w+\.specs\.[\w.+-]+) as \w+", line)
+            alias = re.fullmatch(r"(?:pub )?use (Rattle\.lnt_\w+\.specs\.[\w.+-]+) as (\w+)", line)
             head = re.match(WORDS + r"(\S+)", line)
             if alias and ".declared." not in alias[1]:
-                sys.exit("%s brings in %s under another name, which isn't followed here" % (file_of(module), alias[1]))
+                brought.update(("%s.%s" % (alias[2], word), (alias[1], word)) for word in re.findall(r"\b%s\.(\w+)" % alias[2], text))
             if use:
                 place, _, data = use[1].rpartition(".")
                 constructors = not os.path.exists(os.path.join(TOP, file_of(use[1])))

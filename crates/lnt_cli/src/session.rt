@@ -9,12 +9,14 @@ ghost use Rattle.lnt_cli.specs.Readings.{AnswersReading, BeginsReading};
 ghost use Rattle.lnt_cli.specs.Stopped.{IsStopped, StopsRead, StopsUpgrade};
 ghost use Rattle.lnt_cli.specs.Stops.{IsFileIn, NamesOneOf};
 
+use crate::check::scope_of;
 use crate::inputs::{of_file, open_section, read_named, read_whole};
 use crate::question::FileQuestion;
 use crate::stop::FileStop;
 use lnt_dump::{DumpParts, print_converted, print_dump, print_units, print_upgraded};
 use lnt_io::{Halt, Opener, Source, Status, write_whole};
 use lnt_notes::{Seen, tell_refused};
+use lnt_table::Scope;
 use lnt_wire::Order;
 use lnt_words::{AddressSize, Reading, Request};
 use std::alloc::Global;
@@ -65,12 +67,20 @@ impl<O: Opener, W: Write, N: Write> Session<'_, '_, '_, O, W, N> {
                 from,
                 table,
                 all: false,
-            } => self.check_table(from, table),
+                partial,
+            } => self.check_table(from, table, scope_of(*partial)),
             Request::Check {
                 from,
                 table,
                 all: true,
+                partial: false,
             } => self.answer_file(from, table, FileQuestion::Places),
+            Request::Check {
+                from,
+                table,
+                all: true,
+                partial: true,
+            } => self.check_table(from, table, Scope::Answered),
         }
     }
 
