@@ -66,7 +66,8 @@ struct linetab_unit {
 
 /* What was found. The fields that aren't named beside a number are 0.
  *
- *   0  yes
+ *   0  yes. Of linetab_check_within with is_partial: index is the number of addresses at which both answer, and value that of
+ *      those at which the section does. offset and other_offset are 0, or 1 where 2^64 has to be added to index and to value
  *  25  no unit stands where the next one has to: offset is that of the field at fault, and detail says what is wrong:
  *      1 truncated, 2 reserved length, 3 version (index), 4 address size (index), 5 segment selector size (index),
  *      6 header length, 7 max_ops of 0, 8 line_range of 0, 9 opcode_base of 0, 10 standard opcode (index) with a wrong
@@ -153,6 +154,12 @@ void linetab_check(const struct linetab_section *section, const uint8_t *table, 
  * too short stays as it was: ask again with more, or go without. */
 void linetab_check_paths(const struct linetab_section *section, const uint8_t *table, size_t len, uint8_t *by_table,
                          size_t by_table_len, uint8_t *by_section, size_t by_section_len, struct linetab_verdict *verdict);
+
+/* The same where is_partial is false. Where it is true, only the positions count at which the table answers: 40 is then the least
+ * of them at which the section answers otherwise or not at all. */
+void linetab_check_within(const struct linetab_section *section, const uint8_t *table, size_t len, bool is_partial,
+                          uint8_t *by_table, size_t by_table_len, uint8_t *by_section, size_t by_section_len,
+                          struct linetab_verdict *verdict);
 
 /* ---- The heap, which the host defines: linetab_heap.c does over malloc. Lookups and linetab_index
  * need none of it.

@@ -108,6 +108,7 @@ mkdir "$work/cases"
 for archive in tests/cases/{words,copies,checks_by_path}.tar.gz; do
   tar xzf "$archive" -C "$work/cases"
 done
+python3 tests/partial.py make "$work/cases" 300 2 examples/hello*.debug_line || exit 1
 expect 'each call tells what the generated cases want' 0 '' '' python3 tests/embedding/cases.py "$work/calls" "$work/cases"
 
 # ---- each caller beside the program, on each good section
@@ -127,7 +128,7 @@ paths powerpc64 --big
 
 # ---- memory and threads
 calls refusing tests/embedding/refusing.c
-refused=$(printf '%s: each request\n' linetab_{verify,units,path,table,check,check_paths})$'\n'
+refused=$(printf '%s: each request\n' linetab_{verify,units,path,table,check,check_paths,check_within})$'\n'
 expect 'each request refused' 0 "$refused" '' "$work/refusing" "${hello[@]}" examples/hello.csv "$work/other--paths"
 # A table of several blocks, each of which is there when memory for the next one is asked for.
 large=(examples/powerpc64.debug_line examples/powerpc64.debug_line_str)

@@ -17,7 +17,7 @@ declare -A elsewhere=(
 not_run=docs/FOUND.md
 # Tools that commands need, and the files that they make, which later commands read.
 declare -A makes=(
-  [parallel]=tables.log [make]= [dump_syms]=app.sym [llvm-gsymutil]=app.gsym [llvm-dwarfdump]= [eu-addr2line]=
+  [parallel]=tables.log [dump_syms]=app.sym [llvm-gsymutil]=app.gsym [llvm-dwarfdump]= [eu-addr2line]=
 )
 
 # A tool that a command needs, or that makes the file which it reads, isn't here.
@@ -50,7 +50,7 @@ runs() { # COMMAND [WANTED]
   fi
 }
 
-# The blocks of a page: commands with what they print, commands alone, the text of a Makefile, and others, which are passed over.
+# The blocks of a page: commands with what they print, commands alone, and others, which are passed over.
 page() { # FILE
   local line inside= command= wanted=
   while IFS= read -r line; do
@@ -61,7 +61,6 @@ page() { # FILE
         [ -z "$inside" ] && inside=${line#'```'}: || inside= ;;
       *)
         case $inside in
-          make:) echo "$line" >>"$there/Makefile" ;;
           :)
             if [[ $line == '$ '* ]]; then
               [ -z "$command" ] || runs "$command" "$wanted"
@@ -88,7 +87,6 @@ for file in README.md CONTRIBUTING.md docs/*.md; do
   [[ $file == "$not_run" || $file == docs/TABLES.md ]] || page "$file"
 done
 expect 'the table of app' 0 '' '' cmp "$there/app.csv" examples/hello.csv
-! here 'the answers of a store' make || expect 'the answers of a store' 0 $'yes\nyes\n' '' bash -c 'cat "$0"/store/*/*.answer' "$there"
 # The Python of a page, block after block: a table that is the program's own, and an answer from it. What other tools say is of a
 # program with code.
 sed -n '/^```python$/,/^```$/{/^```/!p}' docs/TABLES.md >"$work/page.py"

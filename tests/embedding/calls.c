@@ -1,6 +1,7 @@
 /* Each call of the library, printed as the program prints what it answers:
- *   calls verify|check TABLE|table|wide|files|lookup ADDRESS:OP SECTION [--line-str FILE] [--str FILE] [--dead ADDRESS]
- *         [--big] [--skip-copies]
+ *   calls verify|check TABLE|part TABLE|table|wide|files|lookup ADDRESS:OP SECTION [--line-str FILE] [--str FILE]
+ *         [--dead ADDRESS] [--big] [--skip-copies]
+ * `part` is `check --partial`.
  * It ends as the program does: 0 for yes, 1 for no, 4 where memory ran out. */
 #include "linetab.h"
 #include <inttypes.h>
@@ -51,6 +52,13 @@ static void print_answer(const struct linetab_verdict *v, bool is_there, const s
     printf("%" PRIu64 ",%" PRIu64 ",%" PRIu64 ",%" PRIu64 ",%d", answer->unit, answer->file, answer->line, answer->column, answer->is_stmt);
     if (answer->is_wide)
         printf(",%" PRIu64 ",%" PRIu64, answer->isa, answer->discriminator);
+}
+
+/* How much a table answers that is right wherever it answers. Nothing here answers at 2^64 addresses. */
+static void print_coverage(const struct linetab_verdict *v) {
+    printf("answers %" PRIu64 " of %" PRIu64 "\n", v->index, v->value);
+    if (v->offset != 0 || v->other_offset != 0)
+        printf("and 2^64 more\n");
 }
 
 /* Prints a verdict as the line that the program prints, and gives the exit status. */
@@ -196,11 +204,26 @@ static int print_files(const struct linetab_section *section) {
     return status;
 }
 
-static int print_check(const struct linetab_section *section, const char *name) {
+/* A check, with the rooms for two paths. Without is_partial it is the same by both calls. */
+static void check_paths(const struct linetab_section *section, const uint8_t *table, size_t len, bool is_partial, const size_t *lengths,
+                        struct linetab_verdict *verdict) {
+    linetab_check_within(section, table, len, is_partial, paths[0], lengths[0], paths[1], lengths[1], verdict);
+    if (!is_partial) {
+        struct linetab_verdict again;
+        linetab_check_paths(section, table, len, paths[0], lengths[0], paths[1], lengths[1], &again);
+        if (memcmp(&again, verdict, sizeof again) != 0)
+            printf("another verdict without a scope: ");
+    }
+}
+
+static int print_check(const struct linetab_section *section, const char *name, bool is_partial) {
     struct linetab_verdict verdict;
     size_t len;
-    uint8_t *table = read_file(name, &len);
-    linetab_check(section, table, len, &verdict);
+    uint8_t *table = read_file(name, &len), none[2];
+    if (is_partial)
+        linetab_check_within(section, table, len, true, none, 0, none + 1, 0, &verdict);
+    else
+        linetab_check(section, table, len, &verdict);
     if (verdict.path_version != 0) {
         struct linetab_verdict again;
         size_t lengths[2] = {verdict.index, verdict.value};
@@ -209,16 +232,19 @@ static int print_check(const struct linetab_section *section, const char *name) 
         /* Where a room is too short by one byte, nothing is put there, and the other one is filled. */
         for (int which = 0; which < 2; which++)
             if (lengths[which] != 0) {
-                linetab_check_paths(section, table, len, paths[0], lengths[0] - (which == 0), paths[1], lengths[1] - (which == 1), &again);
+                size_t rooms[2] = {lengths[0] - (which == 0), lengths[1] - (which == 1)};
+                check_paths(section, table, len, is_partial, rooms, &again);
                 tell_touched("a path that is cut: ", paths[which], lengths[which]);
                 memset(paths[1 - which], '?', lengths[1 - which]);
             }
-        linetab_check_paths(section, table, len, paths[0], lengths[0], paths[1], lengths[1], &again);
+        check_paths(section, table, len, is_partial, lengths, &again);
         if (memcmp(&again, &verdict, offsetof(struct linetab_verdict, by_table)) != 0 || again.by_table.line != verdict.by_table.line)
             printf("another verdict with paths: ");
     }
     free(table);
     int status = print_verdict(&verdict);
+    if (is_partial && verdict.number == 0)
+        print_coverage(&verdict);
     free(paths[0]);
     free(paths[1]);
     return status;
@@ -228,7 +254,7 @@ int main(int argc, char **argv) {
     struct linetab_section section = {NONE, 0, NONE, 0, NONE, 0, 0, false, false, false};
     const char *word = argc > 1 ? argv[1] : "", *more = NULL;
     int at = 2, status = 2;
-    if (at < argc && (strcmp(word, "check") == 0 || strcmp(word, "lookup") == 0))
+    if (at < argc && (strcmp(word, "check") == 0 || strcmp(word, "part") == 0 || strcmp(word, "lookup") == 0))
         more = argv[at++];
     if (at >= argc || linetab_version() != LINETAB_VERSION)
         return 2;
@@ -253,8 +279,8 @@ int main(int argc, char **argv) {
     if (strcmp(word, "verify") == 0) {
         linetab_verify(&section, one, 0, &verdict);
         status = print_verdict(&verdict);
-    } else if (strcmp(word, "check") == 0)
-        status = print_check(&section, more);
+    } else if (strcmp(word, "check") == 0 || strcmp(word, "part") == 0)
+        status = print_check(&section, more, word[0] == 'p');
     else if (strcmp(word, "lookup") == 0)
         status = print_lookup(&section, more);
     else if (strcmp(word, "table") == 0 || strcmp(word, "wide") == 0)

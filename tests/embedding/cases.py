@@ -34,6 +34,8 @@ def words_of(words):
             k += 1
         elif words[k] == "--wide":
             word = "wide"
+        elif words[k] == "--partial":
+            word = "part"
         elif words[k] == "--quiet":
             pass
         elif words[k].startswith("-") and words[k] != "-":
@@ -41,10 +43,10 @@ def words_of(words):
         else:
             names.append(words[k])
         k += 1
-    wanted = {"check": 2, "lookup": 2, "verify": 1, "table": 1, "wide": 1}.get(word)
+    wanted = {"check": 2, "part": 2, "lookup": 2, "verify": 1, "table": 1, "wide": 1}.get(word)
     if len(names) != wanted:
         return None
-    more = [names[1]] if word == "check" else ["%s:%s" % (names[1], op)] if word == "lookup" else []
+    more = [names[1]] if word in ("check", "part") else ["%s:%s" % (names[1], op)] if word == "lookup" else []
     return [word, *more, names[0], *options]
 
 

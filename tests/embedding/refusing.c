@@ -62,9 +62,10 @@ struct table {
     size_t len;
 };
 
-enum { CALLS = 6 };
+enum { CALLS = 7 };
 static const char *const names[CALLS] = {
     "linetab_verify", "linetab_units", "linetab_path", "linetab_table", "linetab_check", "linetab_check_paths",
+    "linetab_check_within",
 };
 
 /* The tables are one by number, and one by path that answers otherwise. */
@@ -79,6 +80,10 @@ static void call(int which, const struct linetab_section *section, const struct 
     case 5:
         linetab_check_paths(section, tables[1].bytes, tables[1].len, told->bytes, sizeof told->bytes, told->more, sizeof told->more,
                             &told->verdict);
+        break;
+    case 6:
+        linetab_check_within(section, tables[0].bytes, tables[0].len, true, told->bytes, sizeof told->bytes, told->more,
+                             sizeof told->more, &told->verdict);
         break;
     }
 }

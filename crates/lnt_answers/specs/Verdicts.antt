@@ -7,17 +7,19 @@ use Rattle.lnt_paths.specs.declared.answer.ComparedByPath.{ComparedByPath}
 use Rattle.lnt_paths.specs.declared.answer.ComparedByPath.TheVariants.{Same, Fault, Differs}
 use Rattle.lnt_paths.specs.PathAnswers.{PathAnswer}
 use Rattle.lnt_spans.specs.AnyStretches.{Stretch}
-use Rattle.lnt_table.specs.declared.by_path.Checked.{Checked}
 use Rattle.lnt_table.specs.declared.by_path.Checked.TheVariants.{Numbered, ByPath}
 use Rattle.lnt_table.specs.declared.verdict.Verdict.{Verdict}
 use Rattle.lnt_table.specs.declared.verdict.Verdict.TheVariants.{Yes, No}
-use Rattle.lnt_table.specs.FaultTexts.{checked_text}
+use Rattle.lnt_table.specs.declared.within.CheckedWithin.{CheckedWithin}
+use Rattle.lnt_table.specs.declared.within.CheckedWithin.TheVariants.{Checked as Told, Covered}
+use Rattle.lnt_table.specs.FaultTexts.{within_text}
 use Rattle.lnt_table.specs.PathTexts.{path_stretch_text}
 
 -- ---- a check's answer
 
-abbrev pub checked_line : Checked → List ℕ
-checked_line checked = checked_text checked ++ codes "\n"
+-- its line; where it says how much the table answers, its two lines
+abbrev pub checked_line : CheckedWithin → List ℕ
+checked_line checked = within_text checked ++ codes "\n"
 
 -- of a table of version 1 or 2
 abbrev pub verdict_status : Verdict → Status
@@ -30,10 +32,11 @@ compared_status Same = status.Done
 compared_status (Fault told) = status.No
 compared_status (Differs difference) = status.No
 
--- of a table of any version
-abbrev pub checked_status : Checked → Status
-checked_status (Numbered verdict) = verdict_status verdict
-checked_status (ByPath compared) = compared_status compared
+-- of a table of any version, in any scope
+abbrev pub checked_status : CheckedWithin → Status
+checked_status (Told (Numbered verdict)) = verdict_status verdict
+checked_status (Told (ByPath compared)) = compared_status compared
+checked_status (Covered coverage) = status.Done
 
 -- ---- all stretches of a table by path
 

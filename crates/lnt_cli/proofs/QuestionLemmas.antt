@@ -10,8 +10,9 @@ use Rattle.lnt_lines.specs.Indexed.{Indexed}
 use Rattle.lnt_words.specs.declared.request.Judging.{Judging}
 use Rattle.lnt_words.specs.declared.request.Question.{Question}
 use Rattle.lnt_words.specs.declared.request.Question.TheVariants.{Verify, Lookup, Files, Table, TableByPath, Md5}
-use Rattle.lnt_table.specs.declared.by_path.Checked.{Checked}
-use Rattle.lnt_table.specs.AnyVersion.{IsTrueCheck, IsTrueCheckOfSection}
+use Rattle.lnt_table.specs.declared.within.CheckedWithin.{CheckedWithin}
+use Rattle.lnt_table.specs.declared.within.Scope.{Scope}
+use Rattle.lnt_table.specs.Within.{IsOfScope, IsTrueOfSectionWithin, IsTrueWithin}
 use Rattle.lnt_answers.specs.Verdicts.{checked_line}
 use Rattle.lnt_answers.specs.SumLines.{listed_files}
 use Rattle.lnt_answers.proofs.SumLaws.{sums_later}
@@ -91,16 +92,17 @@ of_file_answered tells from file IsTold texts section bytes (Ok answered) are_te
     told_of_file tells from file (IsTold answered) texts section bytes are_texts of_section of_file so
 of_file_answered tells from file IsTold texts section bytes (Err stop) are_texts of_section of_file so = so
 
--- What is true of the bytes of a section and of a table answers the check of their files, once its line is printed.
-pub checked_of : {E : Type 0} (tells : List ℕ → FileState → Type 0) (from : Judging) (table line general : List ℕ)
-    (section text : Option (List ℕ)) (ended : Result Checked E)
+-- What is true of the bytes of a section and of a table answers the check of their files, once it is printed.
+pub checked_of : {E : Type 0} (tells : List ℕ → FileState → Type 0) (from : Judging) (table : List ℕ) (scope : Scope)
+    (line general : List ℕ) (section text : Option (List ℕ)) (ended : Result CheckedWithin E)
     → AreTextsOf tells from line general → tells from.section.now (Readable section) → tells table (Readable text)
     → IfOk ended (λ checked. IfSome section (λ bytes. IfSome text (λ text.
-    IsTrueCheck line general (options_in from) bytes text checked)))
-    → IfOk ended (λ checked. IfSome section (λ bytes. IsTrueCheckOfSection line general (options_in from) bytes checked))
+    IsTrueWithin scope line general (options_in from) bytes text checked)))
+    → IfOk ended (λ checked. IfSome section (λ bytes. IsTrueOfSectionWithin line general (options_in from) bytes checked))
+    → IfOk ended (λ checked. IsOfScope checked scope)
     → IfOk ended (λ checked. (old new : Option (List ℕ)) → Appends old new (checked_line checked)
-    → IsChecked tells from table old new checked)
-checked_of tells from table line general section text (Ok checked) texts of_section of_table so so_of_section =
+    → IsChecked tells from table scope old new checked)
+checked_of tells from table scope line general section text (Ok checked) texts of_section of_table so so_of_section so_of_scope =
     λ old new printed. record {
       line = line;
       general = general;
@@ -111,6 +113,7 @@ checked_of tells from table line general section text (Ok checked) texts of_sect
       of_table = of_table;
       is_true = so;
       is_true_of_section = so_of_section;
+      of_scope = so_of_scope;
       printed = printed;
     }
-checked_of tells from table line general section text (Err stop) texts of_section of_table so so_of_section = tt
+checked_of tells from table scope line general section text (Err stop) texts of_section of_table so so_of_section so_of_scope = tt

@@ -15,7 +15,8 @@ use Rattle.lnt_lines.specs.Indexed.{Indexed, IsIndexOf}
 use Rattle.lnt_words.specs.declared.request.Judging.{Judging}
 use Rattle.lnt_words.specs.declared.request.Question.{Question}
 use Rattle.lnt_words.specs.declared.request.Question.TheVariants.{Verify, Lookup, Files, Table, TableByPath, Md5}
-use Rattle.lnt_table.specs.declared.by_path.Checked.{Checked}
+use Rattle.lnt_table.specs.declared.within.CheckedWithin.{CheckedWithin}
+use Rattle.lnt_table.specs.declared.within.Scope.{Scope}
 use Rattle.lnt_answers.specs.Lines.{HasBegunLine}
 use Rattle.lnt_answers.specs.SumLines.{listed_files}
 use Rattle.lnt_lines.specs.FaultTexts.{no_text}
@@ -29,11 +30,13 @@ use Rattle.lnt_cli.specs.declared.inputs.Texts.{Texts}
 use Rattle.lnt_cli.specs.declared.question.FileQuestion.TheVariants.{Places}
 use Rattle.lnt_cli.proofs.QuestionLemmas.{told_of_file, told_of_section}
 
--- a front of the line of a check's result, which is the answer once its line is printed
-check_begun : (tells : List ℕ → FileState → Type 0) (from : Judging) (table : List ℕ) (checked : Checked) (old new : Option (List ℕ))
-    → ((before after : Option (List ℕ)) → Appends before after (checked_line checked) → IsChecked tells from table before after checked)
-    → AppendsFront old new (checked_line checked) → HasBegun (AnswersCheck tells from table old) old new
-check_begun tells from table checked old new so front = record {
+-- a front of what is printed of a check's result, which is the answer once it is printed
+check_begun : (tells : List ℕ → FileState → Type 0) (from : Judging) (table : List ℕ) (scope : Scope) (checked : CheckedWithin)
+    (old new : Option (List ℕ))
+    → ((before after : Option (List ℕ)) → Appends before after (checked_line checked)
+    → IsChecked tells from table scope before after checked)
+    → AppendsFront old new (checked_line checked) → HasBegun (AnswersCheck tells from table scope old) old new
+check_begun tells from table scope checked old new so front = record {
   whole = checked_line checked;
   ending = checked_status checked;
   is_end = record {
@@ -44,16 +47,17 @@ check_begun tells from table checked old new so front = record {
   front = front;
 }
 
--- the same where the printing of that line stopped the run
-pub check_stopped : {R T S E : Type 0} (tells : List ℕ → FileState → Type 0) (from : Judging) (table : List ℕ) (checked : Checked)
-    (old new : Option (List ℕ)) (printed : Result R E) (ended : Result T S)
-    → ((before after : Option (List ℕ)) → Appends before after (checked_line checked) → IsChecked tells from table before after checked)
+-- the same where the printing stopped the run
+pub check_stopped : {R T S E : Type 0} (tells : List ℕ → FileState → Type 0) (from : Judging) (table : List ℕ) (scope : Scope)
+    (checked : CheckedWithin) (old new : Option (List ℕ)) (printed : Result R E) (ended : Result T S)
+    → ((before after : Option (List ℕ)) → Appends before after (checked_line checked)
+    → IsChecked tells from table scope before after checked)
     → OnErr ended (IsErr printed) → OnErr printed (AppendsFront old new (checked_line checked))
-    → OnErr ended (Keeps old new ⊎ HasBegun (AnswersCheck tells from table old) old new)
-check_stopped tells from table checked old new printed (Ok status) so is front = tt
-check_stopped tells from table checked old new (Ok value) (Err stop) so is front = absurd (false≢true is)
-check_stopped tells from table checked old new (Err halt) (Err stop) so is front =
-    inr (check_begun tells from table checked old new so front)
+    → OnErr ended (Keeps old new ⊎ HasBegun (AnswersCheck tells from table scope old) old new)
+check_stopped tells from table scope checked old new printed (Ok status) so is front = tt
+check_stopped tells from table scope checked old new (Ok value) (Err stop) so is front = absurd (false≢true is)
+check_stopped tells from table scope checked old new (Err halt) (Err stop) so is front =
+    inr (check_begun tells from table scope checked old new so front)
 
 -- ---- sections that are judged
 

@@ -1,7 +1,7 @@
 -- The answers to requests, and the bytes of which they are true.
 --     tells       what the opener may say of the file with a name, as the run begins
 --     old, new    what the writer of the answer holds before and afterwards
-use Rattle.std.specs.Prelude.{◌≡◌, ℕ, List, [], Option, None, Some, IfSome, true, false, string_bytes}
+use Rattle.std.specs.Prelude.{◌≡◌, Bool, ℕ, List, [], Option, None, Some, IfSome, true, false, string_bytes}
 use Rattle.std.specs.Option.{option_copied}
 use Rattle.std.specs.Io.KnownBytes.{Appends}
 use Rattle.lnt_io.specs.Files.{AreBytesOf, FileState, Readable}
@@ -16,8 +16,10 @@ use Rattle.lnt_words.specs.declared.request.Question.{Question}
 use Rattle.lnt_words.specs.declared.request.Reading.{Reading}
 use Rattle.lnt_words.specs.declared.request.Request.{Request}
 use Rattle.lnt_words.specs.declared.request.Request.TheVariants.{Help, Read, Upgrade, Judge, Addresses, Check}
-use Rattle.lnt_table.specs.declared.by_path.Checked.{Checked}
-use Rattle.lnt_table.specs.AnyVersion.{IsTrueCheck, IsTrueCheckOfSection}
+use Rattle.lnt_table.specs.declared.within.CheckedWithin.{CheckedWithin}
+use Rattle.lnt_table.specs.declared.within.Scope.{Scope}
+use Rattle.lnt_table.specs.declared.within.Scope.TheVariants as scopes
+use Rattle.lnt_table.specs.Within.{IsOfScope, IsTrueOfSectionWithin, IsTrueWithin, scope_in}
 use Rattle.lnt_answers.specs.Verdicts.{checked_line, checked_status}
 use Rattle.lnt_words.specs.Sizes.{size_bytes}
 use Rattle.lnt_dump.specs.Upgraded.{IsUpgradeTold}
@@ -40,10 +42,10 @@ pub record AreTextsOf (tells : List ℕ → FileState → Type 0) (from : Judgin
   pub line_is : AreStringsOf tells (option_copied from.line_strings) line
   pub general_is : AreStringsOf tells (option_copied from.strings) general
 
--- The check's answer is true of the section and of the table, of any version, in the named files, and its line was written, and
--- nothing else. What it says of the section is true even if nothing is known of the table's bytes.
-pub record IsChecked (tells : List ℕ → FileState → Type 0) (from : Judging) (table : List ℕ)
-    (old new : Option (List ℕ)) (checked : Checked) : Type 0 where
+-- The check's answer is true of the section and of the table, of any version, in the named files, at the positions of the scope, and
+-- it was written, and nothing else. What it says of the section is true even if nothing is known of the table's bytes.
+pub record IsChecked (tells : List ℕ → FileState → Type 0) (from : Judging) (table : List ℕ) (scope : Scope)
+    (old new : Option (List ℕ)) (checked : CheckedWithin) : Type 0 where
   pub line : List ℕ
   pub general : List ℕ
   pub texts : AreTextsOf tells from line general
@@ -52,15 +54,16 @@ pub record IsChecked (tells : List ℕ → FileState → Type 0) (from : Judging
   pub table_bytes : Option (List ℕ)
   pub of_table : tells table (Readable table_bytes)
   pub is_true : IfSome section_bytes (λ section. IfSome table_bytes (λ text.
-      IsTrueCheck line general (options_in from) section text checked))
-  pub is_true_of_section : IfSome section_bytes (λ section. IsTrueCheckOfSection line general (options_in from) section checked)
+      IsTrueWithin scope line general (options_in from) section text checked))
+  pub is_true_of_section : IfSome section_bytes (λ section. IsTrueOfSectionWithin line general (options_in from) section checked)
+  pub of_scope : IsOfScope checked scope
   pub printed : Appends old new (checked_line checked)
 
--- The line of such an answer was written, and the run ends with that answer's status.
-pub record AnswersCheck (tells : List ℕ → FileState → Type 0) (from : Judging) (table : List ℕ)
+-- Such an answer was written, and the run ends with that answer's status.
+pub record AnswersCheck (tells : List ℕ → FileState → Type 0) (from : Judging) (table : List ℕ) (scope : Scope)
     (old new : Option (List ℕ)) (status : Status) : Type 0 where
-  pub checked : Checked
-  pub so : IsChecked tells from table old new checked
+  pub checked : CheckedWithin
+  pub so : IsChecked tells from table scope old new checked
   pub status_is : status ≡ checked_status checked
 
 -- ---- sections that are judged
@@ -133,5 +136,7 @@ IsAnswered tells (Upgrade section order size directories) old new status =
     AnswersUpgrade tells section.now order (size_bytes size) (option_copied directories) old new status
 IsAnswered tells (Judge from question) old new status = AnswersQuestion tells from question old new status
 IsAnswered tells (Addresses from file op) old new status = AnswersFile tells from file.now (Lines op) old new status
-IsAnswered tells (Check from table false) old new status = AnswersCheck tells from table.now old new status
-IsAnswered tells (Check from table true) old new status = AnswersFile tells from table.now Places old new status
+IsAnswered tells (Check from table false partial) old new status =
+    AnswersCheck tells from table.now (scope_in partial) old new status
+IsAnswered tells (Check from table true false) old new status = AnswersFile tells from table.now Places old new status
+IsAnswered tells (Check from table true true) old new status = AnswersCheck tells from table.now scopes.Answered old new status

@@ -14,7 +14,9 @@ use Rattle.lnt_lines.specs.Indexed.{Indexed}
 use Rattle.lnt_paths.specs.declared.version.PathVersion.{PathVersion}
 use Rattle.lnt_paths.specs.declared.version.PathVersion.TheVariants.{Three, Four}
 use Rattle.lnt_table.specs.ByPath.{told_path}
+use Rattle.lnt_table.specs.Within.{scope_in}
 use Rattle.lnt_table.specs.Written.{BeginsTableOfUnits}
+use Rattle.lnt_table.specs.declared.within.Scope.TheVariants as scopes
 use Rattle.lnt_words.specs.declared.request.Judging.{Judging}
 use Rattle.lnt_words.specs.declared.request.Question.{Question}
 use Rattle.lnt_words.specs.declared.request.Question.TheVariants.{Verify, Lookup, Files, Table, TableByPath, Md5}
@@ -107,5 +109,8 @@ IsStopped tells (Upgrade section order size directories) old new =
     Keeps old new ⊎ StopsUpgrade tells section.now order (size_bytes size) (option_copied directories) old new
 IsStopped tells (Judge from question) old new = Keeps old new ⊎ BeginsQuestion tells from question old new
 IsStopped tells (Addresses from file op) old new = Keeps old new ⊎ BeginsFile tells from file.now (Lines op) old new
-IsStopped tells (Check from table false) old new = Keeps old new ⊎ HasBegun (AnswersCheck tells from table.now old) old new
-IsStopped tells (Check from table true) old new = Keeps old new ⊎ BeginsFile tells from table.now Places old new
+IsStopped tells (Check from table false partial) old new =
+    Keeps old new ⊎ HasBegun (AnswersCheck tells from table.now (scope_in partial) old) old new
+IsStopped tells (Check from table true false) old new = Keeps old new ⊎ BeginsFile tells from table.now Places old new
+IsStopped tells (Check from table true true) old new =
+    Keeps old new ⊎ HasBegun (AnswersCheck tells from table.now scopes.Answered old) old new

@@ -41,4 +41,4 @@ IsFileIn (ReadSection section order reading) name = section.now ≡ name
 IsFileIn (Upgrade section order size directories) name = (section.now ≡ name) ⊎ (option_copied directories ≡ Some name)
 IsFileIn (Judge from question) name = IsFileOf from name
 IsFileIn (Addresses from file op) name = IsFileOfBoth from file.now name
-IsFileIn (Check from table all) name = IsFileOfBoth from table.now name
+IsFileIn (Check from table all partial) name = IsFileOfBoth from table.now name

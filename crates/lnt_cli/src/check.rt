@@ -5,7 +5,7 @@ ghost use Rattle.lnt_io.specs.Fronts.{HasBegun};
 ghost use Rattle.lnt_cli.specs.Answered.{AnswersCheck, IsChecked, options_in};
 ghost use Rattle.lnt_cli.specs.Stepping.{IsOfCause};
 ghost use Rattle.lnt_cli.specs.Stops.{IsFileOfBoth, NamesOneOf};
-ghost use Rattle.lnt_table.specs.AnyVersion.{IsTrueCheck, IsTrueCheckOfSection};
+ghost use Rattle.lnt_table.specs.Within.{IsOfScope, IsTrueOfSectionWithin, IsTrueWithin};
 ghost use Rattle.lnt_answers.specs.Verdicts.{checked_line};
 
 use crate::inputs::{OpenedBoth, of_file, open_both};
@@ -16,29 +16,30 @@ use crate::stop::FileStop;
 use lnt_answers::print_checked;
 use lnt_io::{Halt, Opener, Source, Status, Stop};
 use lnt_notes::Seen;
-use lnt_table::{Checked, check_any};
+use lnt_table::{CheckedWithin, Scope, check_within};
 use lnt_words::Judging;
 use std::alloc::Global;
 use std::cell::Cell;
 use std::io::Write;
 
 impl<O: Opener, W: Write, N: Write> Session<'_, '_, '_, O, W, N> {
-    // Answers whether the table in the file with this name answers as the section does.
+    // Answers whether the table in the file with this name answers as the section does, at the positions of this scope.
     pub(crate) fn check_table(
         &mut self,
         from: &Judging<'_>,
         table: &str,
+        scope: Scope,
     ) -> Result<Status, FileStop>
         ensures named { IfErr result (NamesOneOf (IsFileOfBoth from.now table.now)) }
-        ensures answer { IfOk result (λ status. AnswersCheck (O.tells self.old.opener.now) from.now table.now
+        ensures answer { IfOk result (λ status. AnswersCheck (O.tells self.old.opener.now) from.now table.now scope
             (W.contents self.old.out.now) (W.contents self.new.out.now) status) }
         ensures stopped { OnErr result (Keeps (W.contents self.old.out.now) (W.contents self.new.out.now)
-            ⊎ HasBegun (AnswersCheck (O.tells self.old.opener.now) from.now table.now (W.contents self.old.out.now))
+            ⊎ HasBegun (AnswersCheck (O.tells self.old.opener.now) from.now table.now scope (W.contents self.old.out.now))
             (W.contents self.old.out.now) (W.contents self.new.out.now)) }
         ensures same_reference { self.new.out.ghost_name ≡ self.old.out.ghost_name }
     {
         let seen = Cell::new(Seen::nothing());
-        let checked = judge_table(self.alloc, from, table, self.opener, &seen)?;
+        let checked = judge_table(self.alloc, from, table, scope, self.opener, &seen)?;
         let printed = print_checked(self.alloc, &checked, self.out);
         of_file(self.alloc, table, printed)?;
         let answered = Answered::of_check(&checked, table);
@@ -47,21 +48,22 @@ impl<O: Opener, W: Write, N: Write> Session<'_, '_, '_, O, W, N> {
     }
 }
 
-// Judges whether the table in the file with this name, of any version, answers as the section does. The result is the answer to
-// the check once its line is printed. `seen` keeps what notes need of the section's bytes.
+// Judges whether the table in the file with this name, of any version, answers as the section does, at the positions of this scope.
+// The result is the answer to the check once it is printed. `seen` keeps what notes need of the section's bytes.
 fn judge_table<O: Opener>(
     alloc: Global,
     from: &Judging<'_>,
     table: &str,
+    scope: Scope,
     opener: &mut O,
     seen: &Cell<Seen>,
-) -> Result<Checked, FileStop>
+) -> Result<CheckedWithin, FileStop>
     ensures named { IfErr result (NamesOneOf (IsFileOfBoth from.now table.now)) }
     ensures checked { IfOk result (λ checked. (old new : Option (List ℕ)) → Appends old new (checked_line checked)
-        → IsChecked (O.tells opener.old) from.now table.now old new checked) }
+        → IsChecked (O.tells opener.old) from.now table.now scope old new checked) }
 {
     let mut files = open_both(alloc, opener, from, table, seen)?;
-    judge_table_of(alloc, from, table, &mut files)
+    judge_table_of(alloc, from, table, scope, &mut files)
 }
 
 // The same. The files are open.
@@ -69,15 +71,17 @@ fn judge_table_of<S: Source, F: Source>(
     alloc: Global,
     from: &Judging<'_>,
     table: &str,
+    scope: Scope,
     files: &mut OpenedBoth<S, F>,
-) -> Result<Checked, FileStop>
+) -> Result<CheckedWithin, FileStop>
     requires section { S.failures files.old.section ≡ 0 }
     requires table { F.failures files.old.file ≡ 0 }
     ensures named { IfErr result (NamesOneOf (IsFileOfBoth from.now table.now)) }
     ensures checked { IfOk result (λ checked. IfSome (S.remaining files.old.section) (λ bytes. IfSome (F.remaining files.old.file) (λ text.
-        IsTrueCheck files.old.texts.line.items files.old.texts.general.items (options_in from.now) bytes text checked))) }
+        IsTrueWithin scope files.old.texts.line.items files.old.texts.general.items (options_in from.now) bytes text checked))) }
     ensures of_section { IfOk result (λ checked. IfSome (S.remaining files.old.section) (λ bytes.
-        IsTrueCheckOfSection files.old.texts.line.items files.old.texts.general.items (options_in from.now) bytes checked)) }
+        IsTrueOfSectionWithin files.old.texts.line.items files.old.texts.general.items (options_in from.now) bytes checked)) }
+    ensures of_scope { IfOk result (λ checked. IsOfScope checked scope) }
     ensures cause { IfErr result (IsOfCause
         (λ name. ((name ≡ from.now.section.now) × (0 < S.failures files.new.section))
         ⊎ ((name ≡ table.now) × (0 < F.failures files.new.file)))
@@ -85,12 +89,13 @@ fn judge_table_of<S: Source, F: Source>(
         ⊎ ((name ≡ table.now) × IsTrue (F.too_long files.new.file)))) }
 {
     let strings = files.texts.strings();
-    match check_any(
+    match check_within(
         alloc,
         &mut files.section,
         &strings,
         &mut files.file,
         &options_of(from),
+        scope,
     ) {
         Ok(checked) => Ok(checked),
         Err(stop) => {

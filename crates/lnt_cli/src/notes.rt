@@ -10,7 +10,7 @@ use lnt_lines::No;
 use lnt_notes::{Columns, Given, Hints, Seen, tell_agreed, tell_bad, tell_good, tell_table};
 use lnt_paths::ComparedByPath;
 use lnt_records::TableFault;
-use lnt_table::{Checked, TableNo, Verdict};
+use lnt_table::{Checked, CheckedWithin, TableNo, Verdict};
 use lnt_words::Judging;
 use std::io::Write;
 
@@ -46,8 +46,21 @@ impl<'t> Answered<'t> {
     }
 
     // What is answered to the check of the table in the file with this name.
-    pub(crate) fn of_check(checked: &Checked, table: &'t str) -> Answered<'t>
+    pub(crate) fn of_check(checked: &CheckedWithin, table: &'t str) -> Answered<'t>
         ensures { result.status ≡ checked_status checked.now }
+    {
+        match checked {
+            CheckedWithin::Checked(checked) => Answered::of_checked(checked, table),
+            CheckedWithin::Covered(_) => Answered {
+                status: Status::Done,
+                occasion: Occasion::Compared(table),
+            },
+        }
+    }
+
+    // The same of an answer that doesn't say how much the table answers.
+    fn of_checked(checked: &Checked, table: &'t str) -> Answered<'t>
+        ensures { result.status ≡ checked_status (CheckedWithin.Checked checked.now) }
     {
         match checked {
             Checked::Numbered(Verdict::Yes) | Checked::ByPath(ComparedByPath::Same) => Answered {

@@ -64,10 +64,11 @@ pub fn run<O: Opener, W: Write>(
 
 /// Answers a request: writes the answer to `out`, and its notes to `notes`.
 ///
-/// For a check of a table, one line is written, and nothing else: `yes`, if all that `check_any` of `lnt_table` states for a
+/// For a check of a table, one line is written, and nothing else: `yes`, if all that `check_within` of `lnt_table` states for a
 /// yes is true of the bytes that the opener gives for the files; or the first thing that is wrong, which is true of these
-/// bytes (`AnswersCheck`). It returns `Done` exactly if that line is `yes`, and otherwise `No`. For all places at which a table
-/// answers otherwise, a line is written for each of them, or `yes` if there is none (`AnswersFile`).
+/// bytes (`AnswersCheck`). If only the positions count at which the table answers, a second line after the `yes` says how much of
+/// the section it answers. It returns `Done` exactly if the first line is `yes`, and otherwise `No`. For all places at which a
+/// table answers otherwise, a line is written for each of them, or `yes` if there is none (`AnswersFile`).
 ///
 /// For a question about a section that isn't good, the line of a true reason is written, and it returns `No`; for one about a
 /// good section, what the section's rows and headers say (`AnswersQuestion`). For a conversion, the converted section is

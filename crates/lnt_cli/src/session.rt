@@ -15,6 +15,7 @@ use crate::stop::FileStop;
 use lnt_dump::{DumpParts, print_converted, print_dump, print_units, print_upgraded};
 use lnt_io::{Halt, Opener, Source, Status, write_whole};
 use lnt_notes::{Seen, tell_refused};
+use lnt_table::Scope;
 use lnt_wire::Order;
 use lnt_words::{AddressSize, Reading, Request};
 use std::alloc::Global;
@@ -65,12 +66,20 @@ impl<O: Opener, W: Write, N: Write> Session<'_, '_, '_, O, W, N> {
                 from,
                 table,
                 all: false,
-            } => self.check_table(from, table),
+                partial,
+            } => self.check_table(from, table, Scope::of(*partial)),
             Request::Check {
                 from,
                 table,
                 all: true,
+                partial: false,
             } => self.answer_file(from, table, FileQuestion::Places),
+            Request::Check {
+                from,
+                table,
+                all: true,
+                partial: true,
+            } => self.check_table(from, table, Scope::Answered),
         }
     }
 

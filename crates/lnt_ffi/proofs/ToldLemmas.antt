@@ -6,8 +6,10 @@ use Rattle.lnt_lines.specs.declared.section.JudgedIndex.{JudgedIndex}
 use Rattle.lnt_lines.specs.declared.section.JudgedIndex.TheVariants.{Bad}
 use Rattle.lnt_lines.specs.Drafts.{IsJudgedIndex}
 use Rattle.lnt_lines.specs.Nos.{IsTrueNo}
-use Rattle.lnt_table.specs.declared.by_path.Checked.{Checked}
-use Rattle.lnt_table.specs.AnyVersion.{IsTrueCheck}
+use Rattle.lnt_table.specs.declared.within.CheckedWithin.{CheckedWithin}
+use Rattle.lnt_table.specs.declared.within.Scope.{Scope}
+use Rattle.lnt_table.specs.declared.within.Scope.TheVariants.{All}
+use Rattle.lnt_table.specs.Within.{IsTrueWithin}
 use Rattle.lnt_ffi.specs.declared.section.FlatSection.{FlatSection}
 use Rattle.lnt_ffi.specs.declared.verdict.FlatVerdict.{FlatVerdict}
 use Rattle.lnt_ffi.specs.Flat.{options_of}
@@ -25,19 +27,19 @@ no_of section line general options bytes judged reason l g o b j h =
     (subst (λ (bs : List ℕ). IsTrueNo line general options bs reason) b
     (subst (λ (found : JudgedIndex). IsJudgedIndex line general options bytes found) j h))))
 
-pub found_is : (section : FlatSection) (line general : List ℕ) (options : Options) (bytes text table : List ℕ) (found : Checked)
+pub found_is : (scope : Scope) (section : FlatSection) (line general : List ℕ) (options : Options) (bytes text table : List ℕ) (found : CheckedWithin)
     → line ≡ section.line_str.now → general ≡ section.general.now → options ≡ options_of section → bytes ≡ section.line.now → text ≡ table
-    → IsTrueCheck line general options bytes text found → IsFound section table found
-found_is section line general options bytes text table found l g o b t h =
-    subst (λ (texts : List ℕ). IsTrueCheck texts section.general.now (options_of section) section.line.now table found) l
-    (subst (λ (texts : List ℕ). IsTrueCheck line texts (options_of section) section.line.now table found) g
-    (subst (λ (os : Options). IsTrueCheck line general os section.line.now table found) o
-    (subst (λ (bs : List ℕ). IsTrueCheck line general options bs table found) b
-    (subst (λ (ts : List ℕ). IsTrueCheck line general options bytes ts found) t h))))
+    → IsTrueWithin scope line general options bytes text found → IsFound scope section table found
+found_is scope section line general options bytes text table found l g o b t h =
+    subst (λ (texts : List ℕ). IsTrueWithin scope texts section.general.now (options_of section) section.line.now table found) l
+    (subst (λ (texts : List ℕ). IsTrueWithin scope line texts (options_of section) section.line.now table found) g
+    (subst (λ (os : Options). IsTrueWithin scope line general os section.line.now table found) o
+    (subst (λ (bs : List ℕ). IsTrueWithin scope line general options bs table found) b
+    (subst (λ (ts : List ℕ). IsTrueWithin scope line general options bytes ts found) t h))))
 
 -- what is told with the paths, less these
 pub of_paths : (section : FlatSection) (text old_table new_table old_section new_section : List ℕ) (told : FlatVerdict)
-    → IsToldOfPaths section text old_table new_table old_section new_section told → IsToldOfTable section text told
+    → IsToldOfPaths All section text old_table new_table old_section new_section told → IsToldOfTable section text told
 of_paths section text old_table new_table old_section new_section told (IsToldOfPaths.judged found is e first second) =
     IsToldOfTable.judged found is e
 of_paths section text old_table new_table old_section new_section told (IsToldOfPaths.stopped e first second) = IsToldOfTable.stopped e

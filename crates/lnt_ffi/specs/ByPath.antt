@@ -1,12 +1,14 @@
 -- The verdict that C sees of a check of a table of any version, and the paths beside it.
-use Rattle.std.specs.Prelude.{ℕ, Bool, ◌||◌, if◌then◌else◌, false, is_some, List, [], Option, Some, None, length, unwrap_or}
+use Rattle.std.specs.Prelude.{ℕ, Bool, ◌/◌, ◌%◌, ◌^◌, ◌||◌, if◌then◌else◌, false, is_some, List, [], Option, Some, None, length, unwrap_or}
 use Rattle.lnt_paths.specs.declared.answer.AnswerByPath.{AnswerByPath}
 use Rattle.lnt_paths.specs.declared.answer.ComparedByPath.{ComparedByPath}
 use Rattle.lnt_paths.specs.declared.answer.ComparedByPath.TheVariants.{Same, Fault, Differs}
 use Rattle.lnt_paths.specs.declared.answer.DifferenceByPath.{DifferenceByPath}
-use Rattle.lnt_table.specs.declared.by_path.Checked.{Checked}
 use Rattle.lnt_table.specs.declared.by_path.Checked.TheVariants.{Numbered, ByPath}
 use Rattle.lnt_table.specs.declared.verdict.Verdict.TheVariants.{No}
+use Rattle.lnt_table.specs.declared.within.CheckedWithin.{CheckedWithin}
+use Rattle.lnt_table.specs.declared.within.CheckedWithin.TheVariants.{Checked as Told, Covered}
+use Rattle.lnt_table.specs.declared.within.Coverage.{Coverage}
 use Rattle.lnt_table.specs.Verdicts.{no_of_fault}
 use Rattle.lnt_ffi.specs.declared.flat.FlatAnswer.{FlatAnswer}
 use Rattle.lnt_ffi.specs.declared.verdict.FlatVerdict.{FlatVerdict}
@@ -52,15 +54,26 @@ verdict_of_compared Same = yes
 verdict_of_compared (Fault told) = verdict_of_table (No (no_of_fault told))
 verdict_of_compared (Differs difference) = of_difference difference
 
-abbrev pub verdict_of_check : Checked → FlatVerdict
-verdict_of_check (Numbered verdict) = verdict_of_table verdict
-verdict_of_check (ByPath compared) = verdict_of_compared compared
+-- A yes, with how many addresses both answer at, and how many the section does. Each number is given as how often it has 2^64, and
+-- what is left.
+abbrev pub of_coverage : Coverage → FlatVerdict
+of_coverage coverage = record yes {
+  offset = coverage.answered / 2 ^ 64;
+  index = coverage.answered % 2 ^ 64;
+  other_offset = coverage.all / 2 ^ 64;
+  value = coverage.all % 2 ^ 64;
+}
+
+abbrev pub verdict_of_check : CheckedWithin → FlatVerdict
+verdict_of_check (Told (Numbered verdict)) = verdict_of_table verdict
+verdict_of_check (Told (ByPath compared)) = verdict_of_compared compared
+verdict_of_check (Covered coverage) = of_coverage coverage
 
 -- the path that the table answers where the two differ by path, and that of the section
-abbrev pub table_path : Checked → List ℕ
-table_path (ByPath (Differs difference)) = path_in difference.by_table
+abbrev pub table_path : CheckedWithin → List ℕ
+table_path (Told (ByPath (Differs difference))) = path_in difference.by_table
 table_path other = []
 
-abbrev pub section_path : Checked → List ℕ
-section_path (ByPath (Differs difference)) = path_in difference.by_section
+abbrev pub section_path : CheckedWithin → List ℕ
+section_path (Told (ByPath (Differs difference))) = path_in difference.by_section
 section_path other = []

@@ -14,8 +14,10 @@ use Rattle.lnt_lines.specs.Drafts.{IsIndexOfSection}
 use Rattle.lnt_lines.specs.Good.{IsGood}
 use Rattle.lnt_lines.specs.Indexed.{file_count_in, file_path_in, Indexed}
 use Rattle.lnt_lines.specs.Nos.{IsTrueNo}
-use Rattle.lnt_table.specs.declared.by_path.Checked.{Checked}
-use Rattle.lnt_table.specs.AnyVersion.{IsTrueCheck}
+use Rattle.lnt_table.specs.declared.within.CheckedWithin.{CheckedWithin}
+use Rattle.lnt_table.specs.declared.within.Scope.{Scope}
+use Rattle.lnt_table.specs.declared.within.Scope.TheVariants.{All}
+use Rattle.lnt_table.specs.Within.{IsTrueWithin}
 use Rattle.lnt_table.specs.Written.{IsTableOfUnits}
 use Rattle.lnt_ffi.specs.declared.flat.FlatSpan.{FlatSpan}
 use Rattle.lnt_ffi.specs.declared.section.FlatSection.{FlatSection}
@@ -69,22 +71,23 @@ pub data IsToldOfSpans (section : FlatSection) (count : ℕ) (old new : List Fla
       → IsToldOfSpans section count old new told
   refused : IsRefused section told → count ≡ 0 → new ≡ old → IsToldOfSpans section count old new told
 
--- what is so of the section and the bytes of a table of any version
-abbrev pub IsFound : FlatSection → List ℕ → Checked → Type 0
-IsFound section text found = IsTrueCheck section.line_str.now section.general.now (options_of section) section.line.now text found
+-- what is so of the section and the bytes of a table of any version, at the positions of the scope
+abbrev pub IsFound : Scope → FlatSection → List ℕ → CheckedWithin → Type 0
+IsFound scope section text found =
+    IsTrueWithin scope section.line_str.now section.general.now (options_of section) section.line.now text found
 
 pub data IsToldOfTable (section : FlatSection) (text : List ℕ) (told : FlatVerdict) : Type 0 where
-  judged : (found : Checked) → IsFound section text found → told ≡ verdict_of_check found → IsToldOfTable section text told
+  judged : (found : CheckedWithin) → IsFound All section text found → told ≡ verdict_of_check found → IsToldOfTable section text told
   stopped : told ≡ memory → IsToldOfTable section text told
 
--- the same, with the paths of a difference by path in two rooms
-pub data IsToldOfPaths (section : FlatSection) (text old_table new_table old_section new_section : List ℕ) (told : FlatVerdict) : Type
-    0 where
-  judged : (found : Checked) → IsFound section text found → told ≡ verdict_of_check found
+-- the same in a scope, with the paths of a difference by path in two rooms
+pub data IsToldOfPaths (scope : Scope) (section : FlatSection) (text old_table new_table old_section new_section : List ℕ)
+    (told : FlatVerdict) : Type 0 where
+  judged : (found : CheckedWithin) → IsFound scope section text found → told ≡ verdict_of_check found
       → new_table ≡ with_front (table_path found) old_table → new_section ≡ with_front (section_path found) old_section
-      → IsToldOfPaths section text old_table new_table old_section new_section told
+      → IsToldOfPaths scope section text old_table new_table old_section new_section told
   stopped : told ≡ memory → new_table ≡ old_table → new_section ≡ old_section
-      → IsToldOfPaths section text old_table new_table old_section new_section told
+      → IsToldOfPaths scope section text old_table new_table old_section new_section told
 
 abbrev pub version_of : Bool → Version
 version_of is_wide = if is_wide then Two else One

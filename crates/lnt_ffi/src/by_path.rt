@@ -1,24 +1,55 @@
 //! The verdict on a table of any version, as C sees it.
-ghost use Rattle.std.specs.Prelude.{◌≡◌};
-ghost use Rattle.lnt_ffi.specs.ByPath.{flat_place, of_difference, path_in, section_path, table_path, tells_column, verdict_of_check};
+ghost use Rattle.std.specs.Prelude.{◌≡◌, ◌/◌, ◌%◌, ◌^◌};
+ghost use Rattle.lnt_ffi.specs.ByPath.{flat_place, of_coverage, of_difference, path_in, section_path, table_path};
+ghost use Rattle.lnt_ffi.specs.ByPath.{tells_column, verdict_of_check, verdict_of_compared};
 
 use crate::flat::{FlatAnswer, NOTHING};
 use crate::verdict::{FlatVerdict, YES, at, verdict_of_table};
 use lnt_paths::{AnswerByPath, ComparedByPath, DifferenceByPath};
-use lnt_table::{Checked, TableNo, Verdict};
+use lnt_table::{Checked, CheckedWithin, Coverage, TableNo, Verdict};
 
 // What a check finds, but for the paths.
-pub(crate) fn verdict_of_check(found: &Checked) -> FlatVerdict
+pub(crate) fn verdict_of_check(found: &CheckedWithin) -> FlatVerdict
     ensures { result ≡ verdict_of_check found.now }
 {
     match found {
-        Checked::Numbered(verdict) => verdict_of_table(*verdict),
-        Checked::ByPath(ComparedByPath::Same) => YES,
-        Checked::ByPath(ComparedByPath::Fault(fault)) => {
-            verdict_of_table(Verdict::No(TableNo::from(*fault)))
-        }
-        Checked::ByPath(ComparedByPath::Differs(difference)) => of_difference(difference),
+        CheckedWithin::Checked(Checked::Numbered(verdict)) => verdict_of_table(*verdict),
+        CheckedWithin::Checked(Checked::ByPath(compared)) => of_compared(compared),
+        CheckedWithin::Covered(coverage) => of_coverage(coverage),
     }
+}
+
+// The outcome of a comparison by path.
+fn of_compared(compared: &ComparedByPath) -> FlatVerdict
+    ensures { result ≡ verdict_of_compared compared.now }
+{
+    match compared {
+        ComparedByPath::Same => YES,
+        ComparedByPath::Fault(fault) => verdict_of_table(Verdict::No(TableNo::from(*fault))),
+        ComparedByPath::Differs(difference) => of_difference(difference),
+    }
+}
+
+// How much a table answers that is right wherever it answers.
+fn of_coverage(coverage: &Coverage) -> FlatVerdict
+    ensures { result ≡ of_coverage coverage.now }
+{
+    let (offset, index) = halves(coverage.answered);
+    let (other_offset, value) = halves(coverage.all);
+    FlatVerdict {
+        offset,
+        index,
+        value,
+        other_offset,
+        ..YES
+    }
+}
+
+// How often a number has 2^64, and what is left.
+fn halves(n: u128) -> (u64, u64)
+    ensures { result ≡ (n / 2 ^ 64, n % 2 ^ 64) }
+{
+    ((n / (1 << 64)) as u64, (n % (1 << 64)) as u64)
 }
 
 // Where a table by path and a section answer differently: all but the paths, with how long these are.
@@ -78,21 +109,25 @@ fn path_in(answer: &Option<AnswerByPath>) -> &[u8]
 }
 
 // The path that the table answers where the two differ; no bytes where it answers none.
-pub(crate) fn table_path(found: &Checked) -> &[u8]
+pub(crate) fn table_path(found: &CheckedWithin) -> &[u8]
     ensures { result.now ≡ table_path found.now }
 {
     match found {
-        Checked::ByPath(ComparedByPath::Differs(difference)) => path_in(&difference.by_table),
+        CheckedWithin::Checked(Checked::ByPath(ComparedByPath::Differs(difference))) => {
+            path_in(&difference.by_table)
+        }
         _ => &[],
     }
 }
 
 // The path that the section answers where the two differ; no bytes where it answers none.
-pub(crate) fn section_path(found: &Checked) -> &[u8]
+pub(crate) fn section_path(found: &CheckedWithin) -> &[u8]
     ensures { result.now ≡ section_path found.now }
 {
     match found {
-        Checked::ByPath(ComparedByPath::Differs(difference)) => path_in(&difference.by_section),
+        CheckedWithin::Checked(Checked::ByPath(ComparedByPath::Differs(difference))) => {
+            path_in(&difference.by_section)
+        }
         _ => &[],
     }
 }

@@ -2,13 +2,15 @@
 ghost use Rattle.std.specs.Prelude.{◌≡◌, length};
 ghost use Rattle.lnt_ffi.specs.ByPath.{section_path, table_path, verdict_of_check};
 ghost use Rattle.lnt_ffi.specs.Told.{IsToldOfPaths, IsToldOfTable, with_front};
+ghost use Rattle.lnt_table.specs.Within.{scope_in};
+ghost use Rattle.lnt_table.specs.declared.within.Scope.TheVariants as Scope;
 
 use crate::by_path::{section_path, table_path, verdict_of_check};
 use crate::bytes::Bytes;
 use crate::room::put_bytes;
 use crate::section::FlatSection;
 use crate::verdict::{FlatVerdict, verdict_of_stop};
-use lnt_table::{Checked, check_any};
+use lnt_table::{CheckedWithin, Scope, check_within};
 use std::alloc::Global;
 
 /// Checks a section against the bytes of an address table of any version. `verdict` becomes yes (0), the first thing against it
@@ -23,7 +25,7 @@ pub extern "C" fn linetab_check(
 )
     ensures { IsToldOfTable section.now table.now verdict.new }
 {
-    *verdict = check_into(alloc, section, table, &mut [], &mut []);
+    *verdict = check_into(alloc, section, table, Scope::All, &mut [], &mut []);
 }
 
 /// Checks as `linetab_check` does, with the same verdict. Where the two differ by path (40), the path that the table answers is put
@@ -42,31 +44,55 @@ pub extern "C" fn linetab_check_paths(
 )
     ensures table_room { length by_table.new ≡ length by_table.old }
     ensures section_room { length by_section.new ≡ length by_section.old }
-    ensures told { IsToldOfPaths section.now table.now by_table.old by_table.new by_section.old by_section.new verdict.new }
+    ensures told { IsToldOfPaths Scope.All section.now table.now by_table.old by_table.new by_section.old by_section.new verdict.new }
 {
-    *verdict = check_into(alloc, section, table, by_table, by_section);
+    *verdict = check_into(alloc, section, table, Scope::All, by_table, by_section);
 }
 
-// What is found of a section and a table, with the paths of a difference by path put into the two rooms.
+/// Checks as `linetab_check_paths` does, but where `is_partial` is true, only the positions count at which the table answers: a
+/// difference (40) is then the least of them at which the section answers otherwise or not at all, and a yes (0) has the number of
+/// addresses at which both answer, and that of those at which the section does.
+#[unsafe(no_mangle)]
+pub extern "C" fn linetab_check_within(
+    alloc: Global,
+    section: &FlatSection<'_>,
+    table: &[u8],
+    is_partial: bool,
+    by_table: &mut [u8],
+    by_section: &mut [u8],
+    verdict: &mut FlatVerdict,
+)
+    ensures table_room { length by_table.new ≡ length by_table.old }
+    ensures section_room { length by_section.new ≡ length by_section.old }
+    ensures told { IsToldOfPaths (scope_in is_partial) section.now table.now by_table.old by_table.new by_section.old by_section.new
+        verdict.new }
+{
+    let scope = Scope::of(is_partial);
+    *verdict = check_into(alloc, section, table, scope, by_table, by_section);
+}
+
+// What is found of a section and a table in a scope, with the paths of a difference by path put into the two rooms.
 fn check_into(
     alloc: Global,
     section: &FlatSection<'_>,
     table: &[u8],
+    scope: Scope,
     by_table: &mut [u8],
     by_section: &mut [u8],
 ) -> FlatVerdict
     ensures table_room { length by_table.new ≡ length by_table.old }
     ensures section_room { length by_section.new ≡ length by_section.old }
-    ensures told { IsToldOfPaths section.now table.now by_table.old by_table.new by_section.old by_section.new result }
+    ensures told { IsToldOfPaths scope section.now table.now by_table.old by_table.new by_section.old by_section.new result }
 {
     let mut line = Bytes::of(section.line);
     let mut text = Bytes::of(table);
-    match check_any(
+    match check_within(
         alloc,
         &mut line,
         &section.strings(),
         &mut text,
         &section.options(),
+        scope,
     ) {
         Ok(found) => put_found(&found, by_table, by_section),
         Err(stop) => verdict_of_stop(stop),
@@ -74,7 +100,7 @@ fn check_into(
 }
 
 // The verdict of what is found, with its paths put into the two rooms.
-fn put_found(found: &Checked, by_table: &mut [u8], by_section: &mut [u8]) -> FlatVerdict
+fn put_found(found: &CheckedWithin, by_table: &mut [u8], by_section: &mut [u8]) -> FlatVerdict
     ensures verdict { result ≡ verdict_of_check found.now }
     ensures table_room { length by_table.new ≡ length by_table.old }
     ensures section_room { length by_section.new ≡ length by_section.old }

@@ -20,7 +20,7 @@ mod verdict;
 mod version;
 mod writing;
 
-pub use checking::{linetab_check, linetab_check_paths};
+pub use checking::{linetab_check, linetab_check_paths, linetab_check_within};
 pub use flat::{FlatAnswer, FlatSpan};
 pub use indexed::linetab_lookup_indexed;
 pub use indexing::linetab_index;

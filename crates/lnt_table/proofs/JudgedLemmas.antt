@@ -43,16 +43,16 @@ use Rattle.lnt_table.specs.declared.judged.Judged.TheVariants as judged
 use Rattle.lnt_table.specs.declared.verdict.TableNo.TheVariants as no
 use Rattle.lnt_table.specs.declared.verdict.Verdict.TheVariants.{No}
 use Rattle.lnt_table.specs.declared.within.CheckedWithin.{CheckedWithin}
-use Rattle.lnt_table.specs.declared.within.CheckedWithin.TheVariants.{Checked as Told}
+use Rattle.lnt_table.specs.declared.within.CheckedWithin.TheVariants.{Checked as Told, Covered}
 use Rattle.lnt_table.specs.declared.within.Scope.{Scope}
 use Rattle.lnt_table.specs.declared.within.Scope.TheVariants.{All, Answered}
 use Rattle.lnt_table.specs.AnyVersion.{IsTrueCheck, IsTrueCheckOfSection}
 use Rattle.lnt_table.specs.ByPath.{answer_by_path, indexed_path, path_at, told_path}
 use Rattle.lnt_table.specs.Headline.{told_answer}
 use Rattle.lnt_table.specs.Judged.{IsJudgedWith, IsNumberedWith, IsPathedWith, covered_or, missed_in, missed_in_outcome}
-use Rattle.lnt_table.specs.Judged.{part_checked, whole_checked, within_scope}
+use Rattle.lnt_table.specs.Judged.{part_check, part_checked, whole_checked, within_scope}
 use Rattle.lnt_table.specs.Stepping.{verdict_of}
-use Rattle.lnt_table.specs.Within.{IsTrueOfSectionWithin, IsTrueWithin, IsUnnumbered}
+use Rattle.lnt_table.specs.Within.{IsOfScope, IsTrueOfSectionWithin, IsTrueWithin, IsUnnumbered}
 use Rattle.lnt_table.proofs.CheckLemmas.{compared_told, none_of_section, section_told, told_so}
 use Rattle.lnt_table.proofs.UnitPathLemmas.{told_by_units}
 
@@ -360,3 +360,12 @@ not_within Answered told all reason e = by_missed (missed_in told) e
     by_missed : (missed : Option ℕ) → covered_or missed all (part_checked told) ≡ Told (Numbered (No (no.Section reason))) → ⊥
     by_missed None e = (not_of_section told reason).1 cc
     by_missed (Some missed) e = cc e
+
+-- only in the scope of answered positions it is said how much is answered
+of_part : (checked : CheckedWithin) → IsOfScope checked Answered
+of_part (Told checked) = tt
+of_part (Covered coverage) = tt
+
+pub of_scope : (scope : Scope) (told : Judged) (all : ℕ) → IsOfScope (within_scope scope told all) scope
+of_scope All told all = tt
+of_scope Answered told all = of_part (part_check told all)

@@ -1,7 +1,7 @@
 -- What the answers of `check_within` say of a section and an address table of any version.
 --     line, general    the bytes of .debug_line_str and of .debug_str
 --     section, table   the bytes of .debug_line, and those of the address table
-use Rattle.std.specs.Prelude.{◌≢◌, ◌⊎◌, ℕ, List, [], ◌∷◌}
+use Rattle.std.specs.Prelude.{◌≢◌, ◌⊎◌, Bool, false, true, ℕ, List, [], ◌∷◌}
 use Rattle.lnt_header.specs.declared.unit_parts.UnitParts.{UnitParts}
 use Rattle.lnt_spans.specs.declared.answer.Version.{Version}
 use Rattle.lnt_spans.specs.declared.difference.Difference.{Difference}
@@ -14,7 +14,7 @@ use Rattle.lnt_paths.specs.declared.answer.ComparedByPath.TheVariants.{Same, Fau
 use Rattle.lnt_paths.specs.declared.answer.DifferenceByPath.{DifferenceByPath}
 use Rattle.lnt_paths.specs.declared.version.PathVersion.{PathVersion}
 use Rattle.lnt_paths.specs.PathSpans.{PathSpan, path_span_answer}
-use Rattle.lnt_paths.specs.PathStretches as pathed
+use Rattle.lnt_paths.specs.PathStretches.{stretch_of as path_stretch_of}
 use Rattle.lnt_paths.specs.PathTables.{IsPathTableOf}
 use Rattle.lnt_lines.specs.declared.options.Options.{Options}
 use Rattle.lnt_lines.specs.Good.{IsGood}
@@ -83,9 +83,14 @@ pub record IsMistakenPathTable (line general : List ℕ) (options : Options) (se
   pub spans : List PathSpan
   pub is_table : IsPathTableOf version table spans
   pub first : IsFirstMistake (path_span_answer spans)
-      (answer_by_path version line general options.dead options.skip_copies units) (pathed.stretch_of mistake)
+      (answer_by_path version line general options.dead options.skip_copies units) (path_stretch_of mistake)
 
 -- ---- the answers
+
+-- the positions at which a table is compared with the section: those at which it answers, if the check is partial
+abbrev pub scope_in : Bool → Scope
+scope_in false = All
+scope_in true = Answered
 
 -- The table isn't right wherever it answers, or something else is wrong, and this is the first reason.
 abbrev pub IsTruePart : List ℕ → List ℕ → Options → List ℕ → List ℕ → Checked → Type 0
@@ -105,6 +110,12 @@ IsTrueWithin All line general options section table (Covered coverage) = ⊥
 IsTrueWithin Answered line general options section table (Told checked) = IsTruePart line general options section table checked
 IsTrueWithin Answered line general options section table (Covered coverage) =
     IsRightTable line general options section table coverage ⊎ IsRightPathTable line general options section table coverage
+
+-- An answer in the scope of all positions doesn't say how much is answered. This is so whatever is known of the bytes.
+abbrev pub IsOfScope : CheckedWithin → Scope → Type 0
+IsOfScope (Told checked) scope = Unit {0}
+IsOfScope (Covered coverage) All = ⊥
+IsOfScope (Covered coverage) Answered = Unit {0}
 
 -- What the answer says of the section, whatever the table is: that it is good, or why it isn't.
 abbrev pub IsTrueOfSectionWithin : List ℕ → List ℕ → Options → List ℕ → CheckedWithin → Type 0

@@ -9,7 +9,7 @@ ghost use Rattle.lnt_spans.specs.Counts.{addresses_answered};
 ghost use Rattle.lnt_table.specs.FaultTexts.{within_text};
 ghost use Rattle.lnt_table.specs.Headline.{IsFoundTooLong};
 ghost use Rattle.lnt_table.specs.Judged.{part_check, within_scope};
-ghost use Rattle.lnt_table.specs.Within.{IsTrueOfSectionWithin, IsTrueWithin};
+ghost use Rattle.lnt_table.specs.Within.{IsOfScope, IsTrueOfSectionWithin, IsTrueWithin, scope_in};
 
 use crate::by_path::Checked;
 use crate::judged::{Judged, judge_index};
@@ -28,6 +28,19 @@ pub enum Scope {
     All,
     /// Those at which the table answers.
     Answered,
+}
+
+impl Scope {
+    /// The scope of a check that is partial, or isn't.
+    pub fn of(is_partial: bool) -> Scope
+        ensures { result ≡ scope_in is_partial }
+    {
+        if is_partial {
+            Scope::Answered
+        } else {
+            Scope::All
+        }
+    }
 }
 
 /// How much of a section a table answers. An address counts if its position with operation index 0 does.
@@ -89,6 +102,7 @@ pub fn check_within<R: Source, T: Source>(
     // What it says of the section is true whatever the table is, and if the section isn't good, the table isn't read.
     ensures of_section { IfOk result (λ checked. IfSome (R.remaining section.old) (λ bytes.
         IsTrueOfSectionWithin strings.now.line.now strings.now.general.now options.now bytes checked)) }
+    ensures of_scope { IfOk result (λ checked. IsOfScope checked scope) }
     ensures unread { (no : SectionNo) → result ≡ Ok (CheckedWithin.Checked (Checked.Numbered (Verdict.No (TableNo.Section no))))
         → table.new ≡ table.old }
     ensures read { IsErrOf result Stop.Read → R.failures section.new + T.failures table.new ≡ R.failures section.old + T.failures table.old

@@ -73,4 +73,4 @@ no_size rows none (requests.Judge from (TableByPath true)) so = omega (arith, ot
 no_size rows none (requests.Judge from (TableByPath false)) so = omega (arith, other_name (codes "table") so.1.0)
 no_size rows none (requests.Judge from Md5) so = omega (arith, other_name (codes "md5") so.1)
 no_size rows none (requests.Addresses from file op) so = omega (arith, other_name (codes "lookup") so.0)
-no_size rows none (requests.Check from table all) so = omega (arith, other_name (codes "check") so.0)
+no_size rows none (requests.Check from table all partial) so = omega (arith, other_name (codes "check") so.0)

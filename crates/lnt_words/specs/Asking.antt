@@ -128,8 +128,9 @@ IsAskedIn name rows (Judge from question) = IsJudging rows from × IsQuestion na
 IsAskedIn name rows (Addresses from file op) =
     (name ≡ codes "lookup") × IsJudging rows from × IsWord rows (codes "addresses") file.now
     × (all_of (codes "ADDRESS") rows ≡ None) × IsOp rows op
-IsAskedIn name rows (Check from table all) =
+IsAskedIn name rows (Check from table all partial) =
     (name ≡ codes "check") × IsJudging rows from × IsWord rows (codes "TABLE") table.now × IsFlagGiven rows (codes "all") all
+    × IsFlagGiven rows (codes "partial") partial
 
 -- The subcommand that clap found, with its rows, asks for this request.
 pub record IsAskedOf (found : Option (Text × List Row)) (asked : Asked) : Type 0 where

@@ -58,7 +58,7 @@ abbrev pub subcommands : List Shape
 subcommands =
     subcommand (codes "units") reading
     ∷ subcommand (codes "dump") (flag (codes "ops") ∷ flag (codes "rows") ∷ reading)
-    ∷ subcommand (codes "check") (word (codes "TABLE") ∷ flag (codes "all") ∷ judging)
+    ∷ subcommand (codes "check") (word (codes "TABLE") ∷ flag (codes "all") ∷ flag (codes "partial") ∷ judging)
     ∷ subcommand (codes "verify") judging
     ∷ subcommand (codes "lookup") (several (new_rule (codes "ADDRESS")) ∷ option (codes "addresses") ∷ option (codes "op") ∷ judging)
     ∷ subcommand (codes "files") judging

@@ -74,7 +74,7 @@ const CHECK: Subcommand = Subcommand {
     name: "check",
     about: "Tells whether an address table answers as a section does, or where it doesn't",
     after: Some(NUMBERS),
-    own: &[SECTION, TABLE_FILE, ALL],
+    own: &[SECTION, TABLE_FILE, ALL, PARTIAL],
     shared: JUDGING,
 };
 
@@ -156,6 +156,12 @@ const ALL: ArgumentRule = ArgumentRule {
     name: "all",
     kind: Kind::Flag,
     help: "Tells every place where the two answer differently, and not the first alone",
+};
+
+const PARTIAL: ArgumentRule = ArgumentRule {
+    name: "partial",
+    kind: Kind::Flag,
+    help: "Compares only where the table answers, and tells how many of the section's addresses that is",
 };
 
 const OPS: ArgumentRule = ArgumentRule {

@@ -63,6 +63,8 @@ pub enum Request<'a> {
         table: &'a str,
         /// Whether all positions at which it doesn't are reported, instead of only the first.
         all: bool,
+        /// Whether they are compared only at the positions at which the table answers.
+        partial: bool,
     },
 }
 

@@ -180,6 +180,7 @@ fn check_in<'a>(alloc: Global, words: &ArgMatches<'a>) -> Result<Request<'a>, Wo
         from: judging_in(alloc, words)?,
         table: word_in(alloc, words, "TABLE")?,
         all: flag_in(words, "all"),
+        partial: flag_in(words, "partial"),
     })
 }
 

@@ -3,7 +3,7 @@ use Rattle.lnt_table.specs.declared.by_path.Checked.TheVariants.{Numbered}
 use Rattle.lnt_table.specs.declared.verdict.TableNo.TheVariants as no
 use Rattle.lnt_table.specs.declared.verdict.Verdict.TheVariants.{No}
 use Rattle.lnt_table.specs.declared.within.CheckedWithin.TheVariants.{Checked as Told}
-use Rattle.lnt_table.proofs.JudgedLemmas.{not_within, scope_told, section_within}
+use Rattle.lnt_table.proofs.JudgedLemmas.{not_within, of_scope, scope_told, section_within}
 use Rattle.lnt_table.proofs.within.check_within.Goals as goal
 
 pub returns-clause-checked : goal.returns-clause-checked
@@ -17,6 +17,10 @@ returns-clause-of_section g c =
     rw c.within.ensures.some.1
     (section_within c.args.strings.now.line.now c.args.strings.now.general.now c.args.options.now (g.R.Source.remaining c.args.section.now)
     c.in-Good.index c.args.scope c.in_ok-judged.judged c.within.ensures.some.0 (rw c.in-Good.is at c.in_ok-index.ensures.judged))
+
+pub returns-clause-of_scope : goal.returns-clause-of_scope
+returns-clause-of_scope g c =
+    rw c.within.ensures.some.1 (of_scope c.args.scope c.in_ok-judged.judged c.within.ensures.some.0)
 
 pub returns-clause-unread : goal.returns-clause-unread
 returns-clause-unread g c reason e =
