@@ -106,7 +106,7 @@ impl<'a> Opener for System<'a> {
     fn could_not_read<'n>(&mut self, _file: &OpenedFile<'n, Reader<'a>>) {}
 
     // A pipe that was read has nothing left, and opening one again might wait for ever.
-    fn reader_again(&mut self, name: &str) -> Option<Reader<'a>> {
+    fn reader_again(&self, name: &str) -> Option<Reader<'a>> {
         if name == "-" || !self.is_regular(name) {
             return None;
         }
@@ -120,7 +120,7 @@ impl<'a> Opener for System<'a> {
         }
     }
 
-    fn reason(&mut self, alloc: Global) -> Option<String> {
+    fn reason(&self, alloc: Global) -> Option<String> {
         self.reason.replace(None)?.to_string(alloc).ok()
     }
 }

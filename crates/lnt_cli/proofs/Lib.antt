@@ -1,5 +1,6 @@
 pub mod QuestionLemmas
 pub mod ReadingLemmas
+pub mod RefusedLemmas
 pub mod RunLemmas
 pub mod StopLemmas
 pub mod UpgradeLemmas

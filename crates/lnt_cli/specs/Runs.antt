@@ -1,7 +1,7 @@
 -- The answer of a run to its words. The first word is the program's own name.
 --     tells       what the opener may say of the file with a name, as the run begins
 --     old, new    what the writer of the answer holds before and afterwards
-use Rattle.std.specs.Prelude.{◌⊎◌, ℕ, List, Option}
+use Rattle.std.specs.Prelude.{◌⊎◌, ℕ, IsErrAnd, List, Option, Result}
 use Rattle.std.specs.Io.KnownBytes.{Keeps}
 use Rattle.lnt_io.specs.Files.{FileState}
 use Rattle.lnt_io.specs.declared.status.Status.{Status}
@@ -10,7 +10,7 @@ use Rattle.lnt_words.specs.declared.request.Asked.{Asked}
 use Rattle.lnt_words.specs.declared.request.Request.{Request}
 use Rattle.lnt_cli.specs.Answered.{IsAnswered}
 use Rattle.lnt_cli.specs.Stopped.{IsStopped}
-use Rattle.lnt_cli.specs.Stops.{IsFileIn, NamesOneOf}
+use Rattle.lnt_cli.specs.Stops.{IsFileIn, IsUnreadable, MayAnswerUnreadable, NamesOneOf}
 use Rattle.lnt_cli.specs.declared.stop.CliStop.{CliStop}
 use Rattle.lnt_cli.specs.declared.stop.CliStop.TheVariants.{File, Usage}
 
@@ -32,3 +32,13 @@ abbrev pub IsStopOf : (List ℕ → FileState → Type 0) → List (List ℕ) �
 IsStopOf tells words old new (Usage text) = AskForNothing words × Keeps old new
 IsStopOf tells words old new (File stop) =
     NamesOneOf (NameFile words) stop × (Keeps old new ⊎ AskForOne words (λ request. IsStopped tells request old new))
+
+-- the run was stopped since the file with this name can't be read
+abbrev pub IsUnreadableIn : CliStop → List ℕ → Type 0
+IsUnreadableIn (Usage text) name = ⊥
+IsUnreadableIn (File stop) name = IsUnreadable stop name
+
+-- That the file with this name can't be read is told by the stop of the run, or may be told by the answer to the words.
+abbrev pub TellUnreadable : (List ℕ → FileState → Type 0) → List (List ℕ) → Result Status CliStop → List ℕ → Type 0
+TellUnreadable tells words ended name =
+    IsErrAnd ended (λ stop. IsUnreadableIn stop name) ⊎ AskForOne words (MayAnswerUnreadable tells)

@@ -6,17 +6,16 @@ use Rattle.lnt_lines.specs.Drafts.{IsJudgedIndex}
 use Rattle.lnt_lines.specs.declared.section.JudgedIndex.{JudgedIndex}
 use Rattle.lnt_words.specs.declared.request.Judging.{Judging}
 use Rattle.lnt_cli.specs.Answered.{options_in}
+use Rattle.lnt_cli.specs.Stops.{IsUnreadable}
 use Rattle.lnt_cli.specs.declared.inputs.Texts.{Texts}
 use Rattle.lnt_cli.specs.declared.stop.FileStop.{FileStop}
 use Rattle.lnt_cli.specs.declared.stop.FileStop.TheVariants.{Read, TooLong, Write, Memory}
 
--- The stop of a run if the work on the file with this name was stopped. Instead of a stop with the name it may be Memory, since
--- memory may run out for the copy of the name.
+-- The stop of a run if the work on the file with this name was stopped.
 abbrev pub IsFileStop : Halt → List ℕ → FileStop → Type 0
-IsFileStop halt.Read name (Read told) = string_bytes told ≡ name
-IsFileStop halt.Read name stop = stop ≡ Memory
+IsFileStop halt.Read name stop = IsUnreadable stop name
 IsFileStop halt.TooLong name (TooLong told) = string_bytes told ≡ name
-IsFileStop halt.TooLong name stop = stop ≡ Memory
+IsFileStop halt.TooLong name stop = ⊥
 IsFileStop halt.Write name stop = stop ≡ Write
 IsFileStop halt.Memory name stop = stop ≡ Memory
 

@@ -1,7 +1,11 @@
 -- How a run was stopped, and the files that a request names.
-use Rattle.std.specs.Prelude.{◌≡◌, ◌≢◌, ◌⊎◌, ℕ, List, Some, string_bytes}
+use Rattle.std.specs.Prelude.{◌≡◌, ◌≢◌, ◌⊎◌, ℕ, IsErrAnd, List, Option, Result, Some, string_bytes}
 use Rattle.std.specs.Option.{option_copied}
+use Rattle.lnt_io.specs.Files.{FileState, Readable, RefusesOnly}
+use Rattle.lnt_io.specs.declared.status.Status.{Status}
 use Rattle.lnt_words.specs.declared.request.Judging.{Judging}
+use Rattle.lnt_words.specs.declared.request.Question.{Question}
+use Rattle.lnt_words.specs.declared.request.Question.TheVariants.{Md5}
 use Rattle.lnt_words.specs.declared.request.Request.{Request}
 use Rattle.lnt_words.specs.declared.request.Request.TheVariants.{Help, Read as ReadSection, Upgrade, Judge, Addresses, Check}
 use Rattle.lnt_words.specs.declared.stop.WordsStop.{WordsStop}
@@ -42,3 +46,28 @@ IsFileIn (Upgrade section order size directories) name = (section.now ≡ name) 
 IsFileIn (Judge from question) name = IsFileOf from name
 IsFileIn (Addresses from file op) name = IsFileOfBoth from file.now name
 IsFileIn (Check from table all partial) name = IsFileOfBoth from table.now name
+
+-- ---- files that the opener refused
+
+-- the stop says that the file with this name can't be read
+abbrev pub IsUnreadable : FileStop → List ℕ → Type 0
+IsUnreadable (Read told) name = string_bytes told ≡ name
+IsUnreadable _ name = ⊥
+
+-- A file that was refused meanwhile stops the work, and the stop says that this file can't be read.
+abbrev pub StopsIfRefused : {T : Type 0} → Result T FileStop → (List ℕ → Type 0) → (List ℕ → Type 0) → Type 0
+StopsIfRefused ended old new = RefusesOnly (λ name. IsErrAnd ended (λ stop. IsUnreadable stop name)) old new
+
+-- The question asks for the listed sums, and the section was opened: then the answer says which of the listed files can't be read.
+abbrev pub AnswersUnreadable : (List ℕ → FileState → Type 0) → Judging → Question → Type 0
+AnswersUnreadable tells from Md5 = (bytes : Option (List ℕ)) × tells from.section.now (Readable bytes)
+AnswersUnreadable tells from _ = ⊥
+
+-- the same of a request
+abbrev pub MayAnswerUnreadable : (List ℕ → FileState → Type 0) → Request → Type 0
+MayAnswerUnreadable tells (Judge from question) = AnswersUnreadable tells from question
+MayAnswerUnreadable tells _ = ⊥
+
+-- That the file with this name can't be read is told by the stop of the answer to this request, or may be told by the answer.
+abbrev pub IsToldUnreadable : (List ℕ → FileState → Type 0) → Request → Result Status FileStop → List ℕ → Type 0
+IsToldUnreadable tells request ended name = IsErrAnd ended (λ stop. IsUnreadable stop name) ⊎ MayAnswerUnreadable tells request

@@ -4,7 +4,7 @@ ghost use Rattle.std.specs.Io.KnownBytes.{Appends, Keeps};
 ghost use Rattle.lnt_io.specs.Fronts.{HasBegun};
 ghost use Rattle.lnt_cli.specs.Answered.{AnswersCheck, IsChecked, options_in};
 ghost use Rattle.lnt_cli.specs.Stepping.{IsOfCause};
-ghost use Rattle.lnt_cli.specs.Stops.{IsFileOfBoth, NamesOneOf};
+ghost use Rattle.lnt_cli.specs.Stops.{IsFileOfBoth, NamesOneOf, StopsIfRefused};
 ghost use Rattle.lnt_table.specs.Within.{IsOfScope, IsTrueOfSectionWithin, IsTrueWithin};
 ghost use Rattle.lnt_answers.specs.Verdicts.{checked_line};
 
@@ -36,12 +36,15 @@ impl<O: Opener, W: Write, N: Write> Session<'_, '_, '_, O, W, N> {
         ensures stopped { OnErr result (Keeps (W.contents self.old.out.now) (W.contents self.new.out.now)
             ⊎ HasBegun (AnswersCheck (O.tells self.old.opener.now) from.now table.now scope (W.contents self.old.out.now))
             (W.contents self.old.out.now) (W.contents self.new.out.now)) }
+        ensures refused { StopsIfRefused result (O.refused self.old.opener.now) (O.refused self.new.opener.now) }
         ensures same_reference { self.new.out.ghost_name ≡ self.old.out.ghost_name }
+        ensures same_opener { self.new.opener.ghost_name ≡ self.old.opener.ghost_name }
     {
         let seen = Cell::new(Seen::nothing());
         let checked = judge_table(self.alloc, from, table, scope, self.opener, &seen)?;
+        let name = String::from_str(self.alloc, table)?;
         let printed = print_checked(self.alloc, &checked, self.out);
-        of_file(self.alloc, table, printed)?;
+        of_file(name, printed)?;
         let answered = Answered::of_check(&checked, table);
         self.tell(&answered, &seen.get(), from);
         Ok(answered.status)
@@ -61,6 +64,7 @@ fn judge_table<O: Opener>(
     ensures named { IfErr result (NamesOneOf (IsFileOfBoth from.now table.now)) }
     ensures checked { IfOk result (λ checked. (old new : Option (List ℕ)) → Appends old new (checked_line checked)
         → IsChecked (O.tells opener.old) from.now table.now scope old new checked) }
+    ensures refused { StopsIfRefused result (O.refused opener.old) (O.refused opener.new) }
 {
     let mut files = open_both(alloc, opener, from, table, seen)?;
     judge_table_of(alloc, from, table, scope, &mut files)
@@ -100,7 +104,8 @@ fn judge_table_of<S: Source, F: Source>(
         Ok(checked) => Ok(checked),
         Err(stop) => {
             let name = cause_of(&files.section, stop, from.section, table);
-            Err(FileStop::of_file(alloc, name, Halt::from(stop)))
+            let name = String::from_str(alloc, name)?;
+            Err(FileStop::of_file(name, Halt::from(stop)))
         }
     }
 }

@@ -1,10 +1,10 @@
 //! The files that a run reads.
-ghost use Rattle.std.specs.Prelude.{◌≡◌, IfErr, IfOk, IsErr, Ok, OnErr, Some, option_map};
+ghost use Rattle.std.specs.Prelude.{◌≡◌, IfErr, IfOk, IsErr, IsErrOf, Ok, OnErr, Some, option_map, string_bytes};
 ghost use Rattle.std.specs.Option.{option_copied};
-ghost use Rattle.lnt_io.specs.Files.{AreBytesOf, Readable, TellsNoMore};
+ghost use Rattle.lnt_io.specs.Files.{AreBytesOf, Readable, RefusesOnly, TellsNoMore};
 ghost use Rattle.lnt_cli.specs.Answered.{AreStringsOf, AreTextsOf, IsTextOf};
 ghost use Rattle.lnt_cli.specs.Stepping.{IsFileStop};
-ghost use Rattle.lnt_cli.specs.Stops.{IsFileOf, IsFileOfBoth, NamesOneOf};
+ghost use Rattle.lnt_cli.specs.Stops.{IsFileOf, IsFileOfBoth, NamesOneOf, StopsIfRefused};
 
 use crate::stop::FileStop;
 use lnt_io::{Counted, Halt, Opener, Source, bytes_of_file, open_file, read_all, source_of};
@@ -40,16 +40,17 @@ impl Texts {
     }
 }
 
-// The result of the work on a file. A stop has the file's name.
-pub(crate) fn of_file<T>(alloc: Global, name: &str, ended: Result<T, Halt>) -> Result<T, FileStop>
+// The result of the work on the file with this name. A stop has the name, which is copied before the work, so that no stop
+// depends on the memory that is left then.
+pub(crate) fn of_file<T>(name: String, ended: Result<T, Halt>) -> Result<T, FileStop>
     ensures ok { IfOk result (λ value. ended ≡ Ok value) }
-    ensures told { IfErr result (λ stop. IfErr ended (λ halt. IsFileStop halt name.now stop)) }
+    ensures told { IfErr result (λ stop. IfErr ended (λ halt. IsFileStop halt (string_bytes name) stop)) }
     ensures err { OnErr result (IsErr ended) }
-    ensures named { IfErr result (NamesOneOf (λ told. name.now ≡ told)) }
+    ensures named { IfErr result (NamesOneOf (λ told. string_bytes name ≡ told)) }
 {
     match ended {
         Ok(value) => Ok(value),
-        Err(halt) => Err(FileStop::of_file(alloc, name, halt)),
+        Err(halt) => Err(FileStop::of_file(name, halt)),
     }
 }
 
@@ -63,6 +64,7 @@ pub(crate) fn open_section<'c, O: Opener>(
     ensures failures { IfOk result (λ source. ⟦<Section<'c, O::Reader> as Source>⟧.failures source ≡ 0) }
     ensures told { IfOk result (λ source. O.tells opener.old name.now (Readable (⟦<Section<'c, O::Reader> as Source>⟧.remaining source))) }
     ensures later { TellsNoMore (O.tells opener.old) (O.tells opener.new) }
+    ensures refused { RefusesOnly (λ other. IsErrOf result Halt.Read × (name.now ≡ other)) (O.refused opener.old) (O.refused opener.new) }
 {
     match opener.reader_of(name) {
         Some(reader) => Ok(source_of(alloc, WatchedReader::new(reader, seen))?),
@@ -91,10 +93,12 @@ pub(crate) fn open_judged<'c, O: Opener>(
     ensures told { IfOk result (λ opened. O.tells opener.old from.now.section.now
         (Readable (⟦<Section<'c, O::Reader> as Source>⟧.remaining opened.section))) }
     ensures later { TellsNoMore (O.tells opener.old) (O.tells opener.new) }
+    ensures refused { StopsIfRefused result (O.refused opener.old) (O.refused opener.new) }
 {
     let texts = read_texts(alloc, opener, from)?;
+    let name = String::from_str(alloc, from.section)?;
     let opened = open_section(alloc, opener, from.section, seen);
-    let section = of_file(alloc, from.section, opened)?;
+    let section = of_file(name, opened)?;
     Ok(Opened { texts, section })
 }
 
@@ -124,10 +128,12 @@ pub(crate) fn open_both<'c, O: Opener>(
     ensures file_fails { IfOk result (λ opened. ⟦<Blocks<O::Reader> as Source>⟧.failures opened.file ≡ 0) }
     ensures file_told { IfOk result (λ opened.
         O.tells opener.old file.now (Readable (⟦<Blocks<O::Reader> as Source>⟧.remaining opened.file))) }
+    ensures refused { StopsIfRefused result (O.refused opener.old) (O.refused opener.new) }
 {
     let judged = open_judged(alloc, opener, from, seen)?;
+    let name = String::from_str(alloc, file)?;
     let opened = open_file(alloc, opener, file);
-    let file = of_file(alloc, file, opened)?;
+    let file = of_file(name, opened)?;
     Ok(OpenedBoth {
         texts: judged.texts,
         section: judged.section,
@@ -144,6 +150,7 @@ pub(crate) fn read_whole<O: Opener>(
 ) -> Result<Vec<u8>, Halt>
     ensures bytes { IfOk result (λ bytes. AreBytesOf (O.tells opener.old name.now) bytes.items) }
     ensures later { TellsNoMore (O.tells opener.old) (O.tells opener.new) }
+    ensures refused { RefusesOnly (λ other. IsErrOf result Halt.Read × (name.now ≡ other)) (O.refused opener.old) (O.refused opener.new) }
 {
     let mut source = open_section(alloc, opener, name, seen)?;
     Ok(read_all(alloc, &mut source)?)
@@ -158,9 +165,10 @@ pub(crate) fn read_named<O: Opener>(
     ensures named { IfErr result (NamesOneOf (λ name. option_copied file.entry ≡ Some name)) }
     ensures text { IfOk result (λ text.
         IsTextOf (O.tells opener.old) (option_copied file.entry) (option_map (λ bytes. bytes.items) text)) }
+    ensures refused { StopsIfRefused result (O.refused opener.old) (O.refused opener.new) }
 {
     match file {
-        Some(name) => Ok(Some(of_file(alloc, name, bytes_of_file(alloc, opener, name))?)),
+        Some(name) => Ok(Some(read_file(alloc, opener, name)?)),
         None => Ok(None),
     }
 }
@@ -174,6 +182,7 @@ pub(crate) fn read_texts<O: Opener>(
     ensures named { IfErr result (NamesOneOf (IsFileOf from.now)) }
     ensures texts { IfOk result (λ texts. AreTextsOf (O.tells opener.old) from.now texts.line.items texts.general.items) }
     ensures later { TellsNoMore (O.tells opener.old) (O.tells opener.new) }
+    ensures refused { StopsIfRefused result (O.refused opener.old) (O.refused opener.new) }
 {
     let line = read_strings(alloc, opener, from.line_strings)?;
     let general = read_strings(alloc, opener, from.strings)?;
@@ -189,9 +198,21 @@ fn read_strings<O: Opener>(
     ensures named { IfErr result (NamesOneOf (λ name. option_copied file.entry ≡ Some name)) }
     ensures strings { IfOk result (λ bytes. AreStringsOf (O.tells opener.old) (option_copied file.entry) bytes.items) }
     ensures later { TellsNoMore (O.tells opener.old) (O.tells opener.new) }
+    ensures refused { StopsIfRefused result (O.refused opener.old) (O.refused opener.new) }
 {
     match file {
-        Some(name) => of_file(alloc, name, bytes_of_file(alloc, opener, name)),
+        Some(name) => read_file(alloc, opener, name),
         None => Ok(Vec::new(alloc)),
     }
+}
+
+// All bytes of the file with this name.
+fn read_file<O: Opener>(alloc: Global, opener: &mut O, name: &str) -> Result<Vec<u8>, FileStop>
+    ensures named { IfErr result (NamesOneOf (λ told. name.now ≡ told)) }
+    ensures bytes { IfOk result (λ bytes. AreBytesOf (O.tells opener.old name.now) bytes.items) }
+    ensures later { TellsNoMore (O.tells opener.old) (O.tells opener.new) }
+    ensures refused { StopsIfRefused result (O.refused opener.old) (O.refused opener.new) }
+{
+    let copy = String::from_str(alloc, name)?;
+    of_file(copy, bytes_of_file(alloc, opener, name))
 }

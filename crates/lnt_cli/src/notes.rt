@@ -115,7 +115,8 @@ fn given_of<'a>(from: &Judging<'a>) -> Given<'a> {
 impl<O: Opener, W: Write, N: Write> Session<'_, '_, '_, O, W, N> {
     // Writes the notes to an answer. None is written if the words ask for none, and a failure to write one doesn't stop a run.
     pub(crate) fn tell(&mut self, answered: &Answered<'_>, seen: &Seen, from: &Judging<'_>)
-        ensures { self.new.out ≡ self.old.out }
+        ensures out { self.new.out ≡ self.old.out }
+        ensures opener { self.new.opener ≡ self.old.opener }
     {
         if self.quiet {
             return;

@@ -1,9 +1,10 @@
 //! One run of the command.
 ghost use Rattle.std.specs.Prelude.{map, string_bytes, IfErr, IfOk, OnErr};
+ghost use Rattle.lnt_io.specs.Files.{RefusesOnly};
 ghost use Rattle.lnt_cli.specs.Answered.{IsAnswered};
-ghost use Rattle.lnt_cli.specs.Runs.{AnswersWords, IsStopOf};
+ghost use Rattle.lnt_cli.specs.Runs.{AnswersWords, IsStopOf, TellUnreadable};
 ghost use Rattle.lnt_cli.specs.Stopped.{IsStopped};
-ghost use Rattle.lnt_cli.specs.Stops.{IsFileIn, NamesOneOf};
+ghost use Rattle.lnt_cli.specs.Stops.{IsFileIn, IsToldUnreadable, NamesOneOf};
 
 use crate::session::Session;
 use crate::stop::{CliStop, FileStop};
@@ -21,7 +22,8 @@ use std::io::{self, Write};
 ///
 /// A run stops with `Usage` only if the words ask for nothing (`AskForNothing`), before a file is opened and with nothing
 /// written; with `Read` or `TooLong` for a file that the words name (`NameFile`); with `Write` if `out` failed, after a prefix
-/// of the text; and with `Memory` (`IsStopOf`). What [`answer`] states was written if it stops.
+/// of the text; and with `Memory` (`IsStopOf`). What [`answer`] states was written if it stops. If the opener refuses a file, it
+/// stops with `Read` and that file's name, and for no other reason (`TellUnreadable`), except once it judges listed sums.
 ///
 /// Advice for a person is written to `notes`, a line for each note, to be shown after the answer; nothing if the words ask for
 /// no notes. A run doesn't stop if `notes` fails.
@@ -36,6 +38,8 @@ pub fn run_with_notes<O: Opener, W: Write, N: Write>(
         (W.contents out.old) (W.contents out.new)) }
     ensures stop { IfErr result (IsStopOf (O.tells opener.old) (map string_bytes words.items)
         (W.contents out.old) (W.contents out.new)) }
+    ensures refused { RefusesOnly (TellUnreadable (O.tells opener.old) (map string_bytes words.items) result)
+        (O.refused opener.old) (O.refused opener.new) }
 {
     let asked = match request_of(alloc, words.as_slice()) {
         Ok(asked) => asked,
@@ -58,6 +62,8 @@ pub fn run<O: Opener, W: Write>(
         (W.contents out.old) (W.contents out.new)) }
     ensures stop { IfErr result (IsStopOf (O.tells opener.old) (map string_bytes words.items)
         (W.contents out.old) (W.contents out.new)) }
+    ensures refused { RefusesOnly (TellUnreadable (O.tells opener.old) (map string_bytes words.items) result)
+        (O.refused opener.old) (O.refused opener.new) }
 {
     run_with_notes(alloc, words, opener, out, &mut io::sink())
 }
@@ -77,7 +83,9 @@ pub fn run<O: Opener, W: Write>(
 /// each of them (`AnswersFile`).
 ///
 /// If it stops, a prefix of an answer has been written, and nothing else (`IsStopped`). It stops with `Read` or `TooLong` for a
-/// file that the request names (`IsFileIn`); with `Write` if `out` failed; and with `Memory`.
+/// file that the request names (`IsFileIn`); with `Write` if `out` failed; and with `Memory`. If the opener refuses a file, it stops
+/// with `Read` and that file's name (`IsToldUnreadable`). Listed sums are the exception: once the section is open, a listed file
+/// that is refused is part of the answer.
 pub fn answer<O: Opener, W: Write, N: Write>(
     alloc: Global,
     asked: &Asked<'_>,
@@ -89,6 +97,8 @@ pub fn answer<O: Opener, W: Write, N: Write>(
     ensures answer { IfOk result (λ status.
         IsAnswered (O.tells opener.old) asked.now.request (W.contents out.old) (W.contents out.new) status) }
     ensures stopped { OnErr result (IsStopped (O.tells opener.old) asked.now.request (W.contents out.old) (W.contents out.new)) }
+    ensures refused { RefusesOnly (IsToldUnreadable (O.tells opener.old) asked.now.request result)
+        (O.refused opener.old) (O.refused opener.new) }
 {
     let mut session = Session {
         alloc,

@@ -1,12 +1,14 @@
 //! Questions about a section that is judged, alone or with another file.
-ghost use Rattle.std.specs.Prelude.{◌≡◌, ◌-◌, ◌^◌, ◌<◌, ◌⊎◌, IfErr, IfOk, OnErr};
+ghost use Rattle.std.specs.Prelude.{◌≡◌, ◌-◌, ◌^◌, ◌<◌, ◌⊎◌, IfErr, IfOk, IsErrAnd, OnErr, string_bytes};
 ghost use Rattle.std.specs.Io.KnownBytes.{Keeps};
+ghost use Rattle.lnt_io.specs.Files.{RefusesOnly};
+ghost use Rattle.lnt_words.specs.declared.request.Question.TheVariants.{Md5};
 ghost use Rattle.lnt_answers.specs.Lines.{HasBegunLine, IsIndexGiven, IsReasonTold};
 ghost use Rattle.lnt_cli.specs.Answered.{AnswersFile, AnswersQuestion, options_in};
 ghost use Rattle.lnt_cli.specs.Questions.{AnswersGood, AnswersGoodFile, AnswersJudged};
 ghost use Rattle.lnt_cli.specs.Stepping.{IsJudgedSo, IsTrueOf};
 ghost use Rattle.lnt_cli.specs.Stopped.{BeginsFile, BeginsGood, BeginsGoodFile, BeginsJudged, BeginsQuestion};
-ghost use Rattle.lnt_cli.specs.Stops.{IsFileOf, IsFileOfBoth, NamesOneOf};
+ghost use Rattle.lnt_cli.specs.Stops.{AnswersUnreadable, IsFileOf, IsFileOfBoth, IsUnreadable, NamesOneOf, StopsIfRefused};
 ghost use Rattle.lnt_lines.specs.declared.options.Options.{Options as OptionsSpec};
 
 use crate::inputs::{Opened, OpenedBoth, Texts, of_file, open_both, open_judged};
@@ -48,7 +50,11 @@ impl<O: Opener, W: Write, N: Write> Session<'_, '_, '_, O, W, N> {
         ensures stopped { OnErr result (Keeps (W.contents self.old.out.now) (W.contents self.new.out.now)
             ⊎ BeginsQuestion (O.tells self.old.opener.now) from.now question.now (W.contents self.old.out.now)
             (W.contents self.new.out.now)) }
+        ensures refused { RefusesOnly (λ name. IsErrAnd result (λ stop. IsUnreadable stop name)
+            ⊎ AnswersUnreadable (O.tells self.old.opener.now) from.now question.now)
+            (O.refused self.old.opener.now) (O.refused self.new.opener.now) }
         ensures same_reference { self.new.out.ghost_name ≡ self.old.out.ghost_name }
+        ensures same_opener { self.new.opener.ghost_name ≡ self.old.opener.ghost_name }
     {
         let seen = Cell::new(Seen::nothing());
         let answered = answer_alone(self.alloc, from, question, self.opener, &seen, self.out)?;
@@ -70,7 +76,9 @@ impl<O: Opener, W: Write, N: Write> Session<'_, '_, '_, O, W, N> {
         ensures stopped { OnErr result (Keeps (W.contents self.old.out.now) (W.contents self.new.out.now)
             ⊎ BeginsFile (O.tells self.old.opener.now) from.now file.now question (W.contents self.old.out.now)
             (W.contents self.new.out.now)) }
+        ensures refused { StopsIfRefused result (O.refused self.old.opener.now) (O.refused self.new.opener.now) }
         ensures same_reference { self.new.out.ghost_name ≡ self.old.out.ghost_name }
+        ensures same_opener { self.new.opener.ghost_name ≡ self.old.opener.ghost_name }
     {
         let seen = Cell::new(Seen::nothing());
         let answered = answer_both(
@@ -101,6 +109,8 @@ fn answer_alone<'t, O: Opener, W: Write>(
         (W.contents out.old) (W.contents out.new) answered.status) }
     ensures stopped { OnErr result (Keeps (W.contents out.old) (W.contents out.new)
         ⊎ BeginsQuestion (O.tells opener.old) from.now question.now (W.contents out.old) (W.contents out.new)) }
+    ensures refused { RefusesOnly (λ name. IsErrAnd result (λ stop. IsUnreadable stop name)
+        ⊎ AnswersUnreadable (O.tells opener.old) from.now question.now) (O.refused opener.old) (O.refused opener.new) }
 {
     let mut files = open_judged(alloc, opener, from, seen)?;
     answer_opened(alloc, from, question, &mut files, opener, out)
@@ -124,9 +134,11 @@ fn answer_opened<'t, S: Source, O: Opener, W: Write>(
         ⊎ IsJudgedSo files.old.texts from.now (S.remaining files.old.section)
         (BeginsJudged (BeginsGood (O.tells opener.old) (options_in from.now) question.now)
         (W.contents out.old) (W.contents out.new))) }
+    ensures refused { RefusesOnly (λ _. question.now ≡ Md5) (O.refused opener.old) (O.refused opener.new) }
 {
+    let name = String::from_str(alloc, from.section)?;
     match judge(alloc, &mut files.section, &files.texts, from, out)? {
-        JudgedIndex::Good(index) => answer_good(alloc, from.section, &index, question, opener, out),
+        JudgedIndex::Good(index) => answer_good(alloc, name, &index, question, opener, out),
         JudgedIndex::Bad(no) => Ok(Answered::no(Occasion::Bad(no))),
     }
 }
@@ -134,20 +146,21 @@ fn answer_opened<'t, S: Source, O: Opener, W: Write>(
 // Answers a question about a good section, whose file has this name.
 fn answer_good<'t, O: Opener, W: Write>(
     alloc: Global,
-    section: &str,
+    section: String,
     index: &Index<'_>,
     question: &Question,
     opener: &mut O,
     out: &mut W,
 ) -> Result<Answered<'t>, FileStop>
-    ensures named { IfErr result (NamesOneOf (λ name. section.now ≡ name)) }
+    ensures named { IfErr result (NamesOneOf (λ name. string_bytes section ≡ name)) }
     ensures answer { IfOk result (λ answered. (options : OptionsSpec)
         → AnswersGood (O.tells opener.old) options question.now index.now (W.contents out.old) (W.contents out.new) answered.status) }
     ensures stopped { OnErr result ((options : OptionsSpec)
         → BeginsGood (O.tells opener.old) options question.now index.now (W.contents out.old) (W.contents out.new)) }
+    ensures refused { RefusesOnly (λ _. question.now ≡ Md5) (O.refused opener.old) (O.refused opener.new) }
 {
     let printed = print_answer(alloc, index, question, opener, out);
-    let status = of_file(alloc, section, printed)?;
+    let status = of_file(section, printed)?;
     let occasion = Occasion::Good(hints_to(index, question));
     Ok(Answered { status, occasion })
 }
@@ -168,6 +181,7 @@ fn answer_both<'f, O: Opener, W: Write>(
         (W.contents out.old) (W.contents out.new) answered.status) }
     ensures stopped { OnErr result (Keeps (W.contents out.old) (W.contents out.new)
         ⊎ BeginsFile (O.tells opener.old) from.now file.now question (W.contents out.old) (W.contents out.new)) }
+    ensures refused { StopsIfRefused result (O.refused opener.old) (O.refused opener.new) }
 {
     let mut files = open_both(alloc, opener, from, file, seen)?;
     answer_both_of(alloc, from, file, question, &mut files, out)
@@ -217,16 +231,17 @@ fn answer_good_file<'f, F: Source, W: Write>(
     ensures stopped { OnErr result (Keeps (W.contents out.old) (W.contents out.new) ⊎ ((options : OptionsSpec)
         → BeginsGoodFile question options (F.remaining bytes.old) index.now (W.contents out.old) (W.contents out.new))) }
 {
+    let name = String::from_str(alloc, file)?;
     match question {
         FileQuestion::Lines(op) => {
             let printed = print_addresses(alloc, index, bytes, op, out);
-            let status = of_file(alloc, file, printed)?;
+            let status = of_file(name, printed)?;
             let occasion = Occasion::Good(hints_of(index));
             Ok(Answered { status, occasion })
         }
         FileQuestion::Places => {
             let printed = print_stretches(alloc, bytes, index, out);
-            let told = of_file(alloc, file, printed)?;
+            let told = of_file(name, printed)?;
             Ok(Answered::of_stretches(&told, file))
         }
     }
@@ -259,8 +274,9 @@ fn judge<'t, R: Source, W: Write>(
     ensures stopped { OnErr result (Keeps (W.contents out.old) (W.contents out.new)
         ⊎ HasBegunLine (IsTrueOf texts.now from.now (R.remaining section.old)) (W.contents out.old) (W.contents out.new)) }
 {
+    let name = String::from_str(alloc, from.section)?;
     let judged = judge_section(alloc, section, &texts.strings(), &options_of(from), out);
-    of_file(alloc, from.section, judged)
+    of_file(name, judged)
 }
 
 // Prints the answer of a good section. It is never inlined: some answers have large blocks on the stack, which is short, and
@@ -277,6 +293,7 @@ fn print_answer<O: Opener, W: Write>(
         → AnswersGood (O.tells opener.old) options question.now index.now (W.contents out.old) (W.contents out.new) status) }
     ensures stopped { OnErr result ((options : OptionsSpec)
         → BeginsGood (O.tells opener.old) options question.now index.now (W.contents out.old) (W.contents out.new)) }
+    ensures refused { RefusesOnly (λ _. question.now ≡ Md5) (O.refused opener.old) (O.refused opener.new) }
 {
     match question {
         Question::Verify => {

@@ -1,13 +1,14 @@
 //! The files and writers of a run, and how it answers a request.
-ghost use Rattle.std.specs.Prelude.{◌≡◌, ◌-◌, ◌^◌, ◌<◌, ◌⊎◌, IfErr, IfOk, IfSome, OnErr, Some, option_map};
+ghost use Rattle.std.specs.Prelude.{◌≡◌, ◌-◌, ◌^◌, ◌<◌, ◌⊎◌, IfErr, IfOk, IfSome, IsErrOf, OnErr, Some, option_map};
 ghost use Rattle.std.specs.Io.KnownBytes.{Keeps};
 ghost use Rattle.std.specs.Option.{option_copied};
+ghost use Rattle.lnt_io.specs.Files.{RefusesOnly};
 ghost use Rattle.lnt_words.specs.Sizes.{size_bytes};
 ghost use Rattle.lnt_dump.specs.Upgraded.{IsUpgradeBegun, IsUpgradeTold};
 ghost use Rattle.lnt_cli.specs.Answered.{AnswersRead, AnswersUpgrade, IsAnswered};
 ghost use Rattle.lnt_cli.specs.Readings.{AnswersReading, BeginsReading};
 ghost use Rattle.lnt_cli.specs.Stopped.{IsStopped, StopsRead, StopsUpgrade};
-ghost use Rattle.lnt_cli.specs.Stops.{IsFileIn, NamesOneOf};
+ghost use Rattle.lnt_cli.specs.Stops.{IsFileIn, IsToldUnreadable, NamesOneOf, StopsIfRefused};
 
 use crate::inputs::{of_file, open_section, read_named, read_whole};
 use crate::question::FileQuestion;
@@ -40,7 +41,10 @@ impl<O: Opener, W: Write, N: Write> Session<'_, '_, '_, O, W, N> {
             (W.contents self.old.out.now) (W.contents self.new.out.now) status) }
         ensures stopped { OnErr result (IsStopped (O.tells self.old.opener.now) request.now
             (W.contents self.old.out.now) (W.contents self.new.out.now)) }
+        ensures refused { RefusesOnly (IsToldUnreadable (O.tells self.old.opener.now) request.now result)
+            (O.refused self.old.opener.now) (O.refused self.new.opener.now) }
         ensures same_reference { self.new.out.ghost_name ≡ self.old.out.ghost_name }
+        ensures same_opener { self.new.opener.ghost_name ≡ self.old.opener.ghost_name }
     {
         match request {
             Request::Help(text) => {
@@ -85,7 +89,8 @@ impl<O: Opener, W: Write, N: Write> Session<'_, '_, '_, O, W, N> {
 
     // Writes why the system couldn't open or read the last file that failed, as a note.
     pub(crate) fn tell_reason(&mut self)
-        ensures { self.new.out ≡ self.old.out }
+        ensures out { self.new.out ≡ self.old.out }
+        ensures opener { self.new.opener ≡ self.old.opener }
     {
         if self.quiet {
             return;
@@ -108,9 +113,12 @@ impl<O: Opener, W: Write, N: Write> Session<'_, '_, '_, O, W, N> {
         ensures stopped { OnErr result (Keeps (W.contents self.old.out.now) (W.contents self.new.out.now)
             ⊎ StopsRead (O.tells self.old.opener.now) section.now order reading
             (W.contents self.old.out.now) (W.contents self.new.out.now)) }
+        ensures refused { StopsIfRefused result (O.refused self.old.opener.now) (O.refused self.new.opener.now) }
         ensures same_reference { self.new.out.ghost_name ≡ self.old.out.ghost_name }
+        ensures same_opener { self.new.opener.ghost_name ≡ self.old.opener.ghost_name }
     {
         let seen = Cell::new(Seen::nothing());
+        let name = String::from_str(self.alloc, section)?;
         let printed = print_section(
             self.alloc,
             section,
@@ -120,7 +128,7 @@ impl<O: Opener, W: Write, N: Write> Session<'_, '_, '_, O, W, N> {
             &seen,
             self.out,
         );
-        let status = of_file(self.alloc, section, printed)?;
+        let status = of_file(name, printed)?;
         if status == Status::No && !self.quiet {
             let _ = tell_refused(&seen.get(), order, self.notes);
         }
@@ -142,7 +150,9 @@ impl<O: Opener, W: Write, N: Write> Session<'_, '_, '_, O, W, N> {
         ensures stopped { OnErr result (Keeps (W.contents self.old.out.now) (W.contents self.new.out.now)
             ⊎ StopsUpgrade (O.tells self.old.opener.now) section.now order (size_bytes address_size)
             (option_copied directories.entry) (W.contents self.old.out.now) (W.contents self.new.out.now)) }
+        ensures refused { StopsIfRefused result (O.refused self.old.opener.now) (O.refused self.new.opener.now) }
         ensures same_reference { self.new.out.ghost_name ≡ self.old.out.ghost_name }
+        ensures same_opener { self.new.opener.ghost_name ≡ self.old.opener.ghost_name }
     {
         let seen = Cell::new(Seen::nothing());
         let status = upgrade_file(
@@ -179,12 +189,15 @@ fn upgrade_file<O: Opener, W: Write>(
     ensures stopped { OnErr result (Keeps (W.contents out.old) (W.contents out.new)
         ⊎ StopsUpgrade (O.tells opener.old) section.now order (size_bytes address_size) (option_copied directories.entry)
         (W.contents out.old) (W.contents out.new)) }
+    ensures refused { StopsIfRefused result (O.refused opener.old) (O.refused opener.new) }
 {
+    let name = String::from_str(alloc, section)?;
     let read = read_whole(alloc, opener, section, seen);
-    let bytes = of_file(alloc, section, read)?;
+    let bytes = of_file(name, read)?;
     let text = read_named(alloc, opener, directories)?;
+    let name = String::from_str(alloc, section)?;
     let printed = print_upgrade(alloc, &bytes, order, address_size, text, out);
-    let status = of_file(alloc, section, printed)?;
+    let status = of_file(name, printed)?;
     Ok(status)
 }
 
@@ -223,6 +236,8 @@ fn print_section<O: Opener, W: Write>(
         (W.contents out.old) (W.contents out.new) status) }
     ensures stopped { OnErr result (Keeps (W.contents out.old) (W.contents out.new)
         ⊎ StopsRead (O.tells opener.old) section.now order reading (W.contents out.old) (W.contents out.new)) }
+    ensures refused { RefusesOnly (λ other. IsErrOf result Halt.Read × (section.now ≡ other))
+        (O.refused opener.old) (O.refused opener.new) }
 {
     let mut source = open_section(alloc, opener, section, seen)?;
     print_reading(alloc, &mut source, order, reading, out)

@@ -1,5 +1,5 @@
 //! Why a run is stopped.
-ghost use Rattle.std.specs.Prelude.{◌≡◌, IfOk, OnErr};
+ghost use Rattle.std.specs.Prelude.{◌≡◌, string_bytes};
 ghost use Rattle.lnt_cli.specs.Stepping.{IsFileStop};
 ghost use Rattle.lnt_cli.specs.Stops.{IsOfWords, NamesOneOf};
 ghost use Rattle.lnt_cli.specs.declared.stop.CliStop.TheVariants.{File};
@@ -8,7 +8,7 @@ ghost use Rattle.lnt_cli.specs.declared.stop.FileStop.TheVariants.{Memory, Write
 use lnt_io::Halt;
 use lnt_text::Shown;
 use lnt_words::WordsStop;
-use std::alloc::{AllocError, Global};
+use std::alloc::AllocError;
 use std::io;
 use thiserror::Error;
 
@@ -42,29 +42,17 @@ pub enum FileStop {
 }
 
 impl FileStop {
-    // The stop if the work on the file with this name was stopped. `Memory` also if it ran out for a copy of the name.
-    pub(crate) fn of_file(alloc: Global, name: &str, halt: Halt) -> FileStop
-        ensures told { IsFileStop halt name.now result }
-        ensures named { NamesOneOf (λ told. name.now ≡ told) result }
+    // The stop if the work on the file with this name was stopped.
+    pub(crate) fn of_file(name: String, halt: Halt) -> FileStop
+        ensures told { IsFileStop halt (string_bytes name) result }
+        ensures named { NamesOneOf (λ told. string_bytes name ≡ told) result }
     {
-        match FileStop::with_name(alloc, name, halt) {
-            Ok(stop) => stop,
-            Err(_) => FileStop::Memory,
-        }
-    }
-
-    // The same, with a copy of the name for a stop that has one.
-    fn with_name(alloc: Global, name: &str, halt: Halt) -> Result<FileStop, AllocError>
-        ensures told { IfOk result (IsFileStop halt name.now) }
-        ensures named { IfOk result (NamesOneOf (λ told. name.now ≡ told)) }
-        ensures err { OnErr result (IsFileStop halt name.now Memory) }
-    {
-        Ok(match halt {
-            Halt::Read => FileStop::Read(String::from_str(alloc, name)?),
-            Halt::TooLong => FileStop::TooLong(String::from_str(alloc, name)?),
+        match halt {
+            Halt::Read => FileStop::Read(name),
+            Halt::TooLong => FileStop::TooLong(name),
             Halt::Write => FileStop::Write,
             Halt::Memory => FileStop::Memory,
-        })
+        }
     }
 }
 
@@ -84,6 +72,14 @@ impl From<AllocError> for CliStop {
 
     fn from(_error: AllocError) -> CliStop {
         CliStop::File(FileStop::Memory)
+    }
+}
+
+impl From<AllocError> for FileStop {
+    ghost from_gives = { λ _ stop. stop ≡ Memory };
+
+    fn from(_error: AllocError) -> FileStop {
+        FileStop::Memory
     }
 }
 

@@ -1,6 +1,6 @@
 //! A file that is read, and its name.
 ghost use Rattle.std.specs.Prelude.{◌≡◌, ◌^◌, IfSome, IsNone, false};
-ghost use Rattle.lnt_io.specs.Files.{Readable, TellsNoMore, Unreadable};
+ghost use Rattle.lnt_io.specs.Files.{Readable, RefusesOnly, TellsNoMore, Unreadable};
 
 use crate::source::{ReadFault, Source};
 use crate::{Counted, LIMIT, Opener};
@@ -25,6 +25,7 @@ impl<'n, R: Read + Drop> OpenedFile<'n, R> {
         ensures told { IfSome result (λ file. O.tells opener.old name.now (Readable (⟦<OpenedFile<'n, R> as Source>⟧.remaining file))) }
         ensures none { IsNone result → O.tells opener.old name.now Unreadable }
         ensures later { TellsNoMore (O.tells opener.old) (O.tells opener.new) }
+        ensures refused { RefusesOnly (λ other. IsNone result × (name.now ≡ other)) (O.refused opener.old) (O.refused opener.new) }
     {
         let reader = opener.reader_of(name)?;
         Some(OpenedFile {

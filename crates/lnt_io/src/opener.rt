@@ -1,6 +1,6 @@
 //! Files by their names.
 ghost use Rattle.std.specs.Prelude.{◌≡◌, ◌≢◌, ◌^◌, ◌<◌, ◌⊎◌, ℕ, List, IfOk, IfErr, IfSome, IsErrOf, IsNone, IsTrue, ⊤, false};
-ghost use Rattle.lnt_io.specs.Files.{AreBytesOf, FileState, Readable, TellsNoMore, Unreadable};
+ghost use Rattle.lnt_io.specs.Files.{AreBytesOf, FileState, Readable, RefusesOnly, TellsNoMore, Unreadable};
 ghost use Rattle.lnt_io.specs.Halts.{IsOpening};
 ghost use Rattle.lnt_io.specs.declared.halt.Halt.TheVariants.{Write};
 
@@ -14,20 +14,24 @@ const BLOCK: usize = 1 << 16;
 
 /// Gives readers of files by their names.
 ///
-/// Contracts see it by a ghost member, `tells`: what may be known of the file with a name. That is that it can't be read, or
-/// all its bytes; or `None` in their place, if its reader doesn't say them. By default anything may be known of each file, so
-/// nothing is said of any.
+/// Contracts see it by two ghost members. `tells` is what may be known of the file with a name. That is that it can't be read,
+/// or all its bytes; or `None` in their place, if its reader doesn't say them. `refused` is whether a call of `reader_of` may
+/// have given no reader for the file with a name so far. By default anything may be known of each file, and each may have been
+/// refused, so nothing is said of any.
 pub trait Opener {
     /// Reads a file from its first byte on.
     type Reader: Read + Drop;
 
     ghost tells: { Self → List ℕ → FileState → Type 0 } = { λ _ _ _. ⊤ };
 
+    ghost refused: { Self → List ℕ → Type 0 } = { λ _ _. ⊤ };
+
     /// A reader of the file with this name, or `None` if it can't be opened.
     fn reader_of(&mut self, name: &str) -> Option<Self::Reader>
         ensures told { IfSome result (λ reader. tells self.old name.now (Readable (Self.Reader.remaining reader))) }
         ensures none { IsNone result → tells self.old name.now Unreadable }
-        ensures later { TellsNoMore (tells self.old) (tells self.new) };
+        ensures later { TellsNoMore (tells self.old) (tells self.new) }
+        ensures refused { RefusesOnly (λ other. IsNone result × (name.now ≡ other)) (refused self.old) (refused self.new) };
 
     /// Takes note that a file couldn't be read whole: its source failed, or was found too long.
     fn could_not_read<'n>(&mut self, file: &OpenedFile<'n, Self::Reader>)
@@ -38,7 +42,7 @@ pub trait Opener {
 
     /// Another reader of a file that was read before. `None` if its bytes can't be read a second time, like those of
     /// standard input or of a pipe.
-    fn reader_again(&mut self, _name: &str) -> Option<Self::Reader> {
+    fn reader_again(&self, _name: &str) -> Option<Self::Reader> {
         None
     }
 
@@ -52,7 +56,7 @@ pub trait Opener {
 
     /// Why the last file that failed couldn't be opened or read, as the system reports it. `None` if it reports nothing, or
     /// if memory ran out.
-    fn reason(&mut self, _alloc: Global) -> Option<String> {
+    fn reason(&self, _alloc: Global) -> Option<String> {
         None
     }
 }
@@ -60,7 +64,7 @@ pub trait Opener {
 /// The file with this name, as a source of its bytes. It is read block by block, as they are needed.
 ///
 /// The source hasn't failed, wasn't found too long, and may give 2^40 bytes. It gives what the opener says of the file.
-/// Fails with `Read` if the opener gives no reader, and otherwise only with `Memory`.
+/// Fails with `Read` if the opener gives no reader (`refused`), and otherwise only with `Memory`.
 pub fn open_file<O: Opener>(
     alloc: Global,
     opener: &mut O,
@@ -72,6 +76,7 @@ pub fn open_file<O: Opener>(
     ensures told { IfOk result (λ source. O.tells opener.old name.now (Readable (⟦<Counted<BufReader<O::Reader>> as Source>⟧.remaining source))) }
     ensures none { IsErrOf result Halt.Read → O.tells opener.old name.now Unreadable }
     ensures later { TellsNoMore (O.tells opener.old) (O.tells opener.new) }
+    ensures refused { RefusesOnly (λ other. IsErrOf result Halt.Read × (name.now ≡ other)) (O.refused opener.old) (O.refused opener.new) }
     ensures err { IfErr result IsOpening }
 {
     match opener.reader_of(name) {
@@ -106,6 +111,7 @@ pub fn source_of<R: Read + Drop>(
 pub fn bytes_of_file<O: Opener>(alloc: Global, opener: &mut O, name: &str) -> Result<Vec<u8>, Halt>
     ensures bytes { IfOk result (λ bytes. AreBytesOf (O.tells opener.old name.now) bytes.items) }
     ensures later { TellsNoMore (O.tells opener.old) (O.tells opener.new) }
+    ensures refused { RefusesOnly (λ other. IsErrOf result Halt.Read × (name.now ≡ other)) (O.refused opener.old) (O.refused opener.new) }
     ensures err { IfErr result (λ halt. halt ≢ Write) }
 {
     let mut source = open_file(alloc, opener, name)?;

@@ -140,7 +140,7 @@ pub fn tell_bad<O: Opener, N: Write>(
     no: &No,
     seen: &Seen,
     given: &Given<'_>,
-    opener: &mut O,
+    opener: &O,
     notes: &mut N,
 ) -> io::Result<()>
     ensures { OnOk result (AddsNotes (N.contents notes.old) (N.contents notes.new)) }
@@ -170,7 +170,7 @@ pub fn tell_good<O: Opener, N: Write>(
     alloc: Global,
     hints: &Hints,
     given: &Given<'_>,
-    opener: &mut O,
+    opener: &O,
     notes: &mut N,
 ) -> io::Result<()>
     ensures { OnOk result (AddsNotes (N.contents notes.old) (N.contents notes.new)) }
@@ -197,7 +197,7 @@ fn tell_strings<O: Opener, N: Write>(
     unit: u64,
     which: EntryTable,
     given: &Given<'_>,
-    opener: &mut O,
+    opener: &O,
     notes: &mut N,
 ) -> io::Result<()>
     ensures { OnOk result (AddsNotes (N.contents notes.old) (N.contents notes.new)) }
@@ -220,7 +220,7 @@ fn strings_again<O: Opener>(
     unit: u64,
     which: EntryTable,
     given: &Given<'_>,
-    opener: &mut O,
+    opener: &O,
 ) -> Option<StringSection> {
     let reader = opener.reader_again(given.section)?;
     let mut source = source_of(alloc, reader).ok()?;
@@ -236,7 +236,7 @@ fn tell_dead<O: Opener, N: Write>(
     known: Option<u64>,
     all: bool,
     given: &Given<'_>,
-    opener: &mut O,
+    opener: &O,
     notes: &mut N,
 ) -> io::Result<()>
     ensures { OnOk result (AddsNotes (N.contents notes.old) (N.contents notes.new)) }
@@ -268,7 +268,7 @@ fn survey_again<O: Opener>(
     alloc: Global,
     all: bool,
     given: &Given<'_>,
-    opener: &mut O,
+    opener: &O,
 ) -> Option<Survey> {
     let reader = opener.reader_again(given.section)?;
     let mut source = source_of(alloc, reader).ok()?;
@@ -282,7 +282,7 @@ fn tell_copies<O: Opener, N: Write>(
     first: SeqId,
     second: SeqId,
     given: &Given<'_>,
-    opener: &mut O,
+    opener: &O,
     notes: &mut N,
 ) -> io::Result<()>
     ensures { OnOk result (AddsNotes (N.contents notes.old) (N.contents notes.new)) }
@@ -298,7 +298,7 @@ fn alike_again<O: Opener>(
     first: SeqId,
     second: SeqId,
     given: &Given<'_>,
-    opener: &mut O,
+    opener: &O,
 ) -> Option<bool> {
     let reader = opener.reader_again(given.section)?;
     let mut source = source_of(alloc, reader).ok()?;
@@ -311,7 +311,7 @@ pub fn tell_agreed<O: Opener, N: Write>(
     alloc: Global,
     given: &Given<'_>,
     table: &str,
-    opener: &mut O,
+    opener: &O,
     notes: &mut N,
 ) -> io::Result<()>
     ensures { OnOk result (AddsNotes (N.contents notes.old) (N.contents notes.new)) }
@@ -336,7 +336,7 @@ pub fn tell_table<O: Opener, N: Write>(
     fault: TableFault,
     columns: Columns,
     table: &str,
-    opener: &mut O,
+    opener: &O,
     notes: &mut N,
 ) -> io::Result<()>
     ensures { OnOk result (AddsNotes (N.contents notes.old) (N.contents notes.new)) }
@@ -362,6 +362,6 @@ pub fn tell_table<O: Opener, N: Write>(
     print_note(note, notes)
 }
 
-fn line_again<O: Opener>(alloc: Global, record: u64, table: &str, opener: &mut O) -> Option<u64> {
+fn line_again<O: Opener>(alloc: Global, record: u64, table: &str, opener: &O) -> Option<u64> {
     line_after(alloc, opener.reader_again(table)?, record).ok()?
 }

@@ -1,5 +1,6 @@
 use Rattle.std.proofs.Common.{map, rules, string_bytes}
 use Rattle.std.specs.Io.KnownBytes.{Keeps}
+use Rattle.lnt_cli.proofs.RefusedLemmas.{run_told}
 use Rattle.lnt_cli.proofs.RunLemmas.{words_answered, words_refused, words_stopped}
 use Rattle.lnt_cli.proofs.program.run_with_notes.Goals as goal
 
@@ -23,3 +24,9 @@ returns-clause-stop g c =
     (g.W.Write.contents c.args.out.now) (g.W.Write.contents c.answer.new.out) c.answer.result c.map_err.result c.map_err.ensures.cases
     (rw c.as_slice.ensures.value at (rw c.in-Ok.is at c.request_of.ensures.asked))
     c.answer.ensures.named c.answer.ensures.stopped
+
+pub returns-clause-refused : goal.returns-clause-refused
+returns-clause-refused g c =
+    run_told (g.O.Opener.tells c.args.opener.now) (map string_bytes c.args.words.items) c.in-Ok.asked c.answer.result c.map_err.result
+    (g.O.Opener.refused c.args.opener.now) (g.O.Opener.refused c.answer.new.opener) c.map_err.ensures.cases
+    (rw c.as_slice.ensures.value at (rw c.in-Ok.is at c.request_of.ensures.asked)) c.answer.ensures.refused

@@ -1,0 +1,41 @@
+-- Files that the opener refused.
+use Rattle.std.proofs.Common.{◌≡◌, ℕ, List, ◌⊎◌, Option, Result, Ok, Err, inl, inr}
+use Rattle.lnt_io.specs.Files.{FileState, Readable, RefusesOnly}
+use Rattle.lnt_io.specs.declared.status.Status.{Status}
+use Rattle.lnt_words.specs.Asking.{IsAskedBy}
+use Rattle.lnt_words.specs.declared.request.Asked.{Asked}
+use Rattle.lnt_words.specs.declared.request.Judging.{Judging}
+use Rattle.lnt_words.specs.declared.request.Question.{Question}
+use Rattle.lnt_words.specs.declared.request.Question.TheVariants.{Md5}
+use Rattle.lnt_cli.specs.Runs.{TellUnreadable}
+use Rattle.lnt_cli.specs.Stops.{AnswersUnreadable, IsToldUnreadable}
+use Rattle.lnt_cli.specs.declared.stop.CliStop.{CliStop}
+use Rattle.lnt_cli.specs.declared.stop.FileStop.{FileStop}
+use Rattle.lnt_cli.proofs.RunLemmas.{IsEndOf}
+
+-- Once the section is open, a file is refused only where the listed sums are asked for.
+pub sums_asked : (tells : List ℕ → FileState → Type 0) (from : Judging) (question : Question) (bytes : Option (List ℕ))
+    → tells from.section.now (Readable bytes) → question ≡ Md5 → AnswersUnreadable tells from question
+sums_asked tells from question bytes opened is = rw is (bytes, opened)
+
+-- The answer's stop tells an unreadable file, or the answer may: so does the run's, or the answer to the words.
+told_by_run : (tells : List ℕ → FileState → Type 0) (words : List (List ℕ)) (asked : Asked) (ended : Result Status FileStop)
+    (run : Result Status CliStop) (name : List ℕ) → IsEndOf ended run → IsAskedBy words asked
+    → IsToldUnreadable tells asked.request ended name → TellUnreadable tells words run name
+told_by_run tells words asked (Ok status) run name is is_asked (inl told) = absurd told
+told_by_run tells words asked (Err stop) (Ok status) name is is_asked (inl told) = absurd is
+told_by_run tells words asked (Err stop) (Err halted) name is is_asked (inl told) = rw is (inl told)
+told_by_run tells words asked ended run name is is_asked (inr may) = inr (asked, is_asked, may)
+
+before_or_told : {Old : Type 0} (tells : List ℕ → FileState → Type 0) (words : List (List ℕ)) (asked : Asked)
+    (ended : Result Status FileStop) (run : Result Status CliStop) (name : List ℕ) → IsEndOf ended run → IsAskedBy words asked
+    → Old ⊎ IsToldUnreadable tells asked.request ended name → Old ⊎ TellUnreadable tells words run name
+before_or_told tells words asked ended run name is is_asked (inl before) = inl before
+before_or_told tells words asked ended run name is is_asked (inr told) = inr (told_by_run tells words asked ended run name is is_asked told)
+
+-- the same of each file that was refused
+pub run_told : (tells : List ℕ → FileState → Type 0) (words : List (List ℕ)) (asked : Asked) (ended : Result Status FileStop)
+    (run : Result Status CliStop) (old new : List ℕ → Type 0) → IsEndOf ended run → IsAskedBy words asked
+    → RefusesOnly (IsToldUnreadable tells asked.request ended) old new → RefusesOnly (TellUnreadable tells words run) old new
+run_told tells words asked ended run old new is is_asked told name refused =
+    before_or_told tells words asked ended run name is is_asked (told name refused)
