@@ -1,4 +1,4 @@
--- What lookups by marks answer, the files that they name, and the marks that they leave.
+-- What lookups answer, the files that they name, and what they keep.
 use Rattle.std.proofs.Common.{◌≡◌, ℕ, ◌<◌, Bool, List, [], ◌∷◌, ◌++◌, length, get_or, Option, sym, ap, ◌∙◌, subst}
 use Rattle.std.specs.Prelude.{IfSome, IsSome}
 use Rattle.std.specs.List.{All}
@@ -11,8 +11,8 @@ use Rattle.lnt_spans.specs.declared.position.Position.{Position}
 use Rattle.lnt_sequences.specs.declared.sequence.SeqId.{SeqId}
 use Rattle.lnt_sequences.specs.Rules.{IsOrdered}
 use Rattle.lnt_sequences.specs.Sequences.{answer_of, line_answer, row_at}
-use Rattle.lnt_lines.specs.declared.lookups.Marked.{Marked}
-use Rattle.lnt_lines.specs.Finding.{Answers, IsMarkedIn}
+use Rattle.lnt_lines.specs.declared.lookups.Cached.{Cached}
+use Rattle.lnt_lines.specs.Finding.{Answers, IsCachedOf}
 use Rattle.lnt_lines.specs.Indexed.{file_path_in, Indexed, IsIndex, IsIndexOf, IsSequenceIn}
 use Rattle.lnt_lines.proofs.NamedLemmas.{answer_named}
 
@@ -35,20 +35,20 @@ pub named : (index : Indexed) (p : Position) (answer : Option Answer) → IsInde
     → IfSome answer (λ (a : Answer). IsSome (file_path_in index a.unit a.file))
 named index p answer is answers = answer_named index p answer is (answers is.dead is.skip is.units is.index_is)
 
--- ---- the marks
+-- ---- what is kept
 
--- those of one more sequence
-pub known_more : (index : Indexed) (known new : List Marked) (marked : Marked) → All (IsMarkedIn index) known → IsMarkedIn index marked
-    → new ≡ known ++ marked ∷ [] → All (IsMarkedIn index) new
-known_more index known new marked all is are =
-    subst (All (IsMarkedIn index)) (sym are)
-    (All-append (IsMarkedIn index) known (marked ∷ []) all (All-cons (IsMarkedIn index) marked [] is (All-nil (IsMarkedIn index))))
+-- that of one more sequence
+pub known_more : (index : Indexed) (known new : List Cached) (cached : Cached) → All (IsCachedOf index) known → IsCachedOf index cached
+    → new ≡ known ++ cached ∷ [] → All (IsCachedOf index) new
+known_more index known new cached all is are =
+    subst (All (IsCachedOf index)) (sym are)
+    (All-append (IsCachedOf index) known (cached ∷ []) all (All-cons (IsCachedOf index) cached [] is (All-nil (IsCachedOf index))))
 
--- those at a place, where the sequence with an id stands
-pub marked_at : (index : Indexed) (known found : List Marked) (k : ℕ) (marked : Marked) (id : SeqId) → found ≡ known
-    → (k < length found) × ((d : Marked) → (get_or found k d).id ≡ id) → marked ≡ get_or known k marked → All (IsMarkedIn index) known
-    → (marked.id ≡ id) × IsMarkedIn index marked
-marked_at index known found k marked id same is at all =
-    let few : k < length known = subst (λ (list : List Marked). k < length list) same is.0 in
-    let id_is : (get_or known k marked).id ≡ id = subst (λ (list : List Marked). (get_or list k marked).id ≡ id) same (is.1 marked) in
-    (ap (λ (m : Marked). m.id) at ∙ id_is, subst (IsMarkedIn index) (sym at) (all k marked few))
+-- that at a place, where the sequence with an id stands
+pub cached_at : (index : Indexed) (known found : List Cached) (k : ℕ) (cached : Cached) (id : SeqId) → found ≡ known
+    → (k < length found) × ((d : Cached) → (get_or found k d).id ≡ id) → cached ≡ get_or known k cached → All (IsCachedOf index) known
+    → (cached.id ≡ id) × IsCachedOf index cached
+cached_at index known found k cached id same is at all =
+    let few : k < length known = subst (λ (list : List Cached). k < length list) same is.0 in
+    let id_is : (get_or known k cached).id ≡ id = subst (λ (list : List Cached). (get_or list k cached).id ≡ id) same (is.1 cached) in
+    (ap (λ (m : Cached). m.id) at ∙ id_is, subst (IsCachedOf index) (sym at) (all k cached few))

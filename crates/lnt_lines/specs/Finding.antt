@@ -1,18 +1,16 @@
--- The sequence that holds a position, and marks in the sequences of an index. No public contract speaks of it.
+-- The sequence that holds a position, and what is kept of the sequences of an index. No public contract speaks of it.
 use Rattle.std.specs.Prelude.{◌≡◌, Bool, ℕ, List, Option}
 use Rattle.std.specs.List.{All}
 use Rattle.std.specs.Option.{option_map}
 use Rattle.lnt_header.specs.declared.unit_parts.UnitParts.{UnitParts}
 use Rattle.lnt_machine.specs.declared.row.Row.{Row}
-use Rattle.lnt_machine.specs.Walking.{SequenceWalk, WillGive}
 use Rattle.lnt_spans.specs.declared.position.Position.{Position}
-use Rattle.lnt_sequences.specs.declared.marks.Marks.{Marks}
 use Rattle.lnt_sequences.specs.declared.sequence.SeqId.{SeqId}
-use Rattle.lnt_sequences.specs.Marking.{AreMarksIn}
+use Rattle.lnt_sequences.specs.Briefs.{IsCacheOf}
 use Rattle.lnt_sequences.specs.Rules.{IsOrdered}
 use Rattle.lnt_sequences.specs.Sequences.{answer_of, line_answer, row_at}
+use Rattle.lnt_lines.specs.declared.lookups.Cached.{Cached}
 use Rattle.lnt_lines.specs.declared.lookups.Known.{Known}
-use Rattle.lnt_lines.specs.declared.lookups.Marked.{Marked}
 use Rattle.lnt_lines.specs.Indexed.{Indexed, IsSequenceIn}
 
 -- The sequence with this id has rows that answer, whose positions never fall.
@@ -23,14 +21,10 @@ pub record Answers (dead : Option ℕ) (skip : Bool) (units : List (ℕ × UnitP
   pub ordered : IsOrdered rows
   pub answer_is : line_answer dead skip units p ≡ option_map (answer_of id.unit) (row_at p rows)
 
--- the rows of the sequence with this id are to come
-abbrev pub GivesSequence : Indexed → SeqId → SequenceWalk → Type 0
-GivesSequence index id walk = (rows : List Row) → IsSequenceIn index.units index.programs id rows → WillGive rows walk
+-- it is kept of the sequence with its id
+abbrev pub IsCachedOf : Indexed → Cached → Type 0
+IsCachedOf index cached = (rows : List Row) → IsSequenceIn index.units index.programs cached.id rows → IsCacheOf rows cached.cache
 
--- the marks are in the sequence that they are kept of
-abbrev pub IsMarkedIn : Indexed → Marked → Type 0
-IsMarkedIn index marked = (rows : List Row) → IsSequenceIn index.units index.programs marked.id rows → AreMarksIn rows marked.marks
-
--- so are all of these
+-- so is all of this
 abbrev pub AreKnownOf : Indexed → Known → Type 0
-AreKnownOf index known = All (IsMarkedIn index) known.sequences.items
+AreKnownOf index known = All (IsCachedOf index) known.sequences.items

@@ -16,7 +16,7 @@ ghost use Rattle.lnt_sequences.specs.Spanning.{rows_left};
 ghost use Rattle.lnt_spans.specs.declared.span.Span.{Span};
 ghost use Rattle.lnt_lines.specs.Contents.{TellsOf};
 ghost use Rattle.lnt_lines.specs.Cursors.{GivesAllOf, room_of};
-ghost use Rattle.lnt_lines.specs.Finding.{Answers, GivesSequence};
+ghost use Rattle.lnt_lines.specs.Finding.{Answers};
 ghost use Rattle.lnt_lines.specs.Indexed.{HasOneOperation, IsIndex, IsIndexOf, IsSequenceIn};
 ghost use Rattle.lnt_lines.specs.Indexed.{file_count_in, file_path_in, file_sum_in, header_in};
 ghost use Rattle.lnt_spans.specs.Instructions.{IsOfInstructions};
@@ -49,13 +49,11 @@ pub struct Index<'a> {
 }
 
 // The sequence that holds a position.
-#[derive(Drop)]
-pub(crate) struct Held<'i> {
+#[derive(Clone, Copy)]
+pub(crate) struct Held {
     // the index of its entry
     pub place: usize,
     pub id: SeqId,
-    // all of its rows
-    pub rows: SequenceRows<'i>,
 }
 
 impl<'a> Model for Index<'a> {
@@ -125,21 +123,23 @@ impl<'a> Index<'a> {
         ensures rises { probes.old ≤ probes.new }
         ensures counted { (digits : ℕ) → length self.now.entries < 2 ^ digits → probes.new ≤ probes.old + digits }
     {
-        match self.held(position, probes) {
-            Some(held) => answer_at(held.id.unit, held.rows, position),
-            None => None,
-        }
+        let Some(held) = self.held(position, probes) else {
+            return None;
+        };
+        let Some(rows) = self.rows(held.id) else {
+            unreachable!()
+        };
+        answer_at(held.id.unit, rows, position)
     }
 
     // The kept sequence that holds the position, or `None` if none does. Comparisons are counted as in `lookup`.
-    pub(crate) fn held(&self, position: Position, probes: &mut Probes) -> Option<Held<'_>>
+    pub(crate) fn held(&self, position: Position, probes: &mut Probes) -> Option<Held>
         requires { probes.old ≤ 2 ^ 63 }
         ensures is_index { IsIndex self.now }
         ensures none { IfNone result ((dead : Option ℕ) (skip : Bool) (units : List (ℕ × UnitParts)) → IsIndexOf dead skip units self.now
             → None ≡ line_answer dead skip units position) }
         ensures answers { IfSome result (λ held. (dead : Option ℕ) (skip : Bool) (units : List (ℕ × UnitParts))
             → IsIndexOf dead skip units self.now → Answers dead skip units self.now position held.id) }
-        ensures gives { IfSome result (λ held. GivesSequence self.now held.id held.rows) }
         ensures rises { probes.old ≤ probes.new }
         ensures counted { (digits : ℕ) → length self.now.entries < 2 ^ digits → probes.new ≤ probes.old + digits }
     {
@@ -148,10 +148,14 @@ impl<'a> Index<'a> {
             return None;
         };
         let id = self.entries[place].id;
-        let Some(rows) = rows_of(&self.units, &self.programs, id) else {
-            unreachable!()
-        };
-        Some(Held { place, id, rows })
+        Some(Held { place, id })
+    }
+
+    // The rows of the sequence with an id.
+    pub(crate) fn rows(&self, id: SeqId) -> Option<SequenceRows<'_>>
+        ensures { (rows : List Row) → IsSequenceIn self.now.units self.now.programs id rows → IsSomeAnd result (WillGive rows) }
+    {
+        rows_of(&self.units, &self.programs, id)
     }
 
     // The number of sequences that hold a position.

@@ -5,23 +5,26 @@ ghost use Rattle.lnt_header.specs.declared.unit_parts.UnitParts.{UnitParts};
 ghost use Rattle.lnt_machine.specs.declared.row.Row.{Row};
 ghost use Rattle.lnt_sequences.specs.Rules.{IsOrdered};
 ghost use Rattle.lnt_sequences.specs.Sequences.{answer_of, line_answer, row_at};
-ghost use Rattle.lnt_lines.specs.declared.lookups.Marked.{Marked};
-ghost use Rattle.lnt_lines.specs.Finding.{AreKnownOf, GivesSequence, IsMarkedIn};
+ghost use Rattle.lnt_lines.specs.declared.lookups.Cached.{Cached};
+ghost use Rattle.lnt_lines.specs.Finding.{AreKnownOf, IsCachedOf};
 ghost use Rattle.lnt_lines.specs.Indexed.{Indexed, IsIndexOf, IsSequenceIn, file_path_in};
 
 use crate::index::{Held, Index};
-use lnt_sequences::{Marks, SeqId};
+use lnt_sequences::{RowCache, SeqId, answer_at};
 use lnt_spans::{Answer, Position, Probes};
 use std::alloc::{AllocError, Global};
 use std::marker::Model;
 
-// The number of marks that are close together at most, so that these take 3.3 MB.
-const CLOSE_MARKS: usize = 16_384;
+// The number of rows that are kept in brief at most: 4 MB.
+const ROOM: usize = 1 << 18;
 
-/// Lookups in an index. They leave marks in long sequences, so that a later lookup there walks over no more than the rows
-/// between two marks.
+// A place of a sequence that was looked up once.
+const ONCE: u32 = u32::MAX;
+
+/// Lookups in an index. From the second lookup in a sequence on they keep its rows in brief, so that a later one there decodes
+/// none; beyond a limit they keep marks, so that it walks over no more than the rows between two of them.
 ///
-/// Contracts see the index, but not the marks.
+/// Contracts see the index, but not what is kept.
 #[derive(Drop)]
 pub struct Lookups<'i, 'a> {
     index: &'i Index<'a>,
@@ -56,7 +59,7 @@ impl<'i, 'a> Lookups<'i, 'a> {
     }
 
     /// The answer at the position, the same as that of [`Index::lookup`], with as many comparisons of the position with
-    /// sequences. Only the rows from the last mark before the position up to it are decoded. Fails only if memory runs out.
+    /// sequences. Fails only if memory runs out.
     pub fn lookup(
         &mut self,
         alloc: Global,
@@ -72,73 +75,112 @@ impl<'i, 'a> Lookups<'i, 'a> {
         ensures counted { (digits : ℕ) → length self.old.entries < 2 ^ digits → probes.new ≤ probes.old + digits }
     {
         match self.index.held(position, probes) {
-            Some(held) => self.known.answer_at(alloc, held, position),
+            Some(held) => self.known.answer_at(alloc, self.index, held, position),
             None => Ok(None),
         }
     }
 }
 
-// The marks in a sequence.
+// What is kept of a sequence.
 #[derive(Drop)]
-struct Marked<'i> {
+struct Cached<'i> {
     id: SeqId,
-    marks: Marks<'i>,
+    cache: RowCache<'i>,
 }
 
-// The sequences with marks.
+// The sequences of which something is kept.
 #[derive(Drop)]
 struct Known<'i> {
-    sequences: Vec<Marked<'i>>,
-    // For each entry of the index, one more than the index of its sequence in `sequences`, or 0 if it has no marks. Only the time
-    // of a lookup depends on it.
+    sequences: Vec<Cached<'i>>,
+    // For each entry of the index, one more than the index of its sequence in `sequences`; 0 if it wasn't looked up, and `ONCE`
+    // if it was and nothing is kept. Only the time of a lookup depends on it.
     places: Vec<u32>,
-    // The number of marks that may yet be close together. Only the time and the memory of a lookup depend on it.
-    close: usize,
+    // The number of rows that may yet be kept. Only the time and the memory of a lookup depend on it.
+    room: usize,
 }
 
 impl<'i> Known<'i> {
-    // No marks, for this many entries.
+    // Nothing of this many entries.
     fn new(alloc: Global, count: usize) -> Result<Known<'i>, AllocError>
         ensures { IfOk result (λ known. (index : Indexed) → AreKnownOf index known) }
     {
         Ok(Known {
             sequences: Vec::new(alloc),
             places: vec![in alloc; 0; count]?,
-            close: CLOSE_MARKS,
+            room: ROOM,
         })
     }
 
     // What the sequence answers at the position.
+    #[inline(always)]
     fn answer_at(
         &mut self,
         alloc: Global,
-        held: Held<'i>,
+        index: &'i Index<'_>,
+        held: Held,
         position: Position,
     ) -> Result<Option<Answer>, AllocError>
-        ensures known { (index : Indexed) → GivesSequence index held.entry.id held.entry.rows → AreKnownOf index self.old → AreKnownOf index self.new }
-        ensures answer { IfOk result (λ answer. (index : Indexed) (rows : List Row) → GivesSequence index held.entry.id held.entry.rows
-            → AreKnownOf index self.old → IsSequenceIn index.units index.programs held.entry.id rows → IsOrdered rows
-            → answer ≡ option_map (answer_of held.entry.id.unit) (row_at position rows)) }
+        ensures known { AreKnownOf index.entry.now self.old → AreKnownOf index.entry.now self.new }
+        ensures answer { IfOk result (λ answer. (rows : List Row) → AreKnownOf index.entry.now self.old
+            → IsSequenceIn index.entry.now.units index.entry.now.programs held.id rows → IsOrdered rows
+            → answer ≡ option_map (answer_of held.id.unit) (row_at position rows)) }
     {
-        let Held { place, id, rows } = held;
+        match self.said_at(held, position) {
+            Some(answer) => Ok(answer),
+            None => self.decoded_at(alloc, index, held, position),
+        }
+    }
+
+    // The same, where rows that are kept in brief say it.
+    #[inline(always)]
+    fn said_at(&self, held: Held, position: Position) -> Option<Option<Answer>>
+        ensures { IfSome result (λ answer. (index : Indexed) (rows : List Row) → AreKnownOf index self.now
+            → IsSequenceIn index.units index.programs held.id rows → IsOrdered rows
+            → answer ≡ option_map (answer_of held.id.unit) (row_at position rows)) }
+    {
+        let known = place_in(&self.sequences, &self.places, held.place, held.id)?;
+        self.sequences[known].cache.said_at(held.id.unit, position)
+    }
+
+    // The same, where rows are decoded.
+    #[inline(never)]
+    fn decoded_at(
+        &mut self,
+        alloc: Global,
+        index: &'i Index<'_>,
+        held: Held,
+        position: Position,
+    ) -> Result<Option<Answer>, AllocError>
+        ensures known { AreKnownOf index.entry.now self.old → AreKnownOf index.entry.now self.new }
+        ensures answer { IfOk result (λ answer. (rows : List Row) → AreKnownOf index.entry.now self.old
+            → IsSequenceIn index.entry.now.units index.entry.now.programs held.id rows → IsOrdered rows
+            → answer ≡ option_map (answer_of held.id.unit) (row_at position rows)) }
+    {
+        let Held { place, id } = held;
+        let Some(rows) = index.rows(id) else {
+            return Ok(None);
+        };
         if let Some(known) = place_in(&self.sequences, &self.places, place, id) {
             return self.sequences[known]
-                .marks
-                .answer_at(id.unit, rows, position, &mut self.close);
+                .cache
+                .answer_at(id.unit, rows, position);
         }
-        let mut marks = Marks::new(alloc);
-        let answer = marks.answer_at(id.unit, rows, position, &mut self.close)?;
-        if !marks.is_empty() {
-            self.keep(place, Marked { id, marks })?;
+        if is_first(&mut self.places, place) {
+            return Ok(answer_at(id.unit, rows, position));
+        }
+        let mut cache = RowCache::new(alloc, rows.fork(), &mut self.room)?;
+        let answer = cache.answer_at(id.unit, rows, position)?;
+        if !cache.is_empty() {
+            self.keep(place, Cached { id, cache })?;
         }
         Ok(answer)
     }
 
-    // Keeps the marks in the sequence of an entry.
-    fn keep(&mut self, place: usize, marked: Marked<'i>) -> Result<(), AllocError>
-        ensures { (index : Indexed) → IsMarkedIn index marked.entry → AreKnownOf index self.old → AreKnownOf index self.new }
+    // Keeps this of the sequence of an entry.
+    fn keep(&mut self, place: usize, cached: Cached<'i>) -> Result<(), AllocError>
+        ensures { (index : Indexed) → IsCachedOf index cached.entry → AreKnownOf index self.old → AreKnownOf index self.new }
     {
-        self.sequences.push(marked)?;
+        self.sequences.push(cached)?;
         if let Some(known) = self.places.get_mut(place) {
             *known = u32::try_from(self.sequences.len()).unwrap_or(0);
         }
@@ -146,9 +188,20 @@ impl<'i> Known<'i> {
     }
 }
 
-// The index, among the sequences with marks, of the sequence with this id, which is that of the entry at a place.
-fn place_in(sequences: &[Marked<'_>], places: &[u32], place: usize, id: SeqId) -> Option<usize>
-    ensures { IfSome result (λ known. (known < length sequences.now) × ((d : Marked) → (slice_index_or sequences.now known d).id ≡ id)) }
+// Whether the sequence of an entry wasn't looked up before. Then it is looked up once.
+fn is_first(places: &mut [u32], place: usize) -> bool {
+    match places.get_mut(place) {
+        Some(known) if *known == 0 => {
+            *known = ONCE;
+            true
+        }
+        _ => false,
+    }
+}
+
+// The index, among the sequences of which something is kept, of the sequence with this id, which is that of the entry at a place.
+fn place_in(sequences: &[Cached<'_>], places: &[u32], place: usize, id: SeqId) -> Option<usize>
+    ensures { IfSome result (λ known. (known < length sequences.now) × ((d : Cached) → (slice_index_or sequences.now known d).id ≡ id)) }
 {
     let after = *places.get(place)?;
     let known = (after as usize).checked_sub(1)?;

@@ -127,6 +127,19 @@ pub gives_some : (old new : SequenceWalk) (result : Option Row) → old.ended �
 gives_some old new result going gives ended rows (none e empty) = absurd (true≢false (sym e ∙ going))
 gives_some old new result going gives ended rows (some h all e has are) = gives_by h all rows result new (gives h all has) ended are
 
+-- a short operation without a row
+pub short_quiet : (old new : SequenceWalk) → old.ended ≡ false → new.ended ≡ false
+    → ((h : HeaderParts) (rows : List Row) → HasRows h rows old.machine old.walk → HasRows h rows new.machine new.walk) → (rows : List Row)
+    → WillGive rows old → WillGive rows new
+short_quiet old new going on same rows (none e empty) = absurd (true≢false (sym e ∙ going))
+short_quiet old new going on same rows (some h all e has are) = some h all on (same h all has) are
+
+-- no line is out of range
+pub short_out : (old : SequenceWalk) (view : OpView) (new : Walk) → old.ended ≡ false → walks.GivesOperation view old.walk new
+    → LeavesRange view old.machine → (rows : List Row) → WillGive rows old → ⊥
+short_out old view new going step leaves rows (none e empty) = absurd (true≢false (sym e ∙ going))
+short_out old view new going step leaves rows (some h all e has are) = next_out h all view old.walk new old.machine has step leaves
+
 pub has_begun : (h : HeaderParts) (program : List ℕ) (earlier later : List Op) (place : ℕ) (machine : MachineState) (walk : Walk)
     → IsHeader h
     → IsSequencePlace h program earlier later place

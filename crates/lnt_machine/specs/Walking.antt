@@ -51,6 +51,12 @@ GivesFirstRow _ _ new = ⊥
 abbrev pub GivesRow : SequenceWalk → Option Row → SequenceWalk → Type 0
 GivesRow old result new = (rows : List Row) → WillGive rows old → GivesFirstRow rows result new
 
+-- A short operation was done, if one came next. The first of the rows was given, or the same rows are still to come.
+abbrev pub ComesShort : SequenceWalk → Option (Option Row) → SequenceWalk → Type 0
+ComesShort old (Some (Some row)) new = GivesRow old (Some row) new
+ComesShort old (Some None) new = (rows : List Row) → WillGive rows old → WillGive rows new
+ComesShort old None new = (rows : List Row) → WillGive rows old → WillGive rows new
+
 -- A sequence begins at this place of the program, after the earlier operations, and the lines of the later ones are in range.
 pub record IsSequencePlace (h : HeaderParts) (program : List ℕ) (earlier later : List Op) (place : ℕ) : Type 0 where
   pub place_is : IsPlace h program earlier later place

@@ -5,7 +5,7 @@ ghost use Rattle.lnt_header.specs.declared.header.HeaderParts.{HeaderParts};
 ghost use Rattle.lnt_header.specs.declared.op.Op.{Op};
 ghost use Rattle.lnt_machine.specs.Matrix.{rows_after};
 ghost use Rattle.lnt_machine.specs.Parts.{first_sequence};
-ghost use Rattle.lnt_machine.specs.Walking.{GivesRow, HasRows, IsSequencePlace, WillGive};
+ghost use Rattle.lnt_machine.specs.Walking.{ComesShort, GivesRow, HasRows, IsSequencePlace, WillGive};
 ghost use Rattle.lnt_machine.specs.Stepping.{ComesNext, GivesNext};
 ghost use Rattle.lnt_machine.specs.declared.row.Row as spec;
 
@@ -63,6 +63,31 @@ impl<'a> SequenceRows<'a> {
             ops: self.ops.fork(),
             ended: self.ended,
         }
+    }
+
+    /// Does the next operation, if it is short, and returns the row that it appends, if any. `None` if no short operation
+    /// comes next, or the rows have ended; then the same rows are still to come. For loops over many rows, since it is inlined;
+    /// `next` returns what comes. Allocates nothing.
+    #[tactic(auto, using(crate::proofs::WalkingLemmas::may_step))]
+    #[inline(always)]
+    pub fn step_short(&mut self) -> Option<Option<Row>>
+        ensures comes { ComesShort self.old result self.new }
+        ensures shorter { IfSome result (λ _. length self.new.walk.at.rest < length self.old.walk.at.rest) }
+    {
+        if self.ended {
+            return None;
+        }
+        let Some(op) = self.ops.next_short() else {
+            return None;
+        };
+        let Ok(made) = self.machine.step(&op) else {
+            return None;
+        };
+        let Some(row) = made else {
+            return Some(None);
+        };
+        self.ended = row.end_sequence;
+        Some(Some(row))
     }
 }
 

@@ -49,7 +49,7 @@ mark_after rows old new last row is gives = by_left is.left is.rows_are (gives i
 -- ---- the last row that isn't above a position
 
 -- it is the last of some rows, where none of those after them is it
-found_before : (p : Position) (seen tail : List Row) → row_at p tail ≡ None → IsNotAbove (last_row seen) p
+pub found_before : (p : Position) (seen tail : List Row) → row_at p tail ≡ None → IsNotAbove (last_row seen) p
     → last_row seen ≡ row_at p (seen ++ tail)
 found_before p [] tail none at = sym none
 found_before p (row ∷ []) tail none at =
@@ -63,7 +63,7 @@ found_before p (row ∷ next ∷ more) tail none at =
     ∙ sym (row_at_cons p row ((next ∷ more) ++ tail)
     ∙ ap (λ (o : Option Row). option_or o (cond (is_at_most (position_of row) p) (Some row) None)) (sym some))
 
-ordered_tail : (seen rows : List Row) → IsOrdered (seen ++ rows) → IsOrdered rows
+pub ordered_tail : (seen rows : List Row) → IsOrdered (seen ++ rows) → IsOrdered rows
 ordered_tail [] rows ordered = ordered
 ordered_tail (row ∷ seen) rows ordered =
     ordered_tail seen rows (λ i j d l m. ordered (suc i) (suc j) d (omega arith) (omega arith))

@@ -15,10 +15,7 @@ use lnt_machine::{Row, SequenceRows};
 use lnt_spans::{Answer, Position};
 use std::alloc::{AllocError, Global};
 
-// The number of rows from one mark to the next where marks may be close together. A lookup decodes half of them, on average.
-const CLOSE: usize = 16;
-
-// The same where they may not. A mark takes 200 bytes, and a row of a section one at least.
+// The number of rows from one mark to the next. A mark takes 200 bytes, and a row of a section one at least.
 pub(crate) const WIDE: usize = 128;
 
 // A place in the rows of a sequence: the last row before it, if there is one, and the rows after it.
@@ -86,15 +83,15 @@ impl<'a> Mark<'a> {
     }
 }
 
-/// Marks in the rows of one sequence, as far as lookups went: one after every so many rows, and none in a shorter sequence.
+// Marks in the rows of one sequence, as far as lookups went: one after every so many rows, and none in a shorter sequence.
 #[derive(Drop)]
-pub struct Marks<'a> {
+pub(crate) struct Marks<'a> {
     marks: Vec<Mark<'a>>,
 }
 
 impl<'a> Marks<'a> {
-    /// No marks. It takes no memory.
-    pub fn new(alloc: Global) -> Marks<'a>
+    // No marks. It takes no memory.
+    pub(crate) fn new(alloc: Global) -> Marks<'a>
         ensures { (rows : List spec.Row) → AreMarksIn rows result }
     {
         Marks {
@@ -102,30 +99,25 @@ impl<'a> Marks<'a> {
         }
     }
 
-    /// Whether there are none. Then they are marks in the rows of any sequence.
-    pub fn is_empty(&self) -> bool
-        ensures { result ≡ true → (rows : List spec.Row) → AreMarksIn rows self.now }
-    {
+    // Whether there are none.
+    pub(crate) fn is_empty(&self) -> bool {
         self.marks.is_empty()
     }
 
-    /// What the sequence that the marks are in answers at a position, as [`answer_at`](crate::answer_at) of all of its rows.
-    ///
-    /// It walks over the rows after the last mark that isn't above the position, and adds a mark wherever it comes to a next
-    /// one. Up to `close` marks are close together; each mark that is added lowers it by one. The one error is that memory ran
-    /// out. The marks are in the same sequence then, too.
-    pub fn answer_at(
+    // What the sequence that the marks are in answers at a position. It walks over the rows after the last mark that isn't above
+    // the position, and adds a mark wherever it comes to a next one. The one error is that memory ran out. The marks are in the
+    // same sequence then, too.
+    pub(crate) fn answer_at(
         &mut self,
         unit: u64,
         rows: SequenceRows<'a>,
         position: Position,
-        close: &mut usize,
     ) -> Result<Option<Answer>, AllocError>
         ensures marks { (list : List spec.Row) → WillGive list rows.entry → AreMarksIn list self.old → AreMarksIn list self.new }
         ensures answer { IfOk result (λ answer. (list : List spec.Row) → WillGive list rows.entry → AreMarksIn list self.old
             → IsOrdered list → answer ≡ option_map (sequence.answer_of unit) (sequence.row_at position list)) }
     {
-        Ok(said_by(unit, self.row_at(rows, position, close)?))
+        Ok(said_by(unit, self.row_at(rows, position)?))
     }
 
     // The last row of the sequence that isn't above the position.
@@ -133,15 +125,13 @@ impl<'a> Marks<'a> {
         &mut self,
         rows: SequenceRows<'a>,
         position: Position,
-        close: &mut usize,
     ) -> Result<Option<Row>, AllocError>
         ensures marks { (list : List spec.Row) → WillGive list rows.entry → AreMarksIn list self.old → AreMarksIn list self.new }
         ensures found { IfOk result (λ row. (list : List spec.Row) → WillGive list rows.entry → AreMarksIn list self.old
             → IsOrdered list → row ≡ sequence.row_at position list) }
     {
         let mut mark = self.nearest(rows, position);
-        while mark.go_on(position, spacing(*close)) {
-            *close = close.saturating_sub(1);
+        while mark.go_on(position, WIDE) {
             self.marks.push(mark.fork())?;
         }
         Ok(mark.last)
@@ -167,11 +157,4 @@ impl<'a> Marks<'a> {
         }
         Mark::before(rows)
     }
-}
-
-// The number of rows from one mark to the next, where so many may yet be close together.
-fn spacing(close: usize) -> usize
-    ensures { 0 < result }
-{
-    if close == 0 { WIDE } else { CLOSE }
 }

@@ -1,14 +1,19 @@
-use Rattle.std.proofs.Common.{sym, ◌∙◌}
 use Rattle.lnt_lines.proofs.LookupLemmas.{answered, named}
 use Rattle.lnt_lines.proofs.index.Index.lookup.Goals as goal
 
-pub returns-in-Some-clause-answer : goal.returns-in-Some-clause-answer
-returns-in-Some-clause-answer c =
-    answered c.args.self.now c.args.position c.in-Some.held.id c.answer_at.result c.in-Some.ensures.answers
-    (λ rows is ordered. c.answer_at.ensures rows (c.in-Some.ensures.gives rows is) ordered)
+pub unreachable-requires : goal.unreachable-requires
+unreachable-requires c =
+    let is = c.in-Some.ensures.is_index in
+    let found = c.in-Some.ensures.answers is.dead is.skip is.units is.index_is in
+    absurd (c.in_default-rows.ensures found.rows found.sequence_is)
 
-pub returns-in-Some-clause-named : goal.returns-in-Some-clause-named
-returns-in-Some-clause-named c =
+pub returns-clause-answer : goal.returns-clause-answer
+returns-clause-answer c =
+    answered c.args.self.now c.args.position c.in-Some.held.id c.answer_at.result c.in-Some.ensures.answers
+    (λ rows is ordered. c.answer_at.ensures rows (c.in-Some-rows.ensures rows is) ordered)
+
+pub returns-clause-named : goal.returns-clause-named
+returns-clause-named c =
     named c.args.self.now c.args.position c.answer_at.result c.in-Some.ensures.is_index
     (answered c.args.self.now c.args.position c.in-Some.held.id c.answer_at.result c.in-Some.ensures.answers
-    (λ rows is ordered. c.answer_at.ensures rows (c.in-Some.ensures.gives rows is) ordered))
+    (λ rows is ordered. c.answer_at.ensures rows (c.in-Some-rows.ensures rows is) ordered))

@@ -7,7 +7,7 @@ use Rattle.lnt_lines.proofs.LookupLemmas.{answered, AnswersIn, named}
 use Rattle.lnt_lines.proofs.lookups.Lookups.lookup.Goals as goal
 
 pub invariant_of-self : goal.invariant_of-self
-invariant_of-self c = c.answer_at.ensures.known c.self.inside.index.now c.in-Some.ensures.gives c.self.invariant
+invariant_of-self c = c.answer_at.ensures.known c.self.invariant
 
 pub returns-in-Some-clause-answer : goal.returns-in-Some-clause-answer
 returns-in-Some-clause-answer c =
@@ -16,7 +16,7 @@ returns-in-Some-clause-answer c =
     (IfOk-weaker c.answer_at.result _ (AnswersIn index c.args.position)
     (λ answer found.
     answered index c.args.position c.in-Some.held.id answer c.in-Some.ensures.answers
-    (λ rows is ordered. found index rows c.in-Some.ensures.gives c.self.invariant is ordered))
+    (λ rows is ordered. found rows c.self.invariant is ordered))
     c.answer_at.ensures.answer)
 
 pub returns-in-Some-clause-named : goal.returns-in-Some-clause-named
@@ -28,5 +28,5 @@ returns-in-Some-clause-named c =
     (λ answer found.
     named index c.args.position answer c.in-Some.ensures.is_index
     (answered index c.args.position c.in-Some.held.id answer c.in-Some.ensures.answers
-    (λ rows is ordered. found index rows c.in-Some.ensures.gives c.self.invariant is ordered)))
+    (λ rows is ordered. found rows c.self.invariant is ordered)))
     c.answer_at.ensures.answer)

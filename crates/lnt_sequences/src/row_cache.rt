@@ -1,0 +1,79 @@
+//! What is kept of the rows of one sequence, for later lookups.
+ghost use Rattle.std.specs.Prelude.{◌≡◌, List, IfOk, IfSome};
+ghost use Rattle.std.specs.Option.{option_map};
+ghost use Rattle.lnt_machine.specs.Walking.{WillGive};
+ghost use Rattle.lnt_machine.specs.declared.row.Row as spec;
+ghost use Rattle.lnt_sequences.specs.Briefs.{IsCacheOf};
+ghost use Rattle.lnt_sequences.specs.Rules.{IsOrdered};
+ghost use Rattle.lnt_sequences.specs.Sequences as sequence;
+
+use crate::brief::BriefRows;
+use crate::marks::Marks;
+use lnt_machine::SequenceRows;
+use lnt_spans::{Answer, Position};
+use std::alloc::{AllocError, Global};
+
+// What a cache takes beside its rows, in rows in brief: 160 bytes.
+const OWN: usize = 10;
+
+/// What is kept of the rows of one sequence, for later lookups: the first of them in brief, or all, and marks in the others.
+#[derive(Drop)]
+pub struct RowCache<'a> {
+    brief: BriefRows,
+    marks: Marks<'a>,
+}
+
+impl<'a> RowCache<'a> {
+    /// Keeps the first rows of a sequence in brief, at most `room` of them: those before the first with a number that is too
+    /// large. What is taken is subtracted from `room`. Fails only if memory runs out.
+    pub fn new(
+        alloc: Global,
+        rows: SequenceRows<'_>,
+        room: &mut usize,
+    ) -> Result<RowCache<'a>, AllocError>
+        ensures { IfOk result (λ cache. (list : List spec.Row) → WillGive list rows.entry → IsCacheOf list cache) }
+    {
+        let brief = BriefRows::of(alloc, rows, *room)?;
+        *room = room.saturating_sub(brief.count()).saturating_sub(OWN);
+        Ok(RowCache {
+            brief,
+            marks: Marks::new(alloc),
+        })
+    }
+
+    /// Whether nothing is kept.
+    pub fn is_empty(&self) -> bool {
+        self.brief.count() == 0 && self.marks.is_empty()
+    }
+
+    /// What the sequence answers at a position, as [`answer_at`](crate::answer_at) of all of its rows. `None` if the rows that
+    /// are kept don't say it. It decodes nothing.
+    #[inline(always)]
+    pub fn said_at(&self, unit: u64, position: Position) -> Option<Option<Answer>>
+        ensures { IfSome result (λ answer. (list : List spec.Row) → IsCacheOf list self.now → IsOrdered list
+            → answer ≡ option_map (sequence.answer_of unit) (sequence.row_at position list)) }
+    {
+        let count = self.brief.reached(position)?;
+        Some(self.brief.answer(unit, count))
+    }
+
+    /// The same of any position, of the sequence with these rows.
+    ///
+    /// Where the rows that are kept don't say it, it walks over the rows after the last mark that isn't above the position, and
+    /// adds a mark wherever it comes to a next one. The one error is that memory ran out.
+    pub fn answer_at(
+        &mut self,
+        unit: u64,
+        rows: SequenceRows<'a>,
+        position: Position,
+    ) -> Result<Option<Answer>, AllocError>
+        ensures cache { (list : List spec.Row) → WillGive list rows.entry → IsCacheOf list self.old → IsCacheOf list self.new }
+        ensures answer { IfOk result (λ answer. (list : List spec.Row) → WillGive list rows.entry → IsCacheOf list self.old
+            → IsOrdered list → answer ≡ option_map (sequence.answer_of unit) (sequence.row_at position list)) }
+    {
+        match self.said_at(unit, position) {
+            Some(answer) => Ok(answer),
+            None => self.marks.answer_at(unit, rows, position),
+        }
+    }
+}
