@@ -1,22 +1,21 @@
 -- The answers to a text of positions, where the writer was stopped.
-use Rattle.std.proofs.Common.{◌≡◌, ◌∙◌, Bool, false, ℕ, ◌+◌, ◌<◌, List, [], ◌∷◌, ◌++◌, length, map}
-use Rattle.std.proofs.Common.{take, drop, Option, Some, None, IfSome}
+use Rattle.std.proofs.Common.{◌≡◌, ◌∙◌, Bool, false, ℕ, ◌<◌, List, [], ◌∷◌, ◌++◌, length, map}
+use Rattle.std.proofs.Common.{Option, Some, None, IfSome}
 use Rattle.std.proofs.Common.{refl, sym, ap, subst, append_assoc, append-nil, arith}
 use Rattle.std.proofs.lemmas.List.Concat.{flat_map-append}
 use Rattle.std.proofs.ByRecursion.{All-append as all_append}
 use Rattle.std.specs.List.{flat_map}
-use Rattle.std.specs.Str.Lines.{lines, strip_carriage_return}
+use Rattle.std.specs.Str.Lines.{lines}
 use Rattle.lnt_io.specs.Fronts.{AppendsFront}
 use Rattle.lnt_io.proofs.FrontLaws.{front_after, front_all, front_before, front_none, front_same}
 use Rattle.lnt_io.specs.Pulling.{Pulls, IsAtEnd}
 use Rattle.lnt_io.specs.declared.status.Status.{Status}
-use Rattle.lnt_spans.specs.declared.position.Position.{Position}
-use Rattle.lnt_header.specs.declared.unit_parts.UnitParts.{UnitParts}
-use Rattle.lnt_lines.specs.Indexed.{Indexed, IsIndexOf}
-use Rattle.lnt_answers.specs.AddressBlocks.{IsBlockBegun, IsBlockTold, IsCutAt}
+use Rattle.lnt_lines.specs.Indexed.{Indexed}
+use Rattle.lnt_answers.specs.AddressBlocks.{AreFirstBegun, AreFirstTold}
 use Rattle.lnt_answers.specs.AddressLines.{AreAddressesBegun, AreLinesBegun, AreLinesTold, Tells, told_line}
-use Rattle.lnt_answers.proofs.AddressLemmas.{IsTextTold, cut_ended, cut_within, line_last, texts_append}
+use Rattle.lnt_answers.proofs.AddressLemmas.{IsTextTold, cut_ended, line_last, texts_append}
 use Rattle.lnt_answers.proofs.AddressWholes.{tell_lines}
+use Rattle.lnt_answers.proofs.RoomLaws.{text_in_room}
 
 -- ---- lines
 
@@ -33,21 +32,7 @@ begun_told index op texts old new s t all = record {
   front = λ dead skip units is. front_all old new (flat_map (told_line index dead skip units) all.told) (all.printed dead skip units is);
 }
 
--- one line
-pub begun_one : (index : Indexed) (op : ℕ) (line : List ℕ) (position : Option Position) (old new : Option (List ℕ))
-    → Tells op (line, position)
-    → ((dead : Option ℕ) (skip : Bool) (units : List (ℕ × UnitParts)) → IsIndexOf dead skip units index
-    → AppendsFront old new (told_line index dead skip units (line, position)))
-    → AreLinesBegun index op (line ∷ []) old new
-begun_one index op line position old new tells front = record {
-  told = (line, position) ∷ [];
-  lines_are = refl;
-  so = (tells, tt);
-  front = λ dead skip units is. front_same old new _ _ (sym (append-nil (told_line index dead skip units (line, position))))
-      (front dead skip units is);
-}
-
--- and those before it
+-- those before some of which a prefix was written
 begun_append : (index : Indexed) (op : ℕ) (xs ys : List (List ℕ)) (old now new : Option (List ℕ)) (s t : Status)
     → AreLinesTold index op xs old now s t → AreLinesBegun index op ys now new → AreLinesBegun index op (xs ++ ys) old new
 begun_append index op xs ys old now new s t a b = record {
@@ -77,30 +62,45 @@ begun_before index op xs ys old new begun =
           (front_before old new (flat_map text begun.told) (flat_map text others.0) (begun.front dead skip units is));
     }
 
--- ---- a block
+-- nothing was written
+pub begun_nothing : (index : Indexed) (op : ℕ) (texts : List (List ℕ)) (old : Option (List ℕ)) → AreLinesBegun index op texts old old
+begun_nothing index op texts old = begun_before index op [] texts old old (begun_none index op old)
 
--- within the answer to a line that ends at this index of the block
-pub block_stopped : (index : Indexed) (op : ℕ) (line block left rest : List ℕ) (place : ℕ) (full stripped : List ℕ)
-    (old now new : Option (List ℕ)) (s t : Status)
-    → IsBlockTold index op line block left rest old now s t → IsCutAt 10 place rest → full ≡ left ++ take place rest
-    → stripped ≡ strip_carriage_return full → AreLinesBegun index op (stripped ∷ []) now new
-    → IsBlockBegun index op line block old new
-block_stopped index op line block left rest place full stripped old now new s t before at full_is stripped_is begun = record {
-  texts = before.texts ++ stripped ∷ [];
-  begun = begun_append index op before.texts (stripped ∷ []) old now new s t before.told begun;
-  cut = λ more. (
-    lines (drop (place + 1) rest ++ more),
-    sym (cut_within index op line block left rest place full stripped old now s t before at full_is stripped_is more),
-  );
+-- within their lines, which were made in an empty buffer
+pub begun_sending : (index : Indexed) (op : ℕ) (texts : List (List ℕ)) (none made : List ℕ) (old new : Option (List ℕ)) (s t : Status)
+    → AreLinesTold index op texts (Some none) (Some made) s t → none ≡ [] → AppendsFront old new made → AreLinesBegun index op texts old new
+begun_sending index op texts none made old new s t all empty front = record {
+  told = all.told;
+  lines_are = all.lines_are;
+  so = all.so;
+  front = λ dead skip units is.
+      front_same old new made _
+      (text_in_room none made made (flat_map (told_line index dead skip units) all.told) empty (all.printed dead skip units is) refl) front;
 }
 
+-- ---- the first lines of a text
+
 -- after a line
-pub block_kept : (index : Indexed) (op : ℕ) (line block left rest : List ℕ) (old now : Option (List ℕ)) (s t : Status)
-    → IsBlockTold index op line block left rest old now s t → IsBlockBegun index op line block old now
-block_kept index op line block left rest old now s t before = record {
-  texts = before.texts;
-  begun = begun_told index op before.texts old now s t before.told;
-  cut = λ more. (lines (left ++ (rest ++ more)), sym (before.cut more));
+pub first_kept : (index : Indexed) (op : ℕ) (text rest : List ℕ) (old new : Option (List ℕ)) (s t : Status)
+    → AreFirstTold index op text rest old new s t → AreFirstBegun index op text old new
+first_kept index op text rest old new s t first = record {
+  texts = first.texts;
+  begun = begun_told index op first.texts old new s t first.told;
+  cut = λ more. (lines (rest ++ more), sym (first.cut more));
+}
+
+-- within those after some
+pub first_stopped : (index : Indexed) (op : ℕ) (text mid rest none made : List ℕ) (old now new : Option (List ℕ)) (s t u : Status)
+    → AreFirstTold index op text mid old now s t → AreFirstTold index op mid rest (Some none) (Some made) t u → none ≡ []
+    → AppendsFront now new made → AreFirstBegun index op text old new
+first_stopped index op text mid rest none made old now new s t u a b empty front = record {
+  texts = a.texts ++ b.texts;
+  begun = begun_append index op a.texts b.texts old now new s t a.told
+      (begun_sending index op b.texts none made now new t u b.told empty front);
+  cut = λ more. (
+    lines (rest ++ more),
+    append_assoc a.texts b.texts (lines (rest ++ more)) ∙ ap (λ (z : List (List ℕ)). a.texts ++ z) (sym (b.cut more)) ∙ sym (a.cut more),
+  );
 }
 
 -- ---- a whole text
@@ -115,7 +115,7 @@ begun_in index op (Some text) texts rest old new e begun =
 
 pub text_unbegun : (index : Indexed) (op : ℕ) (start : Option (List ℕ)) (old : Option (List ℕ)) → AreAddressesBegun index op start old old
 text_unbegun index op None old = tt
-text_unbegun index op (Some text) old = begun_before index op [] (lines text) old old (begun_none index op old)
+text_unbegun index op (Some text) old = begun_nothing index op (lines text) old
 
 -- between two blocks
 pub text_kept_begun : (index : Indexed) (op : ℕ) (start now : Option (List ℕ)) (line : List ℕ) (old new : Option (List ℕ)) (status : Status)
@@ -129,7 +129,7 @@ text_kept_begun index op (Some text) (Some rest) line old new status before =
 -- within a block
 pub text_stopped : (index : Indexed) (op : ℕ) (start mid now : Option (List ℕ)) (line block : List ℕ) (old then new : Option (List ℕ))
     (s : Status)
-    → IsTextTold index op start mid line old then s → Pulls mid now block → IsBlockBegun index op line block then new
+    → IsTextTold index op start mid line old then s → Pulls mid now block → AreFirstBegun index op (line ++ block) then new
     → AreAddressesBegun index op start old new
 text_stopped index op None mid now line block old then new s before pulls begun = tt
 text_stopped index op (Some text) None now line block old then new s before pulls begun = absurd before.cut
@@ -138,7 +138,8 @@ text_stopped index op (Some text) (Some x) (Some y) line block old then new s be
     let after = begun.cut y in
     begun_in index op (Some text) (before.texts ++ begun.texts) after.0 old new
     (append_assoc before.texts begun.texts after.0 ∙ ap (λ (z : List (List ℕ)). before.texts ++ z) after.1
-    ∙ sym (before.cut ∙ ap (λ (z : List ℕ). before.texts ++ lines (line ++ z)) pulls))
+    ∙ sym (before.cut ∙ ap (λ (z : List ℕ). before.texts ++ lines (line ++ z)) pulls
+    ∙ ap (λ (z : List ℕ). before.texts ++ lines z) (sym (append_assoc line block y))))
     (begun_append index op before.texts begun.texts old then new _ s before.told begun.begun)
 
 -- within the answer to a last line without a line feed

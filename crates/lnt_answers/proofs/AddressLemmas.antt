@@ -20,13 +20,15 @@ use Rattle.lnt_io.specs.declared.status.Status.TheVariants.{Done}
 use Rattle.lnt_spans.specs.declared.position.Position.{Position}
 use Rattle.lnt_header.specs.declared.unit_parts.UnitParts.{UnitParts}
 use Rattle.lnt_lines.specs.Indexed.{Indexed, IsIndexOf}
-use Rattle.lnt_answers.specs.AddressBlocks.{HasNo, IsBlockTold, IsCutAt}
+use Rattle.lnt_answers.specs.AddressBlocks.{AreFirstTold, BeginsWithLine, HasNo, IsCut}
+use Rattle.lnt_answers.proofs.RoomLaws.{text_in_room}
 use Rattle.lnt_answers.specs.AddressLines.{AreAddressesTold, AreLinesTold, Tells, line_status, lines_status, told_line}
+use Rattle.lnt_answers.specs.Lines.{lookup_line}
 
 -- ---- where a line ends
 
 pub cut_found : (byte : ℕ) (text : List ℕ) (k : ℕ) → k < length text → ((j : ℕ) → j < k → (get_or text j 0 == byte) ≡ false)
-    → get_or text k 0 ≡ byte → IsCutAt byte k text
+    → get_or text k 0 ≡ byte → IsCut byte text (take k text) (drop (k + 1) text)
 cut_found byte text k lt before is = (
   sym (take-append-drop k text) ∙ ap (λ (z : List ℕ). take k text ++ z) (drop_more text k 0 lt ∙ ap (λ (b : ℕ). b ∷ drop (k + 1) text) is),
   λ j d few. let other = before j in grind (arith, common_steps),
@@ -101,55 +103,90 @@ told_append index op xs ys old now new s t u a b = record {
   status_is = b.status_is ∙ ap (λ (z : Status). lines_status z b.told) a.status_is ∙ sym (status_append s a.told b.told);
 }
 
--- ---- a block
-
--- the lines up to the index of the block at which the current line ends
-pub cut_within : (index : Indexed) (op : ℕ) (line block left rest : List ℕ) (place : ℕ) (full stripped : List ℕ)
-    (old now : Option (List ℕ)) (s t : Status)
-    → (before : IsBlockTold index op line block left rest old now s t) → IsCutAt 10 place rest → full ≡ left ++ take place rest
-    → stripped ≡ strip_carriage_return full
-    → (more : List ℕ) → lines (line ++ (block ++ more)) ≡ (before.texts ++ stripped ∷ []) ++ lines (drop (place + 1) rest ++ more)
-cut_within index op line block left rest place full stripped old now s t before at full_is stripped_is more =
-    let front = take place rest in
-    let back = drop (place + 1) rest in
-    let whole : HasNo 10 (left ++ front) = All-append (λ other. (other == 10) ≡ false) left front before.whole at.1 in
-    before.cut more ∙ ap (λ (z : List (List ℕ)). before.texts ++ z) (
-    ap lines (ap (λ (z : List ℕ). left ++ (z ++ more)) at.0 ∙ ap (λ (z : List ℕ). left ++ z) (append_assoc front (10 ∷ back) more)
-    ∙ sym (append_assoc left front (10 ∷ (back ++ more))))
-    ∙ line_cut (left ++ front) (back ++ more) whole
-    ∙ ap (λ (z : List ℕ). z ∷ lines (back ++ more)) (sym (stripped_is ∙ ap strip_carriage_return full_is)))
-    ∙ sym (append_assoc before.texts (stripped ∷ []) (lines (back ++ more)))
-
--- the current line ends at this index of the block
-pub block_more : (index : Indexed) (op : ℕ) (line block left rest : List ℕ) (place : ℕ) (next full stripped left' : List ℕ)
-    (old now new : Option (List ℕ)) (s t u : Status)
-    → IsBlockTold index op line block left rest old now s t → IsCutAt 10 place rest → full ≡ left ++ take place rest
-    → stripped ≡ strip_carriage_return full
-    → AreLinesTold index op (stripped ∷ []) now new t u → next ≡ drop (place + 1) rest → left' ≡ []
-    → IsBlockTold index op line block left' next old new s u
-block_more index op line block left rest place next full stripped left' old now new s t u before at full_is stripped_is told next_is
-    left_is =
-    let back = drop (place + 1) rest in
-    let told_more : IsBlockTold index op line block [] back old new s u = record {
-      texts = before.texts ++ stripped ∷ [];
-      told = told_append index op before.texts (stripped ∷ []) old now new s t u before.told told;
-      cut = cut_within index op line block left rest place full stripped old now s t before at full_is stripped_is;
-      whole = λ j d few. absurd (omega arith);
-    } in
-    subst (λ (z : List ℕ). IsBlockTold index op line block z next old new s u) (sym left_is)
-    (subst (λ (z : List ℕ). IsBlockTold index op line block [] z old new s u) (sym next_is) told_more)
-
--- no line ends in the rest of the block
-pub block_ended : (index : Indexed) (op : ℕ) (line block left rest full : List ℕ) (old now : Option (List ℕ)) (s t : Status)
-    → IsBlockTold index op line block left rest old now s t
-    → HasNo 10 rest → full ≡ left ++ rest → IsBlockTold index op line block full [] old now s t
-block_ended index op line block left rest full old now s t before none full_is = record {
-  texts = before.texts;
-  told = before.told;
-  cut = λ more. before.cut more ∙ ap (λ (z : List ℕ). before.texts ++ lines z)
-      (sym (append_assoc left rest more) ∙ ap (λ (z : List ℕ). z ++ more) (sym full_is));
-  whole = subst (HasNo 10) (sym full_is) (All-append (λ other. (other == 10) ≡ false) left rest before.whole none);
+-- Their lines were made in an empty buffer, and are then written.
+pub told_sent : (index : Indexed) (op : ℕ) (texts : List (List ℕ)) (none made : List ℕ) (old new : Option (List ℕ)) (s t : Status)
+    → AreLinesTold index op texts (Some none) (Some made) s t → none ≡ [] → Appends old new made → AreLinesTold index op texts old new s t
+told_sent index op texts none made old new s t all empty gained = record {
+  told = all.told;
+  lines_are = all.lines_are;
+  so = all.so;
+  printed = λ dead skip units is.
+      subst (Appends old new)
+      (text_in_room none made made (flat_map (told_line index dead skip units) all.told) empty (all.printed dead skip units is) refl) gained;
+  status_is = all.status_is;
 }
+
+-- ---- the first lines of a text
+
+pub first_none : (index : Indexed) (op : ℕ) (text : List ℕ) (old : Option (List ℕ)) (status : Status)
+    → AreFirstTold index op text text old old status status
+first_none index op text old status = record { texts = []; told = told_none index op old status; cut = λ more. refl }
+
+-- the first one
+pub first_line : (index : Indexed) (op : ℕ) (text line rest stripped : List ℕ) (old new : Option (List ℕ)) (s t : Status)
+    → IsCut 10 text line rest → stripped ≡ strip_carriage_return line → AreLinesTold index op (stripped ∷ []) old new s t
+    → AreFirstTold index op text rest old new s t
+first_line index op text line rest stripped old new s t at stripped_is told = record {
+  texts = stripped ∷ [];
+  told = told;
+  cut = λ more.
+      ap (λ (z : List ℕ). lines (z ++ more)) at.0 ∙ ap lines (append_assoc line (10 ∷ rest) more) ∙ line_cut line (rest ++ more) at.1
+      ∙ ap (λ (z : List ℕ). z ∷ lines (rest ++ more)) (sym stripped_is);
+}
+
+-- and those after it
+pub first_more : (index : Indexed) (op : ℕ) (text mid rest : List ℕ) (old now new : Option (List ℕ)) (s t u : Status)
+    → AreFirstTold index op text mid old now s t → AreFirstTold index op mid rest now new t u → AreFirstTold index op text rest old new s u
+first_more index op text mid rest old now new s t u a b = record {
+  texts = a.texts ++ b.texts;
+  told = told_append index op a.texts b.texts old now new s t u a.told b.told;
+  cut = λ more. a.cut more ∙ ap (λ (z : List (List ℕ)). a.texts ++ z) (b.cut more) ∙ sym (append_assoc a.texts b.texts (lines (rest ++ more)));
+}
+
+-- The lines were made in an empty buffer, and are then written.
+pub first_sent : (index : Indexed) (op : ℕ) (text rest none made : List ℕ) (old new : Option (List ℕ)) (s t : Status)
+    → AreFirstTold index op text rest (Some none) (Some made) s t → none ≡ [] → Appends old new made
+    → AreFirstTold index op text rest old new s t
+first_sent index op text rest none made old new s t first empty gained =
+    record { texts = first.texts; told = told_sent index op first.texts none made old new s t first.told empty gained; cut = first.cut }
+
+-- the first one, in which a position was found
+pub first_found : (index : Indexed) (op : ℕ) (text rest : List ℕ) (place : Position) (old new : List ℕ) (s : Status)
+    → BeginsWithLine op text place rest
+    → ((dead : Option ℕ) (skip : Bool) (units : List (ℕ × UnitParts)) → IsIndexOf dead skip units index
+    → new ≡ old ++ lookup_line index dead skip units place)
+    → AreFirstTold index op text rest (Some old) (Some new) s s
+first_found index op text rest place old new s begins printed =
+    first_line index op text begins.line rest (strip_carriage_return begins.line) (Some old) (Some new) s s begins.cut refl
+    (told_one index op (strip_carriage_return begins.line) (Some place) (Some old) (Some new) s s begins.tells printed refl)
+
+-- A line that began before this text ends in it, and others follow.
+pub first_joined : (index : Indexed) (op : ℕ) (line text front back next rest : List ℕ) (old now new : Option (List ℕ)) (s t u : Status)
+    → HasNo 10 line → IsCut 10 text front back → AreLinesTold index op (strip_carriage_return (line ++ front) ∷ []) old now s t → next ≡ back
+    → AreFirstTold index op next rest now new t u → AreFirstTold index op (line ++ text) rest old new s u
+first_joined index op line text front back next rest old now new s t u whole at told next_is more =
+    let joined : IsCut 10 (line ++ text) (line ++ front) back = (
+      ap (λ (z : List ℕ). line ++ z) at.0 ∙ sym (append_assoc line front (10 ∷ back)),
+      All-append (λ other. (other == 10) ≡ false) line front whole at.1,
+    ) in
+    first_more index op (line ++ text) back rest old now new s t u
+    (first_line index op (line ++ text) (line ++ front) back _ old now s t joined refl told)
+    (subst (λ (z : List ℕ). AreFirstTold index op z rest now new t u) next_is more)
+
+-- the rest after a line that is empty
+pub first_emptied : (index : Indexed) (op : ℕ) (text rest line : List ℕ) (old new : Option (List ℕ)) (s t : Status)
+    → AreFirstTold index op text rest old new s t → line ≡ [] → AreFirstTold index op text (line ++ rest) old new s t
+first_emptied index op text rest line old new s t first empty =
+    subst (λ (z : List ℕ). AreFirstTold index op text (z ++ rest) old new s t) (sym empty) first
+
+-- ---- the current line
+
+pub none_in : (byte : ℕ) (line : List ℕ) → line ≡ [] → HasNo byte line
+none_in byte line empty = subst (HasNo byte) (sym empty) (λ j d few. absurd (omega arith))
+
+pub none_in_joined : (byte : ℕ) (line rest all : List ℕ) → HasNo byte line → HasNo byte rest → all ≡ line ++ rest → HasNo byte all
+none_in_joined byte line rest all first second joined =
+    subst (HasNo byte) (sym joined) (All-append (λ other. (other == byte) ≡ false) line rest first second)
 
 -- ---- a whole text
 
@@ -180,24 +217,24 @@ text_begun index op start line old status empty done =
 
 cut_more : (start mid now : Option (List ℕ)) (texts more : List (List ℕ)) (line block left : List ℕ) → IsTextCut start mid texts line
     → Pulls mid now block
-    → ((rest : List ℕ) → lines (line ++ (block ++ rest)) ≡ more ++ lines (left ++ rest)) → IsTextCut start now (texts ++ more) left
+    → ((rest : List ℕ) → lines ((line ++ block) ++ rest) ≡ more ++ lines (left ++ rest)) → IsTextCut start now (texts ++ more) left
 cut_more None mid now texts more line block left c p cut = tt
 cut_more (Some text) None now texts more line block left c p cut = absurd c
 cut_more (Some text) (Some x) None texts more line block left c p cut = absurd p
 cut_more (Some text) (Some x) (Some y) texts more line block left c p cut =
-    c ∙ ap (λ (z : List ℕ). texts ++ lines (line ++ z)) p ∙ ap (λ (z : List (List ℕ)). texts ++ z) (cut y)
-    ∙ sym (append_assoc texts more (lines (left ++ y)))
+    c ∙ ap (λ (z : List ℕ). texts ++ lines (line ++ z)) p ∙ ap (λ (z : List ℕ). texts ++ lines z) (sym (append_assoc line block y))
+    ∙ ap (λ (z : List (List ℕ)). texts ++ z) (cut y) ∙ sym (append_assoc texts more (lines (left ++ y)))
 
 -- with one block more
 pub text_more : (index : Indexed) (op : ℕ) (start mid now : Option (List ℕ)) (line block left : List ℕ) (old then new : Option (List ℕ))
     (s t : Status)
-    → IsTextTold index op start mid line old then s → Pulls mid now block → IsBlockTold index op line block left [] then new s t
-    → IsTextTold index op start now left old new t
-text_more index op start mid now line block left old then new s t before pulls more = record {
+    → IsTextTold index op start mid line old then s → Pulls mid now block → AreFirstTold index op (line ++ block) left then new s t
+    → HasNo 10 left → IsTextTold index op start now left old new t
+text_more index op start mid now line block left old then new s t before pulls more whole = record {
   texts = before.texts ++ more.texts;
   told = told_append index op before.texts more.texts old then new Done s t before.told more.told;
   cut = cut_more start mid now before.texts more.texts line block left before.cut pulls more.cut;
-  whole = more.whole;
+  whole = whole;
 }
 
 cut_pulled : (start mid now : Option (List ℕ)) (texts : List (List ℕ)) (line : List ℕ) → IsTextCut start mid texts line → Pulls mid now []

@@ -3,6 +3,9 @@ use Rattle.std.proofs.Common.{◌≡◌, ◌∙◌, ℕ, Bool, true, false, if�
 use Rattle.std.specs.Int.{from_bool}
 use Rattle.lnt_spans.specs.declared.answer.Answer.{Answer}
 use Rattle.lnt_spans.specs.declared.position.Position.{Position}
+use Rattle.lnt_digits.specs.Digits.{IsPlainAddress}
+use Rattle.lnt_digits.proofs.WrittenLaws.{address_text}
+use Rattle.lnt_wire.specs.FaultTexts.{hexadecimal}
 use Rattle.lnt_text.specs.Texts.{position_text}
 use Rattle.lnt_answers.specs.Lines.{numbers_text, place_text, row_text}
 
@@ -40,10 +43,18 @@ answer_text position answer =
     (append_assoc (decimal answer.unit) file row
     ∙ ap (λ (rest : List ℕ). decimal answer.unit ++ (codes " file " ++ rest)) (append_assoc (decimal answer.file) (codes " ") row)))
 
--- a line with the position and then the numbers
-pub answer_put : (old mid new : List ℕ) (position : Position) (answer : Answer) (numbers : List ℕ) → mid ≡ old ++ position_text position
-    → numbers ≡ numbers_text answer → new ≡ mid ++ numbers → new ≡ old ++ (place_text position answer ++ row_text answer)
-answer_put old mid new position answer numbers before numbers_are here =
-    here ∙ ap (λ (z : List ℕ). z ++ numbers) before ∙ ap (λ (z : List ℕ). (old ++ position_text position) ++ z) numbers_are
-    ∙ append_assoc old (position_text position) (numbers_text answer)
-    ∙ ap (λ (z : List ℕ). old ++ z) (answer_text position answer)
+-- a line with the position, which was written before the numbers
+pub answer_put : (old new text numbers : List ℕ) (position : Position) (answer : Answer) → numbers ≡ numbers_text answer
+    → text ≡ position_text position ++ numbers → new ≡ old ++ text → new ≡ old ++ (place_text position answer ++ row_text answer)
+answer_put old new text numbers position answer numbers_are text_is here =
+    here ∙ ap (λ (z : List ℕ). old ++ z)
+    (text_is ∙ ap (λ (z : List ℕ). position_text position ++ z) numbers_are ∙ answer_text position answer)
+
+-- a position before other text: the address, a comma and the operation index
+pub position_of : (t0 t1 t2 t3 : List ℕ) (position : Position) (address : List ℕ) → t1 ≡ decimal position.op ++ t0 → t2 ≡ codes "," ++ t1
+    → IsPlainAddress address position.address → t3 ≡ address ++ t2 → t3 ≡ position_text position ++ t0
+position_of t0 t1 t2 t3 position address e1 e2 is e3 =
+    e3 ∙ ap (λ front. front ++ t2) (address_text position.address address is)
+    ∙ ap (λ (z : List ℕ). hexadecimal position.address ++ z) (e2 ∙ ap (λ (z : List ℕ). codes "," ++ z) e1)
+    ∙ sym (append_assoc (hexadecimal position.address ++ codes ",") (decimal position.op) t0
+    ∙ append_assoc (hexadecimal position.address) (codes ",") (decimal position.op ++ t0))

@@ -1,5 +1,6 @@
 pub mod AddressFronts
 pub mod AddressLemmas
+pub mod AddressLineLemmas
 pub mod AddressWholes
 pub mod AnswerLineLemmas
 pub mod CommaLemmas

@@ -1,30 +1,35 @@
 -- A text whose lines contain positions, as it is read block by block. No public contract speaks of this.
-use Rattle.std.specs.Prelude.{◌≡◌, ◌==◌, ◌+◌, false, ℕ, List, ◌∷◌, ◌++◌, take, drop, Option}
+use Rattle.std.specs.Prelude.{◌≡◌, ◌==◌, false, ℕ, List, ◌∷◌, ◌++◌, Option}
 use Rattle.std.specs.List.{All}
-use Rattle.std.specs.Str.Lines.{lines}
+use Rattle.std.specs.Str.Lines.{lines, strip_carriage_return}
 use Rattle.lnt_io.specs.declared.status.Status.{Status}
 use Rattle.lnt_lines.specs.Indexed.{Indexed}
+use Rattle.lnt_spans.specs.declared.position.Position.{Position}
 use Rattle.lnt_answers.specs.AddressLines.{AreLinesBegun, AreLinesTold}
+use Rattle.lnt_answers.specs.Lines.{TellsPosition}
 
 -- none of the bytes is this one
 abbrev pub HasNo : ℕ → List ℕ → Type 0
 HasNo byte text = All (λ other. (other == byte) ≡ false) text
 
--- The first such byte is at this place.
-abbrev pub IsCutAt : ℕ → ℕ → List ℕ → Type 0
-IsCutAt byte place text = (text ≡ take place text ++ byte ∷ drop (place + 1) text) × HasNo byte (take place text)
+-- The first such byte of the text is between these two parts of it.
+abbrev pub IsCut : ℕ → List ℕ → List ℕ → List ℕ → Type 0
+IsCut byte text front back = (text ≡ front ++ byte ∷ back) × HasNo byte front
 
--- The result of a line (line) and a block after it: lines that were answered, and what is left of the last one (left) before the
--- bytes of the block that weren't read yet (rest).
-pub record IsBlockTold (index : Indexed) (op : ℕ) (line block left rest : List ℕ) (old new : Option (List ℕ)) (before after : Status) : Type
-    0 where
+-- The first line of the text contains this position, and ends with a line feed before the rest of the text.
+pub record BeginsWithLine (op : ℕ) (text : List ℕ) (position : Position) (rest : List ℕ) : Type 0 where
+  pub line : List ℕ
+  pub cut : IsCut 10 text line rest
+  pub tells : TellsPosition op (strip_carriage_return line) position
+
+-- The first lines of the text were answered, up to the rest of it.
+pub record AreFirstTold (index : Indexed) (op : ℕ) (text rest : List ℕ) (old new : Option (List ℕ)) (before after : Status) : Type 0 where
   pub texts : List (List ℕ)
   pub told : AreLinesTold index op texts old new before after
-  pub cut : (more : List ℕ) → lines (line ++ (block ++ more)) ≡ texts ++ lines (left ++ (rest ++ more))
-  pub whole : HasNo 10 left
+  pub cut : (more : List ℕ) → lines (text ++ more) ≡ texts ++ lines (rest ++ more)
 
--- The writer stopped: what was written is a prefix of what is printed for some of the first lines of a line, a block after it, and more.
-pub record IsBlockBegun (index : Indexed) (op : ℕ) (line block : List ℕ) (old new : Option (List ℕ)) : Type 0 where
+-- The writer stopped: what was written is a prefix of what is printed for some of the first lines of the text, whatever follows it.
+pub record AreFirstBegun (index : Indexed) (op : ℕ) (text : List ℕ) (old new : Option (List ℕ)) : Type 0 where
   pub texts : List (List ℕ)
   pub begun : AreLinesBegun index op texts old new
-  pub cut : (more : List ℕ) → (rest : List (List ℕ)) × (texts ++ rest ≡ lines (line ++ (block ++ more)))
+  pub cut : (more : List ℕ) → (rest : List (List ℕ)) × (texts ++ rest ≡ lines (text ++ more))

@@ -1,29 +1,30 @@
 //! Looks up the positions in the lines of a text.
 ghost use Rattle.std.specs.Prelude.{◌≡◌, ◌+◌, ◌-◌, ◌^◌, ◌<◌, ◌==◌, [], ◌∷◌, length, IfErr, IfOk, IfSome, IsErrOf, IsTrue, MatchOption};
-ghost use Rattle.std.specs.Prelude.{◌++◌, OnErr, OnOk, codes};
+ghost use Rattle.std.specs.Prelude.{◌++◌, ◌≤◌, OnErr, OnOk, Some, drop, take};
 ghost use Rattle.std.specs.List.{position};
 ghost use Rattle.std.specs.Str.Lines.{strip_carriage_return};
-ghost use Rattle.std.specs.Io.KnownBytes.{Appends};
-ghost use Rattle.lnt_io.specs.Fronts.{AppendsFront};
 ghost use Rattle.lnt_io.specs.declared.halt.Halt.TheVariants as halt;
 ghost use Rattle.lnt_io.specs.Halts.{IsPrinting};
-ghost use Rattle.lnt_text.specs.Quotes.{quoted_text};
-ghost use Rattle.lnt_answers.specs.AddressBlocks.{HasNo, IsBlockBegun, IsBlockTold, IsCutAt};
+ghost use Rattle.lnt_answers.specs.AddressBlocks.{AreFirstBegun, AreFirstTold, BeginsWithLine, HasNo, IsCut};
 ghost use Rattle.lnt_answers.specs.AddressLines.{AreAddressesBegun, AreAddressesTold, AreLinesBegun, AreLinesTold};
 ghost use Rattle.lnt_answers.specs.Lines.{TellsPosition};
 ghost use Rattle.lnt_spans.specs.declared.position.Position.{Position as Spec};
 
-use crate::lookup::{CachedLookups, print_lookup};
-use lnt_digits::{address, decimal};
-use lnt_io::{Halt, Source, Status, write_whole};
+use crate::display::put_text;
+use crate::lookup::{CachedLookups, put_lookup, send};
+use lnt_digits::{address, address_until, decimal, decimal_until};
+use lnt_io::{Halt, Source, Status};
 use lnt_lines::Index;
 use lnt_spans::Position;
 use lnt_text::Quoted;
-use std::alloc::Global;
+use std::alloc::{AllocError, Global};
 use std::io::Write;
 
 // The number of bytes that a pull asks the source for: the size of a file's buffer, so that a pull is one read.
 const BLOCK: usize = 1 << 16;
+
+// The lines that were made are written once they have this many bytes, and at the end of a block.
+const FULL: usize = 1 << 15;
 
 /// Prints a line for each line of the text from the source: the answer at its position, as `print_lookups` prints it, or
 /// that the line is bad.
@@ -54,10 +55,12 @@ pub fn print_addresses<T: Source, W: Write>(
     let mut block = vec![in alloc; 0; BLOCK]?;
     let mut lookups = CachedLookups::new(alloc, index)?;
     let mut asked = Asked {
-        op,
         line: Vec::new(alloc),
-        room: Vec::new(alloc),
-        status: Status::Done,
+        answers: Answers {
+            op,
+            lines: Vec::new(alloc),
+            status: Status::Done,
+        },
     };
     loop {
         let Ok(count) = lines.pull(&mut block) else {
@@ -75,20 +78,16 @@ pub fn print_addresses<T: Source, W: Write>(
     if !asked.line.is_empty() {
         asked.answer_line(alloc, &mut lookups, out)?;
     }
-    Ok(asked.status)
+    Ok(asked.answers.status)
 }
 
 // The state between two pulls.
 #[derive(Drop)]
 struct Asked {
-    // the operation index for a line without one
-    op: u64,
     // the bytes of the current line that have come
     line: Vec<u8>,
-    // a buffer for a line to be printed
-    room: Vec<u8>,
-    // `Done` if each line so far had a position
-    status: Status,
+    // the answers to the lines before it
+    answers: Answers,
 }
 
 impl Asked {
@@ -100,79 +99,180 @@ impl Asked {
         block: &[u8],
         out: &mut W,
     ) -> Result<(), Halt>
-        requires { HasNo 10 self.old.line.items }
+        requires line { HasNo 10 self.old.line.items }
+        requires none { self.old.answers.lines.items ≡ [] }
         ensures err { IfErr result IsPrinting }
-        ensures told { OnOk result (IsBlockTold lookups.old self.old.op self.old.line.items block.now self.new.line.items []
-            (W.contents out.old) (W.contents out.new) self.old.status self.new.status) }
-        ensures stopped { OnErr result (IsBlockBegun lookups.old self.old.op self.old.line.items block.now
+        ensures told { OnOk result (AreFirstTold lookups.old self.old.answers.op (self.old.line.items ++ block.now) self.new.line.items
+            (W.contents out.old) (W.contents out.new) self.old.answers.status self.new.answers.status) }
+        ensures stopped { OnErr result (AreFirstBegun lookups.old self.old.answers.op (self.old.line.items ++ block.now)
             (W.contents out.old) (W.contents out.new)) }
-        ensures same { OnOk result (self.new.op ≡ self.old.op) }
+        ensures line { OnOk result (HasNo 10 self.new.line.items) }
+        ensures none { OnOk result (self.new.answers.lines.items ≡ []) }
+        ensures same { OnOk result (self.new.answers.op ≡ self.old.answers.op) }
         ensures index { lookups.new ≡ lookups.old }
     {
         let mut rest = block;
         while let Some(end) = place_of(b'\n', rest) {
-            self.line.extend_from_slice(&rest[..end])?;
-            strip_return(&mut self.line);
-            self.answer_line(alloc, lookups, out)?;
-            rest = &rest[end + 1..];
+            self.end_line(alloc, lookups, &rest[..end])?;
+            rest = self.answers.put_lines(alloc, lookups, &rest[end + 1..])?;
+            send(&mut self.answers.lines, out)?;
         }
         self.line.extend_from_slice(rest)?;
         Ok(())
     }
 
-    // Answers the current line, and empties it for the next one.
+    // Appends the answer to the current line, which ends with these bytes before a line feed, and empties it for the next one.
+    fn end_line(
+        &mut self,
+        alloc: Global,
+        lookups: &mut CachedLookups<'_, '_>,
+        bytes: &[u8],
+    ) -> Result<(), AllocError>
+        ensures told { OnOk result (AreLinesTold lookups.old self.old.answers.op
+            (strip_carriage_return (self.old.line.items ++ bytes.now) ∷ [])
+            (Some self.old.answers.lines.items) (Some self.new.answers.lines.items) self.old.answers.status self.new.answers.status) }
+        ensures begun { OnOk result (self.new.line.items ≡ []) }
+        ensures same { OnOk result (self.new.answers.op ≡ self.old.answers.op) }
+        ensures index { lookups.new ≡ lookups.old }
+    {
+        self.line.extend_from_slice(bytes)?;
+        self.answers
+            .put_line(alloc, lookups, without_return(&self.line))?;
+        self.line.clear();
+        Ok(())
+    }
+
+    // Answers the current line, with which the text ends.
     fn answer_line<W: Write>(
         &mut self,
         alloc: Global,
         lookups: &mut CachedLookups<'_, '_>,
         out: &mut W,
     ) -> Result<(), Halt>
+        requires { self.old.answers.lines.items ≡ [] }
         ensures err { IfErr result IsPrinting }
-        ensures told { OnOk result (AreLinesTold lookups.old self.old.op (self.old.line.items ∷ [])
-            (W.contents out.old) (W.contents out.new) self.old.status self.new.status) }
-        ensures stopped { OnErr result (AreLinesBegun lookups.old self.old.op (self.old.line.items ∷ [])
+        ensures told { OnOk result (AreLinesTold lookups.old self.old.answers.op (self.old.line.items ∷ [])
+            (W.contents out.old) (W.contents out.new) self.old.answers.status self.new.answers.status) }
+        ensures stopped { OnErr result (AreLinesBegun lookups.old self.old.answers.op (self.old.line.items ∷ [])
             (W.contents out.old) (W.contents out.new)) }
-        ensures begun { OnOk result (self.new.line.items ≡ []) }
-        ensures same { self.new.op ≡ self.old.op }
+    {
+        self.answers.put_line(alloc, lookups, &self.line)?;
+        send(&mut self.answers.lines, out)
+    }
+}
+
+// The answers to lines.
+#[derive(Drop)]
+struct Answers {
+    // the operation index for a line without one
+    op: u64,
+    // the lines of those that weren't written yet
+    lines: Vec<u8>,
+    // `Done` if each line so far had a position
+    status: Status,
+}
+
+impl Answers {
+    // Appends the answers to the first lines of a text, until there is enough to write or no line ends; gives the rest of the text.
+    fn put_lines<'t>(
+        &mut self,
+        alloc: Global,
+        lookups: &mut CachedLookups<'_, '_>,
+        text: &'t [u8],
+    ) -> Result<&'t [u8], AllocError>
+        ensures told { IfOk result (λ rest. AreFirstTold lookups.old self.old.op text.now rest.now
+            (Some self.old.lines.items) (Some self.new.lines.items) self.old.status self.new.status) }
+        ensures shorter { IfOk result (λ rest. length rest.now ≤ length text.now) }
+        ensures same { OnOk result (self.new.op ≡ self.old.op) }
         ensures index { lookups.new ≡ lookups.old }
     {
-        match position_in(&self.line, self.op) {
+        let mut rest = text;
+        while let Some(next) = self.put_next(alloc, lookups, rest)? {
+            rest = next;
+        }
+        Ok(rest)
+    }
+
+    // Appends the answer to the first line of a text; gives the rest of the text. `None` if no line ends in it, or if there is enough
+    // to write.
+    #[inline(always)]
+    fn put_next<'t>(
+        &mut self,
+        alloc: Global,
+        lookups: &mut CachedLookups<'_, '_>,
+        text: &'t [u8],
+    ) -> Result<Option<&'t [u8]>, AllocError>
+        ensures told { IfOk result (λ found. MatchOption found
+            (AreFirstTold lookups.old self.old.op text.now text.now
+            (Some self.old.lines.items) (Some self.new.lines.items) self.old.status self.new.status)
+            (λ rest. AreFirstTold lookups.old self.old.op text.now rest.now
+            (Some self.old.lines.items) (Some self.new.lines.items) self.old.status self.new.status)) }
+        ensures shorter { IfOk result (λ found. IfSome found (λ rest. length rest.now < length text.now)) }
+        ensures same { OnOk result (self.new.op ≡ self.old.op) }
+        ensures index { lookups.new ≡ lookups.old }
+    {
+        if self.lines.len() >= FULL {
+            return Ok(None);
+        }
+        if let Some((position, rest)) = line_at(text, self.op) {
+            put_lookup(alloc, lookups, position, &mut self.lines)?;
+            return Ok(Some(rest));
+        }
+        let Some(end) = place_of(b'\n', text) else {
+            return Ok(None);
+        };
+        self.put_line(alloc, lookups, without_return(&text[..end]))?;
+        Ok(Some(&text[end + 1..]))
+    }
+
+    // Appends the answer to a line.
+    fn put_line(
+        &mut self,
+        alloc: Global,
+        lookups: &mut CachedLookups<'_, '_>,
+        line: &[u8],
+    ) -> Result<(), AllocError>
+        ensures told { OnOk result (AreLinesTold lookups.old self.old.op (line.now ∷ [])
+            (Some self.old.lines.items) (Some self.new.lines.items) self.old.status self.new.status) }
+        ensures same { OnOk result (self.new.op ≡ self.old.op) }
+        ensures index { lookups.new ≡ lookups.old }
+    {
+        match position_in(line, self.op) {
             Some(position) => {
-                print_lookup(alloc, lookups, position, &mut self.room, out)?;
+                put_lookup(alloc, lookups, position, &mut self.lines)?;
             }
             None => {
-                print_bad(&self.line, &mut self.room, out)?;
+                put_text(&format_args!("bad {}\n", Quoted(line)), &mut self.lines)?;
                 self.status = Status::No;
             }
         }
-        self.line.clear();
         Ok(())
     }
 }
 
-// Prints that a line is bad. The text is made in `room` first, whose old contents are dropped.
-fn print_bad<W: Write>(line: &[u8], room: &mut Vec<u8>, out: &mut W) -> Result<(), Halt>
-    ensures err { IfErr result IsPrinting }
-    ensures bad { OnOk result (Appends (W.contents out.old) (W.contents out.new) (codes "bad " ++ (quoted_text line.now ++ codes "\n"))) }
-    ensures front { OnErr result (AppendsFront (W.contents out.old) (W.contents out.new)
-        (codes "bad " ++ (quoted_text line.now ++ codes "\n"))) }
-{
-    room.clear();
-    // Writing to a vector fails only if memory runs out.
-    let Ok(()) = writeln!(room, "bad {}", Quoted(line)) else {
-        return Err(Halt::Memory);
-    };
-    write_whole(out, room.as_slice())?;
-    Ok(())
-}
-
-// Removes a carriage return at the end of a line.
-fn strip_return(line: &mut Vec<u8>)
-    ensures { line.new.items ≡ strip_carriage_return line.old.items }
+// A line without the carriage return at its end, if it has one.
+fn without_return(line: &[u8]) -> &[u8]
+    ensures { result.now ≡ strip_carriage_return line.now }
 {
     if line.last() == Some(&b'\r') {
-        line.pop();
+        &line[..line.len() - 1]
+    } else {
+        line
     }
+}
+
+// Parses a line `ADDRESS` or `ADDRESS,N` at the start of a text, up to its line feed; gives the rest of the text. Without N the
+// operation index is `op`. With `None`, another line may be there, with or without a position.
+#[inline(always)]
+fn line_at(text: &[u8], op: u64) -> Option<(Position, &[u8])>
+    ensures { IfSome result (λ found. BeginsWithLine op text.now found.0 found.1.now) }
+{
+    if let Some((address, next)) = address_until(text, 0, b'\n') {
+        return Some((Position { address, op }, text.get(next..)?));
+    }
+    let (address, past) = address_until(text, 0, b',')?;
+    let (op, next) = decimal_until(text, past, b'\n')?;
+    Some((Position { address, op }, text.get(next..)?))
 }
 
 // Parses a line `ADDRESS` or `ADDRESS,N`; without N the operation index is `op`. `None` if the line is neither.
@@ -195,7 +295,7 @@ fn position_in(line: &[u8], op: u64) -> Option<Position>
 fn place_of(byte: u8, text: &[u8]) -> Option<usize>
     ensures place { result ≡ position (λ other. other == byte) text.now }
     ensures within { IfSome result (λ place. place < length text.now) }
-    ensures cut { MatchOption result (HasNo byte text.now) (λ place. IsCutAt byte place text.now) }
+    ensures cut { MatchOption result (HasNo byte text.now) (λ place. IsCut byte text.now (take place text.now) (drop (place + 1) text.now)) }
 {
     for place in 0..text.len() {
         if text[place] == byte {

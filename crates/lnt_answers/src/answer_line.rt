@@ -1,16 +1,15 @@
 //! The text of an answer, written backwards from its end, so that no digits have to be counted or moved.
 ghost use Rattle.std.specs.Prelude.{◌≡◌, ◌+◌, ◌<◌, ◌≤◌, ◌++◌, OnOk, decimal, drop, length};
 ghost use Rattle.lnt_text.specs.Texts.{position_text};
-ghost use Rattle.lnt_answers.specs.Lines.{numbers_text, place_text, row_text};
+ghost use Rattle.lnt_answers.specs.Lines.{none_text, numbers_text, place_text, row_text};
 
 use itoa::write_digits;
+use lnt_digits::address_before;
 use lnt_spans::{Answer, Position};
-use lnt_text::PositionText;
 use std::alloc::AllocError;
-use std::io::Write;
 
-// More bytes than the numbers of an answer have, with the words before them.
-const MOST: usize = 160;
+// More bytes than a position and the numbers of an answer have, with the words before them.
+const MOST: usize = 192;
 
 // Appends the position and the answer there, without the path.
 #[tactic(auto, using(crate::proofs::AnswerLineLemmas::answer_put))]
@@ -21,28 +20,41 @@ pub(crate) fn put_answer(
 ) -> Result<(), AllocError>
     ensures { OnOk result (line.new.items ≡ line.old.items ++ (place_text position answer.now ++ row_text answer.now)) }
 {
-    put_position(position, line)?;
     let mut room = [0; MOST];
-    let start = numbers_before(&mut room, answer);
-    line.extend_from_slice(&room[start..])?;
+    let at = numbers_before(&mut room, answer);
+    let at = position_before(&mut room, at, position);
+    line.extend_from_slice(&room[at..])?;
     Ok(())
 }
 
-// Appends the position.
-fn put_position(position: Position, line: &mut Vec<u8>) -> Result<(), AllocError>
-    ensures { OnOk result (line.new.items ≡ line.old.items ++ position_text position) }
+// Appends the line of a position without an answer.
+pub(crate) fn put_none(position: Position, line: &mut Vec<u8>) -> Result<(), AllocError>
+    ensures { OnOk result (line.new.items ≡ line.old.items ++ none_text position) }
 {
-    // Writing to a vector fails only if memory runs out.
-    match write!(line, "{}", PositionText(position)) {
-        Ok(()) => Ok(()),
-        Err(_) => Err(AllocError),
-    }
+    let mut room = [0; MOST];
+    let at = word_before(&mut room, MOST, b" none\n");
+    let at = position_before(&mut room, at, position);
+    line.extend_from_slice(&room[at..])?;
+    Ok(())
+}
+
+// Writes a position so that it ends before index `end`; gives the index at which it begins.
+#[inline(always)]
+fn position_before(room: &mut [u8; MOST], end: usize, position: Position) -> usize
+    requires { (40 ≤ end) × (end ≤ MOST) }
+    ensures within { result < end }
+    ensures written { drop result room.new ≡ position_text position ++ drop end room.old }
+{
+    let at = number_before(room, end, position.op);
+    let at = word_before(room, at, b",");
+    address_before(room, at, position.address)
 }
 
 // Writes the numbers of an answer, with the words before them, so that they end where the room does; gives the index at which they
 // begin.
+#[inline(always)]
 fn numbers_before(room: &mut [u8; MOST], answer: &Answer) -> usize
-    ensures within { result ≤ MOST }
+    ensures within { (40 ≤ result) × (result ≤ MOST) }
     ensures text { drop result room.new ≡ numbers_text answer.now }
 {
     let at = number_before(room, MOST, u64::from(answer.is_stmt));

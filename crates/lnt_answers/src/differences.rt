@@ -11,6 +11,7 @@ ghost use Rattle.lnt_spans.specs.declared.position.Position.{Position};
 ghost use Rattle.lnt_spans.specs.Differing.{HasTold};
 ghost use Rattle.lnt_spans.specs.Stretches.{AreStretches};
 
+use crate::display::put_text;
 use lnt_io::{Halt, Status, write_whole};
 use lnt_spans::{Difference, Differences, SpanSource};
 use lnt_text::DifferenceLine;
@@ -62,10 +63,7 @@ fn print_difference<W: Write>(
     ensures front { OnErr result (AppendsFront (W.contents out.old) (W.contents out.new) (difference_line difference)) }
 {
     room.clear();
-    // Writing to a vector fails only if memory runs out.
-    let Ok(()) = writeln!(room, "{}", DifferenceLine(difference)) else {
-        return Err(Halt::Memory);
-    };
+    put_text(&format_args!("{}\n", DifferenceLine(difference)), room)?;
     write_whole(out, room.as_slice())?;
     Ok(())
 }

@@ -11,6 +11,7 @@ mod addresses;
 mod answer_line;
 mod differences;
 mod digest;
+mod display;
 mod files;
 mod judge;
 pub mod laws;

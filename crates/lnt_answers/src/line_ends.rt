@@ -4,10 +4,10 @@ ghost use Rattle.lnt_lines.specs.Indexed.{Indexed, file_path_in};
 ghost use Rattle.lnt_answers.specs.LineEnds.{AreEndsOf};
 ghost use Rattle.lnt_answers.specs.Lines.{path_end};
 
+use crate::display::put_text;
 use lnt_lines::Index;
 use lnt_text::Quoted;
 use std::alloc::{AllocError, Global};
-use std::io::Write;
 
 // The number of ends kept at most.
 const SLOTS: u64 = 512;
@@ -104,9 +104,5 @@ fn append_end(
     let Some(path) = index.path_of(alloc, unit, file)? else {
         unreachable!()
     };
-    // Writing to a vector fails only if memory runs out.
-    match writeln!(line, " path {}", Quoted(&path)) {
-        Ok(()) => Ok(()),
-        Err(_) => Err(AllocError),
-    }
+    put_text(&format_args!(" path {}\n", Quoted(&path)), line)
 }

@@ -1,5 +1,5 @@
 //! Prints the answer at a position.
-ghost use Rattle.std.specs.Prelude.{◌≡◌, Bool, ℕ, List, ◌++◌, Option, IfErr, IfOk, OnErr, OnOk};
+ghost use Rattle.std.specs.Prelude.{◌≡◌, Bool, ℕ, List, [], ◌++◌, Option, IfErr, IfOk, OnErr, OnOk};
 ghost use Rattle.std.specs.Io.KnownBytes.{Appends};
 ghost use Rattle.lnt_io.specs.declared.status.Status.TheVariants.{Done};
 ghost use Rattle.lnt_header.specs.declared.unit_parts.UnitParts.{UnitParts};
@@ -7,14 +7,13 @@ ghost use Rattle.lnt_lines.specs.Indexed.{IsIndexOf};
 ghost use Rattle.lnt_io.specs.Fronts.{AppendsFront};
 ghost use Rattle.lnt_io.specs.Halts.{IsPrinting};
 ghost use Rattle.std.specs.List.{flat_map};
-ghost use Rattle.lnt_answers.specs.Lines.{lookup_line, none_text};
+ghost use Rattle.lnt_answers.specs.Lines.{lookup_line};
 
-use crate::answer_line::put_answer;
+use crate::answer_line::{put_answer, put_none};
 use crate::line_ends::LineEnds;
 use lnt_io::{Halt, Status, write_whole};
 use lnt_lines::{Index, Lookups};
 use lnt_spans::{Position, Probes};
-use lnt_text::PositionText;
 use std::alloc::{AllocError, Global};
 use std::io::Write;
 use std::marker::Model;
@@ -53,34 +52,8 @@ impl<'i, 'a> CachedLookups<'i, 'a> {
     }
 }
 
-// Prints the line with the answer at the position and the path of its file, or that there is no answer. The line is made in
-// `room` first, whose old contents are dropped.
-//
-// Returns `Done`. Stops with `Write` if the writer failed, and with `Memory`. If it stops, a prefix of the line has been
-// written, and nothing else.
-pub(crate) fn print_lookup<W: Write>(
-    alloc: Global,
-    lookups: &mut CachedLookups<'_, '_>,
-    position: Position,
-    room: &mut Vec<u8>,
-    out: &mut W,
-) -> Result<Status, Halt>
-    ensures done { IfOk result (λ status. status ≡ Done) }
-    ensures err { IfErr result (λ halt. IsPrinting halt) }
-    ensures index { lookups.new ≡ lookups.old }
-    ensures line { (dead : Option ℕ) (skip : Bool) (units : List (ℕ × UnitParts)) → IsIndexOf dead skip units lookups.old
-        → OnOk result (Appends (W.contents out.old) (W.contents out.new) (lookup_line lookups.old dead skip units position)) }
-    ensures front { (dead : Option ℕ) (skip : Bool) (units : List (ℕ × UnitParts)) → IsIndexOf dead skip units lookups.old
-        → OnErr result (AppendsFront (W.contents out.old) (W.contents out.new) (lookup_line lookups.old dead skip units position)) }
-{
-    room.clear();
-    put_lookup(alloc, lookups, position, room)?;
-    write_whole(out, room.as_slice())?;
-    Ok(Status::Done)
-}
-
-// Appends the line with the answer at the position.
-fn put_lookup(
+// Appends the line with the answer at the position and the path of its file, or that there is no answer.
+pub(crate) fn put_lookup(
     alloc: Global,
     lookups: &mut CachedLookups<'_, '_>,
     position: Position,
@@ -103,15 +76,16 @@ fn put_lookup(
     Ok(())
 }
 
-// Appends the line of a position without an answer.
-fn put_none(position: Position, line: &mut Vec<u8>) -> Result<(), AllocError>
-    ensures { OnOk result (line.new.items ≡ line.old.items ++ none_text position) }
+// Writes the lines that were made, and empties their buffer.
+pub(crate) fn send<W: Write>(lines: &mut Vec<u8>, out: &mut W) -> Result<(), Halt>
+    ensures whole { OnOk result (Appends (W.contents out.old) (W.contents out.new) lines.old.items) }
+    ensures empty { OnOk result (lines.new.items ≡ []) }
+    ensures front { OnErr result (AppendsFront (W.contents out.old) (W.contents out.new) lines.old.items) }
+    ensures err { IfErr result IsPrinting }
 {
-    // Writing to a vector fails only if memory runs out.
-    match writeln!(line, "{} none", PositionText(position)) {
-        Ok(()) => Ok(()),
-        Err(_) => Err(AllocError),
-    }
+    write_whole(out, lines.as_slice())?;
+    lines.clear();
+    Ok(())
 }
 
 /// Prints a line for each of these positions, in their order: `0xADDRESS,OP unit U file F line L column C stmt S path "PATH"`,
@@ -134,9 +108,10 @@ pub fn print_lookups<W: Write>(
         (flat_map (lookup_line index.now dead skip units) positions.now)) }
 {
     let mut lookups = CachedLookups::new(alloc, index)?;
-    let mut room = Vec::new(alloc);
+    let mut line = Vec::new(alloc);
     for position in positions {
-        print_lookup(alloc, &mut lookups, *position, &mut room, out)?;
+        put_lookup(alloc, &mut lookups, *position, &mut line)?;
+        send(&mut line, out)?;
     }
     Ok(Status::Done)
 }

@@ -17,6 +17,7 @@ ghost use Rattle.lnt_table.specs.Verdicts.{no_of_fault};
 ghost use Rattle.lnt_header.specs.declared.unit_parts.UnitParts.{UnitParts};
 
 use crate::differences::print_differences;
+use crate::display::put_text;
 use lnt_io::{Halt, Source, Status, print_line, write_whole};
 use lnt_lines::Index;
 use lnt_paths::{DifferenceByPath, DifferencesByPath, HeldTable, Paths};
@@ -148,12 +149,9 @@ fn print_path_difference<W: Write>(
     ensures front { OnErr result (AppendsFront (W.contents out.old) (W.contents out.new) (path_stretch_line (stretch_of difference))) }
 {
     room.clear();
-    // Writing to a vector fails only if memory runs out.
-    let written = writeln!(room, "{}", PathDifferenceLine(&difference));
+    let put = put_text(&format_args!("{}\n", PathDifferenceLine(&difference)), room);
     drop(difference);
-    if written.is_err() {
-        return Err(Halt::Memory);
-    }
+    put?;
     write_whole(out, room.as_slice())?;
     Ok(())
 }

@@ -9,12 +9,13 @@ ghost use Rattle.lnt_text.specs.Quotes.{quoted_text};
 ghost use Rattle.lnt_answers.specs.SumLines.{AreSumsBegun, AreSumsTold, IsTrueOfFile, both, found_status, found_text, head_text};
 ghost use Rattle.lnt_answers.specs.SumLines.{listed_at, listed_files, listed_in};
 
+use crate::display::put_text;
 use crate::files::path_of;
 use crate::{Agreement, md5_agrees};
 use lnt_io::{Halt, OpenedFile, Opener, Status, write_whole};
 use lnt_lines::Index;
 use lnt_text::Quoted;
-use std::alloc::Global;
+use std::alloc::{AllocError, Global};
 use std::io::Write;
 use std::str;
 
@@ -97,10 +98,7 @@ fn print_sum<O: Opener, W: Write>(
     let path = path_of(alloc, index, unit, file)?;
     let found = found_of(&path, &listed, opener);
     room.clear();
-    // Writing to a vector fails only if memory runs out.
-    let Ok(()) = print_found(alloc, unit, file, &path, found, room) else {
-        return Err(Halt::Memory);
-    };
+    put_found(alloc, unit, file, &path, found, room)?;
     write_whole(out, room.as_slice())?;
     Ok(status_of(found))
 }
@@ -124,40 +122,39 @@ fn found_of<O: Opener>(path: &[u8], listed: &[u8; 16], opener: &mut O) -> Option
     }
 }
 
-// Prints the line that says what was found for a file, piece by piece.
-fn print_found<W: Write>(
+// Appends the line that says what was found for a file.
+fn put_found(
     alloc: Global,
     unit: u64,
     file: u64,
     path: &[u8],
     found: Option<Agreement>,
-    out: &mut W,
-) -> Result<(), Halt>
-    ensures line { OnOk result (Appends (W.contents out.old) (W.contents out.new)
-        ((head_text unit file ++ found_text found) ++ (codes " " ++ (quoted_text path.now ++ codes "\n")))) }
+    line: &mut Vec<u8>,
+) -> Result<(), AllocError>
+    ensures { OnOk result (line.new.items ≡ line.old.items
+        ++ ((head_text unit file ++ found_text found) ++ (codes " " ++ (quoted_text path.now ++ codes "\n")))) }
 {
-    write!(out, "unit {unit} file {file} ")?;
-    print_agreement(alloc, found, out)?;
-    writeln!(out, " {}", Quoted(path))?;
-    Ok(())
+    put_text(&format_args!("unit {unit} file {file} "), line)?;
+    put_agreement(alloc, found, line)?;
+    put_text(&format_args!(" {}\n", Quoted(path)), line)
 }
 
-// Prints that a file has its listed sum, or the sum that it has instead, or that it can't be read.
-fn print_agreement<W: Write>(
+// Appends that a file has its listed sum, or the sum that it has instead, or that it can't be read.
+fn put_agreement(
     alloc: Global,
     found: Option<Agreement>,
-    out: &mut W,
-) -> Result<(), Halt>
-    ensures text { OnOk result (Appends (W.contents out.old) (W.contents out.new) (found_text found)) }
+    line: &mut Vec<u8>,
+) -> Result<(), AllocError>
+    ensures { OnOk result (line.new.items ≡ line.old.items ++ found_text found) }
 {
     match found {
-        Some(Agreement::Same) => write!(out, "same")?,
+        Some(Agreement::Same) => line.extend_from_slice(b"same"),
         Some(Agreement::Differs(sum)) => {
-            write!(out, "differs {}", hex::encode(alloc, sum.as_slice())?)?;
+            let sum = hex::encode(alloc, sum.as_slice())?;
+            put_text(&format_args!("differs {sum}"), line)
         }
-        None => write!(out, "unreadable")?,
+        None => line.extend_from_slice(b"unreadable"),
     }
-    Ok(())
 }
 
 // The status for this finding: `Done` only for a file with its listed sum.

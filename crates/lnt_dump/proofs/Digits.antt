@@ -1,95 +1,16 @@
--- The plain text of a number is the one that the library writes.
-use Rattle.std.proofs.Common.{◌≡◌, ◌∙◌, ℕ, zero, suc, ◌+◌, ◌/◌, ◌%◌, ◌^◌, ◌<◌, ◌≤◌, ◌==◌, Bool, true, false, if◌then◌else◌}
-use Rattle.std.proofs.Common.{List, [], ◌∷◌, ◌++◌}
-use Rattle.std.proofs.Common.{length, Result, Ok, Err, OnOk, refl, sym, ap, subst, arith, decimal}
-use Rattle.std.proofs.lemmas.Bool.{eqb-false, eqb-true}
-use Rattle.std.specs.Fmt.{digits, digits_onto}
+-- The plain text of a number is the one that std writes.
+use Rattle.std.proofs.Common.{◌≡◌, ◌∙◌, ℕ, List, ◌++◌, Result, Ok, Err, OnOk, ap, decimal}
 use Rattle.lnt_wire.specs.FaultTexts.{hexadecimal}
-use Rattle.lnt_digits.specs.Digits.{IsPlain, IsPlainAddress, IsPlainDecimal, Puts, digit_code, digits_value, most_digits, radix_base}
-use Rattle.lnt_digits.proofs.DigitLemmas.{fewer_digits}
-use Rattle.lnt_digits.proofs.OneTextLaws.{one_address, one_decimal}
-use Rattle.lnt_digits.proofs.PutLemmas.{IsPut, digit_first, digit_put, no_room}
-
--- nothing is left to write
-all_put : (radix : _) (n : ℕ) (text : List ℕ) (left : ℕ) → n < 2 ^ 64 → length text ≤ most_digits radix → IsPut radix n text left
-    → left ≡ 0 → IsPlain radix text n
-all_put radix n text left fits few put none = record {
-  number = record {
-    digits = put.digits;
-    some = put.some;
-    few = few;
-    value = sym put.value ∙ ap (λ (v : ℕ). digits_value (radix_base radix) v text) none;
-    fits = fits;
-  };
-  no_zero = put.no_zero none;
-  lower = put.lower;
-}
-
-either : (P : List ℕ → Type 0) (test : Bool) (x y : List ℕ) → (test ≡ true → P x) → (test ≡ false → P y) → P (if test then x else y)
-either P true x y p q = p refl
-either P false x y p q = q refl
-
-fewer_left : (radix : _) (left room : ℕ) → left < radix_base radix ^ suc room → left / radix_base radix < radix_base radix ^ room
-fewer_left radix left room bound =
-    let next : suc room ≡ room + 1 = omega arith in
-    fewer_digits radix left room (subst (λ (k : ℕ). left < radix_base radix ^ k) next bound)
-
--- digits are written before others while something is left, as the library does
-put_onto : (radix : _) (n fuel room : ℕ) (text : List ℕ) (left : ℕ) → n < 2 ^ 64 → length text + room ≤ most_digits radix
-    → left < radix_base radix ^ room → room ≤ fuel → 0 < left → IsPut radix n text left
-    → IsPlain radix (digits_onto fuel (radix_base radix) false left text) n
-put_onto radix n fuel zero text left fits few bound le some put = absurd (omega (arith, some, no_room radix left bound))
-put_onto radix n zero (suc room) text left fits few bound le some put = absurd (omega (arith, le))
-put_onto radix n (suc fuel) (suc room) text left fits few bound le some put =
-    let more = digit_put radix n text left put some in
-    let line = digit_code (left % radix_base radix) ∷ text in
-    let past = left / radix_base radix in
-    either (λ (z : List ℕ). IsPlain radix z n) (past == 0) line (digits_onto fuel (radix_base radix) false past line)
-    (λ e. all_put radix n line past fits (omega (arith, few)) more (eqb-true past 0 e))
-    (λ e. put_onto radix n fuel room line past fits (omega (arith, few)) (fewer_left radix left room bound) (omega (arith, le))
-    (omega (arith, eqb-false past 0 e)) more)
-
-plain_ten : (n : ℕ) → n < 2 ^ 64 → IsPlainDecimal (digits 10 false n) n
-unfolding digits
-plain_ten n fits =
-    let line = digit_code (n % 10) ∷ [] in
-    let past = n / 10 in
-    either (λ (z : List ℕ). IsPlainDecimal z n) (past == 0) line (digits_onto 63 10 false past line)
-    (λ e. all_put _ n line past fits (omega arith) (digit_first _ n) (eqb-true past 0 e))
-    (λ e. put_onto _ n 63 19 line past fits (omega arith) (omega (arith, fits)) (omega arith) (omega (arith, eqb-false past 0 e))
-    (digit_first _ n))
-
-plain_sixteen : (n : ℕ) → n < 2 ^ 64 → IsPlainAddress (48 ∷ 120 ∷ digits 16 false n) n
-unfolding digits
-plain_sixteen n fits =
-    let line = digit_code (n % 16) ∷ [] in
-    let past = n / 16 in
-    either (λ (z : List ℕ). IsPlainAddress (48 ∷ 120 ∷ z) n) (past == 0) line (digits_onto 63 16 false past line)
-    (λ e. record {
-      digits = line;
-      written = refl;
-      plain = all_put _ n line past fits (omega arith) (digit_first _ n) (eqb-true past 0 e);
-    })
-    (λ e. record {
-      digits = digits_onto 63 16 false past line;
-      written = refl;
-      plain = put_onto _ n 63 15 line past fits (omega arith) (omega (arith, fits)) (omega arith) (omega (arith, eqb-false past 0 e))
-          (digit_first _ n);
-    })
-
-pub plain_decimal : (n : ℕ) (text : List ℕ) → IsPlainDecimal text n → text ≡ decimal n
-plain_decimal n text p = one_decimal text (decimal n) n p (plain_ten n p.number.fits)
-
-pub plain_address : (n : ℕ) (text : List ℕ) → IsPlainAddress text n → text ≡ hexadecimal n
-plain_address n text p = one_address text (hexadecimal n) n p (plain_sixteen n p.plain.number.fits)
+use Rattle.lnt_digits.specs.Digits.{IsPlainAddress, IsPlainDecimal, Puts}
+use Rattle.lnt_digits.proofs.WrittenLaws.{address_text, decimal_text}
 
 -- what a call appended is that text
 pub decimal_put : {A E : Type 0} (result : Result A E) (n : ℕ) (old new : List ℕ) → OnOk result (Puts IsPlainDecimal n old new)
     → OnOk result (new ≡ old ++ decimal n)
-decimal_put (Ok done) n old new p = p.joined ∙ ap (λ (z : List ℕ). old ++ z) (plain_decimal n p.text p.spells)
+decimal_put (Ok done) n old new p = p.joined ∙ ap (λ (z : List ℕ). old ++ z) (decimal_text n p.text p.spells)
 decimal_put (Err error) n old new p = p
 
 pub address_put : {A E : Type 0} (result : Result A E) (n : ℕ) (old new : List ℕ) → OnOk result (Puts IsPlainAddress n old new)
     → OnOk result (new ≡ old ++ hexadecimal n)
-address_put (Ok done) n old new p = p.joined ∙ ap (λ (z : List ℕ). old ++ z) (plain_address n p.text p.spells)
+address_put (Ok done) n old new p = p.joined ∙ ap (λ (z : List ℕ). old ++ z) (address_text n p.text p.spells)
 address_put (Err error) n old new p = p

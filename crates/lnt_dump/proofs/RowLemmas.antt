@@ -8,7 +8,7 @@ use Rattle.lnt_wire.specs.FaultTexts.{hexadecimal}
 use Rattle.lnt_digits.specs.Digits.{IsPlainAddress, IsPlainDecimal}
 use Rattle.lnt_machine.specs.declared.row.Row.{Row}
 use Rattle.lnt_dump.specs.Rows.{marks_text, row_line}
-use Rattle.lnt_dump.proofs.Digits.{plain_address, plain_decimal}
+use Rattle.lnt_digits.proofs.WrittenLaws.{address_text, decimal_text, text_before}
 
 -- a byte that was written before a place
 pub byte_before : (room : List ℕ) (end byte : ℕ) → 1 ≤ end → end ≤ length room
@@ -16,15 +16,6 @@ pub byte_before : (room : List ℕ) (end byte : ℕ) → 1 ≤ end → end ≤ l
 byte_before room end byte some fits =
     let back : end - 1 + 1 ≡ end = omega (arith, some) in
     drop-set room (end - 1) byte (omega (arith, some, fits)) ∙ ap (λ (k : ℕ). byte ∷ drop k room) back
-
--- what was written before a place, from where it begins
-pub text_before : (room new : List ℕ) (start end : ℕ) → start ≤ end → drop end new ≡ drop end room
-    → drop start new ≡ drop start (take end new) ++ drop end room
-text_before room new start end le after =
-    let whole : start + (end - start) ≡ end = omega (arith, le) in
-    drop_split new start end le
-    ∙ ap (λ front. front ++ drop end new) (sym (drop-take start (end - start) new) ∙ ap (λ (k : ℕ). drop start (take k new)) whole)
-    ∙ ap (λ rest. drop start (take end new) ++ rest) after
 
 -- a number before a byte, of which a text tells where its digits begin
 pub digits_before : (room new : List ℕ) (start end number after : ℕ) → 1 ≤ end → end ≤ length room → start ≤ end - 1
@@ -34,7 +25,7 @@ digits_before room new start end number after some fits le digits_are same =
     let digits = drop start (take (end - 1) new) in
     text_before (slice_set room (end - 1) after) new start (end - 1) le same
     ∙ ap (λ rest. digits ++ rest) (byte_before room end after some fits)
-    ∙ ap (λ front. front ++ (after ∷ drop end room)) (plain_decimal number digits digits_are)
+    ∙ ap (λ front. front ++ (after ∷ drop end room)) (decimal_text number digits digits_are)
 
 -- ---- the line
 
@@ -63,7 +54,7 @@ line_of {t10 = t10} number row address stmt e0 e1 e2 e3 e4 e5 stmt_is e6 e7 e8 e
     let s8 = e8 ∙ ap (λ rest. decimal row.file ++ (32 ∷ rest)) s7 in
     let s9 = e9 ∙ ap (λ rest. decimal row.op_index ++ (32 ∷ rest)) s8 in
     let s10 = e10 ∙ ap (λ rest. 32 ∷ rest) s9 in
-    let s11 = e11 ∙ ap (λ front. front ++ t10) (plain_address row.address address address_is)
+    let s11 = e11 ∙ ap (λ front. front ++ t10) (address_text row.address address address_is)
     ∙ ap (λ rest. hexadecimal row.address ++ rest) s10 in
     let s12 = e12 ∙ ap (λ rest. decimal number ++ (32 ∷ rest)) s11 in
     let s13 = e13 ∙ ap (λ rest. 32 ∷ rest) s12 in

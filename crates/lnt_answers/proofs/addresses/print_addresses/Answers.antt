@@ -7,15 +7,13 @@ use Rattle.lnt_answers.proofs.AddressFronts.{last_stopped, text_kept_begun, text
 use Rattle.lnt_answers.proofs.addresses.print_addresses.Goals.{then-not-is_empty+in_ok-answer_line, else-not-is_empty}
 use Rattle.lnt_answers.proofs.addresses.print_addresses.Goals as goal
 
-pub answer_block-requires : goal.answer_block-requires
-answer_block-requires g c = c.loop-count.invariant.told.whole
-
 pub loop-count-init : goal.loop-count-init
 loop-count-init g c = record {
   failures = refl;
   full = search rules;
   same = refl;
   index = search rules;
+  none = search rules;
   told = text_begun c.args.index.now c.args.op (g.T.Source.remaining c.args.lines.now) c.new-2.result.items
       (g.W.Write.contents c.args.out.now) _ c.new-2.ensures.items refl;
 }
@@ -32,15 +30,16 @@ loop-count-preserved g c =
       full = search rules;
       same = c.in_ok-answer_block.ensures.same ∙ c.loop-count.invariant.same;
       index = c.answer_block.ensures.index ∙ c.loop-count.invariant.index;
+      none = c.in_ok-answer_block.ensures.none;
       told = text_kept c.args.index.now c.args.op (g.T.Source.remaining c.args.lines.now) (g.T.Source.remaining c.pull.new.self)
           c.answer_block.new.self.line.items
           (g.W.Write.contents c.args.out.now) (g.W.Write.contents c.answer_block.new.out) (g.W.Write.contents c.flush.new.self)
-          c.answer_block.new.self.status
+          c.answer_block.new.self.answers.status
           (text_more c.args.index.now c.args.op (g.T.Source.remaining c.args.lines.now) (g.T.Source.remaining c.loop-count.lines)
           (g.T.Source.remaining c.pull.new.self) c.loop-count.asked.line.items _
           c.answer_block.new.self.line.items (g.W.Write.contents c.args.out.now) (g.W.Write.contents c.loop-count.out)
           (g.W.Write.contents c.answer_block.new.out)
-          c.loop-count.asked.status c.answer_block.new.self.status c.loop-count.invariant.told pulls block) c.in_ok-flush.ensures.bytes;
+          c.loop-count.asked.answers.status c.answer_block.new.self.answers.status c.loop-count.invariant.told pulls block c.in_ok-answer_block.ensures.line) c.in_ok-flush.ensures.bytes;
     }
 
 pub returns-clause-told : goal.returns-clause-told
@@ -51,7 +50,7 @@ returns-clause-told g c =
     rw c.too_long.ensures (c.in-Ok.ensures.end count_is some) in
     let told = text_pulled c.args.index.now c.args.op (g.T.Source.remaining c.args.lines.now) (g.T.Source.remaining c.loop-count.lines)
     (g.T.Source.remaining c.pull.new.self) c.loop-count.asked.line.items
-    (g.W.Write.contents c.args.out.now) (g.W.Write.contents c.loop-count.out) c.loop-count.asked.status c.loop-count.invariant.told
+    (g.W.Write.contents c.args.out.now) (g.W.Write.contents c.loop-count.out) c.loop-count.asked.answers.status c.loop-count.invariant.told
     (rw count_is at c.in-Ok.ensures.bytes) in
     elim c.if-not-is_empty.branch [
       | then-not-is_empty+in_ok-answer_line w ↦
@@ -60,7 +59,7 @@ returns-clause-told g c =
           text_ended_within c.args.index.now c.args.op (g.T.Source.remaining c.args.lines.now) (g.T.Source.remaining c.pull.new.self)
           c.loop-count.asked.line.items
           (g.W.Write.contents c.args.out.now) (g.W.Write.contents c.loop-count.out) (g.W.Write.contents w.answer_line.new.out)
-          c.loop-count.asked.status w.answer_line.new.self.status
+          c.loop-count.asked.answers.status w.answer_line.new.self.answers.status
           c.too_long.result told ended c.if-too_long.false
           (not_empty c.loop-count.asked.line.len c.loop-count.asked.line.items (search rules) (sym c.is_empty.ensures ∙ not_so))
           (rw (c.loop-count.invariant.same, c.loop-count.invariant.index) at w.in_ok-answer_line.ensures.told))
@@ -69,7 +68,7 @@ returns-clause-told g c =
           rw (w.out-is, w.asked-is) (
           text_ended c.args.index.now c.args.op (g.T.Source.remaining c.args.lines.now) (g.T.Source.remaining c.pull.new.self)
           c.loop-count.asked.line.items
-          (g.W.Write.contents c.args.out.now) (g.W.Write.contents c.loop-count.out) c.loop-count.asked.status
+          (g.W.Write.contents c.args.out.now) (g.W.Write.contents c.loop-count.out) c.loop-count.asked.answers.status
           c.too_long.result told ended c.if-too_long.false
           (is_empty c.loop-count.asked.line.len c.loop-count.asked.line.items (search rules) (sym c.is_empty.ensures ∙ so)))
     ]
@@ -87,7 +86,7 @@ returns-in_err-lookups-clause-begun g c =
 pub returns-in_default-clause-begun : goal.returns-in_default-clause-begun
 returns-in_default-clause-begun g c =
     text_kept_begun c.args.index.now c.args.op (g.T.Source.remaining c.args.lines.now) (g.T.Source.remaining c.loop-count.lines)
-    c.loop-count.asked.line.items (g.W.Write.contents c.args.out.now) (g.W.Write.contents c.loop-count.out) c.loop-count.asked.status
+    c.loop-count.asked.line.items (g.W.Write.contents c.args.out.now) (g.W.Write.contents c.loop-count.out) c.loop-count.asked.answers.status
     c.loop-count.invariant.told
 
 pub returns-in_err-answer_block-clause-begun : goal.returns-in_err-answer_block-clause-begun
@@ -100,7 +99,7 @@ returns-in_err-answer_block-clause-begun g c =
     so_stopped c.from_residual-in_err-answer_block.result _
     (text_stopped c.args.index.now c.args.op (g.T.Source.remaining c.args.lines.now) (g.T.Source.remaining c.loop-count.lines)
     (g.T.Source.remaining c.pull.new.self) c.loop-count.asked.line.items _ (g.W.Write.contents c.args.out.now)
-    (g.W.Write.contents c.loop-count.out) (g.W.Write.contents c.answer_block.new.out) c.loop-count.asked.status c.loop-count.invariant.told
+    (g.W.Write.contents c.loop-count.out) (g.W.Write.contents c.answer_block.new.out) c.loop-count.asked.answers.status c.loop-count.invariant.told
     pulls begun)
 
 pub returns-in_err-flush-clause-begun : goal.returns-in_err-flush-clause-begun
@@ -113,21 +112,21 @@ returns-in_err-flush-clause-begun g c =
     so_stopped c.from_residual-in_err-flush.result _
     (text_kept_begun c.args.index.now c.args.op (g.T.Source.remaining c.args.lines.now) (g.T.Source.remaining c.pull.new.self)
     c.answer_block.new.self.line.items (g.W.Write.contents c.args.out.now) (g.W.Write.contents c.flush.new.self)
-    c.answer_block.new.self.status
+    c.answer_block.new.self.answers.status
     (text_kept c.args.index.now c.args.op (g.T.Source.remaining c.args.lines.now) (g.T.Source.remaining c.pull.new.self)
     c.answer_block.new.self.line.items
     (g.W.Write.contents c.args.out.now) (g.W.Write.contents c.answer_block.new.out) (g.W.Write.contents c.flush.new.self)
-    c.answer_block.new.self.status
+    c.answer_block.new.self.answers.status
     (text_more c.args.index.now c.args.op (g.T.Source.remaining c.args.lines.now) (g.T.Source.remaining c.loop-count.lines)
     (g.T.Source.remaining c.pull.new.self) c.loop-count.asked.line.items _
     c.answer_block.new.self.line.items (g.W.Write.contents c.args.out.now) (g.W.Write.contents c.loop-count.out)
     (g.W.Write.contents c.answer_block.new.out)
-    c.loop-count.asked.status c.answer_block.new.self.status c.loop-count.invariant.told pulls block) c.in_err-flush.ensures.bytes))
+    c.loop-count.asked.answers.status c.answer_block.new.self.answers.status c.loop-count.invariant.told pulls block c.in_ok-answer_block.ensures.line) c.in_err-flush.ensures.bytes))
 
 pub returns-then-too_long-clause-begun : goal.returns-then-too_long-clause-begun
 returns-then-too_long-clause-begun g c =
     text_kept_begun c.args.index.now c.args.op (g.T.Source.remaining c.args.lines.now) (g.T.Source.remaining c.loop-count.lines)
-    c.loop-count.asked.line.items (g.W.Write.contents c.args.out.now) (g.W.Write.contents c.loop-count.out) c.loop-count.asked.status
+    c.loop-count.asked.line.items (g.W.Write.contents c.args.out.now) (g.W.Write.contents c.loop-count.out) c.loop-count.asked.answers.status
     c.loop-count.invariant.told
 
 pub returns-in_err-answer_line-clause-begun : goal.returns-in_err-answer_line-clause-begun
@@ -138,12 +137,12 @@ returns-in_err-answer_line-clause-begun g c =
     rw c.too_long.ensures (c.in-Ok.ensures.end count_is some) in
     let told = text_pulled c.args.index.now c.args.op (g.T.Source.remaining c.args.lines.now) (g.T.Source.remaining c.loop-count.lines)
     (g.T.Source.remaining c.pull.new.self) c.loop-count.asked.line.items
-    (g.W.Write.contents c.args.out.now) (g.W.Write.contents c.loop-count.out) c.loop-count.asked.status c.loop-count.invariant.told
+    (g.W.Write.contents c.args.out.now) (g.W.Write.contents c.loop-count.out) c.loop-count.asked.answers.status c.loop-count.invariant.told
     (rw count_is at c.in-Ok.ensures.bytes) in
     let not_so : c.is_empty.result ≡ false = search rules in
     so_stopped c.from_residual-in_err-answer_line.result _
     (last_stopped c.args.index.now c.args.op (g.T.Source.remaining c.args.lines.now) (g.T.Source.remaining c.pull.new.self)
     c.loop-count.asked.line.items (g.W.Write.contents c.args.out.now) (g.W.Write.contents c.loop-count.out)
-    (g.W.Write.contents c.answer_line.new.out) c.loop-count.asked.status c.too_long.result told ended c.if-too_long.false
+    (g.W.Write.contents c.answer_line.new.out) c.loop-count.asked.answers.status c.too_long.result told ended c.if-too_long.false
     (not_empty c.loop-count.asked.line.len c.loop-count.asked.line.items (search rules) (sym c.is_empty.ensures ∙ not_so))
     (rw (c.loop-count.invariant.same, c.loop-count.invariant.index) at c.in_err-answer_line.ensures.stopped))

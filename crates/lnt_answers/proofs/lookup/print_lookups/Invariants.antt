@@ -9,6 +9,7 @@ use Rattle.lnt_answers.proofs.lookup.print_lookups.Given as goal
 abbrev pub invariant-loop-position : goal.invariant-loop-position
 invariant-loop-position g l = record {
   index : l.lookups ≡ l.index;
+  none : l.line.items ≡ [];
   lines : (dead : Option ℕ) (skip : Bool) (units : List (ℕ × UnitParts)) → IsIndexOf dead skip units l.index
       → Appends (g.W.Write.contents l.fn.out) (g.W.Write.contents l.out)
       ([] ++ flat_map (lookup_line l.index dead skip units) (take l.position-index l.positions));

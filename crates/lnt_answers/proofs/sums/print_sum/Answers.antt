@@ -13,10 +13,11 @@ returns-in_err-path-clause-begun g c =
     (sums_unbegun (g.O.Opener.tells c.args.opener.now) c.args.index.now (listed_at c.args.index.now c.args.unit c.args.file)
     (g.W.Write.contents c.args.out.now))
 
-pub returns-in_default-print_found-clause-begun : goal.returns-in_default-print_found-clause-begun
-returns-in_default-print_found-clause-begun g c =
-    sums_unbegun (g.O.Opener.tells c.args.opener.now) c.args.index.now (listed_at c.args.index.now c.args.unit c.args.file)
-    (g.W.Write.contents c.args.out.now)
+pub returns-in_err-put_found-clause-begun : goal.returns-in_err-put_found-clause-begun
+returns-in_err-put_found-clause-begun g c =
+    so_stopped c.from_residual-in_err-put_found.result _
+    (sums_unbegun (g.O.Opener.tells c.args.opener.now) c.args.index.now (listed_at c.args.index.now c.args.unit c.args.file)
+    (g.W.Write.contents c.args.out.now))
 
 pub returns-in_err-write_whole-clause-begun : goal.returns-in_err-write_whole-clause-begun
 returns-in_err-write_whole-clause-begun g c =
@@ -24,7 +25,7 @@ returns-in_err-write_whole-clause-begun g c =
     (sum_stopped (g.O.Opener.tells c.args.opener.now) c.args.index.now c.args.unit c.args.file (g.W.Write.contents c.args.out.now)
     (g.W.Write.contents c.write_whole.new.out) c.in-Some.listed c.deref.result.now c.deref-2.result.now c.as_slice.result.now
     c.found_of-found.result (search rules) (search rules) (search rules) c.found_of-found.ensures.found
-    (text_in_room c.clear.new.self.items c.print_found.new.out.items c.as_slice.result.now _ c.clear.ensures.items c.in-Ok.ensures.line
+    (text_in_room c.clear.new.self.items c.put_found.new.line.items c.as_slice.result.now _ c.clear.ensures.items c.in_ok-put_found.ensures
     c.as_slice.ensures.value)
     c.in_err-write_whole.ensures.front)
 
@@ -34,6 +35,6 @@ returns-clause-sum g c =
     (g.W.Write.contents c.write_whole.new.out) c.in-Some.listed c.deref.result.now c.deref-2.result.now c.found_of-found.result
     c.status_of.result (search rules) (search rules) (search rules) c.found_of-found.ensures.found
     (subst (Appends (g.W.Write.contents c.args.out.now) (g.W.Write.contents c.write_whole.new.out))
-    (text_in_room c.clear.new.self.items c.print_found.new.out.items c.as_slice.result.now _ c.clear.ensures.items c.in-Ok.ensures.line
+    (text_in_room c.clear.new.self.items c.put_found.new.line.items c.as_slice.result.now _ c.clear.ensures.items c.in_ok-put_found.ensures
     c.as_slice.ensures.value)
     c.in_ok-write_whole.ensures.whole) c.status_of.ensures

@@ -1,56 +1,84 @@
-use Rattle.std.proofs.Common.{◌+◌, rules}
+use Rattle.std.proofs.Common.{◌+◌, ◌++◌, ◌∙◌, refl, sym, subst, rules, take, drop, List, ℕ}
 use Rattle.lnt_io.proofs.FrontLaws.{so_stopped}
-use Rattle.lnt_answers.proofs.AddressFronts.{block_kept, block_stopped}
-use Rattle.lnt_answers.proofs.AddressLemmas.{block_ended, block_more}
+use Rattle.lnt_answers.specs.AddressBlocks.{AreFirstTold}
+use Rattle.lnt_answers.proofs.AddressFronts.{first_kept, first_stopped}
+use Rattle.lnt_answers.proofs.AddressLemmas.{first_emptied, first_joined, first_more, first_none, first_sent, none_in, none_in_joined}
 use Rattle.lnt_answers.proofs.CommaLemmas.{rest_after}
 use Rattle.lnt_answers.proofs.addresses.Asked.answer_block.Goals as goal
 
-pub loop-end-preserved : goal.loop-end-preserved
-loop-end-preserved g c = record {
-  same = search rules;
-  index = search rules;
-  told =
-      let rest = c.loop-end.rest.now in
-      let before = c.loop-end.invariant.told in
-      let at = rw c.in-Some.is at c.place_of.ensures.cut in
-      let told = rw (c.loop-end.invariant.same, c.loop-end.invariant.index) at c.in_ok-answer_line.ensures.told in
-      block_more c.args.lookups.now c.args.self.now.op c.args.self.now.line.items c.args.block.now c.loop-end.self.line.items rest
-      c.in-Some.end _
-      c.extend_from_slice.new.self.items c.strip_return.new.line.items c.answer_line.new.self.line.items
-      (g.W.Write.contents c.args.out.now) (g.W.Write.contents c.loop-end.out) (g.W.Write.contents c.answer_line.new.out)
-      c.args.self.now.status c.loop-end.self.status c.answer_line.new.self.status
-      before at c.in_ok-extend_from_slice.ensures.items c.strip_return.ensures told (rest_after rest (c.in-Some.end + 1))
-      c.in_ok-answer_line.ensures.begun;
+pub loop-end-init : goal.loop-end-init
+loop-end-init g c = record {
+  same = refl;
+  index = refl;
+  none = c.requires.none;
+  shorter = search rules;
+  whole = c.requires.line;
+  told = first_none c.args.lookups.now c.args.self.now.answers.op (c.args.self.now.line.items ++ c.args.block.now)
+      (g.W.Write.contents c.args.out.now) c.args.self.now.answers.status;
 }
+
+pub overflow_add-end : goal.overflow_add-end
+overflow_add-end g c =
+    let before = c.loop-end.invariant.shorter in
+    let within = c.in-Some.ensures.within in
+    search rules
+
+pub loop-end-preserved : goal.loop-end-preserved
+loop-end-preserved g c =
+    let before = c.loop-end.invariant in
+    let rest = c.loop-end.rest.now in
+    let end = c.in-Some.end in
+    let at = rw c.in-Some.is at c.place_of.ensures.cut in
+    let ended = rw (before.same, before.index) at c.in_ok-end_line.ensures.told in
+    let more = rw (c.in_ok-end_line.ensures.same, before.same, c.end_line.ensures.index, before.index) at c.in_ok-rest.ensures.told in
+    let made = first_joined c.args.lookups.now c.args.self.now.answers.op c.loop-end.self.line.items rest (take end rest)
+    (drop (end + 1) rest) _ c.in_ok-rest.rest.now _ _ _ _ _ _ before.whole at ended (rest_after rest (end + 1)) more in
+    let shorter = c.in_ok-rest.ensures.shorter in
+    let none = c.in_ok-end_line.ensures.begun in
+    record {
+      same = c.in_ok-rest.ensures.same ∙ c.in_ok-end_line.ensures.same ∙ before.same;
+      index = c.put_lines.ensures.index ∙ c.end_line.ensures.index ∙ before.index;
+      none = c.in_ok-send.ensures.empty;
+      shorter = search rules;
+      whole = none_in 10 c.end_line.new.self.line.items none;
+      told = first_emptied _ _ _ _ c.end_line.new.self.line.items _ _ _ _
+          (first_more c.args.lookups.now c.args.self.now.answers.op _ _ c.in_ok-rest.rest.now _ _ _ _ _ _ before.told
+          (first_sent c.args.lookups.now c.args.self.now.answers.op _ _ _ _ (g.W.Write.contents c.loop-end.out)
+          (g.W.Write.contents c.send.new.out) _ _ made before.none c.in_ok-send.ensures.whole)) none;
+    }
 
 pub returns-clause-told : goal.returns-clause-told
 returns-clause-told g c =
-    block_ended c.args.lookups.now c.args.self.now.op c.args.self.now.line.items c.args.block.now c.loop-end.self.line.items
-    c.loop-end.rest.now c.extend_from_slice-2.new.self.items
-    (g.W.Write.contents c.args.out.now) (g.W.Write.contents c.loop-end.out) c.args.self.now.status c.loop-end.self.status
-    c.loop-end.invariant.told (search rules) c.in_ok-extend_from_slice-2.ensures.items
+    subst (λ (z : List ℕ). AreFirstTold c.args.lookups.now c.args.self.now.answers.op (c.args.self.now.line.items ++ c.args.block.now) z
+    (g.W.Write.contents c.args.out.now) (g.W.Write.contents c.loop-end.out) c.args.self.now.answers.status c.loop-end.self.answers.status)
+    (sym c.in_ok-extend_from_slice.ensures.items) c.loop-end.invariant.told
+
+pub returns-clause-line : goal.returns-clause-line
+returns-clause-line g c =
+    none_in_joined 10 c.loop-end.self.line.items c.loop-end.rest.now c.extend_from_slice.new.self.items c.loop-end.invariant.whole
+    (rw c.in_default.is at c.place_of.ensures.cut) c.in_ok-extend_from_slice.ensures.items
+
+pub returns-in_err-end_line-clause-stopped : goal.returns-in_err-end_line-clause-stopped
+returns-in_err-end_line-clause-stopped g c = so_stopped c.from_residual.result _ (first_kept _ _ _ _ _ _ _ _ c.loop-end.invariant.told)
+
+pub returns-in_err-rest-clause-stopped : goal.returns-in_err-rest-clause-stopped
+returns-in_err-rest-clause-stopped g c =
+    so_stopped c.from_residual-in_err-rest.result _ (first_kept _ _ _ _ _ _ _ _ c.loop-end.invariant.told)
+
+pub returns-in_err-send-clause-stopped : goal.returns-in_err-send-clause-stopped
+returns-in_err-send-clause-stopped g c =
+    let before = c.loop-end.invariant in
+    let rest = c.loop-end.rest.now in
+    let end = c.in-Some.end in
+    let at = rw c.in-Some.is at c.place_of.ensures.cut in
+    let ended = rw (before.same, before.index) at c.in_ok-end_line.ensures.told in
+    let more = rw (c.in_ok-end_line.ensures.same, before.same, c.end_line.ensures.index, before.index) at c.in_ok-rest.ensures.told in
+    let made = first_joined c.args.lookups.now c.args.self.now.answers.op c.loop-end.self.line.items rest (take end rest)
+    (drop (end + 1) rest) _ c.in_ok-rest.rest.now _ _ _ _ _ _ before.whole at ended (rest_after rest (end + 1)) more in
+    so_stopped c.from_residual-in_err-send.result _
+    (first_stopped c.args.lookups.now c.args.self.now.answers.op _ _ c.in_ok-rest.rest.now _ _ _ _ (g.W.Write.contents c.send.new.out)
+    _ _ _ before.told made before.none c.in_err-send.ensures.front)
 
 pub returns-in_err-extend_from_slice-clause-stopped : goal.returns-in_err-extend_from_slice-clause-stopped
 returns-in_err-extend_from_slice-clause-stopped g c =
-    so_stopped c.from_residual.result _
-    (block_kept c.args.lookups.now c.args.self.now.op c.args.self.now.line.items c.args.block.now c.loop-end.self.line.items
-    c.loop-end.rest.now (g.W.Write.contents c.args.out.now) (g.W.Write.contents c.loop-end.out) c.args.self.now.status
-    c.loop-end.self.status c.loop-end.invariant.told)
-
-pub returns-in_err-answer_line-clause-stopped : goal.returns-in_err-answer_line-clause-stopped
-returns-in_err-answer_line-clause-stopped g c =
-    let rest = c.loop-end.rest.now in
-    let at = rw c.in-Some.is at c.place_of.ensures.cut in
-    let begun = rw (c.loop-end.invariant.same, c.loop-end.invariant.index) at c.in_err-answer_line.ensures.stopped in
-    so_stopped c.from_residual-in_err-answer_line.result _
-    (block_stopped c.args.lookups.now c.args.self.now.op c.args.self.now.line.items c.args.block.now c.loop-end.self.line.items rest
-    c.in-Some.end c.extend_from_slice.new.self.items c.strip_return.new.line.items (g.W.Write.contents c.args.out.now)
-    (g.W.Write.contents c.loop-end.out) (g.W.Write.contents c.answer_line.new.out) c.args.self.now.status c.loop-end.self.status
-    c.loop-end.invariant.told at c.in_ok-extend_from_slice.ensures.items c.strip_return.ensures begun)
-
-pub returns-in_err-extend_from_slice-2-clause-stopped : goal.returns-in_err-extend_from_slice-2-clause-stopped
-returns-in_err-extend_from_slice-2-clause-stopped g c =
-    so_stopped c.from_residual-in_err-extend_from_slice-2.result _
-    (block_kept c.args.lookups.now c.args.self.now.op c.args.self.now.line.items c.args.block.now c.loop-end.self.line.items
-    c.loop-end.rest.now (g.W.Write.contents c.args.out.now) (g.W.Write.contents c.loop-end.out) c.args.self.now.status
-    c.loop-end.self.status c.loop-end.invariant.told)
+    so_stopped c.from_residual-in_err-extend_from_slice.result _ (first_kept _ _ _ _ _ _ _ _ c.loop-end.invariant.told)
