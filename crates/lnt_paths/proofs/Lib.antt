@@ -10,10 +10,11 @@ pub mod OneTableLemmas
 pub mod OneWrittenLaws
 pub mod PassingLemmas
 pub mod PathSpanLemmas
+pub mod PathStretchLemmas
 pub mod ReadingLemmas
 pub mod StepLemmas
 pub mod StretchLaws
-pub mod StretchingLemmas
+pub mod TableRunLemmas
 pub mod UniqueLemmas
 pub mod WriteLemmas
 pub mod WrittenLaws

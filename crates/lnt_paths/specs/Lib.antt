@@ -14,6 +14,6 @@ pub mod PathSpans
 pub mod PathStretches
 pub mod PathTables
 pub mod Reading
-pub mod Stepping
 pub mod Stretching
+pub mod TableRuns
 pub mod Written

@@ -119,6 +119,10 @@ impl<'p, 'r, P: Paths> Telling for PathTelling<'p, 'r, P> {
             .has_told_path(self.alloc, self.paths, recalled, answer, held.path)
     }
 
+    fn same_said(&self, one: SaidPath<'r>, other: SaidPath<'r>) -> bool {
+        one.line == other.line && one.column == other.column && one.path == other.path
+    }
+
     fn difference(
         &self,
         position: Position,

@@ -64,29 +64,6 @@ impl ToldFiles {
         None
     }
 
-    // Whether the file that an answer names has this path, byte for byte. The result is remembered for some files.
-    pub(crate) fn has_path<P: Paths>(
-        &mut self,
-        alloc: Global,
-        paths: &P,
-        answer: &Answer,
-        path: &[u8],
-    ) -> Result<bool, AllocError>
-        requires { AreTold (P.bytes_of paths.now) path.now self.old.slots }
-        ensures told { OnOk result (AreTold (P.bytes_of paths.now) path.now self.new.slots) }
-        ensures same { IfOk result (λ same. MatchBool same (P.bytes_of paths.now answer.now.unit answer.now.file ≡ path.now)
-            (P.bytes_of paths.now answer.now.unit answer.now.file ≢ path.now)) }
-    {
-        let (unit, file) = (answer.unit, answer.file);
-        if let Some(same) = self.recall(unit, file) {
-            return Ok(same);
-        }
-        let made = paths.path_of(alloc, unit, file)?;
-        let same = made.as_slice() == path;
-        self.keep(unit, file, same);
-        Ok(same)
-    }
-
     // Remembers whether the file has the path.
     #[inline(always)]
     pub(crate) fn keep(&mut self, unit: u64, file: u64, same: bool)

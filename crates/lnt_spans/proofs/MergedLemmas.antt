@@ -239,7 +239,7 @@ missed_unanswered by_table by_section p e = by_answer (by_table p) (by_section p
     by_answer None section e = e
     by_answer (Some answer) section e = refl
 
-missed_said : {X : Type 0} (by_table by_section : Position → Option X) (p : Position) (said : X) → by_table p ≡ Some said
+pub missed_said : {X : Type 0} (by_table by_section : Position → Option X) (p : Position) (said : X) → by_table p ≡ Some said
     → where_missed by_table by_section p ≡ None
 missed_said by_table by_section p said e = ap (λ table. where_none table (by_section p)) e
 

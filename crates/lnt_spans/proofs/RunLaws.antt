@@ -11,30 +11,13 @@ use Rattle.lnt_spans.specs.AnyStretches.{AreAnswers, Stay}
 use Rattle.lnt_spans.specs.Positions.{IsBelow, IsAtMost}
 use Rattle.lnt_spans.specs.Remaining.{EndsAfter}
 use Rattle.lnt_spans.specs.Spans.{AreInOrder, span_answer}
-use Rattle.lnt_spans.specs.Stepping.{BeginsWith, IsBefore, IsRun, IsUpTo, run_end}
+use Rattle.lnt_spans.specs.Runs.{IsBefore, IsRun, IsUpTo, run_end}
 use Rattle.lnt_spans.proofs.AnsweringLaws.{answer_after, answer_in, first_holds, none_before, rest_in_order}
 use Rattle.lnt_spans.proofs.PositionLaws.{at_most_below, at_most_itself, at_most_trans, below_at_most, below_is_at_most}
 use Rattle.lnt_spans.proofs.PositionLaws.{order_cases, order_three, test_below, test_not_below}
-use Rattle.lnt_spans.proofs.AheadLaws.{first_is, next_after}
+use Rattle.lnt_spans.proofs.AheadLaws.{next_after}
 
 -- ---- one side, run by run
-
--- what answers alike from the position on has the run too
-pub same_run : {X : Type 0} (one other : Position → Option X) (at : Position) (answer : Option X) (end : Option Position)
-    → ((p : Position) → IsAtMost at p → one p ≡ other p) → IsRun one at answer end → IsRun other at answer end
-same_run one other at answer end same run = record { past = run.past; says = λ p h k. sym (same p h) ∙ run.says p h k }
-
--- The next span begins later: up to there is no answer, however answers are told.
-pub run_gap : {X : Type 0} (tell : Answer → X) (next : Option Span) (spans : List Span) (span : Span) (at : Position) → next ≡ Some span
-    → BeginsWith next spans → AreInOrder spans → IsBelow at span.low
-    → IsRun (λ p. option_map tell (span_answer spans p)) at None (Some span.low)
-run_gap tell next spans span at is b o gap =
-    let first = first_is next span spans is b in
-    record {
-      past = gap;
-      says = λ p h k. ap (option_map tell) (ap (λ (xs : List Span). span_answer xs p) first.1
-          ∙ none_before span first.0 p (subst AreInOrder first.1 o) k);
-    }
 
 end_gap : (span : Span) (at : Position) → IsBelow at span.low → Some span.low ≡ run_end at (Some span)
 end_gap span at lt = rw (test_below at span.low lt) refl

@@ -1,102 +1,187 @@
--- The spans of both sides, passed as their stretches are told, and where nothing is told yet.
-use Rattle.std.proofs.Common.{◌≡◌, ◌∙◌, List, [], ◌∷◌, ◌++◌, inl}
-use Rattle.std.proofs.Common.{inr, ap, sym, subst, Some, None, Option}
+-- Both sides, followed step by step as their stretches are told, and where nothing is told yet.
+use Rattle.std.proofs.Common.{◌≡◌, ◌∙◌, ℕ, ◌+◌, ◌^◌, ◌≤◌, Bool, true, false, cond, List, [], ◌∷◌, ◌++◌, ◌⊎◌, inl, inr, arith, is_some}
+use Rattle.std.proofs.Common.{refl, ap, sym, subst, Some, None, Option}
 use Rattle.std.specs.List.{AllByRecursion}
 use Rattle.std.specs.Option.{option_map}
 use Rattle.lnt_spans.specs.declared.ahead.Ahead.{Ahead}
 use Rattle.lnt_spans.specs.declared.answer.Answer.{Answer}
 use Rattle.lnt_spans.specs.declared.answer.Version.{Version}
+use Rattle.lnt_spans.specs.declared.any_stretches.Stretches.{Stretches}
 use Rattle.lnt_spans.specs.declared.position.Position.{Position}
 use Rattle.lnt_spans.specs.declared.span.Span.{Span}
-use Rattle.lnt_spans.specs.Answers.{in_version}
 use Rattle.lnt_spans.specs.Ahead.{IsAhead}
-use Rattle.lnt_spans.specs.AnyStretches.{AreRising, IsInOne, Stretch}
-use Rattle.lnt_spans.specs.Stepping.{BeginsWith}
+use Rattle.lnt_spans.specs.Answers.{in_version}
+use Rattle.lnt_spans.specs.AnyStretches.{AreAllStretches, AreRising, IsInOne, Stretch, stretch_at}
 use Rattle.lnt_spans.specs.Comparing.{IsTold, end_of}
-use Rattle.lnt_spans.specs.Differing.{HasTold, IsSideAt}
-use Rattle.lnt_spans.specs.Positions.{IsAtMost}
-use Rattle.lnt_spans.specs.Remaining.{EndsAfter}
-use Rattle.lnt_spans.specs.Spans.{AreInOrder, span_answer, version_answer}
-use Rattle.lnt_spans.specs.Stepping.{IsRun, IsUpTo, run_end}
-use Rattle.lnt_spans.specs.Stretches.{stretch_of, stretches_of}
-use Rattle.lnt_spans.proofs.AnsweringLaws.{answer_after, back_in_order}
-use Rattle.lnt_spans.proofs.AnsweringLaws.{rest_in_order}
-use Rattle.lnt_spans.proofs.PassedLaws.{answer_below, answer_from, ends_after, told_back, told_front, told_same}
-use Rattle.lnt_spans.proofs.PositionLaws.{at_most_trans, below_is_at_most, not_both}
+use Rattle.lnt_spans.specs.Counts.{addresses_answered}
+use Rattle.lnt_spans.specs.Differing.{HasTold}
 use Rattle.lnt_spans.specs.Laws.{FirstStretch}
-use Rattle.lnt_spans.proofs.RunLaws.{after_high, same_run, up_to_high}
-use Rattle.lnt_spans.proofs.ToldStretchLaws.{told_none}
-use Rattle.lnt_spans.proofs.AheadLaws.{begins_with, first_is}
-
--- ---- one side
-
-pub side_passed : {S : Type 0} (to_come : S → List Span → Type 0) (version : Version) (old new : Ahead S) (span : Span) (at end : Position)
-    (answers : Position → Option Answer) → old.next ≡ Some span → IsAtMost span.high end
-    → ((first : Span) (more : List Span) → IsAhead to_come old (first ∷ more) → IsAhead to_come new more)
-    → IsSideAt to_come version old at answers → IsAtMost at end → IsUpTo end (run_end at old.next)
-    → IsSideAt to_come version new end answers
-side_passed to_come version old new span at end answers some high passes s le up =
-    let first = first_is old.next span s.rest some (begins_with to_come old s.rest s.coming) in
-    let order : AreInOrder (span ∷ first.0) = subst AreInOrder first.1 s.order in
-    let up_to : IsUpTo end (run_end at (Some span)) = subst (λ (o : Option Span). IsUpTo end (run_end at o)) some up in
-    let within = up_to_high span first.0 at end order up_to in
-    record {
-      rest = first.0;
-      coming = passes span first.0 (subst (IsAhead to_come old) first.1 s.coming);
-      order = rest_in_order span first.0 order;
-      past = after_high span first.0 end order within;
-      same = λ p h.
-          ap (option_map (in_version version)) (sym (answer_after span first.0 p (at_most_trans high h)))
-          ∙ ap (λ (xs : List Span). version_answer version xs p) (sym first.1) ∙ s.same p (at_most_trans le h);
-    }
+use Rattle.lnt_spans.specs.Merged.{until}
+use Rattle.lnt_spans.specs.Partial.{where_missed, where_none}
+use Rattle.lnt_spans.specs.Positions.{IsBelow, IsAtMost}
+use Rattle.lnt_spans.specs.Runs.{IsAheadAt, IsRun, IsSideAt, IsUpTo}
+use Rattle.lnt_spans.specs.Spans.{AreInOrder, span_answer, version_answer}
+use Rattle.lnt_spans.specs.Stepping.{IsKnown, missed_between}
+use Rattle.lnt_spans.specs.Stretches.{stretch_of, stretches_of}
+use Rattle.lnt_spans.specs.Stretching.{HasBegun, HasGiven}
+use Rattle.lnt_spans.specs.ToldStretches.{AreToldBelow}
+use Rattle.lnt_spans.proofs.AnsweringLaws.{back_in_order}
+use Rattle.lnt_spans.proofs.CountLemmas.{added_range, most_addresses, no_addresses, same_addresses}
+use Rattle.lnt_spans.proofs.MergedLemmas.{missed_here, missed_said, missed_same, missed_unanswered, until_below, until_from}
+use Rattle.lnt_spans.proofs.PassedLaws.{answer_below, answer_from, ends_after, told_front, told_same}
+use Rattle.lnt_spans.proofs.PositionLaws.{at_most_trans, below_at_most, below_is_at_most, not_both, order_cases}
+use Rattle.lnt_spans.proofs.RunLaws.{Moves, moves}
+use Rattle.lnt_spans.proofs.SideLemmas.{side_run}
+use Rattle.lnt_spans.proofs.ToldStretchLaws.{step_known, told_all, told_new, told_none}
 
 -- ---- a step
 
--- the answer of one side, and its end
-abbrev pub Runs : Version → Option Span → Position → Option Answer → Option Position → Type 0
-Runs version next at answer end =
-    (spans : List Span) → BeginsWith next spans → AreInOrder spans → EndsAfter at spans
-    → IsRun (version_answer version spans) at answer end
+-- Both answers stay up to the earlier of their ends.
+pub both_move : {S N A V X : Type 0} (to_come : S → List Span → Type 0) (is_at : N → Position → (Position → Option V) → Type 0)
+    (value_of : A → V) (tell : Answer → X) (said : A → X) (section : Ahead S) (table : N) (at end : Position) (f g : Position → Option X)
+    (a : Option Answer) (b : Option A) (one other : Option Position) → IsSideAt (IsAheadAt to_come) (λ answer. answer) tell section at f
+    → IsSideAt is_at value_of said table at g
+    → ((values : Position → Option Answer) → IsAheadAt to_come section at values → IsRun values at (option_map (λ answer. answer) a) one)
+    → ((values : Position → Option V) → is_at table at values → IsRun values at (option_map value_of b) other)
+    → IsUpTo end one × IsUpTo end other × ((one ≡ Some end) ⊎ (other ≡ Some end))
+    → Moves f g at end (option_map tell a) (option_map said b)
+both_move to_come is_at value_of tell said section table at end f g a b one other h k runs runs' ends =
+    moves f g at end (option_map tell a) (option_map said b) one other
+    (side_run (IsAheadAt to_come) (λ answer. answer) tell section at f a one h runs)
+    (side_run is_at value_of said table at g b other k runs') ends.0 ends.1 ends.2
 
-pub side_run : {S : Type 0} (to_come : S → List Span → Type 0) (version : Version) (ahead : Ahead S) (at : Position)
-    (answers : Position → Option Answer) (answer : Option Answer) (end : Option Position) → IsSideAt to_come version ahead at answers
-    → Runs version ahead.next at answer end → IsRun answers at answer end
-side_run to_come version ahead at answers answer end s runs =
-    same_run (version_answer version s.rest) answers at answer end s.same
-    (runs s.rest (begins_with to_come ahead s.rest s.coming) s.order s.past)
+-- ---- what a step tells
+
+pub step_told : {X : Type 0} (f g : Position → Option X) (at end : Position) (s t s' t' : Option X) (told : List (Stretch X)) (known : Bool)
+    → AreToldBelow f g at s t told → Moves f g at end s' t' → IsKnown known s' t' s t
+    → AreToldBelow f g end s' t' (cond known told (told ++ stretch_at at s' t' ∷ []))
+step_told f g at end s t s' t' told true b moves known = step_known f g at end s t s' t' told b moves known
+step_told f g at end s t s' t' told false b moves known = told_new f g at end s t s' t' told b moves.below moves.stay known.0 known.1
+
+-- ---- what a step counts
+
+missed_on : {X A B : Type 0} (tell : A → X) (said : B → X) (f g : Position → Option X) (at end : Position) (a : Option A) (b : Option B)
+    → Moves f g at end (option_map tell a) (option_map said b)
+    → addresses_answered (until end (where_missed g f)) ≡ addresses_answered (until at (where_missed g f)) + missed_between a b at end
+missed_on tell said f g at end None b moves =
+    let same = missed_same g f at end (below_is_at_most moves.below) (λ p h k. missed_unanswered g f p (moves.stay p h k).section) in
+    omega (arith, same)
+missed_on tell said f g at end (Some a) (Some b) moves =
+    let same = missed_same g f at end (below_is_at_most moves.below) (λ p h k. missed_said g f p (said b) (moves.stay p h k).table) in
+    omega (arith, same)
+missed_on tell said f g at end (Some a) None moves =
+    let missed = where_missed g f in
+    added_range (until at missed) (until end missed) at end (record {
+      added = λ p h k. ap is_some (until_below end p missed k ∙ missed_here g f p (moves.stay p h k).table ∙ (moves.stay p h k).section);
+      unanswered = λ p h k. until_from at p missed h;
+      below = λ p early. ap is_some (until_below end p missed (below_at_most early (below_is_at_most moves.below))
+          ∙ sym (until_below at p missed early));
+      above = λ p late. ap is_some (until_from end p missed late
+          ∙ sym (until_from at p missed (below_is_at_most (below_at_most moves.below late))));
+    })
+
+pub step_counted : {X A B : Type 0} (tell : A → X) (said : B → X) (f g : Position → Option X) (at end : Position) (a : Option A)
+    (b : Option B) (old new : ℕ) → Moves f g at end (option_map tell a) (option_map said b)
+    → old ≡ addresses_answered (until at (where_missed g f))
+    → (old + missed_between a b at end ≤ 2 ^ 64 → new ≡ old + missed_between a b at end)
+    → new ≡ addresses_answered (until end (where_missed g f))
+step_counted tell said f g at end a b old new moves counted adds =
+    let more = missed_on tell said f g at end a b moves in
+    let most = most_addresses (until end (where_missed g f)) in
+    let sum = adds (omega (arith, more, most, counted)) in
+    omega (arith, more, sum, counted)
+
+-- ---- where neither side has an answer any more
+
+nothing_from : {X A : Type 0} (said : A → X) (answers : Position → Option X) (at : Position) (answer : Option A) (end : Option Position)
+    → IsRun answers at (option_map said answer) end → end ≡ None → answer ≡ None
+    → (p : Position) → IsAtMost at p → answers p ≡ None
+nothing_from said answers at None None run e e' p h = run.says p h tt
+nothing_from said answers at (Some answer) None run e e' p h = absurd (let no : Some answer ≡ None = e' in cc no)
+nothing_from said answers at answer (Some end) run e e' p h = absurd (let no : Some end ≡ None = e in cc no)
+
+pub given_all : {S N A V X : Type 0} (to_come : S → List Span → Type 0) (is_at : N → Position → (Position → Option V) → Type 0)
+    (value_of : A → V) (tell : Answer → X) (said : A → X) (stretches : Stretches S N A) (f g : Position → Option X)
+    (told : List (Stretch X)) (a : Option Answer) (b : Option A) (one other : Option Position)
+    → HasGiven to_come is_at value_of tell said stretches f g told
+    → IsRun f stretches.at (option_map tell a) one → IsRun g stretches.at (option_map said b) other
+    → (one ≡ None) × (other ≡ None) → a ≡ None → b ≡ None
+    → AreAllStretches f g told × (stretches.missed ≡ addresses_answered (where_missed g f))
+given_all to_come is_at value_of tell said stretches f g told a b one other h run run' ends e e' =
+    let at = stretches.at in
+    let none = nothing_from tell f at a one run ends.0 e in
+    let none' = nothing_from said g at b other run' ends.1 e' in (
+      told_all f g at (option_map tell stretches.before.section) (option_map said stretches.before.table) told h.below none none',
+      h.counted ∙ same_addresses (until at (where_missed g f)) (where_missed g f) (λ p. ap is_some (elim (order_cases p at) [
+        | inl early ↦ until_below at p (where_missed g f) early
+        | inr late ↦ until_from at p (where_missed g f) late ∙ sym (missed_unanswered g f p (none p late))
+      ])),
+    )
 
 -- ---- where nothing is told
 
-pub told_after : {S T : Type 0} (of_section : S → List Span → Type 0) (of_table : T → List Span → Type 0) (section : Ahead S)
-    (table : Ahead T) (version : Version) (at : Position) (f : Position → Option Answer)
-    (passed spans records : List Span) → IsAhead of_section section spans → IsAhead of_table table records → AreInOrder (passed ++ spans)
-    → AreInOrder (passed ++ records)
+pub same_option : {X : Type 0} (answer : Option X) → option_map (λ answer. answer) answer ≡ answer
+same_option None = refl
+same_option (Some answer) = refl
+
+-- spans are told from the end of those that were passed on
+pub begins_at : {S X : Type 0} (to_come : S → List Span → Type 0) (tell : Answer → X) (ahead : Ahead S) (passed spans : List Span)
+    (answers : Position → Option X) → IsAhead to_come ahead spans → AreInOrder (passed ++ spans)
+    → ((p : Position) → option_map tell (span_answer (passed ++ spans) p) ≡ answers p)
+    → IsSideAt (IsAheadAt to_come) (λ answer. answer) tell ahead (end_of passed) answers
+begins_at to_come tell ahead passed spans answers coming order same = record {
+  values = span_answer (passed ++ spans);
+  valued = record {
+    rest = spans;
+    coming = coming;
+    order = back_in_order passed spans order;
+    past = ends_after passed spans order;
+    same = λ p h. sym (answer_from passed spans p order h);
+  };
+  same = λ p h answer e. sym (same p) ∙ ap (option_map tell) (e ∙ same_option answer);
+}
+
+-- where both sides answer alike nothing is missed
+pub alike_missed : {X : Type 0} (f g : Position → Option X) (p : Position) → f p ≡ g p → where_missed g f p ≡ None
+alike_missed f g p e = by_answer (f p) (g p) e
+  where
+    by_answer : {X : Type 0} (section table : Option X) → section ≡ table → where_none table section ≡ None
+    by_answer section None e = e
+    by_answer section (Some answer) e = refl
+
+pub begun_given : {S N A V X : Type 0} (to_come : S → List Span → Type 0) (is_at : N → Position → (Position → Option V) → Type 0)
+    (value_of : A → V) (tell : Answer → X) (said : A → X) (section : S) (table : N) (at : Position) (stretches : Stretches S N A)
+    (f g : Position → Option X) → HasBegun to_come section table at stretches
+    → IsSideAt (IsAheadAt to_come) (λ answer. answer) tell stretches.section at f → IsSideAt is_at value_of said table at g
+    → ((p : Position) → IsBelow p at → f p ≡ g p) → HasGiven to_come is_at value_of tell said stretches f g []
+begun_given to_come is_at value_of tell said section table at stretches f g b one other same = record {
+  section = rw b.at_is one;
+  table = rw (b.at_is, b.table_is) other;
+  below = rw (b.at_is, b.no_section, b.no_table) (told_none f g at same);
+  counted = rw (b.at_is, b.none_missed) (sym (no_addresses (until at (where_missed g f)) (λ p. ap is_some (elim (order_cases p at) [
+    | inl early ↦ until_below at p (where_missed g f) early ∙ alike_missed f g p (same p early)
+    | inr late ↦ until_from at p (where_missed g f) late
+  ]))));
+}
+
+pub told_after : {S T : Type 0} (of_section : S → List Span → Type 0) (of_table : T → List Span → Type 0) (section : S) (table : Ahead T)
+    (version : Version) (at : Position) (stretches : Stretches S (Ahead T) Answer) (f : Position → Option Answer)
+    (passed spans records : List Span) → HasBegun of_section section table at stretches → of_section section spans
+    → IsAhead of_table table records → AreInOrder (passed ++ spans) → AreInOrder (passed ++ records)
     → AllByRecursion (IsTold version) (passed ++ records) → at ≡ end_of passed
     → ((p : Position) → version_answer version (passed ++ spans) p ≡ f p)
-    → HasTold of_section of_table (record
-    { version = version; section = section; table = table; at = at; by_section = None; by_table = None }) f (span_answer
-    (passed ++ records)) []
-told_after of_section of_table section table version at f passed spans records a b o o' t e same = rw e (record {
-  section = record {
-    rest = spans;
-    coming = a;
-    order = back_in_order passed spans o;
-    past = ends_after passed spans o;
-    same = λ p h. sym (ap (option_map (in_version version)) (answer_from passed spans p o h)) ∙ same p;
-  };
-  table = record {
-    rest = records;
-    coming = b;
-    order = back_in_order passed records o';
-    past = ends_after passed records o';
-    same = λ p h. told_same version records p (told_back version passed records t) ∙ sym (answer_from passed records p o' h);
-  };
-  below = told_none f (span_answer (passed ++ records)) (end_of passed)
-      (λ p h.
-      sym (same p) ∙ ap (option_map (in_version version)) (answer_below passed spans p o h)
-      ∙ told_same version passed p (told_front version passed records t)
-      ∙ sym (answer_below passed records p o' h));
-})
+    → HasTold of_section of_table (record { version = version; stretches = stretches }) f (span_answer (passed ++ records)) []
+told_after of_section of_table section table version at stretches f passed spans records b a a' o o' t e same =
+    begun_given of_section (IsAheadAt of_table) (λ answer. answer) (in_version version) (λ answer. answer) section table at stretches f
+    (span_answer (passed ++ records)) b
+    (rw e (begins_at of_section (in_version version) stretches.section passed spans f (b.ahead spans a) o same))
+    (rw e (begins_at of_table (λ answer. answer) table passed records (span_answer (passed ++ records)) a' o'
+    (λ p. same_option (span_answer (passed ++ records) p))))
+    (λ p h.
+    let below : IsBelow p (end_of passed) = subst (IsBelow p) e h in
+    sym (same p) ∙ ap (option_map (in_version version)) (answer_below passed spans p o below)
+    ∙ told_same version passed p (told_front version passed records t)
+    ∙ sym (answer_below passed records p o' below))
 
 -- ---- the first stretch
 

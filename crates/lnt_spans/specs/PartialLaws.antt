@@ -1,5 +1,5 @@
 -- What the laws of tables that answer a part say, and those of counts of addresses, for any type of answers.
-use Rattle.std.specs.Prelude.{◌≡◌, ◌↔◌, ℕ, ◌+◌, ◌^◌, ◌≤◌, is_some, IsSome, List, Option, None}
+use Rattle.std.specs.Prelude.{◌≡◌, ◌↔◌, ℕ, ◌+◌, ◌^◌, ◌≤◌, is_some, IsSome, List, [], ◌∷◌, Option, Some, None}
 use Rattle.std.specs.List.{AllByRecursion}
 use Rattle.lnt_spans.specs.declared.answer.Answer.{Answer}
 use Rattle.lnt_spans.specs.declared.difference.Difference.{Difference}
@@ -37,6 +37,21 @@ abbrev pub AllMistakes : Type 0 → Type 0
 AllMistakes X = (by_table by_section : Position → Option X) (stretches : List (Stretch X))
     → AreAllMistakes by_table by_section stretches
     ↔ AreAllStretches (where_answered by_table by_section) by_table stretches
+
+-- the list with the second in front, if there is a first
+abbrev pub if_some : {X Y : Type 0} → Option X → Y → List Y → List Y
+if_some None one list = list
+if_some (Some _) one list = one ∷ list
+
+-- those at which the table answers
+abbrev pub answered_stretches : {X : Type 0} → List (Stretch X) → List (Stretch X)
+answered_stretches [] = []
+answered_stretches (stretch ∷ stretches) = if_some stretch.by_table stretch (answered_stretches stretches)
+
+-- Of all stretches at which a table and a section answer differently, those at which the table answers are all its mistakes.
+abbrev pub MistakesAmong : Type 0 → Type 0
+MistakesAmong X = (by_table by_section : Position → Option X) (stretches : List (Stretch X))
+    → AreAllStretches by_section by_table stretches → AreAllMistakes by_table by_section (answered_stretches stretches)
 
 -- ---- counts of addresses
 

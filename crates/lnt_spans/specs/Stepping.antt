@@ -1,50 +1,36 @@
--- What the bodies of this crate say of one step, and those of lnt_paths. No public contract speaks of it.
-use Rattle.std.specs.Prelude.{◌≡◌, List, [], ◌∷◌, ◌++◌, Option, Some, None, cond}
+-- What the bodies of this crate say of one step. No public contract speaks of it.
+use Rattle.std.specs.Prelude.{◌≡◌, ◌≢◌, ◌⊎◌, ℕ, Bool, ◌&&◌, cond, is_some, is_none, List, [], ◌∷◌, ◌++◌, Option, Some, None}
+use Rattle.std.specs.Bool.{MatchBool}
+use Rattle.std.specs.Option.{option_map}
 use Rattle.lnt_spans.specs.declared.answer.Answer.{Answer}
-use Rattle.lnt_spans.specs.declared.difference.Difference.{Difference}
+use Rattle.lnt_spans.specs.declared.any_stretches.Step.{Step}
+use Rattle.lnt_spans.specs.declared.any_stretches.Stretches.{Stretches}
 use Rattle.lnt_spans.specs.declared.position.Position.{Position}
 use Rattle.lnt_spans.specs.declared.span.Span.{Span}
-use Rattle.lnt_spans.specs.declared.stretches.Differences.{Differences}
-use Rattle.lnt_spans.specs.declared.stretches.Step.{Step}
-use Rattle.lnt_spans.specs.declared.stretches.Step.TheVariants.{Ended, Known, Told}
-use Rattle.lnt_spans.specs.Differing.{HasTold}
-use Rattle.lnt_spans.specs.Positions.{IsBelow, IsAtMost, is_below}
-use Rattle.lnt_spans.specs.Stretches.{AreStretches}
+use Rattle.lnt_spans.specs.AnyStretches.{AreAllStretches, Stretch, stretch_at}
+use Rattle.lnt_spans.specs.Counts.{addresses_answered, addresses_between}
+use Rattle.lnt_spans.specs.Partial.{where_missed}
+use Rattle.lnt_spans.specs.Stretching.{HasGiven}
 
--- ---- one step on to where one of the two answers ends: how far each of them goes, and what the step brings
+-- Whether no stretch begins with these two answers: they are alike, or each is as it was before.
+abbrev pub IsKnown : {X : Type 0} → Bool → Option X → Option X → Option X → Option X → Type 0
+IsKnown known section table section_before table_before = MatchBool known
+    ((section ≡ table) ⊎ (section ≡ section_before) × (table ≡ table_before))
+    ((table ≢ section) × (section ≡ section_before → table ≡ table_before → ⊥))
 
--- The position isn't after the end, if there is one.
-abbrev pub IsUpTo : Position → Option Position → Type 0
-IsUpTo p None = Unit {0}
-IsUpTo p (Some end) = IsAtMost p end
+-- how many addresses are missed from `at` up to `end`, where the two sides have these answers
+abbrev pub missed_between : {X Y : Type 0} → Option X → Option Y → Position → Position → ℕ
+missed_between of_section of_table at end = cond (is_some of_section && is_none of_table) (addresses_between at end) 0
 
--- It is below the end, if there is one.
-abbrev pub IsBefore : Position → Option Position → Type 0
-IsBefore p None = Unit {0}
-IsBefore p (Some end) = IsBelow p end
+-- the stretches given, with the one that begins with this step, if one does
+abbrev pub told_with : {A X : Type 0} → (Answer → X) → (A → X) → List (Stretch X) → Step A → List (Stretch X)
+told_with tell said told step = cond step.is_known told
+    (told ++ stretch_at step.at (option_map tell step.both.section) (option_map said step.both.table) ∷ [])
 
--- From a position on up to the end, which is after it, or at all of them, this is answered.
-pub record IsRun {X : Type 0} (answers : Position → Option X) (at : Position) (answer : Option X) (end : Option Position) : Type 0 where
-  pub past : IsBefore at end
-  pub says : (p : Position) → IsAtMost at p → IsBefore p end → answers p ≡ answer
-
--- where the answer at a position may end, if this span is next
-abbrev pub run_end : Position → Option Span → Option Position
-run_end at None = None
-run_end at (Some span) = Some (cond (is_below at span.low) span.low span.high)
-
--- what one step brings
-abbrev pub StretchStep : {S T : Type 0} → (S → List Span → Type 0) → (T → List Span → Type 0) → Differences S T → (Position → Option Answer)
-    → (Position → Option Answer) → List Difference → Step → Type 0
-StretchStep of_section of_table differences by_section by_table told Ended = AreStretches by_section by_table told
-StretchStep of_section of_table differences by_section by_table told Known =
-    HasTold of_section of_table differences by_section by_table told
-StretchStep of_section of_table differences by_section by_table told (Told difference) =
-    HasTold of_section of_table differences by_section by_table (told ++ difference ∷ [])
-
--- ---- spans ahead
-
--- The current span is the first of these; there is one unless they are empty.
-abbrev pub BeginsWith : Option Span → List Span → Type 0
-BeginsWith next [] = next ≡ None
-BeginsWith next (span ∷ spans) = next ≡ Some span
+-- what holds after one step, by what it found
+abbrev pub StretchStep : {S N A V X : Type 0} → (S → List Span → Type 0) → (N → Position → (Position → Option V) → Type 0) → (A → V)
+    → (Answer → X) → (A → X) → Stretches S N A → (Position → Option X) → (Position → Option X) → List (Stretch X) → Option (Step A) → Type 0
+StretchStep to_come is_at value_of tell said stretches by_section by_table told None = AreAllStretches by_section by_table told
+    × (stretches.missed ≡ addresses_answered (where_missed by_table by_section))
+StretchStep to_come is_at value_of tell said stretches by_section by_table told (Some step) =
+    HasGiven to_come is_at value_of tell said stretches by_section by_table (told_with tell said told step)

@@ -59,6 +59,11 @@ impl Telling for Version {
     }
 
     #[inline(always)]
+    fn same_said(&self, one: Answer, other: Answer) -> bool {
+        one == other
+    }
+
+    #[inline(always)]
     fn difference(
         &self,
         position: Position,

@@ -1,6 +1,6 @@
 //! Laws of tables that answer a part of the positions, and of counts of addresses, for any type of answers. Each is the contract of
 //! a function that takes nothing and does nothing.
-ghost use Rattle.lnt_spans.specs.PartialLaws.{RightAsAnswered, FirstMistake, AllMistakes};
+ghost use Rattle.lnt_spans.specs.PartialLaws.{RightAsAnswered, FirstMistake, AllMistakes, MistakesAmong};
 ghost use Rattle.lnt_spans.specs.PartialLaws.{MostAddresses, SameAddresses, AddedRange, AddressesOfSpans};
 ghost use Rattle.lnt_spans.specs.PartialLaws.{AnsweredAndMissed, WholeTable, TableAddresses, AllAnswered, EmptyTable, FittingSpans, InstructionSpans};
 
@@ -22,6 +22,12 @@ pub fn first_mistake()
 #[tactic(auto, using(crate::proofs::PartialLemmas::all_mistakes))]
 pub fn all_mistakes<X>()
     ensures { AllMistakes X }
+{}
+
+/// Of all stretches at which a table and a section answer differently, those at which the table answers are all its mistakes.
+#[tactic(auto, using(crate::proofs::AmongLemmas::mistakes_among))]
+pub fn mistakes_among<X>()
+    ensures { MistakesAmong X }
 {}
 
 /// At most 2^64 addresses are answered.

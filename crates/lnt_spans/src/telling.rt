@@ -76,6 +76,10 @@ pub trait Telling {
         ensures same { IfOk result (λ same. MatchBool same (tell self.now answer.now ≡ said held)
             (tell self.now answer.now ≢ said held)) };
 
+    /// Whether two answers of records are the same.
+    fn same_said(&self, one: Self::Said, other: Self::Said) -> bool
+        ensures { MatchBool result (said one ≡ said other) (said one ≢ said other) };
+
     /// The difference at this position, with the answers of both sides there.
     fn difference(
         &self,

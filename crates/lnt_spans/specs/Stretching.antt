@@ -1,0 +1,42 @@
+-- How far the stretches of a section and a table were given, whatever a table contains of an answer: what contracts see of
+-- `Stretches`.
+use Rattle.std.specs.Prelude.{◌≡◌, ℕ, ◌+◌, List, Option, None}
+use Rattle.std.specs.Option.{option_map}
+use Rattle.lnt_spans.specs.declared.answer.Answer.{Answer}
+use Rattle.lnt_spans.specs.declared.any_stretches.Stretches.{Stretches}
+use Rattle.lnt_spans.specs.declared.position.Position.{Position}
+use Rattle.lnt_spans.specs.declared.span.Span.{Span}
+use Rattle.lnt_spans.specs.Ahead.{IsAhead}
+use Rattle.lnt_spans.specs.AnyStretches.{Stretch}
+use Rattle.lnt_spans.specs.Counts.{addresses_answered}
+use Rattle.lnt_spans.specs.Merged.{until}
+use Rattle.lnt_spans.specs.Partial.{where_missed}
+use Rattle.lnt_spans.specs.Runs.{IsAheadAt, IsSideAt, runs_left}
+use Rattle.lnt_spans.specs.ToldStretches.{AreToldBelow}
+
+-- These stretches were given, both sides answer so from there on, and below, the section answers at as many addresses at which the
+-- table doesn't as were counted.
+pub record HasGiven {S N A V X : Type 0} (to_come : S → List Span → Type 0) (is_at : N → Position → (Position → Option V) → Type 0)
+    (value_of : A → V) (tell : Answer → X) (said : A → X) (stretches : Stretches S N A) (by_section by_table : Position → Option X)
+    (told : List (Stretch X)) : Type 0 where
+  pub section : IsSideAt (IsAheadAt to_come) (λ answer. answer) tell stretches.section stretches.at by_section
+  pub table : IsSideAt is_at value_of said stretches.table stretches.at by_table
+  pub below : AreToldBelow by_section by_table stretches.at (option_map tell stretches.before.section)
+      (option_map said stretches.before.table) told
+  pub counted : stretches.missed ≡ addresses_answered (until stretches.at (where_missed by_table by_section))
+
+-- No stretch was given yet, and nothing was counted.
+pub record HasBegun {S N A : Type 0} (to_come : S → List Span → Type 0) (section : S) (table : N) (at : Position)
+    (stretches : Stretches S N A) : Type 0 where
+  pub ahead : (list : List Span) → to_come section list → IsAhead to_come stretches.section list
+  pub table_is : stretches.table ≡ table
+  pub at_is : stretches.at ≡ at
+  pub no_section : stretches.before.section ≡ None
+  pub no_table : stretches.before.table ≡ None
+  pub none_missed : stretches.missed ≡ 0
+
+-- An upper bound on the stretches that are left to give, if the two functions bound what is left of the sides. Each stretch begins
+-- where a run of one side does, so the runs left on both sides are added up.
+abbrev pub stretches_to_give : {S N A : Type 0} → (S → ℕ) → (N → Position → ℕ) → Stretches S N A → ℕ
+stretches_to_give left runs stretches =
+    runs_left stretches.at stretches.section.next (left stretches.section.spans) + runs stretches.table stretches.at

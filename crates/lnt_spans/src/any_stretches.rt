@@ -1,0 +1,255 @@
+//! Lists all stretches of positions at which a section and a table answer differently, one after another.
+ghost use Rattle.std.specs.Prelude.{◌≡◌, ◌≢◌, ◌⊎◌, ◌+◌, ◌^◌, ◌<◌, ◌≤◌, List, ◌∷◌, ◌++◌, [], None, Option, Some, MatchOption};
+ghost use Rattle.std.specs.Prelude.{IfOk, IfSome, OnOk};
+ghost use Rattle.std.specs.Bool.{MatchBool};
+ghost use Rattle.std.specs.Option.{option_map};
+ghost use Rattle.lnt_spans.specs.declared.position.Position as spec_position;
+ghost use Rattle.lnt_spans.specs.AnyStretches.{AreAllStretches, Stretch};
+ghost use Rattle.lnt_spans.specs.Counts.{addresses_answered};
+ghost use Rattle.lnt_spans.specs.Partial.{where_missed};
+ghost use Rattle.lnt_spans.specs.Positions.{IsAtMost, IsBelow};
+ghost use Rattle.lnt_spans.specs.Runs.{IsUpTo};
+ghost use Rattle.lnt_spans.specs.Stepping.{IsKnown, StretchStep, missed_between};
+ghost use Rattle.lnt_spans.specs.Stretching.{HasBegun, HasGiven, stretches_to_give};
+
+use crate::ahead::Ahead;
+use crate::answer::Answer;
+use crate::counts::AddressCount;
+use crate::position::Position;
+use crate::runs::Runs;
+use crate::source::SpanSource;
+use crate::telling::Telling;
+
+/// Gives the stretches: the longest ranges of positions at which a section and a table answer differently and both answers
+/// stay the same. The spans of both sides come as they are needed.
+///
+/// Contracts see which stretches were given (`HasGiven`), and an upper bound on the number left (`stretches_to_give`). No list
+/// of them is held: only the next span of each side, and the last two answers.
+#[derive(Drop)]
+pub struct Stretches<S, N, A> {
+    section: Ahead<S>,
+    table: N,
+    // every stretch that begins below `at` was given
+    at: Position,
+    // both answers right below `at`
+    before: Both<A>,
+    // the addresses below `at` at which the section answers and the table doesn't
+    missed: AddressCount,
+}
+
+// The answers of a section and a table.
+#[derive(Clone, Copy)]
+struct Both<A> {
+    section: Option<Answer>,
+    table: Option<A>,
+}
+
+// Both answers at a position, which stay the same up to the first end of either.
+#[derive(Clone, Copy)]
+struct Step<A> {
+    at: Position,
+    both: Both<A>,
+    // whether no stretch begins there
+    is_known: bool,
+}
+
+impl<S: SpanSource, N, A> Stretches<S, N, A> {
+    /// Starts at `at`, with no stretch given yet.
+    pub fn past(section: S, table: N, at: Position) -> Stretches<S, N, A>
+        ensures { HasBegun S.to_come section table at result }
+    {
+        Stretches {
+            section: Ahead::of(section),
+            table,
+            at,
+            before: Both {
+                section: None,
+                table: None,
+            },
+            missed: AddressCount::new(),
+        }
+    }
+
+    /// The number of addresses, among those that were compared, at which the section answers and the table doesn't.
+    pub fn missed(&self) -> u128
+        ensures { result ≡ self.now.missed }
+    {
+        self.missed.count()
+    }
+}
+
+/// Gives the next stretch: its first position and the two answers. `None` once all were given; those are then exactly the
+/// stretches, in ascending order, and all addresses were compared. After an error nothing is known of the state.
+pub fn next_stretch<S: SpanSource, N: Runs<T::Said>, T: Telling>(
+    stretches: &mut Stretches<S, N, T::Said>,
+    telling: &T,
+    memory: &mut T::Memory,
+) -> Result<Option<T::Difference>, T::Refusal>
+    requires sound { T.is_sound telling.now memory.old }
+    requires told { (by_section : spec_position.Position → Option T.Told) × (by_table : spec_position.Position → Option T.Told)
+        × (told : List (Stretch T.Told))
+        × HasGiven S.to_come N.is_at N.value_of (T.tell telling.now) T.said stretches.old by_section by_table told }
+    ensures sound { OnOk result (T.is_sound telling.now memory.new) }
+    ensures told { IfOk result (λ found. (by_section by_table : spec_position.Position → Option T.Told) (told : List (Stretch T.Told))
+        → HasGiven S.to_come N.is_at N.value_of (T.tell telling.now) T.said stretches.old by_section by_table told
+        → MatchOption found (AreAllStretches by_section by_table told
+        × (stretches.new.missed ≡ addresses_answered (where_missed by_table by_section)))
+        (λ difference. HasGiven S.to_come N.is_at N.value_of (T.tell telling.now) T.said stretches.new by_section by_table
+        (told ++ T.value_of difference ∷ []))) }
+    ensures fewer { IfOk result (λ found. IfSome found (λ _.
+        stretches_to_give S.left N.runs stretches.new < stretches_to_give S.left N.runs stretches.old)) }
+{
+    while let Some(step) = take_step(stretches, telling, memory)? {
+        if !step.is_known {
+            let difference = telling.difference(step.at, step.both.table, step.both.section)?;
+            return Ok(Some(difference));
+        }
+    }
+    Ok(None)
+}
+
+// Steps to the next position at which one of the two answers may end. `None` if neither ever ends: both sides are exhausted.
+#[inline(always)]
+fn take_step<S: SpanSource, N: Runs<T::Said>, T: Telling>(
+    stretches: &mut Stretches<S, N, T::Said>,
+    telling: &T,
+    memory: &mut T::Memory,
+) -> Result<Option<Step<T::Said>>, T::Refusal>
+    requires sound { T.is_sound telling.now memory.old }
+    requires told { (by_section : spec_position.Position → Option T.Told) × (by_table : spec_position.Position → Option T.Told)
+        × (told : List (Stretch T.Told))
+        × HasGiven S.to_come N.is_at N.value_of (T.tell telling.now) T.said stretches.old by_section by_table told }
+    ensures sound { OnOk result (T.is_sound telling.now memory.new) }
+    ensures told { IfOk result (λ found. (by_section by_table : spec_position.Position → Option T.Told) (told : List (Stretch T.Told))
+        → HasGiven S.to_come N.is_at N.value_of (T.tell telling.now) T.said stretches.old by_section by_table told
+        → StretchStep S.to_come N.is_at N.value_of (T.tell telling.now) T.said stretches.new by_section by_table told found) }
+    ensures fewer { IfOk result (λ found. IfSome found (λ _.
+        stretches_to_give S.left N.runs stretches.new < stretches_to_give S.left N.runs stretches.old)) }
+{
+    let at = stretches.at;
+    let section = stretches.section.run_at(at);
+    let table = stretches.table.run_at(at);
+    let Some(end) = earlier_end(section.end, table.end) else {
+        return Ok(None);
+    };
+    let both = Both {
+        section: section.answer,
+        table: table.answer,
+    };
+    let is_known = is_known(telling, memory, both, stretches.before)?;
+    stretches.section.pass_to(end);
+    stretches.table.pass_to(end);
+    stretches.at = end;
+    stretches.before = both;
+    count_missed(&mut stretches.missed, both, at, end);
+    Ok(Some(Step { at, both, is_known }))
+}
+
+// The earlier of two ends; `None` if both are.
+#[inline(always)]
+fn earlier_end(one: Option<Position>, other: Option<Position>) -> Option<Position>
+    ensures { MatchOption result ((one ≡ None) × (other ≡ None))
+        (λ end. IsUpTo end one × IsUpTo end other × ((one ≡ Some end) ⊎ (other ≡ Some end))) }
+{
+    let Some(first) = one else {
+        return other;
+    };
+    let Some(second) = other else {
+        return one;
+    };
+    Some(earlier(first, second))
+}
+
+#[inline(always)]
+fn earlier(p: Position, q: Position) -> Position
+    ensures { (IsBelow q p × (result ≡ q)) ⊎ (IsAtMost p q × (result ≡ p)) }
+{
+    if q.is_below(p) { q } else { p }
+}
+
+// Adds the addresses from a position up to another, if the section answers there and the table doesn't.
+#[inline(always)]
+fn count_missed<A: Copy>(missed: &mut AddressCount, both: Both<A>, at: Position, end: Position)
+    ensures { missed.old + missed_between both.section both.table at end ≤ 2 ^ 64
+        → missed.new ≡ missed.old + missed_between both.section both.table at end }
+{
+    if both.section.is_some() && both.table.is_none() {
+        missed.add(at, end);
+    }
+}
+
+// Whether no new stretch begins: both sides answer alike, or each answers as it did before.
+#[inline(always)]
+fn is_known<T: Telling>(
+    telling: &T,
+    memory: &mut T::Memory,
+    both: Both<T::Said>,
+    before: Both<T::Said>,
+) -> Result<bool, T::Refusal>
+    requires sound { T.is_sound telling.now memory.old }
+    ensures sound { OnOk result (T.is_sound telling.now memory.new) }
+    ensures known { IfOk result (λ known. IsKnown known (option_map (T.tell telling.now) both.section) (option_map T.said both.table)
+        (option_map (T.tell telling.now) before.section) (option_map T.said before.table)) }
+{
+    if are_alike(telling, memory, both)? {
+        return Ok(true);
+    }
+    if !is_as_held(telling, both.table, before.table) {
+        return Ok(false);
+    }
+    is_as_before(telling, memory, both.section, before.section)
+}
+
+// Whether both sides answer alike.
+#[inline(always)]
+fn are_alike<T: Telling>(
+    telling: &T,
+    memory: &mut T::Memory,
+    both: Both<T::Said>,
+) -> Result<bool, T::Refusal>
+    requires sound { T.is_sound telling.now memory.old }
+    ensures sound { OnOk result (T.is_sound telling.now memory.new) }
+    ensures same { IfOk result (λ same. MatchBool same (option_map (T.tell telling.now) both.section ≡ option_map T.said both.table)
+        (option_map (T.tell telling.now) both.section ≢ option_map T.said both.table)) }
+{
+    match (both.section, both.table) {
+        (Some(answer), Some(held)) => {
+            let mut recalled = telling.nothing();
+            telling.is_said(memory, &mut recalled, &answer, held)
+        }
+        (None, None) => Ok(true),
+        _ => Ok(false),
+    }
+}
+
+// Whether a table's answer is the same as before.
+#[inline(always)]
+fn is_as_held<T: Telling>(telling: &T, one: Option<T::Said>, other: Option<T::Said>) -> bool
+    ensures { MatchBool result (option_map T.said one ≡ option_map T.said other) (option_map T.said one ≢ option_map T.said other) }
+{
+    match (one, other) {
+        (Some(one), Some(other)) => telling.same_said(one, other),
+        (None, None) => true,
+        _ => false,
+    }
+}
+
+// Whether a section's answer is the same as before.
+#[inline(always)]
+fn is_as_before<T: Telling>(
+    telling: &T,
+    memory: &mut T::Memory,
+    one: Option<Answer>,
+    other: Option<Answer>,
+) -> Result<bool, T::Refusal>
+    requires { T.is_sound telling.now memory.old }
+    ensures sound { OnOk result (T.is_sound telling.now memory.new) }
+    ensures same { IfOk result (λ same. MatchBool same (option_map (T.tell telling.now) one ≡ option_map (T.tell telling.now) other)
+        (option_map (T.tell telling.now) one ≢ option_map (T.tell telling.now) other)) }
+{
+    match (one, other) {
+        (Some(one), Some(other)) => telling.alike(memory, &one, &other),
+        (None, None) => Ok(true),
+        _ => Ok(false),
+    }
+}
