@@ -4,8 +4,7 @@ use Rattle.std.specs.List.{AllByRecursion}
 use Rattle.lnt_wire.specs.declared.format.Order.{Order}
 use Rattle.lnt_wire.specs.declared.format.Format.{Format}
 use Rattle.lnt_wire.specs.declared.form.FormValue.{FormValue}
-use Rattle.lnt_wire.specs.declared.form.FormValue.TheVariants.{Text, LineStrp, Strp, Udata, Data1, Data2, Data4, Data8, Data16, Block}
-use Rattle.lnt_wire.specs.declared.form.FormValue.TheVariants.{Block1, Block2, Block4}
+use Rattle.lnt_wire.specs.declared.form.FormValue.TheVariants.{Text, Block1, Block2, Block4}
 use Rattle.lnt_header.specs.Joins.{Each}
 use Rattle.lnt_wire.specs.FormBytes.{form_of, HasSpelling, FormBytes}
 use Rattle.lnt_header.specs.declared.header.HeaderParts.{HeaderParts}
@@ -18,18 +17,10 @@ use Rattle.lnt_header_bytes.specs.TableBytes.{ValuesBytes, EntryBytes, TableByte
 
 pub spelled_value : (format : Format) (order : Order) (v : FormValue) (x : List ℕ) → FormBytes format order v x → HasSpelling v
 spelled_value format order (Text t) x p = p.no_zero
-spelled_value format order (LineStrp n) x p = tt
-spelled_value format order (Strp n) x p = tt
-spelled_value format order (Udata n) x p = tt
-spelled_value format order (Data1 n) x p = tt
-spelled_value format order (Data2 n) x p = tt
-spelled_value format order (Data4 n) x p = tt
-spelled_value format order (Data8 n) x p = tt
-spelled_value format order (Data16 t) x p = tt
-spelled_value format order (Block t) x p = tt
 spelled_value format order (Block1 t) x p = p.first.fits
 spelled_value format order (Block2 t) x p = p.first.fits
 spelled_value format order (Block4 t) x p = p.first.fits
+spelled_value format order v x p = tt
 
 record AreValuesOf (pairs : List Pair) (values : List FormValue) : Type 0 where
   forms : map form_of values ≡ map (λ pair. pair.form) pairs

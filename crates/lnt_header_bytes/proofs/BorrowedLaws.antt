@@ -50,24 +50,6 @@ values_found format order (pair ∷ pairs) (v ∷ values) x more p =
       size_is = omega (arith, size, other_size, ap length p.1.joined, length-append p.1.front p.1.back);
     }
 
-pub entries_found : (format : Format) (order : Order) (pairs : List Pair) (entries : List Entry) (x more : List ℕ)
-    → Each (EntryBytes format order pairs) entries x → first_entries format order pairs (length entries) (x ++ more) ≡ entries
-entries_found format order pairs [] x more p = refl
-entries_found format order pairs (entry ∷ entries) x more p =
-    let whole : x ++ more ≡ p.front ++ (p.back ++ more) = ap (λ (z : List ℕ). z ++ more) p.joined ∙ append_assoc p.front p.back more in
-    let one : AreFound format order pairs entry.values p.front (p.back ++ more) =
-    values_found format order pairs entry.values p.front (p.back ++ more) p.first in
-    let size : first_values_size format order pairs (x ++ more) ≡ length p.front =
-    ap (first_values_size format order pairs) whole ∙ one.size_is in
-    let values : first_values format order pairs (x ++ more) ≡ entry.values = ap (first_values format order pairs) whole ∙ one.values_are in
-    let past : drop (first_values_size format order pairs (x ++ more)) (x ++ more) ≡ p.back ++ more =
-    ap (λ (n : ℕ). drop n (x ++ more)) size ∙ ap (drop (length p.front)) whole ∙ drop-append_seam p.front (p.back ++ more) in
-    let others : first_entries format order pairs (length entries) (drop (first_values_size format order pairs (x ++ more)) (x ++ more))
-    ≡ entries =
-    ap (first_entries format order pairs (length entries)) past ∙ entries_found format order pairs entries p.back more p.second in
-    ap (λ (vs : List FormValue). entry_of vs ∷ first_entries format order pairs (length entries)
-    (drop (first_values_size format order pairs (x ++ more)) (x ++ more))) values ∙ ap (λ (es : List Entry). entry ∷ es) others
-
 -- the first of several, by the bytes that spell it
 pub first_found : (format : Format) (order : Order) (pairs : List Pair) (count : ℕ) (entry : Entry) (x rest bytes : List ℕ)
     → EntryBytes format order pairs entry x → bytes ≡ x ++ rest
@@ -81,6 +63,14 @@ first_found format order pairs count entry x rest bytes p whole =
     ap (λ (vs : List FormValue). entry_of vs ∷ first_entries format order pairs count
     (drop (first_values_size format order pairs bytes) bytes)) values
     ∙ ap (λ (z : List ℕ). entry ∷ first_entries format order pairs count z) past
+
+pub entries_found : (format : Format) (order : Order) (pairs : List Pair) (entries : List Entry) (x more : List ℕ)
+    → Each (EntryBytes format order pairs) entries x → first_entries format order pairs (length entries) (x ++ more) ≡ entries
+entries_found format order pairs [] x more p = refl
+entries_found format order pairs (entry ∷ entries) x more p =
+    first_found format order pairs (length entries) entry p.front (p.back ++ more) (x ++ more) p.first
+    (ap (λ (z : List ℕ). z ++ more) p.joined ∙ append_assoc p.front p.back more)
+    ∙ ap (λ (es : List Entry). entry ∷ es) (entries_found format order pairs entries p.back more p.second)
 
 -- the others, after it
 pub others_spelled : (format : Format) (order : Order) (pairs : List Pair) (entry : Entry) (entries : List Entry) (x rest bytes : List ℕ)

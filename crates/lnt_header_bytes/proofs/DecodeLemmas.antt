@@ -30,8 +30,8 @@ fits_byte n small = omega (arith, ints)
 
 -- ---- the fields that header_length counts
 
-regroup : (a b c d e : List ℕ) → (a ++ (b ++ (c ++ d))) ++ e ≡ (a ++ b) ++ c ++ d ++ e
-regroup a b c d e = simp append_assoc
+pub joined_fields : (a b c d e : List ℕ) → (a ++ (b ++ (c ++ d))) ++ e ≡ (a ++ b) ++ c ++ d ++ e
+joined_fields a b c d e = simp append_assoc
 
 to_right : (a b c d : List ℕ) → a ++ b ++ c ++ d ≡ a ++ (b ++ (c ++ d))
 to_right a b c d = simp append_assoc
@@ -62,7 +62,7 @@ fields_found format order size bytes s lengths d f old new h format_is order_is 
     let whole : bytes ≡ (p1.front ++ p2.front) ++ p3.front ++ p3.back ++ new.rest =
     sym rest_is ∙ r.whole ∙ ap (λ (z : List ℕ). z ++ new.rest)
     (p1.joined ∙ ap (λ (z : List ℕ). p1.front ++ z) (p2.joined ∙ ap (λ (z : List ℕ). p2.front ++ z) p3.joined))
-    ∙ regroup p1.front p2.front p3.front p3.back new.rest in
+    ∙ joined_fields p1.front p2.front p3.front p3.back new.rest in
     let joined : bytes ≡ single_bytes h ++ p3.front ++ p3.back ++ h.extra =
     whole ∙ ap (λ (z : List ℕ). z ++ p3.front ++ p3.back ++ new.rest) (sym singles)
     ∙ ap (λ (z : List ℕ). single_bytes h ++ p3.front ++ p3.back ++ z) (sym are.extra_is) in

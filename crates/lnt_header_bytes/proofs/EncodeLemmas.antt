@@ -9,7 +9,6 @@ use Rattle.lnt_wire.specs.declared.format.Order.{Order}
 use Rattle.lnt_wire.specs.declared.form.FormValue.{FormValue}
 use Rattle.lnt_wire.specs.declared.form.FormValue.TheVariants.{LineStrp, Strp}
 use Rattle.lnt_wire.specs.declared.put.EncodeFault.{EncodeFault}
-use Rattle.lnt_wire.specs.declared.put.EncodeFault.TheVariants.{TooLarge}
 use Rattle.lnt_wire.specs.Bytes.{Exactly, Then, IsShortest, Appends}
 use Rattle.lnt_wire.specs.FormBytes.{form_of, form_code, FormBytes, IsTooLarge}
 use Rattle.lnt_wire.specs.Leb128.{UnsignedLeb}
@@ -24,8 +23,9 @@ use Rattle.lnt_header.specs.Encoding.{RefusedPut}
 use Rattle.lnt_header_bytes.specs.HeaderPuts.{EntryParts, around, AddsAround}
 use Rattle.lnt_header.specs.HeaderRules.{IsEntryOf, IsEntryTable, IsHeader, six_bytes, single_bytes}
 use Rattle.lnt_header.specs.Joins.{Each}
-use Rattle.lnt_header_bytes.proofs.ProgramLaws.{length-initial-same, length-around, length-body, fits_less}
-use Rattle.lnt_header.proofs.PutLaws.{byte_put, join_put, put_as, each_begun, each_more, each_done, each_refused}
+use Rattle.lnt_header_bytes.proofs.ProgramLaws.{length-initial-same, length-around, length-body}
+use Rattle.lnt_header.proofs.PutLaws.{byte_put, join_put, put_as, each_more}
+use Rattle.lnt_header_bytes.proofs.TableLaws.{parts_as}
 use Rattle.lnt_header_bytes.specs.TableBytes.{PairBytes, ValuesBytes, EntryBytes, TableOf}
 
 -- ---- pairs
@@ -38,17 +38,10 @@ pair_put pair code old middle new p is q =
     (λ x t. t)
     (join_put UnsignedLeb UnsignedLeb pair.content (form_code pair.form) old middle new p second)
 
-pub pairs_begun : (old : List ℕ) → Appends (Each PairBytes) [] old old
-pairs_begun old = each_begun PairBytes old
-
 pub pairs_more : (pairs : List Pair) (i : ℕ) (d : Pair) (old middle new : List ℕ) → i < length pairs
     → Appends (Each PairBytes) (take i pairs) old middle → Appends PairBytes (get_or pairs i d) middle new
     → Appends (Each PairBytes) (take (i + 1) pairs) old new
 pairs_more pairs i d old middle new lt p q = each_more PairBytes pairs i d old middle new lt p q
-
-pub pairs_done : (pairs : List Pair) (n : ℕ) (old new : List ℕ) → length pairs ≤ n → Appends (Each PairBytes) (take n pairs) old new
-    → Appends (Each PairBytes) pairs old new
-pairs_done pairs n old new le p = each_done PairBytes pairs n old new le p
 
 -- ---- values
 
@@ -60,9 +53,6 @@ large_value D64 order (Strp n) x large p = large
 large_value D64 order (LineStrp n) x large p = large
 large_value format order value x large p = absurd large
 
-pub values_begun : (format : Format) (order : Order) (old : List ℕ) → Appends (Each (FormBytes format order)) [] old old
-values_begun format order old = each_begun (FormBytes format order) old
-
 pub values_more : (format : Format) (order : Order) (values : List FormValue) (i : ℕ) (value : FormValue) (old middle new : List ℕ)
     → i < length values → value ≡ get_or values i value
     → Appends (Each (FormBytes format order)) (take i values) old middle → Appends (FormBytes format order) value middle new
@@ -71,24 +61,7 @@ values_more format order values i value old middle new lt is p q =
     each_more (FormBytes format order) values i value old middle new lt p
     (subst (λ (v : FormValue). Appends (FormBytes format order) v middle new) is q)
 
-pub values_done : (format : Format) (order : Order) (values : List FormValue) (n : ℕ) (old new : List ℕ) → length values ≤ n
-    → Appends (Each (FormBytes format order)) (take n values) old new → Appends (Each (FormBytes format order)) values old new
-values_done format order values n old new le p = each_done (FormBytes format order) values n old new le p
-
-pub values_refused : (format : Format) (order : Order) (values : List FormValue) (i : ℕ) (value : FormValue) (fault : EncodeFault)
-    → i < length values → value ≡ get_or values i value → (fault ≡ TooLarge → IsTooLarge format value)
-    → RefusedPut (Each (FormBytes format order)) values fault
-values_refused format order values i value fault lt is large =
-    each_refused (FormBytes format order) values i value fault lt
-    (record {
-      none = λ e x p. large_value format order value x (large e)
-          (subst (λ (v : FormValue). FormBytes format order v x) (sym is) p);
-    })
-
 -- ---- entries
-
-pub entries_begun : (format : Format) (order : Order) (old : List ℕ) → Appends (Each (EntryParts format order)) [] old old
-entries_begun format order old = each_begun (EntryParts format order) old
 
 pub entries_more : (format : Format) (order : Order) (entries : List Entry) (i : ℕ) (entry : Entry) (old middle new : List ℕ)
     → i < length entries → entry ≡ get_or entries i entry
@@ -99,19 +72,6 @@ entries_more format order entries i entry old middle new lt is p q =
     each_more (EntryParts format order) entries i entry old middle new lt p
     (subst (λ (e : Entry). Appends (EntryParts format order) e middle new) is one)
 
-pub entries_done : (format : Format) (order : Order) (entries : List Entry) (n : ℕ) (old new : List ℕ) → length entries ≤ n
-    → Appends (Each (EntryParts format order)) (take n entries) old new → Appends (Each (EntryParts format order)) entries old new
-entries_done format order entries n old new le p = each_done (EntryParts format order) entries n old new le p
-
-pub entries_refused : (format : Format) (order : Order) (entries : List Entry) (i : ℕ) (entry : Entry) (values : List FormValue)
-    (fault : EncodeFault) → i < length entries → entry ≡ get_or entries i entry
-    → values ≡ entry.values → RefusedPut (Each (FormBytes format order)) values fault
-    → RefusedPut (Each (EntryParts format order)) entries fault
-entries_refused format order entries i entry values fault lt is same refused =
-    let one : RefusedPut (EntryParts format order) entry fault = record { none = λ e x p. refused.none e x (rw same p) } in
-    each_refused (EntryParts format order) entries i entry fault lt
-    (subst (λ (e : Entry). RefusedPut (EntryParts format order) e fault) is one)
-
 -- ---- tables
 
 values_as : (format : Format) (order : Order) (pairs : List Pair) (values : List FormValue) (x : List ℕ)
@@ -121,16 +81,8 @@ values_as format order [] (v ∷ values) x e p = absurd cc
 values_as format order (pair ∷ pairs) [] x e p = absurd cc
 values_as format order (pair ∷ pairs) (v ∷ values) x e p =
     let first : form_of v ≡ pair.form = cc in
-    let past : map form_of values ≡ map (λ pair. pair.form) pairs = cc in (
-      first,
-      record {
-        front = p.front;
-        back = p.back;
-        first = p.first;
-        second = values_as format order pairs values p.back past p.second;
-        joined = p.joined;
-      },
-    )
+    let past : map form_of values ≡ map (λ pair. pair.form) pairs = cc in
+    (first, parts_as p p.first (values_as format order pairs values p.back past p.second))
 
 as_values : (format : Format) (order : Order) (pairs : List Pair) (values : List FormValue) (x : List ℕ)
     → ValuesBytes format order pairs values x → Each (FormBytes format order) values x
@@ -138,35 +90,20 @@ as_values format order [] [] x p = p
 as_values format order [] (v ∷ values) x p = absurd p
 as_values format order (pair ∷ pairs) [] x p = absurd p
 as_values format order (pair ∷ pairs) (v ∷ values) x p =
-    record {
-      front = p.1.front;
-      back = p.1.back;
-      first = p.1.first;
-      second = as_values format order pairs values p.1.back p.1.second;
-      joined = p.1.joined;
-    }
+    parts_as p.1 p.1.first (as_values format order pairs values p.1.back p.1.second)
 
 entries_as : (format : Format) (order : Order) (pairs : List Pair) (entries : List Entry) (x : List ℕ)
     → AllByRecursion (IsEntryOf pairs) entries → Each (EntryParts format order) entries x → Each (EntryBytes format order pairs) entries x
 entries_as format order pairs [] x h p = p
-entries_as format order pairs (entry ∷ entries) x h p = record {
-  front = p.front;
-  back = p.back;
-  first = values_as format order pairs entry.values p.front h.0.forms p.first;
-  second = entries_as format order pairs entries p.back h.1 p.second;
-  joined = p.joined;
-}
+entries_as format order pairs (entry ∷ entries) x h p =
+    parts_as p (values_as format order pairs entry.values p.front h.0.forms p.first)
+    (entries_as format order pairs entries p.back h.1 p.second)
 
-as_entries : (format : Format) (order : Order) (pairs : List Pair) (entries : List Entry) (x : List ℕ)
+pub as_entries : (format : Format) (order : Order) (pairs : List Pair) (entries : List Entry) (x : List ℕ)
     → Each (EntryBytes format order pairs) entries x → Each (EntryParts format order) entries x
 as_entries format order pairs [] x p = p
-as_entries format order pairs (entry ∷ entries) x p = record {
-  front = p.front;
-  back = p.back;
-  first = as_values format order pairs entry.values p.front p.first;
-  second = as_entries format order pairs entries p.back p.second;
-  joined = p.joined;
-}
+as_entries format order pairs (entry ∷ entries) x p =
+    parts_as p (as_values format order pairs entry.values p.front p.first) (as_entries format order pairs entries p.back p.second)
 
 pub table_refused : (format : Format) (order : Order) (pairs : List Pair) (entries : List Entry) (fault : EncodeFault)
     → RefusedPut (Each (EntryParts format order)) entries fault → RefusedPut (TableOf format order) (pairs, entries) fault
@@ -174,6 +111,11 @@ table_refused format order pairs entries fault refused = record {
   none = λ large bytes p. refused.none large p.spelled.second.second.back
       (as_entries format order pairs entries p.spelled.second.second.back p.spelled.second.second.second);
 }
+
+-- the same parts before other entries
+with_entries : {A B C D D' : List ℕ → Type 0} {x : List ℕ} → (t : Then A (Then B (Then C D)) x) → D' t.second.second.back
+    → Then A (Then B (Then C D')) x
+with_entries t d = parts_as t t.first (parts_as t.second t.second.first (parts_as t.second.second t.second.second.first d))
 
 abbrev TableParts : Format → Order → ℕ × (List Pair × (ℕ × List Entry)) → List ℕ → Type 0
 TableParts format order t bytes =
@@ -197,58 +139,15 @@ table_put format order pairs entries old m1 m2 m3 new is pushed p q r =
     (λ x t. record {
       few_pairs = is.few_pairs;
       none_without_pairs = is.none_without_pairs;
-      spelled = record {
-        front = t.front;
-        back = t.back;
-        first = t.first;
-        second = record {
-          front = t.second.front;
-          back = t.second.back;
-          first = t.second.first;
-          second = record {
-            front = t.second.second.front;
-            back = t.second.second.back;
-            first = t.second.second.first;
-            second = entries_as format order pairs entries t.second.second.back is.of_format t.second.second.second;
-            joined = t.second.second.joined;
-          };
-          joined = t.second.joined;
-        };
-        joined = t.joined;
-      };
+      spelled = with_entries t (entries_as format order pairs entries t.second.second.back is.of_format t.second.second.second);
     })
-    (λ x t. let s = t.spelled in record {
-      front = s.front;
-      back = s.back;
-      first = s.first;
-      second = record {
-        front = s.second.front;
-        back = s.second.back;
-        first = s.second.first;
-        second = record {
-          front = s.second.second.front;
-          back = s.second.second.back;
-          first = s.second.second.first;
-          second = as_entries format order pairs entries s.second.second.back s.second.second.second;
-          joined = s.second.second.joined;
-        };
-        joined = s.second.joined;
-      };
-      joined = s.joined;
-    })
+    (λ x t. let s = t.spelled in with_entries s (as_entries format order pairs entries s.second.second.back s.second.second.second))
     all
 
 -- ---- what header_length counts
 
 length-four : (a b c d : List ℕ) → length (a ++ b ++ c ++ d) ≡ length a + length b + length c + length d
 length-four a b c d = simp length-append refl
-
-table_named : (format : Format) (order : Order) (pairs pairs' : List Pair) (entries entries' : List Entry) (old new : List ℕ)
-    → pairs ≡ pairs' → entries ≡ entries' → Appends (TableOf format order) (pairs, entries) old new
-    → Appends (TableOf format order) (pairs', entries') old new
-table_named format order pairs pairs' entries entries' old new p e put =
-    subst (λ (ps : List Pair). Appends (TableOf format order) (ps, entries') old new) p
-    (subst (λ (es : List Entry). Appends (TableOf format order) (pairs, es) old new) e put)
 
 pub fields_put : (h : HeaderParts) (o0 o1 o2 o3 o4 o5 lengths extra : List ℕ) (d_pairs f_pairs : List Pair)
     (d_entries f_entries : List Entry) → IsHeader h → o0 ≡ [] → o1 ≡ o0 ++ six_bytes h
@@ -260,10 +159,8 @@ fields_put h o0 o1 o2 o3 o4 o5 lengths extra d_pairs f_pairs d_entries f_entries
     f_put extra_is last_put =
     let second : o2 ≡ o1 ++ h.standard_lengths = second_put ∙ ap (λ (z : List ℕ). o1 ++ z) lengths_are in
     let last : o5 ≡ o4 ++ h.extra = last_put ∙ ap (λ (z : List ℕ). o4 ++ z) extra_is in
-    let d : Appends (TableOf h.format h.order) (h.directory_format, h.directories) o2 o3 =
-    table_named h.format h.order d_pairs h.directory_format d_entries h.directories o2 o3 dp de d_put in
-    let f : Appends (TableOf h.format h.order) (h.file_format, h.files) o3 o4 =
-    table_named h.format h.order f_pairs h.file_format f_entries h.files o3 o4 fp fe f_put in
+    let d : Appends (TableOf h.format h.order) (h.directory_format, h.directories) o2 o3 = rw (← dp, ← de) d_put in
+    let f : Appends (TableOf h.format h.order) (h.file_format, h.files) o3 o4 = rw (← fp, ← fe) f_put in
     let front : o2 ≡ single_bytes h =
     second ∙ ap (λ (z : List ℕ). z ++ h.standard_lengths) (first ∙ ap (λ (z : List ℕ). z ++ six_bytes h) begun) in
     let whole : o5 ≡ single_bytes h ++ d.spelling ++ f.spelling ++ h.extra =
@@ -303,8 +200,9 @@ files_refused h pairs entries fault p e refused = record { none = λ large bytes
 
 -- ---- the whole unit
 
-regroup_out : (o a b c d e f : List ℕ) → (((((o ++ a) ++ b) ++ c) ++ d) ++ e) ++ f ≡ o ++ (a ++ (b ++ c ++ d ++ e ++ f))
-regroup_out o a b c d e f = simp append_assoc
+regroup_out : (o a b c d e f g : List ℕ)
+    → ((((((o ++ a) ++ b) ++ c) ++ d) ++ e) ++ f) ++ g ≡ o ++ (a ++ (b ++ (c ++ d) ++ e ++ f ++ g))
+regroup_out o a b c d e f g = simp append_assoc
 
 pub around_put : (order : Order) (format : Format) (address_size : ℕ) (program fields : List ℕ) (n count : ℕ)
     (o0 o1 o2 size o3 o4 o5 o6 : List ℕ) → n ≡ 4 + offset_size format + length fields + length program → LengthFits format n
@@ -317,18 +215,12 @@ around_put order format address_size program fields n count o0 o1 o2 size o3 o4 
     let long : n ≡ length body = n_is ∙ sym (length-around order format address_size fields program) in
     let a = initial_length format order n in
     let v = version_five order in
-    let s = address_size ∷ 0 ∷ [] in
     let number = number_bytes order (offset_size format) (length fields) in
-    let e2 : o2 ≡ (o0 ++ a) ++ v = version.joined ∙ ap (λ (z : List ℕ). z ++ version.spelling) initial
-    ∙ ap (λ (z : List ℕ). (o0 ++ a) ++ z) version.spelled.spelled.spelled in
-    let sizes : o3 ≡ o2 ++ s = selector_put ∙ ap (λ (z : List ℕ). z ++ 0 ∷ []) size_put ∙ append_assoc o2 (address_size ∷ []) (0 ∷ []) in
-    let e3 : o3 ≡ ((o0 ++ a) ++ v) ++ s = sizes ∙ ap (λ (z : List ℕ). z ++ s) e2 in
     let number_is : length_put.spelling ≡ number =
     length_put.spelled.spelled.spelled ∙ ap (λ (k : ℕ). number_bytes order (offset_size format) k) count_is in
-    let e4 : o4 ≡ (((o0 ++ a) ++ v) ++ s) ++ number = length_put.joined ∙ ap (λ (z : List ℕ). z ++ length_put.spelling) e3
-    ∙ ap (λ (z : List ℕ). (((o0 ++ a) ++ v) ++ s) ++ z) number_is in
-    let e5 : o5 ≡ ((((o0 ++ a) ++ v) ++ s) ++ number) ++ fields = counted ∙ ap (λ (z : List ℕ). z ++ fields) e4 in
-    let e6 : o6 ≡ o0 ++ (a ++ body) = last ∙ ap (λ (z : List ℕ). z ++ program) e5 ∙ regroup_out o0 a v s number fields program in
+    let e6 : o6 ≡ o0 ++ (a ++ body) =
+    rw (last, counted, length_put.joined, number_is, selector_put, size_put, version.joined, version.spelled.spelled.spelled, initial)
+    (regroup_out o0 a v (address_size ∷ []) (0 ∷ []) number fields program) in
     record { fits = subst (LengthFits format) long fits; joined = e6 ∙ ap (λ (k : ℕ). o0 ++ (initial_length format order k ++ body)) long }
 
 -- an offset within a unit whose length fits is never too large
@@ -371,20 +263,3 @@ header_put h program fields named begun new p empty is a =
     (subst (λ (z : List ℕ). AddsAround h.order h.format h.address_size z program begun new) is a) in
     subst (IsShortest (HeaderBytesIn h.order) (h, program)) (sym (added.joined ∙ ap (λ (z : List ℕ). z ++ added.spelling) empty))
     added.spelled
-
-pub header_refused : (h : HeaderParts) (program : List ℕ) (fault : EncodeFault) → RefusedPut HeaderFieldsBytes h fault
-    → RefusedPut (HeaderBytesIn h.order) (h, program) fault
-header_refused h program fault refused = record { none = λ large bytes p. refused.none large p.spelled.fields p.spelled.counted }
-
-pub header_too_long : (h : HeaderParts) (program fields named : List ℕ) (fault : EncodeFault) → IsShortest HeaderFieldsBytes h fields
-    → named ≡ fields
-    → (fault ≡ TooLarge → LengthFits h.format (length (around h.order h.format h.address_size named program)) → ⊥)
-    → RefusedPut (HeaderBytesIn h.order) (h, program) fault
-header_too_long h program fields named fault p is long = record {
-  none = λ large bytes q.
-      let t = q.spelled in
-      let here =
-      subst (λ (z : List ℕ). LengthFits h.format (length (around h.order h.format h.address_size z program)) → ⊥) is (long large) in
-      here (fits_less h.format (length (unit_body h fields program)) (length (unit_body h t.fields program))
-      (omega (arith, length-body h fields program, length-body h t.fields program, p.shortest t.fields t.counted)) t.fits);
-}

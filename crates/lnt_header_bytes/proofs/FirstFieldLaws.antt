@@ -1,6 +1,6 @@
 -- The first field of a header that isn't there is one, wherever it lies in the unit. Crates above cite these.
 use Rattle.std.proofs.Common.{◌≡◌, ℕ, ◌^◌, ◌<◌, ◌≤◌, List, [], ◌∷◌, ◌++◌, length, refl, sym, ap, subst, ◌∙◌, append_assoc, arith}
-use Rattle.std.proofs.lemmas.List.{append_cancel_left, length-append}
+use Rattle.std.proofs.lemmas.List.{length-append}
 use Rattle.lnt_wire.specs.FrameBytes.{version_five}
 use Rattle.lnt_wire.specs.FrameFaults.{InFrame}
 use Rattle.lnt_wire.specs.InitialFaults.{IsVersionFault}
@@ -11,6 +11,7 @@ use Rattle.lnt_wire.specs.declared.format.Order.{Order}
 use Rattle.lnt_wire.proofs.FrameFaultLaws.{frame_fault_at, IsFrameFaultAt, IsOutside, outside_none, outside_one, same_frame, same_place}
 use Rattle.lnt_wire.proofs.FrameFaultLaws.{version_none, version_one}
 use Rattle.lnt_wire.proofs.FrameFaultLaws.IsFrameFaultAt.{outside_frame, in_version}
+use Rattle.lnt_wire.proofs.FieldFaultLaws.{IsOneFieldFault}
 use Rattle.lnt_wire.proofs.LengthLaws.{same_front, same_number_front}
 use Rattle.lnt_wire.proofs.ValueLaws.{offset_width}
 use Rattle.lnt_header_bytes.specs.Broken.{InHeader, IsFirstField, sound_start}
@@ -19,9 +20,11 @@ use Rattle.lnt_header_bytes.specs.HeaderFaults.{IsHeaderFault}
 use Rattle.lnt_header.specs.HeaderRules.{IsAddressSize}
 use Rattle.lnt_header_bytes.proofs.HeaderLaws.{below}
 use Rattle.lnt_header_bytes.specs.StartFaults.{IsStartFault}
-use Rattle.lnt_header.proofs.FirstFaultLaws.{AreOne}
-use Rattle.lnt_header_bytes.proofs.FieldsFaultLemmas.{fields_fault}
-use Rattle.lnt_header_bytes.proofs.StartFaultLemmas.{start_fault}
+use Rattle.lnt_header.specs.FirstFaults.{FirstOf}
+use Rattle.lnt_header.specs.FirstFaults.FirstOf.{first, second}
+use Rattle.lnt_header.proofs.FirstFaultLaws.{AreOne, field_fault, first_one, IsHere}
+use Rattle.lnt_header_bytes.proofs.HeaderReaders.{fields_fault}
+use Rattle.lnt_header_bytes.proofs.StartReaders.{start_fault, start_spelled}
 
 -- ---- the body of a unit
 
@@ -29,45 +32,30 @@ use Rattle.lnt_header_bytes.proofs.StartFaultLemmas.{start_fault}
 abbrev up_to : Format → Order → ℕ → ℕ → List ℕ → List ℕ
 up_to format order size count past = size ∷ 0 ∷ (number_bytes order (offset_size format) count ++ past)
 
--- What is wrong with a body: its version, a field up to header_length, or one of those that this counts.
-data IsBodyFault (order : Order) (format : Format) (reason : Reason) (fields left : List ℕ) : Type 0 where
-  of_version : fields ≡ [] → IsVersionFault order reason left → IsBodyFault order format reason fields left
-  of_start : (past : List ℕ) → fields ≡ version_five order ++ past → IsStartFault format order reason past left
-      → IsBodyFault order format reason fields left
+-- What is wrong after the version: a field up to header_length, or one of those that this counts.
+data IsRestFault (format : Format) (order : Order) (reason : Reason) (fields left : List ℕ) : Type 0 where
+  of_start : IsStartFault format order reason fields left → IsRestFault format order reason fields left
   of_counted : (size : ℕ) (past later program : List ℕ) → IsAddressSize size → length (past ++ later) < 256 ^ offset_size format
-      → fields ≡ version_five order ++ up_to format order size (length (past ++ later)) past → left ≡ later ++ program
+      → fields ≡ up_to format order size (length (past ++ later)) past → left ≡ later ++ program
       → IsHeaderFault format order reason past later
-      → IsBodyFault order format reason fields left
+      → IsRestFault format order reason fields left
 
--- what stands after the version
-after_version : (order : Order) (fields past left : List ℕ) → fields ≡ version_five order ++ past
-    → fields ++ left ≡ version_five order ++ (past ++ left)
-after_version order fields past left e = ap (λ (z : List ℕ). z ++ left) e ∙ append_assoc (version_five order) past left
+abbrev VersionBytes : Order → Unit {0} → List ℕ → Type 0
+VersionBytes order _ bytes = bytes ≡ version_five order
 
-same_after : (order : Order) (fields fields' past past' left left' : List ℕ) → fields ≡ version_five order ++ past
-    → fields' ≡ version_five order ++ past' → fields ++ left ≡ fields' ++ left'
-    → past ++ left ≡ past' ++ left'
-same_after order fields fields' past past' left left' p q e =
-    append_cancel_left (version_five order) (past ++ left) (past' ++ left')
-    (sym (after_version order fields past left p) ∙ e ∙ after_version order fields' past' left' q)
-
-version_apart : (order : Order) (reason : Reason) (fields left fields' past left' : List ℕ) → fields ≡ []
-    → IsVersionFault order reason left → fields' ≡ version_five order ++ past
-    → fields ++ left ≡ fields' ++ left' → ⊥
-version_apart order reason fields left fields' past left' nothing h joined e =
-    version_none order reason left (past ++ left') h
-    (ap (λ (z : List ℕ). z ++ left) (sym nothing) ∙ e ∙ after_version order fields' past left' joined)
+-- What is wrong with a body: its version, or what follows it.
+abbrev IsBodyFault : Order → Format → Reason → List ℕ → List ℕ → Type 0
+IsBodyFault order format = FirstOf (VersionBytes order) (IsHere (IsVersionFault order)) (λ _. IsRestFault format order)
 
 -- header_length, and what it counts
-counted_on : (format : Format) (order : Order) (size count : ℕ) (past left later program : List ℕ) → left ≡ later ++ program
-    → up_to format order size count past ++ left ≡ size ∷ 0 ∷
-    (number_bytes order (offset_size format) count ++ ((past ++ later) ++ program))
-counted_on format order size count past left later program e =
-    let number = number_bytes order (offset_size format) count in
-    let tail : (number ++ past) ++ left ≡ number ++ ((past ++ later) ++ program) =
-    append_assoc number past left ∙ ap (λ (z : List ℕ). number ++ (past ++ z)) e
-    ∙ ap (λ (z : List ℕ). number ++ z) (sym (append_assoc past later program)) in
-    ap (λ (z : List ℕ). size ∷ 0 ∷ z) tail
+counted_on : (format : Format) (order : Order) (size : ℕ) (fields past left later program : List ℕ)
+    → fields ≡ up_to format order size (length (past ++ later)) past → left ≡ later ++ program
+    → fields ++ left ≡ size ∷ 0 ∷ (number_bytes order (offset_size format) (length (past ++ later)) ++ ((past ++ later) ++ program))
+counted_on format order size fields past left later program joined e =
+    let number = number_bytes order (offset_size format) (length (past ++ later)) in
+    let tail : (number ++ past) ++ (later ++ program) ≡ number ++ ((past ++ later) ++ program) =
+    append_assoc number past (later ++ program) ∙ ap (λ (z : List ℕ). number ++ z) (sym (append_assoc past later program)) in
+    rw (joined, e) (ap (λ (z : List ℕ). size ∷ 0 ∷ z) tail)
 
 -- a field up to header_length isn't at fault where all of them are there
 start_apart : (format : Format) (order : Order) (reason : Reason) (size : ℕ) (fields left past later program : List ℕ)
@@ -79,21 +67,7 @@ start_apart format order reason size fields left past later program h is fits e 
     let all : (size ∷ 0 ∷ (number ++ (past ++ later))) ++ program ≡ fields ++ left =
     ap (λ (z : List ℕ). size ∷ 0 ∷ z) (append_assoc number (past ++ later) program) ∙ sym e in
     (start_fault format order).none reason fields left h (size, (0, past ++ later)) (size ∷ 0 ∷ (number ++ (past ++ later))) program
-    (record {
-      front = size ∷ [];
-      back = 0 ∷ (number ++ (past ++ later));
-      first = (is, refl);
-      second = record {
-        front = 0 ∷ [];
-        back = number ++ (past ++ later);
-        first = (refl, refl);
-        second = record
-            { front = number; back = past ++ later; first = record { fits = fits; spelled = refl }; second = refl; joined = refl };
-        joined = refl;
-      };
-      joined = refl;
-    })
-    all
+    (start_spelled format order size (past ++ later) is fits) all
 
 counted_one_body : (format : Format) (order : Order) (reason other : Reason) (size size' : ℕ)
     (past past' later later' program program' : List ℕ) → length (past ++ later) < 256 ^ offset_size format
@@ -120,45 +94,35 @@ counted_one_body format order reason other size size' past past' later later' pr
           ∙ ap (up_to format order size' m) found.1,
     )
 
-body_one : (order : Order) (format : Format) → AreOne (IsBodyFault order format)
-body_one order format reason other fields fields' left left' (of_version nothing h) (of_version nothing' k) e =
-    let same : left ≡ left' = ap (λ (z : List ℕ). z ++ left) (sym nothing) ∙ e ∙ ap (λ (z : List ℕ). z ++ left') nothing' in
-    (version_one order reason other left h (subst (IsVersionFault order other) (sym same) k), nothing ∙ sym nothing')
-body_one order format reason other fields fields' left left' (of_version nothing h) (of_start past joined k) e =
-    absurd (version_apart order reason fields left fields' past left' nothing h joined e)
-body_one order format reason other fields fields' left left' (of_version nothing h)
-    (of_counted size past later program is fits joined rest k) e =
-    absurd (version_apart order reason fields left fields' (up_to format order size (length (past ++ later)) past) left' nothing h
-    joined e)
-body_one order format reason other fields fields' left left' (of_start past joined h) (of_version nothing k) e =
-    absurd (version_apart order other fields' left' fields past left nothing k joined (sym e))
-body_one order format reason other fields fields' left left' (of_start past joined h) (of_start past' joined' k) e =
-    let found =
-    (start_fault format order).one reason other past past' left left' h k
-    (same_after order fields fields' past past' left left' joined joined' e) in
-    (found.0, joined ∙ ap (λ (z : List ℕ). version_five order ++ z) found.1 ∙ sym joined')
-body_one order format reason other fields fields' left left' (of_start before joined h)
-    (of_counted size past later program is fits joined' rest k) e =
-    absurd (start_apart format order reason size before left past later program h is fits
-    (same_after order fields fields' before (up_to format order size (length (past ++ later)) past) left left' joined joined' e
-    ∙ counted_on format order size (length (past ++ later)) past left' later program rest))
-body_one order format reason other fields fields' left left' (of_counted size past later program is fits joined rest h)
-    (of_version nothing k) e =
-    absurd (version_apart order other fields' left' fields (up_to format order size (length (past ++ later)) past) left nothing k joined
-    (sym e))
-body_one order format reason other fields fields' left left' (of_counted size past later program is fits joined rest h)
-    (of_start before joined' k) e =
-    absurd (start_apart format order other size before left' past later program k is fits
-    (same_after order fields' fields before (up_to format order size (length (past ++ later)) past) left' left joined' joined (sym e)
-    ∙ counted_on format order size (length (past ++ later)) past left later program rest))
-body_one order format reason other fields fields' left left' (of_counted size past later program is fits joined rest h)
+rest_one : (format : Format) (order : Order) → AreOne (IsRestFault format order)
+rest_one format order reason other fields fields' left left' (of_start h) (of_start k) e =
+    (start_fault format order).one reason other fields fields' left left' h k e
+rest_one format order reason other fields fields' left left' (of_start h) (of_counted size past later program is fits joined rest k) e =
+    absurd (start_apart format order reason size fields left past later program h is fits
+    (e ∙ counted_on format order size fields' past left' later program joined rest))
+rest_one format order reason other fields fields' left left' (of_counted size past later program is fits joined rest h) (of_start k) e =
+    absurd (start_apart format order other size fields' left' past later program k is fits
+    (sym e ∙ counted_on format order size fields past left later program joined rest))
+rest_one format order reason other fields fields' left left' (of_counted size past later program is fits joined rest h)
     (of_counted size' past' later' program' is' fits' joined' rest' k) e =
-    let all = sym (counted_on format order size (length (past ++ later)) past left later program rest)
-    ∙ same_after order fields fields' (up_to format order size (length (past ++ later)) past)
-    (up_to format order size' (length (past' ++ later')) past') left left' joined joined' e
-    ∙ counted_on format order size' (length (past' ++ later')) past' left' later' program' rest' in
+    let all = sym (counted_on format order size fields past left later program joined rest) ∙ e
+    ∙ counted_on format order size' fields' past' left' later' program' joined' rest' in
     let found = counted_one_body format order reason other size size' past past' later later' program program' fits fits' h k all in
-    (found.0, joined ∙ ap (λ (z : List ℕ). version_five order ++ z) found.1 ∙ sym joined')
+    (found.0, joined ∙ found.1 ∙ sym joined')
+
+version_fault : (order : Order) → IsOneFieldFault (VersionBytes order) (IsVersionFault order)
+version_fault order = record {
+  none = λ reason bytes h _ x more p e. version_none order reason bytes more h (sym e ∙ ap (λ (z : List ℕ). z ++ more) p);
+  one = λ reason other bytes h k. version_one order reason other bytes h k;
+}
+
+body_one : (order : Order) (format : Format) → AreOne (IsBodyFault order format)
+body_one order format =
+    let version = field_fault (VersionBytes order) (IsVersionFault order) (version_fault order) in
+    first_one (VersionBytes order) (IsHere (IsVersionFault order)) (λ _. IsRestFault format order)
+    (record { one = λ u v x y r s p q e. (refl, p ∙ sym q) }) version.one
+    (λ reason other u before left front past left' h p k e. version.none reason before left h u front (past ++ left') p (sym e))
+    (λ _. rest_one format order)
 
 -- ---- the first field
 
@@ -171,7 +135,7 @@ data IsPlaced (order : Order) (reason : Reason) (before from : List ℕ) : Type 
 placed_in_frame : (order : Order) (reason : Reason) (before from : List ℕ) → IsFrameFaultAt order reason before from
     → IsPlaced order reason before from
 placed_in_frame order reason before from (outside_frame h) = outside h
-placed_in_frame order reason before from (in_version format body w h) = inside format [] body w (of_version refl h)
+placed_in_frame order reason before from (in_version format body w h) = inside format [] body w (first (refl, h))
 
 placed_in_header : (order : Order) (reason : Reason) (fields left before from : List ℕ) → (w : InHeader order fields left before from)
     → IsHeaderFault w.format order reason fields left
@@ -192,13 +156,14 @@ placed_in_header order reason fields left before from w h =
     append_assoc (sound_start order w.address_size) number fields
     ∙ append_assoc (version_five order) (w.address_size ∷ 0 ∷ []) (number ++ fields) in
     inside w.format whole (left ++ w.program) w.in_frame
-    (of_counted w.address_size fields left w.program w.address_size_is fits joined refl h)
+    (second tt (version_five order) (up_to w.format order w.address_size (length (fields ++ left)) fields) refl joined
+    (of_counted w.address_size fields left w.program w.address_size_is fits refl refl h))
 
 placed : (order : Order) (reason : Reason) (before from : List ℕ) → IsFirstField order reason before from
     → IsPlaced order reason before from
 placed order reason before from (frame h) = placed_in_frame order reason before from (frame_fault_at order reason before from h)
 placed order reason before from (start format fields left w h) =
-    inside format (version_five order ++ fields) left w (of_start fields refl h)
+    inside format (version_five order ++ fields) left w (second tt (version_five order) fields refl refl (of_start h))
 placed order reason before from (counted fields left w h) = placed_in_header order reason fields left before from w h
 
 placed_one : (order : Order) → AreOne (IsPlaced order)

@@ -8,7 +8,6 @@ use Rattle.lnt_wire.specs.FrameBytes.{version_five, frame_bytes}
 use Rattle.lnt_wire.specs.FrameFaults.{InFrame}
 use Rattle.lnt_wire.specs.InitialLength.{initial_length, LengthFits}
 use Rattle.lnt_wire.proofs.LengthLaws.{same_front, same_length, length-number_bytes}
-use Rattle.lnt_wire.proofs.ValueLaws.{offset_width}
 use Rattle.lnt_wire.specs.Numbers.{number_bytes, offset_size}
 use Rattle.lnt_wire.specs.Reading.{Reads, Refuses}
 use Rattle.lnt_wire.specs.declared.fault.Fault.{Fault}
@@ -22,10 +21,15 @@ use Rattle.lnt_header_bytes.specs.FieldsBytes.{FieldsBytes}
 use Rattle.lnt_header_bytes.specs.HeaderFaults.{IsHeaderFault}
 use Rattle.lnt_header_bytes.specs.HeaderBytes.{HeaderFieldsBytes, unit_body, HeaderBytesIn}
 use Rattle.lnt_header_bytes.specs.HeaderReading.{standing, IsAfterVersion, HasFields}
-use Rattle.lnt_header.specs.HeaderRules.{IsAddressSize}
-use Rattle.lnt_header_bytes.proofs.HeaderLaws.{laid, regroup, same_laid, below, length-laid}
+use Rattle.lnt_header.specs.HeaderRules.{IsAddressSize, six_bytes}
+use Rattle.lnt_header_bytes.proofs.DecodeLemmas.{joined_fields}
+use Rattle.lnt_header_bytes.proofs.HeaderLaws.{regroup, same_around, below}
+use Rattle.lnt_header_bytes.proofs.ProgramLaws.{length-body}
+use Rattle.lnt_header_bytes.specs.HeaderPuts.{around}
 use Rattle.lnt_header_bytes.specs.StartBytes.{StartBytes}
 use Rattle.lnt_header_bytes.specs.StartFaults.{IsStartFault}
+use Rattle.lnt_header_bytes.proofs.StartReaders.{start_spelled}
+use Rattle.lnt_header_bytes.proofs.TableLaws.{joins}
 use Rattle.lnt_header_bytes.specs.TableBytes.{TableOf}
 use Rattle.lnt_header_bytes.proofs.Places.{at_header, at_start}
 
@@ -36,7 +40,7 @@ pub record Candidate (order : Order) (format : Format) (body : List ℕ) (unit :
   pub counted : HeaderFieldsBytes unit.0 fields
   pub format_is : unit.0.format ≡ format
   pub order_is : unit.0.order ≡ order
-  pub body_is : body ≡ laid order (offset_size format) unit.0.address_size fields unit.1
+  pub body_is : body ≡ around order format unit.0.address_size fields unit.1
   pub small : length fields < 256 ^ offset_size format
 
 candidate : (order : Order) (format : Format) (body : List ℕ) → LengthFits format (length body)
@@ -51,11 +55,11 @@ candidate order format body fits unit x more p e =
     ∙ sym (append_assoc (initial_length h.format h.order (length whole)) whole more) ∙ ap (λ (z : List ℕ). z ++ more) (sym s.joined) ∙ e in
     let lengths = same_length order h.format format (length whole) (length body) (whole ++ more) body s.fits fits spread in
     let wholes : whole ≡ body = same_front whole body more [] lengths.number (lengths.past ∙ sym (append-nil body)) in
-    let over : whole ≡ laid order (offset_size format) h.address_size s.fields unit.1 =
-    ap (λ (o : Order). laid o (offset_size h.format) h.address_size s.fields unit.1) p.order_is
-    ∙ ap (λ (f : Format). laid order (offset_size f) h.address_size s.fields unit.1) lengths.format in
+    let over : whole ≡ around order format h.address_size s.fields unit.1 =
+    ap (λ (o : Order). around o h.format h.address_size s.fields unit.1) p.order_is
+    ∙ ap (λ (f : Format). around order f h.address_size s.fields unit.1) lengths.format in
     let small : length s.fields < 256 ^ offset_size h.format = below h.format (length whole) (length s.fields) s.fits
-    (length-laid h.order (offset_size h.format) h.address_size s.fields unit.1) in
+    (omega (arith, length-body h s.fields unit.1)) in
     record {
       fields = s.fields;
       counted = s.counted;
@@ -66,11 +70,13 @@ candidate order format body fits unit x more p e =
     }
 
 -- what stands after the version
-after_laid : (order : Order) (size a : ℕ) (fields program rest : List ℕ) → version_five order ++ rest ≡ laid order size a fields program
-    → rest ≡ (a ∷ 0 ∷ []) ++ (number_bytes order size (length fields) ++ (fields ++ program))
-after_laid order size a fields program rest e =
-    append_cancel_left (version_five order) rest ((a ∷ 0 ∷ []) ++ (number_bytes order size (length fields) ++ (fields ++ program)))
-    (e ∙ regroup (version_five order) (a ∷ 0 ∷ []) (number_bytes order size (length fields)) fields program)
+after_version : (order : Order) (format : Format) (a : ℕ) (fields program rest : List ℕ)
+    → version_five order ++ rest ≡ around order format a fields program
+    → rest ≡ (a ∷ 0 ∷ []) ++ (number_bytes order (offset_size format) (length fields) ++ (fields ++ program))
+after_version order format a fields program rest e =
+    let number = number_bytes order (offset_size format) (length fields) in
+    append_cancel_left (version_five order) rest ((a ∷ 0 ∷ []) ++ (number ++ (fields ++ program)))
+    (e ∙ regroup (version_five order) (a ∷ 0 ∷ []) number fields program)
 
 -- ---- the start
 
@@ -79,22 +85,9 @@ no_start : (order : Order) (format : Format) (body rest : List ℕ) (unit : Head
 no_start order format body rest unit joined none c =
     let a = unit.0.address_size in
     let number = number_bytes order (offset_size format) (length c.fields) in
-    let past = after_laid order (offset_size format) a c.fields unit.1 rest (sym joined ∙ c.body_is) in
+    let past = after_version order format a c.fields unit.1 rest (sym joined ∙ c.body_is) in
     none (a, (0, c.fields)) (a ∷ 0 ∷ (number ++ c.fields)) unit.1
-    (record {
-      front = a ∷ [];
-      back = 0 ∷ (number ++ c.fields);
-      first = (c.counted.numbers.address_size, refl);
-      second = record {
-        front = 0 ∷ [];
-        back = number ++ c.fields;
-        first = (refl, refl);
-        second =
-            record { front = number; back = c.fields; first = record { fits = c.small; spelled = refl }; second = refl; joined = refl };
-        joined = refl;
-      };
-      joined = refl;
-    })
+    (start_spelled format order a c.fields c.counted.numbers.address_size c.small)
     (ap (λ (z : List ℕ). a ∷ 0 ∷ z) (append_assoc number c.fields unit.1) ∙ sym past)
 
 -- the bytes of a frame up to the end of its version
@@ -148,7 +141,7 @@ refuses_start order format offset body old fault fits b there =
 record Counted (order : Order) (format : Format) (offset : ℕ) (body : List ℕ) (size : ℕ) (counted program : List ℕ) (place : ℕ) : Type
     0 where
   address_size : IsAddressSize size
-  laid_out : body ≡ laid order (offset_size format) size counted program
+  laid_out : body ≡ around order format size counted program
   small : length counted < 256 ^ offset_size format
   place_is : place ≡ offset + length (initial_length format order (length body)) + 4 + offset_size format
 
@@ -167,7 +160,8 @@ counted_by order format offset body size zero_size place counted old new b there
     ap (λ (z : List ℕ). z ++ p3.back) p3.first.spelled ∙ ap (λ (z : List ℕ). number ++ z) p3.second in
     let spelling : r.spelling ≡ size ∷ 0 ∷ (number ++ counted) =
     p1.joined ∙ ap (λ (z : List ℕ). z ++ p1.back) p1.first.1
-    ∙ ap (λ (z : List ℕ). size ∷ z) (p2.joined ∙ ap (λ (z : List ℕ). z ++ p2.back) p2.first.1)
+    ∙ ap (λ (z : List ℕ). size ∷ z) (p2.joined
+    ∙ ap (λ (z : List ℕ). z ++ p2.back) (p2.first.1 ∙ ap (λ (n : ℕ). n ∷ []) p2.first.0))
     ∙ ap (λ (z : List ℕ). size ∷ 0 ∷ z) (p3.joined ∙ tail) in
     let rest : old.rest ≡ (size ∷ 0 ∷ []) ++ (number ++ (counted ++ new.rest)) =
     r.whole ∙ ap (λ (z : List ℕ). z ++ new.rest) spelling ∙ ap (λ (z : List ℕ). size ∷ 0 ∷ z) (append_assoc number counted new.rest) in
@@ -198,7 +192,7 @@ counted_before order format size zero_size counted old new r =
       ap length p3.second,
     )
 
-singles_of : HeaderParts → Singles
+abbrev singles_of : HeaderParts → Singles
 singles_of h = record {
   minimum_instruction_length = h.minimum_instruction_length;
   max_ops = h.max_ops;
@@ -208,48 +202,29 @@ singles_of h = record {
   opcode_base = h.opcode_base;
 }
 
-six_of : HeaderParts → List ℕ
-six_of h = h.minimum_instruction_length ∷ h.max_ops ∷ h.default_is_stmt ∷ cast_unsigned w8 h.line_base ∷ h.line_range ∷ h.opcode_base ∷ []
-
-nest : (a b c d e : List ℕ) → (a ++ (b ++ (c ++ d))) ++ e ≡ (a ++ b) ++ c ++ d ++ e
-nest a b c d e = simp append_assoc
-
 no_fields : (order : Order) (format : Format) (body : List ℕ) (size : ℕ) (counted program : List ℕ) (offset place : ℕ)
     (unit : HeaderParts × List ℕ) → Counted order format offset body size counted program place
     → NoneSpelled (FieldsBytes format order) counted → Candidate order format body unit → ⊥
-unfolding singles_of six_of
 no_fields order format body size counted program offset place unit at none c =
     let h = unit.0 in
     let p = c.counted in
-    let same = same_laid order (offset_size format) (offset_width format) size h.address_size counted c.fields program unit.1 at.small
+    let same = same_around order format size h.address_size counted c.fields program unit.1 at.small
     c.small (sym at.laid_out ∙ c.body_is) in
     let directories : TableOf format order (h.directory_format, h.directories) p.directories =
-    subst (λ (f : Format). TableOf f order (h.directory_format, h.directories) p.directories) c.format_is
-    (subst (λ (o : Order). TableOf h.format o (h.directory_format, h.directories) p.directories) c.order_is p.directory_table) in
-    let files : TableOf format order (h.file_format, h.files) p.files =
-    subst (λ (f : Format). TableOf f order (h.file_format, h.files) p.files) c.format_is
-    (subst (λ (o : Order). TableOf h.format o (h.file_format, h.files) p.files) c.order_is p.file_table) in
+    rw (← c.format_is, ← c.order_is) p.directory_table in
+    let files : TableOf format order (h.file_format, h.files) p.files = rw (← c.format_is, ← c.order_is) p.file_table in
     none (singles_of h, (h.standard_lengths, ((h.directory_format, h.directories), (h.file_format, h.files))))
-    (six_of h ++ (h.standard_lengths ++ (p.directories ++ p.files))) h.extra
+    (six_bytes h ++ (h.standard_lengths ++ (p.directories ++ p.files))) h.extra
+    (joins (six_bytes h) (h.standard_lengths ++ (p.directories ++ p.files))
     (record {
-      front = six_of h;
-      back = h.standard_lengths ++ (p.directories ++ p.files);
-      first = record {
-        spelled = refl;
-        max_ops = p.numbers.max_ops;
-        line_range = p.numbers.line_range;
-        opcode_base = omega (arith, p.numbers.opcode_base);
-      };
-      second = record {
-        front = h.standard_lengths;
-        back = p.directories ++ p.files;
-        first = (p.numbers.opcode_base, p.numbers.lengths, refl);
-        second = record { front = p.directories; back = p.files; first = directories; second = files; joined = refl };
-        joined = refl;
-      };
-      joined = refl;
+      spelled = refl;
+      max_ops = p.numbers.max_ops;
+      line_range = p.numbers.line_range;
+      opcode_base = omega (arith, p.numbers.opcode_base);
     })
-    (nest (six_of h) h.standard_lengths p.directories p.files h.extra ∙ sym p.joined ∙ sym same.header)
+    (joins h.standard_lengths (p.directories ++ p.files) (p.numbers.opcode_base, p.numbers.lengths, refl)
+    (joins p.directories p.files directories files)))
+    (joined_fields (six_bytes h) h.standard_lengths p.directories p.files h.extra ∙ sym p.joined ∙ sym same.header)
 
 pub refuses_fields : (order : Order) (format : Format) (offset : ℕ) (body : List ℕ) (size zero_size place : ℕ) (counted : List ℕ)
     (old new : At) (fault : Fault) → LengthFits format (length body)
@@ -314,10 +289,10 @@ pub header_found : (order : Order) (format : Format) (offset : ℕ) (body : List
 header_found order format offset body size zero_size place counted program old new h fits b there placed program_is has =
     let at = counted_by order format offset body size zero_size place counted old new b there placed in
     let body_is : body ≡ unit_body h counted program =
-    at.laid_out ∙ ap (λ (z : List ℕ). laid order (offset_size format) size counted z) (sym program_is)
-    ∙ ap (λ (o : Order). laid o (offset_size format) size counted program) (sym has.order_is)
-    ∙ ap (λ (f : Format). laid h.order (offset_size f) size counted program) (sym has.format_is)
-    ∙ ap (λ (n : ℕ). laid h.order (offset_size h.format) n counted program) (sym has.size_is) in
+    at.laid_out ∙ ap (λ (z : List ℕ). around order format size counted z) (sym program_is)
+    ∙ ap (λ (o : Order). around o format size counted program) (sym has.order_is)
+    ∙ ap (λ (f : Format). around h.order f size counted program) (sym has.format_is)
+    ∙ ap (λ (n : ℕ). around h.order h.format n counted program) (sym has.size_is) in
     record {
       order_is = has.order_is;
       spelled = record {

@@ -1,9 +1,9 @@
 -- Under one order a header and a program have one value for their bytes, and none begins another.
-use Rattle.std.proofs.Common.{◌≡◌, ℕ, ◌^◌, ◌<◌, ◌≤◌, List, [], ◌∷◌, ◌++◌, length, refl, sym, ap, subst, ◌∙◌, append_assoc, arith}
+use Rattle.std.proofs.Common.{◌≡◌, ℕ, ◌^◌, ◌<◌, ◌≤◌, List, [], ◌∷◌, ◌++◌, length, sym, ap, subst, ◌∙◌, append_assoc, arith}
 use Rattle.std.specs.Prelude.{ℤ, FitsSigned}
 use Rattle.std.specs.Int.{w8, cast_unsigned, cast_signed}
 use Rattle.std.proofs.lemmas.Int.{to_z-of_z}
-use Rattle.std.proofs.lemmas.List.{append_cancel_left, length-append}
+use Rattle.std.proofs.lemmas.List.{append_cancel_left}
 use Rattle.lnt_wire.specs.declared.format.Order.{Order}
 use Rattle.lnt_wire.specs.declared.format.Format.{Format}
 use Rattle.lnt_wire.specs.declared.format.Format.TheVariants.{D32, D64}
@@ -11,14 +11,16 @@ use Rattle.lnt_wire.specs.Numbers.{number_bytes, offset_size}
 use Rattle.lnt_wire.specs.FrameBytes.{version_five}
 use Rattle.lnt_wire.specs.InitialLength.{initial_length, LengthFits}
 use Rattle.lnt_wire.proofs.ValueLaws.{offset_width}
-use Rattle.lnt_wire.proofs.LengthLaws.{IsWidth, same_front, same_rest, same_number_front, same_length}
+use Rattle.lnt_wire.proofs.LengthLaws.{same_front, same_rest, same_number_front, same_length}
 use Rattle.lnt_header.specs.declared.header.Entry.{Entry}
 use Rattle.lnt_header.specs.declared.header.HeaderParts.{HeaderParts}
 use Rattle.lnt_header.specs.declared.header.Pair.{Pair}
-use Rattle.lnt_header.specs.HeaderRules.{single_bytes}
+use Rattle.lnt_header.specs.HeaderRules.{six_bytes, single_bytes}
 use Rattle.lnt_header_bytes.specs.TableBytes.{TableBytes}
 use Rattle.lnt_header_bytes.specs.HeaderBytes.{HeaderFieldsBytes, unit_body, HeaderBytes}
+use Rattle.lnt_header_bytes.specs.HeaderPuts.{around}
 use Rattle.lnt_header_bytes.specs.Laws.{OneHeader}
+use Rattle.lnt_header_bytes.proofs.ProgramLaws.{length-body}
 use Rattle.lnt_header_bytes.proofs.TableLaws.{same_table}
 
 -- ---- the body of a unit
@@ -26,27 +28,24 @@ use Rattle.lnt_header_bytes.proofs.TableLaws.{same_table}
 pub regroup : (a b c d e : List ℕ) → a ++ b ++ c ++ d ++ e ≡ a ++ (b ++ (c ++ (d ++ e)))
 regroup a b c d e = simp append_assoc
 
-abbrev pub laid : Order → ℕ → ℕ → List ℕ → List ℕ → List ℕ
-laid order size address_size body program =
-    version_five order ++ (address_size ∷ 0 ∷ []) ++ number_bytes order size (length body) ++ body ++ program
-
 pub record SameBody (a a' : ℕ) (body body' program program' : List ℕ) : Type 0 where
   pub address_size : a ≡ a'
   pub header : body ≡ body'
   pub past : program ≡ program'
 
-pub same_laid : (order : Order) (size : ℕ) → IsWidth size → (a a' : ℕ) (b b' p p' : List ℕ) → length b < 256 ^ size → length b' < 256 ^ size
-    → laid order size a b p ≡ laid order size a' b' p' → SameBody a a' b b' p p'
-same_laid order size width a a' b b' p p' fits fits' e =
-    let n = number_bytes order size (length b) in
-    let n' = number_bytes order size (length b') in
+pub same_around : (order : Order) (format : Format) (a a' : ℕ) (b b' p p' : List ℕ) → length b < 256 ^ offset_size format
+    → length b' < 256 ^ offset_size format → around order format a b p ≡ around order format a' b' p' → SameBody a a' b b' p p'
+same_around order format a a' b b' p p' fits fits' e =
+    let n = number_bytes order (offset_size format) (length b) in
+    let n' = number_bytes order (offset_size format) (length b') in
     let all : version_five order ++ ((a ∷ 0 ∷ []) ++ (n ++ (b ++ p))) ≡ version_five order ++ ((a' ∷ 0 ∷ []) ++ (n' ++ (b' ++ p'))) =
     sym (regroup (version_five order) (a ∷ 0 ∷ []) n b p) ∙ e ∙ regroup (version_five order) (a' ∷ 0 ∷ []) n' b' p' in
     let past : a ∷ 0 ∷ (n ++ (b ++ p)) ≡ a' ∷ 0 ∷ (n' ++ (b' ++ p')) =
     append_cancel_left (version_five order) ((a ∷ 0 ∷ []) ++ (n ++ (b ++ p))) ((a' ∷ 0 ∷ []) ++ (n' ++ (b' ++ p'))) all in
     let sizes : a ≡ a' = cc in
     let rest : n ++ (b ++ p) ≡ n' ++ (b' ++ p') = cc in
-    let lengths = same_number_front order size width (length b) (length b') (b ++ p) (b' ++ p') fits fits' rest in
+    let lengths =
+    same_number_front order (offset_size format) (offset_width format) (length b) (length b') (b ++ p) (b' ++ p') fits fits' rest in
     let bodies : b ≡ b' = same_front b b' p p' lengths.0 lengths.1 in
     record { address_size = sizes; header = bodies; past = same_rest b b' p p' bodies lengths.1 }
 
@@ -55,7 +54,8 @@ same_laid order size width a a' b b' p p' fits fits' e =
 same_signed_byte : (z z' : ℤ) → FitsSigned w8 z → FitsSigned w8 z' → cast_unsigned w8 z ≡ cast_unsigned w8 z' → z ≡ z'
 same_signed_byte z z' p q e = sym (to_z-of_z w8 z p) ∙ ap (cast_signed w8) e ∙ to_z-of_z w8 z' q
 
-header_with : Format → Order → ℕ → ℕ → ℕ → ℕ → ℤ → ℕ → ℕ → List ℕ → List Pair → List Entry → List Pair → List Entry → List ℕ → HeaderParts
+abbrev header_with : Format → Order → ℕ → ℕ → ℕ → ℕ → ℤ → ℕ → ℕ → List ℕ → List Pair → List Entry → List Pair → List Entry
+    → List ℕ → HeaderParts
 header_with format order address_size minimum max_ops default_is_stmt line_base line_range opcode_base lengths directory_format directories
     file_format files extra = record {
       format = format;
@@ -75,11 +75,6 @@ header_with format order address_size minimum max_ops default_is_stmt line_base 
       extra = extra;
     }
 
-header_is : (h : HeaderParts) → header_with h.format h.order h.address_size h.minimum_instruction_length h.max_ops h.default_is_stmt
-    h.line_base h.line_range h.opcode_base h.standard_lengths h.directory_format h.directories h.file_format h.files h.extra ≡ h
-unfolding header_with
-header_is h = refl
-
 same_fields : (h h' : HeaderParts) (x y : List ℕ) → h.format ≡ h'.format → h.order ≡ h'.order → h.address_size ≡ h'.address_size
     → HeaderFieldsBytes h x → HeaderFieldsBytes h' y → x ≡ y → h ≡ h'
 same_fields h h' x y format order address_size left right same =
@@ -90,16 +85,12 @@ same_fields h h' x y format order address_size left right same =
     let numbers = left.numbers in
     let numbers' = right.numbers in
     let directories' : TableBytes h.format h.order h'.directory_format h'.directories d' =
-    subst (λ (g : Format). TableBytes g h.order h'.directory_format h'.directories d') (sym format)
-    (subst (λ (o : Order). TableBytes h'.format o h'.directory_format h'.directories d') (sym order) right.directory_table) in
+    rw (format, order) right.directory_table in
     let files' : TableBytes h.format h.order h'.file_format h'.files f' =
-    subst (λ (g : Format). TableBytes g h.order h'.file_format h'.files f') (sym format)
-    (subst (λ (o : Order). TableBytes h'.format o h'.file_format h'.files f') (sym order) right.file_table) in
+    rw (format, order) right.file_table in
     let e : single_bytes h ++ d ++ f ++ h.extra ≡ single_bytes h' ++ d' ++ f' ++ h'.extra = sym left.joined ∙ same ∙ right.joined in
-    let six = h.minimum_instruction_length ∷ h.max_ops ∷ h.default_is_stmt ∷ cast_unsigned w8 h.line_base ∷ h.line_range ∷ h.opcode_base
-    ∷ [] in
-    let six' = h'.minimum_instruction_length ∷ h'.max_ops ∷ h'.default_is_stmt ∷ cast_unsigned w8 h'.line_base ∷ h'.line_range
-    ∷ h'.opcode_base ∷ [] in
+    let six = six_bytes h in
+    let six' = six_bytes h' in
     let all : six ++ (h.standard_lengths ++ (d ++ (f ++ h.extra))) ≡ six' ++ (h'.standard_lengths ++ (d' ++ (f' ++ h'.extra))) =
     sym (regroup six h.standard_lengths d f h.extra) ∙ e ∙ regroup six' h'.standard_lengths d' f' h'.extra in
     let minimum : h.minimum_instruction_length ≡ h'.minimum_instruction_length = cc in
@@ -147,7 +138,7 @@ same_fields h h' x y format order address_size left right same =
       file_entries,
       extra,
     ) in
-    sym (header_is h) ∙ both ∙ header_is h'
+    both
 
 -- ---- the whole
 
@@ -159,9 +150,6 @@ pub record SameHeader (h h' : HeaderParts) (p p' x y : List ℕ) : Type 0 where
 pub below : (format : Format) (n m : ℕ) → LengthFits format n → m ≤ n → m < 256 ^ offset_size format
 below D32 n m fits le = omega arith
 below D64 n m fits le = omega arith
-
-pub length-laid : (order : Order) (size a : ℕ) (b p : List ℕ) → length b ≤ length (laid order size a b p)
-length-laid order size a b p = simp length-append (omega arith)
 
 pub same_header : (h h' : HeaderParts) (p p' x y r s : List ℕ) → h.order ≡ h'.order → HeaderBytes h p x → HeaderBytes h' p' y
     → x ++ r ≡ y ++ s → SameHeader h h' p p' x y
@@ -179,16 +167,14 @@ same_header h h' p p' x y r s order left right e =
     (sym first ∙ e ∙ second) in
     let format : h.format ≡ h'.format = lengths.format in
     let wholes : whole ≡ whole' = same_front whole whole' r s lengths.number lengths.past in
-    let over : laid h'.order (offset_size h'.format) h'.address_size body' p'
-    ≡ laid h.order (offset_size h.format) h'.address_size body' p' =
-    ap (λ (o : Order). laid o (offset_size h'.format) h'.address_size body' p') (sym order)
-    ∙ ap (λ (f : Format). laid h.order (offset_size f) h'.address_size body' p') (sym format) in
+    let over : around h'.order h'.format h'.address_size body' p' ≡ around h.order h.format h'.address_size body' p' =
+    ap (λ (o : Order). around o h'.format h'.address_size body' p') (sym order)
+    ∙ ap (λ (f : Format). around h.order f h'.address_size body' p') (sym format) in
     let small : length body < 256 ^ offset_size h.format =
-    below h.format (length whole) (length body) left.fits (length-laid h.order (offset_size h.format) h.address_size body p) in
+    below h.format (length whole) (length body) left.fits (omega (arith, length-body h body p)) in
     let small' : length body' < 256 ^ offset_size h.format = subst (λ (f : Format). length body' < 256 ^ offset_size f) (sym format)
-    (below h'.format (length whole') (length body') right.fits
-    (length-laid h'.order (offset_size h'.format) h'.address_size body' p')) in
-    let parts = same_laid h.order (offset_size h.format) (offset_width h.format) h.address_size h'.address_size body body' p p' small small'
+    (below h'.format (length whole') (length body') right.fits (omega (arith, length-body h' body' p'))) in
+    let parts = same_around h.order h.format h.address_size h'.address_size body body' p p' small small'
     (wholes ∙ over) in
     let headers : h ≡ h' = same_fields h h' body body' format order parts.address_size left.counted right.counted parts.header in
     let starts : initial_length h.format h.order (length whole) ≡ initial_length h'.format h'.order (length whole') =

@@ -1,7 +1,9 @@
--- The fields of one byte that are read, and refused.
+-- The fields that header_length counts: what is read and refused, and that their first fault is one. Crates above cite these.
 use Rattle.std.proofs.Common.{◌≡◌, ◌≢◌, ℕ, zero, suc, ◌+◌, ◌-◌, ◌<◌, ◌≤◌, List, [], ◌∷◌, ◌++◌, length, take, drop, get_or, refl, sym, ap}
-use Rattle.std.proofs.Common.{subst, ◌∙◌, arith, ◌⊎◌, inl, inr}
-use Rattle.std.proofs.lemmas.List.{length-append, append-nil, length-take-le, get_or-take, drop_more, take-append-drop}
+use Rattle.std.proofs.Common.{◌∙◌, arith, inl, inr}
+use Rattle.std.proofs.lemmas.Bool.{cases_order}
+use Rattle.std.proofs.Math.Seq.{get_or-append_seam}
+use Rattle.std.proofs.lemmas.List.{length-append, append-nil, length-take-le, get_or-take, get_or_append_left, drop_more, take-append-drop}
 use Rattle.lnt_wire.specs.At.{At}
 use Rattle.lnt_wire.specs.Bytes.{NoneSpelled, IsCode, TakenBytes}
 use Rattle.lnt_wire.specs.Reading.{Reads, Refuses}
@@ -10,48 +12,84 @@ use Rattle.lnt_wire.specs.declared.fault.Reason.{Reason}
 use Rattle.lnt_wire.specs.declared.fault.Reason.TheVariants.{Truncated, MaxOpsZero, LineRangeZero, OpcodeBaseZero, StandardLength}
 use Rattle.lnt_wire.specs.declared.format.Format.{Format}
 use Rattle.lnt_wire.specs.declared.format.Order.{Order}
-use Rattle.lnt_wire.proofs.LengthLaws.{same_front}
+use Rattle.lnt_wire.proofs.LengthLaws.{same_front, same_rest}
+use Rattle.lnt_header.proofs.FirstFaultLaws.{AreOne, first_of, IsOneFault}
 use Rattle.lnt_header.proofs.ReaderLaws.{first_refused, second_refused, reads_both}
 use Rattle.lnt_header.specs.declared.header.Entry.{Entry}
 use Rattle.lnt_header.specs.declared.header.Pair.{Pair}
+use Rattle.lnt_header.specs.HeaderRules.{AreStandardLengths}
+use Rattle.lnt_header.specs.OpRules.{known_lengths, last_known}
 use Rattle.lnt_header_bytes.specs.TableBytes.{TableOf}
 use Rattle.lnt_header_bytes.specs.TableFaults.{IsTableFault}
 use Rattle.lnt_header_bytes.specs.FieldsBytes.{FieldsBytes, AfterSingles, AfterLengths, TwoTables}
 use Rattle.lnt_header_bytes.specs.HeaderFaults.{TwoTablesFault, AfterSinglesFault, IsHeaderFault}
-use Rattle.lnt_header_bytes.proofs.TableLaws.{same_table}
-use Rattle.lnt_header_bytes.specs.declared.numbers.Singles.{Singles}
-use Rattle.lnt_header.specs.HeaderRules.{AreStandardLengths}
-use Rattle.lnt_header.specs.OpRules.{known_lengths, last_known}
 use Rattle.lnt_header_bytes.specs.HeaderFaults.{SinglesBytes, AreCutSingles, IsSinglesFault, LengthsBytes, AreCutLengths, IsLengthsFault}
+use Rattle.lnt_header_bytes.specs.declared.numbers.Singles.{Singles}
+use Rattle.lnt_header_bytes.proofs.FaultLaws.{one_told, so_end, so_past}
+use Rattle.lnt_header_bytes.proofs.TableLaws.{same_table}
+use Rattle.lnt_header_bytes.proofs.TableReaders.{table_fault}
 
--- a fault after so many bytes
-past : {X : Type 0} {IsSo : Reason → List ℕ → List ℕ → Type 0} (Spells : X → List ℕ → Type 0) (old : At) (fault : Fault) (reason : Reason)
-    (i : ℕ)
-    → i ≤ length old.rest → fault.place ≡ old.place + i → fault.reason ≡ reason → IsSo reason (take i old.rest) (drop i old.rest)
-    → NoneSpelled Spells old.rest → Refuses IsSo Spells old fault
-past {X} {IsSo} Spells old fault reason i le place same so none = record {
-  before = take i old.rest;
-  left = drop i old.rest;
-  split = sym (take-append-drop i old.rest);
-  place = omega (arith, place, length-take-le i old.rest le);
-  reason = subst (λ (r : Reason). IsSo r (take i old.rest) (drop i old.rest)) (sym same) so;
-  none = none;
-}
+-- ---- the six fields of one byte
 
-none_max_ops : (bytes : List ℕ) → get_or bytes 1 0 ≡ 0 → NoneSpelled SinglesBytes bytes
-none_max_ops bytes zero_there s x more p e =
-    let there : s.max_ops ≡ get_or bytes 1 0 = ap (λ (z : List ℕ). get_or z 1 0) (ap (λ (z : List ℕ). z ++ more) (sym p.spelled) ∙ e) in
-    omega (arith, p.max_ops, there, zero_there)
+singles_none : (reason : Reason) (before left : List ℕ) → IsSinglesFault reason before left → NoneSpelled SinglesBytes (before ++ left)
+singles_none Truncated before left h s x more p e =
+    omega (arith, ap length e, length-append before left, length-append x more, ap length h.ends, h.few, ap length p.spelled)
+singles_none MaxOpsZero before left h s x more p e =
+    let all = ap (λ (z : List ℕ). z ++ more) (sym p.spelled) ∙ e ∙ ap (λ (z : List ℕ). z ++ left) h.2 ∙ ap (λ (z : List ℕ). h.0 ∷ z) h.3 in
+    omega (arith, p.max_ops, ap (λ (z : List ℕ). get_or z 1 0) all)
+singles_none LineRangeZero before left h s x more p e =
+    let all =
+    ap (λ (z : List ℕ). z ++ more) (sym p.spelled) ∙ e ∙ ap (λ (z : List ℕ). z ++ left) h.6
+    ∙ ap (λ (z : List ℕ). h.0 ∷ h.1 ∷ h.2 ∷ h.3 ∷ z) h.7 in
+    omega (arith, p.line_range, ap (λ (z : List ℕ). get_or z 4 0) all)
+singles_none OpcodeBaseZero before left h s x more p e =
+    let all =
+    ap (λ (z : List ℕ). z ++ more) (sym p.spelled) ∙ e ∙ ap (λ (z : List ℕ). z ++ left) h.8
+    ∙ ap (λ (z : List ℕ). h.0 ∷ h.1 ∷ h.2 ∷ h.3 ∷ h.4 ∷ z) h.9 in
+    omega (arith, p.opcode_base, ap (λ (z : List ℕ). get_or z 5 0) all)
+singles_none reason before left h s x more p e = absurd h
 
-none_line_range : (bytes : List ℕ) → get_or bytes 4 0 ≡ 0 → NoneSpelled SinglesBytes bytes
-none_line_range bytes zero_there s x more p e =
-    let there : s.line_range ≡ get_or bytes 4 0 = ap (λ (z : List ℕ). get_or z 4 0) (ap (λ (z : List ℕ). z ++ more) (sym p.spelled) ∙ e) in
-    omega (arith, p.line_range, there, zero_there)
+-- what is wrong with bytes that don't begin with the six fields, and the bytes before it
+abbrev singles_told : List ℕ → Reason × List ℕ
+singles_told (a ∷ zero ∷ more) = (MaxOpsZero, a ∷ [])
+singles_told (a ∷ suc b ∷ c ∷ d ∷ zero ∷ more) = (LineRangeZero, a ∷ suc b ∷ c ∷ d ∷ [])
+singles_told (a ∷ suc b ∷ c ∷ d ∷ suc f ∷ zero ∷ more) = (OpcodeBaseZero, a ∷ suc b ∷ c ∷ d ∷ suc f ∷ [])
+singles_told bytes = (Truncated, bytes)
 
-none_opcode_base : (bytes : List ℕ) → get_or bytes 5 0 ≡ 0 → NoneSpelled SinglesBytes bytes
-none_opcode_base bytes zero_there s x more p e =
-    let there : s.opcode_base ≡ get_or bytes 5 0 = ap (λ (z : List ℕ). get_or z 5 0) (ap (λ (z : List ℕ). z ++ more) (sym p.spelled) ∙ e) in
-    omega (arith, p.opcode_base, there, zero_there)
+told_cut : (bytes : List ℕ) → length bytes < 6 → (1 < length bytes → 0 < get_or bytes 1 0) → (4 < length bytes → 0 < get_or bytes 4 0)
+    → singles_told bytes ≡ (Truncated, bytes)
+told_cut [] few max_ops line_range = refl
+told_cut (a ∷ []) few max_ops line_range = refl
+told_cut (a ∷ zero ∷ more) few max_ops line_range = absurd (omega (arith, max_ops (omega arith)))
+told_cut (a ∷ suc b ∷ []) few max_ops line_range = refl
+told_cut (a ∷ suc b ∷ c ∷ []) few max_ops line_range = refl
+told_cut (a ∷ suc b ∷ c ∷ d ∷ []) few max_ops line_range = refl
+told_cut (a ∷ suc b ∷ c ∷ d ∷ zero ∷ more) few max_ops line_range = absurd (omega (arith, line_range (omega arith)))
+told_cut (a ∷ suc b ∷ c ∷ d ∷ suc f ∷ []) few max_ops line_range = refl
+told_cut (a ∷ suc b ∷ c ∷ d ∷ suc f ∷ g ∷ more) few max_ops line_range = absurd (omega arith)
+
+told_line_range : (a b c d : ℕ) (more : List ℕ) → 0 < b → singles_told (a ∷ b ∷ c ∷ d ∷ 0 ∷ more) ≡ (LineRangeZero, a ∷ b ∷ c ∷ d ∷ [])
+told_line_range a zero c d more some = absurd (omega arith)
+told_line_range a (suc b) c d more some = refl
+
+told_opcode_base : (a b c d f : ℕ) (more : List ℕ) → 0 < b → 0 < f
+    → singles_told (a ∷ b ∷ c ∷ d ∷ f ∷ 0 ∷ more) ≡ (OpcodeBaseZero, a ∷ b ∷ c ∷ d ∷ f ∷ [])
+told_opcode_base a zero c d f more some last = absurd (omega arith)
+told_opcode_base a (suc b) c d zero more some last = absurd (omega arith)
+told_opcode_base a (suc b) c d (suc f) more some last = refl
+
+tells_singles : (reason : Reason) (before left : List ℕ) → IsSinglesFault reason before left
+    → singles_told (before ++ left) ≡ (reason, before)
+tells_singles Truncated before left h =
+    ap (λ (z : List ℕ). singles_told z) (ap (λ (z : List ℕ). before ++ z) h.ends ∙ append-nil before)
+    ∙ told_cut before h.few h.max_ops h.line_range
+tells_singles MaxOpsZero before left h = rw (h.2, h.3) refl
+tells_singles LineRangeZero before left h = rw (h.6, h.7) (told_line_range h.0 h.1 h.2 h.3 h.4 h.5)
+tells_singles OpcodeBaseZero before left h = rw (h.8, h.9) (told_opcode_base h.0 h.1 h.2 h.3 h.4 h.5 h.6 h.7)
+tells_singles reason before left h = absurd h
+
+singles_fault : IsOneFault SinglesBytes IsSinglesFault
+singles_fault = record { none = singles_none; one = one_told (λ bytes. singles_told bytes) IsSinglesFault tells_singles }
 
 so_max_ops : (bytes : List ℕ) → 1 < length bytes → get_or bytes 1 0 ≡ 0 → IsSinglesFault MaxOpsZero (take 1 bytes) (drop 1 bytes)
 so_max_ops [] lt e = absurd (omega arith)
@@ -72,56 +110,36 @@ so_opcode_base bytes lt n m e = absurd (omega arith)
 pub max_ops_zero : (old : At) (fault : Fault) → 1 < length old.rest → get_or old.rest 1 0 ≡ 0 → fault.place ≡ old.place + 1
     → fault.reason ≡ MaxOpsZero → Refuses IsSinglesFault SinglesBytes old fault
 max_ops_zero old fault lt e place reason =
-    past SinglesBytes old fault MaxOpsZero 1 (omega arith) place reason (so_max_ops old.rest lt e) (none_max_ops old.rest e)
+    so_past singles_fault old fault MaxOpsZero 1 (omega arith) place reason (so_max_ops old.rest lt e)
 
 pub line_range_zero : (old : At) (fault : Fault) → 4 < length old.rest → get_or old.rest 1 0 ≢ 0 → get_or old.rest 4 0 ≡ 0
     → fault.place ≡ old.place + 4 → fault.reason ≡ LineRangeZero
     → Refuses IsSinglesFault SinglesBytes old fault
 line_range_zero old fault lt n e place reason =
-    past SinglesBytes old fault LineRangeZero 4 (omega arith) place reason (so_line_range old.rest lt n e) (none_line_range old.rest e)
+    so_past singles_fault old fault LineRangeZero 4 (omega arith) place reason (so_line_range old.rest lt n e)
 
 pub opcode_base_zero : (old : At) (fault : Fault) → 5 < length old.rest → get_or old.rest 1 0 ≢ 0 → get_or old.rest 4 0 ≢ 0
     → get_or old.rest 5 0 ≡ 0 → fault.place ≡ old.place + 5 → fault.reason ≡ OpcodeBaseZero
     → Refuses IsSinglesFault SinglesBytes old fault
-opcode_base_zero old fault lt n m e place reason = past SinglesBytes old fault OpcodeBaseZero 5 (omega arith) place reason
-    (so_opcode_base old.rest lt n m e) (none_opcode_base old.rest e)
-
--- bytes that end where more should stand
-cut : {X : Type 0} {IsSo : Reason → List ℕ → List ℕ → Type 0} (Spells : X → List ℕ → Type 0) (old : At) (fault : Fault)
-    → fault.place ≡ old.place + length old.rest → fault.reason ≡ Truncated
-    → IsSo Truncated old.rest [] → NoneSpelled Spells old.rest → Refuses IsSo Spells old fault
-cut {X} {IsSo} Spells old fault place same so none = record {
-  before = old.rest;
-  left = [];
-  split = sym (append-nil old.rest);
-  place = place;
-  reason = subst (λ (r : Reason). IsSo r old.rest []) (sym same) so;
-  none = none;
-}
+opcode_base_zero old fault lt n m e place reason =
+    so_past singles_fault old fault OpcodeBaseZero 5 (omega arith) place reason (so_opcode_base old.rest lt n m e)
 
 pub cut_singles : (old : At) (fault : Fault) → length old.rest < 6 → (1 < length old.rest → get_or old.rest 1 0 ≢ 0)
     → (4 < length old.rest → get_or old.rest 4 0 ≢ 0) → fault.place ≡ old.place + length old.rest
     → fault.reason ≡ Truncated → Refuses IsSinglesFault SinglesBytes old fault
 cut_singles old fault lt max_ops line_range place reason =
     let cut_there : AreCutSingles old.rest [] = record {
-      ends =
-          refl;
+      ends = refl;
       few = lt;
       max_ops = λ there. omega (arith, max_ops there);
       line_range = λ there. omega (arith, line_range there);
     } in
-    cut SinglesBytes old fault place reason cut_there
-    (λ s x more p e. omega (arith, ap length e, length-append x more, ap length p.spelled))
+    so_end singles_fault old fault Truncated place reason cut_there
 
 six_of : (bytes : List ℕ) → length bytes ≡ 6 → bytes ≡ get_or bytes 0 0 ∷ get_or bytes 1 0 ∷ get_or bytes 2 0 ∷ get_or bytes 3 0 ∷ get_or
     bytes 4 0 ∷ get_or bytes 5 0 ∷ []
 six_of (a ∷ b ∷ c ∷ d ∷ f ∷ g ∷ []) e = refl
 six_of bytes e = absurd (omega arith)
-
-get_front : (x y : List ℕ) (i : ℕ) → i < length x → get_or (x ++ y) i 0 ≡ get_or x i 0
-get_front [] y i lt = absurd (omega arith)
-get_front (a ∷ x) y zero lt = refl
-get_front (a ∷ x) y (suc i) lt = get_front x y i (omega arith)
 
 pub reads_singles : (old new : At) (six : List ℕ) (s : Singles) → Reads (TakenBytes 6) six old new
     → s.minimum_instruction_length ≡ get_or six 0 0 → s.max_ops ≡ get_or six 1 0 → s.default_is_stmt ≡ get_or six 2 0
@@ -132,14 +150,13 @@ reads_singles old new six s r a b c d f g max_ops line_range opcode_base =
     let size : length six ≡ 6 = ap length r.spelled.taken_is ∙ r.spelled.count_is in
     let whole : old.rest ≡ six ++ new.rest = r.whole ∙ ap (λ (z : List ℕ). z ++ new.rest) (sym r.spelled.taken_is) in
     let long : length old.rest ≡ length six + length new.rest = ap length whole ∙ length-append six new.rest in
-    let at1 : get_or old.rest 1 0 ≡ get_or six 1 0 = ap (λ (z : List ℕ). get_or z 1 0) whole ∙ get_front six new.rest 1 (omega arith) in
-    let at4 : get_or old.rest 4 0 ≡ get_or six 4 0 = ap (λ (z : List ℕ). get_or z 4 0) whole ∙ get_front six new.rest 4 (omega arith) in
-    let at5 : get_or old.rest 5 0 ≡ get_or six 5 0 = ap (λ (z : List ℕ). get_or z 5 0) whole ∙ get_front six new.rest 5 (omega arith) in
+    let at : (i : ℕ) → i < length six → get_or old.rest i 0 ≡ get_or six i 0 =
+    λ i lt. ap (λ (z : List ℕ). get_or z i 0) whole ∙ get_or_append_left six new.rest 0 i lt in
     let heads : s.minimum_instruction_length ∷ s.max_ops ∷ s.default_is_stmt ∷ s.line_base ∷ s.line_range ∷ s.opcode_base ∷ []
     ≡ get_or six 0 0 ∷ get_or six 1 0 ∷ get_or six 2 0 ∷ get_or six 3 0 ∷ get_or six 4 0 ∷ get_or six 5 0 ∷ [] = cc (a, b, c, d, f, g) in
-    let one : 0 < s.max_ops = omega (arith, max_ops (omega arith), at1, b) in
-    let two : 0 < s.line_range = omega (arith, line_range (omega arith), at4, f) in
-    let three : 0 < s.opcode_base = omega (arith, opcode_base (omega arith), at5, g) in
+    let one : 0 < s.max_ops = omega (arith, max_ops (omega arith), at 1 (omega arith), b) in
+    let two : 0 < s.line_range = omega (arith, line_range (omega arith), at 4 (omega arith), f) in
+    let three : 0 < s.opcode_base = omega (arith, opcode_base (omega arith), at 5 (omega arith), g) in
     record {
       spelling = r.spelling;
       spelled =
@@ -166,39 +183,78 @@ agreed (b ∷ bytes) (k ∷ known) h =
     agreed bytes known (λ j lt small. h (suc j) (omega arith) (omega arith)) in
     cc
 
-split_at : (k n : ℕ) → (n < k) ⊎ (k ≤ n)
-split_at zero n = inr (omega arith)
-split_at (suc k) zero = inl (omega arith)
-split_at (suc k) (suc n) = elim (split_at k n) [ inl lt ↦ inl (omega arith) | inr le ↦ inr (omega arith) ]
-
-split_lt : (n : ℕ) → (n < last_known) ⊎ (last_known ≤ n)
-split_lt n = split_at last_known n
-
--- given_lengths that agree with the table are the table's front
-standard_at : (given_lengths : List ℕ) (i : ℕ) → AreStandardLengths given_lengths → i < last_known → i < length given_lengths
-    → get_or given_lengths i 0 ≡ get_or known_lengths i 0
-standard_at given_lengths i h small lt =
-    sym (get_or-take last_known given_lengths i 0 small) ∙ ap (λ (z : List ℕ). get_or z i 0) h
-    ∙ get_or-take (length given_lengths) known_lengths i 0 lt
-
 below : (j n size : ℕ) → j < last_known → j < size → (n < last_known → size ≤ n) → j < n
-below j n size lt small short = elim (split_lt n) [ inl less ↦ omega (arith, short less) | inr more ↦ omega arith ]
+below j n size lt small short = elim (cases_order n last_known) [
+  | inr (inl less) ↦ omega (arith, short less)
+  | inl same ↦ omega (arith, same)
+  | inr (inr more) ↦ omega arith
+]
 
 pub are_standard : (bytes : List ℕ) (n : ℕ) → Agrees n bytes → (n < last_known → length bytes ≤ n) → AreStandardLengths bytes
 are_standard bytes n h short = agreed bytes known_lengths (λ j lt small. h.at j (below j n (length bytes) lt small short) small)
 
 agrees_front : (x y bytes : List ℕ) (n : ℕ) → bytes ≡ x ++ y → Agrees n bytes → Agrees n x
 agrees_front x y bytes n e h = record {
-  at = λ j lt small. sym (get_front x y j small) ∙ ap (λ (z : List ℕ). get_or z j 0) (sym e)
+  at = λ j lt small. sym (get_or_append_left x y 0 j small) ∙ ap (λ (z : List ℕ). get_or z j 0) (sym e)
       ∙ h.at j lt (omega (arith, ap length e, length-append x y));
 }
 
-none_length : (opcode_base i : ℕ) (bytes : List ℕ) → i + 1 < opcode_base → i < last_known → get_or bytes i 0 ≢ get_or known_lengths i 0
-    → NoneSpelled (LengthsBytes opcode_base) bytes
-none_length opcode_base i bytes lt small other ls x more p e =
-    let long : i < length ls = omega (arith, p.0) in
-    other (ap (λ (z : List ℕ). get_or z i 0) (sym e ∙ ap (λ (z : List ℕ). z ++ more) p.2) ∙ get_front ls more i long
-    ∙ standard_at ls i p.1 small long)
+-- where lengths are standard ones, none of them is another
+standard_none : (lengths more before past : List ℕ) (given : ℕ) → AreStandardLengths lengths → length before < length lengths
+    → length before < last_known
+    → given ≢ get_or known_lengths (length before) 0 → lengths ++ more ≡ before ++ given ∷ past → ⊥
+standard_none lengths more before past given standard lt few other e =
+    let i = length before in
+    let known : get_or lengths i 0 ≡ get_or known_lengths i 0 =
+    sym (get_or-take last_known lengths i 0 few) ∙ ap (λ (z : List ℕ). get_or z i 0) standard
+    ∙ get_or-take (length lengths) known_lengths i 0 lt in
+    other (sym (get_or-append_seam before given past 0) ∙ ap (λ (z : List ℕ). get_or z i 0) (sym e)
+    ∙ get_or_append_left lengths more 0 i lt ∙ known)
+
+lengths_none : (opcode_base : ℕ) (reason : Reason) (before left : List ℕ) → IsLengthsFault opcode_base reason before left
+    → NoneSpelled (LengthsBytes opcode_base) (before ++ left)
+lengths_none opcode_base Truncated before left h lengths x more p e =
+    omega (arith, ap length e, length-append before left, length-append x more, ap length h.ends, h.few, ap length p.2, p.0)
+lengths_none opcode_base (StandardLength opcode given) before left h lengths x more p e =
+    standard_none lengths more before h.0 given p.1 (omega (arith, h.2, h.3, p.0)) (omega (arith, h.2, h.4)) h.5
+    (ap (λ (z : List ℕ). z ++ more) (sym p.2) ∙ e ∙ ap (λ (z : List ℕ). before ++ z) h.6)
+lengths_none opcode_base reason before left h lengths x more p e = absurd h
+
+lengths_one : (opcode_base : ℕ) → AreOne (IsLengthsFault opcode_base)
+lengths_one opcode_base Truncated Truncated before before' left left' h k e = (
+  refl,
+  sym (append-nil before) ∙ ap (λ (z : List ℕ). before ++ z) (sym h.ends) ∙ e ∙ ap (λ (z : List ℕ). before' ++ z) k.ends
+      ∙ append-nil before',
+)
+lengths_one opcode_base Truncated (StandardLength opcode given) before before' left left' h k e =
+    let all : before ++ left ≡ before' ++ given ∷ k.0 = e ∙ ap (λ (z : List ℕ). before' ++ z) k.6 in
+    absurd (standard_none before left before' k.0 given h.standard
+    (omega (arith, ap length all, length-append before left, ap length h.ends, length-append before' (given ∷ k.0)))
+    (omega (arith, k.2, k.4)) k.5 all)
+lengths_one opcode_base Truncated other before before' left left' h k e = absurd k
+lengths_one opcode_base (StandardLength opcode given) Truncated before before' left left' h k e =
+    let all : before' ++ left' ≡ before ++ given ∷ h.0 = sym e ∙ ap (λ (z : List ℕ). before ++ z) h.6 in
+    absurd (standard_none before' left' before h.0 given k.standard
+    (omega (arith, ap length all, length-append before' left', ap length k.ends, length-append before (given ∷ h.0)))
+    (omega (arith, h.2, h.4)) h.5 all)
+lengths_one opcode_base (StandardLength opcode given) (StandardLength opcode' given') before before' left left' h k e =
+    elim (cases_order (length before) (length before')) [
+      | inr (inl lt) ↦ absurd
+          (standard_none before' left' before h.0 given k.1 lt (omega (arith, h.2, h.4)) h.5 (sym e ∙ ap (λ (z : List ℕ). before ++ z) h.6))
+      | inl same ↦
+          let fronts : before ≡ before' = same_front before before' left left' same e in
+          let rest : given ∷ h.0 ≡ given' ∷ k.0 = sym h.6 ∙ same_rest before before' left left' fronts e ∙ k.6 in
+          let givens : given ≡ given' = cc in
+          let opcodes : opcode ≡ opcode' = omega (arith, h.2, k.2, same) in
+          (ap (λ (n : ℕ). StandardLength n given) opcodes ∙ ap (StandardLength opcode') givens, fronts)
+      | inr (inr gt) ↦ absurd
+          (standard_none before left before' k.0 given' h.1 gt (omega (arith, k.2, k.4)) k.5 (e ∙ ap (λ (z : List ℕ). before' ++ z) k.6))
+    ]
+lengths_one opcode_base (StandardLength opcode given) other before before' left left' h k e = absurd k
+lengths_one opcode_base reason other before before' left left' h k e = absurd h
+
+lengths_fault : (opcode_base : ℕ) → IsOneFault (LengthsBytes opcode_base) (IsLengthsFault opcode_base)
+lengths_fault opcode_base = record { none = lengths_none opcode_base; one = lengths_one opcode_base }
 
 pub refuses_length : (opcode_base i opcode given : ℕ) (old : At) (fault : Fault) → Agrees i old.rest → i + 1 < opcode_base → i < last_known
     → i < length old.rest → given ≡ get_or old.rest i 0 → given ≢ get_or known_lengths i 0
@@ -209,18 +265,15 @@ refuses_length opcode_base i opcode given old fault h lt small long given_is oth
     let standard : AreStandardLengths (take i old.rest) = are_standard (take i old.rest) i
     (agrees_front (take i old.rest) (drop i old.rest) old.rest i (sym (take-append-drop i old.rest)) h)
     (λ lt. omega (arith, size)) in
-    let not_known : given ≢ get_or known_lengths (length (take i old.rest)) 0 =
-    λ e. other (e ∙ ap (λ (k : ℕ). get_or known_lengths k 0) size) in
-    past (LengthsBytes opcode_base) old fault (StandardLength opcode given) i (omega arith) place reason (
+    so_past (lengths_fault opcode_base) old fault (StandardLength opcode given) i (omega arith) place reason (
       drop (i + 1) old.rest,
       standard,
       omega (arith, size, opcode_is),
       omega (arith, opcode_is),
       omega (arith, opcode_is),
-      not_known,
+      λ e. other (e ∙ ap (λ (k : ℕ). get_or known_lengths k 0) size),
       drop_more old.rest i 0 long ∙ ap (λ (k : ℕ). k ∷ drop (i + 1) old.rest) (sym given_is),
     )
-    (none_length opcode_base i old.rest lt small (λ e. other (given_is ∙ e)))
 
 pub cut_lengths : (opcode_base n : ℕ) (old : At) (fault : Fault) → 0 < opcode_base → length old.rest < opcode_base - 1 → Agrees n old.rest
     → (n < last_known → opcode_base ≡ n + 1) → fault.place ≡ old.place + length old.rest
@@ -228,8 +281,7 @@ pub cut_lengths : (opcode_base n : ℕ) (old : At) (fault : Fault) → 0 < opcod
 cut_lengths opcode_base n old fault some lt h all place reason =
     let cut_there : AreCutLengths opcode_base old.rest [] =
     record { ends = refl; few = omega (arith, lt); standard = are_standard old.rest n h (λ small. omega (arith, all small, lt)) } in
-    cut (LengthsBytes opcode_base) old fault place reason cut_there
-    (λ ls x more p e. omega (arith, ap length e, length-append x more, ap length p.2, p.0))
+    so_end (lengths_fault opcode_base) old fault Truncated place reason cut_there
 
 pub reads_lengths : (opcode_base n : ℕ) (given_lengths : List ℕ) (old new : At) → 0 < opcode_base
     → Reads (TakenBytes (opcode_base - 1)) given_lengths old new → Agrees n old.rest → (n < last_known → opcode_base ≡ n + 1)
@@ -249,33 +301,21 @@ reads_lengths opcode_base n given_lengths old new some r h all =
 
 -- ---- the fields of a header
 
-singles_with : ℕ → ℕ → ℕ → ℕ → ℕ → ℕ → Singles
+abbrev singles_with : ℕ → ℕ → ℕ → ℕ → ℕ → ℕ → Singles
 singles_with a b c d f g =
     record { minimum_instruction_length = a; max_ops = b; default_is_stmt = c; line_base = d; line_range = f; opcode_base = g }
 
-singles_is : (s : Singles) → singles_with s.minimum_instruction_length s.max_ops s.default_is_stmt s.line_base s.line_range s.opcode_base
-    ≡ s
-unfolding singles_with
-singles_is s = refl
-
-pub singles_code : IsCode SinglesBytes
+singles_code : IsCode SinglesBytes
 singles_code = record {
   one = λ s t x y r q p p' e.
       let same : x ≡ y = same_front x y r q (ap length p.spelled ∙ sym (ap length p'.spelled)) e in
       let all = sym p.spelled ∙ same ∙ p'.spelled in
-      let a : s.minimum_instruction_length ≡ t.minimum_instruction_length = cc in
-      let b : s.max_ops ≡ t.max_ops = cc in
-      let c : s.default_is_stmt ≡ t.default_is_stmt = cc in
-      let d : s.line_base ≡ t.line_base = cc in
-      let f : s.line_range ≡ t.line_range = cc in
-      let g : s.opcode_base ≡ t.opcode_base = cc in
       let both : singles_with s.minimum_instruction_length s.max_ops s.default_is_stmt s.line_base s.line_range s.opcode_base
-      ≡ singles_with t.minimum_instruction_length t.max_ops t.default_is_stmt t.line_base t.line_range t.opcode_base =
-      cc (a, b, c, d, f, g) in
-      (sym (singles_is s) ∙ both ∙ singles_is t, same);
+      ≡ singles_with t.minimum_instruction_length t.max_ops t.default_is_stmt t.line_base t.line_range t.opcode_base = cc in
+      (both, same);
 }
 
-pub lengths_code : (opcode_base : ℕ) → IsCode (LengthsBytes opcode_base)
+lengths_code : (opcode_base : ℕ) → IsCode (LengthsBytes opcode_base)
 lengths_code opcode_base = record {
   one = λ s t x y r q p p' e.
       let size : length x ≡ length y = omega (arith, ap length p.2, ap length p'.2, p.0, p'.0) in
@@ -283,58 +323,68 @@ lengths_code opcode_base = record {
       (sym p.2 ∙ same ∙ p'.2, same);
 }
 
-pub table_code : (format : Format) (order : Order) → IsCode (TableOf format order)
+table_code : (format : Format) (order : Order) → IsCode (TableOf format order)
 table_code format order = record {
   one = λ s t x y r q p p' e.
       let same = same_table format order s.0 t.0 s.1 t.1 x y r q p p' e in
       (ap (λ (ps : List Pair). (ps, s.1)) same.format ∙ ap (λ (es : List Entry). (t.0, es)) same.values, same.bytes);
 }
 
+tables_fault : (format : Format) (order : Order) → IsOneFault (TwoTables format order) (TwoTablesFault format order)
+tables_fault format order =
+    first_of (TableOf format order) (IsTableFault format order) (λ _. IsTableFault format order) (table_code format order)
+    (λ _. TableOf format order) (table_fault format order) (λ _. table_fault format order)
+
+after_singles_fault : (format : Format) (order : Order) (s : Singles)
+    → IsOneFault (AfterSingles format order s) (AfterSinglesFault format order s)
+after_singles_fault format order s =
+    first_of (LengthsBytes s.opcode_base) (IsLengthsFault s.opcode_base) (λ _. TwoTablesFault format order) (lengths_code s.opcode_base)
+    (AfterLengths format order) (lengths_fault s.opcode_base)
+    (λ _. tables_fault format order)
+
+pub fields_fault : (format : Format) (order : Order) → IsOneFault (FieldsBytes format order) (IsHeaderFault format order)
+fields_fault format order =
+    first_of SinglesBytes IsSinglesFault (AfterSinglesFault format order) singles_code (AfterSingles format order) singles_fault
+    (after_singles_fault format order)
+
 pub refuses_singles : (format : Format) (old : At) (fault : Fault) → Refuses IsSinglesFault SinglesBytes old fault
     → Refuses (IsHeaderFault format old.order) (FieldsBytes format old.order) old fault
 refuses_singles format old fault r = first_refused SinglesBytes (AfterSingles format old.order) old fault r
 
-after_singles : (format : Format) (s : Singles) (old m1 : At) (fault : Fault) → Reads SinglesBytes s old m1
-    → Refuses (AfterSinglesFault format m1.order s) (AfterSingles format m1.order s) m1 fault
-    → Refuses (IsHeaderFault format old.order) (FieldsBytes format old.order) old fault
-after_singles format s old m1 fault r t =
-    second_refused (AfterSinglesFault format) SinglesBytes (AfterSingles format) s old m1 fault singles_code r t
+module _ (format : Format) (s : Singles) (old m1 : At) (r : Reads SinglesBytes s old m1) where
+  after_singles : (fault : Fault) → Refuses (AfterSinglesFault format m1.order s) (AfterSingles format m1.order s) m1 fault
+      → Refuses (IsHeaderFault format old.order) (FieldsBytes format old.order) old fault
+  after_singles fault t =
+      second_refused (AfterSinglesFault format) SinglesBytes (AfterSingles format) s old m1 fault singles_code r t
 
-pub refuses_lengths : (format : Format) (s : Singles) (old m1 : At) (fault : Fault) → Reads SinglesBytes s old m1
-    → Refuses (IsLengthsFault s.opcode_base) (LengthsBytes s.opcode_base) m1 fault
-    → Refuses (IsHeaderFault format old.order) (FieldsBytes format old.order) old fault
-refuses_lengths format s old m1 fault r t =
-    after_singles format s old m1 fault r (first_refused (LengthsBytes s.opcode_base) (AfterLengths format m1.order) m1 fault t)
+  pub refuses_lengths : (fault : Fault) → Refuses (IsLengthsFault s.opcode_base) (LengthsBytes s.opcode_base) m1 fault
+      → Refuses (IsHeaderFault format old.order) (FieldsBytes format old.order) old fault
+  refuses_lengths fault t =
+      after_singles fault (first_refused (LengthsBytes s.opcode_base) (AfterLengths format m1.order) m1 fault t)
 
-after_lengths : (format : Format) (s : Singles) (ls : List ℕ) (old m1 m2 : At) (fault : Fault) → Reads SinglesBytes s old m1
-    → Reads (LengthsBytes s.opcode_base) ls m1 m2
-    → Refuses (TwoTablesFault format m2.order) (TwoTables format m2.order) m2 fault
-    → Refuses (IsHeaderFault format old.order) (FieldsBytes format old.order) old fault
-after_lengths format s ls old m1 m2 fault r t u =
-    after_singles format s old m1 fault r (second_refused (λ order _. TwoTablesFault format order) (LengthsBytes s.opcode_base)
-    (AfterLengths format) ls m1 m2 fault (lengths_code s.opcode_base) t u)
+module _ (format : Format) (s : Singles) (ls : List ℕ) (old m1 m2 : At) (r : Reads SinglesBytes s old m1)
+    (t : Reads (LengthsBytes s.opcode_base) ls m1 m2) where
+  after_lengths : (fault : Fault) → Refuses (TwoTablesFault format m2.order) (TwoTables format m2.order) m2 fault
+      → Refuses (IsHeaderFault format old.order) (FieldsBytes format old.order) old fault
+  after_lengths fault u =
+      after_singles format s old m1 r fault (second_refused (λ order _. TwoTablesFault format order) (LengthsBytes s.opcode_base)
+      (AfterLengths format) ls m1 m2 fault (lengths_code s.opcode_base) t u)
 
-pub refuses_directories : (format : Format) (s : Singles) (ls : List ℕ) (old m1 m2 : At) (fault : Fault) → Reads SinglesBytes s old m1
-    → Reads (LengthsBytes s.opcode_base) ls m1 m2
-    → Refuses (IsTableFault format m2.order) (TableOf format m2.order) m2 fault
-    → Refuses (IsHeaderFault format old.order) (FieldsBytes format old.order) old fault
-refuses_directories format s ls old m1 m2 fault r t u =
-    after_lengths format s ls old m1 m2 fault r t (first_refused (TableOf format m2.order) (λ _. TableOf format m2.order) m2 fault u)
+  pub refuses_directories : (fault : Fault) → Refuses (IsTableFault format m2.order) (TableOf format m2.order) m2 fault
+      → Refuses (IsHeaderFault format old.order) (FieldsBytes format old.order) old fault
+  refuses_directories fault u =
+      after_lengths fault (first_refused (TableOf format m2.order) (λ _. TableOf format m2.order) m2 fault u)
 
-pub refuses_files : (format : Format) (s : Singles) (ls : List ℕ) (directories : List Pair × List Entry) (old m1 m2 m3 : At) (fault : Fault)
-    → Reads SinglesBytes s old m1 → Reads (LengthsBytes s.opcode_base) ls m1 m2
-    → Reads (TableOf format m2.order) directories m2 m3 → Refuses (IsTableFault format m3.order) (TableOf format m3.order) m3 fault
-    → Refuses (IsHeaderFault format old.order) (FieldsBytes format old.order) old fault
-refuses_files format s ls directories old m1 m2 m3 fault r t u v =
-    after_lengths format s ls old m1 m2 fault r t
-    (second_refused (λ order _. IsTableFault format order) (TableOf format m2.order) (λ order _. TableOf format order) directories m2 m3
-    fault (table_code format m2.order) u v)
+  pub refuses_files : (directories : List Pair × List Entry) (m3 : At) (fault : Fault) → Reads (TableOf format m2.order) directories m2 m3
+      → Refuses (IsTableFault format m3.order) (TableOf format m3.order) m3 fault
+      → Refuses (IsHeaderFault format old.order) (FieldsBytes format old.order) old fault
+  refuses_files directories m3 fault u v =
+      after_lengths fault (second_refused (λ order _. IsTableFault format order) (TableOf format m2.order) (λ order _. TableOf format order)
+      directories m2 m3 fault (table_code format m2.order) u v)
 
-pub reads_fields : (format : Format) (s : Singles) (ls : List ℕ) (directories files : List Pair × List Entry) (old m1 m2 m3 new : At)
-    → Reads SinglesBytes s old m1 → Reads (LengthsBytes s.opcode_base) ls m1 m2
-    → Reads (TableOf format m2.order) directories m2 m3 → Reads (TableOf format m3.order) files m3 new
-    → Reads (FieldsBytes format old.order) (s, (ls, (directories, files))) old new
-reads_fields format s ls directories files old m1 m2 m3 new r t u v =
-    let tables = reads_both (TableOf format m2.order) (λ order _. TableOf format order) directories files m2 m3 new u v in
-    let past = reads_both (LengthsBytes s.opcode_base) (AfterLengths format) ls (directories, files) m1 m2 new t tables in
-    reads_both SinglesBytes (AfterSingles format) s (ls, (directories, files)) old m1 new r past
+  pub reads_fields : (directories files : List Pair × List Entry) (m3 new : At) → Reads (TableOf format m2.order) directories m2 m3
+      → Reads (TableOf format m3.order) files m3 new → Reads (FieldsBytes format old.order) (s, (ls, (directories, files))) old new
+  reads_fields directories files m3 new u v =
+      let tables = reads_both (TableOf format m2.order) (λ order _. TableOf format order) directories files m2 m3 new u v in
+      let past = reads_both (LengthsBytes s.opcode_base) (AfterLengths format) ls (directories, files) m1 m2 new t tables in
+      reads_both SinglesBytes (AfterSingles format) s (ls, (directories, files)) old m1 new r past

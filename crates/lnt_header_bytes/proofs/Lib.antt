@@ -2,7 +2,7 @@ pub mod AllowedLaws
 pub mod BorrowedLaws
 pub mod DecodeLemmas
 pub mod EncodeLemmas
-pub mod FieldsFaultLemmas
+pub mod FaultLaws
 pub mod FirstFieldLaws
 pub mod HeaderFrames
 pub mod HeaderLaws
@@ -14,11 +14,8 @@ pub mod PassLemmas
 pub mod PassedLaws
 pub mod Places
 pub mod ProgramLaws
-pub mod ShortLemmas
 pub mod SpelledHeaders
-pub mod StartFaultLemmas
 pub mod StartReaders
-pub mod TableFaultLemmas
 pub mod TableLaws
 pub mod TableReaders
 pub mod ValueLaws

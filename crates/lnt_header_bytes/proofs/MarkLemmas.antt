@@ -1,9 +1,8 @@
 -- Marks in a table.
-use Rattle.std.proofs.Common.{◌≡◌, ◌≢◌, ℕ, zero, suc, ◌+◌, ◌-◌, ◌*◌, ◌<◌, ◌≤◌, List, [], ◌∷◌, ◌++◌, length, drop, get_or, sym, ap, subst}
+use Rattle.std.proofs.Common.{◌≡◌, ℕ, ◌+◌, ◌-◌, ◌<◌, ◌≤◌, List, ◌++◌, length, drop, sym, ap, subst}
 use Rattle.std.proofs.Common.{◌∙◌, append_assoc, drop-drop, length-drop, arith}
 use Rattle.std.proofs.Math.Seq.{drop-append_seam}
 use Rattle.std.proofs.lemmas.List.{length-append}
-use Rattle.std.proofs.lemmas.List.Elements.{All-append, All-cons, All-nil}
 use Rattle.lnt_wire.specs.At.{At}
 use Rattle.lnt_wire.specs.Bytes.{NoneSpelled}
 use Rattle.lnt_wire.specs.declared.format.Order.{Order}
@@ -13,8 +12,7 @@ use Rattle.lnt_header_bytes.specs.Borrowed.{BorrowedTable, AreEntryBytes}
 use Rattle.lnt_header_bytes.specs.Stepping.{PassesAll}
 use Rattle.lnt_header_bytes.proofs.PassedLaws.{others_after, several_there}
 use Rattle.lnt_header_bytes.proofs.TableLaws.{entry_code}
-use Rattle.lnt_header_bytes.specs.declared.marks.Mark.{Mark}
-use Rattle.lnt_header_bytes.specs.Marks.{from_entry, BeginsAt, AreMarks}
+use Rattle.lnt_header_bytes.specs.Marks.{from_entry, BeginsAt}
 use Rattle.lnt_header_bytes.specs.TableBytes.{EntryBytes}
 
 -- A cursor stands before the entry of this number.
@@ -23,12 +21,6 @@ pub record StandsAt (table : BorrowedTable) (bytes : List ℕ) (number : ℕ) (a
   pub front : List ℕ
   pub joined : bytes ≡ front ++ at.rest
   pub lies : AreEntryBytes (from_entry number table) at.rest
-
--- the first entry
-pub stands_first : (table : BorrowedTable) (bytes : List ℕ) (at : At) → AreEntryBytes table bytes → at.order ≡ table.order
-    → at.rest ≡ bytes → StandsAt table bytes 0 at
-stands_first table bytes at lies order rest =
-    record { order_is = order; front = []; joined = sym rest; lies = subst (AreEntryBytes table) (sym rest) lies }
 
 -- the next one, once one was passed
 pub stands_next : (table : BorrowedTable) (bytes : List ℕ) (number : ℕ) (at new : At) (passed : List ℕ)
@@ -67,14 +59,6 @@ begins_there table bytes number place at m le place_is =
       within = omega (arith, at_place, ap length m.joined, length-append m.front at.rest);
       lies = subst (AreEntryBytes (from_entry number table)) rest m.lies;
     }
-
--- one more mark
-pub one_more_mark : (table : BorrowedTable) (bytes : List ℕ) (marks : List Mark) (mark : Mark) → AreMarks table bytes marks
-    → BeginsAt table bytes mark.number mark.place → AreMarks table bytes (marks ++ mark ∷ [])
-one_more_mark table bytes marks mark are begins =
-    All-append (λ (m : Mark). BeginsAt table bytes m.number m.place) marks (mark ∷ []) are
-    (All-cons (λ (m : Mark). BeginsAt table bytes m.number m.place) mark [] begins
-    (All-nil (λ (m : Mark). BeginsAt table bytes m.number m.place)))
 
 -- the entry of this number is there
 pub never_refused : (table : BorrowedTable) (bytes : List ℕ) (number : ℕ) (at : At) → StandsAt table bytes number at

@@ -1,8 +1,8 @@
 -- What lies after the first of several spellings, and that so many are there.
-use Rattle.std.proofs.Common.{◌≡◌, ℕ, zero, suc, ◌+◌, ◌<◌, ◌≤◌, List, [], ◌∷◌, ◌++◌, length, take, drop, refl, sym, ap, subst, ◌∙◌}
+use Rattle.std.proofs.Common.{◌≡◌, ℕ, zero, suc, ◌+◌, ◌<◌, ◌≤◌, List, [], ◌∷◌, ◌++◌, length, take, drop, get_or, refl, sym, ap, subst, ◌∙◌}
 use Rattle.std.proofs.Common.{append_assoc, drop-drop, length-drop, length-take-le, arith}
-use Rattle.std.proofs.lemmas.List.{append-nil}
-use Rattle.lnt_wire.specs.Bytes.{IsCode, NoneSpelled}
+use Rattle.std.proofs.lemmas.List.{append-nil, drop_more}
+use Rattle.lnt_wire.specs.Bytes.{IsCode, NoneSpelled, Then}
 use Rattle.lnt_wire.proofs.CodeLaws.{peel}
 use Rattle.lnt_header.specs.Joins.{Each, Several}
 
@@ -41,6 +41,11 @@ pub several_there : {X : Type 0} (P : X → List ℕ → Type 0) (n : ℕ) (vs :
 several_there P n vs bytes le q none =
     let r = front_of P n vs bytes q in
     none (take n vs) r.front r.back (length-take-le n vs le, r.spelled) (sym r.joined)
+
+-- the value that stands at a place, and those after it
+pub one_at : {X : Type 0} (P : X → List ℕ → Type 0) (vs : List X) (n : ℕ) (d : X) (bytes : List ℕ) → n < length vs
+    → Each P (drop n vs) bytes → Then (P (get_or vs n d)) (Each P (drop (n + 1) vs)) bytes
+one_at {X = X} P vs n d bytes lt q = subst (λ (ws : List X). Each P ws bytes) (drop_more vs n d lt) q
 
 -- the same of one value after some others
 pub one_after : {X : Type 0} (P : X → List ℕ → Type 0) → IsCode P → (vs : List X) (n : ℕ) (u : X) (x rest bytes : List ℕ) → n < length vs

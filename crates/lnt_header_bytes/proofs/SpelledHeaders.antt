@@ -7,8 +7,7 @@ use Rattle.lnt_wire.specs.declared.format.Order.{Order}
 use Rattle.lnt_wire.specs.declared.form.Form.{Form}
 use Rattle.lnt_wire.specs.declared.form.Form.TheVariants as forms
 use Rattle.lnt_wire.specs.declared.form.FormValue.{FormValue}
-use Rattle.lnt_wire.specs.declared.form.FormValue.TheVariants.{Text, LineStrp, Strp, Udata, Data1, Data2, Data4, Data8, Data16, Block}
-use Rattle.lnt_wire.specs.declared.form.FormValue.TheVariants.{Block1, Block2, Block4}
+use Rattle.lnt_wire.specs.declared.form.FormValue.TheVariants.{LineStrp, Strp}
 use Rattle.lnt_wire.specs.Bytes.{Appends}
 use Rattle.lnt_wire.specs.FormBytes.{form_code, FormBytes, HasSpelling, IsTooLarge}
 use Rattle.lnt_wire.specs.FrameBytes.{frame_bytes}
@@ -43,18 +42,7 @@ was_put Spells x old new p = (p.spelling, p.spelled)
 
 small_code : (form : Form) → form_code form < 2 ^ 64
 small_code forms.Block2 = omega arith
-small_code forms.Block4 = omega arith
-small_code forms.Data2 = omega arith
-small_code forms.Data4 = omega arith
-small_code forms.Data8 = omega arith
-small_code forms.Text = omega arith
-small_code forms.Block = omega arith
-small_code forms.Block1 = omega arith
-small_code forms.Data1 = omega arith
-small_code forms.Strp = omega arith
-small_code forms.Udata = omega arith
-small_code forms.Data16 = omega arith
-small_code forms.LineStrp = omega arith
+small_code form = omega arith
 
 pairs_spelled : wire.SpelledValues → (pairs : List Pair) → AllByRecursion (λ (pair : Pair). pair.content < 2 ^ 64) pairs
     → AllByRecursion (HasShortest PairBytes) pairs
@@ -178,19 +166,9 @@ allowed law h program bytes p =
 -- ---- the 64-bit format
 
 wide_value : (value : FormValue) → IsTooLarge D64 value → ⊥
-wide_value (Text t) large = large
 wide_value (LineStrp n) large = large
 wide_value (Strp n) large = large
-wide_value (Udata n) large = large
-wide_value (Data1 n) large = large
-wide_value (Data2 n) large = large
-wide_value (Data4 n) large = large
-wide_value (Data8 n) large = large
-wide_value (Data16 t) large = large
-wide_value (Block b) large = large
-wide_value (Block1 b) large = large
-wide_value (Block2 b) large = large
-wide_value (Block4 b) large = large
+wide_value value large = large
 
 wide_values : (values : List FormValue) → AllByRecursion (λ value. IsTooLarge D64 value → ⊥) values
 wide_values [] = tt

@@ -1,26 +1,30 @@
--- The fields up to header_length that are read, and refused.
-use Rattle.std.proofs.Common.{◌≡◌, ◌≢◌, ℕ, List, [], ◌∷◌, ◌++◌, length, refl, sym, ap, subst, ◌∙◌, append_assoc, arith}
+-- The fields up to header_length: what is read and refused, and that their first fault is one. Crates above cite these.
+use Rattle.std.proofs.Common.{◌≡◌, ◌≢◌, ℕ, ◌^◌, ◌<◌, ◌≤◌, List, [], ◌∷◌, ◌++◌, length, refl, sym, ap, subst, ◌∙◌, append_assoc, arith}
 use Rattle.std.proofs.lemmas.List.{length-append}
 use Rattle.lnt_wire.specs.At.{At}
-use Rattle.lnt_wire.specs.Bytes.{IsCode, TakenBytes}
-use Rattle.lnt_wire.specs.Numbers.{NumberBytes, offset_size, OffsetBytes}
+use Rattle.lnt_wire.specs.Bytes.{IsCode, NoneSpelled, TakenBytes}
+use Rattle.lnt_wire.specs.Numbers.{NumberBytes, number_bytes, offset_size, OffsetBytes}
 use Rattle.lnt_wire.specs.Reading.{Reads, RefusesField, Refuses, IsCutShort}
 use Rattle.lnt_wire.specs.declared.format.Format.{Format}
 use Rattle.lnt_wire.specs.declared.format.Order.{Order}
 use Rattle.lnt_wire.specs.declared.fault.Fault.{Fault}
 use Rattle.lnt_wire.specs.declared.fault.Reason.{Reason}
-use Rattle.lnt_wire.specs.declared.fault.Reason.TheVariants.{AddressSize, SegmentSelector, HeaderLength}
-use Rattle.lnt_wire.proofs.CodeLaws.{number_code}
-use Rattle.lnt_wire.proofs.LengthLaws.{same_rest}
+use Rattle.lnt_wire.specs.declared.fault.Reason.TheVariants.{AddressSize, HeaderLength, SegmentSelector, Truncated}
+use Rattle.lnt_wire.proofs.FieldFaultLaws.{IsOneFieldFault}
+use Rattle.lnt_wire.proofs.LengthLaws.{length-number_bytes, same_number_front}
 use Rattle.lnt_wire.proofs.ValueLaws.{offset_width}
+use Rattle.lnt_header.specs.FirstFaults.{FirstOf}
+use Rattle.lnt_header.specs.FirstFaults.FirstOf.{first, second}
 use Rattle.lnt_header.specs.HeaderRules.{IsAddressSize}
+use Rattle.lnt_header.specs.Joins.{Both}
 use Rattle.lnt_header.proofs.ByteLaws.{byte_code, one_digit}
-use Rattle.lnt_header_bytes.specs.StartBytes.{AddressSizeBytes, SelectorBytes, CountedBytes, AfterSize, StartBytes}
+use Rattle.lnt_header.proofs.FirstFaultLaws.{fault_as, field_fault, first_of, IsHere, IsOneFault}
+use Rattle.lnt_header.proofs.ReaderLaws.{reads_map, reads_both}
+use Rattle.lnt_header_bytes.specs.StartBytes.{ByteBytes, AddressSizeBytes, SelectorBytes, CountedBytes, AfterSize, StartBytes}
 use Rattle.lnt_header_bytes.specs.StartFaults.{IsAddressSizeFault, IsSelectorFault, IsCountedFault, IsStartFault}
 use Rattle.lnt_header_bytes.specs.StartFaults.IsStartFault.{address_size, selector, header_length}
-use Rattle.lnt_header.specs.Joins.{Both}
-use Rattle.lnt_header.proofs.ReaderLaws.{any_local, nothing_asked, moved_field, refuses_field, reads_map, reads_both, refuses_first}
-use Rattle.lnt_header.proofs.ReaderLaws.{refuses_second}
+use Rattle.lnt_header_bytes.proofs.FaultLaws.{field_so, so_here, so_after}
+use Rattle.lnt_header_bytes.proofs.TableLaws.{joins, parts_as}
 
 -- ---- one byte
 
@@ -30,56 +34,83 @@ byte_is order n x p = p.spelled ∙ one_digit order n p.fits
 first_is : (n : ℕ) (old new : At) → Reads (NumberBytes old.order 1) n old new → old.rest ≡ n ∷ new.rest
 first_is n old new r = r.whole ∙ ap (λ (z : List ℕ). z ++ new.rest) (byte_is old.order n r.spelling r.spelled)
 
+kind_code : (Is : ℕ → Type 0) → IsCode (ByteBytes Is)
+kind_code Is = record { one = λ m n x y r s p q e. byte_code.one m n x y r s p.1 q.1 e }
+
+pub reads_kind : (Is : ℕ → Type 0) (n : ℕ) (old new : At) → Reads (NumberBytes old.order 1) n old new → Is n
+    → Reads (ByteBytes Is) n old new
+reads_kind Is n old new r is = reads_map (NumberBytes old.order 1) (ByteBytes Is) n n old new (λ x p. (is, byte_is old.order n x p)) r
+
+-- no byte of a kind stands where none is left, or one of another kind
+none_left : (Is : ℕ → Type 0) (bytes : List ℕ) → length bytes < 1 → NoneSpelled (ByteBytes Is) bytes
+none_left Is bytes short n x more p e = omega (arith, short, ap length e, length-append x more, ap length p.1)
+
+none_other : (Is : ℕ → Type 0) (n : ℕ) (rest bytes : List ℕ) → (Is n → ⊥) → bytes ≡ n ∷ rest → NoneSpelled (ByteBytes Is) bytes
+none_other Is n rest bytes other is m x more p e =
+    let all : m ∷ more ≡ n ∷ rest = ap (λ (z : List ℕ). z ++ more) (sym p.1) ∙ e ∙ is in
+    let same : m ≡ n = cc in
+    other (subst Is same p.0)
+
+-- what is wrong with such bytes
+abbrev byte_told : (ℕ → Reason) → List ℕ → Reason
+byte_told other [] = Truncated
+byte_told other (n ∷ rest) = other n
+
 -- ---- the address size
 
-pub reads_size : (n : ℕ) (old new : At) → Reads (NumberBytes old.order 1) n old new → IsAddressSize n → Reads AddressSizeBytes n old new
-reads_size n old new r is = reads_map (NumberBytes old.order 1) AddressSizeBytes n n old new (λ x p. (is, byte_is old.order n x p)) r
+size_none : (reason : Reason) (bytes : List ℕ) → IsAddressSizeFault reason bytes → NoneSpelled AddressSizeBytes bytes
+size_none Truncated bytes h n x more p e = none_left IsAddressSize bytes h n x more p e
+size_none (AddressSize other) bytes h n x more p e = none_other IsAddressSize other h.0 bytes h.1 h.2 n x more p e
+size_none reason bytes h n x more p e = absurd h
+
+size_told : (reason : Reason) (bytes : List ℕ) → IsAddressSizeFault reason bytes → reason ≡ byte_told AddressSize bytes
+size_told Truncated [] h = refl
+size_told Truncated (n ∷ rest) h = absurd (omega (arith, h))
+size_told (AddressSize n) bytes h = sym (ap (byte_told AddressSize) h.2)
+size_told reason bytes h = absurd h
+
+size_fault : IsOneFieldFault AddressSizeBytes IsAddressSizeFault
+size_fault = record { none = size_none; one = λ reason other bytes h k. size_told reason bytes h ∙ sym (size_told other bytes k) }
 
 pub refuses_size : (old : At) (fault : Fault) → RefusesField (IsCutShort 1) (NumberBytes old.order 1) old fault
     → RefusesField IsAddressSizeFault AddressSizeBytes old fault
-refuses_size old fault r = record {
-  place = r.place;
-  reason = subst (λ (c : Reason). IsAddressSizeFault c old.rest) (sym r.reason.reason_is) r.reason.short;
-  none = λ n x more p e. omega (arith, r.reason.short, ap length e, length-append x more, ap length p.1);
-}
+refuses_size old fault r = field_so size_fault old fault Truncated r.place r.reason.reason_is r.reason.short
 
 pub refuses_other_size : (n : ℕ) (old new : At) (fault : Fault) → fault.reason ≡ AddressSize n → fault.place ≡ old.place
     → Reads (NumberBytes old.order 1) n old new → (IsAddressSize n → ⊥)
     → RefusesField IsAddressSizeFault AddressSizeBytes old fault
-refuses_other_size n old new fault reason place r other = record {
-  place = place;
-  reason = subst (λ (c : Reason). IsAddressSizeFault c old.rest) (sym reason) (new.rest, other, first_is n old new r);
-  none = λ m x more p e.
-      let all : m ∷ more ≡ n ∷ new.rest = ap (λ (z : List ℕ). z ++ more) (sym p.1) ∙ e ∙ first_is n old new r in
-      let same : m ≡ n = cc in
-      other (subst IsAddressSize same p.0);
-}
+refuses_other_size n old new fault reason place r other =
+    field_so size_fault old fault (AddressSize n) place reason (new.rest, other, first_is n old new r)
 
 -- ---- the segment selector size
 
-pub reads_selector : (n : ℕ) (old new : At) → Reads (NumberBytes old.order 1) n old new → n ≡ 0 → Reads SelectorBytes n old new
-reads_selector n old new r is =
-    reads_map (NumberBytes old.order 1) SelectorBytes n n old new (λ x p. (is, byte_is old.order n x p ∙ ap (λ (k : ℕ). k ∷ []) is)) r
+selector_none : (reason : Reason) (bytes : List ℕ) → IsSelectorFault reason bytes → NoneSpelled SelectorBytes bytes
+selector_none Truncated bytes h n x more p e = none_left (λ size. size ≡ 0) bytes h n x more p e
+selector_none (SegmentSelector other) bytes h n x more p e =
+    none_other (λ size. size ≡ 0) other h.0 bytes (λ zero_size. omega (arith, zero_size, h.1)) h.2 n x more p e
+selector_none reason bytes h n x more p e = absurd h
+
+selector_told : (reason : Reason) (bytes : List ℕ) → IsSelectorFault reason bytes → reason ≡ byte_told SegmentSelector bytes
+selector_told Truncated [] h = refl
+selector_told Truncated (n ∷ rest) h = absurd (omega (arith, h))
+selector_told (SegmentSelector n) bytes h = sym (ap (byte_told SegmentSelector) h.2)
+selector_told reason bytes h = absurd h
+
+selector_fault : IsOneFieldFault SelectorBytes IsSelectorFault
+selector_fault = record {
+  none = selector_none;
+  one = λ reason other bytes h k. selector_told reason bytes h ∙ sym (selector_told other bytes k);
+}
 
 pub refuses_selector : (old : At) (fault : Fault) → RefusesField (IsCutShort 1) (NumberBytes old.order 1) old fault
     → RefusesField IsSelectorFault SelectorBytes old fault
-refuses_selector old fault r = record {
-  place = r.place;
-  reason = subst (λ (c : Reason). IsSelectorFault c old.rest) (sym r.reason.reason_is) r.reason.short;
-  none = λ n x more p e. omega (arith, r.reason.short, ap length e, length-append x more, ap length p.1);
-}
+refuses_selector old fault r = field_so selector_fault old fault Truncated r.place r.reason.reason_is r.reason.short
 
 pub refuses_other_selector : (n : ℕ) (old new : At) (fault : Fault) → fault.reason ≡ SegmentSelector n → fault.place ≡ old.place
     → Reads (NumberBytes old.order 1) n old new → n ≢ 0
     → RefusesField IsSelectorFault SelectorBytes old fault
-refuses_other_selector n old new fault reason place r other = record {
-  place = place;
-  reason = subst (λ (c : Reason). IsSelectorFault c old.rest) (sym reason) (new.rest, omega (arith, other), first_is n old new r);
-  none = λ m x more p e.
-      let all : 0 ∷ more ≡ n ∷ new.rest = ap (λ (z : List ℕ). z ++ more) (sym p.1) ∙ e ∙ first_is n old new r in
-      let same : 0 ≡ n = cc in
-      other (sym same);
-}
+refuses_other_selector n old new fault reason place r other =
+    field_so selector_fault old fault (SegmentSelector n) place reason (new.rest, omega (arith, other), first_is n old new r)
 
 -- ---- header_length, and what it counts
 
@@ -87,87 +118,127 @@ pub reads_counted : (format : Format) (n : ℕ) (counted : List ℕ) (old middle
     → Reads (TakenBytes n) counted middle new → Reads (CountedBytes format old.order) counted old new
 reads_counted format n counted old middle new r s =
     let size : length counted ≡ n = ap length s.spelled.taken_is ∙ s.spelled.count_is in
-    record {
-      spelling = r.spelling ++ s.spelling;
-      spelled = record {
-        front = r.spelling;
-        back = s.spelling;
-        first = subst (λ (k : ℕ). OffsetBytes format old.order k r.spelling) (sym size) r.spelled;
-        second = sym s.spelled.taken_is;
-        joined = refl;
-      };
-      whole = r.whole ∙ ap (λ (z : List ℕ). r.spelling ++ z) s.whole ∙ sym (append_assoc r.spelling s.spelling new.rest);
-      place = omega (arith, s.place, r.place, length-append r.spelling s.spelling);
-      order = s.order ∙ r.order;
-    }
+    let both = reads_both (OffsetBytes format old.order) (λ _ _. TakenBytes n) n counted old middle new r s in
+    reads_map (Both (OffsetBytes format old.order) (λ _. TakenBytes n)) (CountedBytes format old.order) (n, counted) counted old new
+    (λ x p. parts_as p (subst (λ (k : ℕ). OffsetBytes format old.order k p.front) (sym size) p.first) (sym p.second.taken_is))
+    both
+
+counted_none : (format : Format) (order : Order) (reason : Reason) (bytes : List ℕ) → IsCountedFault format order reason bytes
+    → NoneSpelled (CountedBytes format order) bytes
+counted_none format order Truncated bytes h taken x more p e =
+    omega (
+      arith,
+      h,
+      ap length e,
+      length-append x more,
+      ap length p.joined,
+      length-append p.front p.back,
+      ap length p.first.spelled,
+      length-number_bytes order (offset_size format) (length taken),
+    )
+counted_none format order HeaderLength bytes h taken x more p e =
+    let all : p.front ++ (p.back ++ more) ≡ number_bytes order (offset_size format) h.0 ++ h.1 =
+    sym (append_assoc p.front p.back more) ∙ ap (λ (z : List ℕ). z ++ more) (sym p.joined) ∙ e ∙ h.4 in
+    let found =
+    same_number_front order (offset_size format) (offset_width format) (length taken) h.0 (p.back ++ more) h.1 p.first.fits h.2
+    (ap (λ (z : List ℕ). z ++ (p.back ++ more)) (sym p.first.spelled) ∙ all) in
+    omega (arith, found.0, h.3, ap length found.1, length-append p.back more, ap length p.second)
+counted_none format order reason bytes h taken x more p e = absurd h
+
+whole_number : (format : Format) (order : Order) (bytes : List ℕ) → IsCountedFault format order HeaderLength bytes
+    → offset_size format ≤ length bytes
+whole_number format order bytes h =
+    let number = number_bytes order (offset_size format) h.0 in
+    omega (arith, ap length h.4, length-append number h.1, length-number_bytes order (offset_size format) h.0)
+
+counted_one : (format : Format) (order : Order) (reason other : Reason) (bytes : List ℕ) → IsCountedFault format order reason bytes
+    → IsCountedFault format order other bytes → reason ≡ other
+counted_one format order Truncated Truncated bytes h k = refl
+counted_one format order Truncated HeaderLength bytes h k = absurd (omega (arith, h, whole_number format order bytes k))
+counted_one format order HeaderLength Truncated bytes h k = absurd (omega (arith, k, whole_number format order bytes h))
+counted_one format order HeaderLength HeaderLength bytes h k = refl
+counted_one format order Truncated other bytes h k = absurd k
+counted_one format order HeaderLength other bytes h k = absurd k
+counted_one format order reason other bytes h k = absurd h
+
+counted_fault : (format : Format) (order : Order) → IsOneFieldFault (CountedBytes format order) (IsCountedFault format order)
+counted_fault format order = record { none = counted_none format order; one = counted_one format order }
 
 pub refuses_length : (format : Format) (old : At) (fault : Fault)
     → RefusesField (IsCutShort (offset_size format)) (OffsetBytes format old.order) old fault
     → RefusesField (IsCountedFault format old.order) (CountedBytes format old.order) old fault
-refuses_length format old fault r = record {
-  place = r.place;
-  reason = subst (λ (c : Reason). IsCountedFault format old.order c old.rest) (sym r.reason.reason_is) r.reason.short;
-  none = λ counted x more p e.
-      r.none (length counted) p.front (p.back ++ more) p.first
-      (sym (append_assoc p.front p.back more) ∙ ap (λ (z : List ℕ). z ++ more) (sym p.joined) ∙ e);
-}
+refuses_length format old fault r =
+    field_so (counted_fault format old.order) old fault Truncated r.place r.reason.reason_is r.reason.short
 
 pub refuses_counted : (format : Format) (n : ℕ) (old middle : At) (short fault : Fault) → Reads (OffsetBytes format old.order) n old middle
     → RefusesField (IsCutShort n) (TakenBytes n) middle short
     → fault.place ≡ old.place → fault.reason ≡ HeaderLength
     → RefusesField (IsCountedFault format old.order) (CountedBytes format old.order) old fault
-refuses_counted format n old middle short fault r s place reason = record {
-  place = place;
-  reason = subst (λ (c : Reason). IsCountedFault format old.order c old.rest) (sym reason)
-      (n, middle.rest, r.spelled.fits, s.reason.short, r.whole ∙ ap (λ (z : List ℕ). z ++ middle.rest) r.spelled.spelled);
-  none = λ counted x more p e.
-      let all : p.front ++ (p.back ++ more) ≡ r.spelling ++ middle.rest =
-      sym (append_assoc p.front p.back more) ∙ ap (λ (z : List ℕ). z ++ more) (sym p.joined) ∙ e ∙ r.whole in
-      let found = (number_code old.order (offset_size format) (offset_width format)).one (length counted) n p.front r.spelling
-      (p.back ++ more) middle.rest p.first r.spelled all in
-      let past : p.back ++ more ≡ middle.rest = same_rest p.front r.spelling (p.back ++ more) middle.rest found.1 all in
-      omega (arith, found.0, s.reason.short, ap length past, length-append p.back more, ap length p.second);
-}
+refuses_counted format n old middle short fault r s place reason =
+    field_so (counted_fault format old.order) old fault HeaderLength place reason
+    (n, middle.rest, r.spelled.fits, s.reason.short, r.whole ∙ ap (λ (z : List ℕ). z ++ middle.rest) r.spelled.spelled)
 
 -- ---- the three
 
-size_code : IsCode AddressSizeBytes
-size_code = record { one = λ m n x y r s p q e. byte_code.one m n x y r s p.1 q.1 e }
+-- the fields after the version as parts that are joined
+abbrev FirstAfterSize : Format → Order → Reason → List ℕ → List ℕ → Type 0
+FirstAfterSize format order = FirstOf SelectorBytes (IsHere IsSelectorFault) (λ _. IsHere (IsCountedFault format order))
 
-selector_code : IsCode SelectorBytes
-selector_code = record { one = λ m n x y r s p q e. (p.0 ∙ sym q.0, p.1 ∙ sym q.1) }
+abbrev FirstOfStart : Format → Order → Reason → List ℕ → List ℕ → Type 0
+FirstOfStart format order = FirstOf AddressSizeBytes (IsHere IsAddressSizeFault) (λ _. FirstAfterSize format order)
+
+first_of_start : (format : Format) (order : Order) (reason : Reason) (before left : List ℕ) → IsStartFault format order reason before left
+    → FirstOfStart format order reason before left
+first_of_start format order reason before left (address_size nothing h) = first (nothing, h)
+first_of_start format order reason before left (selector size is joined h) = second size (size ∷ []) [] (is, refl) joined (first (refl, h))
+first_of_start format order reason before left (header_length size is joined h) =
+    second size (size ∷ []) (0 ∷ []) (is, refl) joined (second 0 (0 ∷ []) [] (refl, refl) refl (refl, h))
+
+pub start_spelled : (format : Format) (order : Order) (size : ℕ) (fields : List ℕ) → IsAddressSize size
+    → length fields < 256 ^ offset_size format
+    → StartBytes format order (size, (0, fields)) (size ∷ 0 ∷ (number_bytes order (offset_size format) (length fields) ++ fields))
+start_spelled format order size fields is fits =
+    let number = number_bytes order (offset_size format) (length fields) in
+    joins (size ∷ []) (0 ∷ (number ++ fields)) (is, refl)
+    (joins (0 ∷ []) (number ++ fields) (refl, refl) (joins number fields (record { fits = fits; spelled = refl }) refl))
+
+after_size : (format : Format) (order : Order) (size : ℕ) → IsOneFault (AfterSize format order size) (FirstAfterSize format order)
+after_size format order size =
+    first_of SelectorBytes (IsHere IsSelectorFault) (λ _. IsHere (IsCountedFault format order)) (kind_code (λ zero_size. zero_size ≡ 0))
+    (λ _. CountedBytes format order) (field_fault SelectorBytes IsSelectorFault selector_fault)
+    (λ _. field_fault (CountedBytes format order) (IsCountedFault format order) (counted_fault format order))
+
+pub start_fault : (format : Format) (order : Order) → IsOneFault (StartBytes format order) (IsStartFault format order)
+start_fault format order =
+    fault_as (StartBytes format order) (FirstOfStart format order) (IsStartFault format order) (first_of_start format order)
+    (first_of AddressSizeBytes (IsHere IsAddressSizeFault) (λ _. FirstAfterSize format order) (kind_code IsAddressSize)
+    (AfterSize format order) (field_fault AddressSizeBytes IsAddressSizeFault size_fault) (after_size format order))
 
 pub size_refused : (format : Format) (old : At) (fault : Fault) → RefusesField IsAddressSizeFault AddressSizeBytes old fault
     → Refuses (IsStartFault format old.order) (StartBytes format old.order) old fault
 size_refused format old fault t =
-    let at : Refuses (IsStartFault format old.order) AddressSizeBytes old fault = refuses_field old fault (λ so. address_size refl so) t in
-    refuses_first AddressSizeBytes (AfterSize format old.order) old fault at
+    so_here (start_fault format old.order) old fault fault.reason t.place refl (address_size refl t.reason)
 
 pub selector_refused : (format : Format) (size : ℕ) (old m1 : At) (fault : Fault) → Reads AddressSizeBytes size old m1
     → RefusesField IsSelectorFault SelectorBytes m1 fault
     → Refuses (IsStartFault format old.order) (StartBytes format old.order) old fault
 selector_refused format size old m1 fault r t =
-    let at = nothing_asked SelectorBytes m1 fault t.place t.none in
-    let all = refuses_second AddressSizeBytes (AfterSize format) size old m1 fault any_local size_code r
-    (refuses_first SelectorBytes (λ _. CountedBytes format m1.order) m1 fault at) in
-    moved_field (StartBytes format old.order) size old m1 fault r t.place (selector size r.spelled.0 r.spelled.1 t.reason) all.none
+    so_after (start_fault format old.order) old fault r t.place (selector size r.spelled.0 r.spelled.1 t.reason)
 
 two_bytes : (size zero_size : ℕ) (x : List ℕ) → Both AddressSizeBytes (λ _. SelectorBytes) (size, zero_size) x → x ≡ size ∷ 0 ∷ []
-two_bytes size zero_size x p = p.joined ∙ ap (λ (z : List ℕ). z ++ p.back) p.first.1 ∙ ap (λ (z : List ℕ). size ∷ z) p.second.1
+two_bytes size zero_size x p = p.joined ∙ ap (λ (z : List ℕ). z ++ p.back) p.first.1
+    ∙ ap (λ (z : List ℕ). size ∷ z) (p.second.1 ∙ ap (λ (n : ℕ). n ∷ []) p.second.0)
 
 pub counted_refused : (format : Format) (size zero_size : ℕ) (old m1 m2 : At) (fault : Fault) → Reads AddressSizeBytes size old m1
     → Reads SelectorBytes zero_size m1 m2
     → RefusesField (IsCountedFault format m2.order) (CountedBytes format m2.order) m2 fault
     → Refuses (IsStartFault format old.order) (StartBytes format old.order) old fault
 counted_refused format size zero_size old m1 m2 fault r s t =
-    let at = nothing_asked (CountedBytes format m2.order) m2 fault t.place t.none in
-    let all = refuses_second AddressSizeBytes (AfterSize format) size old m1 fault any_local size_code r
-    (refuses_second SelectorBytes (λ order _. CountedBytes format order) zero_size m1 m2 fault any_local selector_code s at) in
     let both = reads_both AddressSizeBytes (λ _ _. SelectorBytes) size zero_size old m1 m2 r s in
     let so : IsCountedFault format old.order fault.reason m2.rest =
     subst (λ (o : Order). IsCountedFault format o fault.reason m2.rest) both.order t.reason in
-    moved_field (StartBytes format old.order) (size, zero_size) old m2 fault both t.place
-    (header_length size r.spelled.0 (two_bytes size zero_size both.spelling both.spelled) so) all.none
+    so_after (start_fault format old.order) old fault both t.place
+    (header_length size r.spelled.0 (two_bytes size zero_size both.spelling both.spelled) so)
 
 pub start_read : (format : Format) (size zero_size : ℕ) (counted : List ℕ) (old m1 m2 new : At) → Reads AddressSizeBytes size old m1
     → Reads SelectorBytes zero_size m1 m2

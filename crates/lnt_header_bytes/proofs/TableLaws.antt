@@ -4,7 +4,7 @@ use Rattle.lnt_wire.specs.declared.format.Order.{Order}
 use Rattle.lnt_wire.specs.declared.format.Format.{Format}
 use Rattle.lnt_wire.specs.declared.form.Form.{Form}
 use Rattle.lnt_wire.specs.declared.form.FormValue.{FormValue}
-use Rattle.lnt_wire.specs.Bytes.{IsCode}
+use Rattle.lnt_wire.specs.Bytes.{IsCode, Then}
 use Rattle.lnt_wire.specs.FormBytes.{form_code}
 use Rattle.lnt_wire.proofs.CodeLaws.{unsigned_code, peel, peel_by, same_join}
 use Rattle.lnt_wire.proofs.LengthLaws.{same_rest}
@@ -15,6 +15,13 @@ use Rattle.lnt_header.specs.declared.header.Pair.{Pair}
 use Rattle.lnt_header.proofs.ByteLaws.{byte_code}
 use Rattle.lnt_header.proofs.ListLaws.{same_each}
 use Rattle.lnt_header_bytes.specs.TableBytes.{PairBytes, ValuesBytes, EntryBytes, TableBytes}
+
+-- the same bytes as parts of other kinds
+pub parts_as : {A B A' B' : List ℕ → Type 0} {x : List ℕ} → (t : Then A B x) → A' t.front → B' t.back → Then A' B' x
+parts_as t a b = record { front = t.front; back = t.back; first = a; second = b; joined = t.joined }
+
+pub joins : {A B : List ℕ → Type 0} (x y : List ℕ) → A x → B y → Then A B (x ++ y)
+joins x y a b = record { front = x; back = y; first = a; second = b; joined = refl }
 
 abbrev pair_of : ℕ → Form → Pair
 pair_of content form = record { content = content; form = form }

@@ -62,7 +62,7 @@ table_read format n size table old m1 m2 m3 new r s t none count p =
           (subst (λ (k : ℕ). AreEntryBytes (borrowed_table format m3.order pairs k bytes) bytes) (sym count)
           (lies_here format pairs size bytes m3 new p));
       read = subst (λ (es : List Entry). Reads (TableOf format old.order) (pairs, es) old new) (sym entries)
-          (reads_table format n size pairs p.values old m1 m2 m3 new r s t none
+          (reads_table format n pairs old m1 m2 r s size p.values m3 new t none
           (record {
             spelling = p.read.spelling;
             spelled = (p.count_is, p.read.spelled);
@@ -105,8 +105,8 @@ fields_read format s ls directories files old m1 m2 m3 new r t d f =
     ap (λ (o : Order). (lying_table format o directories).entries) first in
     let f_entries : (lying_table format m3.order files).entries ≡ (lying_table format old.order files).entries =
     ap (λ (o : Order). (lying_table format o files).entries) second in
-    let all = reads_fields format s ls (directories.pairs.items, (lying_table format m2.order directories).entries)
-    (files.pairs.items, (lying_table format m3.order files).entries) old m1 m2 m3 new r t d.read f.read in
+    let all = reads_fields format s ls old m1 m2 r t (directories.pairs.items, (lying_table format m2.order directories).entries)
+    (files.pairs.items, (lying_table format m3.order files).entries) m3 new d.read f.read in
     record {
       directories_lie = subst (λ (o : Order). AreEntryBytes (lying_table format o directories) directories.entries.bytes.now) first d.lies;
       files_lie = subst (λ (o : Order). AreEntryBytes (lying_table format o files) files.entries.bytes.now) second f.lies;
@@ -118,24 +118,15 @@ fields_read format s ls directories files old m1 m2 m3 new r t d f =
           d_entries all);
     }
 
-with_entries : HeaderParts → List Entry → List Entry → List ℕ → HeaderParts
+abbrev with_entries : HeaderParts → List Entry → List Entry → List ℕ → HeaderParts
 with_entries h directories files extra = record h { directories = directories; files = files; extra = extra }
-
-with_its_own : (h : HeaderParts) → with_entries h h.directories h.files h.extra ≡ h
-unfolding with_entries
-with_its_own h = refl
-
-with_none : (h : HeaderParts) (dc : ℕ) (db : List ℕ) (fc : ℕ) (fb extra : List ℕ)
-    → with_entries h [] [] [] ≡ without_entries (header_over h dc db fc fb extra)
-unfolding with_entries
-with_none h dc db fc fb extra = refl
 
 -- a header that was read without its entries has none
 plain_is : (h : HeaderParts) (dc : ℕ) (db : List ℕ) (fc : ℕ) (fb extra : List ℕ) → h.directories ≡ [] → h.files ≡ [] → h.extra ≡ []
     → h ≡ without_entries (header_over h dc db fc fb extra)
 plain_is h dc db fc fb extra b e g =
     let none : with_entries h h.directories h.files h.extra ≡ with_entries h [] [] [] = cc (b, e, g) in
-    sym (with_its_own h) ∙ none ∙ with_none h dc db fc fb extra
+    none
 
 -- What is read of a header, and its parts.
 pub record IsViewFound (format : Format) (order : Order) (size : ℕ) (bytes : List ℕ) (h : HeaderParts) (directories files : EntryTableRead)
@@ -145,12 +136,13 @@ pub record IsViewFound (format : Format) (order : Order) (size : ℕ) (bytes : L
   pub over : IsHeaderOver h directories.entries.count directories.entries.bytes.now files.entries.count files.entries.bytes.now extra
   pub numbers : IsHeader h
 
-pub view_found : (format : Format) (order : Order) (size : ℕ) (bytes : List ℕ) (s : Singles) (lengths copy : List ℕ) (d f : EntryTableRead)
-    (extra : List ℕ) (old new : At) (h : HeaderParts)
+pub view_found : {format : Format} {order : Order} {size : ℕ} {bytes : List ℕ} {s : Singles} {lengths copy : List ℕ} {d f : EntryTableRead}
+    {extra : List ℕ} {old new : At} {h : HeaderParts}
     → IsAddressSize size → ((i : ℕ) → get_or bytes i 0 < 256) → old.rest ≡ bytes → old.order ≡ order
     → AreFieldsRead format s lengths d f old new → copy ≡ lengths
     → ArePlain format order size s copy d.pairs.items f.pairs.items h → extra ≡ new.rest → IsViewFound format order size bytes h d f extra
-view_found format order size bytes s lengths copy d f extra old new h is small rest_is same_order read copy_is plain extra_is =
+view_found {format} {order} {size} {bytes} {s} {lengths} {copy} {d} {f} {extra} {old} {new} {h} is small rest_is
+    same_order read copy_is plain extra_is =
     let p = plain.fields in
     let dc = d.entries.count in
     let db = d.entries.bytes.now in

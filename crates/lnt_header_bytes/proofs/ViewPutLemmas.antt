@@ -1,12 +1,12 @@
 -- What is written of a header whose entries stay where they lie.
-use Rattle.std.proofs.Common.{◌≡◌, ℕ, zero, suc, ◌+◌, ◌<◌, ◌≤◌, List, [], ◌∷◌, ◌++◌, length, take, get_or, refl, sym, ap, subst, ◌∙◌}
-use Rattle.std.proofs.Common.{append_assoc, append-nil, arith}
-use Rattle.std.proofs.lemmas.List.{length-append}
+use Rattle.std.proofs.Common.{◌≡◌, ℕ, zero, suc, ◌+◌, ◌<◌, ◌≤◌, List, [], ◌∷◌, ◌++◌, length, take, drop, get_or, refl, sym, subst, ◌∙◌}
+use Rattle.std.proofs.Common.{arith}
 use Rattle.lnt_wire.specs.At.{At}
 use Rattle.lnt_wire.specs.Bytes.{IsShortest, Appends, NoneSpelled}
 use Rattle.lnt_wire.specs.FormBytes.{FormBytes, ValueBytes, IsTooLarge}
 use Rattle.lnt_wire.specs.InitialLength.{LengthFits}
 use Rattle.lnt_wire.proofs.CodeLaws.{peel_by}
+use Rattle.lnt_wire.proofs.LengthLaws.{same_rest}
 use Rattle.lnt_wire.proofs.ValueLaws.{same_value}
 use Rattle.lnt_wire.specs.Reading.{Reads}
 use Rattle.lnt_wire.specs.declared.form.FormValue.{FormValue}
@@ -16,12 +16,12 @@ use Rattle.lnt_wire.specs.declared.put.EncodeFault.{EncodeFault}
 use Rattle.lnt_wire.specs.declared.put.EncodeFault.TheVariants.{TooLarge}
 use Rattle.lnt_header_bytes.specs.Borrowed.{BorrowedTable, AreEntryBytes}
 use Rattle.lnt_header.specs.Conversion.{in_format}
-use Rattle.lnt_header.specs.Encoding.{RefusedPut, NoSpelling}
+use Rattle.lnt_header.specs.Encoding.{RefusedPut}
 use Rattle.lnt_header_bytes.specs.HeaderPuts.{EntryParts, around, AddsAround, AddsEntry, RefusesEntry}
 use Rattle.lnt_header_bytes.specs.HeaderBytes.{HeaderBytesIn, HeaderFieldsBytes}
 use Rattle.lnt_header.specs.Joins.{Each}
-use Rattle.lnt_header_bytes.proofs.BorrowedLaws.{others_spelled}
-use Rattle.lnt_header.proofs.PutLaws.{each_begun, each_put, put_as}
+use Rattle.lnt_header_bytes.proofs.PassedLaws.{one_at, one_there}
+use Rattle.lnt_header.proofs.PutLaws.{each_begun, each_done, each_more, each_put, each_refused, put_as}
 use Rattle.lnt_header_bytes.proofs.TableLaws.{entry_code}
 use Rattle.lnt_header_bytes.proofs.ValueLaws.{AreReadTo, read_none, read_more, entry_read, no_entry}
 use Rattle.lnt_header_bytes.specs.Layouts.{entry_of}
@@ -29,7 +29,8 @@ use Rattle.lnt_header_bytes.specs.TableBytes.{ValuesBytes, EntryBytes}
 use Rattle.lnt_header.specs.declared.header.Entry.{Entry}
 use Rattle.lnt_header.specs.declared.header.HeaderParts.{HeaderParts}
 use Rattle.lnt_header.specs.declared.header.Pair.{Pair}
-use Rattle.lnt_header_bytes.proofs.EncodeLemmas.{large_value, header_added, header_too_long}
+use Rattle.lnt_header_bytes.proofs.EncodeLemmas.{large_value, header_added}
+use Rattle.lnt_header_bytes.proofs.LargeLemmas.{too_large_refused, unit_too_long}
 
 -- ---- the values of an entry
 
@@ -116,125 +117,58 @@ entry_there from pairs format order i d old middle text_old text lt p none there
 
 -- so many entries were read and written, and the others are left
 pub record EntriesPut (table : BorrowedTable) (format : Format) (order : Order) (count : ℕ) (at : At) (old now : List ℕ) : Type 0 where
-  pub done : List Entry
-  pub left : List Entry
-  pub all : table.entries ≡ done ++ left
-  pub count_is : length done ≡ count
   pub order_is : at.order ≡ table.order
-  pub rest : Each (EntryBytes table.format table.order table.pairs) left at.rest
-  pub put : Appends (Each (EntryParts format order)) done old now
+  pub rest : Each (EntryBytes table.format table.order table.pairs) (drop count table.entries) at.rest
+  pub put : Appends (Each (EntryParts format order)) (take count table.entries) old now
 
 pub entries_begun : (table : BorrowedTable) (format : Format) (order : Order) (at : At) (text : List ℕ) → at.order ≡ table.order
     → AreEntryBytes table at.rest → EntriesPut table format order 0 at text text
 entries_begun table format order at text ordered rest =
-    record {
-      done = [];
-      left = table.entries;
-      all = refl;
-      count_is = refl;
-      order_is = ordered;
-      rest = rest;
-      put = each_begun (EntryParts format order) text;
-    }
-
--- one more of the entries that are left
-record Further (table : BorrowedTable) (format : Format) (order : Order) (done left : List Entry) (entry : Entry) (rest : List ℕ) : Type
-    0 where
-  others : List Entry
-  left_is : left ≡ entry ∷ others
-  spelled : Each (EntryBytes table.format table.order table.pairs) others rest
-
-further : (table : BorrowedTable) (format : Format) (order : Order) (count : ℕ) (done left : List Entry) (entry : Entry) (at next : At)
-    → table.entries ≡ done ++ left → length done ≡ count → count < length table.entries
-    → Each (EntryBytes table.format table.order table.pairs) left at.rest
-    → Reads (EntryBytes table.format table.order table.pairs) entry at next → Further table format order done left entry next.rest
-further table format order count done [] entry at next all is lt rest r =
-    absurd (omega (arith, ap length all, length-append done [], is, lt))
-further table format order count done (e ∷ left) entry at next all is lt rest r =
-    let whole : rest.front ++ rest.back ≡ r.spelling ++ next.rest = sym rest.joined ∙ r.whole in
-    let one = (entry_code table.format table.order table.pairs).one e entry rest.front r.spelling rest.back next.rest rest.first r.spelled
-    whole in
-    record {
-      others = left;
-      left_is = ap (λ (v : Entry). v ∷ left) one.0;
-      spelled = others_spelled table.format table.order table.pairs e left rest.front next.rest at.rest rest rest.first
-          (r.whole ∙ ap (λ (z : List ℕ). z ++ next.rest) (sym one.1));
-    }
-
-ordered_read : (table : BorrowedTable) (entry : Entry) (at next : At) → at.order ≡ table.order
-    → Reads (EntryBytes table.format at.order table.pairs) entry at next
-    → Reads (EntryBytes table.format table.order table.pairs) entry at next
-ordered_read table entry at next ordered r = subst (λ (o : Order). Reads (EntryBytes table.format o table.pairs) entry at next) ordered r
+    record { order_is = ordered; rest = rest; put = each_begun (EntryParts format order) text }
 
 pub entries_more : (table : BorrowedTable) (format : Format) (order : Order) (count : ℕ) (at next : At) (old middle new : List ℕ)
     → count < length table.entries → EntriesPut table format order count at old middle
     → AddsEntry table.format table.pairs format order at next middle new → EntriesPut table format order (count + 1) next old new
 entries_more table format order count at next old middle new lt p a =
-    let r = ordered_read table a.entry at next p.order_is a.read in
-    let f = further table format order count p.done p.left a.entry at next p.all p.count_is lt p.rest r in
+    let Spells = EntryBytes table.format table.order table.pairs in
+    let r : Reads Spells a.entry at next =
+    subst (λ (o : Order). Reads (EntryBytes table.format o table.pairs) a.entry at next) p.order_is a.read in
+    let here = one_at Spells table.entries count a.entry at.rest lt p.rest in
+    let whole : here.front ++ here.back ≡ r.spelling ++ next.rest = sym here.joined ∙ r.whole in
+    let found = (entry_code table.format table.order table.pairs).one (get_or table.entries count a.entry) a.entry here.front r.spelling
+    here.back next.rest here.first r.spelled whole in
     record {
-      done = p.done ++ a.entry ∷ [];
-      left = f.others;
-      all = p.all ∙ ap (λ (l : List Entry). p.done ++ l) f.left_is ∙ sym (append_assoc p.done (a.entry ∷ []) f.others);
-      count_is = omega (arith, p.count_is, length-append p.done (a.entry ∷ []));
       order_is = a.read.order ∙ p.order_is;
-      rest = f.spelled;
-      put = each_put (EntryParts format order) p.done a.entry old middle new p.put a.put;
+      rest = subst (Each Spells (drop (count + 1) table.entries)) (same_rest here.front r.spelling here.back next.rest found.1 whole)
+          here.second;
+      put = each_more (EntryParts format order) table.entries count a.entry old middle new lt p.put
+          (subst (λ (e : Entry). Appends (EntryParts format order) e middle new) (sym found.0) a.put);
     }
-
-none_left : {X : Type 0} (done left : List X) → length (done ++ left) ≤ length done → left ≡ []
-none_left done [] le = refl
-none_left done (x ∷ left) le = absurd (omega (arith, length-append done (x ∷ left)))
 
 pub entries_done : (table : BorrowedTable) (format : Format) (order : Order) (count n : ℕ) (at : At) (old new : List ℕ)
     → n ≡ length table.entries → n ≤ count → EntriesPut table format order count at old new
     → Appends (Each (EntryParts format order)) table.entries old new
 entries_done table format order count n at old new n_is le p =
-    let nothing : p.left ≡ [] = none_left p.done p.left (omega (arith, ap length p.all, p.count_is, le, n_is)) in
-    let same : p.done ≡ table.entries = sym (p.all ∙ ap (λ (l : List Entry). p.done ++ l) nothing ∙ append-nil p.done) in
-    subst (λ (l : List Entry). Appends (Each (EntryParts format order)) l old new) same p.put
-
--- an entry that has no spelling
-each_past : {X : Type 0} (P : X → List ℕ → Type 0) (us : List X) (vs : List X) (bytes : List ℕ) → Each P (us ++ vs) bytes
-    → (x : List ℕ) × Each P vs x
-each_past P [] vs bytes p = (bytes, p)
-each_past P (u ∷ us) vs bytes p = each_past P us vs p.back p.second
-
-left_refused : (table : BorrowedTable) (format : Format) (order : Order) (count : ℕ) (done left : List Entry) (at : At)
-    (fault : EncodeFault) → table.entries ≡ done ++ left → length done ≡ count → count < length table.entries
-    → at.order ≡ table.order → Each (EntryBytes table.format table.order table.pairs) left at.rest
-    → RefusesEntry table.format table.pairs format order at fault → fault ≡ TooLarge → NoSpelling (Each (EntryParts format order)) left
-left_refused table format order count done [] at fault all is lt ordered rest refused large bytes t =
-    absurd (omega (arith, ap length all, length-append done [], is, lt))
-left_refused table format order count done (e ∷ left) at fault all is lt ordered rest refused large bytes t =
-    let here : EntryBytes table.format at.order table.pairs e rest.front =
-    subst (λ (o : Order). EntryBytes table.format o table.pairs e rest.front) (sym ordered) rest.first in
-    refused.none large e rest.front rest.back here rest.joined t.front t.first
+    each_done (EntryParts format order) table.entries count old new (omega (arith, n_is, le)) p.put
 
 -- where entries are left, one stands at the cursor
-entry_left : (table : BorrowedTable) (count : ℕ) (done left : List Entry) (at : At) → table.entries ≡ done ++ left → length done ≡ count
-    → count < length table.entries → at.order ≡ table.order → Each (EntryBytes table.format table.order table.pairs) left at.rest
-    → NoneSpelled (EntryBytes table.format at.order table.pairs) at.rest → ⊥
-entry_left table count done [] at all is lt ordered rest none = absurd (omega (arith, ap length all, length-append done [], is, lt))
-entry_left table count done (e ∷ left) at all is lt ordered rest none =
-    none e rest.front rest.back (subst (λ (o : Order). EntryBytes table.format o table.pairs e rest.front) (sym ordered) rest.first)
-    (sym rest.joined)
-
 pub next_there : (table : BorrowedTable) (format : Format) (order : Order) (count : ℕ) (at : At) (old middle : List ℕ)
     → count < length table.entries → EntriesPut table format order count at old middle
     → NoneSpelled (EntryBytes table.format at.order table.pairs) at.rest → ⊥
 next_there table format order count at old middle lt p none =
-    entry_left table count p.done p.left at p.all p.count_is lt p.order_is p.rest none
+    one_there (EntryBytes table.format table.order table.pairs) table.entries count at.rest lt p.rest
+    (subst (λ (o : Order). NoneSpelled (EntryBytes table.format o table.pairs) at.rest) p.order_is none)
 
 pub entries_refused : (table : BorrowedTable) (format : Format) (order : Order) (count : ℕ) (at : At) (old middle : List ℕ)
     (fault : EncodeFault) → count < length table.entries → EntriesPut table format order count at old middle
     → RefusesEntry table.format table.pairs format order at fault → RefusedPut (Each (EntryParts format order)) table.entries fault
-entries_refused table format order count at old middle fault lt p refused = record {
-  none = λ large bytes t.
-      let past = each_past (EntryParts format order) p.done p.left bytes
-      (subst (λ (l : List Entry). Each (EntryParts format order) l bytes) p.all t) in
-      left_refused table format order count p.done p.left at fault p.all p.count_is lt p.order_is p.rest refused large past.0 past.1;
-}
+entries_refused table format order count at old middle fault lt p refused =
+    let d : Entry = entry_of [] in
+    let here = one_at (EntryBytes table.format table.order table.pairs) table.entries count d at.rest lt p.rest in
+    let first : EntryBytes table.format at.order table.pairs (get_or table.entries count d) here.front =
+    subst (λ (o : Order). EntryBytes table.format o table.pairs (get_or table.entries count d) here.front) (sym p.order_is) here.first in
+    each_refused (EntryParts format order) table.entries count d fault lt
+    (record { none = λ large. refused.none large (get_or table.entries count d) here.front here.back first here.joined })
 
 -- ---- the whole unit
 
@@ -256,5 +190,5 @@ pub view_too_long : (h : HeaderParts) (format : Format) (order : Order) (size : 
     → (fault ≡ TooLarge → LengthFits format (length (around order format size named program)) → ⊥)
     → RefusedPut (HeaderBytesIn order) (in_format h format order, program) fault
 view_too_long h format order size program fields named fault p is sized long =
-    header_too_long (in_format h format order) program fields named fault p is
-    (λ large. subst (λ (n : ℕ). LengthFits format (length (around order format n named program)) → ⊥) sized (long large))
+    too_large_refused (in_format h format order) program fault (unit_too_long (in_format h format order) program fields named fault p is
+    (λ large. subst (λ (n : ℕ). LengthFits format (length (around order format n named program)) → ⊥) sized (long large)))

@@ -8,11 +8,15 @@ use Rattle.lnt_wire.specs.Numbers.{OffsetBytes}
 use Rattle.lnt_header.specs.HeaderRules.{IsAddressSize}
 use Rattle.lnt_header.specs.Joins.{Both}
 
+-- one byte, of a kind
+abbrev pub ByteBytes : (ℕ → Type 0) → ℕ → List ℕ → Type 0
+ByteBytes Is n bytes = Is n × (bytes ≡ n ∷ [])
+
 abbrev pub AddressSizeBytes : ℕ → List ℕ → Type 0
-AddressSizeBytes size bytes = IsAddressSize size × (bytes ≡ size ∷ [])
+AddressSizeBytes = ByteBytes IsAddressSize
 
 abbrev pub SelectorBytes : ℕ → List ℕ → Type 0
-SelectorBytes size bytes = (size ≡ 0) × (bytes ≡ 0 ∷ [])
+SelectorBytes = ByteBytes (λ size. size ≡ 0)
 
 -- header_length, and the bytes that it counts
 abbrev pub CountedBytes : Format → Order → List ℕ → List ℕ → Type 0

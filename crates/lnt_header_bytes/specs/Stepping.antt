@@ -3,13 +3,9 @@
 use Rattle.std.specs.Prelude.{◌≡◌, ℕ, List, [], length, ◌∷◌, ◌++◌}
 use Rattle.lnt_wire.specs.declared.format.Order.{Order}
 use Rattle.lnt_wire.specs.declared.format.Format.{Format}
-use Rattle.lnt_wire.specs.declared.fault.Fault.{Fault}
-use Rattle.lnt_wire.specs.declared.form.Form.{Form}
 use Rattle.lnt_wire.specs.declared.form.Form.TheVariants.{LineStrp, Udata, Data16}
-use Rattle.lnt_wire.specs.declared.form.FormValue.{FormValue}
 use Rattle.lnt_wire.specs.At.{At}
-use Rattle.lnt_wire.specs.FormBytes.{ValueBytes}
-use Rattle.lnt_wire.specs.Reading.{Reads, Refuses}
+use Rattle.lnt_wire.specs.Reading.{Reads}
 use Rattle.lnt_header.specs.declared.header.HeaderParts.{HeaderParts}
 use Rattle.lnt_header.specs.declared.header.Pair.{Pair}
 use Rattle.lnt_header_bytes.specs.declared.numbers.Singles.{Singles}
@@ -20,8 +16,7 @@ use Rattle.lnt_header_bytes.specs.declared.read_table.EntryTableRead.{EntryTable
 use Rattle.lnt_header_bytes.specs.FieldsBytes.{FieldsBytes}
 use Rattle.lnt_header_bytes.specs.HeaderReading.{AreFields}
 use Rattle.lnt_header.specs.Joins.{Each}
-use Rattle.lnt_header_bytes.specs.TableBytes.{EntryBytes, TableOf}
-use Rattle.lnt_header_bytes.specs.TableFaults.{IsEntryFault}
+use Rattle.lnt_header_bytes.specs.TableBytes.{TableOf}
 use Rattle.lnt_header_bytes.specs.Borrowed.{BorrowedTable, borrowed_table, AreEntryBytes, header_over}
 use Rattle.lnt_header_bytes.specs.declared.kept.KeptEntries.{KeptEntries}
 use Rattle.lnt_header_bytes.specs.Kept.{kept_header, IsKeptHeader}
@@ -92,24 +87,6 @@ IsLayout Path pairs = forms_of pairs ≡ LineStrp ∷ []
 IsLayout IndexedPath pairs = forms_of pairs ≡ LineStrp ∷ Udata ∷ []
 IsLayout SummedPath pairs = forms_of pairs ≡ LineStrp ∷ Udata ∷ Data16 ∷ []
 IsLayout Other pairs = Unit {0}
-
--- The read gave a path and the index of its directory, as the first values of an entry.
-pub record AreFirstTwo (format : Format) (path directory : FormValue) (old new : At) : Type 0 where
-  pub between : At
-  pub path_read : Reads (ValueBytes format old.order LineStrp) path old between
-  pub directory_read : Reads (ValueBytes format between.order Udata) directory between new
-
--- The read moved past them.
-pub record PassesFirstTwo (format : Format) (old new : At) : Type 0 where
-  pub path : FormValue
-  pub directory : FormValue
-  pub two : AreFirstTwo format path directory old new
-
--- A path and the index of its directory can't be read, so there is no entry that begins with them.
-abbrev pub RefusesFirstTwo : Format → At → Fault → Type 0
-RefusesFirstTwo format old fault =
-    (pairs : List Pair) (more : List Form) → forms_of pairs ≡ LineStrp ∷ Udata ∷ more
-    → Refuses (IsEntryFault format old.order pairs) (EntryBytes format old.order pairs) old fault
 
 -- The read gave one more value.
 pub record ReadsNext {X : Type 0} (Spells : X → List ℕ → Type 0) (before after : List X) (old new : At) : Type 0 where

@@ -23,6 +23,7 @@ use std::alloc::{AllocError, Global};
 /// The bytes of a unit with this header and this program, each LEB128 in its shortest spelling (DWARF 5, section 6.2.4). It
 /// refuses with `TooLarge` if they have no encoding in the header's format: an offset of the tables is 2^32 or more in the
 /// 32-bit format, or the unit is longer than the format can say; and else only with `Memory`.
+#[tactic(auto, using(crate::proofs::LargeLemmas::too_large_refused))]
 pub fn encode_header(alloc: Global, header: &Header, program: &[u8]) -> Result<Vec<u8>, EncodeFault>
     ensures ok { IfOk result (λ bytes. IsShortest (HeaderBytesIn header.now.order) (header.now, program.now) bytes.items) }
     ensures err { IfErr result (λ fault. RefusedPut (HeaderBytesIn header.now.order) (header.now, program.now) fault) }
@@ -31,11 +32,10 @@ pub fn encode_header(alloc: Global, header: &Header, program: &[u8]) -> Result<V
     encode_parts(alloc, header.parts(), program)
 }
 
-#[tactic(auto, using(crate::proofs::EncodeLemmas::header_put, crate::proofs::EncodeLemmas::header_refused, crate::proofs::EncodeLemmas::header_too_long, lnt_header::proofs::PutLaws::refused_memory, crate::proofs::LargeLemmas::offset_large, crate::proofs::LargeLemmas::unit_too_long, crate::proofs::LargeLemmas::memory_not_large))]
+#[tactic(auto, using(crate::proofs::EncodeLemmas::header_put, crate::proofs::LargeLemmas::offset_large, crate::proofs::LargeLemmas::unit_too_long, crate::proofs::LargeLemmas::memory_not_large))]
 fn encode_parts(alloc: Global, parts: &HeaderParts, program: &[u8]) -> Result<Vec<u8>, EncodeFault>
     requires { IsHeader parts.now }
     ensures ok { IfOk result (λ bytes. IsShortest (HeaderBytesIn parts.now.order) (parts.now, program.now) bytes.items) }
-    ensures err { IfErr result (λ fault. RefusedPut (HeaderBytesIn parts.now.order) (parts.now, program.now) fault) }
     ensures large { IfErr result (IfTooLarge (HasLargeOffset parts.now ⊎ IsTooLong parts.now program.now)) }
 {
     let fields = counted_fields(alloc, parts)?;
@@ -136,7 +136,6 @@ fn add_initial_length(
 fn counted_fields(alloc: Global, parts: &HeaderParts) -> Result<Vec<u8>, EncodeFault>
     requires { IsHeader parts.now }
     ensures ok { IfOk result (λ bytes. IsShortest HeaderFieldsBytes parts.now bytes.items) }
-    ensures err { IfErr result (λ fault. RefusedPut HeaderFieldsBytes parts.now fault) }
     ensures large { IfErr result (IfTooLarge (HasLargeOffset parts.now)) }
 {
     let mut out = Vec::new(alloc);
@@ -154,7 +153,6 @@ fn add_fields(out: &mut Vec<u8>, parts: &HeaderParts) -> Result<(), EncodeFault>
     requires header { IsHeader parts.now }
     requires empty { out.old.items ≡ [] }
     ensures ok { OnOk result (IsShortest HeaderFieldsBytes parts.now out.new.items) }
-    ensures err { IfErr result (λ fault. RefusedPut HeaderFieldsBytes parts.now fault) }
     ensures large { IfErr result (IfTooLarge (HasLargeOffset parts.now)) }
 {
     let (format, order) = (parts.format, parts.order);
@@ -182,7 +180,7 @@ fn add_fields(out: &mut Vec<u8>, parts: &HeaderParts) -> Result<(), EncodeFault>
 }
 
 // Adds a table: its format, the number of its entries, and these.
-#[tactic(auto, using(crate::proofs::EncodeLemmas::table_put, crate::proofs::EncodeLemmas::table_refused, lnt_header::proofs::PutLaws::refused_memory, crate::proofs::LargeLemmas::memory_not_large))]
+#[tactic(auto, using(crate::proofs::EncodeLemmas::table_put, crate::proofs::LargeLemmas::memory_not_large))]
 fn add_table(
     out: &mut Vec<u8>,
     pairs: &[Pair],
@@ -192,7 +190,6 @@ fn add_table(
 ) -> Result<(), EncodeFault>
     requires { IsEntryTable pairs.now entries.now }
     ensures ok { OnOk result (Appends (TableOf format order) (pairs.now, entries.now) out.old.items out.new.items) }
-    ensures err { IfErr result (λ fault. RefusedPut (TableOf format order) (pairs.now, entries.now) fault) }
     ensures large { IfErr result (IfTooLarge (HasLargeEntry format entries.now)) }
 {
     out.push(pairs.len() as u8)?;
@@ -203,7 +200,7 @@ fn add_table(
 }
 
 // Adds the pairs of a format.
-#[tactic(auto, using(crate::proofs::EncodeLemmas::pairs_begun, crate::proofs::EncodeLemmas::pairs_more, crate::proofs::EncodeLemmas::pairs_done))]
+#[tactic(auto, using(lnt_header::proofs::PutLaws::each_begun, crate::proofs::EncodeLemmas::pairs_more, lnt_header::proofs::PutLaws::each_done))]
 pub(crate) fn add_pairs(out: &mut Vec<u8>, pairs: &[Pair]) -> Result<(), AllocError>
     ensures ok { OnOk result (Appends (Each PairBytes) pairs.now out.old.items out.new.items) }
 {
@@ -222,7 +219,7 @@ fn add_pair(out: &mut Vec<u8>, pair: &Pair) -> Result<(), AllocError>
 }
 
 // Adds the entries of a table.
-#[tactic(auto, using(crate::proofs::EncodeLemmas::entries_begun, crate::proofs::EncodeLemmas::entries_more, crate::proofs::EncodeLemmas::entries_done, crate::proofs::EncodeLemmas::entries_refused, lnt_header::proofs::PutLaws::refused_memory, crate::proofs::LargeLemmas::entry_large, crate::proofs::LargeLemmas::memory_not_large))]
+#[tactic(auto, using(lnt_header::proofs::PutLaws::each_begun, crate::proofs::EncodeLemmas::entries_more, lnt_header::proofs::PutLaws::each_done, crate::proofs::LargeLemmas::entry_large, crate::proofs::LargeLemmas::memory_not_large))]
 fn add_entries(
     out: &mut Vec<u8>,
     entries: &[Entry],
@@ -231,7 +228,6 @@ fn add_entries(
 ) -> Result<(), EncodeFault>
     requires { AllByRecursion (λ entry. AllByRecursion HasSpelling entry.values) entries.now }
     ensures ok { OnOk result (Appends (Each (EntryParts format order)) entries.now out.old.items out.new.items) }
-    ensures err { IfErr result (λ fault. RefusedPut (Each (EntryParts format order)) entries.now fault) }
     ensures large { IfErr result (IfTooLarge (HasLargeEntry format entries.now)) }
 {
     for entry in entries {
@@ -241,7 +237,7 @@ fn add_entries(
 }
 
 // Adds the values of an entry.
-#[tactic(auto, using(crate::proofs::EncodeLemmas::values_begun, crate::proofs::EncodeLemmas::values_more, crate::proofs::EncodeLemmas::values_done, crate::proofs::EncodeLemmas::values_refused, lnt_header::proofs::PutLaws::refused_memory, crate::proofs::LargeLemmas::value_large, crate::proofs::LargeLemmas::memory_not_large))]
+#[tactic(auto, using(lnt_header::proofs::PutLaws::each_begun, crate::proofs::EncodeLemmas::values_more, lnt_header::proofs::PutLaws::each_done, crate::proofs::LargeLemmas::value_large, crate::proofs::LargeLemmas::memory_not_large))]
 fn add_values(
     out: &mut Vec<u8>,
     values: &[FormValue],
@@ -250,7 +246,6 @@ fn add_values(
 ) -> Result<(), EncodeFault>
     requires { AllByRecursion HasSpelling values.now }
     ensures ok { OnOk result (Appends (Each (FormBytes format order)) values.now out.old.items out.new.items) }
-    ensures err { IfErr result (λ fault. RefusedPut (Each (FormBytes format order)) values.now fault) }
     ensures large { IfErr result (IfTooLarge (HasLargeValue format values.now)) }
 {
     for value in values {

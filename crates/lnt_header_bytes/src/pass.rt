@@ -1,6 +1,6 @@
 //! Entries of a table that are skipped: checked in place, and not kept.
 ghost use Rattle.std.specs.Prelude.{OnOk, IfOk, IfErr};
-ghost use Rattle.lnt_header_bytes.specs.Stepping.{Passes, PassesAll, PassesFirstTwo, RefusesFirstTwo, IsLayout};
+ghost use Rattle.lnt_header_bytes.specs.Stepping.{Passes, PassesAll, IsLayout};
 ghost use Rattle.lnt_header.specs.Joins.{Several};
 ghost use Rattle.lnt_header_bytes.specs.TableBytes.{EntryBytes};
 ghost use Rattle.lnt_header_bytes.specs.TableFaults.{IsEntryFault, IsEntriesFault};
@@ -107,7 +107,7 @@ fn pass_entry(
 
 // Moves past the next path.
 #[inline(always)]
-#[tactic(auto, using(crate::proofs::PassLemmas::path_passed, crate::proofs::ShortLemmas::first_refused))]
+#[tactic(auto, using(crate::proofs::PassLemmas::path_passed, crate::proofs::PassLemmas::path_refused))]
 fn pass_path(cursor: &mut Cursor<'_>, format: Format, pairs: &[Pair]) -> Result<(), Fault>
     requires { IsLayout Layout.Path pairs.now }
     ensures ok { OnOk result (Passes (EntryBytes format cursor.old.order pairs.now) cursor.old cursor.new) }
@@ -120,36 +120,30 @@ fn pass_path(cursor: &mut Cursor<'_>, format: Format, pairs: &[Pair]) -> Result<
 
 // Moves past the next path and the index of its directory.
 #[inline(always)]
+#[tactic(auto, using(crate::proofs::PassLemmas::indexed_path_passed, crate::proofs::PassLemmas::path_refused, crate::proofs::PassLemmas::index_refused))]
 fn pass_indexed_path(cursor: &mut Cursor<'_>, format: Format, pairs: &[Pair]) -> Result<(), Fault>
     requires { IsLayout Layout.IndexedPath pairs.now }
     ensures ok { OnOk result (Passes (EntryBytes format cursor.old.order pairs.now) cursor.old cursor.new) }
     ensures err { IfErr result (λ fault. Refuses (IsEntryFault format cursor.old.order pairs.now)
         (EntryBytes format cursor.old.order pairs.now) cursor.old fault) }
 {
-    pass_first_two(cursor, format)
+    cursor.value(Form::LineStrp, format)?;
+    cursor.value(Form::Udata, format)?;
+    Ok(())
 }
 
 // Moves past the next path, the index of its directory and its MD5 sum.
 #[inline(always)]
+#[tactic(auto, using(crate::proofs::PassLemmas::summed_path_passed, crate::proofs::PassLemmas::path_refused, crate::proofs::PassLemmas::index_refused, crate::proofs::PassLemmas::sum_refused))]
 fn pass_summed_path(cursor: &mut Cursor<'_>, format: Format, pairs: &[Pair]) -> Result<(), Fault>
     requires { IsLayout Layout.SummedPath pairs.now }
     ensures ok { OnOk result (Passes (EntryBytes format cursor.old.order pairs.now) cursor.old cursor.new) }
     ensures err { IfErr result (λ fault. Refuses (IsEntryFault format cursor.old.order pairs.now)
         (EntryBytes format cursor.old.order pairs.now) cursor.old fault) }
 {
-    pass_first_two(cursor, format)?;
-    cursor.value(Form::Data16, format)?;
-    Ok(())
-}
-
-// Moves past the next path and the index of its directory, which begin an entry.
-#[inline(always)]
-fn pass_first_two(cursor: &mut Cursor<'_>, format: Format) -> Result<(), Fault>
-    ensures ok { OnOk result (PassesFirstTwo format cursor.old cursor.new) }
-    ensures err { IfErr result (λ fault. RefusesFirstTwo format cursor.old fault) }
-{
     cursor.value(Form::LineStrp, format)?;
     cursor.value(Form::Udata, format)?;
+    cursor.value(Form::Data16, format)?;
     Ok(())
 }
 

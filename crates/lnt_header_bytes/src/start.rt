@@ -34,7 +34,7 @@ pub(crate) fn read_start<'a>(cursor: &mut Cursor<'a>, format: Format) -> Result<
 }
 
 // Reads the size of an address: 2, 4 or 8.
-#[tactic(auto, using(crate::proofs::StartReaders::reads_size, crate::proofs::StartReaders::refuses_size, crate::proofs::StartReaders::refuses_other_size))]
+#[tactic(auto, using(crate::proofs::StartReaders::reads_kind, crate::proofs::StartReaders::refuses_size, crate::proofs::StartReaders::refuses_other_size))]
 fn read_address_size(cursor: &mut Cursor<'_>) -> Result<u8, Fault>
     ensures ok { IfOk result (λ size. Reads AddressSizeBytes size cursor.old cursor.new) }
     ensures err { IfErr result (λ fault. RefusesField IsAddressSizeFault AddressSizeBytes cursor.old fault) }
@@ -52,7 +52,7 @@ fn read_address_size(cursor: &mut Cursor<'_>) -> Result<u8, Fault>
 }
 
 // The size of a segment selector, which is 0.
-#[tactic(auto, using(crate::proofs::StartReaders::reads_selector, crate::proofs::StartReaders::refuses_selector, crate::proofs::StartReaders::refuses_other_selector))]
+#[tactic(auto, using(crate::proofs::StartReaders::reads_kind, crate::proofs::StartReaders::refuses_selector, crate::proofs::StartReaders::refuses_other_selector))]
 fn read_selector_size(cursor: &mut Cursor<'_>) -> Result<u8, Fault>
     ensures ok { IfOk result (λ size. Reads SelectorBytes size cursor.old cursor.new) }
     ensures err { IfErr result (λ fault. RefusesField IsSelectorFault SelectorBytes cursor.old fault) }

@@ -30,7 +30,7 @@ fn read_pair(cursor: &mut Cursor<'_>) -> Result<Pair, Fault>
 }
 
 /// Reads `count` pairs of a format.
-#[tactic(auto, using(crate::proofs::TableReaders::pairs_none))]
+#[tactic(auto, using(lnt_header::proofs::ReaderLaws::reads_none))]
 pub(crate) fn read_pairs(
     alloc: Global,
     cursor: &mut Cursor<'_>,
@@ -93,7 +93,7 @@ fn read_values(
 }
 
 /// Reads `count` entries, each of which has a value for each pair.
-#[tactic(auto, using(crate::proofs::TableReaders::entries_none, crate::proofs::TableReaders::refuses_entries))]
+#[tactic(auto, using(lnt_header::proofs::ReaderLaws::reads_none, crate::proofs::TableReaders::refuses_entries))]
 pub(crate) fn read_entries(
     alloc: Global,
     cursor: &mut Cursor<'_>,

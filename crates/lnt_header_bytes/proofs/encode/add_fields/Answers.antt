@@ -1,8 +1,7 @@
 use Rattle.std.proofs.Common.{List, ℕ, ◌++◌, ap, rules}
 use Rattle.std.proofs.lemmas.Result.{err_from_is_err_and}
-use Rattle.lnt_header_bytes.proofs.EncodeLemmas.{fields_put, directories_refused, files_refused}
+use Rattle.lnt_header_bytes.proofs.EncodeLemmas.{fields_put}
 use Rattle.lnt_header_bytes.proofs.LargeLemmas.{directories_large, files_large, memory_not_large}
-use Rattle.lnt_header.proofs.PutLaws.{refused_memory}
 use Rattle.lnt_header_bytes.proofs.encode.add_fields.Goals as goal
 
 pub returns-in_err-add_table-clause-large : goal.returns-in_err-add_table-clause-large
@@ -25,26 +24,8 @@ returns-clause-ok c =
     c.as_slice.ensures c.in_ok-add_both.ensures.ok c.as_slice-2.ensures c.as_slice-3.ensures c.in_ok-add_table.ensures.ok
     c.as_slice-4.ensures c.as_slice-5.ensures c.in_ok-add_table-2.ensures.ok c.as_slice-6.ensures c.in_ok-extend_from_slice.ensures.items
 
-pub returns-in_err-add_table-clause-err : goal.returns-in_err-add_table-clause-err
-returns-in_err-add_table-clause-err c =
-    let p = err_from_is_err_and c.from_residual-in_err-add_table.result c.from_residual-in_err-add_table.ensures.1 in
-    rw (p.1, p.2) (directories_refused c.args.parts.now _ _ c.in_err-add_table.field-0.0 c.as_slice-2.ensures c.as_slice-3.ensures
-    c.in_err-add_table.ensures.err)
-
-pub returns-in_err-add_table-2-clause-err : goal.returns-in_err-add_table-2-clause-err
-returns-in_err-add_table-2-clause-err c =
-    let p = err_from_is_err_and c.from_residual-in_err-add_table-2.result c.from_residual-in_err-add_table-2.ensures.1 in
-    rw (p.1, p.2) (files_refused c.args.parts.now _ _ c.in_err-add_table-2.field-0.0 c.as_slice-4.ensures c.as_slice-5.ensures
-    c.in_err-add_table-2.ensures.err)
-
-pub returns-in_err-add_both-clause-err : goal.returns-in_err-add_both-clause-err
-returns-in_err-add_both-clause-err c = search (rules, refused_memory)
-
 pub returns-in_err-add_both-clause-large : goal.returns-in_err-add_both-clause-large
 returns-in_err-add_both-clause-large c = search (rules, memory_not_large)
-
-pub returns-in_err-extend_from_slice-clause-err : goal.returns-in_err-extend_from_slice-clause-err
-returns-in_err-extend_from_slice-clause-err c = search (rules, refused_memory)
 
 pub returns-in_err-extend_from_slice-clause-large : goal.returns-in_err-extend_from_slice-clause-large
 returns-in_err-extend_from_slice-clause-large c = search (rules, memory_not_large)

@@ -1,8 +1,5 @@
-use Rattle.std.proofs.Common.{◌≡◌, ◌≢◌, ◌+◌, ◌-◌, length, arith, rules}
+use Rattle.std.proofs.Common.{◌≡◌, ◌+◌, ◌-◌, length, arith, rules}
 use Rattle.std.proofs.lemmas.Result.{err_from_is_err_and}
-use Rattle.lnt_wire.specs.FrameBytes.{frame_bytes}
-use Rattle.lnt_wire.specs.declared.fault.Reason.TheVariants.{Memory}
-use Rattle.lnt_header_bytes.specs.Broken.{BrokenHeader}
 use Rattle.lnt_header_bytes.proofs.HeaderFrames.{counted_before, refuses_fields, refuses_start, header_found}
 use Rattle.lnt_header_bytes.proofs.in_place.view_header.Goals as goal
 
@@ -15,12 +12,11 @@ returns-in_err-header-clause-err c =
     c.in_ok-start.ensures.ok in
     let placed : c.place.result - length c.in_ok-start.start.header.now + length c.in_ok-start.start.header.now
     ≡ c.read_start.new.cursor.place = omega (arith, c.place.ensures.value, before) in
-    let rest : fault.reason ≢ Memory → BrokenHeader c.args.order fault frame.offset (frame_bytes c.args.order frame.format frame.body.now) =
-    λ some. refuses_fields c.args.order frame.format frame.offset frame.body.now c.in_ok-start.start.address_size
+    rw (p.1, p.2)
+    (λ some. refuses_fields c.args.order frame.format frame.offset frame.body.now c.in_ok-start.start.address_size
     c.in_ok-start.start.selector_size _ c.in_ok-start.start.header.now
     c.after_version-cursor.result c.read_start.new.cursor fault c.requires.is.spelled.fits c.after_version-cursor.ensures
-    c.in_ok-start.ensures.ok placed (c.in_err-header.ensures.err some) in
-    rw (p.1, p.2) rest
+    c.in_ok-start.ensures.ok placed (c.in_err-header.ensures.err some))
 
 pub returns-in_err-start-clause-err : goal.returns-in_err-start-clause-err
 returns-in_err-start-clause-err c = search (rules, refuses_start, refuses_fields, header_found)

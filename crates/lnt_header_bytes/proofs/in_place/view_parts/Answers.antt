@@ -7,21 +7,13 @@ use Rattle.lnt_header_bytes.proofs.in_place.view_parts.Goals as goal
 
 pub of-requires : goal.of-requires
 of-requires c =
-    let found = view_found c.args.format c.args.order c.args.address_size c.args.header.now c.in_ok-singles.field-0.singles
-    c.in_ok-singles.field-0.lengths.now c.in_ok-lengths.lengths c.in_ok-singles.field-0.directories c.in_ok-singles.field-0.files
-    c.read_fields.new.cursor.rest
-    c.new-cursor.result c.read_fields.new.cursor c.plain_parts-numbers.result c.requires.size (λ i. (c.type_inv.header i).fits)
-    c.new-cursor.ensures.rest c.new-cursor.ensures.order
+    let found = view_found c.requires.size (λ i. (c.type_inv.header i).fits) c.new-cursor.ensures.rest c.new-cursor.ensures.order
     c.in_ok-singles.ensures.ok c.in_ok-lengths.ensures.ok c.plain_parts-numbers.ensures refl in
     found.numbers
 
 pub invariant_of-result : goal.invariant_of-result
 invariant_of-result c =
-    let found = view_found c.args.format c.args.order c.args.address_size c.args.header.now c.in_ok-singles.field-0.singles
-    c.in_ok-singles.field-0.lengths.now c.in_ok-lengths.lengths c.in_ok-singles.field-0.directories c.in_ok-singles.field-0.files
-    c.rest.result.now
-    c.new-cursor.result c.read_fields.new.cursor c.plain_parts-numbers.result c.requires.size (λ i. (c.type_inv.header i).fits)
-    c.new-cursor.ensures.rest c.new-cursor.ensures.order
+    let found = view_found c.requires.size (λ i. (c.type_inv.header i).fits) c.new-cursor.ensures.rest c.new-cursor.ensures.order
     c.in_ok-singles.ensures.ok c.in_ok-lengths.ensures.ok c.plain_parts-numbers.ensures c.rest.ensures in
     let d = c.in_ok-singles.field-0.directories.entries in
     let g = c.in_ok-singles.field-0.files.entries in
@@ -29,11 +21,7 @@ invariant_of-result c =
 
 pub returns-clause-ok : goal.returns-clause-ok
 returns-clause-ok c =
-    let found = view_found c.args.format c.args.order c.args.address_size c.args.header.now c.in_ok-singles.field-0.singles
-    c.in_ok-singles.field-0.lengths.now c.in_ok-lengths.lengths c.in_ok-singles.field-0.directories c.in_ok-singles.field-0.files
-    c.rest.result.now
-    c.new-cursor.result c.read_fields.new.cursor c.plain_parts-numbers.result c.requires.size (λ i. (c.type_inv.header i).fits)
-    c.new-cursor.ensures.rest c.new-cursor.ensures.order
+    let found = view_found c.requires.size (λ i. (c.type_inv.header i).fits) c.new-cursor.ensures.rest c.new-cursor.ensures.order
     c.in_ok-singles.ensures.ok c.in_ok-lengths.ensures.ok c.plain_parts-numbers.ensures c.rest.ensures in
     let d = c.in_ok-singles.field-0.directories.entries in
     let g = c.in_ok-singles.field-0.files.entries in

@@ -1,8 +1,4 @@
 use Rattle.std.proofs.lemmas.Result.{err_from_is_err_and}
-use Rattle.lnt_wire.specs.Reading.{Refuses}
-use Rattle.lnt_header.specs.Joins.{Several}
-use Rattle.lnt_header_bytes.specs.TableBytes.{EntryBytes}
-use Rattle.lnt_header_bytes.specs.TableFaults.{IsEntriesFault}
 use Rattle.lnt_header_bytes.proofs.PassLemmas.{refuses_passed}
 use Rattle.lnt_header_bytes.proofs.pass.pass_entries.Goals as goal
 
@@ -12,8 +8,6 @@ returns-in_err-pass_entry-clause-err c =
     let pairs = c.args.pairs.now in
     let old = c.args.cursor.now in
     let fault = c.in_err-pass_entry.field-0.0 in
-    let rest : Refuses (IsEntriesFault c.args.format old.order pairs c.args.count)
-    (Several c.args.count (EntryBytes c.args.format old.order pairs)) old fault =
-    refuses_passed c.args.format pairs c.args.count c.loop.counter old c.loop.cursor fault c.loop.invariant c.loop-test.true
-    c.in_err-pass_entry.ensures.err in
-    rw (p.1, p.2) rest
+    rw (p.1, p.2)
+    (refuses_passed c.args.format pairs c.args.count c.loop.counter old c.loop.cursor fault c.loop.invariant c.loop-test.true
+    c.in_err-pass_entry.ensures.err)

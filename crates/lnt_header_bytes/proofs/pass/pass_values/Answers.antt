@@ -1,8 +1,5 @@
 use Rattle.std.proofs.lemmas.Result.{err_from_is_err_and}
 use Rattle.std.proofs.Common.{rules}
-use Rattle.lnt_wire.specs.Reading.{Refuses}
-use Rattle.lnt_header_bytes.specs.TableBytes.{EntryBytes}
-use Rattle.lnt_header_bytes.specs.TableFaults.{IsEntryFault}
 use Rattle.lnt_header_bytes.proofs.PassLemmas.{refuses_value_passed, values_begun, values_next_passed, values_passed}
 use Rattle.lnt_header_bytes.proofs.pass.pass_values.Goals as goal
 
@@ -11,11 +8,9 @@ returns-in_err-value-clause-err c =
     let p = err_from_is_err_and c.from_residual.result c.from_residual.ensures.1 in
     let pairs = c.args.pairs.now in
     let old = c.args.cursor.now in
-    let rest : Refuses (IsEntryFault c.args.format old.order pairs) (EntryBytes c.args.format old.order pairs) old
-    c.in_err-value.field-0.0 =
-    refuses_value_passed c.args.format pairs c.loop-pair.pair-index _ old c.loop-pair.cursor c.in_err-value.field-0.0 c.loop-pair-test.true
-    c.loop-pair.invariant c.in_err-value.ensures.err in
-    rw (p.1, p.2) rest
+    rw (p.1, p.2)
+    (refuses_value_passed c.args.format pairs c.loop-pair.pair-index _ old c.loop-pair.cursor c.in_err-value.field-0.0 c.loop-pair-test.true
+    c.loop-pair.invariant c.in_err-value.ensures.err)
 
 pub loop-pair-preserved : goal.loop-pair-preserved
 loop-pair-preserved c = search (rules, values_begun, values_next_passed, values_passed, refuses_value_passed)

@@ -16,9 +16,7 @@ returns-in_err-add_entry_view-clause-err c =
     let fault = c.in_err-add_entry_view.field-0.0 in
     let lt : c.loop.counter < length table.entries = omega (arith, c.loop-test.true, c.count-end.ensures) in
     let refused : RefusesEntry table.format table.pairs c.args.format c.args.order c.loop.cursor fault =
-    subst (λ (f : Format). RefusesEntry f table.pairs c.args.format c.args.order c.loop.cursor fault) c.format.ensures
-    (subst (λ (pairs : List Pair). RefusesEntry c.format.result pairs c.args.format c.args.order c.loop.cursor fault) c.pairs.ensures
-    c.in_err-add_entry_view.ensures.err) in
+    rw (← c.format.ensures, ← c.pairs.ensures) c.in_err-add_entry_view.ensures.err in
     rw (p.1, p.2) (entries_refused table c.args.format c.args.order c.loop.counter c.loop.cursor c.args.out.now.items c.loop.out.items fault
     lt c.loop.invariant refused)
 
@@ -38,9 +36,7 @@ loop-preserved c =
     let new = c.add_entry_view.new.out.items in
     let lt : c.loop.counter < length table.entries = omega (arith, c.loop-test.true, c.count-end.ensures) in
     let added : AddsEntry table.format table.pairs c.args.format c.args.order c.loop.cursor next c.loop.out.items new =
-    subst (λ (f : Format). AddsEntry f table.pairs c.args.format c.args.order c.loop.cursor next c.loop.out.items new) c.format.ensures
-    (subst (λ (pairs : List Pair). AddsEntry c.format.result pairs c.args.format c.args.order c.loop.cursor next c.loop.out.items new)
-    c.pairs.ensures c.in_ok-add_entry_view.ensures.ok) in
+    rw (← c.format.ensures, ← c.pairs.ensures) c.in_ok-add_entry_view.ensures.ok in
     entries_more table c.args.format c.args.order c.loop.counter c.loop.cursor next c.args.out.now.items c.loop.out.items new lt
     c.loop.invariant added
 
