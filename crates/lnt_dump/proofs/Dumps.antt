@@ -1,12 +1,11 @@
 -- The units of a section, printed one after another.
-use Rattle.std.proofs.Common.{◌≡◌, ◌≢◌, ◌∙◌, ℕ, ◌+◌, ◌<◌, List, [], ◌∷◌, ◌++◌, length, Option, Some, None, IfSome, Result, Ok, Err, IfOk}
+use Rattle.std.proofs.Common.{◌≡◌, ◌≢◌, ◌∙◌, ℕ, ◌<◌, List, [], ◌∷◌, ◌++◌, length, Option, Some, None, IfSome, Result, Ok, Err, IfOk}
 use Rattle.std.proofs.Common.{OnErr, OnOk, refl, sym, ap, subst, append-nil, arith, inl, inr, ◌⊎◌, codes}
 use Rattle.std.specs.Prelude.{IsTrue, map}
 use Rattle.std.specs.List.{AllByRecursion, flat_map}
 use Rattle.std.specs.Io.KnownBytes.{Appends, Keeps}
 use Rattle.std.proofs.KnownBytes.{Appends-nil, Appends-trans}
 use Rattle.std.proofs.lemmas.List.{length-append}
-use Rattle.std.proofs.lemmas.List.Concat.{flat_map-append}
 use Rattle.lnt_io.specs.Fronts.{AppendsFront}
 use Rattle.lnt_io.proofs.FrontLaws.{front_after, front_before, front_none, front_same, front_since}
 use Rattle.lnt_io.specs.Pulling.{Pulls}
@@ -18,7 +17,7 @@ use Rattle.lnt_machine.specs.Matrix.{Runs}
 use Rattle.lnt_io.specs.declared.halt.Halt.{Halt}
 use Rattle.lnt_io.specs.declared.status.Status.{Status}
 use Rattle.lnt_io.specs.declared.status.Status.TheVariants.{Done, No}
-use Rattle.lnt_unit.specs.Units.{BufferedUnit, IsNextUnit, IsWholeUnit, SectionEndsBy}
+use Rattle.lnt_unit.specs.Units.{BufferedUnit, IsWholeUnit, SectionEndsBy}
 use Rattle.lnt_text.specs.Texts.{malformed_text}
 use Rattle.lnt_unit.proofs.FrameLaws.{broken_more}
 use Rattle.lnt_unit.proofs.WholeWalks.{fault_of_section}
@@ -26,7 +25,7 @@ use Rattle.lnt_unit.specs.BrokenUnits.{BrokenUnit}
 use Rattle.lnt_unit.specs.UnitBytes.{UnitBytesIn}
 use Rattle.lnt_unit.specs.Views.{View, with_ops}
 use Rattle.lnt_wire.proofs.LengthLaws.{length-initial}
-use Rattle.lnt_wire.specs.FrameBytes.{IsPlacedFrame, frame_bytes}
+use Rattle.lnt_wire.specs.FrameBytes.{frame_bytes}
 use Rattle.lnt_wire.specs.InitialLength.{initial_length}
 use Rattle.lnt_wire.specs.declared.fault.Fault.{Fault}
 use Rattle.lnt_wire.specs.declared.fault.Reason.TheVariants.{Memory}
@@ -35,12 +34,10 @@ use Rattle.lnt_wire.specs.declared.frame.Frame.{Frame}
 use Rattle.lnt_dump.specs.declared.dump.DumpParts.{DumpParts}
 use Rattle.lnt_dump.specs.Dumps.{BeginsWithUnits, DoesNotRun, FramedUnit, IsDumpBegun, IsDumped, IsDumpedUnit, IsDumpFault}
 use Rattle.lnt_dump.specs.Dumps.{fault_line, fault_status, unit_lines}
-use Rattle.lnt_dump.specs.declared.units.Next.{Next}
-use Rattle.lnt_dump.specs.declared.units.Next.TheVariants.{Unit as NextUnit}
-use Rattle.lnt_dump.specs.Stepping.{IsFaultOf, IsNext, IsUnitOf, UnitBegun, UnitEnds, UnitTold}
+use Rattle.lnt_dump.specs.Stepping.{IsFaultOf, IsUnitOf, UnitBegun, UnitEnds, UnitTold}
 use Rattle.lnt_io.proofs.PullLaws.{pulls_none}
 use Rattle.lnt_wire.proofs.FrameListLaws.{no_frames}
-use Rattle.lnt_dump.proofs.Frames.{FramesRead, read_more}
+use Rattle.lnt_dump.proofs.Frames.{flat_push, FramesRead, IsNextFramed, read_more}
 
 -- ---- one unit
 
@@ -72,24 +69,24 @@ broken_begun shown frame unit fault old new (Err halt) broken (inr other) line =
 })
 
 -- the line of any fault
-pub faulty_told : (shown : DumpParts) (frame : Frame) (unit : BufferedUnit) (fault : RowFault) (offset : ℕ) (old new : Option (List ℕ))
+pub faulty_told : {offset : ℕ} (shown : DumpParts) (frame : Frame) (unit : BufferedUnit) (fault : RowFault) (old new : Option (List ℕ))
     (printed : Result Status Halt) → offset ≡ unit.offset → IsFaultOf unit shown.rows fault → IfOk printed (λ status. status ≡ No)
     → OnOk printed (Appends old new (fault_line offset (Some fault))) → IfOk printed (UnitTold shown frame unit old new)
-faulty_told shown frame unit fault offset old new (Ok status) at is is_no line = record {
+faulty_told {offset} shown frame unit fault old new (Ok status) at is is_no line = record {
   fault = Some fault;
   text = fault_line offset (Some fault);
   ends = (is, ap (λ (n : ℕ). fault_line n (Some fault)) at);
   printed = line;
   status_is = is_no;
 }
-faulty_told shown frame unit fault offset old new (Err halt) at is is_no line = tt
+faulty_told shown frame unit fault old new (Err halt) at is is_no line = tt
 
-pub faulty_begun : (shown : DumpParts) (frame : Frame) (unit : BufferedUnit) (fault : RowFault) (offset : ℕ) (old new : Option (List ℕ))
+pub faulty_begun : {offset : ℕ} (shown : DumpParts) (frame : Frame) (unit : BufferedUnit) (fault : RowFault) (old new : Option (List ℕ))
     (printed : Result Status Halt) → offset ≡ unit.offset → IsFaultOf unit shown.rows fault
     → OnErr printed (AppendsFront old new (fault_line offset (Some fault)))
     → OnErr printed (Keeps old new ⊎ UnitBegun shown frame unit old new)
-faulty_begun shown frame unit fault offset old new (Ok status) at is line = tt
-faulty_begun shown frame unit fault offset old new (Err halt) at is line = inr (record {
+faulty_begun shown frame unit fault old new (Ok status) at is line = tt
+faulty_begun {offset} shown frame unit fault old new (Err halt) at is line = inr (record {
   fault = Some fault;
   text = fault_line offset (Some fault);
   ends = (is, ap (λ (n : ℕ). fault_line n (Some fault)) at);
@@ -97,11 +94,11 @@ faulty_begun shown frame unit fault offset old new (Err halt) at is line = inr (
 })
 
 -- the lines of a unit
-pub valid_told : (shown : DumpParts) (frame : Frame) (view : View) (old new : Option (List ℕ))
+pub valid_told : {shown : DumpParts} {frame : Frame} {old new : Option (List ℕ)} (view : View)
     → (sound : (ops : List Op) × IsUnitOf view ops × (IsTrue shown.rows → Runs (with_ops view ops)))
     → ((ops : List Op) → IsUnitOf view ops → Appends old new (unit_lines shown (frame, with_ops view ops)))
     → UnitTold shown frame view.unit old new Done
-valid_told shown frame view old new (ops, is, runs) lines = record {
+valid_told {shown} {frame} view (ops, is, runs) lines = record {
   fault = None;
   text = unit_lines shown (frame, with_ops view ops);
   ends = (with_ops view ops, is, runs, refl);
@@ -130,9 +127,9 @@ pub record UnitsTold (order : Order) (shown : DumpParts) (start now old new : Op
     pub each : AllByRecursion (IsDumpedUnit order shown) units
     pub printed : Appends old new (flat_map (unit_lines shown) units)
 
-pub units_none : (order : Order) (shown : DumpParts) (start now old : Option (List ℕ)) (of_reader : Order) (offset : ℕ)
-    → of_reader ≡ order → offset ≡ 0 → now ≡ start → UnitsTold order shown start now old old of_reader offset
-units_none order shown start now old of_reader offset ordered at same = record {
+pub units_none : {order : Order} {shown : DumpParts} {start now old : Option (List ℕ)} {of_reader : Order} {offset : ℕ} → of_reader ≡ order
+    → offset ≡ 0 → now ≡ start → UnitsTold order shown start now old old of_reader offset
+units_none {order} {shown} {start} {now} {old} {of_reader} {offset} ordered at same = record {
   units = [];
   read = record {
     front = [];
@@ -170,148 +167,119 @@ all_push : {X : Type 0} (P : X → Type 0) (xs : List X) (x : X) → AllByRecurs
 all_push P [] x all here = (here, tt)
 all_push P (y ∷ xs) x all here = (all.0, all_push P xs x all.1 here)
 
-push_lines : (shown : DumpParts) (units : List FramedUnit) (unit : FramedUnit)
-    → flat_map (unit_lines shown) units ++ unit_lines shown unit ≡ flat_map (unit_lines shown) (units ++ unit ∷ [])
-push_lines shown units unit =
-    let lines = flat_map (unit_lines shown) units in
-    sym (flat_map-append (unit_lines shown) units (unit ∷ [])
-    ∙ ap (λ (z : List ℕ). lines ++ z) (append-nil (unit_lines shown unit)))
+-- one more unit
+module _ {order : Order} {start mid now : Option (List ℕ)} {of_reader next_order : Order} {offset after : ℕ} {unit : BufferedUnit}
+    {frame : Frame} (units : List FramedUnit) (ordered : next_order ≡ of_reader)
+    (read : FramesRead order start mid (map (λ unit. unit.0) units) of_reader offset)
+    (n : IsNextFramed of_reader offset after mid now unit frame) where
+  -- was read
+  read_unit : (parts : UnitParts) → FramesRead order start now (map (λ unit. unit.0) (units ++ (frame, parts) ∷ [])) next_order after
+  read_unit parts =
+      subst (λ (frames : List Frame). FramesRead order start now frames next_order after)
+      (sym (map_push (λ (unit : FramedUnit). unit.0) units (frame, parts)))
+      (read_more ordered read n)
 
--- A unit that comes next, and its frame.
-pub record IsNextFramed (of_reader : Order) (offset after : ℕ) (mid now : Option (List ℕ)) (unit : BufferedUnit) (frame : Frame) : Type 0
-  where
-    pub next : IsNextUnit offset of_reader mid now unit
-    pub after_is : after ≡ offset + length unit.bytes
-    pub offset_is : frame.offset ≡ unit.offset
-    pub bytes_are : frame_bytes unit.order frame.format frame.body.now ≡ unit.bytes
-    pub placed : IsPlacedFrame unit.order frame
-
-pub next_framed : {of_reader : Order} {offset after : ℕ} {mid now : Option (List ℕ)} {comes : Next} {unit : BufferedUnit} {frame : Frame}
-    → comes ≡ NextUnit unit → IsNext offset after of_reader mid now comes → frame.offset ≡ unit.offset
-    → frame_bytes unit.order frame.format frame.body.now ≡ unit.bytes → IsPlacedFrame unit.order frame
-    → IsNextFramed of_reader offset after mid now unit frame
-next_framed {of_reader = of_reader} {offset = offset} {after = after} {mid = mid} {now = now} is comes at bytes placed =
-    let next = subst (IsNext offset after of_reader mid now) is comes in
-    record { next = next.0; after_is = next.1; offset_is = at; bytes_are = bytes; placed = placed }
-
--- one more unit was read
-read_unit : (order : Order) (shown : DumpParts) (start mid now : Option (List ℕ)) (units : List FramedUnit) (of_reader next_order : Order)
-    (offset after : ℕ) (unit : BufferedUnit) (frame : Frame) (parts : UnitParts) → next_order ≡ of_reader
-    → FramesRead order start mid (map (λ unit. unit.0) units) of_reader offset → IsNextFramed of_reader offset after mid now unit frame
-    → FramesRead order start now (map (λ unit. unit.0) (units ++ (frame, parts) ∷ [])) next_order after
-read_unit order shown start mid now units of_reader next_order offset after unit frame parts ordered read n =
-    subst (λ (frames : List Frame). FramesRead order start now frames next_order after)
-    (sym (map_push (λ (unit : FramedUnit). unit.0) units (frame, parts)))
-    (read_more order start mid now (map (λ unit. unit.0) units) of_reader next_order offset after unit frame ordered read n.next n.after_is
-    n.offset_is n.bytes_are n.placed)
-
--- and is the unit of its frame
-dumped_one : (order : Order) (shown : DumpParts) (start mid now : Option (List ℕ)) (frames : List Frame) (of_reader : Order)
-    (offset after : ℕ) (unit : BufferedUnit) (frame : Frame) (parts : UnitParts)
-    → FramesRead order start mid frames of_reader offset → IsNextFramed of_reader offset after mid now unit frame
-    → UnitBytesIn unit.order parts unit.bytes → (IsTrue shown.rows → Runs parts) → IsDumpedUnit order shown (frame, parts)
-dumped_one order shown start mid now frames of_reader offset after unit frame parts read n spelled runs =
-    let ordered : unit.order ≡ order = n.next.order_is ∙ read.so_far.order_is in
-    record {
-      spelled = subst (λ (o : Order). UnitBytesIn o parts (frame_bytes o frame.format frame.body.now)) ordered
-          (subst (UnitBytesIn unit.order parts) (sym n.bytes_are) spelled);
-      runs = runs;
-    }
-
--- one more unit was printed
-pub units_more : (order : Order) (shown : DumpParts) (start mid now old then new : Option (List ℕ)) (of_reader next_order : Order)
-    (offset after : ℕ) (unit : BufferedUnit) (frame : Frame) (status : Status) → next_order ≡ of_reader
-    → UnitsTold order shown start mid old then of_reader offset → IsNextFramed of_reader offset after mid now unit frame
-    → UnitTold shown frame unit then new status → (status ≡ No → ⊥) → UnitsTold order shown start now old new next_order after
-units_more order shown start mid now old then new of_reader next_order offset after unit frame status ordered told n one goes_on =
-    by_fault one.fault one.ends one.status_is
-  where
-    by_fault : (fault : Option RowFault) → UnitEnds shown frame unit fault one.text → status ≡ fault_status fault
-        → UnitsTold order shown start now old new next_order after
-    by_fault (Some fault) ends is = absurd (goes_on is)
-    by_fault None (parts, spelled, runs, text_is) is = record {
-      units = told.units ++ (frame, parts) ∷ [];
-      read = read_unit order shown start mid now told.units of_reader next_order offset after unit frame parts ordered told.read n;
-      each = all_push (IsDumpedUnit order shown) told.units (frame, parts) told.each
-          (dumped_one order shown start mid now (map (λ unit. unit.0) told.units) of_reader offset after unit frame parts told.read n
-          spelled runs);
-      printed = subst (Appends old new) (push_lines shown told.units (frame, parts))
-          (Appends-trans old then new (flat_map (unit_lines shown) told.units) (unit_lines shown (frame, parts)) told.printed
-          (subst (Appends then new) text_is one.printed));
-    }
+  -- and is the unit of its frame
+  dumped_one : {shown : DumpParts} {parts : UnitParts} → UnitBytesIn unit.order parts unit.bytes → (IsTrue shown.rows → Runs parts)
+      → IsDumpedUnit order shown (frame, parts)
+  dumped_one {parts = parts} spelled runs =
+      let same : unit.order ≡ order = n.next.order_is ∙ read.so_far.order_is in
+      record {
+        spelled = subst (λ (o : Order). UnitBytesIn o parts (frame_bytes o frame.format frame.body.now)) same
+            (subst (UnitBytesIn unit.order parts) (sym n.bytes_are) spelled);
+        runs = runs;
+      }
 
 -- ---- the end of the section
 
--- nothing is left
-pub units_end : (order : Order) (shown : DumpParts) (start now old new : Option (List ℕ)) (of_reader : Order) (offset : ℕ)
-    → UnitsTold order shown start now old new of_reader offset → SectionEndsBy offset of_reader now None
-    → IsDumped order shown start old new Done
-units_end order shown start now old new of_reader offset told ends = record {
-  units = told.units;
-  offset = offset;
-  fault = None;
-  so = begins order shown start now told.units of_reader offset (λ rest. rest ≡ []) told.read told.each ends;
-  printed = subst (Appends old new) (sym (append-nil (flat_map (unit_lines shown) told.units))) told.printed;
-  status_is = refl;
-}
-
 -- no frame follows, and so no unit
-no_frame : (order : Order) (shown : DumpParts) (start now : Option (List ℕ)) (frames : List Frame) (of_reader : Order) (offset : ℕ)
-    (fault : Fault) → FramesRead order start now frames of_reader offset → SectionEndsBy offset of_reader now (Some fault)
-    → IfSome now (λ rest. IsDumpFault order shown offset rest (Malformed fault))
-no_frame order shown start None frames of_reader offset fault read ends = tt
-no_frame order shown start (Some rest) frames of_reader offset fault read ends =
+no_frame : {order : Order} {start : Option (List ℕ)} {frames : List Frame} {of_reader : Order} {offset : ℕ} (shown : DumpParts)
+    (now : Option (List ℕ)) (fault : Fault) → FramesRead order start now frames of_reader offset
+    → SectionEndsBy offset of_reader now (Some fault) → IfSome now (λ rest. IsDumpFault order shown offset rest (Malformed fault))
+no_frame shown None fault read ends = tt
+no_frame {of_reader = of_reader} {offset = offset} shown (Some rest) fault read ends =
     let broken = fault_of_section.alone of_reader offset rest fault ends in
     (ends.0, subst (λ (o : Order). BrokenUnit o fault offset rest) read.so_far.order_is broken)
 
--- a fault follows them
-ends_faulty : (order : Order) (shown : DumpParts) (start now old then new : Option (List ℕ)) (of_reader : Order) (offset : ℕ)
-    (fault : RowFault) → UnitsTold order shown start now old then of_reader offset
-    → IfSome now (λ rest. IsDumpFault order shown offset rest fault) → Appends then new (fault_line offset (Some fault))
-    → IsDumped order shown start old new No
-ends_faulty order shown start now old then new of_reader offset fault told is line = record {
-  units = told.units;
-  offset = offset;
-  fault = Some fault;
-  so = begins order shown start now told.units of_reader offset (λ rest. IsDumpFault order shown offset rest fault) told.read told.each is;
-  printed = Appends-trans old then new (flat_map (unit_lines shown) told.units) (fault_line offset (Some fault)) told.printed line;
-  status_is = refl;
-}
+-- nothing is asked of what is left
+any_rest : (known : Option (List ℕ)) → IfSome known (λ rest. Unit {0})
+any_rest None = tt
+any_rest (Some rest) = tt
 
-begun_faulty : (order : Order) (shown : DumpParts) (start now old then new : Option (List ℕ)) (of_reader : Order) (offset : ℕ)
-    (fault : RowFault) → UnitsTold order shown start now old then of_reader offset
-    → IfSome now (λ rest. IsDumpFault order shown offset rest fault) → AppendsFront then new (fault_line offset (Some fault))
-    → IsDumpBegun order shown start old new
-begun_faulty order shown start now old then new of_reader offset fault told is line = record {
-  units = told.units;
-  offset = offset;
-  fault = Some fault;
-  so = begins order shown start now told.units of_reader offset (λ rest. IsDumpFault order shown offset rest fault) told.read told.each is;
-  begun = front_after old then new (flat_map (unit_lines shown) told.units) (fault_line offset (Some fault)) told.printed line;
-}
+keeps_same : (known : Option (List ℕ)) → Keeps known known
+keeps_same None = tt
+keeps_same (Some bytes) = refl
 
-pub units_faulty : (order : Order) (shown : DumpParts) (start now old then new : Option (List ℕ)) (of_reader : Order) (offset : ℕ)
-    (fault : Fault) (printed : Result Status Halt) → UnitsTold order shown start now old then of_reader offset
-    → SectionEndsBy offset of_reader now (Some fault) → IfOk printed (λ status. status ≡ No)
-    → OnOk printed (Appends then new (malformed_text fault ++ codes "\n")) → IfOk printed (IsDumped order shown start old new)
-units_faulty order shown start now old then new of_reader offset fault (Ok status) told ends is_no line =
-    subst (IsDumped order shown start old new) (sym is_no)
-    (ends_faulty order shown start now old then new of_reader offset (Malformed fault) told
-    (no_frame order shown start now (map (λ unit. unit.0) told.units) of_reader offset fault told.read ends) line)
-units_faulty order shown start now old then new of_reader offset fault (Err halt) told ends is_no line = tt
+module _ {order : Order} {shown : DumpParts} {start now old then : Option (List ℕ)} {of_reader : Order} {offset : ℕ}
+    (told : UnitsTold order shown start now old then of_reader offset) where
+  begins_so : (Ends : List ℕ → Type 0) → IfSome now Ends
+      → IfSome start (λ bytes. (rest : List ℕ) × BeginsWithUnits order shown bytes told.units offset rest × Ends rest)
+  begins_so Ends ends = begins order shown start now told.units of_reader offset Ends told.read told.each ends
 
-pub units_fault_cut : (order : Order) (shown : DumpParts) (start now old then new : Option (List ℕ)) (of_reader : Order) (offset : ℕ)
-    (fault : Fault) (printed : Result Status Halt) → UnitsTold order shown start now old then of_reader offset
-    → SectionEndsBy offset of_reader now (Some fault) → OnErr printed (AppendsFront then new (malformed_text fault ++ codes "\n"))
-    → OnErr printed (IsDumpBegun order shown start old new)
-units_fault_cut order shown start now old then new of_reader offset fault (Ok status) told ends line = tt
-units_fault_cut order shown start now old then new of_reader offset fault (Err halt) told ends line =
-    begun_faulty order shown start now old then new of_reader offset (Malformed fault) told
-    (no_frame order shown start now (map (λ unit. unit.0) told.units) of_reader offset fault told.read ends) line
+  -- nothing is left
+  pub units_end : SectionEndsBy offset of_reader now None → IsDumped order shown start old then Done
+  units_end ends = record {
+    units = told.units;
+    offset = offset;
+    fault = None;
+    so = begins_so (λ rest. rest ≡ []) ends;
+    printed = subst (Appends old then) (sym (append-nil (flat_map (unit_lines shown) told.units))) told.printed;
+    status_is = refl;
+  }
+
+  -- a fault follows them
+  ends_faulty : {new : Option (List ℕ)} (fault : RowFault) → IfSome now (λ rest. IsDumpFault order shown offset rest fault)
+      → Appends then new (fault_line offset (Some fault)) → IsDumped order shown start old new No
+  ends_faulty {new} fault is line = record {
+    units = told.units;
+    offset = offset;
+    fault = Some fault;
+    so = begins_so (λ rest. IsDumpFault order shown offset rest fault) is;
+    printed = Appends-trans old then new (flat_map (unit_lines shown) told.units) (fault_line offset (Some fault)) told.printed line;
+    status_is = refl;
+  }
+
+  begun_faulty : {new : Option (List ℕ)} (fault : RowFault) → IfSome now (λ rest. IsDumpFault order shown offset rest fault)
+      → AppendsFront then new (fault_line offset (Some fault)) → IsDumpBegun order shown start old new
+  begun_faulty {new} fault is line = record {
+    units = told.units;
+    offset = offset;
+    fault = Some fault;
+    so = begins_so (λ rest. IsDumpFault order shown offset rest fault) is;
+    begun = front_after old then new (flat_map (unit_lines shown) told.units) (fault_line offset (Some fault)) told.printed line;
+  }
+
+  pub units_faulty : (new : Option (List ℕ)) (fault : Fault) (printed : Result Status Halt)
+      → SectionEndsBy offset of_reader now (Some fault) → IfOk printed (λ status. status ≡ No)
+      → OnOk printed (Appends then new (malformed_text fault ++ codes "\n")) → IfOk printed (IsDumped order shown start old new)
+  units_faulty new fault (Ok status) ends is_no line =
+      subst (IsDumped order shown start old new) (sym is_no)
+      (ends_faulty (Malformed fault) (no_frame shown now fault told.read ends) line)
+  units_faulty new fault (Err halt) ends is_no line = tt
+
+  pub units_fault_cut : (new : Option (List ℕ)) (fault : Fault) (printed : Result Status Halt)
+      → SectionEndsBy offset of_reader now (Some fault) → OnErr printed (AppendsFront then new (malformed_text fault ++ codes "\n"))
+      → OnErr printed (IsDumpBegun order shown start old new)
+  units_fault_cut new fault (Ok status) ends line = tt
+  units_fault_cut new fault (Err halt) ends line = begun_faulty (Malformed fault) (no_frame shown now fault told.read ends) line
+
+  -- nothing more is written
+  pub units_stopped : {new : Option (List ℕ)} → Keeps then new → IsDumpBegun order shown start old new
+  units_stopped {new} kept = record {
+    units = told.units;
+    offset = offset;
+    fault = None;
+    so = begins_so (λ rest. Unit {0}) (any_rest now);
+    begun = front_after old then new (flat_map (unit_lines shown) told.units) [] told.printed
+        (front_since then new new [] kept (front_none new []));
+  }
+
+  pub units_stay : IsDumpBegun order shown start old then
+  units_stay = units_stopped (keeps_same then)
 
 -- a whole unit has some byte
-frame_some : (unit : BufferedUnit) → (is : IsWholeUnit unit) → 0 < length unit.bytes
-frame_some unit is =
+frame_some : {unit : BufferedUnit} → (is : IsWholeUnit unit) → 0 < length unit.bytes
+frame_some {unit} is =
     omega (
       arith,
       ap length is.spelled.joined,
@@ -320,111 +288,94 @@ frame_some unit is =
     )
 
 -- the fault of a unit, with whatever follows it
-fault_here : (order : Order) (shown : DumpParts) (offset : ℕ) (unit : BufferedUnit) (more : List ℕ) (fault : RowFault)
-    → IsWholeUnit unit → unit.offset ≡ offset → unit.order ≡ order → IsFaultOf unit shown.rows fault
+fault_here : {order : Order} {offset : ℕ} {unit : BufferedUnit} (shown : DumpParts) (more : List ℕ) (fault : RowFault) → IsWholeUnit unit
+    → unit.offset ≡ offset → unit.order ≡ order → IsFaultOf unit shown.rows fault
     → IsDumpFault order shown offset (unit.bytes ++ more) fault
-fault_here order shown offset unit more (Malformed fault) is at ordered b = (
-  omega (arith, length-append unit.bytes more, frame_some unit is),
+fault_here {order} {offset} {unit} shown more (Malformed fault) is at ordered b = (
+  omega (arith, length-append unit.bytes more, frame_some is),
   subst (λ (o : Order). BrokenUnit o fault offset (unit.bytes ++ more)) ordered
       (subst (λ (n : ℕ). BrokenUnit unit.order fault n (unit.bytes ++ more)) at
       (broken_more unit.order fault unit.offset (is.format, is.body) unit.bytes more is.spelled b)),
 )
-fault_here order shown offset unit more (Run fault) is at ordered (shows, not_run) =
+fault_here {unit = unit} shown more (Run fault) is at ordered (shows, not_run) =
     (shows, unit.bytes, more, refl, subst (λ (o : Order). DoesNotRun o unit.bytes fault) ordered not_run)
 
-faulty_unit : (order : Order) (shown : DumpParts) (offset : ℕ) (mid now : Option (List ℕ)) (unit : BufferedUnit) (fault : RowFault)
+faulty_unit : {order : Order} {offset : ℕ} {unit : BufferedUnit} (shown : DumpParts) (mid now : Option (List ℕ)) (fault : RowFault)
     → IsWholeUnit unit → unit.offset ≡ offset → unit.order ≡ order → Pulls mid now unit.bytes → IsFaultOf unit shown.rows fault
     → IfSome mid (λ rest. IsDumpFault order shown offset rest fault)
-faulty_unit order shown offset None now unit fault is at ordered pulls b = tt
-faulty_unit order shown offset (Some rest) None unit fault is at ordered pulls b = absurd pulls
-faulty_unit order shown offset (Some rest) (Some more) unit fault is at ordered pulls b =
+faulty_unit shown None now fault is at ordered pulls b = tt
+faulty_unit shown (Some rest) None fault is at ordered pulls b = absurd pulls
+faulty_unit {order} {offset} shown (Some rest) (Some more) fault is at ordered pulls b =
     subst (λ (z : List ℕ). IsDumpFault order shown offset z fault) (sym pulls)
-    (fault_here order shown offset unit more fault is at ordered b)
+    (fault_here shown more fault is at ordered b)
 
--- the last unit is faulty
-pub units_broken : (order : Order) (shown : DumpParts) (start mid now old then new : Option (List ℕ)) (of_reader : Order)
-    (offset after : ℕ) (unit : BufferedUnit) (frame : Frame) (status : Status)
-    → UnitsTold order shown start mid old then of_reader offset → IsNextFramed of_reader offset after mid now unit frame
-    → UnitTold shown frame unit then new status → status ≡ No → IsDumped order shown start old new No
-units_broken order shown start mid now old then new of_reader offset after unit frame status told n one is_no =
-    by_fault one.fault one.ends one.status_is
-  where
-    by_fault : (fault : Option RowFault) → UnitEnds shown frame unit fault one.text → status ≡ fault_status fault
-        → IsDumped order shown start old new No
-    by_fault None ends is = absurd (cc (is_no, is))
-    by_fault (Some fault) ends is =
-        ends_faulty order shown start mid old then new of_reader offset fault told
-        (faulty_unit order shown offset mid now unit fault n.next.whole n.next.offset_is (n.next.order_is ∙ told.read.so_far.order_is)
-        n.next.pulls ends.0)
-        (subst (λ (at : ℕ). Appends then new (fault_line at (Some fault))) n.next.offset_is
-        (subst (Appends then new) ends.1 one.printed))
+-- ---- the next unit
 
--- ---- a run that stops
+module _ {order : Order} {shown : DumpParts} {start mid now old then : Option (List ℕ)} {of_reader next_order : Order}
+    {offset after : ℕ} {unit : BufferedUnit} {frame : Frame} (ordered : next_order ≡ of_reader)
+    (told : UnitsTold order shown start mid old then of_reader offset) (n : IsNextFramed of_reader offset after mid now unit frame) where
+  faulty : (fault : RowFault) → IsFaultOf unit shown.rows fault → IfSome mid (λ rest. IsDumpFault order shown offset rest fault)
+  faulty fault is =
+      faulty_unit shown mid now fault n.next.whole n.next.offset_is (n.next.order_is ∙ told.read.so_far.order_is) n.next.pulls is
 
--- nothing more is written
-pub units_stopped : (order : Order) (shown : DumpParts) (start now old then new : Option (List ℕ)) (of_reader : Order) (offset : ℕ)
-    → UnitsTold order shown start now old then of_reader offset → Keeps then new → IsDumpBegun order shown start old new
-units_stopped order shown start now old then new of_reader offset told kept =
-    let lines = flat_map (unit_lines shown) told.units in
-    record {
-      units = told.units;
-      offset = offset;
-      fault = None;
-      so = begins order shown start now told.units of_reader offset (λ rest. Unit {0}) told.read told.each (any now);
-      begun = front_after old then new lines [] told.printed (front_since then new new [] kept (front_none new []));
-    }
-  where
-    any : (known : Option (List ℕ)) → IfSome known (λ rest. Unit {0})
-    any None = tt
-    any (Some rest) = tt
+  dumped : {parts : UnitParts} → UnitBytesIn unit.order parts unit.bytes → (IsTrue shown.rows → Runs parts)
+      → AllByRecursion (IsDumpedUnit order shown) (told.units ++ (frame, parts) ∷ [])
+  dumped {parts} spelled runs =
+      all_push (IsDumpedUnit order shown) told.units (frame, parts) told.each (dumped_one told.units ordered told.read n spelled runs)
 
--- of the next unit a front is written
-pub units_cut : (order : Order) (shown : DumpParts) (start mid now old then new : Option (List ℕ)) (of_reader next_order : Order)
-    (offset after : ℕ) (unit : BufferedUnit) (frame : Frame) → next_order ≡ of_reader
-    → UnitsTold order shown start mid old then of_reader offset → IsNextFramed of_reader offset after mid now unit frame
-    → Keeps then new ⊎ UnitBegun shown frame unit then new → IsDumpBegun order shown start old new
-units_cut order shown start mid now old then new of_reader next_order offset after unit frame ordered told n (inl kept) =
-    units_stopped order shown start mid old then new of_reader offset told kept
-units_cut order shown start mid now old then new of_reader next_order offset after unit frame ordered told n (inr one) =
-    by_fault one.fault one.ends
-  where
-    any : (known : Option (List ℕ)) → IfSome known (λ rest. Unit {0})
-    any None = tt
-    any (Some rest) = tt
+  -- it was printed
+  pub units_more : {new : Option (List ℕ)} {status : Status} → UnitTold shown frame unit then new status → (status ≡ No → ⊥)
+      → UnitsTold order shown start now old new next_order after
+  units_more {new} {status} one goes_on = by_fault one.fault one.ends one.status_is
+    where
+      by_fault : (fault : Option RowFault) → UnitEnds shown frame unit fault one.text → status ≡ fault_status fault
+          → UnitsTold order shown start now old new next_order after
+      by_fault (Some fault) ends is = absurd (goes_on is)
+      by_fault None (parts, spelled, runs, text_is) is = record {
+        units = told.units ++ (frame, parts) ∷ [];
+        read = read_unit told.units ordered told.read n parts;
+        each = dumped spelled runs;
+        printed = subst (Appends old new) (flat_push (unit_lines shown) told.units (frame, parts))
+            (Appends-trans old then new (flat_map (unit_lines shown) told.units) (unit_lines shown (frame, parts)) told.printed
+            (subst (Appends then new) text_is one.printed));
+      }
 
-    by_fault : (fault : Option RowFault) → UnitEnds shown frame unit fault one.text → IsDumpBegun order shown start old new
-    by_fault (Some fault) ends =
-        begun_faulty order shown start mid old then new of_reader offset fault told
-        (faulty_unit order shown offset mid now unit fault n.next.whole n.next.offset_is (n.next.order_is ∙ told.read.so_far.order_is)
-        n.next.pulls ends.0)
-        (subst (λ (at : ℕ). AppendsFront then new (fault_line at (Some fault))) n.next.offset_is
-        (front_same then new one.text (fault_line unit.offset (Some fault)) ends.1 one.begun))
-    by_fault None (parts, spelled, runs, text_is) =
-        let units = told.units ++ (frame, parts) ∷ [] in
-        let before = flat_map (unit_lines shown) told.units in
-        let lines = flat_map (unit_lines shown) units in
-        record {
-          units = units;
-          offset = after;
-          fault = None;
-          so = begins order shown start now units next_order after (λ rest. Unit {0})
-              (read_unit order shown start mid now told.units of_reader next_order offset after unit frame parts ordered told.read n)
-              (all_push (IsDumpedUnit order shown) told.units (frame, parts) told.each
-              (dumped_one order shown start mid now (map (λ unit. unit.0) told.units) of_reader offset after unit frame parts told.read n
-              spelled runs))
-              (any now);
-          begun = front_before old new lines []
-              (front_same old new (before ++ unit_lines shown (frame, parts)) lines (push_lines shown told.units (frame, parts))
-              (front_after old then new before (unit_lines shown (frame, parts)) told.printed
-              (front_same then new one.text (unit_lines shown (frame, parts)) text_is one.begun)));
-        }
+  -- it is faulty, and so the last one
+  pub units_broken : {new : Option (List ℕ)} {status : Status} → UnitTold shown frame unit then new status → status ≡ No
+      → IsDumped order shown start old new No
+  units_broken {new} {status} one is_no = by_fault one.fault one.ends one.status_is
+    where
+      by_fault : (fault : Option RowFault) → UnitEnds shown frame unit fault one.text → status ≡ fault_status fault
+          → IsDumped order shown start old new No
+      by_fault None ends is = absurd (cc (is_no, is))
+      by_fault (Some fault) ends is =
+          ends_faulty told fault (faulty fault ends.0)
+          (subst (λ (at : ℕ). Appends then new (fault_line at (Some fault))) n.next.offset_is
+          (subst (Appends then new) ends.1 one.printed))
 
-keeps_same : (known : Option (List ℕ)) → Keeps known known
-keeps_same None = tt
-keeps_same (Some bytes) = refl
-
--- nothing more was written
-pub units_stay : (order : Order) (shown : DumpParts) (start now old new : Option (List ℕ)) (of_reader : Order) (offset : ℕ)
-    → UnitsTold order shown start now old new of_reader offset → IsDumpBegun order shown start old new
-units_stay order shown start now old new of_reader offset told =
-    units_stopped order shown start now old new new of_reader offset told (keeps_same new)
+  -- a front of it is written
+  pub units_cut : {new : Option (List ℕ)} → Keeps then new ⊎ UnitBegun shown frame unit then new → IsDumpBegun order shown start old new
+  units_cut (inl kept) = units_stopped told kept
+  units_cut {new} (inr one) = by_fault one.fault one.ends
+    where
+      by_fault : (fault : Option RowFault) → UnitEnds shown frame unit fault one.text → IsDumpBegun order shown start old new
+      by_fault (Some fault) ends =
+          begun_faulty told fault (faulty fault ends.0)
+          (subst (λ (at : ℕ). AppendsFront then new (fault_line at (Some fault))) n.next.offset_is
+          (front_same then new one.text (fault_line unit.offset (Some fault)) ends.1 one.begun))
+      by_fault None (parts, spelled, runs, text_is) =
+          let units = told.units ++ (frame, parts) ∷ [] in
+          let before = flat_map (unit_lines shown) told.units in
+          let lines = flat_map (unit_lines shown) units in
+          record {
+            units = units;
+            offset = after;
+            fault = None;
+            so = begins order shown start now units next_order after (λ rest. Unit {0})
+                (read_unit told.units ordered told.read n parts) (dumped spelled runs) (any_rest now);
+            begun = front_before old new lines []
+                (front_same old new (before ++ unit_lines shown (frame, parts)) lines
+                (flat_push (unit_lines shown) told.units (frame, parts))
+                (front_after old then new before (unit_lines shown (frame, parts)) told.printed
+                (front_same then new one.text (unit_lines shown (frame, parts)) text_is one.begun)));
+          }

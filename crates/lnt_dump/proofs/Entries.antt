@@ -1,6 +1,6 @@
 -- Entries that are read one by one where they lie, value by value.
 use Rattle.std.proofs.Common.{◌≡◌, ℕ, ◌+◌, ◌<◌, ◌≤◌, List, [], ◌∷◌, ◌++◌, length, take, drop, get_or, codes, decimal}
-use Rattle.std.proofs.Common.{Option, Some, Result, Ok, Err, OnOk, refl, sym, ap, subst, ◌∙◌, append-nil, append_assoc, arith}
+use Rattle.std.proofs.Common.{Option, Some, Result, Ok, Err, OnOk, refl, sym, ap, subst, ◌∙◌, append-nil, arith}
 use Rattle.std.proofs.Common.{take_all, take-append-drop}
 use Rattle.std.proofs.KnownBytes.{Appends-nil, Appends-trans}
 use Rattle.std.proofs.lemmas.List.{drop_more, length-append, length-take-le, take_more}
@@ -29,9 +29,8 @@ use Rattle.lnt_dump.specs.Headers.{component_text, components_text, entry_end, e
 use Rattle.lnt_dump.specs.Numbered.{numbered}
 use Rattle.lnt_dump.specs.Stepping.{IsPaged, PassesPrinting}
 use Rattle.lnt_io.specs.Fronts.{AppendsFront}
-use Rattle.lnt_io.proofs.FrontLaws.{front_before, front_same}
-use Rattle.lnt_dump.proofs.Lines.{numbered_front, numbered_next}
-use Rattle.lnt_dump.proofs.Pages.{paged_front, paged_kept_front, paged_more}
+use Rattle.lnt_io.proofs.FrontLaws.{front_same}
+use Rattle.lnt_dump.proofs.Pages.{paged_kept_front, paged_none, told_front, told_next, told_next_cut}
 
 -- ---- values
 
@@ -112,7 +111,7 @@ pub at_first : (name : List ℕ) (table : BorrowedTable) (at : At) (page : List 
 at_first name table at page out order lies = record {
   order_is = order;
   lies = lies;
-  told = record { written = []; gained = Appends-nil out; joined = append-nil page };
+  told = paged_none page out;
 }
 
 -- a value that was read is the first of those that are there
@@ -142,95 +141,62 @@ record IsLineOf (name : List ℕ) (table : BorrowedTable) (number : ℕ) (new : 
   lies : AreEntryBytes (from_entry (number + 1) table) new.rest
   line : added ≡ page ++ entry_line name table.pairs number entry
 
-next_line : (name : List ℕ) (table : BorrowedTable) (format : Format) (pairs : List Pair) (number : ℕ) (at new : At)
-    (before page added : List ℕ) (old now : Option (List ℕ)) → format ≡ table.format → pairs ≡ table.pairs
-    → number < length table.entries → IsBefore name table number at before page old now
-    → PassesPrinting (entry_line name pairs number) format pairs at new (Some page) (Some added) → IsLineOf name table number new page added
-next_line name table format pairs number at new before page added old now format_is pairs_are lt is p =
-    let P = EntryBytes table.format table.order table.pairs in
-    let code = entry_code table.format table.order table.pairs in
-    let read : P p.entry p.read.spelling =
-    subst (λ (o : Order). EntryBytes table.format o table.pairs p.entry p.read.spelling) is.order_is
-    (subst (λ (f : Format). EntryBytes f at.order table.pairs p.entry p.read.spelling) format_is
-    (subst (λ (ps : List Pair). EntryBytes format at.order ps p.entry p.read.spelling) pairs_are p.read.spelled)) in
-    record {
-      entry = p.entry;
-      is = first_is P code table.entries number p.entry p.entry p.read.spelling new.rest at.rest lt read is.lies p.read.whole;
-      order_is = p.read.order ∙ is.order_is;
-      lies = one_after P code table.entries number p.entry p.read.spelling new.rest at.rest lt read is.lies p.read.whole;
-      line = p.printed ∙ ap (λ (ps : List Pair). page ++ entry_line name ps number p.entry) pairs_are;
-    }
+module _ {name : List ℕ} {table : BorrowedTable} {format : Format} {pairs : List Pair} {number : ℕ} {at : At} {before page : List ℕ}
+    {old now : Option (List ℕ)} (format_is : format ≡ table.format) (pairs_are : pairs ≡ table.pairs)
+    (is : IsBefore name table number at before page old now) (lt : number < length table.entries) where
+  next_line : {new : At} {added : List ℕ} → PassesPrinting (entry_line name pairs number) format pairs at new (Some page) (Some added)
+      → IsLineOf name table number new page added
+  next_line {new} {added} p =
+      let P = EntryBytes table.format table.order table.pairs in
+      let code = entry_code table.format table.order table.pairs in
+      let read : P p.entry p.read.spelling =
+      subst (λ (o : Order). EntryBytes table.format o table.pairs p.entry p.read.spelling) is.order_is
+      (subst (λ (f : Format). EntryBytes f at.order table.pairs p.entry p.read.spelling) format_is
+      (subst (λ (ps : List Pair). EntryBytes format at.order ps p.entry p.read.spelling) pairs_are p.read.spelled)) in
+      record {
+        entry = p.entry;
+        is = first_is P code table.entries number p.entry p.entry p.read.spelling new.rest at.rest lt read is.lies p.read.whole;
+        order_is = p.read.order ∙ is.order_is;
+        lies = one_after P code table.entries number p.entry p.read.spelling new.rest at.rest lt read is.lies p.read.whole;
+        line = p.printed ∙ ap (λ (ps : List Pair). page ++ entry_line name ps number p.entry) pairs_are;
+      }
 
--- the lines with one more
-line_pushed : (name : List ℕ) (table : BorrowedTable) (number : ℕ) (new : At) (before page added : List ℕ)
-    → number < length table.entries → (l : IsLineOf name table number new page added)
-    → (before ++ numbered (entry_line name table.pairs) 0 (take number table.entries)) ++ entry_line name table.pairs number l.entry
-    ≡ before ++ numbered (entry_line name table.pairs) 0 (take (number + 1) table.entries)
-line_pushed name table number new before page added lt l =
-    let line = entry_line name table.pairs in
-    append_assoc before (numbered line 0 (take number table.entries)) (line number l.entry)
-    ∙ ap (λ (z : List ℕ). before ++ z) (numbered_next line table.entries number l.entry lt l.is)
+  pub at_next : {new : At} {added left : List ℕ} {then : Option (List ℕ)}
+      → PassesPrinting (entry_line name pairs number) format pairs at new (Some page) (Some added) → IsPaged added now then left
+      → IsBefore name table (number + 1) new before left old then
+  at_next {left = left} {then = then} p turned =
+      let l = next_line p in
+      record {
+        order_is = l.order_is;
+        lies = l.lies;
+        told = told_next (entry_line name table.pairs) before table.entries number l.entry lt l.is is.told
+            (subst (λ (z : List ℕ). IsPaged z now then left) l.line turned);
+      }
 
-pub at_next : (name : List ℕ) (table : BorrowedTable) (format : Format) (pairs : List Pair) (number : ℕ) (at new : At)
-    (before page added left : List ℕ) (old now then : Option (List ℕ)) → format ≡ table.format → pairs ≡ table.pairs
-    → number < length table.entries → IsBefore name table number at before page old now
-    → PassesPrinting (entry_line name pairs number) format pairs at new (Some page) (Some added) → IsPaged added now then left
-    → IsBefore name table (number + 1) new before left old then
-at_next name table format pairs number at new before page added left old now then format_is pairs_are lt is p turned =
-    let l = next_line name table format pairs number at new before page added old now format_is pairs_are lt is p in
-    let line = entry_line name table.pairs number l.entry in
-    let text = before ++ numbered (entry_line name table.pairs) 0 (take number table.entries) in
-    record {
-      order_is = l.order_is;
-      lies = l.lies;
-      told = subst (λ (z : List ℕ). IsPaged z old then left) (line_pushed name table number new before page added lt l)
-          (paged_more text line page left old now then is.told (subst (λ (z : List ℕ). IsPaged z now then left) l.line turned));
-    }
+  -- of the page a front was written
+  pub line_cut : {new : At} {added : List ℕ} {then : Option (List ℕ)}
+      → PassesPrinting (entry_line name pairs number) format pairs at new (Some page) (Some added) → AppendsFront now then added
+      → AppendsFront old then (before ++ numbered (entry_line name table.pairs) 0 table.entries)
+  line_cut {added = added} {then = then} p f =
+      let l = next_line p in
+      let line = entry_line name table.pairs in
+      told_next_cut line before table.entries number l.entry lt l.is is.told
+      (front_same now then added (page ++ line number l.entry) l.line f)
 
--- the lines of the first entries begin those of all
-all_lines : (name : List ℕ) (table : BorrowedTable) (number : ℕ) (before : List ℕ) (old new : Option (List ℕ))
-    → AppendsFront old new (before ++ numbered (entry_line name table.pairs) 0 (take number table.entries))
-    → AppendsFront old new (before ++ numbered (entry_line name table.pairs) 0 table.entries)
-all_lines name table number before old new f =
-    let line = entry_line name table.pairs in
-    let first = numbered line 0 (take number table.entries) in
-    let more = numbered_front line 0 (take number table.entries) (drop number table.entries) in
-    front_same old new ((before ++ first) ++ more.0) (before ++ numbered line 0 table.entries)
-    (append_assoc before first more.0
-    ∙ ap (λ (z : List ℕ). before ++ z) (sym more.1 ∙ ap (numbered line 0) (take-append-drop number table.entries)))
-    (front_before old new (before ++ first) more.0 f)
-
--- of the page a front was written
-pub line_cut : (name : List ℕ) (table : BorrowedTable) (format : Format) (pairs : List Pair) (number : ℕ) (at new : At)
-    (before page added : List ℕ) (old now then : Option (List ℕ)) → format ≡ table.format → pairs ≡ table.pairs
-    → number < length table.entries → IsBefore name table number at before page old now
-    → PassesPrinting (entry_line name pairs number) format pairs at new (Some page) (Some added) → AppendsFront now then added
-    → AppendsFront old then (before ++ numbered (entry_line name table.pairs) 0 table.entries)
-line_cut name table format pairs number at new before page added old now then format_is pairs_are lt is p f =
-    let l = next_line name table format pairs number at new before page added old now format_is pairs_are lt is p in
-    let line = entry_line name table.pairs number l.entry in
-    let text = before ++ numbered (entry_line name table.pairs) 0 (take number table.entries) in
-    all_lines name table (number + 1) before old then
-    (front_same old then (text ++ line) (before ++ numbered (entry_line name table.pairs) 0 (take (number + 1) table.entries))
-    (line_pushed name table number new before page added lt l)
-    (paged_front text line page old now then is.told (front_same now then added (page ++ line) l.line f)))
+  pub is_there : NoneSpelled (EntryBytes format at.order pairs) at.rest → ⊥
+  is_there none =
+      one_there (EntryBytes table.format table.order table.pairs) table.entries number at.rest lt is.lies
+      (subst (λ (o : Order). NoneSpelled (EntryBytes table.format o table.pairs) at.rest) is.order_is
+      (subst (λ (f : Format). NoneSpelled (EntryBytes f at.order table.pairs) at.rest) format_is
+      (subst (λ (ps : List Pair). NoneSpelled (EntryBytes format at.order ps) at.rest) pairs_are none)))
 
 -- nothing more was written
 pub lines_stay : (name : List ℕ) (table : BorrowedTable) (number : ℕ) (at : At) (before page : List ℕ) (old now : Option (List ℕ))
     → IsBefore name table number at before page old now
     → AppendsFront old now (before ++ numbered (entry_line name table.pairs) 0 table.entries)
 lines_stay name table number at before page old now is =
-    all_lines name table number before old now (paged_kept_front _ page old now is.told)
-
-pub is_there : (name : List ℕ) (table : BorrowedTable) (format : Format) (pairs : List Pair) (number : ℕ) (at : At)
-    (before page : List ℕ) (old now : Option (List ℕ)) → format ≡ table.format → pairs ≡ table.pairs
-    → number < length table.entries → IsBefore name table number at before page old now
-    → NoneSpelled (EntryBytes format at.order pairs) at.rest → ⊥
-is_there name table format pairs number at before page old now format_is pairs_are lt is none =
-    one_there (EntryBytes table.format table.order table.pairs) table.entries number at.rest lt is.lies
-    (subst (λ (o : Order). NoneSpelled (EntryBytes table.format o table.pairs) at.rest) is.order_is
-    (subst (λ (f : Format). NoneSpelled (EntryBytes f at.order table.pairs) at.rest) format_is
-    (subst (λ (ps : List Pair). NoneSpelled (EntryBytes format at.order ps) at.rest) pairs_are none)))
+    told_front (entry_line name table.pairs) before (take number table.entries) (drop number table.entries)
+    (sym (take-append-drop number table.entries)) (paged_kept_front _ page old now is.told)
 
 -- all lines were printed
 pub all_told : (name : List ℕ) (table : BorrowedTable) (number : ℕ) (at : At) (before page : List ℕ) (old now : Option (List ℕ))

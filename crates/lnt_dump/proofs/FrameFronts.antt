@@ -7,16 +7,16 @@ use Rattle.std.specs.List.{flat_map}
 use Rattle.lnt_io.specs.Fronts.{AppendsFront, HasBegun}
 use Rattle.lnt_io.proofs.FrontLaws.{appends_known, front_after, front_all, front_before, front_same}
 use Rattle.lnt_wire.specs.At.{At}
-use Rattle.lnt_wire.specs.FrameBytes.{FramesFrom, IsPlacedFrame, frame_bytes}
+use Rattle.lnt_wire.specs.FrameBytes.{FramesFrom}
 use Rattle.lnt_wire.specs.Frames.{AreFrames, EndsBy}
 use Rattle.lnt_wire.specs.declared.fault.Fault.{Fault}
 use Rattle.lnt_wire.specs.declared.format.Order.{Order}
 use Rattle.lnt_wire.specs.declared.frame.Frame.{Frame}
-use Rattle.lnt_unit.specs.Units.{IsNextUnit, SectionEndsBy, BufferedUnit}
+use Rattle.lnt_unit.specs.Units.{SectionEndsBy, BufferedUnit}
 use Rattle.lnt_io.specs.declared.halt.Halt.{Halt}
 use Rattle.lnt_io.specs.declared.status.Status.{Status}
 use Rattle.lnt_dump.specs.Units.{AreBytes, AreUnitsTold, end_line, end_status, unit_line}
-use Rattle.lnt_dump.proofs.Frames.{FramesRead, FramesTold, frames_end, line_joined, read_more}
+use Rattle.lnt_dump.proofs.Frames.{flat_push, FramesRead, FramesTold, frames_end, IsNextFramed, read_more}
 use Rattle.lnt_dump.proofs.FramesAhead.{bytes_after, frames_ahead, frames_join}
 
 -- How a section ends after these frames.
@@ -25,11 +25,11 @@ record RestOf (order : Order) (section : Option (List ℕ)) (frames : List Frame
   fault : Option Fault
   so : IfSome section (λ bytes. AreFrames order bytes (frames ++ more) fault)
 
-rest_of : (order : Order) (start now : Option (List ℕ)) (frames : List Frame) (of_reader : Order) (offset : ℕ)
+rest_of : {order : Order} {frames : List Frame} {of_reader : Order} {offset : ℕ} (start now : Option (List ℕ))
     → FramesRead order start now frames of_reader offset → IfSome start AreBytes → RestOf order start frames
-rest_of order None now frames of_reader offset read are = record { more = []; fault = None; so = tt }
-rest_of order (Some bytes) None frames of_reader offset read are = absurd read.pulls
-rest_of order (Some bytes) (Some rest) frames of_reader offset read are =
+rest_of None now read are = record { more = []; fault = None; so = tt }
+rest_of (Some bytes) None read are = absurd read.pulls
+rest_of {order} {frames} {of_reader} {offset} (Some bytes) (Some rest) read are =
     let at : At = record { place = offset; rest = rest; order = of_reader } in
     let later = frames_ahead at (bytes_after read.front rest bytes read.pulls are) in
     let before = read.so_far in
@@ -56,9 +56,9 @@ rest_of order (Some bytes) (Some rest) frames of_reader offset read are =
     }
 
 -- a front of the lines of these frames, where the section goes on so
-lines_begun : (order : Order) (section old new : Option (List ℕ)) (frames : List Frame) → RestOf order section frames
+lines_begun : {order : Order} {section old new : Option (List ℕ)} {frames : List Frame} → RestOf order section frames
     → AppendsFront old new (flat_map unit_line frames) → HasBegun (AreUnitsTold order section old) old new
-lines_begun order section old new frames rest f =
+lines_begun {order} {section} {old} {new} {frames} rest f =
     let before = flat_map unit_line frames in
     let later = flat_map unit_line rest.more in
     let end = end_line rest.fault in
@@ -79,37 +79,30 @@ lines_begun order section old new frames rest f =
     }
 
 -- nothing more is written
-pub units_stopped : (order : Order) (start now old new : Option (List ℕ)) (of_reader : Order) (offset : ℕ)
+pub units_stopped : {order : Order} {start now old new : Option (List ℕ)} {of_reader : Order} {offset : ℕ}
     → FramesTold order start now old new of_reader offset → IfSome start AreBytes → HasBegun (AreUnitsTold order start old) old new
-units_stopped order start now old new of_reader offset told are =
-    lines_begun order start old new told.frames (rest_of order start now told.frames of_reader offset told.read are)
+units_stopped {order} {start} {now} {old} {new} told are =
+    lines_begun (rest_of start now told.read are)
     (front_all old new (flat_map unit_line told.frames) told.printed)
 
 -- of the line of a unit a front is written
-pub units_cut : (order : Order) (start mid now old then new : Option (List ℕ)) (of_reader next_order : Order) (offset after : ℕ)
-    (unit : BufferedUnit) (frame : Frame)
-    → next_order ≡ of_reader → FramesTold order start mid old then of_reader offset → IsNextUnit offset of_reader mid now unit
-    → after ≡ offset + length unit.bytes
-    → frame.offset ≡ unit.offset → frame_bytes unit.order frame.format frame.body.now ≡ unit.bytes → IsPlacedFrame unit.order frame
-    → AppendsFront then new (unit_line frame)
-    → IfSome start AreBytes → HasBegun (AreUnitsTold order start old) old new
-units_cut order start mid now old then new of_reader next_order offset after unit frame ordered told next at here bytes placed f are =
-    let frames = told.frames ++ frame ∷ [] in
+pub units_cut : {order : Order} {start mid now old then new : Option (List ℕ)} {of_reader next_order : Order} {offset after : ℕ}
+    {unit : BufferedUnit} {frame : Frame} → next_order ≡ of_reader → FramesTold order start mid old then of_reader offset
+    → IsNextFramed of_reader offset after mid now unit frame → AppendsFront then new (unit_line frame) → IfSome start AreBytes
+    → HasBegun (AreUnitsTold order start old) old new
+units_cut {start = start} {now = now} {old = old} {then = then} {new = new} {frame = frame} ordered told n f are =
     let before = flat_map unit_line told.frames in
-    let read = read_more order start mid now told.frames of_reader next_order offset after unit frame ordered told.read next at here bytes
-    placed in
-    lines_begun order start old new frames (rest_of order start now frames next_order after read are)
-    (front_same old new (before ++ unit_line frame) (flat_map unit_line frames) (line_joined told.frames frame)
-    (front_after old then new before (unit_line frame) told.printed f))
+    lines_begun (rest_of start now (read_more ordered told.read n) are)
+    (front_same old new (before ++ unit_line frame) (flat_map unit_line (told.frames ++ frame ∷ []))
+    (flat_push unit_line told.frames frame) (front_after old then new before (unit_line frame) told.printed f))
 
 -- of the line of the fault
-pub fault_cut : (order : Order) (start now old then new : Option (List ℕ)) (of_reader : Order) (offset : ℕ) (fault : Fault)
-    (printed : Result Status Halt)
-    → FramesTold order start now old then of_reader offset → SectionEndsBy offset of_reader now (Some fault)
-    → OnErr printed (AppendsFront then new (end_line (Some fault)))
+pub fault_cut : {order : Order} {start now old then : Option (List ℕ)} {of_reader : Order} {offset : ℕ} (new : Option (List ℕ))
+    (fault : Fault) (printed : Result Status Halt) → FramesTold order start now old then of_reader offset
+    → SectionEndsBy offset of_reader now (Some fault) → OnErr printed (AppendsFront then new (end_line (Some fault)))
     → OnErr printed (IfSome start AreBytes → HasBegun (AreUnitsTold order start old) old new)
-fault_cut order start now old then new of_reader offset fault (Ok status) told ends f = tt
-fault_cut order start now old then new of_reader offset fault (Err halt) told ends f =
+fault_cut new fault (Ok status) told ends f = tt
+fault_cut {order} {start} {now} {old} {then} new fault (Err halt) told ends f =
     let before = flat_map unit_line told.frames in
     let end = end_line (Some fault) in
     λ are. record {
@@ -118,7 +111,7 @@ fault_cut order start now old then new of_reader offset fault (Err halt) told en
       is_end = record {
         frames = told.frames;
         fault = Some fault;
-        so = frames_end order start now told.frames of_reader offset (Some fault) told.read ends;
+        so = frames_end start now (Some fault) told.read ends;
         printed = appends_known old (before ++ end);
         status_is = refl;
       };

@@ -18,6 +18,9 @@ use Rattle.lnt_unit.specs.Units.{IsNextUnit, SectionEndsBy, BufferedUnit}
 use Rattle.lnt_io.specs.declared.halt.Halt.{Halt}
 use Rattle.lnt_io.specs.declared.status.Status.{Status}
 use Rattle.lnt_io.specs.declared.status.Status.TheVariants.{No}
+use Rattle.lnt_dump.specs.Stepping.{IsNext}
+use Rattle.lnt_dump.specs.declared.units.Next.{Next}
+use Rattle.lnt_dump.specs.declared.units.Next.TheVariants.{Unit as NextUnit}
 use Rattle.lnt_dump.specs.Units.{AreUnitsTold, end_line, end_status, unit_line}
 
 -- The source gave the bytes of these frames, and the next byte stands at the offset.
@@ -32,10 +35,9 @@ pub record FramesTold (order : Order) (start now old new : Option (List ℕ)) (o
   pub read : FramesRead order start now frames of_reader offset
   pub printed : Appends old new (flat_map unit_line frames)
 
-pub frames_none : (order : Order) (start now old : Option (List ℕ)) (of_reader : Order) (offset : ℕ) → of_reader ≡ order → offset ≡ 0
-    → now ≡ start
-    → FramesTold order start now old old of_reader offset
-frames_none order start now old of_reader offset ordered at same = record {
+pub frames_none : {order : Order} {start now old : Option (List ℕ)} {of_reader : Order} {offset : ℕ} → of_reader ≡ order → offset ≡ 0
+    → now ≡ start → FramesTold order start now old old of_reader offset
+frames_none {order} {start} {now} {old} {of_reader} {offset} ordered at same = record {
   frames = [];
   read = record {
     front = [];
@@ -46,11 +48,11 @@ frames_none order start now old of_reader offset ordered at same = record {
 }
 
 -- the frames of the bytes with one frame more
-frames_push : (order : Order) (frames : List Frame) (frame : Frame) (front more : List ℕ) (of_reader : Order) (offset after : ℕ)
-    → FramesSoFar order front frames (record { place = offset; rest = []; order = of_reader })
-    → frame.offset ≡ offset → IsFrame of_reader frame more → after ≡ offset + length more
+frames_push : {order : Order} {frames : List Frame} {frame : Frame} {front more : List ℕ} {of_reader : Order} {offset after : ℕ}
+    → FramesSoFar order front frames (record { place = offset; rest = []; order = of_reader }) → frame.offset ≡ offset
+    → IsFrame of_reader frame more → after ≡ offset + length more
     → FramesSoFar order (front ++ more) (frames ++ frame ∷ []) (record { place = after; rest = []; order = of_reader })
-frames_push order frames frame front more of_reader offset after so_far here is at =
+frames_push {order} {frames} {frame} {front} {more} {of_reader} {offset} {after} so_far here is at =
     let old : At = record { place = offset; rest = more; order = of_reader } in
     let new : At = record { place = after; rest = []; order = of_reader } in
     let whole : front ≡ so_far.front = so_far.whole ∙ append-nil so_far.front in
@@ -64,62 +66,59 @@ frames_push order frames frame front more of_reader offset after so_far here is 
     })
     (record { spelling = more; spelled = is; whole = sym (append-nil more); place = at; order = refl }) here
 
--- the lines with one line more
-pub line_joined : (frames : List Frame) (frame : Frame)
-    → flat_map unit_line frames ++ unit_line frame ≡ flat_map unit_line (frames ++ frame ∷ [])
-line_joined frames frame = sym (flat_map-append unit_line frames (frame ∷ [])
-    ∙ ap (λ (z : List ℕ). flat_map unit_line frames ++ z) (append-nil (unit_line frame)))
+-- the lines with those of one item more
+pub flat_push : {X : Type 0} (lines : X → List ℕ) (xs : List X) (x : X) → flat_map lines xs ++ lines x ≡ flat_map lines (xs ++ x ∷ [])
+flat_push lines xs x =
+    sym (flat_map-append lines xs (x ∷ []) ∙ ap (λ (z : List ℕ). flat_map lines xs ++ z) (append-nil (lines x)))
 
-line_more : (frames : List Frame) (frame : Frame) (old now new : Option (List ℕ)) → Appends old now (flat_map unit_line frames)
-    → Appends now new (unit_line frame)
-    → Appends old new (flat_map unit_line (frames ++ frame ∷ []))
-line_more frames frame old now new before here =
-    subst (Appends old new) (line_joined frames frame)
-    (Appends-trans old now new (flat_map unit_line frames) (unit_line frame) before here)
+-- A unit that comes next, and its frame.
+pub record IsNextFramed (of_reader : Order) (offset after : ℕ) (mid now : Option (List ℕ)) (unit : BufferedUnit) (frame : Frame) : Type 0
+  where
+    pub next : IsNextUnit offset of_reader mid now unit
+    pub after_is : after ≡ offset + length unit.bytes
+    pub offset_is : frame.offset ≡ unit.offset
+    pub bytes_are : frame_bytes unit.order frame.format frame.body.now ≡ unit.bytes
+    pub placed : IsPlacedFrame unit.order frame
 
-framed : (order : Order) (unit : BufferedUnit) (frame : Frame) → unit.order ≡ order
-    → frame_bytes unit.order frame.format frame.body.now ≡ unit.bytes → IsPlacedFrame unit.order frame → IsFrame order frame unit.bytes
-framed order unit frame ordered bytes placed =
-    subst (λ (o : Order). IsFrame o frame unit.bytes) ordered (subst (λ (z : List ℕ). IsFrame unit.order frame z) bytes placed.is)
+pub next_framed : {of_reader : Order} {offset after : ℕ} {mid now : Option (List ℕ)} {comes : Next} {unit : BufferedUnit} {frame : Frame}
+    → comes ≡ NextUnit unit → IsNext offset after of_reader mid now comes → frame.offset ≡ unit.offset
+    → frame_bytes unit.order frame.format frame.body.now ≡ unit.bytes → IsPlacedFrame unit.order frame
+    → IsNextFramed of_reader offset after mid now unit frame
+next_framed {of_reader} {offset} {after} {mid} {now} is comes at bytes placed =
+    let next = subst (IsNext offset after of_reader mid now) is comes in
+    record { next = next.0; after_is = next.1; offset_is = at; bytes_are = bytes; placed = placed }
 
 -- the frame of a unit that the source gave
-pub read_more : (order : Order) (start mid now : Option (List ℕ)) (frames : List Frame) (of_reader next_order : Order) (offset after : ℕ)
-    (unit : BufferedUnit) (frame : Frame)
-    → next_order ≡ of_reader → FramesRead order start mid frames of_reader offset → IsNextUnit offset of_reader mid now unit
-    → after ≡ offset + length unit.bytes
-    → frame.offset ≡ unit.offset → frame_bytes unit.order frame.format frame.body.now ≡ unit.bytes → IsPlacedFrame unit.order frame
-    → FramesRead order start now (frames ++ frame ∷ []) next_order after
-read_more order start mid now frames of_reader next_order offset after unit frame ordered read next at here bytes placed =
+pub read_more : {order : Order} {start mid now : Option (List ℕ)} {frames : List Frame} {of_reader next_order : Order} {offset after : ℕ}
+    {unit : BufferedUnit} {frame : Frame} → next_order ≡ of_reader → FramesRead order start mid frames of_reader offset
+    → IsNextFramed of_reader offset after mid now unit frame → FramesRead order start now (frames ++ frame ∷ []) next_order after
+read_more {order} {start} {mid} {now} {frames} {of_reader} {next_order} {offset} {after} {unit} {frame} ordered read n =
+    let is : IsFrame of_reader frame unit.bytes = subst (λ (o : Order). IsFrame o frame unit.bytes) n.next.order_is
+    (subst (λ (z : List ℕ). IsFrame unit.order frame z) n.bytes_are n.placed.is) in
     subst (λ (o : Order). FramesRead order start now (frames ++ frame ∷ []) o after) (sym ordered) (record {
       front = read.front ++ unit.bytes;
-      so_far =
-          frames_push order frames frame read.front unit.bytes of_reader offset after read.so_far (here ∙ next.offset_is)
-          (framed of_reader unit frame next.order_is bytes placed) at;
-      pulls = pulls_append start mid now read.front unit.bytes read.pulls next.pulls;
+      so_far = frames_push read.so_far (n.offset_is ∙ n.next.offset_is) is n.after_is;
+      pulls = pulls_append start mid now read.front unit.bytes read.pulls n.next.pulls;
     })
 
 -- and its line was printed
-pub frames_more : (order : Order) (start mid now old then new : Option (List ℕ)) (of_reader next_order : Order) (offset after : ℕ)
-    (unit : BufferedUnit) (frame : Frame)
-    → next_order ≡ of_reader → FramesTold order start mid old then of_reader offset → IsNextUnit offset of_reader mid now unit
-    → after ≡ offset + length unit.bytes
-    → frame.offset ≡ unit.offset → frame_bytes unit.order frame.format frame.body.now ≡ unit.bytes → IsPlacedFrame unit.order frame
-    → Appends then new (unit_line frame)
+pub frames_more : {order : Order} {start mid now old then new : Option (List ℕ)} {of_reader next_order : Order} {offset after : ℕ}
+    {unit : BufferedUnit} {frame : Frame} → next_order ≡ of_reader → FramesTold order start mid old then of_reader offset
+    → IsNextFramed of_reader offset after mid now unit frame → Appends then new (unit_line frame)
     → FramesTold order start now old new next_order after
-frames_more order start mid now old then new of_reader next_order offset after unit frame ordered told next at here bytes placed printed =
-    record {
-      frames = told.frames ++ frame ∷ [];
-      read = read_more order start mid now told.frames of_reader next_order offset after unit frame ordered told.read next at here bytes
-          placed;
-      printed = line_more told.frames frame old then new told.printed printed;
-    }
+frames_more {old = old} {then = then} {new = new} {frame = frame} ordered told n printed = record {
+  frames = told.frames ++ frame ∷ [];
+  read = read_more ordered told.read n;
+  printed = subst (Appends old new) (flat_push unit_line told.frames frame)
+      (Appends-trans old then new (flat_map unit_line told.frames) (unit_line frame) told.printed printed);
+}
 
-pub frames_end : (order : Order) (start now : Option (List ℕ)) (frames : List Frame) (of_reader : Order) (offset : ℕ) (fault : Option Fault)
+pub frames_end : {order : Order} {frames : List Frame} {of_reader : Order} {offset : ℕ} (start now : Option (List ℕ)) (fault : Option Fault)
     → FramesRead order start now frames of_reader offset → SectionEndsBy offset of_reader now fault
     → IfSome start (λ bytes. AreFrames order bytes frames fault)
-frames_end order None now frames of_reader offset fault read ends = tt
-frames_end order (Some bytes) None frames of_reader offset fault read ends = absurd read.pulls
-frames_end order (Some bytes) (Some rest) frames of_reader offset fault read ends =
+frames_end None now fault read ends = tt
+frames_end (Some bytes) None fault read ends = absurd read.pulls
+frames_end {of_reader = of_reader} (Some bytes) (Some rest) fault read ends =
     let so_far = read.so_far in
     record {
       front = so_far.front;
@@ -132,25 +131,22 @@ frames_end order (Some bytes) (Some rest) frames of_reader offset fault read end
     }
 
 -- the section ends
-pub frames_all : (order : Order) (start now old then new : Option (List ℕ)) (of_reader : Order) (offset : ℕ) (fault : Option Fault)
-    (status : Status)
-    → FramesTold order start now old then of_reader offset → SectionEndsBy offset of_reader now fault → Appends then new (end_line fault)
-    → status ≡ end_status fault
-    → AreUnitsTold order start old new status
-frames_all order start now old then new of_reader offset fault status told ends printed ended = record {
+pub frames_all : {order : Order} {start now old then new : Option (List ℕ)} {of_reader : Order} {offset : ℕ} {status : Status}
+    (fault : Option Fault) → FramesTold order start now old then of_reader offset → SectionEndsBy offset of_reader now fault
+    → Appends then new (end_line fault) → status ≡ end_status fault → AreUnitsTold order start old new status
+frames_all {order} {start} {now} {old} {then} {new} fault told ends printed ended = record {
   frames = told.frames;
   fault = fault;
-  so = frames_end order start now told.frames of_reader offset fault told.read ends;
+  so = frames_end start now fault told.read ends;
   printed = Appends-trans old then new (flat_map unit_line told.frames) (end_line fault) told.printed printed;
   status_is = ended;
 }
 
 -- by the line of a fault, if it could be printed
-pub frames_faulty : (order : Order) (start now old then new : Option (List ℕ)) (of_reader : Order) (offset : ℕ) (fault : Fault)
-    (printed : Result Status Halt)
-    → FramesTold order start now old then of_reader offset → SectionEndsBy offset of_reader now (Some fault)
-    → IfOk printed (λ status. status ≡ No)
+pub frames_faulty : {order : Order} {start now old then : Option (List ℕ)} {of_reader : Order} {offset : ℕ} (new : Option (List ℕ))
+    (fault : Fault) (printed : Result Status Halt) → FramesTold order start now old then of_reader offset
+    → SectionEndsBy offset of_reader now (Some fault) → IfOk printed (λ status. status ≡ No)
     → OnOk printed (Appends then new (end_line (Some fault))) → IfOk printed (λ status. AreUnitsTold order start old new status)
-frames_faulty order start now old then new of_reader offset fault (Ok status) told ends refused line =
-    frames_all order start now old then new of_reader offset (Some fault) status told ends line refused
-frames_faulty order start now old then new of_reader offset fault (Err halt) told ends refused line = line
+frames_faulty new fault (Ok status) told ends refused line =
+    frames_all (Some fault) told ends line refused
+frames_faulty new fault (Err halt) told ends refused line = line

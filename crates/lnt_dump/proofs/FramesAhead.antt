@@ -66,19 +66,14 @@ record NumberAhead (size : ℕ) (at : At) : Type 0 where
   number : ℕ
   read : Reads (NumberBytes at.order size) number at (past size at)
 
-number_4 : (at : At) → AreBytes at.rest → 4 ≤ length at.rest → NumberAhead 4 at
-number_4 at are le =
-    let bytes = take 4 at.rest in
-    let n = number_in at.order 4 bytes in
-    let spelled = number_read_4 at.order n bytes (length-take-le 4 at.rest le) (first_items 4 at.rest are) refl in
-    record { number = n; read = reads_front (NumberBytes at.order 4) n 4 at le spelled }
-
-number_8 : (at : At) → AreBytes at.rest → 8 ≤ length at.rest → NumberAhead 8 at
-number_8 at are le =
-    let bytes = take 8 at.rest in
-    let n = number_in at.order 8 bytes in
-    let spelled = number_read_8 at.order n bytes (length-take-le 8 at.rest le) (first_items 8 at.rest are) refl in
-    record { number = n; read = reads_front (NumberBytes at.order 8) n 8 at le spelled }
+number_ahead : (size : ℕ) (at : At)
+    → ((order : Order) (n : ℕ) (bytes : List ℕ) → length bytes ≡ size → AreItems bytes → n ≡ number_in order size bytes
+    → NumberBytes order size n bytes) → AreBytes at.rest → size ≤ length at.rest → NumberAhead size at
+number_ahead size at spells are le =
+    let bytes = take size at.rest in
+    let n = number_in at.order size bytes in
+    let spelled = spells at.order n bytes (length-take-le size at.rest le) (first_items size at.rest are) refl in
+    record { number = n; read = reads_front (NumberBytes at.order size) n size at le spelled }
 
 -- ---- the initial length
 
@@ -150,7 +145,7 @@ cut at ahead first r high short =
 wide_ahead : (at : At) → (n : NumberAhead 4 at) → 0xffffffff ≤ n.number → AreBytes (past 4 at).rest → InitialAhead at ⊎ NoInitial at
 wide_ahead at n high are = elim (cases_lt (length (past 4 at).rest) 8) [
   | inl short ↦ inr (cut at (past 4 at) n.number n.read high short)
-  | inr le ↦ let m = number_8 (past 4 at) are le in
+  | inr le ↦ let m = number_ahead 8 (past 4 at) number_read_8 are le in
       inl (wide at (past 4 at) (past 8 (past 4 at)) n.number m.number n.read high m.read)
 ]
 
@@ -167,7 +162,7 @@ initial_ahead : (at : At) → AreBytes at.rest → InitialAhead at ⊎ NoInitial
 initial_ahead at are = elim (cases_lt (length at.rest) 4) [
   | inl short ↦ let so : IsCutFrame at.order at.rest = no_length short in
       inr (record { reason = Truncated; so = so })
-  | inr le ↦ let n = number_4 at are le in
+  | inr le ↦ let n = number_ahead 4 at number_read_4 are le in
       long_ahead at n (bytes_after n.read.spelling (past 4 at).rest at.rest n.read.whole are)
 ]
 

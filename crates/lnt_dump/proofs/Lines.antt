@@ -1,7 +1,6 @@
 -- Lines that are counted, and pieces of hexadecimal digits.
 use Rattle.std.proofs.Common.{◌≡◌, ◌∙◌, ℕ, ◌+◌, ◌<◌, List, [], ◌∷◌, ◌++◌, length, drop, Option, Result, Ok, Err, OnOk}
-use Rattle.std.proofs.Common.{refl, sym, ap, subst, append_assoc, append-nil, take-append-drop, arith, take, get_or}
-use Rattle.std.proofs.lemmas.List.{length-take-le, take_more}
+use Rattle.std.proofs.Common.{refl, sym, ap, subst, append_assoc, append-nil, take-append-drop, arith}
 use Rattle.std.proofs.KnownBytes.{Appends-nil, Appends-trans}
 use Rattle.std.specs.Io.KnownBytes.{Appends}
 use Rattle.std.specs.List.{IsSplitAt}
@@ -61,14 +60,6 @@ digits_all (Ok done) bytes rest old now new is printed =
     sym (digits_join _ is.front rest) ∙ ap encode_lower (sym is.joined) in
     subst (Appends old new) text (Appends-trans old now new (encode_lower is.front) (encode_lower rest) is.told printed)
 digits_all (Err error) bytes rest old now new is printed = printed
-
--- the lines of the first k items, and the next one
-pub numbered_next : {X : Type 0} (line : ℕ → X → List ℕ) (xs : List X) (k : ℕ) (x : X) → k < length xs → x ≡ get_or xs k x
-    → numbered line 0 (take k xs) ++ line k x ≡ numbered line 0 (take (k + 1) xs)
-numbered_next {X = X} line xs k x more is =
-    let count : k ≡ 0 + length (take k xs) = omega (arith, length-take-le k xs (omega (arith, more))) in
-    ap (λ (n : ℕ). numbered line 0 (take k xs) ++ line n x) count ∙ sym (numbered_push line 0 (take k xs) x)
-    ∙ ap (λ (y : X). numbered line 0 (take k xs ++ y ∷ [])) is ∙ ap (numbered line 0) (sym (take_more xs k x more))
 
 -- the lines of the first items begin those of all
 pub numbered_front : {X : Type 0} (line : ℕ → X → List ℕ) (first : ℕ) (xs ys : List X)

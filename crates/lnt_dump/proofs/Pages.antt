@@ -1,12 +1,15 @@
 -- Text that is written page by page.
-use Rattle.std.proofs.Common.{◌≡◌, ◌∙◌, ℕ, Bool, true, false, cond, List, [], ◌++◌, Option, refl, sym, ap, append_assoc, append-nil, subst}
-use Rattle.std.proofs.Common.{Result, Ok, Err, OnOk, OnErr}
+use Rattle.std.proofs.Common.{◌≡◌, ◌∙◌, ℕ, ◌+◌, ◌<◌, Bool, true, false, cond, List, [], ◌∷◌, ◌++◌, length, take, drop, get_or, Option}
+use Rattle.std.proofs.Common.{refl, sym, ap, append_assoc, append-nil, subst, arith, take-append-drop, Result, Ok, Err, OnOk, OnErr}
+use Rattle.std.proofs.lemmas.List.{length-take-le, take_more}
 use Rattle.std.proofs.lemmas.Bool.{true≢false}
 use Rattle.std.proofs.KnownBytes.{Appends-nil, Appends-trans}
 use Rattle.std.specs.Io.KnownBytes.{Appends}
 use Rattle.lnt_io.specs.Fronts.{AppendsFront}
 use Rattle.lnt_io.proofs.FrontLaws.{front_after, front_before, front_same}
+use Rattle.lnt_dump.specs.Numbered.{numbered}
 use Rattle.lnt_dump.specs.Stepping.{IsPaged}
+use Rattle.lnt_dump.proofs.Lines.{numbered_front, numbered_push}
 
 -- nothing was written
 pub paged_kept : (page : List ℕ) (out : Option (List ℕ)) → IsPaged page out out page
@@ -56,12 +59,72 @@ paged_cut text page old now new p f =
 pub paged_kept_front : (text page : List ℕ) (old now : Option (List ℕ)) → IsPaged text old now page → AppendsFront old now text
 paged_kept_front text page old now p = record { front = p.written; rest = page; joined = sym p.joined; gained = p.gained }
 
+-- nothing is added
+pub paged_none : (page : List ℕ) (out : Option (List ℕ)) → IsPaged (page ++ []) out out page
+paged_none page out = record { written = []; gained = Appends-nil out; joined = append-nil page }
+
 -- no more text was asked for
 pub paged_unshown : (shows : Bool) (text page : List ℕ) (out : Option (List ℕ)) → shows ≡ false
     → IsPaged (page ++ cond shows text []) out out page
 paged_unshown true text page out e = absurd (true≢false e)
-paged_unshown false text page out e =
-    record { written = []; gained = Appends-nil out; joined = append-nil page }
+paged_unshown false text page out e = paged_none page out
+
+-- ---- lines that are counted, after the text before them
+
+module _ {X : Type 0} (line : ℕ → X → List ℕ) (before : List ℕ) where
+  pushed : (list : List X) (index : ℕ) (x : X) → index ≡ length list
+      → (before ++ numbered line 0 list) ++ line index x ≡ before ++ numbered line 0 (list ++ x ∷ [])
+  pushed list index x is =
+      let count : index ≡ 0 + length list = omega (arith, is) in
+      append_assoc before (numbered line 0 list) (line index x)
+      ∙ ap (λ (z : List ℕ). before ++ z) (ap (λ (n : ℕ). numbered line 0 list ++ line n x) count ∙ sym (numbered_push line 0 list x))
+
+  -- one line more was printed
+  pub told_more : (list : List X) (x : X) {next : List X} {index : ℕ} {page left : List ℕ} {old now new : Option (List ℕ)}
+      → index ≡ length list → next ≡ list ++ x ∷ [] → IsPaged (before ++ numbered line 0 list) old now page
+      → IsPaged (page ++ line index x) now new left → IsPaged (before ++ numbered line 0 next) old new left
+  told_more list x {next} {index} {page} {left} {old} {now} {new} is next_is told here =
+      subst (λ (z : List ℕ). IsPaged z old new left)
+      (pushed list index x is ∙ ap (λ (xs : List X). before ++ numbered line 0 xs) (sym next_is))
+      (paged_more (before ++ numbered line 0 list) (line index x) page left old now new told here)
+
+  -- the lines of the first items begin those of all
+  pub told_front : (list more : List X) {all : List X} {old new : Option (List ℕ)} → all ≡ list ++ more
+      → AppendsFront old new (before ++ numbered line 0 list) → AppendsFront old new (before ++ numbered line 0 all)
+  told_front list more {all} {old} {new} is f =
+      let front = numbered_front line 0 list more in
+      let first = before ++ numbered line 0 list in
+      front_same old new (first ++ front.0) (before ++ numbered line 0 all)
+      (append_assoc before (numbered line 0 list) front.0
+      ∙ ap (λ (z : List ℕ). before ++ z) (sym front.1 ∙ ap (numbered line 0) (sym is)))
+      (front_before old new first front.0 f)
+
+  -- of one line more a front was written
+  pub told_cut : (list more : List X) (x : X) {all : List X} {index : ℕ} {page : List ℕ} {old now new : Option (List ℕ)}
+      → index ≡ length list → all ≡ (list ++ x ∷ []) ++ more → IsPaged (before ++ numbered line 0 list) old now page
+      → AppendsFront now new (page ++ line index x) → AppendsFront old new (before ++ numbered line 0 all)
+  told_cut list more x {all} {index} {page} {old} {now} {new} is all_is told f =
+      let first = before ++ numbered line 0 list in
+      told_front (list ++ x ∷ []) more all_is
+      (front_same old new (first ++ line index x) (before ++ numbered line 0 (list ++ x ∷ [])) (pushed list index x is)
+      (paged_front first (line index x) page old now new told f))
+
+  taken : (xs : List X) (k : ℕ) (x : X) → k < length xs → x ≡ get_or xs k x → take (k + 1) xs ≡ take k xs ++ x ∷ []
+  taken xs k x lt is = take_more xs k x lt ∙ ap (λ (y : X). take k xs ++ y ∷ []) (sym is)
+
+  -- where the lines are those of the first k items
+  pub told_next : (xs : List X) (k : ℕ) (x : X) {page left : List ℕ} {old now new : Option (List ℕ)} → k < length xs → x ≡ get_or xs k x
+      → IsPaged (before ++ numbered line 0 (take k xs)) old now page → IsPaged (page ++ line k x) now new left
+      → IsPaged (before ++ numbered line 0 (take (k + 1) xs)) old new left
+  told_next xs k x lt is told here =
+      told_more (take k xs) x (sym (length-take-le k xs (omega (arith, lt)))) (taken xs k x lt is) told here
+
+  pub told_next_cut : (xs : List X) (k : ℕ) (x : X) {page : List ℕ} {old now new : Option (List ℕ)} → k < length xs → x ≡ get_or xs k x
+      → IsPaged (before ++ numbered line 0 (take k xs)) old now page → AppendsFront now new (page ++ line k x)
+      → AppendsFront old new (before ++ numbered line 0 xs)
+  told_next_cut xs k x lt is told f =
+      told_cut (take k xs) (drop (k + 1) xs) x (sym (length-take-le k xs (omega (arith, lt))))
+      (sym (take-append-drop (k + 1) xs) ∙ ap (λ (z : List X). z ++ drop (k + 1) xs) (taken xs k x lt is)) told f
 
 -- ---- the text of a unit in its three parts, of which the first stands on the page
 

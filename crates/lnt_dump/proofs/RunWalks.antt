@@ -1,15 +1,13 @@
 -- The program of a valid unit, run operation by operation, and the lines of its rows.
 use Rattle.std.proofs.Common.{◌≡◌, ◌∙◌, ℕ, zero, suc, ◌+◌, ◌^◌, ◌<◌, ◌≤◌, Bool, true, false, List, [], ◌∷◌, ◌++◌}
 use Rattle.std.proofs.Common.{length, take, drop, get_or, refl}
-use Rattle.std.proofs.Common.{sym, ap, subst, arith, append-nil, append_assoc, take_all, take-append-drop}
+use Rattle.std.proofs.Common.{sym, ap, subst, arith, append-nil, take_all, take-append-drop}
 use Rattle.std.specs.Prelude.{Option, Some, None, not}
 use Rattle.lnt_wire.specs.declared.fault.Fault.{Fault}
 use Rattle.std.proofs.lemmas.Bool.{true≢false}
 use Rattle.std.specs.List.{cons_option}
-use Rattle.std.proofs.KnownBytes.{Appends-nil}
 use Rattle.std.proofs.lemmas.List.{length-append, length-take-le, take_more}
 use Rattle.lnt_io.specs.Fronts.{AppendsFront}
-use Rattle.lnt_io.proofs.FrontLaws.{front_before, front_same}
 use Rattle.lnt_header.specs.HeaderNumbers.{without_entries}
 use Rattle.lnt_header.specs.HeaderRules.{IsHeader}
 use Rattle.lnt_header.specs.OpRules.{Admits, StandsFor}
@@ -40,9 +38,8 @@ use Rattle.lnt_dump.specs.Numbered.{numbered}
 use Rattle.lnt_dump.specs.Rows.{row_line}
 use Rattle.lnt_machine.specs.declared.fault.RowFault.TheVariants.{Run}
 use Rattle.lnt_dump.specs.Stepping.{IsFaultOf, IsPaged, IsSound, IsUnitOf}
-use Rattle.lnt_dump.proofs.Lines.{numbered_front, numbered_push}
-use Rattle.lnt_dump.proofs.Pages.{paged_front, paged_more}
-use Rattle.lnt_dump.proofs.UnitWalks.{StandsAt, stands_fails, stands_last, stands_first, stands_next, stands_room, unit_of}
+use Rattle.lnt_dump.proofs.Pages.{paged_none, told_cut, told_more}
+use Rattle.lnt_dump.proofs.UnitWalks.{IsNextAt, StandsAt, stands_last, stands_first, stands_next, stands_room, unit_of}
 
 -- ---- the run
 
@@ -106,10 +103,10 @@ cut_next all left ended was_open (Some row) cut is = by_end row.end_sequence ref
     }
 
 -- the rows of one operation more
-rows_taken : (unit : UnitParts) (k : ℕ) (run run' : RunState) (item : OpView) (made : Option Row) (op : Op) → RanTo unit k run
+rows_taken : {unit : UnitParts} {k : ℕ} {run run' : RunState} {item : OpView} {made : Option Row} {op : Op} → RanTo unit k run
     → k < length unit.ops → op ≡ get_or unit.ops k op → StandsFor item op → RunsOn item run run' made
     → rows_after unit.header [] (take k unit.ops) ++ cons_option made [] ≡ rows_after unit.header [] (take (k + 1) unit.ops)
-rows_taken unit k run run' item made op r more is stands on =
+rows_taken {unit} {k} {run} {run'} {item} {made} {op} r more is stands on =
     let h = unit.header in
     let back = done unit.ops k in
     let so_far = rows_after h [] (take k unit.ops) in
@@ -121,10 +118,10 @@ rows_taken unit k run run' item made op r more is stands on =
     ∙ ap (λ (o : Op). rows_after h [] (take k unit.ops ++ o ∷ [])) is
     ∙ ap (rows_after h []) (sym (take_more unit.ops k op more))
 
-ran_next : (unit : UnitParts) (k : ℕ) (run run' : RunState) (item : OpView) (made : Option Row) (op : Op) → RanTo unit k run
+ran_next : {unit : UnitParts} {k : ℕ} {run run' : RunState} {item : OpView} {made : Option Row} {op : Op} → RanTo unit k run
     → k < length unit.ops → k + 1 < 2 ^ 64 → op ≡ get_or unit.ops k op → StandsFor item op → RunsOn item run run' made
     → RanTo unit (k + 1) run'
-ran_next unit k run run' item made op r more few is stands on =
+ran_next {unit} {k} {run} {run'} {item} {made} {op} r more few is stands on =
     let back = done unit.ops k in
     let next : done unit.ops (k + 1) ≡ op ∷ back = done-more unit.ops k op more ∙ ap (λ (o : Op). o ∷ back) (sym is) in
     let after : StandsAfter run'.machine (done unit.ops (k + 1)) =
@@ -138,45 +135,44 @@ ran_next unit k run run' item made op r more few is stands on =
       lines = lines_more unit k r.lines (subst (λ (h : HeaderParts). IsLine (line h (done unit.ops (k + 1)))) header after.line);
       ended = cut.ended;
       left = cut.left;
-      cut = subst (λ (rows : List Row). IsCut rows cut.ended cut.left) (rows_taken unit k run run' item made op r more is stands on)
+      cut = subst (λ (rows : List Row). IsCut rows cut.ended cut.left) (rows_taken r more is stands on)
           cut.cut;
       open_is = on.open_is ∙ cut.open_is;
     }
 
 -- an operation that leads out of the range of lines
-ran_out : (unit : UnitParts) (k : ℕ) (run : RunState) (item : OpView) (op : Op) (fault : RunFault) → RanTo unit k run
+ran_out : {unit : UnitParts} {k : ℕ} {run : RunState} (item : OpView) {op : Op} {fault : RunFault} → RanTo unit k run
     → k < length unit.ops → op ≡ get_or unit.ops k op → StandsFor item op → LeavesRange item run.machine
     → fault ≡ LineOutOfRange run.machine.count → IsRunFault unit fault
-ran_out unit k run item op fault r more is stands leaves fault_is =
+ran_out {unit} {k} {run} item {op} {fault} r more is stands leaves fault_is =
     let back = done unit.ops k in
     let next : done unit.ops (k + 1) ≡ op ∷ back = done-more unit.ops k op more ∙ ap (λ (o : Op). o ∷ back) (sym is) in
     let out : IsLine (line unit.header (done unit.ops (k + 1))) → ⊥ =
-    λ fits. leaves back op r.stands stands
-    (subst (λ (h : HeaderParts). IsLine (line h (op ∷ back))) (sym r.header)
+    λ fits. leaves back op r.stands stands (subst (λ (h : HeaderParts). IsLine (line h (op ∷ back))) (sym r.header)
     (subst (λ (b : List Op). IsLine (line unit.header b)) next fits)) in
     subst (IsRunFault unit) (sym (fault_is ∙ ap LineOutOfRange r.count)) (more, r.lines, out)
 
 -- all operations were run
-lines_all : (unit : UnitParts) (k : ℕ) (run : RunState) → RanTo unit k run → length unit.ops ≤ k → LinesFit unit (length unit.ops)
-lines_all unit k run r all j le = r.lines j (omega (arith, all, le))
+lines_all : {unit : UnitParts} {k : ℕ} {run : RunState} → RanTo unit k run → length unit.ops ≤ k → LinesFit unit (length unit.ops)
+lines_all {unit} {k} {run} r all j le = r.lines j (omega (arith, all, le))
 
-cut_all : (unit : UnitParts) (k : ℕ) (run : RunState) → (r : RanTo unit k run) → length unit.ops ≤ k → IsCut (rows unit) r.ended r.left
-cut_all unit k run r all =
+cut_all : {unit : UnitParts} {k : ℕ} {run : RunState} → (r : RanTo unit k run) → length unit.ops ≤ k → IsCut (rows unit) r.ended r.left
+cut_all {unit} {k} {run} r all =
     subst (λ (ops : List Op). IsCut (rows_after unit.header [] ops) r.ended r.left) (take_all k unit.ops all) r.cut
 
-ran_whole : (unit : UnitParts) (k : ℕ) (run : RunState) → RanTo unit k run → length unit.ops ≤ k → run.is_open ≡ false → Runs unit
-ran_whole unit k run r all closed = record {
-  lines = lines_all unit k run r all;
-  closed = by_left r.left r.open_is (cut_all unit k run r all);
+ran_whole : {unit : UnitParts} {k : ℕ} {run : RunState} → RanTo unit k run → length unit.ops ≤ k → run.is_open ≡ false → Runs unit
+ran_whole {unit} {k} {run} r all closed = record {
+  lines = lines_all r all;
+  closed = by_left r.left r.open_is (cut_all r all);
 }
   where
     by_left : (left : List Row) → run.is_open ≡ are_some left → IsCut (rows unit) r.ended left → joined_rows (sequences unit) ≡ rows unit
     by_left [] e cut = cut_closed (rows unit) r.ended cut
     by_left (row ∷ left) e cut = absurd (true≢false (sym e ∙ closed))
 
-ran_open : (unit : UnitParts) (k : ℕ) (run : RunState) → RanTo unit k run → length unit.ops ≤ k → run.is_open ≡ true
+ran_open : {unit : UnitParts} {k : ℕ} {run : RunState} → RanTo unit k run → length unit.ops ≤ k → run.is_open ≡ true
     → IsRunFault unit OpenSequence
-ran_open unit k run r all opens = (lines_all unit k run r all, by_left r.left r.open_is (cut_all unit k run r all))
+ran_open {unit} {k} {run} r all opens = (lines_all r all, by_left r.left r.open_is (cut_all r all))
   where
     by_left : (left : List Row) → run.is_open ≡ are_some left → IsCut (rows unit) r.ended left
         → joined_rows (sequences unit) ≡ rows unit → ⊥
@@ -189,54 +185,10 @@ pub record IsRunning (view : View) (ops : List Op) (walk : Walk) (run : RunState
   pub at : StandsAt view ops k walk
   pub ran : RanTo (unit_of view ops) k run
 
-pub running_first : (view : View) (ops : List Op) (walk : Walk) (run : RunState) → StandsAt view ops 0 walk
+pub running_first : {view : View} {ops : List Op} {walk : Walk} {run : RunState} → StandsAt view ops 0 walk
     → run.machine.header ≡ without_entries view.header → HasDone run [] → run.machine.count ≡ 0 → IsRunning view ops walk run
-running_first view ops walk run s header has count =
+running_first {view} {ops} {walk} {run} s header has count =
     record { k = 0; at = s; ran = ran_first (unit_of view ops) run header has count }
-
--- what may be run
-pub running_allowed : (view : View) (ops : List Op) (walk walk' : Walk) (run : RunState) (item : OpView) → IsRunning view ops walk run
-    → GivesOperation item walk walk' → (op : Op) × StandsFor item op × Admits run.machine.header op
-running_allowed view ops walk walk' run item r step = (
-  step.gives.op,
-  step.gives.stands,
-  subst (λ (h : HeaderParts). Admits h step.gives.op) (r.at.left.header_is ∙ sym r.ran.header) step.gives.admitted,
-)
-
-pub running_next : (view : View) (ops : List Op) (walk walk' : Walk) (run run' : RunState) (item : OpView) (made : Option Row)
-    → IsHeader view.header → IsUnitView view → IsRunning view ops walk run → GivesOperation item walk walk' → RunsOn item run run' made
-    → IsRunning view ops walk' run'
-running_next view ops walk walk' run run' item made header is r step on =
-    let n = stands_next view ops r.k item walk walk' header r.at step in
-    record {
-      k = r.k + 1;
-      at = n.at;
-      ran = ran_next (unit_of view ops) r.k run run' item made n.op r.ran n.more
-          (stands_room view ops r.k item walk walk' is r.at step) n.is
-          n.stands on;
-    }
-
--- an operation that leads out of the range of lines
-pub running_out : (view : View) (ops : List Op) (walk walk' : Walk) (run : RunState) (item : OpView) (fault : RunFault)
-    → IsHeader view.header → IsRunning view ops walk run → GivesOperation item walk walk' → LeavesRange item run.machine
-    → fault ≡ LineOutOfRange run.machine.count → IsRunFault (with_ops view ops) fault
-running_out view ops walk walk' run item fault header r step leaves out =
-    let n = stands_next view ops r.k item walk walk' header r.at step in
-    (same_by_numbers.faults (with_ops view ops) fault).0
-    (ran_out (unit_of view ops) r.k run item n.op fault r.ran n.more n.is n.stands leaves out)
-
-pub running_whole : (view : View) (ops : List Op) (walk walk' : Walk) (run : RunState) → IsRunning view ops walk run → Ends walk walk'
-    → run.is_open ≡ false → Runs (with_ops view ops)
-running_whole view ops walk walk' run r ends closed =
-    (same_by_numbers.runs (with_ops view ops)).0
-    (ran_whole (unit_of view ops) r.k run r.ran (stands_last view ops r.k walk walk' r.at ends) closed)
-
-pub running_open : (view : View) (ops : List Op) (walk walk' : Walk) (run : RunState) (fault : RunFault) → IsRunning view ops walk run
-    → Ends walk walk' → run.is_open ≡ true → fault ≡ OpenSequence → IsRunFault (with_ops view ops) fault
-running_open view ops walk walk' run fault r ends opens is =
-    subst (IsRunFault (with_ops view ops)) (sym is)
-    ((same_by_numbers.faults (with_ops view ops) OpenSequence).0
-    (ran_open (unit_of view ops) r.k run r.ran (stands_last view ops r.k walk walk' r.at ends) opens))
 
 -- where the program runs, no operation leads out of the range
 no_fault : (unit : UnitParts) (fault : RunFault) (k : ℕ) → fault ≡ LineOutOfRange k → Runs unit → IsRunFault unit fault → ⊥
@@ -244,17 +196,52 @@ no_fault unit fault k is runs out =
     let f = subst (IsRunFault unit) is out in
     f.2 (runs.lines (k + 1) (omega (arith, f.0)))
 
-pub running_in : (view : View) (ops : List Op) (walk walk' : Walk) (run : RunState) (item : OpView) (fault : RunFault)
-    → IsHeader view.header → IsRunning view ops walk run → GivesOperation item walk walk' → Runs (with_ops view ops)
-    → LeavesRange item run.machine → fault ≡ LineOutOfRange run.machine.count → ⊥
-running_in view ops walk walk' run item fault header r step runs leaves out =
-    no_fault (with_ops view ops) fault run.machine.count out runs (running_out view ops walk walk' run item fault header r step leaves out)
-
--- ---- the lines of rows
-
 -- the rows of the first k operations
 abbrev so_far : View → List Op → ℕ → List Row
 so_far view ops k = rows_after (without_entries view.header) [] (take k ops)
+
+-- the next operation
+module _ {view : View} {ops : List Op} {walk walk' : Walk} {run : RunState} {item : OpView} (header : IsHeader view.header)
+    (r : IsRunning view ops walk run) (step : GivesOperation item walk walk') where
+  -- what may be run
+  pub running_allowed : (op : Op) × StandsFor item op × Admits run.machine.header op
+  running_allowed =
+      let admits = subst (λ (h : HeaderParts). Admits h step.gives.op) (r.at.left.header_is ∙ sym r.ran.header) step.gives.admitted in
+      (step.gives.op, step.gives.stands, admits)
+
+  next : IsNextAt view ops r.k item walk'
+  next = stands_next header r.at step
+
+  pub running_next : {run' : RunState} {made : Option Row} → IsUnitView view → RunsOn item run run' made → IsRunning view ops walk' run'
+  running_next is on =
+      record { k = r.k + 1; at = next.at; ran = ran_next r.ran next.more (stands_room is r.at step) next.is next.stands on }
+
+  -- it leads out of the range of lines
+  pub running_out : {fault : RunFault} → LeavesRange item run.machine → fault ≡ LineOutOfRange run.machine.count
+      → IsRunFault (with_ops view ops) fault
+  running_out {fault} leaves out =
+      (same_by_numbers.faults (with_ops view ops) fault).0 (ran_out item r.ran next.more next.is next.stands leaves out)
+
+  pub running_in : {fault : RunFault} → Runs (with_ops view ops) → LeavesRange item run.machine → fault ≡ LineOutOfRange run.machine.count
+      → ⊥
+  running_in {fault} runs leaves out = no_fault (with_ops view ops) fault run.machine.count out runs (running_out leaves out)
+
+  rows_next : {run' : RunState} {made : Option Row} → RunsOn item run run' made
+      → so_far view ops (r.k + 1) ≡ so_far view ops r.k ++ cons_option made []
+  rows_next on = sym (rows_taken r.ran next.more next.is next.stands on)
+
+pub running_whole : {view : View} {ops : List Op} {walk walk' : Walk} {run : RunState} → IsRunning view ops walk run → Ends walk walk'
+    → run.is_open ≡ false → Runs (with_ops view ops)
+running_whole {view} {ops} {walk} {walk'} {run} r ends closed =
+    (same_by_numbers.runs (with_ops view ops)).0 (ran_whole r.ran (stands_last r.at ends) closed)
+
+pub running_open : {view : View} {ops : List Op} {walk walk' : Walk} {run : RunState} {fault : RunFault} → IsRunning view ops walk run
+    → Ends walk walk' → run.is_open ≡ true → fault ≡ OpenSequence → IsRunFault (with_ops view ops) fault
+running_open {view} {ops} {walk} {walk'} {run} {fault} r ends opens is =
+    subst (IsRunFault (with_ops view ops)) (sym is) ((same_by_numbers.faults (with_ops view ops) OpenSequence).0
+    (ran_open r.ran (stands_last r.at ends) opens))
+
+-- ---- the lines of rows
 
 -- The lines of this many rows were printed, after the text before them: those of the operations that the walk gave.
 pub record RowsTold (view : View) (ops : List Op) (index : ℕ) (walk : Walk) (run : RunState) (before page : List ℕ)
@@ -263,134 +250,96 @@ pub record RowsTold (view : View) (ops : List Op) (index : ℕ) (walk : Walk) (r
   pub index_is : index ≡ length (so_far view ops running.k)
   pub told : IsPaged (before ++ numbered row_line 0 (so_far view ops running.k)) old now page
 
-pub rows_none : (view : View) (ops : List Op) (walk : Walk) (run : RunState) (page : List ℕ) (out : Option (List ℕ))
+pub rows_none : {view : View} {ops : List Op} {walk : Walk} {run : RunState} (page : List ℕ) (out : Option (List ℕ))
     → StandsAt view ops 0 walk → run.machine.header ≡ without_entries view.header → HasDone run [] → run.machine.count ≡ 0
     → RowsTold view ops 0 walk run page page out out
 unfolding running_first
-rows_none view ops walk run page out s header has count = record {
-  running = running_first view ops walk run s header has count;
+rows_none {view} {ops} {walk} {run} page out s header has count = record {
+  running = running_first s header has count;
   index_is = refl;
-  told = record { written = []; gained = Appends-nil out; joined = append-nil page };
+  told = paged_none page out;
 }
 
--- the rows of one operation more
-rows_next : (view : View) (ops : List Op) (walk walk' : Walk) (run run' : RunState) (item : OpView) (made : Option Row)
-    → IsHeader view.header → (r : IsRunning view ops walk run) → GivesOperation item walk walk' → RunsOn item run run' made
-    → so_far view ops (r.k + 1) ≡ so_far view ops r.k ++ cons_option made []
-rows_next view ops walk walk' run run' item made header r step on =
-    let n = stands_next view ops r.k item walk walk' header r.at step in
-    sym (rows_taken (unit_of view ops) r.k run run' item made n.op r.ran n.more n.is n.stands on)
-
--- an operation without a row
-pub rows_quiet : (view : View) (ops : List Op) (index : ℕ) (walk walk' : Walk) (run run' : RunState) (item : OpView) (made : Option Row)
-    (before page : List ℕ) (old now : Option (List ℕ)) → IsHeader view.header → IsUnitView view
-    → RowsTold view ops index walk run before page old now → GivesOperation item walk walk' → RunsOn item run run' made
-    → ((row : Row) → made ≡ Some row → ⊥) → RowsTold view ops index walk' run' before page old now
-unfolding running_next
-rows_quiet view ops index walk walk' run run' item (Some row) before page old now header is t step on none = absurd (none row refl)
-rows_quiet view ops index walk walk' run run' item None before page old now header is t step on none =
-    let r = t.running in
-    let same : so_far view ops (r.k + 1) ≡ so_far view ops r.k =
-    rows_next view ops walk walk' run run' item None header r step on ∙ append-nil (so_far view ops r.k) in
-    record {
-      running = running_next view ops walk walk' run run' item None header is r step on;
-      index_is = t.index_is ∙ ap length (sym same);
-      told = subst (λ (list : List Row). IsPaged (before ++ numbered row_line 0 list) old now page) (sym same) t.told;
-    }
-
--- the lines with one more
-row_pushed : (before : List ℕ) (list : List Row) (index : ℕ) (row : Row) → index ≡ length list
-    → (before ++ numbered row_line 0 list) ++ row_line index row ≡ before ++ numbered row_line 0 (list ++ row ∷ [])
-row_pushed before list index row is =
-    let count : index ≡ 0 + length list = omega (arith, is) in
-    append_assoc before (numbered row_line 0 list) (row_line index row)
-    ∙ ap (λ (z : List ℕ). before ++ z)
-    (ap (λ (n : ℕ). numbered row_line 0 list ++ row_line n row) count ∙ sym (numbered_push row_line 0 list row))
-
--- an operation and the line of its row
-pub rows_more : (view : View) (ops : List Op) (index : ℕ) (walk walk' : Walk) (run run' : RunState) (item : OpView) (made : Option Row)
-    (row : Row) (before page page' : List ℕ) (old now new : Option (List ℕ)) → IsHeader view.header → IsUnitView view
-    → RowsTold view ops index walk run before page old now → GivesOperation item walk walk' → RunsOn item run run' made
-    → made ≡ Some row → IsPaged (page ++ row_line index row) now new page'
-    → RowsTold view ops (index + 1) walk' run' before page' old new
-unfolding running_next
-rows_more view ops index walk walk' run run' item made row before page page' old now new header is t step on some line =
-    let r = t.running in
-    let list = so_far view ops r.k in
-    let next : so_far view ops (r.k + 1) ≡ list ++ row ∷ [] =
-    rows_next view ops walk walk' run run' item made header r step on ∙ ap (λ (m : Option Row). list ++ cons_option m []) some in
-    record {
-      running = running_next view ops walk walk' run run' item made header is r step on;
-      index_is = omega (arith, t.index_is, ap length next, length-append list (row ∷ []));
-      told = subst (λ (rows : List Row). IsPaged (before ++ numbered row_line 0 rows) old new page') (sym next)
-          (subst (λ (z : List ℕ). IsPaged z old new page') (row_pushed before list index row t.index_is)
-          (paged_more (before ++ numbered row_line 0 list) (row_line index row) page page' old now new t.told line));
-    }
-
--- its number, and that of the one after it
-pub rows_room : (view : View) (ops : List Op) (index : ℕ) (walk walk' : Walk) (run : RunState) (item : OpView) (before page : List ℕ)
-    (old now : Option (List ℕ)) → IsUnitView view → RowsTold view ops index walk run before page old now → GivesOperation item walk walk'
-    → index + 1 < 2 ^ 64
-rows_room view ops index walk walk' run item before page old now is t step =
-    let r = t.running in
-    omega (
-      arith,
-      t.index_is,
-      few_rows (without_entries view.header) [] (take r.k ops),
-      length-take-le r.k ops r.at.within,
-      stands_room view ops r.k item walk walk' is r.at step,
-    )
+no_row : (made : Option Row) → ((row : Row) → made ≡ Some row → ⊥) → cons_option made [] ≡ []
+no_row None none = refl
+no_row (Some row) none = absurd (none row refl)
 
 -- the rows of the first operations begin those of all
 rows_front : (h : HeaderParts) (back xs ys : List Op) → (more : List Row) × (rows_after h back (xs ++ ys) ≡ rows_after h back xs ++ more)
 rows_front h back [] ys = (rows_after h back ys, refl)
 rows_front h back (op ∷ xs) ys =
     let front = rows_front h (op ∷ back) xs ys in
-    let made = row_made h back op in (
-      front.0,
-      ap (cons_option made) front.1 ∙ cons_option-append made (rows_after h (op ∷ back) xs) front.0,
-    )
+    let made = row_made h back op in
+    (front.0, ap (cons_option made) front.1 ∙ cons_option-append made (rows_after h (op ∷ back) xs) front.0)
 
--- of the line of its row a front was written
-pub rows_cut : (view : View) (ops : List Op) (index : ℕ) (walk walk' : Walk) (run run' : RunState) (item : OpView) (made : Option Row)
-    (row : Row) (before page : List ℕ) (old now new : Option (List ℕ)) → IsHeader view.header
-    → RowsTold view ops index walk run before page old now → GivesOperation item walk walk' → RunsOn item run run' made
-    → made ≡ Some row → AppendsFront now new (page ++ row_line index row)
-    → AppendsFront old new (before ++ numbered row_line 0 (rows (with_ops view ops)))
-rows_cut view ops index walk walk' run run' item made row before page old now new header t step on some line =
-    let r = t.running in
-    let h = without_entries view.header in
-    let list = so_far view ops r.k in
-    let next : so_far view ops (r.k + 1) ≡ list ++ row ∷ [] =
-    rows_next view ops walk walk' run run' item made header r step on ∙ ap (λ (m : Option Row). list ++ cons_option m []) some in
-    let later = rows_front h [] (take (r.k + 1) ops) (drop (r.k + 1) ops) in
-    let all : rows (with_ops view ops) ≡ (list ++ row ∷ []) ++ later.0 =
-    sym (same_by_numbers.same_rows (with_ops view ops)) ∙ ap (rows_after h []) (sym (take-append-drop (r.k + 1) ops)) ∙ later.1
-    ∙ ap (λ (z : List Row). z ++ later.0) next in
-    let front = numbered_front row_line 0 (list ++ row ∷ []) later.0 in
-    let first = before ++ numbered row_line 0 (list ++ row ∷ []) in
-    let whole : first ++ front.0 ≡ before ++ numbered row_line 0 (rows (with_ops view ops)) =
-    append_assoc before (numbered row_line 0 (list ++ row ∷ [])) front.0
-    ∙ ap (λ (z : List ℕ). before ++ z) (sym front.1 ∙ ap (numbered row_line 0) (sym all)) in
-    front_same old new (first ++ front.0) (before ++ numbered row_line 0 (rows (with_ops view ops))) whole
-    (front_before old new first front.0
-    (front_same old new ((before ++ numbered row_line 0 list) ++ row_line index row) first (row_pushed before list index row t.index_is)
-    (paged_front (before ++ numbered row_line 0 list) (row_line index row) page old now new t.told line)))
+module _ {view : View} {ops : List Op} {index : ℕ} {walk walk' : Walk} {run run' : RunState} {item : OpView} {made : Option Row}
+    {before page : List ℕ} {old now : Option (List ℕ)} (header : IsHeader view.header) (is : IsUnitView view)
+    (t : RowsTold view ops index walk run before page old now) (step : GivesOperation item walk walk')
+    (on : RunsOn item run run' made) where
+  -- an operation without a row
+  pub rows_quiet : ((row : Row) → made ≡ Some row → ⊥) → RowsTold view ops index walk' run' before page old now
+  unfolding running_next
+  rows_quiet none =
+      let list = so_far view ops t.running.k in
+      let same : so_far view ops (t.running.k + 1) ≡ list =
+      rows_next header t.running step on ∙ ap (λ (z : List Row). list ++ z) (no_row made none) ∙ append-nil list in
+      record {
+        running = running_next header t.running step is on;
+        index_is = t.index_is ∙ ap length (sym same);
+        told = subst (λ (rows : List Row). IsPaged (before ++ numbered row_line 0 rows) old now page) (sym same) t.told;
+      }
 
-pub rows_all : (view : View) (ops : List Op) (index : ℕ) (walk walk' : Walk) (run : RunState) (before page : List ℕ)
-    (old now : Option (List ℕ)) → RowsTold view ops index walk run before page old now → Ends walk walk'
+  row_next : {row : Row} → made ≡ Some row → so_far view ops (t.running.k + 1) ≡ so_far view ops t.running.k ++ row ∷ []
+  row_next some =
+      rows_next header t.running step on ∙ ap (λ (m : Option Row). so_far view ops t.running.k ++ cons_option m []) some
+
+  -- an operation and the line of its row
+  pub rows_more : {row : Row} {page' : List ℕ} {new : Option (List ℕ)} → made ≡ Some row
+      → IsPaged (page ++ row_line index row) now new page'
+      → RowsTold view ops (index + 1) walk' run' before page' old new
+  unfolding running_next
+  rows_more {row} some line =
+      let list = so_far view ops t.running.k in
+      record {
+        running = running_next header t.running step is on;
+        index_is = omega (arith, t.index_is, ap length (row_next some), length-append list (row ∷ []));
+        told = told_more row_line before list row t.index_is (row_next some) t.told line;
+      }
+
+  -- its number, and that of the one after it
+  pub rows_room : index + 1 < 2 ^ 64
+  rows_room =
+      let k = t.running.k in
+      omega (
+        arith,
+        t.index_is,
+        few_rows (without_entries view.header) [] (take k ops),
+        length-take-le k ops t.running.at.within,
+        stands_room is t.running.at step,
+      )
+
+  -- of the line of its row a front was written
+  pub rows_cut : {row : Row} {new : Option (List ℕ)} → made ≡ Some row → AppendsFront now new (page ++ row_line index row)
+      → AppendsFront old new (before ++ numbered row_line 0 (rows (with_ops view ops)))
+  rows_cut {row} some line =
+      let k = t.running.k in
+      let h = without_entries view.header in
+      let list = so_far view ops k in
+      let later = rows_front h [] (take (k + 1) ops) (drop (k + 1) ops) in
+      let all : rows (with_ops view ops) ≡ (list ++ row ∷ []) ++ later.0 =
+      sym (same_by_numbers.same_rows (with_ops view ops)) ∙ ap (rows_after h []) (sym (take-append-drop (k + 1) ops)) ∙ later.1
+      ∙ ap (λ (z : List Row). z ++ later.0) (row_next some) in
+      told_cut row_line before list later.0 row t.index_is all t.told line
+
+pub rows_all : {view : View} {ops : List Op} {index : ℕ} {walk walk' : Walk} {run : RunState} {before page : List ℕ}
+    {old now : Option (List ℕ)} → RowsTold view ops index walk run before page old now → Ends walk walk'
     → IsPaged (before ++ numbered row_line 0 (rows (with_ops view ops))) old now page
-rows_all view ops index walk walk' run before page old now t ends =
+rows_all {view} {ops} {index} {walk} {walk'} {run} {before} {page} {old} {now} t ends =
     let r = t.running in
     let all : so_far view ops r.k ≡ rows (with_ops view ops) =
-    ap (rows_after (without_entries view.header) []) (take_all r.k ops (stands_last view ops r.k walk walk' r.at ends))
+    ap (rows_after (without_entries view.header) []) (take_all r.k ops (stands_last r.at ends))
     ∙ same_by_numbers.same_rows (with_ops view ops) in
     subst (λ (list : List Row). IsPaged (before ++ numbered row_line 0 list) old now page) all t.told
-
--- none is refused
-pub running_fails : (view : View) (ops : List Op) (walk walk' : Walk) (run : RunState) (fault : Fault) → IsRunning view ops walk run
-    → Fails fault walk walk' → ⊥
-running_fails view ops walk walk' run fault r fails = stands_fails view ops r.k fault walk walk' r.at fails
 
 -- ---- a unit that is judged while it is run
 
@@ -401,58 +350,49 @@ pub record IsJudging (view : View) (walk : Walk) (run : RunState) : Type 0 where
   pub header : run.machine.header ≡ walk.header
   pub running : (all : List Op) → IsUnitOf view all → IsRunning view all walk run
 
-pub judging_first : (view : View) (walk : Walk) (run : RunState) → IsUnitView view → walk.header ≡ without_entries view.header
+pub judging_first : {view : View} {walk : Walk} {run : RunState} → IsUnitView view → walk.header ≡ without_entries view.header
     → walk.failed ≡ false → walk.at.place ≡ view.place → walk.at.rest ≡ view.program → walk.at.order ≡ view.header.order
     → run.machine.header ≡ without_entries view.header → HasDone run [] → run.machine.count ≡ 0 → IsJudging view walk run
-judging_first view walk run is header going place rest order same has count = record {
+judging_first {view} {walk} {run} is header going place rest order same has count = record {
   ops = [];
   given = given_none (by_numbers view) walk header going place rest order;
   header = same ∙ sym header;
-  running = λ all p. running_first view all walk run (stands_first view all walk is p header rest going) same has count;
+  running = λ all p. running_first (stands_first view all walk is p header rest going) same has count;
 }
 
-pub judging_allowed : (view : View) (walk walk' : Walk) (run : RunState) (item : OpView) → IsJudging view walk run
+pub judging_allowed : {view : View} {walk walk' : Walk} {run : RunState} {item : OpView} → IsJudging view walk run
     → GivesOperation item walk walk' → (op : Op) × StandsFor item op × Admits run.machine.header op
-judging_allowed view walk walk' run item j step = (
+judging_allowed {view} {walk} {walk'} {run} {item} j step = (
   step.gives.op,
   step.gives.stands,
   subst (λ (h : HeaderParts). Admits h step.gives.op) (sym j.header) step.gives.admitted,
 )
 
-pub judging_next : (view : View) (walk walk' : Walk) (run run' : RunState) (item : OpView) (made : Option Row) → IsHeader view.header
+pub judging_next : {view : View} {walk walk' : Walk} {run run' : RunState} {item : OpView} {made : Option Row} → IsHeader view.header
     → IsUnitView view → IsJudging view walk run → GivesOperation item walk walk' → RunsOn item run run' made → IsJudging view walk' run'
-judging_next view walk walk' run run' item made header is j step on = record {
+judging_next {view} {walk} {walk'} {run} {run'} {item} {made} header is j step on = record {
   ops = j.ops ++ step.gives.op ∷ [];
   given = given_more (by_numbers view) j.ops step.gives.op item walk walk' j.given step step.gives.stands;
   header = on.machine.header ∙ j.header ∙ sym step.header_is;
-  running = λ all p. running_next view all walk walk' run run' item made header is (j.running all p) step on;
+  running = λ all p. running_next header (j.running all p) step is on;
 }
 
 -- an operation is refused, and so the bytes encode no unit
-pub judging_fails : (view : View) (walk walk' : Walk) (run : RunState) (fault : Fault) → IsHeader view.header → IsUnitView view
+pub judging_fails : {view : View} {walk walk' : Walk} {run : RunState} {fault : Fault} → IsHeader view.header → IsUnitView view
     → IsJudging view walk run → Fails fault walk walk' → BrokenUnit view.unit.order fault view.unit.offset view.unit.bytes
-judging_fails view walk walk' run fault header is j fails =
+judging_fails {view} {walk} {walk'} {run} {fault} header is j fails =
     given_broken_by_numbers view j.ops fault walk walk' header is j.given fails
 
 -- all were run
-judged : (view : View) (walk walk' : Walk) (run : RunState) → IsUnitView view → (j : IsJudging view walk run) → Ends walk walk'
-    → IsUnitOf view j.ops
-judged view walk walk' run is j ends = given_all_by_numbers view j.ops walk walk' is j.given ends
+module _ {view : View} {walk walk' : Walk} {run : RunState} (is : IsUnitView view) (j : IsJudging view walk run) (ends : Ends walk walk')
+  where
+    judged : IsUnitOf view j.ops
+    judged = given_all_by_numbers view j.ops walk walk' is j.given ends
 
-pub judging_whole : (view : View) (walk walk' : Walk) (run : RunState) → IsUnitView view → IsJudging view walk run → Ends walk walk'
-    → run.is_open ≡ false → IsSound view true
-judging_whole view walk walk' run is j ends closed =
-    let unit = judged view walk walk' run is j ends in
-    (j.ops, unit, λ asked. running_whole view j.ops walk walk' run (j.running j.ops unit) ends closed)
+    pub judging_whole : run.is_open ≡ false → IsSound view true
+    judging_whole closed = (j.ops, judged, λ asked. running_whole (j.running j.ops judged) ends closed)
 
-pub judging_open : (view : View) (walk walk' : Walk) (run : RunState) (fault : RunFault) → IsUnitView view → IsJudging view walk run
-    → Ends walk walk' → run.is_open ≡ true → fault ≡ OpenSequence → IsFaultOf view.unit true (Run fault)
-judging_open view walk walk' run fault is j ends opens fault_is =
-    let unit = judged view walk walk' run is j ends in (
-      refl,
-      record {
-        unit = with_ops view j.ops;
-        spelled = unit;
-        is_fault = running_open view j.ops walk walk' run fault (j.running j.ops unit) ends opens fault_is;
-      },
-    )
+    pub judging_open : {fault : RunFault} → run.is_open ≡ true → fault ≡ OpenSequence → IsFaultOf view.unit true (Run fault)
+    judging_open opens fault_is =
+        let fails = running_open (j.running j.ops judged) ends opens fault_is in
+        (refl, record { unit = with_ops view j.ops; spelled = judged; is_fault = fails })

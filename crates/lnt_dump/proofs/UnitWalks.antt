@@ -1,11 +1,9 @@
 -- Walks over the operations of a valid unit: the lines of its operations, its rows, and whether its program runs.
 use Rattle.std.proofs.Common.{◌≡◌, ◌∙◌, ℕ, ◌+◌, ◌^◌, ◌<◌, ◌≤◌, List, [], ◌∷◌, ◌++◌, length, take, drop, get_or, refl, sym, ap, subst}
-use Rattle.std.proofs.Common.{arith, false, append-nil, append_assoc, take_all, take-append-drop}
+use Rattle.std.proofs.Common.{arith, false, take_all}
 use Rattle.std.specs.Prelude.{Option, Some, Result, Ok, Err}
-use Rattle.std.proofs.KnownBytes.{Appends-nil}
 use Rattle.std.proofs.lemmas.List.{drop_more, length-drop}
 use Rattle.lnt_io.specs.Fronts.{AppendsFront}
-use Rattle.lnt_io.proofs.FrontLaws.{front_before, front_same}
 use Rattle.lnt_header.specs.HeaderNumbers.{without_entries}
 use Rattle.lnt_header.specs.HeaderRules.{IsHeader}
 use Rattle.lnt_header.specs.Joins.{Each}
@@ -27,8 +25,7 @@ use Rattle.lnt_machine.specs.Laws.{unit_by_numbers}
 use Rattle.lnt_dump.specs.Numbered.{numbered}
 use Rattle.lnt_dump.specs.Operations.{op_line}
 use Rattle.lnt_dump.specs.Stepping.{IsPaged, IsUnitOf}
-use Rattle.lnt_dump.proofs.Lines.{numbered_front, numbered_next}
-use Rattle.lnt_dump.proofs.Pages.{paged_front, paged_more}
+use Rattle.lnt_dump.proofs.Pages.{paged_none, told_next, told_next_cut}
 
 -- the unit of these operations, with only the numbers of its header
 abbrev pub unit_of : View → List Op → UnitParts
@@ -81,9 +78,9 @@ pub record IsNextAt (view : View) (ops : List Op) (k : ℕ) (item : OpView) (new
 head_is : {X : Type 0} (x y : X) (xs ys : List X) → x ∷ xs ≡ y ∷ ys → (x ≡ y) × (xs ≡ ys)
 head_is x y xs ys e = (cc e, cc e)
 
-pub stands_next : (view : View) (ops : List Op) (k : ℕ) (item : OpView) (old new : Walk) → IsHeader view.header → StandsAt view ops k old
+pub stands_next : {view : View} {ops : List Op} {k : ℕ} {item : OpView} {old new : Walk} → IsHeader view.header → StandsAt view ops k old
     → GivesOperation item old new → IsNextAt view ops k item new
-stands_next view ops k item old new header s step =
+stands_next {view} {ops} {k} {item} {old} {new} header s step =
     let h = without_entries view.header in
     let n = left_next h (drop k ops) item old new (header_without_entries view.header header) s.left step in
     let more : k < length ops = omega (arith, ap length n.later_is, length-drop k ops, s.within) in
@@ -101,18 +98,18 @@ stands_next view ops k item old new header s step =
     }
 
 -- its number, and that of the one after it
-pub stands_room : (view : View) (ops : List Op) (k : ℕ) (item : OpView) (old new : Walk) → IsUnitView view → StandsAt view ops k old
+pub stands_room : {view : View} {ops : List Op} {k : ℕ} {item : OpView} {old new : Walk} → IsUnitView view → StandsAt view ops k old
     → GivesOperation item old new → k + 1 < 2 ^ 64
-stands_room view ops k item old new is s step = omega (arith, is.room, s.few, step.shorter)
+stands_room {view} {ops} {k} {item} {old} {new} is s step = omega (arith, is.room, s.few, step.shorter)
 
 -- none is refused
-pub stands_fails : (view : View) (ops : List Op) (k : ℕ) (fault : Fault) (old new : Walk) → StandsAt view ops k old
+pub stands_fails : {view : View} {ops : List Op} {k : ℕ} {fault : Fault} {old new : Walk} → StandsAt view ops k old
     → Fails fault old new → ⊥
-stands_fails view ops k fault old new s fails = left_fails (without_entries view.header) (drop k ops) fault old new s.left fails
+stands_fails {view} {ops} {k} {fault} {old} {new} s fails = left_fails (without_entries view.header) (drop k ops) fault old new s.left fails
 
 -- all were given
-pub stands_last : (view : View) (ops : List Op) (k : ℕ) (old new : Walk) → StandsAt view ops k old → Ends old new → length ops ≤ k
-stands_last view ops k old new s ends =
+pub stands_last : {view : View} {ops : List Op} {k : ℕ} {old new : Walk} → StandsAt view ops k old → Ends old new → length ops ≤ k
+stands_last {view} {ops} {k} {old} {new} s ends =
     omega (arith, ap length (left_ends (without_entries view.header) (drop k ops) old new s.left ends), length-drop k ops)
 
 -- ---- the lines of operations
@@ -122,53 +119,31 @@ pub record OpsTold (view : View) (ops : List Op) (k : ℕ) (walk : Walk) (before
   pub at : StandsAt view ops k walk
   pub told : IsPaged (before ++ numbered op_line 0 (take k ops)) old now page
 
-pub ops_none : (view : View) (ops : List Op) (walk : Walk) (page : List ℕ) (out : Option (List ℕ)) → StandsAt view ops 0 walk
+pub ops_none : {view : View} {ops : List Op} {walk : Walk} (page : List ℕ) (out : Option (List ℕ)) → StandsAt view ops 0 walk
     → OpsTold view ops 0 walk page page out out
-ops_none view ops walk page out s = record {
+ops_none {view} {ops} {walk} page out s = record {
   at = s;
-  told = record { written = []; gained = Appends-nil out; joined = append-nil page };
+  told = paged_none page out;
 }
 
--- the lines with one more
-op_pushed : (before : List ℕ) (ops : List Op) (k : ℕ) (op : Op) → k < length ops → op ≡ get_or ops k op
-    → (before ++ numbered op_line 0 (take k ops)) ++ op_line k op ≡ before ++ numbered op_line 0 (take (k + 1) ops)
-op_pushed before ops k op more is =
-    append_assoc before (numbered op_line 0 (take k ops)) (op_line k op)
-    ∙ ap (λ (z : List ℕ). before ++ z) (numbered_next op_line ops k op more is)
-
-pub ops_more : (view : View) (ops : List Op) (k : ℕ) (item : OpView) (walk walk' : Walk) (before page page' : List ℕ)
-    (old now new : Option (List ℕ)) → IsHeader view.header → OpsTold view ops k walk before page old now → GivesOperation item walk walk'
+pub ops_more : {view : View} {ops : List Op} {k : ℕ} {item : OpView} {walk walk' : Walk} {before page page' : List ℕ}
+    {old now new : Option (List ℕ)} → IsHeader view.header → OpsTold view ops k walk before page old now → GivesOperation item walk walk'
     → ((done : Op) → StandsFor item done → IsPaged (page ++ op_line k done) now new page')
     → OpsTold view ops (k + 1) walk' before page' old new
-ops_more view ops k item walk walk' before page page' old now new header t step line =
-    let n = stands_next view ops k item walk walk' header t.at step in
-    let text = before ++ numbered op_line 0 (take k ops) in
-    record {
-      at = n.at;
-      told = subst (λ (z : List ℕ). IsPaged z old new page') (op_pushed before ops k n.op n.more n.is)
-          (paged_more text (op_line k n.op) page page' old now new t.told (line n.op n.stands));
-    }
+ops_more {view} {ops} {k} {item} {walk} {walk'} {before} {page} {page'} {old} {now} {new} header t step line =
+    let n = stands_next header t.at step in
+    record { at = n.at; told = told_next op_line before ops k n.op n.more n.is t.told (line n.op n.stands) }
 
 -- of the next line a front was written
-pub ops_cut : (view : View) (ops : List Op) (k : ℕ) (item : OpView) (walk walk' : Walk) (before page : List ℕ)
-    (old now new : Option (List ℕ)) → IsHeader view.header → OpsTold view ops k walk before page old now → GivesOperation item walk walk'
+pub ops_cut : {view : View} {ops : List Op} {k : ℕ} {item : OpView} {walk walk' : Walk} {before page : List ℕ}
+    {old now new : Option (List ℕ)} → IsHeader view.header → OpsTold view ops k walk before page old now → GivesOperation item walk walk'
     → ((done : Op) → StandsFor item done → AppendsFront now new (page ++ op_line k done))
     → AppendsFront old new (before ++ numbered op_line 0 ops)
-ops_cut view ops k item walk walk' before page old now new header t step line =
-    let n = stands_next view ops k item walk walk' header t.at step in
-    let text = before ++ numbered op_line 0 (take k ops) in
-    let front = numbered_front op_line 0 (take (k + 1) ops) (drop (k + 1) ops) in
-    let first = before ++ numbered op_line 0 (take (k + 1) ops) in
-    let whole : first ++ front.0 ≡ before ++ numbered op_line 0 ops =
-    append_assoc before (numbered op_line 0 (take (k + 1) ops)) front.0
-    ∙ ap (λ (z : List ℕ). before ++ z) (sym front.1 ∙ ap (numbered op_line 0) (take-append-drop (k + 1) ops)) in
-    front_same old new (first ++ front.0) (before ++ numbered op_line 0 ops) whole
-    (front_before old new first front.0
-    (front_same old new (text ++ op_line k n.op) first (op_pushed before ops k n.op n.more n.is)
-    (paged_front text (op_line k n.op) page old now new t.told (line n.op n.stands))))
+ops_cut {view} {ops} {k} {item} {walk} {walk'} {before} {page} {old} {now} {new} header t step line =
+    let n = stands_next header t.at step in
+    told_next_cut op_line before ops k n.op n.more n.is t.told (line n.op n.stands)
 
-pub ops_all : (view : View) (ops : List Op) (k : ℕ) (walk walk' : Walk) (before page : List ℕ) (old now : Option (List ℕ))
+pub ops_all : {view : View} {ops : List Op} {k : ℕ} {walk walk' : Walk} {before page : List ℕ} {old now : Option (List ℕ)}
     → OpsTold view ops k walk before page old now → Ends walk walk' → IsPaged (before ++ numbered op_line 0 ops) old now page
-ops_all view ops k walk walk' before page old now t ends =
-    subst (λ (list : List Op). IsPaged (before ++ numbered op_line 0 list) old now page)
-    (take_all k ops (stands_last view ops k walk walk' t.at ends)) t.told
+ops_all {view} {ops} {k} {walk} {walk'} {before} {page} {old} {now} t ends =
+    subst (λ (list : List Op). IsPaged (before ++ numbered op_line 0 list) old now page) (take_all k ops (stands_last t.at ends)) t.told

@@ -1,32 +1,29 @@
 -- Extended operations: a zero byte, a length, and as many bytes.
-use Rattle.std.proofs.Common.{◌≡◌, ℕ, zero, suc, ◌+◌, ◌*◌, ◌<◌, ◌≤◌, List, [], ◌∷◌, ◌++◌, length, take, drop, get_or, refl, sym}
-use Rattle.std.proofs.Common.{ap, subst, ◌∙◌, append_assoc, add-zero, arith}
+use Rattle.std.proofs.Common.{◌≡◌, ℕ, zero, suc, ◌+◌, ◌<◌, ◌≤◌, List, [], ◌∷◌, ◌++◌, length, take, drop, get_or, refl, sym}
+use Rattle.std.proofs.Common.{ap, subst, ◌∙◌, append_assoc, arith}
 use Rattle.std.proofs.Math.Seq.{drop-length}
 use Rattle.std.proofs.lemmas.List.{length-append, length-drop, append-nil, take_more, drop_more, take-append-drop, take_all}
 use Rattle.lnt_wire.specs.At.{At}
-use Rattle.lnt_wire.specs.Bytes.{TakenBytes, Then, Exactly, ◌⨾◌}
+use Rattle.lnt_wire.specs.Bytes.{TakenBytes, Exactly, ◌⨾◌}
 use Rattle.lnt_wire.specs.declared.fault.Fault.{Fault}
 use Rattle.lnt_wire.specs.declared.fault.Reason.{Reason}
 use Rattle.lnt_wire.specs.declared.fault.Reason.TheVariants.{Truncated, LebTooLarge}
 use Rattle.lnt_wire.specs.FormBytes.{BlockBytes}
-use Rattle.lnt_wire.proofs.CodeLaws.{unsigned_code, same_leb}
-use Rattle.lnt_wire.proofs.LengthLaws.{length-number_bytes, same_front, same_rest}
+use Rattle.lnt_wire.proofs.CodeLaws.{same_leb}
 use Rattle.lnt_wire.specs.Leb128.{IsLeb, AreHigh, UnsignedLeb, IsLargeUnsigned, IsLebFault}
 use Rattle.lnt_wire.specs.Numbers.{NumberBytes}
-use Rattle.lnt_wire.specs.Reading.{Reads, RefusesField, Refuses, IsCutShort}
+use Rattle.lnt_wire.specs.Reading.{Reads, RefusesField, IsCutShort}
 use Rattle.lnt_header.specs.declared.header.HeaderParts.{HeaderParts}
-use Rattle.lnt_header.specs.declared.op.Op.{Op}
 use Rattle.lnt_header.specs.declared.op.Op.TheVariants as ops
 use Rattle.lnt_header.specs.declared.op.OpView.{OpView}
 use Rattle.lnt_header.specs.declared.op.OpView.TheVariants as views
 use Rattle.lnt_header.specs.FieldFaults.{IsWrongOperand}
 use Rattle.lnt_header.specs.OpRules.{Coding, coding, FitsTaken, IsUnknownCode, StandsFor, Taken, taken_by}
 use Rattle.lnt_header.specs.OpRules.Taken.{takes_address, takes_any, takes_nothing, takes_number}
-use Rattle.lnt_ops.proofs.StandardReaders.{after_byte}
-use Rattle.lnt_ops.proofs.OpLaws.{extended_tag, tag_of, takes_its, TakesIts}
+use Rattle.lnt_ops.proofs.StandardReaders.{refused_at}
 use Rattle.lnt_ops.specs.OpBytes.{CodingBytes, Extended}
 use Rattle.lnt_ops.specs.OpFaults.IsFirstFault.{no_length, cut_counted, wrong_counted, large_counted}
-use Rattle.lnt_ops.specs.OpSteps.{BytesAfter, IsFaultAfter, GivesAfter, ExtendedBody, IsRightOperand, GivesCounted}
+use Rattle.lnt_ops.specs.OpSteps.{GivesAfter, RefusesAfter, ExtendedBody, IsRightOperand, GivesCounted}
 use Rattle.lnt_ops.specs.OpSteps.{IsCountedOpFault, IsLargeNumber}
 use Rattle.lnt_ops.specs.OpSteps.IsCountedOpFault.{wrong_operand, large_number}
 
@@ -145,10 +142,6 @@ pub no_code : (address_size : ℕ) (bytes : List ℕ) → length bytes ≡ 0 →
 no_code address_size [] e = tt
 no_code address_size (code ∷ operand) e = absurd (omega arith)
 
-right_not_wrong : (address_size : ℕ) (bytes : List ℕ) → IsRightOperand address_size bytes → IsWrongOperand address_size bytes → ⊥
-right_not_wrong address_size [] right wrong = right
-right_not_wrong address_size (code ∷ operand) right wrong = wrong right
-
 -- ---- the bytes that a length counts
 
 code_first : (code : ℕ) (Operand : List ℕ → Type 0) (bytes : List ℕ) → 0 < length bytes → get_or bytes 0 0 ≡ code → Operand (drop 1 bytes)
@@ -266,83 +259,7 @@ number_is_fault address_size length_place start fault bytes large = large_number
 pub takes_discriminator : (bytes : List ℕ) → get_or bytes 0 0 ≡ 4 → taken_by (get_or bytes 0 0) ≡ takes_number
 takes_discriminator bytes e = ap taken_by e
 
--- ---- no operation has these bytes
-
--- the code of bytes that begin with it
-code_of : (code : ℕ) (Operand : List ℕ → Type 0) (bytes : List ℕ) → (p : (Exactly (code ∷ []) ⨾ Operand) bytes) → bytes ≡ code ∷ p.back
-code_of code Operand bytes p = p.joined ∙ ap (λ (z : List ℕ). z ++ p.back) p.first
-
-right_counted : (h : HeaderParts) (c : Coding) (bytes : List ℕ) → TakesIts c → ExtendedBody h c bytes → IsRightOperand h.address_size bytes
-right_counted h (Coding.extended code) bytes takes p =
-    subst (IsRightOperand h.address_size) (sym (code_of code (Exactly []) bytes p))
-    (right_of h.address_size code takes_nothing p.back takes p.second)
-right_counted h (Coding.extended_number code n) bytes takes p =
-    subst (IsRightOperand h.address_size) (sym (code_of code (UnsignedLeb n) bytes p))
-    (right_of h.address_size code takes_number p.back takes p.second.shape)
-right_counted h (Coding.extended_address code address) bytes takes p =
-    let Spells = NumberBytes h.order h.address_size address in
-    let size : length p.back ≡ h.address_size = ap length p.second.spelled ∙ length-number_bytes h.order h.address_size address in
-    subst (IsRightOperand h.address_size) (sym (code_of code Spells bytes p)) (right_of h.address_size code takes_address p.back takes size)
-right_counted h (Coding.unknown_extended code operand) bytes takes p =
-    subst (IsRightOperand h.address_size) (sym (code_of code (Exactly operand) bytes p.2))
-    (right_of h.address_size code takes_any p.2.back (unknown_takes code p.0) tt)
-right_counted h c bytes takes p = absurd p
-
--- a code that takes something else begins no bytes with this code
-other_code : (code taken : ℕ) (kind : Taken) (Operand : List ℕ → Type 0) (operand : List ℕ) → taken_by taken ≡ takes_number
-    → taken_by code ≡ kind → (Exactly (code ∷ []) ⨾ Operand) (taken ∷ operand) → kind ≡ takes_number
-other_code code taken kind Operand operand number takes p =
-    let whole : taken ∷ operand ≡ code ∷ p.back = code_of code Operand (taken ∷ operand) p in
-    let same : code ≡ taken = cc in
-    sym takes ∙ ap taken_by same ∙ number
-
-none_large : (h : HeaderParts) (c : Coding) (taken : ℕ) (operand : List ℕ) → TakesIts c → taken_by taken ≡ takes_number
-    → IsLargeUnsigned operand → ExtendedBody h c (taken ∷ operand) → ⊥
-none_large h (Coding.extended code) taken operand takes number large p =
-    let other = other_code code taken takes_nothing (Exactly []) operand number takes p in
-    absurd cc
-none_large h (Coding.extended_number code n) taken operand takes number large p =
-    let leb = after_byte taken code (UnsignedLeb n) operand p in
-    omega (arith, leb.fits, leb.value, large)
-none_large h (Coding.extended_address code address) taken operand takes number large p =
-    let other = other_code code taken takes_address (NumberBytes h.order h.address_size address) operand number takes p in
-    absurd cc
-none_large h (Coding.unknown_extended code operand') taken operand takes number large p =
-    let other = other_code code taken takes_any (Exactly operand') operand number (unknown_takes code p.0) p.2 in
-    absurd cc
-none_large h c taken operand takes number large p = p
-
-none_counted : (h : HeaderParts) (length_place start : ℕ) (fault : Fault) (bytes : List ℕ) (op : Op)
-    → IsCountedOpFault h.address_size length_place start fault bytes → ExtendedBody h (coding op) bytes → ⊥
-none_counted h length_place start fault bytes op (wrong_operand reason place wrong) p =
-    right_not_wrong h.address_size bytes (right_counted h (coding op) bytes (takes_its op) p) wrong
-none_counted h length_place start fault bytes op (large_number l) p =
-    none_large h (coding op) l.code l.operand (takes_its op) l.takes l.large (subst (ExtendedBody h (coding op)) l.joined p)
-
 -- ---- the length, and what it counts
-
--- an extended operation after its zero byte
-record InCount (h : HeaderParts) (c : Coding) (bytes : List ℕ) : Type 0 where
-  counted : List ℕ
-  is : ExtendedBody h c counted
-  spelled : BlockBytes UnsignedLeb counted bytes
-
-in_count : (h : HeaderParts) (c : Coding) (code : ℕ) (Operand : List ℕ → Type 0) (y : List ℕ)
-    → ((x : List ℕ) → (Exactly (code ∷ []) ⨾ Operand) x → ExtendedBody h c x) → Extended code Operand (0 ∷ y) → InCount h c y
-in_count h c code Operand y is p = record {
-  counted = p.0;
-  is = is p.0 p.1;
-  spelled = after_byte 0 0 (UnsignedLeb (length p.0) ⨾ Exactly p.0) y p.2;
-}
-
-counted_of : (h : HeaderParts) (c : Coding) (y : List ℕ) → (code : ℕ) → tag_of c ≡ 2 * code + 2 → CodingBytes h c (0 ∷ y) → InCount h c y
-counted_of h (Coding.extended k) y code t p = in_count h (Coding.extended k) k (Exactly []) y (λ x q. q) p
-counted_of h (Coding.extended_number k n) y code t p = in_count h (Coding.extended_number k n) k (UnsignedLeb n) y (λ x q. q) p
-counted_of h (Coding.extended_address k address) y code t p =
-    in_count h (Coding.extended_address k address) k (NumberBytes h.order h.address_size address) y (λ x q. q) p
-counted_of h (Coding.unknown_extended k operand) y code t p =
-    in_count h (Coding.unknown_extended k operand) k (Exactly operand) y (λ x q. (p.0, p.1, q)) p.2
-counted_of h c y code t p = absurd (omega arith)
 
 in_op : (code : ℕ) (Operand : List ℕ → Type 0) (counted y : List ℕ) → (Exactly (code ∷ []) ⨾ Operand) counted
     → BlockBytes UnsignedLeb counted y → Extended code Operand (0 ∷ y)
@@ -381,63 +298,19 @@ gives_extended h n view counted old middle new r t g =
       };
     }
 
--- what stands at the front of a candidate
-counted_at : (h : HeaderParts) (op : Op) (y : List ℕ) → 0 < h.opcode_base → BytesAfter h 0 op y → InCount h (coding op) y
-counted_at h op y some p = let kind = extended_tag h op y some p.whole in counted_of h (coding op) y kind.0 kind.1 p.whole
+pub refuses_length : (h : HeaderParts) (old : At) (fault : Fault) → RefusesField (IsLebFault IsLargeUnsigned) UnsignedLeb old fault
+    → RefusesAfter h 0 old fault
+refuses_length h old fault r = refused_at h 0 old fault r.place (no_length refl r.reason)
 
-front_of : {P Q : List ℕ → Type 0} (y more rest : List ℕ) → (t : Then P Q y) → y ++ more ≡ rest → t.front ++ (t.back ++ more) ≡ rest
-front_of y more rest t e = sym (append_assoc t.front t.back more) ∙ ap (λ (z : List ℕ). z ++ more) (sym t.joined) ∙ e
-
-pub refuses_length : (h : HeaderParts) (old : At) (fault : Fault) → 0 < h.opcode_base
-    → RefusesField (IsLebFault IsLargeUnsigned) UnsignedLeb old fault
-    → Refuses (IsFaultAfter h 0) (BytesAfter h 0) old fault
-refuses_length h old fault some r = record {
-  before = [];
-  left = old.rest;
-  split = refl;
-  place = r.place ∙ sym (add-zero old.place);
-  reason = record { whole = no_length refl r.reason };
-  none = λ op y more p e.
-      let q = counted_at h op y some p in
-      r.none (length q.counted) q.spelled.front (q.spelled.back ++ more) q.spelled.first (front_of y more old.rest q.spelled e);
-}
-
--- a candidate has the same length
-same_count : (h : HeaderParts) (n : ℕ) (op : Op) (y more : List ℕ) (old middle : At) → Reads UnsignedLeb n old middle
-    → (q : InCount h (coding op) y)
-    → y ++ more ≡ old.rest → (length q.counted ≡ n) × (q.counted ++ more ≡ middle.rest)
-same_count h n op y more old middle r q e =
-    let all : q.spelled.front ++ (q.spelled.back ++ more) ≡ r.spelling ++ middle.rest = front_of y more old.rest q.spelled e ∙ r.whole in
-    let found = unsigned_code.one (length q.counted) n q.spelled.front r.spelling (q.spelled.back ++ more) middle.rest q.spelled.first
-    r.spelled all in
-    let past = same_rest q.spelled.front r.spelling (q.spelled.back ++ more) middle.rest found.1 all in
-    (found.0, ap (λ (z : List ℕ). z ++ more) (sym q.spelled.second) ∙ past)
-
-pub refuses_cut : (h : HeaderParts) (n : ℕ) (old middle : At) (fault : Fault) → 0 < h.opcode_base → Reads UnsignedLeb n old middle
-    → RefusesField (IsCutShort n) (TakenBytes n) middle fault
-    → Refuses (IsFaultAfter h 0) (BytesAfter h 0) old fault
-refuses_cut h n old middle fault some r t = record {
+pub refuses_cut : (h : HeaderParts) (n : ℕ) (old middle : At) (fault : Fault) → Reads UnsignedLeb n old middle
+    → RefusesField (IsCutShort n) (TakenBytes n) middle fault → RefusesAfter h 0 old fault
+refuses_cut h n old middle fault r t = record {
   before = r.spelling;
   left = middle.rest;
   split = r.whole;
-  place = omega (arith, t.place, r.place);
-  reason = record { whole = cut_counted n r.spelling t.reason.reason_is r.spelled refl t.reason.short };
-  none = λ op y more p e.
-      let q = counted_at h op y some p in
-      let same = same_count h n op y more old middle r q e in
-      omega (arith, same.0, ap length same.1, length-append q.counted more, t.reason.short);
+  place = t.place ∙ r.place;
+  reason = cut_counted n r.spelling t.reason.reason_is r.spelled refl t.reason.short;
 }
-
-none_in_count : (h : HeaderParts) (n length_place start : ℕ) (counted : List ℕ) (old middle new : At) (fault : Fault) → 0 < h.opcode_base
-    → Reads UnsignedLeb n old middle → Reads (TakenBytes n) counted middle new
-    → IsCountedOpFault h.address_size length_place start fault counted → (op : Op) (y more : List ℕ) → BytesAfter h 0 op y
-    → y ++ more ≡ old.rest → ⊥
-none_in_count h n length_place start counted old middle new fault some r t f op y more p e =
-    let q = counted_at h op y some p in
-    let same = same_count h n op y more old middle r q e in
-    let size : length q.counted ≡ length t.spelling = same.0 ∙ sym t.spelled.count_is in
-    let bytes : q.counted ≡ t.spelling = same_front q.counted t.spelling more new.rest size (same.1 ∙ t.whole) in
-    none_counted h length_place start fault counted op f (subst (ExtendedBody h (coding op)) (bytes ∙ sym t.spelled.taken_is) q.is)
 
 -- the bytes that were read, up to the end of what the length counts
 counted_joined : (n : ℕ) (counted : List ℕ) (old middle new : At) → (r : Reads UnsignedLeb n old middle)
@@ -446,31 +319,19 @@ counted_joined n counted old middle new r t =
     r.whole ∙ ap (λ (z : List ℕ). r.spelling ++ z) (t.whole ∙ ap (λ (z : List ℕ). z ++ new.rest) (sym t.spelled.taken_is))
 
 pub refuses_counted : (h : HeaderParts) (n length_place start : ℕ) (counted : List ℕ) (old middle new : At) (fault : Fault)
-    → 0 < h.opcode_base → length_place ≡ old.place → start ≡ middle.place
-    → Reads UnsignedLeb n old middle → Reads (TakenBytes n) counted middle new
-    → IsCountedOpFault h.address_size length_place start fault counted → Refuses (IsFaultAfter h 0) (BytesAfter h 0) old fault
-refuses_counted h n length_place start counted old middle new fault some at_length at_start r t (wrong_operand reason place wrong) =
+    → length_place ≡ old.place → start ≡ middle.place → Reads UnsignedLeb n old middle → Reads (TakenBytes n) counted middle new
+    → IsCountedOpFault h.address_size length_place start fault counted → RefusesAfter h 0 old fault
+refuses_counted h n length_place start counted old middle new fault at_length at_start r t (wrong_operand reason place wrong) =
     let size : n ≡ length counted = sym t.spelled.count_is ∙ ap length (sym t.spelled.taken_is) in
-    record {
-      before = [];
-      left = old.rest;
-      split = refl;
-      place = omega (arith, place, at_length);
-      reason = record {
-        whole = wrong_counted reason refl (
-          r.spelling,
-          counted,
-          new.rest,
-          subst (λ (k : ℕ). UnsignedLeb k r.spelling) size r.spelled,
-          counted_joined n counted old middle new r
-              t ∙ sym (append_assoc r.spelling counted new.rest),
-          wrong,
-        );
-      };
-      none = none_in_count h n length_place start counted old middle new fault some r t (wrong_operand reason place wrong);
-    }
-refuses_counted h n length_place start counted old middle new fault some at_length at_start r t
-    (large_number l) =
+    refused_at h 0 old fault (place ∙ at_length) (wrong_counted reason refl (
+      r.spelling,
+      counted,
+      new.rest,
+      subst (λ (k : ℕ). UnsignedLeb k r.spelling) size r.spelled,
+      counted_joined n counted old middle new r t ∙ sym (append_assoc r.spelling counted new.rest),
+      wrong,
+    ))
+refuses_counted h n length_place start counted old middle new fault at_length at_start r t (large_number l) =
     let size : n ≡ length l.operand + 1 = omega (arith, t.spelled.count_is, ap length t.spelled.taken_is, ap length l.joined) in
     let joined : old.rest ≡ r.spelling ++ (l.code ∷ (l.operand ++ new.rest)) = counted_joined n counted old middle new r t
     ∙ ap (λ (z : List ℕ). r.spelling ++ (z ++ new.rest)) l.joined in
@@ -479,11 +340,8 @@ refuses_counted h n length_place start counted old middle new fault some at_leng
       left = l.operand ++ new.rest;
       split = joined ∙ sym (append_assoc r.spelling (l.code ∷ []) (l.operand ++ new.rest));
       place = omega (arith, l.place_is, at_start, r.place, length-append r.spelling (l.code ∷ []));
-      reason = record {
-        whole = large_counted r.spelling l.operand new.rest l.reason_is
-            (subst (λ (k : ℕ). UnsignedLeb k r.spelling) size r.spelled) (l.code, l.takes, refl) refl l.whole l.large;
-      };
-      none = none_in_count h n length_place start counted old middle new fault some r t (large_number l);
+      reason = large_counted r.spelling l.operand new.rest l.reason_is (subst (λ (k : ℕ). UnsignedLeb k r.spelling) size r.spelled)
+          (l.code, l.takes, refl) refl l.whole l.large;
     }
 
 -- what is read of the bytes that a length counts

@@ -1,7 +1,8 @@
 -- How long the shortest unsigned LEB128 of a number is.
-use Rattle.std.proofs.Common.{◌≡◌, ℕ, suc, refl, ◌+◌, ◌-◌, ◌/◌, ◌%◌, ◌^◌, ◌<◌, ◌≤◌, List, [], ◌∷◌, length, ap, arith}
+use Rattle.std.proofs.Common.{◌≡◌, ℕ, suc, refl, ◌+◌, ◌/◌, ◌%◌, ◌^◌, ◌<◌, ◌≤◌, List, [], ◌∷◌, length, ap, arith, rules}
 use Rattle.lnt_wire.specs.Bytes.{IsShortest}
 use Rattle.lnt_wire.specs.Leb128.{IsLeb, groups, UnsignedLeb}
+use Rattle.lnt_ops.proofs.ViewLaws.{leb_is_some}
 
 -- a spelling of this length
 record OfLength (n size : ℕ) : Type 0 where
@@ -34,43 +35,21 @@ shortest_of_less m n x y le p q =
     let found = as_long m y q.shape (omega (arith, le, q.value)) (omega (arith, le, q.fits)) in
     omega (arith, p.shortest found.spelling found.spelled, found.size_is)
 
-ten : List ℕ
+abbrev ten : List ℕ
 ten = 255 ∷ 255 ∷ 255 ∷ 255 ∷ 255 ∷ 255 ∷ 255 ∷ 255 ∷ 255 ∷ 127 ∷ []
 
 ten_leb : IsLeb ten
-unfolding ten
-ten_leb = (
-  omega arith,
-  (
-    omega arith,
-    (
-      omega arith,
-      (omega arith, (omega arith, (omega arith, (omega arith, (omega arith, (omega arith, omega arith)))))),
-    ),
-  ),
-)
-
-ten_groups : groups ten ≡ 2 ^ 70 - 1
-unfolding ten
-ten_groups = refl
-
-ten_long : length ten ≡ 10
-unfolding ten
-ten_long = refl
+ten_leb = search (rules, arith)
 
 -- ten groups say any number below 2 ^ 64
 pub at_most_ten : (n : ℕ) (x : List ℕ) → IsShortest UnsignedLeb n x → length x ≤ 10
 at_most_ten n x p =
-    let found = as_long n ten ten_leb (omega (arith, p.spelled.fits, ten_groups)) p.spelled.fits in
-    omega (arith, p.shortest found.spelling found.spelled, found.size_is, ten_long)
-
-some : (bytes : List ℕ) → IsLeb bytes → 0 < length bytes
-some [] p = absurd p
-some (b ∷ bytes) p = omega arith
+    let found = as_long n ten ten_leb (omega (arith, p.spelled.fits)) p.spelled.fits in
+    omega (arith, p.shortest found.spelling found.spelled, found.size_is)
 
 -- a number below 128 is its own shortest spelling
 pub one_group : (n : ℕ) → n < 128 → IsShortest UnsignedLeb n (n ∷ [])
 one_group n lt = record {
   spelled = record { shape = lt; value = omega (arith, lt); fits = omega (arith, lt) };
-  shortest = λ other p. omega (arith, some other p.shape);
+  shortest = λ other p. omega (arith, leb_is_some n other p);
 }

@@ -23,7 +23,7 @@ use Rattle.lnt_header.specs.OpRules.Taken.{takes_address, takes_any, takes_nothi
 use Rattle.lnt_header.specs.declared.header.HeaderParts.{HeaderParts}
 use Rattle.lnt_header.proofs.FirstFaultLaws.{AreOne, each_one, field_fault, IsHere, IsOneFault, several_of}
 use Rattle.lnt_ops.proofs.ExtendedReaders.{right_of, unknown_takes}
-use Rattle.lnt_ops.proofs.OpLaws.{follows, op_code, op_is_some, takes_its, TakesIts}
+use Rattle.lnt_ops.proofs.OpLaws.{extended_parts, follows, op_code, op_is_some, takes_its, TakesIts}
 use Rattle.lnt_ops.specs.OpBytes.{CodingBytes, Extended, OpBytes, OperandBytes, Standard}
 use Rattle.lnt_ops.specs.OpFaults.{IsFirstFault}
 use Rattle.lnt_ops.specs.OpFaults.IsFirstFault.{no_opcode, unsigned_operand, signed_operand, fixed_operand, unknown_operand, no_length}
@@ -33,30 +33,20 @@ use Rattle.lnt_ops.specs.Programs.{BrokenProgram, IsFirstIn}
 
 -- ---- after a zero byte
 
--- The length isn't there; or it is, and what it counts is cut, or is no operation.
+-- What is wrong after a length: the bytes that it counts are cut, or are no operation.
+data IsCountedFault (address_size : ℕ) (reason : Reason) (n : ℕ) (spelling rest past : List ℕ) : Type 0 where
+  short : reason ≡ Truncated → past ≡ spelling → length rest < n → IsCountedFault address_size reason n spelling rest past
+  wrong : (operation more : List ℕ) → reason ≡ ExtendedLength → past ≡ [] → length operation ≡ n → rest ≡ operation ++ more
+      → IsWrongOperand address_size operation → IsCountedFault address_size reason n spelling rest past
+  large : (code : ℕ) (operand more : List ℕ) → reason ≡ LebTooLarge → past ≡ spelling ++ code ∷ [] → length (code ∷ operand) ≡ n
+      → rest ≡ (code ∷ operand) ++ more → taken_by code ≡ takes_number → IsLeb operand → IsLargeUnsigned operand
+      → IsCountedFault address_size reason n spelling rest past
+
+-- The length isn't there; or it is, and something is wrong after it.
 data IsExtendedFault (address_size : ℕ) (reason : Reason) (past left : List ℕ) : Type 0 where
   missing : past ≡ [] → IsLebFault IsLargeUnsigned reason left → IsExtendedFault address_size reason past left
-  short : (n : ℕ) (spelling : List ℕ) → reason ≡ Truncated → UnsignedLeb n spelling → past ≡ spelling → length left < n
-      → IsExtendedFault address_size reason past left
-  wrong : (spelling operation rest : List ℕ) → reason ≡ ExtendedLength → past ≡ [] → UnsignedLeb (length operation) spelling
-      → left ≡ spelling ++ (operation ++ rest)
-      → IsWrongOperand address_size operation → IsExtendedFault address_size reason past left
-  large : (code : ℕ) (spelling operand rest : List ℕ) → reason ≡ LebTooLarge → taken_by code ≡ takes_number
-      → UnsignedLeb (length operand + 1) spelling → past ≡ spelling ++ code ∷ [] → left ≡ operand ++ rest → IsLeb operand
-      → IsLargeUnsigned operand → IsExtendedFault address_size reason past left
-
--- what stands from the length on
-short_joined : (spelling past left : List ℕ) → past ≡ spelling → past ++ left ≡ spelling ++ left
-short_joined spelling past left e = ap (λ (z : List ℕ). z ++ left) e
-
-wrong_joined : (spelling operation rest past left : List ℕ) → past ≡ [] → left ≡ spelling ++ (operation ++ rest)
-    → past ++ left ≡ spelling ++ (operation ++ rest)
-wrong_joined spelling operation rest past left nothing e = ap (λ (z : List ℕ). z ++ left) nothing ∙ e
-
-large_joined : (code : ℕ) (spelling operand rest past left : List ℕ) → past ≡ spelling ++ code ∷ [] → left ≡ operand ++ rest
-    → past ++ left ≡ spelling ++ ((code ∷ operand) ++ rest)
-large_joined code spelling operand rest past left e f =
-    ap (λ (z : List ℕ). z ++ left) e ∙ append_assoc spelling (code ∷ []) left ∙ ap (λ (z : List ℕ). spelling ++ code ∷ z) f
+  counted : (n : ℕ) (spelling rest : List ℕ) → UnsignedLeb n spelling → past ++ left ≡ spelling ++ rest
+      → IsCountedFault address_size reason n spelling rest past → IsExtendedFault address_size reason past left
 
 -- the same length in front, and what follows it
 record SameCount (m n : ℕ) (x y r s : List ℕ) : Type 0 where
@@ -76,78 +66,62 @@ not_wrong address_size code operation operand takes e shape w =
     subst (λ (t : Taken). FitsTaken address_size t operand) (sym takes) shape in
     subst (IsWrongOperand address_size) e w fits
 
+unsigned_here : IsOneFault UnsignedLeb (IsHere (IsLebFault IsLargeUnsigned))
+unsigned_here = field_fault UnsignedLeb (IsLebFault IsLargeUnsigned) unsigned_fault
+
+counted_one : (address_size m n : ℕ) (x y r s past past' : List ℕ) (reason other : Reason) → SameCount m n x y r s
+    → IsCountedFault address_size reason m x r past → IsCountedFault address_size other n y s past' → (reason ≡ other) × (past ≡ past')
+counted_one size m n x y r s past past' reason other same (short is joined lt) (short is' joined' lt') =
+    (is ∙ sym is', joined ∙ same.bytes ∙ sym joined')
+counted_one size m n x y r s past past' reason other same (short is joined lt) (wrong op more is' nothing count e w) =
+    absurd (omega (arith, lt, same.count, count, ap length same.past, ap length e, length-append op more))
+counted_one size m n x y r s past past' reason other same (short is joined lt) (large c o more is' joined' count e takes shape much) =
+    absurd (omega (arith, lt, same.count, count, ap length same.past, ap length e, length-append o more))
+counted_one size m n x y r s past past' reason other same (wrong op more is nothing count e w) (short is' joined lt) =
+    absurd (omega (arith, lt, same.count, count, ap length same.past, ap length e, length-append op more))
+counted_one size m n x y r s past past' reason other same (large c o more is joined count e takes shape much) (short is' joined' lt) =
+    absurd (omega (arith, lt, same.count, count, ap length same.past, ap length e, length-append o more))
+counted_one size m n x y r s past past' reason other same (wrong op more is nothing count e w) (wrong op' more' is' nothing' count' e' w') =
+    (is ∙ sym is', nothing ∙ sym nothing')
+counted_one size m n x y r s past past' reason other same (wrong op more is nothing count e w)
+    (large c o more' is' joined count' e' takes shape much) =
+    let whole = same_front op (c ∷ o) more more' (count ∙ same.count ∙ sym count') (sym e ∙ same.past ∙ e') in
+    absurd (not_wrong size c op o takes whole shape w)
+counted_one size m n x y r s past past' reason other same (large c o more is joined count e takes shape much)
+    (wrong op more' is' nothing count' e' w) =
+    let whole = same_front op (c ∷ o) more' more (count' ∙ sym same.count ∙ sym count) (sym e' ∙ sym same.past ∙ e) in
+    absurd (not_wrong size c op o takes whole shape w)
+counted_one size m n x y r s past past' reason other same (large c o more is joined count e takes shape much)
+    (large c' o' more' is' joined' count' e' takes' shape' much') =
+    let heads : c ∷ (o ++ more) ≡ c' ∷ (o' ++ more') = sym e ∙ same.past ∙ e' in
+    let codes : c ≡ c' = cc in
+    (is ∙ sym is', joined ∙ ap (λ (z : List ℕ). z ++ c ∷ []) same.bytes ∙ ap (λ (a : ℕ). y ++ a ∷ []) codes ∙ sym joined')
+
 extended_one : (address_size : ℕ) → AreOne (IsExtendedFault address_size)
 extended_one size reason other past past' left left' (missing nothing h) (missing nothing' k) e =
-    (field_fault UnsignedLeb (IsLebFault IsLargeUnsigned) unsigned_fault).one reason other past past' left left' (nothing, h)
-    (nothing', k) e
-extended_one size reason other past past' left left' (missing nothing h) (short n x is p joined lt) e =
-    absurd (unsigned_fault.none reason left h n x left' p
-    (sym (ap (λ (z : List ℕ). z ++ left) (sym nothing) ∙ e ∙ short_joined x past' left' joined)))
-extended_one size reason other past past' left left' (missing nothing h) (wrong x op rest is nothing' p joined w) e =
-    absurd (unsigned_fault.none reason left h (length op) x (op ++ rest) p
-    (sym (ap (λ (z : List ℕ). z ++ left) (sym nothing) ∙ e ∙ wrong_joined x op rest past' left' nothing' joined)))
-extended_one size reason other past past' left left' (missing nothing h) (large c x o rest is takes p joined joined' shape much) e =
-    absurd (unsigned_fault.none reason left h (length o + 1) x ((c ∷ o) ++ rest) p
-    (sym (ap (λ (z : List ℕ). z ++ left) (sym nothing) ∙ e ∙ large_joined c x o rest past' left' joined joined')))
-extended_one size reason other past past' left left' (short n x is p joined lt) (missing nothing k) e =
-    absurd (unsigned_fault.none other left' k n x left p
-    (sym (ap (λ (z : List ℕ). z ++ left') (sym nothing) ∙ sym e ∙ short_joined x past left joined)))
-extended_one size reason other past past' left left' (short n x is p joined lt) (short n' x' is' p' joined' lt') e =
-    let found =
-    same_count n n' x x' left left' p p' (sym (short_joined x past left joined) ∙ e ∙ short_joined x' past' left' joined') in
-    (is ∙ sym is', joined ∙ found.bytes ∙ sym joined')
-extended_one size reason other past past' left left' (short n x is p joined lt) (wrong x' op rest is' nothing p' joined' w) e =
-    let found =
-    same_count n (length op) x x' left (op ++ rest) p p'
-    (sym (short_joined x past left joined) ∙ e ∙ wrong_joined x' op rest past' left' nothing joined') in
-    absurd (omega (arith, lt, found.count, ap length found.past, length-append op rest))
-extended_one size reason other past past' left left' (short n x is p joined lt) (large c x' o rest is' takes p' joined' f shape much) e =
-    let found =
-    same_count n (length o + 1) x x' left ((c ∷ o) ++ rest) p p'
-    (sym (short_joined x past left joined) ∙ e ∙ large_joined c x' o rest past' left' joined' f) in
-    absurd (omega (arith, lt, found.count, ap length found.past, length-append o rest))
-extended_one size reason other past past' left left' (wrong x op rest is nothing p joined w) (missing nothing' k) e =
-    absurd (unsigned_fault.none other left' k (length op) x (op ++ rest) p
-    (sym (ap (λ (z : List ℕ). z ++ left') (sym nothing') ∙ sym e ∙ wrong_joined x op rest past left nothing joined)))
-extended_one size reason other past past' left left' (wrong x op rest is nothing p joined w) (short n x' is' p' joined' lt) e =
-    let found =
-    same_count (length op) n x x' (op ++ rest) left' p p'
-    (sym (wrong_joined x op rest past left nothing joined) ∙ e ∙ short_joined x' past' left' joined') in
-    absurd (omega (arith, lt, found.count, ap length found.past, length-append op rest))
-extended_one size reason other past past' left left' (wrong x op rest is nothing p joined w)
-    (wrong x' op' rest' is' nothing' p' joined' w') e = (is ∙ sym is', nothing ∙ sym nothing')
-extended_one size reason other past past' left left' (wrong x op rest is nothing p joined w)
-    (large c x' o rest' is' takes p' joined' f shape much) e =
-    let found =
-    same_count (length op) (length o + 1) x x' (op ++ rest) ((c ∷ o) ++ rest') p p'
-    (sym (wrong_joined x op rest past left nothing joined) ∙ e ∙ large_joined c x' o rest' past' left' joined' f) in
-    let same : op ≡ c ∷ o = same_front op (c ∷ o) rest rest' (omega (arith, found.count)) found.past in
-    absurd (not_wrong size c op o takes same shape w)
-extended_one size reason other past past' left left' (large c x o rest is takes p joined f shape much) (missing nothing k) e =
-    absurd (unsigned_fault.none other left' k (length o + 1) x ((c ∷ o) ++ rest) p
-    (sym (ap (λ (z : List ℕ). z ++ left') (sym nothing) ∙ sym e ∙ large_joined c x o rest past left joined f)))
-extended_one size reason other past past' left left' (large c x o rest is takes p joined f shape much) (short n x' is' p' joined' lt) e =
-    let found =
-    same_count (length o + 1) n x x' ((c ∷ o) ++ rest) left' p p'
-    (sym (large_joined c x o rest past left joined f) ∙ e ∙ short_joined x' past' left' joined') in
-    absurd (omega (arith, lt, found.count, ap length found.past, length-append o rest))
-extended_one size reason other past past' left left' (large c x o rest is takes p joined f shape much)
-    (wrong x' op rest' is' nothing p' joined' w) e =
-    let found =
-    same_count (length o + 1) (length op) x x' ((c ∷ o) ++ rest) (op ++ rest') p p'
-    (sym (large_joined c x o rest past left joined f) ∙ e ∙ wrong_joined x' op rest' past' left' nothing joined') in
-    let same : op ≡ c ∷ o = same_front op (c ∷ o) rest' rest (omega (arith, found.count)) (sym found.past) in
-    absurd (not_wrong size c op o takes same shape w)
-extended_one size reason other past past' left left' (large c x o rest is takes p joined f shape much)
-    (large c' x' o' rest' is' takes' p' joined' f' shape' much') e =
-    let found =
-    same_count (length o + 1) (length o' + 1) x x' ((c ∷ o) ++ rest) ((c' ∷ o') ++ rest') p p'
-    (sym (large_joined c x o rest past left joined f) ∙ e ∙ large_joined c' x' o' rest' past' left' joined' f') in
-    let heads : c ∷ (o ++ rest) ≡ c' ∷ (o' ++ rest') = found.past in
-    let codes : c ≡ c' = cc in
-    (is ∙ sym is', joined ∙ ap (λ (z : List ℕ). z ++ c ∷ []) found.bytes ∙ ap (λ (a : ℕ). x' ++ a ∷ []) codes ∙ sym joined')
+    unsigned_here.one reason other past past' left left' (nothing, h) (nothing', k) e
+extended_one size reason other past past' left left' (missing nothing h) (counted n x rest p whole f) e =
+    absurd (unsigned_fault.none reason left h n x rest p (sym (ap (λ (z : List ℕ). z ++ left) (sym nothing) ∙ e ∙ whole)))
+extended_one size reason other past past' left left' (counted n x rest p whole f) (missing nothing k) e =
+    absurd (unsigned_fault.none other left' k n x rest p (sym (ap (λ (z : List ℕ). z ++ left') (sym nothing) ∙ sym e ∙ whole)))
+extended_one size reason other past past' left left' (counted n x rest p whole f) (counted n' x' rest' p' whole' f') e =
+    counted_one size n n' x x' rest rest' past past' reason other (same_count n n' x x' rest rest' p p' (sym whole ∙ e ∙ whole')) f f'
 
 -- no right operation has such a fault: one whose operand fits its code, and whose number, if it takes one, is in range
+counted_none : (address_size code n : ℕ) (operand spelling more x rest past : List ℕ) (reason : Reason)
+    → SameCount (length (code ∷ operand)) n spelling x ((code ∷ operand) ++ more) rest → IsRightOperand address_size (code ∷ operand)
+    → (taken_by code ≡ takes_number → IsLargeUnsigned operand → ⊥) → IsCountedFault address_size reason n x rest past → ⊥
+counted_none size code n operand spelling more x rest past reason same right small (short is joined lt) =
+    omega (arith, lt, same.count, ap length same.past, length-append operand more)
+counted_none size code n operand spelling more x rest past reason same right small (wrong op more' is nothing count e w) =
+    let whole = same_front op (code ∷ operand) more' more (count ∙ sym same.count) (sym e ∙ sym same.past) in
+    subst (IsWrongOperand size) whole w right
+counted_none size code n operand spelling more x rest past reason same right small (large c o more' is joined count e takes shape much) =
+    let whole : code ∷ operand ≡ c ∷ o = same_front (code ∷ operand) (c ∷ o) more more' (same.count ∙ sym count) (same.past ∙ e) in
+    let codes : code ≡ c = cc in
+    let operands : o ≡ operand = cc in
+    small (ap taken_by codes ∙ takes) (subst IsLargeUnsigned operands much)
+
 extended_none : (address_size : ℕ) (reason : Reason) (past left : List ℕ) (code : ℕ) (operand spelling more : List ℕ)
     → IsExtendedFault address_size reason past left
     → UnsignedLeb (length (code ∷ operand)) spelling → IsRightOperand address_size (code ∷ operand)
@@ -156,24 +130,9 @@ extended_none : (address_size : ℕ) (reason : Reason) (past left : List ℕ) (c
 extended_none size reason past left code operand spelling more (missing nothing h) p right small e =
     unsigned_fault.none reason left h (length (code ∷ operand)) spelling ((code ∷ operand) ++ more) p
     (e ∙ ap (λ (z : List ℕ). z ++ left) nothing)
-extended_none size reason past left code operand spelling more (short n x is q joined lt) p right small e =
-    let found =
-    same_count (length (code ∷ operand)) n spelling x ((code ∷ operand) ++ more) left p q (e ∙ short_joined x past left joined) in
-    omega (arith, lt, found.count, ap length found.past, length-append operand more)
-extended_none size reason past left code operand spelling more (wrong x op rest is nothing q joined w) p right small e =
-    let found =
-    same_count (length (code ∷ operand)) (length op) spelling x ((code ∷ operand) ++ more) (op ++ rest) p q
-    (e ∙ wrong_joined x op rest past left nothing joined) in
-    let same : op ≡ code ∷ operand = same_front op (code ∷ operand) rest more (sym found.count) (sym found.past) in
-    subst (IsWrongOperand size) same w right
-extended_none size reason past left code operand spelling more (large c x o rest is takes q joined f shape much) p right small e =
-    let found =
-    same_count (length (code ∷ operand)) (length o + 1) spelling x ((code ∷ operand) ++ more) ((c ∷ o) ++ rest) p q
-    (e ∙ large_joined c x o rest past left joined f) in
-    let same : code ∷ operand ≡ c ∷ o = same_front (code ∷ operand) (c ∷ o) more rest (omega (arith, found.count)) found.past in
-    let codes : code ≡ c = cc in
-    let operands : o ≡ operand = cc in
-    small (ap taken_by codes ∙ takes) (subst IsLargeUnsigned operands much)
+extended_none size reason past left code operand spelling more (counted n x rest q whole f) p right small e =
+    let same = same_count (length (code ∷ operand)) n spelling x ((code ∷ operand) ++ more) rest p q (e ∙ whole) in
+    counted_none size code n operand spelling more x rest past reason same right small f
 
 -- ---- operands, by their opcodes
 
@@ -185,9 +144,6 @@ OfOperand h code two_bytes reason past left = IsHere (IsCutShort 2) reason past 
 OfOperand h code nothing_more reason past left = ⊥
 OfOperand h code as_listed reason past left =
     FirstOfSeveral (standard_length h code) UnsignedLeb (IsHere (IsLebFault IsLargeUnsigned)) reason past left
-
-unsigned_here : IsOneFault UnsignedLeb (IsHere (IsLebFault IsLargeUnsigned))
-unsigned_here = field_fault UnsignedLeb (IsLebFault IsLargeUnsigned) unsigned_fault
 
 signed_here : IsOneFault SignedLeb (IsHere (IsLebFault IsLargeSigned))
 signed_here = field_fault SignedLeb (IsLebFault IsLargeSigned) signed_fault
@@ -224,55 +180,39 @@ data IsOpcodeFault (h : HeaderParts) (reason : Reason) (before left : List ℕ) 
 takes_listed : (code : ℕ) → last_known < code → following code ≡ as_listed
 takes_listed code le = get_or_past known_followings code as_listed le
 
+operand_fault : (h : HeaderParts) (k : ℕ) (kind : Following) (reason : Reason) (past before left : List ℕ) → following k ≡ kind
+    → k < h.opcode_base → before ≡ k ∷ past → OfOperand h k kind reason past left → IsOpcodeFault h reason before left
+operand_fault h k kind reason past before left takes lt b fault = operand (record {
+  code = k;
+  past = past;
+  within = lt;
+  joined = b;
+  fault = subst (λ (f : Following). OfOperand h k f reason past left) (sym takes) fault;
+})
+
 opcode_fault : (h : HeaderParts) (reason : Reason) (before left : List ℕ) → 0 < h.opcode_base → IsFirstFault h reason before left
     → IsOpcodeFault h reason before left
 opcode_fault h reason before left some (no_opcode e b l) = nothing e b l
 opcode_fault h reason before left some (unsigned_operand k takes lt b p) =
-    operand (record {
-      code = k;
-      past = [];
-      within = lt;
-      joined = b;
-      fault = subst (λ (kind : Following). OfOperand h k kind reason [] left)
-          (sym takes) (refl, p);
-    })
+    operand_fault h k one_unsigned reason [] before left takes lt b (refl, p)
 opcode_fault h reason before left some (signed_operand k takes lt b p) =
-    operand (record {
-      code = k;
-      past = [];
-      within = lt;
-      joined = b;
-      fault = subst (λ (kind : Following). OfOperand h k kind reason [] left)
-          (sym takes) (refl, p);
-    })
+    operand_fault h k one_signed reason [] before left takes lt b (refl, p)
 opcode_fault h reason before left some (fixed_operand k e takes lt b cut) =
-    operand (record {
-      code = k;
-      past = [];
-      within = lt;
-      joined = b;
-      fault = subst (λ (kind : Following). OfOperand h k kind reason [] left)
-          (sym takes) (refl, record { reason_is = e; short = cut });
-    })
+    operand_fault h k two_bytes reason [] before left takes lt b (refl, record { reason_is = e; short = cut })
 opcode_fault h reason before left some (unknown_operand k numbers spelling le lt each fewer b p) =
-    operand (record {
-      code = k;
-      past = spelling;
-      within = lt;
-      joined = b;
-      fault = subst (λ (kind : Following). OfOperand h k kind reason spelling left) (sym (takes_listed k le))
-          (next numbers spelling [] fewer each (sym (append-nil spelling)) (refl, p));
-    })
-opcode_fault h reason before left some (no_length b p) =
-    operand (record { code = 0; past = []; within = some; joined = b; fault = missing refl p })
+    operand_fault h k as_listed reason spelling before left (takes_listed k le) lt b
+    (next numbers spelling [] fewer each (sym (append-nil spelling)) (refl, p))
+opcode_fault h reason before left some (no_length b p) = operand_fault h 0 by_length reason [] before left refl some b (missing refl p)
 opcode_fault h reason before left some (cut_counted n spelling e p b cut) =
-    operand (record { code = 0; past = spelling; within = some; joined = b; fault = short n spelling e p refl cut })
+    operand_fault h 0 by_length reason spelling before left refl some b (counted n spelling left p refl (short e refl cut))
 opcode_fault h reason before left some (wrong_counted e b w) =
-    operand (record
-    { code = 0; past = []; within = some; joined = b; fault = wrong w.0 w.1 w.2 e refl w.3 (w.4 ∙ append_assoc w.0 w.1 w.2) w.5 })
+    operand_fault h 0 by_length reason [] before left refl some b
+    (counted (length w.1) w.0 (w.1 ++ w.2) w.3 (w.4 ∙ append_assoc w.0 w.1 w.2) (wrong w.1 w.2 e refl refl refl w.5))
 opcode_fault h reason before left some (large_counted spelling o rest e p b l shape much) =
-    operand (record
-    { code = 0; past = spelling ++ b.0 ∷ []; within = some; joined = b.2; fault = large b.0 spelling o rest e b.1 p refl l shape much })
+    operand_fault h 0 by_length reason (spelling ++ b.0 ∷ []) before left refl some b.2
+    (counted (length o + 1) spelling ((b.0 ∷ o) ++ rest) p
+    (append_assoc spelling (b.0 ∷ []) left ∙ ap (λ (z : List ℕ). spelling ++ b.0 ∷ z) l)
+    (large b.0 o rest e refl (omega arith) refl b.1 shape much))
 
 opcode_one : (h : HeaderParts) → AreOne (IsOpcodeFault h)
 opcode_one h reason other before before' left left' (nothing is b l) (nothing is' b' l') e = (is ∙ sym is', b ∙ sym b')
@@ -324,23 +264,16 @@ extended_at : (h : HeaderParts) (code : ℕ) (OfCode : List ℕ → Type 0) (rea
     → ((bytes : List ℕ) → OfCode bytes → IsRightOperand h.address_size (code ∷ bytes)
     × (taken_by code ≡ takes_number → IsLargeUnsigned bytes → ⊥)) → ⊥
 extended_at h code OfCode reason before left x more f p e right =
-    let bytes = p.1.back in
-    let rest : p.0 ≡ code ∷ bytes = p.1.joined ∙ ap (λ (z : List ℕ). z ++ bytes) p.1.first in
-    let inner = p.2.second in
-    let back : p.2.back ≡ inner.front ++ (code ∷ bytes) = inner.joined ∙ ap (λ (z : List ℕ). inner.front ++ z) (inner.second ∙ rest) in
-    let whole : x ≡ 0 ∷ (inner.front ++ (code ∷ bytes)) =
-    p.2.joined ∙ ap (λ (z : List ℕ). z ++ p.2.back) p.2.first ∙ ap (λ (z : List ℕ). 0 ∷ z) back in
-    let all : 0 ∷ ((inner.front ++ (code ∷ bytes)) ++ more) ≡ f.code ∷ (f.past ++ left) =
-    ap (λ (z : List ℕ). z ++ more) (sym whole) ∙ e ∙ ap (λ (z : List ℕ). z ++ left) f.joined in
+    let q = extended_parts code OfCode x p in
+    let all : 0 ∷ ((q.spelling ++ (code ∷ q.operand)) ++ more) ≡ f.code ∷ (f.past ++ left) =
+    ap (λ (z : List ℕ). z ++ more) (sym q.joined) ∙ e ∙ ap (λ (z : List ℕ). z ++ left) f.joined in
     let codes : f.code ≡ 0 = cc in
-    let tails : (inner.front ++ (code ∷ bytes)) ++ more ≡ f.past ++ left = cc in
+    let tails : (q.spelling ++ (code ∷ q.operand)) ++ more ≡ f.past ++ left = cc in
     let fault : IsExtendedFault h.address_size reason f.past left =
     subst (λ (c : ℕ). OfOperand h c (following c) reason f.past left) codes f.fault in
-    let spelled : UnsignedLeb (length (code ∷ bytes)) inner.front =
-    subst (λ (z : List ℕ). UnsignedLeb (length z) inner.front) rest inner.first in
-    let is = right bytes p.1.second in
-    extended_none h.address_size reason f.past left code bytes inner.front more fault spelled is.0 is.1
-    (sym (append_assoc inner.front (code ∷ bytes) more) ∙ tails)
+    let is = right q.operand q.is in
+    extended_none h.address_size reason f.past left code q.operand q.spelling more fault q.spelled is.0 is.1
+    (sym (append_assoc q.spelling (code ∷ q.operand) more) ∙ tails)
 
 fault_none : (h : HeaderParts) (k : ℕ) (taken : Operand) (reason : Reason) (more past left : List ℕ)
     → (s : StandardAt h k (OperandBytes h taken) reason more past left) → OfOperand h k (follows taken) reason past left → ⊥
@@ -400,11 +333,15 @@ opcode_none h reason before left (operand f) op x more p e = coding_none h reaso
 
 -- ---- operations, and programs
 
+pub first_none : (h : HeaderParts) (reason : Reason) (before left : List ℕ) → 0 < h.opcode_base → IsFirstFault h reason before left
+    → NoneSpelled (OpBytes h) (before ++ left)
+first_none h reason before left some f = opcode_none h reason before left (opcode_fault h reason before left some f)
+
 pub first_fault : (h : HeaderParts) → HasHeaderNumbers h → IsOneFault (OpBytes h) (IsFirstFault h)
 first_fault h numbers =
     let some : 0 < h.opcode_base = omega (arith, numbers.opcode_base) in
     record {
-      none = λ reason before left f. opcode_none h reason before left (opcode_fault h reason before left some f);
+      none = λ reason before left f. first_none h reason before left some f;
       one = λ reason other before before' left left' f g e.
           opcode_one h reason other before before' left left' (opcode_fault h reason before left some f)
           (opcode_fault h other before' left' some g) e;

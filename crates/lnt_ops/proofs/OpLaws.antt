@@ -69,15 +69,31 @@ standard_shape : (h : HeaderParts) (k t : ℕ) (Operand : List ℕ → Type 0) (
     → Shape h.opcode_base t x
 standard_shape h k t Operand x e positive p = standard k p.1.back e positive p.0 (p.1.joined ∙ ap (λ (z : List ℕ). z ++ p.1.back) p.1.first)
 
-extended_shape : (h : HeaderParts) (code t : ℕ) (Operand : List ℕ → Type 0) (x : List ℕ) → t ≡ 2 * code + 2 → Extended code Operand x
-    → Shape h.opcode_base t x
-extended_shape h code t Operand x e p =
+-- the length of an extended operation, and its operand
+pub record ExtendedParts (code : ℕ) (Operand : List ℕ → Type 0) (x : List ℕ) : Type 0 where
+  pub spelling : List ℕ
+  pub operand : List ℕ
+  pub spelled : UnsignedLeb (length (code ∷ operand)) spelling
+  pub is : Operand operand
+  pub joined : x ≡ 0 ∷ (spelling ++ (code ∷ operand))
+
+pub extended_parts : (code : ℕ) (Operand : List ℕ → Type 0) (x : List ℕ) → Extended code Operand x → ExtendedParts code Operand x
+extended_parts code Operand x p =
     let rest : p.0 ≡ code ∷ p.1.back = p.1.joined ∙ ap (λ (z : List ℕ). z ++ p.1.back) p.1.first in
     let inner = p.2.second in
     let past : p.2.back ≡ inner.front ++ (code ∷ p.1.back) = inner.joined ∙ ap (λ (z : List ℕ). inner.front ++ z) (inner.second ∙ rest) in
-    let whole : x ≡ 0 ∷ (inner.front ++ (code ∷ p.1.back)) = p.2.joined ∙ ap (λ (z : List ℕ). z ++ p.2.back) p.2.first
-    ∙ ap (λ (z : List ℕ). 0 ∷ z) past in
-    extended code p.1.back inner.front e (subst (λ (z : List ℕ). UnsignedLeb (length z) inner.front) rest inner.first) whole
+    record {
+      spelling = inner.front;
+      operand = p.1.back;
+      spelled = subst (λ (z : List ℕ). UnsignedLeb (length z) inner.front) rest inner.first;
+      is = p.1.second;
+      joined = p.2.joined ∙ ap (λ (z : List ℕ). z ++ p.2.back) p.2.first ∙ ap (λ (z : List ℕ). 0 ∷ z) past;
+    }
+
+extended_shape : (h : HeaderParts) (code t : ℕ) (Operand : List ℕ → Type 0) (x : List ℕ) → t ≡ 2 * code + 2 → Extended code Operand x
+    → Shape h.opcode_base t x
+extended_shape h code t Operand x e p =
+    let q = extended_parts code Operand x p in extended code q.operand q.spelling e q.spelled q.joined
 
 -- no standard opcode is 0
 abbrev IsPositive : Coding → Type 0
@@ -136,27 +152,6 @@ pub same_tag : (h : HeaderParts) (u v : Op) (x y r s : List ℕ) → 0 < h.opcod
     → tag u ≡ tag v
 same_tag h u v x y r s pos p q e = same_shape h.opcode_base (tag u) (tag v) x y r s pos (shape_of h u x p) (shape_of h v y q) e
 
--- ---- what the first byte says
-
-standard_of : (base t k : ℕ) (y : List ℕ) → 0 < k → k < base → Shape base t (k ∷ y) → t ≡ 2 * k + 1
-standard_of base t k y some lt (special c tag le p) = let same : k ≡ c = cc in absurd (omega (arith, same))
-standard_of base t k y some lt (standard j u tag positive under p) = let same : k ≡ j = cc in omega (arith, same)
-standard_of base t k y some lt (extended code u l tag leb p) = let same : k ≡ 0 = cc in absurd (omega (arith, same))
-
-extended_of : (base t : ℕ) (y : List ℕ) → 0 < base → Shape base t (0 ∷ y) → (code : ℕ) × (t ≡ 2 * code + 2)
-extended_of base t y some (special c tag le p) = let same : 0 ≡ c = cc in absurd (omega (arith, same))
-extended_of base t y some (standard j u tag positive under p) = let same : 0 ≡ j = cc in absurd (omega (arith, same))
-extended_of base t y some (extended code u l tag leb p) = (code, tag)
-
--- an operation whose first byte is a standard opcode
-pub standard_tag : (h : HeaderParts) (op : Op) (k : ℕ) (y : List ℕ) → 0 < k → k < h.opcode_base → OpBytes h op (k ∷ y) → tag op ≡ 2 * k + 1
-standard_tag h op k y some lt p = standard_of h.opcode_base (tag op) k y some lt (shape_of h op (k ∷ y) p)
-
--- and one whose first byte is zero
-pub extended_tag : (h : HeaderParts) (op : Op) (y : List ℕ) → 0 < h.opcode_base → OpBytes h op (0 ∷ y) → (code : ℕ)
-    × (tag op ≡ 2 * code + 2)
-extended_tag h op y some p = extended_of h.opcode_base (tag op) y some (shape_of h op (0 ∷ y) p)
-
 -- ---- its operand
 
 -- a standard operation with an operand
@@ -168,50 +163,42 @@ same_operand code make h j k m n x y r s p q e =
     let operand = code.one m n p.1.back q.1.back r s p.1.second q.1.second opcode.past in
     (ap (λ (i : ℕ). make i m) opcode.value ∙ ap (make k) operand.0, same_join x y p.1 q.1 opcode.bytes operand.1)
 
--- and one without
-same_opcode : (h : HeaderParts) (j k : ℕ) (x y r s : List ℕ) → Standard h j (Exactly []) x → Standard h k (Exactly []) y
-    → x ++ r ≡ y ++ s
-    → (Coding.standard j Operand.bare ≡ Coding.standard k Operand.bare) × (x ≡ y)
-same_opcode h j k x y r s p q e =
-    let opcode = peel byte_code j k x y r s p.1 q.1 e in
-    (ap (λ (i : ℕ). Coding.standard i Operand.bare) opcode.value, same_join x y p.1 q.1 opcode.bytes (p.1.second ∙ sym q.1.second))
+-- an operand that has no bytes
+nothing_code : IsCode (λ (u : Unit {0}). Exactly [])
+nothing_code = record { one = λ u v x y r s p q e. (refl, p ∙ sym q) }
 
 -- what follows the length of an extended operation
-same_extended : {P Q : List ℕ → Type 0} (c d : ℕ) (x y r s : List ℕ) → (p : Extended c P x) → (q : Extended d Q y) → x ++ r ≡ y ++ s
-    → (p.0 ≡ q.0) × (x ≡ y)
+same_extended : {P Q : List ℕ → Type 0} (c d : ℕ) (x y r s : List ℕ) → (p : ExtendedParts c P x) → (q : ExtendedParts d Q y)
+    → x ++ r ≡ y ++ s → (c ∷ p.operand ≡ d ∷ q.operand) × (x ≡ y)
 same_extended c d x y r s p q e =
-    let zero_byte = peel byte_code 0 0 x y r s p.2 q.2 e in
-    let p2 = p.2.second in
-    let q2 = q.2.second in
-    let size = peel unsigned_code (length p.0) (length q.0) p.2.back q.2.back r s p2 q2 zero_byte.past in
-    let len : length p2.back ≡ length q2.back = ap length p2.second ∙ size.value ∙ sym (ap length q2.second) in
-    let same : p2.back ≡ q2.back = same_front p2.back q2.back r s len size.past in
-    (sym p2.second ∙ same ∙ q2.second, same_join x y p.2 q.2 zero_byte.bytes (same_join p.2.back q.2.back p2 q2 size.bytes same))
+    let u = c ∷ p.operand in
+    let v = d ∷ q.operand in
+    let whole = (heads_of 0 0 x y (p.spelling ++ u) (q.spelling ++ v) r s p.joined q.joined e).1 in
+    let all : p.spelling ++ (u ++ r) ≡ q.spelling ++ (v ++ s) = sym (append_assoc p.spelling u r) ∙ whole ∙ append_assoc q.spelling v s in
+    let size = unsigned_code.one (length u) (length v) p.spelling q.spelling (u ++ r) (v ++ s) p.spelled q.spelled all in
+    let same : u ≡ v = same_front u v r s size.0 (same_rest p.spelling q.spelling (u ++ r) (v ++ s) size.1 all) in
+    (same, p.joined ∙ ap (λ (z : List ℕ). 0 ∷ (z ++ u)) size.1 ∙ ap (λ (z : List ℕ). 0 ∷ (q.spelling ++ z)) same ∙ sym q.joined)
 
 same_extended_operand : {X : Type 0} {P : X → List ℕ → Type 0} → IsCode P → (make : ℕ → X → Coding) (c d : ℕ) (m n : X)
     (x y r s : List ℕ)
     → Extended c (P m) x → Extended d (P n) y → x ++ r ≡ y ++ s → (make c m ≡ make d n) × (x ≡ y)
-same_extended_operand code make c d m n x y r s p q e =
-    let found = same_extended c d x y r s p q e in
-    let inner = peel byte_code c d p.0 q.0 [] [] p.1 q.1 (ap (λ (z : List ℕ). z ++ []) found.0) in
-    let operand = code.one m n p.1.back q.1.back [] [] p.1.second q.1.second inner.past in
-    (ap (λ (i : ℕ). make i m) inner.value ∙ ap (make d) operand.0, found.1)
-
-same_extended_code : (c d : ℕ) (x y r s : List ℕ) → Extended c (Exactly []) x → Extended d (Exactly []) y → x ++ r ≡ y ++ s
-    → (Coding.extended c ≡ Coding.extended d) × (x ≡ y)
-same_extended_code c d x y r s p q e =
-    let found = same_extended c d x y r s p q e in
-    let inner = peel byte_code c d p.0 q.0 [] [] p.1 q.1 (ap (λ (z : List ℕ). z ++ []) found.0) in
-    (ap Coding.extended inner.value, found.1)
+same_extended_operand {X} {P} code make c d m n x y r s p q e =
+    let t = extended_parts c (P m) x p in
+    let u = extended_parts d (P n) y q in
+    let found = same_extended c d x y r s t u e in
+    let codes : c ≡ d = let all = found.0 in cc in
+    let bytes : t.operand ≡ u.operand = let all = found.0 in cc in
+    let operand = code.one m n t.operand u.operand [] [] t.is u.is (ap (λ (z : List ℕ). z ++ []) bytes) in
+    (ap (λ (i : ℕ). make i m) codes ∙ ap (make d) operand.0, found.1)
 
 same_unknown : (c d : ℕ) (t t' x y r s : List ℕ) → Extended c (Exactly t) x → Extended d (Exactly t') y → x ++ r ≡ y ++ s
     → (Coding.unknown_extended c t ≡ Coding.unknown_extended d t') × (x ≡ y)
 same_unknown c d t t' x y r s p q e =
-    let found = same_extended c d x y r s p q e in
-    let inner = peel byte_code c d p.0 q.0 [] [] p.1 q.1 (ap (λ (z : List ℕ). z ++ []) found.0) in
-    let whole : c ∷ t ≡ d ∷ t' = sym (p.1.joined ∙ ap (λ (z : List ℕ). z ++ p.1.back) p.1.first ∙ ap (λ (z : List ℕ). c ∷ z) p.1.second)
-    ∙ found.0 ∙ (q.1.joined ∙ ap (λ (z : List ℕ). z ++ q.1.back) q.1.first ∙ ap (λ (z : List ℕ). d ∷ z) q.1.second) in
-    let codes : c ≡ d = inner.value in
+    let u = extended_parts c (Exactly t) x p in
+    let v = extended_parts d (Exactly t') y q in
+    let found = same_extended c d x y r s u v e in
+    let whole : c ∷ t ≡ d ∷ t' = ap (λ (z : List ℕ). c ∷ z) (sym u.is) ∙ found.0 ∙ ap (λ (z : List ℕ). d ∷ z) v.is in
+    let codes : c ≡ d = cc in
     let operands : t ≡ t' = cc in
     (ap (λ (a : ℕ). Coding.unknown_extended a t) codes ∙ ap (Coding.unknown_extended d) operands, found.1)
 
@@ -259,7 +246,8 @@ same_coding : (h : HeaderParts) (width : IsWidth h.address_size) (c d : Coding) 
 unfolding operand_kind
 same_coding h width (Coding.special c) (Coding.special d) x y r s t p q e =
     let both = heads_of c d x y [] [] r s p.2 q.2 e in (ap Coding.special both.0, p.2 ∙ ap (λ (a : ℕ). a ∷ []) both.0 ∙ sym q.2)
-same_coding h width (Coding.standard j Operand.bare) (Coding.standard k Operand.bare) x y r s t p q e = same_opcode h j k x y r s p q e
+same_coding h width (Coding.standard j Operand.bare) (Coding.standard k Operand.bare) x y r s t p q e =
+    same_operand nothing_code (λ (i : ℕ) (u : Unit {0}). Coding.standard i Operand.bare) h j k tt tt x y r s p q e
 same_coding h width (Coding.standard j (Operand.unsigned m)) (Coding.standard k (Operand.unsigned n)) x y r s t p q e =
     same_operand unsigned_code (λ (i a : ℕ). Coding.standard i (Operand.unsigned a)) h j k m n x y r s p q e
 same_coding h width (Coding.standard j (Operand.signed m)) (Coding.standard k (Operand.signed n)) x y r s t p q e =
@@ -268,7 +256,8 @@ same_coding h width (Coding.standard j (Operand.half m)) (Coding.standard k (Ope
     same_operand (number_code h.order 2 width_2) (λ (i a : ℕ). Coding.standard i (Operand.half a)) h j k m n x y r s p q e
 same_coding h width (Coding.unknown_standard k us) (Coding.unknown_standard l vs) x y r s t p q e =
     same_unknown_standard h k l us vs x y r s p.1 q.1 p.2 q.2 e
-same_coding h width (Coding.extended c) (Coding.extended d) x y r s t p q e = same_extended_code c d x y r s p q e
+same_coding h width (Coding.extended c) (Coding.extended d) x y r s t p q e =
+    same_extended_operand nothing_code (λ (i : ℕ) (u : Unit {0}). Coding.extended i) c d tt tt x y r s p q e
 same_coding h width (Coding.extended_number c m) (Coding.extended_number d n) x y r s t p q e =
     same_extended_operand unsigned_code Coding.extended_number c d m n x y r s p q e
 same_coding h width (Coding.extended_address c m) (Coding.extended_address d n) x y r s t p q e =
@@ -326,21 +315,8 @@ coding_allowed h (Coding.extended code) x p = (tt, tt)
 coding_allowed h (Coding.extended_number code n) x p = (tt, p.1.second.fits)
 coding_allowed h (Coding.extended_address code address) x p = (p.1.second.fits, tt)
 coding_allowed h (Coding.unknown_extended code operand) x p =
-    let body = p.2.1 in (
-      p.0,
-      (
-        omega (arith, p.1),
-        omega (
-          arith,
-          p.2.2.second.first.fits,
-          ap length body.joined,
-          length-append body.front body.back,
-          ap length body.first,
-          ap length
-              body.second,
-        ),
-      ),
-    )
+    let q = extended_parts code (Exactly operand) x p.2 in
+    (p.0, (omega (arith, p.1), omega (arith, q.spelled.fits, ap length q.is)))
 
 pub op_allowed : (h : HeaderParts) (op : Op) (x : List ℕ) → OpBytes h op x → Admits h op × FitsOp op
 op_allowed h op x p = coding_allowed h (coding op) x p

@@ -3,14 +3,14 @@ use Rattle.std.proofs.Common.{Bor, ◌≡◌, ℕ, suc, ◌+◌, ◌-◌, ◌<�
 use Rattle.std.proofs.Common.{refl, sym, ap, subst, ◌∙◌, append_assoc, append-nil, arith}
 use Rattle.std.proofs.lemmas.List.{length-append}
 use Rattle.std.proofs.Math.Seq.{take-append_seam}
-use Rattle.std.specs.Prelude.{ℤ, slice_set, Result, Ok, Err, OnOk, OnErr}
+use Rattle.std.specs.Prelude.{slice_set, Result, Ok, Err, OnOk, OnErr}
 use Rattle.lnt_wire.specs.declared.format.Order.{Order}
 use Rattle.lnt_wire.specs.Bytes.{Exactly, IsShortest, Appends, Extends}
 use Rattle.lnt_wire.specs.At.{At}
 use Rattle.lnt_wire.specs.Reading.{Reads, RefusesField}
 use Rattle.lnt_wire.specs.declared.fault.Fault.{Fault}
 use Rattle.lnt_wire.proofs.CodeLaws.{unsigned_code}
-use Rattle.lnt_wire.specs.Leb128.{UnsignedLeb, SignedLeb, IsLargeUnsigned, IsLebFault}
+use Rattle.lnt_wire.specs.Leb128.{UnsignedLeb, IsLargeUnsigned, IsLebFault}
 use Rattle.lnt_wire.specs.Numbers.{NumberBytes}
 use Rattle.lnt_wire.proofs.LengthLaws.{length-number_bytes}
 use Rattle.lnt_header.specs.declared.header.HeaderParts.{HeaderParts}
@@ -20,12 +20,12 @@ use Rattle.lnt_header.specs.declared.op.OpView.{OpView}
 use Rattle.lnt_header.specs.declared.op.OpView.TheVariants as views
 use Rattle.lnt_header.specs.declared.op.Operands.{Operands}
 use Rattle.lnt_header.specs.declared.op.Operands.TheVariants.{Spelled, Listed}
-use Rattle.lnt_header.specs.OpRules.{AreOperands, StandsFor, op_of, Admits, AdmitsCoding, Coding, coding, coding_of}
+use Rattle.lnt_header.specs.OpRules.{AreOperands, StandsFor, Admits, AdmitsCoding, Coding, coding, coding_of}
 use Rattle.lnt_header.specs.OpRules.{Operand}
 use Rattle.lnt_header.specs.Joins.{Each}
-use Rattle.lnt_header.proofs.PutLaws.{put_as, each_begun, each_put, each_more, each_done}
-use Rattle.lnt_ops.proofs.OpLaws.{same_whole}
-use Rattle.lnt_ops.proofs.ViewLaws.{leb_is_some, is_op_of, operands_of}
+use Rattle.lnt_header.proofs.PutLaws.{put_as, each_begun, each_put, each_more}
+use Rattle.lnt_ops.proofs.OpLaws.{extended_parts, same_whole}
+use Rattle.lnt_ops.proofs.ViewLaws.{leb_is_some, is_coded, IsListed, is_op_of, operands_of}
 use Rattle.lnt_ops.specs.OpBytes.{CodingBytes, OpBytes, Standard, Extended}
 use Rattle.lnt_ops.specs.OpPuts.{IsOpOf, AddsView}
 use Rattle.lnt_ops.specs.Stepping.{AddsSpelled, AddsOperands}
@@ -56,20 +56,6 @@ coded_put Operand code x old middle new pushed p = record {
   joined = p.joined ∙ ap (λ (z : List ℕ). z ++ p.spelling) pushed ∙ append_assoc old (code ∷ []) p.spelling;
 }
 
--- ---- numbers
-
-pub numbers_begun : (old : List ℕ) → Appends (Each UnsignedLeb) [] old old
-numbers_begun old = each_begun UnsignedLeb old
-
-pub numbers_more : (numbers : List ℕ) (i d : ℕ) (old middle new : List ℕ) → i < length numbers
-    → Appends (Each UnsignedLeb) (take i numbers) old middle → Appends UnsignedLeb (get_or numbers i d) middle new
-    → Appends (Each UnsignedLeb) (take (i + 1) numbers) old new
-numbers_more numbers i d old middle new lt p q = each_more UnsignedLeb numbers i d old middle new lt p q
-
-pub numbers_done : (numbers : List ℕ) (n : ℕ) (old new : List ℕ) → length numbers ≤ n → Appends (Each UnsignedLeb) (take n numbers) old new
-    → Appends (Each UnsignedLeb) numbers old new
-numbers_done numbers n old new le p = each_done UnsignedLeb numbers n old new le p
-
 -- ---- extended operations
 
 pub start_put : (code count : ℕ) (old first middle new : List ℕ) → first ≡ old ++ 0 ∷ [] → Appends UnsignedLeb count first middle
@@ -90,51 +76,36 @@ start_put code count old first middle new zero_put p code_put = record {
       ∙ simp append_assoc refl;
 }
 
--- the bytes of an extended operation
-extended : {X : Type 0} (Operand : X → List ℕ → Type 0) (code : ℕ) (x : X) (number operand : List ℕ)
-    → UnsignedLeb (suc (length operand)) number → Operand x operand
-    → ExtendedCoded code Operand x (0 ∷ number ++ code ∷ operand)
-extended Operand code x number operand p q = record {
-  spelled = (
-    code ∷ operand,
-    record { front = code ∷ []; back = operand; first = refl; second = q; joined = refl },
-    record {
-      front = 0 ∷ [];
-      back = number ++ code ∷ operand;
-      first = refl;
-      second = record { front = number; back = code ∷ operand; first = p; second = refl; joined = refl };
-      joined = refl;
-    },
-  );
-}
-
--- the shortest of them, where the number and the operand are the shortest
-shortest_extended : {X : Type 0} (Operand : X → List ℕ → Type 0) (code : ℕ) (x : X) (number operand : List ℕ)
+-- an extended operation whose length and operand are the shortest
+pub shortest_extended : {X : Type 0} (Operand : X → List ℕ → Type 0) (code : ℕ) (x : X) (number operand : List ℕ)
     → IsShortest UnsignedLeb (suc (length operand)) number → IsShortest Operand x operand
     → IsShortest (ExtendedCoded code Operand) x (0 ∷ number ++ code ∷ operand)
 shortest_extended Operand code x number operand p q = record {
-  spelled = extended Operand code x number operand p.spelled q.spelled;
+  spelled = record {
+    spelled = (
+      code ∷ operand,
+      record { front = code ∷ []; back = operand; first = refl; second = q.spelled; joined = refl },
+      record {
+        front = 0 ∷ [];
+        back = number ++ code ∷ operand;
+        first = refl;
+        second = record { front = number; back = code ∷ operand; first = p.spelled; second = refl; joined = refl };
+        joined = refl;
+      },
+    );
+  };
   shortest = λ other t.
-      let rest = t.spelled.0 in
-      let body = t.spelled.1 in
-      let whole = t.spelled.2 in
-      let past = whole.second in
-      let least = q.shortest body.back body.second in
-      let size : length rest ≡ suc (length body.back) = ap length body.joined ∙ length-append body.front body.back
-      ∙ ap (λ (z : List ℕ). length z + length body.back) body.first ∙ omega arith in
-      let count = shortest_of_less (suc (length operand)) (length rest) number past.front (omega (arith, size, least)) p past.first in
+      let u = extended_parts code (Operand x) other t.spelled in
+      let least = q.shortest u.operand u.is in
+      let less : suc (length operand) ≤ length (code ∷ u.operand) = omega (arith, least) in
+      let count = shortest_of_less (suc (length operand)) (length (code ∷ u.operand)) number u.spelling less p u.spelled in
       omega (
         arith,
         least,
-        size,
         count,
         length-append number (code ∷ operand),
-        ap length whole.joined,
-        length-append whole.front whole.back,
-        ap length whole.first,
-        ap length past.joined,
-        length-append past.front past.back,
-        ap length past.second,
+        ap length u.joined,
+        length-append u.spelling (code ∷ u.operand),
       );
 }
 
@@ -230,7 +201,7 @@ counted_put code n place size old middle new three p at is =
 -- ---- single operations, by how they are coded
 
 -- an opcode alone
-alone : (code : ℕ) (old new : List ℕ) → new ≡ old ++ code ∷ [] → Appends (Coded code Exactly) [] old new
+pub alone : (code : ℕ) (old new : List ℕ) → new ≡ old ++ code ∷ [] → Appends (Coded code Exactly) [] old new
 alone code old new put = record {
   spelling = code ∷ [];
   spelled = record {
@@ -239,20 +210,6 @@ alone code old new put = record {
   };
   joined = put;
 }
-
--- whether the operands of an unknown standard operation are asked for
-abbrev IsListed : Coding → Type 0
-IsListed (Coding.unknown_standard k operands) = Unit {0}
-IsListed c = ⊥
-
-coded_alike : (view : OpView) (operands : List ℕ) → (IsListed (coding_of view) → ⊥) → coding (op_of view operands) ≡ coding_of view
-coded_alike (views.UnknownStandard j spelled) operands known = absurd (known tt)
-coded_alike view operands known = refl
-
--- how an operation is coded that the view stands for
-is_coded : (view : OpView) (op : Op) (c : Coding) → StandsFor view op → coding_of view ≡ c → (IsListed c → ⊥) → coding op ≡ c
-is_coded view op c stands e known =
-    ap coding (is_op_of view op stands) ∙ coded_alike view (operands_of op) (λ listed. known (subst IsListed e listed)) ∙ e
 
 -- what was put is of the operation that is coded so
 of_coding : (h : HeaderParts) (op : Op) (c : Coding) (old new : List ℕ) → coding op ≡ c → Appends (CodingBytes h) c old new
@@ -282,12 +239,6 @@ standard_as Spells x h k c old new to from low p =
       joined = s.joined ∙ ap (λ (z : List ℕ). z ++ s.back) s.first;
     }) p
 
-extended_as : {X : Type 0} (Spells : X → List ℕ → Type 0) (x : X) (h : HeaderParts) (code : ℕ) (c : Coding) (old new : List ℕ)
-    → ((y : List ℕ) → Extended code (Spells x) y → CodingBytes h c y) → ((y : List ℕ) → CodingBytes h c y → Extended code (Spells x) y)
-    → Appends (ExtendedCoded code Spells) x old new → Appends (CodingBytes h) c old new
-extended_as Spells x h code c old new to from p =
-    put_as (ExtendedCoded code Spells) (CodingBytes h) x c old new (λ y t. to y t.spelled) (λ y t. record { spelled = from y t }) p
-
 pub special_put : (order : Order) (size : ℕ) (view : OpView) (c : ℕ) (old new : List ℕ) → coding_of view ≡ Coding.special c → c < 256
     → new ≡ old ++ c ∷ [] → AddsView order size view old new
 special_put order size view c old new e low put =
@@ -297,62 +248,30 @@ special_put order size view c old new e low put =
       joined = put;
     })
 
-pub plain_put : (order : Order) (size : ℕ) (view : OpView) (k : ℕ) (old new : List ℕ) → coding_of view ≡ Coding.standard k Operand.bare
-    → new ≡ old ++ k ∷ [] → AddsView order size view old new
-plain_put order size view k old new e put =
-    view_put order size view (Coding.standard k Operand.bare) old new e (λ listed. listed)
-    (λ h o s a. standard_as Exactly [] h k (Coding.standard k Operand.bare) old new (λ y t. t) (λ y t. t) a (alone k old new put))
+-- a standard operation, where numbers of some bytes have the order of the header
+pub standard_put : {X : Type 0} (Spells : Order → X → List ℕ → Type 0) (x : X) (order : Order) (size : ℕ) (view : OpView) (k : ℕ)
+    (operand : Operand) (old new : List ℕ) → coding_of view ≡ Coding.standard k operand
+    → ((h : HeaderParts) (y : List ℕ) → Standard h k (Spells h.order x) y → CodingBytes h (Coding.standard k operand) y)
+    → ((h : HeaderParts) (y : List ℕ) → CodingBytes h (Coding.standard k operand) y → Standard h k (Spells h.order x) y)
+    → Appends (Coded k (Spells order)) x old new → AddsView order size view old new
+standard_put Spells x order size view k operand old new e to from p =
+    view_put order size view (Coding.standard k operand) old new e (λ listed. listed)
+    (λ h o s a. standard_as (Spells h.order) x h k (Coding.standard k operand) old new (to h) (from h) a
+    (subst (λ (w : Order). Appends (Coded k (Spells w)) x old new) (sym o) p))
 
-pub unsigned_put : (order : Order) (size : ℕ) (view : OpView) (k n : ℕ) (old new : List ℕ)
-    → coding_of view ≡ Coding.standard k (Operand.unsigned n) → Appends (Coded k UnsignedLeb) n old new → AddsView order size view old new
-unsigned_put order size view k n old new e p =
-    view_put order size view (Coding.standard k (Operand.unsigned n)) old new e (λ listed. listed)
-    (λ h o s a. standard_as UnsignedLeb n h k (Coding.standard k (Operand.unsigned n)) old new (λ y t. t) (λ y t. t) a p)
-
-pub signed_put : (order : Order) (size : ℕ) (view : OpView) (k : ℕ) (z : ℤ) (old new : List ℕ)
-    → coding_of view ≡ Coding.standard k (Operand.signed z) → Appends (Coded k SignedLeb) z old new → AddsView order size view old new
-signed_put order size view k z old new e p =
-    view_put order size view (Coding.standard k (Operand.signed z)) old new e (λ listed. listed)
-    (λ h o s a. standard_as SignedLeb z h k (Coding.standard k (Operand.signed z)) old new (λ y t. t) (λ y t. t) a p)
-
-pub half_put : (order : Order) (size : ℕ) (view : OpView) (k n : ℕ) (old new : List ℕ)
-    → coding_of view ≡ Coding.standard k (Operand.half n) → Appends (Coded k (NumberBytes order 2)) n old new
-    → AddsView order size view old new
-half_put order size view k n old new e p =
-    view_put order size view (Coding.standard k (Operand.half n)) old new e (λ listed. listed)
-    (λ h o s a. standard_as (NumberBytes h.order 2) n h k (Coding.standard k (Operand.half n)) old new (λ y t. t) (λ y t. t) a
-    (subst (λ (w : Order). Appends (Coded k (NumberBytes w 2)) n old new) (sym o) p))
-
-pub bare_extended_put : (order : Order) (size : ℕ) (view : OpView) (code : ℕ) (old new : List ℕ)
-    → coding_of view ≡ Coding.extended code → Appends (ExtendedCoded code Exactly) [] old new → AddsView order size view old new
-bare_extended_put order size view code old new e p =
-    view_put order size view (Coding.extended code) old new e (λ listed. listed)
-    (λ h o s a. extended_as Exactly [] h code (Coding.extended code) old new (λ y t. t) (λ y t. t) p)
-
-pub extended_number_put : (order : Order) (size : ℕ) (view : OpView) (code n : ℕ) (old new : List ℕ)
-    → coding_of view ≡ Coding.extended_number code n → Appends (ExtendedCoded code UnsignedLeb) n old new → AddsView order size view old new
-extended_number_put order size view code n old new e p =
-    view_put order size view (Coding.extended_number code n) old new e (λ listed. listed)
-    (λ h o s a. extended_as UnsignedLeb n h code (Coding.extended_number code n) old new (λ y t. t) (λ y t. t) p)
-
-pub extended_address_put : (order : Order) (size : ℕ) (view : OpView) (code address : ℕ) (old new : List ℕ)
-    → coding_of view ≡ Coding.extended_address code address → Appends (ExtendedCoded code (NumberBytes order size)) address old new
-    → AddsView order size view old new
-extended_address_put order size view code address old new e p =
-    view_put order size view (Coding.extended_address code address) old new e (λ listed. listed) (λ h o s a.
-    let here : Appends (ExtendedCoded code (NumberBytes h.order h.address_size)) address old new =
-    subst (λ (w : Order). Appends (ExtendedCoded code (NumberBytes w h.address_size)) address old new) (sym o)
-    (subst (λ (k : ℕ). Appends (ExtendedCoded code (NumberBytes order k)) address old new) (sym s) p) in
-    extended_as (NumberBytes h.order h.address_size) address h code (Coding.extended_address code address) old new (λ y t. t) (λ y t. t)
-    here)
-
-pub unknown_extended_put : (order : Order) (size : ℕ) (view : OpView) (code : ℕ) (bytes : Bor (List ℕ)) (old new : List ℕ)
-    → view ≡ views.UnknownExtended code bytes → code < 256 → Appends (ExtendedCoded code Exactly) bytes.now old new
-    → AddsView order size view old new
-unknown_extended_put order size view code bytes old new is low p =
-    let c = Coding.unknown_extended code bytes.now in
-    view_put order size view c old new (ap coding_of is) (λ listed. listed)
-    (λ h o s a. extended_as Exactly bytes.now h code c old new (λ y t. (a, low, t)) (λ y t. t.2) p)
+-- an extended operation, where an address also has the size of the header
+pub extended_view_put : {X : Type 0} (Spells : Order → ℕ → X → List ℕ → Type 0) (x : X) (order : Order) (size : ℕ) (view : OpView)
+    (code : ℕ) (c : Coding) (old new : List ℕ) → coding_of view ≡ c → (IsListed c → ⊥)
+    → ((h : HeaderParts) (y : List ℕ) → AdmitsCoding h c → Extended code (Spells h.order h.address_size x) y → CodingBytes h c y)
+    → ((h : HeaderParts) (y : List ℕ) → CodingBytes h c y → Extended code (Spells h.order h.address_size x) y)
+    → Appends (ExtendedCoded code (Spells order size)) x old new → AddsView order size view old new
+extended_view_put Spells x order size view code c old new e known to from p =
+    view_put order size view c old new e known (λ h o s a.
+    let sized : Appends (ExtendedCoded code (Spells order h.address_size)) x old new =
+    subst (λ (k : ℕ). Appends (ExtendedCoded code (Spells order k)) x old new) (sym s) p in
+    put_as (ExtendedCoded code (Spells h.order h.address_size)) (CodingBytes h) x c old new (λ y t. to h y a t.spelled)
+    (λ y t. record { spelled = from h y t })
+    (subst (λ (w : Order). Appends (ExtendedCoded code (Spells w h.address_size)) x old new) (sym o) sized))
 
 -- the operands of an unknown standard operation
 are_operands : (k : ℕ) (operands : Operands) (op : Op) → StandsFor (views.UnknownStandard k operands) op
@@ -432,18 +351,11 @@ spelled_done bytes old new at fault some so r = record {
 
 -- ---- lists of operations
 
-pub ops_begun : (h : HeaderParts) (old : List ℕ) → Appends (Each (OpBytes h)) [] old old
-ops_begun h old = each_begun (OpBytes h) old
-
 pub ops_more : (h : HeaderParts) (ops : List Op) (i : ℕ) (op : Op) (old middle new : List ℕ) → i < length ops → op ≡ get_or ops i op
     → Appends (Each (OpBytes h)) (take i ops) old middle → Appends (OpBytes h) op middle new
     → Appends (Each (OpBytes h)) (take (i + 1) ops) old new
 ops_more h ops i op old middle new lt is p q =
     each_more (OpBytes h) ops i op old middle new lt p (subst (λ (o : Op). Appends (OpBytes h) o middle new) is q)
-
-pub ops_done : (h : HeaderParts) (ops : List Op) (n : ℕ) (old new : List ℕ) → length ops ≤ n
-    → Appends (Each (OpBytes h)) (take n ops) old new → Appends (Each (OpBytes h)) ops old new
-ops_done h ops n old new le p = each_done (OpBytes h) ops n old new le p
 
 pub appended_extends : {X : Type 0} (Spells : X → List ℕ → Type 0) (x : X) (old new : List ℕ) → Appends Spells x old new → Extends old new
 appended_extends Spells x old new p = record { more = p.spelling; joined = p.joined }

@@ -1,6 +1,6 @@
 -- An operation by its first byte, and by what stands after it.
-use Rattle.std.proofs.Common.{◌≡◌, ℕ, ◌≤◌, List, [], ◌∷◌, ◌++◌, length, refl, sym, ap, subst, ◌∙◌, append_assoc, arith}
-use Rattle.std.proofs.lemmas.List.{length-append}
+use Rattle.std.proofs.Common.{◌≡◌, ℕ, ◌<◌, ◌≤◌, List, [], ◌∷◌, ◌++◌, length, refl, sym, ap, subst, ◌∙◌, append_assoc, arith}
+use Rattle.std.proofs.lemmas.List.{nil_from_length, length-append}
 use Rattle.lnt_wire.specs.At.{At}
 use Rattle.lnt_wire.specs.Bytes.{NoneSpelled}
 use Rattle.lnt_wire.specs.declared.fault.Fault.{Fault}
@@ -16,8 +16,9 @@ use Rattle.lnt_ops.specs.OpBytes.{OpBytes}
 use Rattle.lnt_ops.specs.OpFaults.{IsOpFault, IsFirstFault}
 use Rattle.lnt_ops.specs.OpFaults.IsFirstFault.{no_opcode}
 use Rattle.lnt_ops.proofs.FaultLemmas.{refuses_op}
+use Rattle.lnt_ops.proofs.OpFaultLaws.{first_none}
 use Rattle.lnt_ops.specs.OpReading.{GivesOp}
-use Rattle.lnt_ops.specs.OpSteps.{BytesAfter, IsFaultAfter, GivesAfter}
+use Rattle.lnt_ops.specs.OpSteps.{GivesAfter, RefusesAfter}
 
 -- ---- a cursor that stands where another does
 
@@ -34,10 +35,6 @@ reads_from P v old ahead new place rest order r =
     }
 
 -- ---- the first byte
-
-pub nothing : (bytes : List ℕ) → length bytes ≡ 0 → bytes ≡ []
-nothing [] e = refl
-nothing (b ∷ bytes) e = absurd (omega arith)
 
 byte_is : (h : HeaderParts) (k : ℕ) (old middle : At) → (r : Reads (NumberBytes old.order 1) k old middle) → r.spelling ≡ k ∷ []
 byte_is h k old middle r = r.spelled.spelled ∙ one_digit old.order k r.spelled.fits
@@ -87,7 +84,7 @@ first_opcode h old ahead fault place rest r = record {
   left = old.rest;
   split = refl;
   place = omega (arith, r.place, place);
-  reason = no_opcode r.reason.reason_is refl (nothing old.rest (omega (arith, r.reason.short, ap length rest)));
+  reason = no_opcode r.reason.reason_is refl (nil_from_length old.rest (omega (arith, r.reason.short, ap length rest)));
   none = λ op x more p e. omega (arith, op_is_some h op x p, ap length e, length-append x more, r.reason.short, ap length rest);
 }
 
@@ -96,32 +93,24 @@ pub refuses_opcode : (h : HeaderParts) (old ahead : At) (fault : Fault) → ahea
     → Refuses (IsOpFault h.address_size) (OpBytes h) old fault
 refuses_opcode h old ahead fault place rest r = refuses_op h old fault (first_opcode h old ahead fault place rest r)
 
--- no operation has the first byte, and goes on as its bytes do
-none_after : (h : HeaderParts) (k : ℕ) (rest bytes : List ℕ) → bytes ≡ k ∷ rest → NoneSpelled (BytesAfter h k) rest
-    → NoneSpelled (OpBytes h) bytes
-none_after h k rest bytes whole none op [] more p e = omega (arith, op_is_some h op [] p)
-none_after h k rest bytes whole none op (b ∷ x) more p e =
-    let all : b ∷ (x ++ more) ≡ k ∷ rest = e ∙ whole in
-    let first : b ≡ k = cc in
-    let past : x ++ more ≡ rest = cc in
-    none op x more (record { whole = subst (λ (a : ℕ). OpBytes h op (a ∷ x)) first p }) past
-
 pub first_after : (h : HeaderParts) (k : ℕ) (old ahead middle : At) (fault : Fault) → ahead.place ≡ old.place → ahead.rest ≡ old.rest
-    → Reads (NumberBytes ahead.order 1) k ahead middle
-    → Refuses (IsFaultAfter h k) (BytesAfter h k) middle fault → Refuses (IsFirstFault h) (OpBytes h) old fault
-first_after h k old ahead middle fault place rest r s =
+    → Reads (NumberBytes ahead.order 1) k ahead middle → k < h.opcode_base → RefusesAfter h k middle fault
+    → Refuses (IsFirstFault h) (OpBytes h) old fault
+first_after h k old ahead middle fault place rest r lt s =
     let first = byte_is h k ahead middle r in
-    let whole : old.rest ≡ k ∷ middle.rest = sym rest ∙ r.whole ∙ ap (λ (z : List ℕ). z ++ middle.rest) first in
+    let whole : old.rest ≡ (k ∷ s.before) ++ s.left =
+    sym rest ∙ r.whole ∙ ap (λ (z : List ℕ). z ++ middle.rest) first ∙ ap (λ (z : List ℕ). k ∷ z) s.split in
     record {
       before = k ∷ s.before;
       left = s.left;
-      split = whole ∙ ap (λ (z : List ℕ). k ∷ z) s.split;
+      split = whole;
       place = omega (arith, s.place, r.place, place, ap length first);
-      reason = s.reason.whole;
-      none = none_after h k middle.rest old.rest whole s.none;
+      reason = s.reason;
+      none = subst (NoneSpelled (OpBytes h)) (sym whole) (first_none h fault.reason (k ∷ s.before) s.left (omega (arith, lt)) s.reason);
     }
 
 pub refuses_after : (h : HeaderParts) (k : ℕ) (old ahead middle : At) (fault : Fault) → ahead.place ≡ old.place → ahead.rest ≡ old.rest
-    → Reads (NumberBytes ahead.order 1) k ahead middle
-    → Refuses (IsFaultAfter h k) (BytesAfter h k) middle fault → Refuses (IsOpFault h.address_size) (OpBytes h) old fault
-refuses_after h k old ahead middle fault place rest r s = refuses_op h old fault (first_after h k old ahead middle fault place rest r s)
+    → Reads (NumberBytes ahead.order 1) k ahead middle → k < h.opcode_base → RefusesAfter h k middle fault
+    → Refuses (IsOpFault h.address_size) (OpBytes h) old fault
+refuses_after h k old ahead middle fault place rest r lt s =
+    refuses_op h old fault (first_after h k old ahead middle fault place rest r lt s)

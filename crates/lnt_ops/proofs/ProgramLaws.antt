@@ -2,7 +2,7 @@
 use Rattle.std.proofs.Common.{◌≡◌, ℕ, ◌<◌, List, [], ◌∷◌, ◌++◌, length, refl, sym, ap, subst, ◌∙◌, append_assoc}
 use Rattle.std.proofs.Common.{add-zero, arith, true, false, ◌⊎◌, inl, inr}
 use Rattle.std.proofs.lemmas.Bool.{true≢false}
-use Rattle.std.proofs.lemmas.List.{length-append, append-nil}
+use Rattle.std.proofs.lemmas.List.{nil_from_length, length-append, append-nil}
 use Rattle.std.specs.List.{AllByRecursion}
 use Rattle.lnt_wire.specs.At.{At}
 use Rattle.lnt_wire.specs.Bytes.{NoneSpelled, IsCode}
@@ -69,14 +69,10 @@ pub op_long : (h : HeaderParts) (view : OpView) (at new : At) → GivesOp h view
 op_long h view at new g =
     let r = g.reads in omega (arith, op_is_some h g.op r.spelling r.spelled, ap length r.whole, length-append r.spelling new.rest)
 
-nothing : (xs : List ℕ) → length xs ≡ 0 → xs ≡ []
-nothing [] e = refl
-nothing (x ∷ xs) e = absurd (omega arith)
-
 pub ops_spelled : (h : HeaderParts) (place : ℕ) (program : List ℕ) (ops : List Op) (at : At) → OpsSoFar h place program ops at
     → length at.rest ≡ 0 → Each (OpBytes h) ops program
 ops_spelled h place program ops at so none =
-    let whole : program ≡ so.front = so.whole ∙ ap (λ (z : List ℕ). so.front ++ z) (nothing at.rest none) ∙ append-nil so.front in
+    let whole : program ≡ so.front = so.whole ∙ ap (λ (z : List ℕ). so.front ++ z) (nil_from_length at.rest none) ∙ append-nil so.front in
     subst (Each (OpBytes h) ops) (sym whole) so.spelled
 
 pub ops_admitted : (h : HeaderParts) (place : ℕ) (program : List ℕ) (ops : List Op) (at : At) → OpsSoFar h place program ops at

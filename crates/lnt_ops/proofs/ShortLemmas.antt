@@ -1,23 +1,26 @@
 -- Operations with short operands, at the front of bytes.
-use Rattle.std.proofs.Common.{◌≡◌, ◌≢◌, ℕ, ◌+◌, ◌-◌, ◌*◌, ◌%◌, ◌^◌, ◌<◌, ◌≤◌, Bool, cond, false, List, [], ◌∷◌, ◌++◌}
-use Rattle.std.proofs.Common.{length, take, drop, get_or, add-one, refl, sym, ap, subst, ◌∙◌, arith, ◌⊎◌, inl, inr}
+use Rattle.std.proofs.Common.{◌≡◌, ◌≢◌, ◌==◌, ℕ, zero, suc, ◌+◌, ◌-◌, ◌*◌, ◌%◌, ◌^◌, ◌<◌, ◌≤◌, Bool, cond, false, List, [], ◌∷◌, ◌++◌}
+use Rattle.std.proofs.Common.{length, take, drop, get_or, add-one, refl, sym, ap, subst, ◌∙◌, arith, inl, inr}
 use Rattle.std.specs.Prelude.{ℤ, pos, neg_ℤ, ◌+ℤ◌, ◌-ℤ◌, ◌*ℤ◌, ◌≤ℤ◌, ◌<ℤ◌, FitsSigned}
 use Rattle.std.specs.Int.{w64}
 use Rattle.std.proofs.lemmas.Bool.{lt-leb, le-leb, cases_lt}
 use Rattle.std.proofs.lemmas.Int.{ints}
 use Rattle.std.proofs.lemmas.List.{length-append, length-take-le, take-append-drop}
 use Rattle.lnt_wire.specs.At.{At}
-use Rattle.lnt_wire.specs.Bytes.{Exactly}
-use Rattle.lnt_wire.specs.Leb128.{UnsignedLeb, SignedLeb, signed_groups}
+use Rattle.lnt_wire.specs.Leb128.{IsLeb, UnsignedLeb, SignedLeb, signed_groups}
 use Rattle.lnt_header.specs.declared.header.HeaderParts.{HeaderParts}
 use Rattle.lnt_header.specs.declared.op.Op.{Op}
 use Rattle.lnt_header.specs.declared.op.Op.TheVariants as ops
 use Rattle.lnt_header.specs.declared.op.OpView.{OpView}
 use Rattle.lnt_header.specs.declared.op.OpView.TheVariants as views
-use Rattle.lnt_header.specs.OpRules.{Admits, StandsFor}
-use Rattle.lnt_ops.proofs.StandardReaders.{standard}
+use Rattle.lnt_header.specs.OpRules.{Admits, Coding, coding_of, op_of, Operand, StandsFor}
+use Rattle.lnt_header.specs.OpRules.Coding.{standard}
+use Rattle.lnt_header.specs.OpRules.Operand.{bare, unsigned, signed}
+use Rattle.lnt_ops.proofs.OpLaws.{extended_parts}
+use Rattle.lnt_ops.proofs.StandardReaders.{known_view}
+use Rattle.lnt_ops.proofs.ViewLaws.{is_coded}
 use Rattle.lnt_ops.proofs.WalkLemmas.{steps_on}
-use Rattle.lnt_ops.specs.OpBytes.{Extended, OpBytes, Standard}
+use Rattle.lnt_ops.specs.OpBytes.{CodingBytes, OpBytes, OperandBytes, Standard}
 use Rattle.lnt_ops.specs.OpReading.{GivesOp}
 use Rattle.lnt_ops.specs.Short.{IsOperationFront, IsShort, NoneShort}
 use Rattle.lnt_ops.specs.Stepping.{IsGroup, NoByte, NoDiscriminator, NoTwoBytes}
@@ -120,51 +123,36 @@ pub front_special : (h : HeaderParts) (k : ℕ) (bytes : List ℕ) → 0 < lengt
 front_special h k bytes some is le byte =
     front h k (views.Special k) (ops.Special k) 0 bytes (drop 1 bytes) some is refl (omega arith) refl le (le, byte, refl)
 
-pub front_copy : (h : HeaderParts) (k : ℕ) (bytes : List ℕ) → 0 < length bytes → get_or bytes 0 0 ≡ k → k < h.opcode_base → k ≡ 1
-    → IsOperationFront h views.Copy 1 bytes
-front_copy h k bytes some is lt e =
-    front h k views.Copy ops.Copy 0 bytes (drop 1 bytes) some is refl (omega arith) tt (omega (arith, e, lt))
-    (standard h k 1 (Exactly []) [] e lt refl)
+some_bytes : (bytes : List ℕ) → false ≡ (length bytes == 0) → 0 < length bytes
+some_bytes [] e = absurd cc
+some_bytes (b ∷ bytes) e = omega arith
 
-pub front_negate_stmt : (h : HeaderParts) (k : ℕ) (bytes : List ℕ) → 0 < length bytes → get_or bytes 0 0 ≡ k → k < h.opcode_base → k ≡ 6
-    → IsOperationFront h views.NegateStmt 1 bytes
-front_negate_stmt h k bytes some is lt e =
-    front h k views.NegateStmt ops.NegateStmt 0 bytes (drop 1 bytes) some is refl (omega arith) tt (omega (arith, e, lt))
-    (standard h k 6 (Exactly []) [] e lt refl)
+front_known : (h : HeaderParts) (view : OpView) (k n base : ℕ) (operand : Operand) (bytes rest : List ℕ)
+    → coding_of view ≡ standard k operand → false ≡ (length bytes == 0) → get_or bytes 0 0 ≡ k → get_or bytes 0 0 < base → base ≡ h.opcode_base → rest ≡ drop 1 bytes
+    → n ≤ length rest → OperandBytes h operand (take n rest) → IsOperationFront h view (n + 1) bytes
+front_known h view k n base operand bytes rest e some is lt base_is same le p =
+    let known = known_view h view k k operand e refl (omega (arith, is, lt, base_is)) in
+    front h k view (op_of view []) n bytes rest (some_bytes bytes some) is same le known.stands known.admitted
+    (known.spelled (take n rest) p)
 
-pub front_const_add_pc : (h : HeaderParts) (k : ℕ) (bytes : List ℕ) → 0 < length bytes → get_or bytes 0 0 ≡ k → k < h.opcode_base → k ≡ 8
-    → IsOperationFront h views.ConstAddPc 1 bytes
-front_const_add_pc h k bytes some is lt e =
-    front h k views.ConstAddPc ops.ConstAddPc 0 bytes (drop 1 bytes) some is refl (omega arith) tt (omega (arith, e, lt))
-    (standard h k 8 (Exactly []) [] e lt refl)
+pub front_bare : (h : HeaderParts) (view : OpView) (k base : ℕ) (bytes : List ℕ) → coding_of view ≡ standard k bare
+    → false ≡ (length bytes == 0) → get_or bytes 0 0 ≡ k → get_or bytes 0 0 < base → base ≡ h.opcode_base
+    → IsOperationFront h view 1 bytes
+front_bare h view k base bytes e some is lt base_is =
+    front_known h view k 0 base bare bytes (drop 1 bytes) e some is lt base_is refl (omega arith) refl
 
-pub front_advance_pc : (h : HeaderParts) (k n : ℕ) (bytes operand : List ℕ) → 0 < length bytes → get_or bytes 0 0 ≡ k → k < h.opcode_base
-    → k ≡ 2 → operand ≡ drop 1 bytes
-    → (1 ≤ length operand) × UnsignedLeb n (take 1 operand) → IsOperationFront h (views.AdvancePc n) 2 bytes
-front_advance_pc h k n bytes operand some is lt e same p =
-    front h k (views.AdvancePc n) (ops.AdvancePc n) 1 bytes operand some is same p.0 refl (omega (arith, e, lt))
-    (standard h k 2 (UnsignedLeb n) (take 1 operand) e lt p.1)
+pub front_unsigned : (h : HeaderParts) (view : OpView) (k n base : ℕ) (bytes operand : List ℕ) → coding_of view ≡ standard k (unsigned n)
+    → false ≡ (length bytes == 0) → get_or bytes 0 0 ≡ k → get_or bytes 0 0 < base → base ≡ h.opcode_base → operand ≡ drop 1 bytes
+    → (1 ≤ length operand) × UnsignedLeb n (take 1 operand) → IsOperationFront h view 2 bytes
+front_unsigned h view k n base bytes operand e some is lt base_is same p =
+    front_known h view k 1 base (unsigned n) bytes operand e some is lt base_is same p.0 p.1
 
-pub front_set_file : (h : HeaderParts) (k n : ℕ) (bytes operand : List ℕ) → 0 < length bytes → get_or bytes 0 0 ≡ k → k < h.opcode_base
-    → k ≡ 4 → operand ≡ drop 1 bytes
-    → (1 ≤ length operand) × UnsignedLeb n (take 1 operand) → IsOperationFront h (views.SetFile n) 2 bytes
-front_set_file h k n bytes operand some is lt e same p =
-    front h k (views.SetFile n) (ops.SetFile n) 1 bytes operand some is same p.0 refl (omega (arith, e, lt))
-    (standard h k 4 (UnsignedLeb n) (take 1 operand) e lt p.1)
-
-pub front_set_column : (h : HeaderParts) (k n : ℕ) (bytes operand : List ℕ) → 0 < length bytes → get_or bytes 0 0 ≡ k → k < h.opcode_base
-    → k ≡ 5 → operand ≡ drop 1 bytes
-    → (1 ≤ length operand) × UnsignedLeb n (take 1 operand) → IsOperationFront h (views.SetColumn n) 2 bytes
-front_set_column h k n bytes operand some is lt e same p =
-    front h k (views.SetColumn n) (ops.SetColumn n) 1 bytes operand some is same p.0 refl (omega (arith, e, lt))
-    (standard h k 5 (UnsignedLeb n) (take 1 operand) e lt p.1)
-
-pub front_advance_line : (h : HeaderParts) (k size : ℕ) (z : ℤ) (bytes operand : List ℕ) → 0 < length bytes → get_or bytes 0 0 ≡ k
-    → k < h.opcode_base → k ≡ 3 → operand ≡ drop 1 bytes
-    → (size ≤ length operand) × SignedLeb z (take size operand) → IsOperationFront h (views.AdvanceLine z) (size + 1) bytes
-front_advance_line h k size z bytes operand some is lt e same p =
-    front h k (views.AdvanceLine z) (ops.AdvanceLine z) size bytes operand some is same p.0 refl (omega (arith, e, lt))
-    (standard h k 3 (SignedLeb z) (take size operand) e lt p.1)
+pub front_signed : (h : HeaderParts) (view : OpView) (k size base : ℕ) (z : ℤ) (bytes operand : List ℕ)
+    → coding_of view ≡ standard k (signed z) → false ≡ (length bytes == 0) → get_or bytes 0 0 ≡ k → get_or bytes 0 0 < base
+    → base ≡ h.opcode_base → operand ≡ drop 1 bytes → (size ≤ length operand) × SignedLeb z (take size operand)
+    → IsOperationFront h view (size + 1) bytes
+front_signed h view k size base z bytes operand e some is lt base_is same p =
+    front_known h view k size base (signed z) bytes operand e some is lt base_is same p.0 p.1
 
 -- the length 2, the code 4 and a discriminator of one byte
 discriminator : (h : HeaderParts) (k n : ℕ) (operand : List ℕ) → k ≡ 0 → n < 128 → operand ≡ 2 ∷ 4 ∷ n ∷ []
@@ -195,11 +183,11 @@ discriminator h k n operand e low is =
       },
     )
 
-pub front_discriminator : (h : HeaderParts) (k n : ℕ) (bytes operand : List ℕ) → 0 < length bytes → get_or bytes 0 0 ≡ k → k ≡ 0
-    → operand ≡ drop 1 bytes
-    → (3 ≤ length operand) × (n < 128) × (take 3 operand ≡ 2 ∷ 4 ∷ n ∷ []) → IsOperationFront h (views.SetDiscriminator n) 4 bytes
+pub front_discriminator : (h : HeaderParts) (k n : ℕ) (bytes operand : List ℕ) → false ≡ (length bytes == 0) → get_or bytes 0 0 ≡ k
+    → k ≡ 0 → operand ≡ drop 1 bytes → (3 ≤ length operand) × (n < 128) × (take 3 operand ≡ 2 ∷ 4 ∷ n ∷ [])
+    → IsOperationFront h (views.SetDiscriminator n) 4 bytes
 front_discriminator h k n bytes operand some is e same p =
-    front h k (views.SetDiscriminator n) (ops.SetDiscriminator n) 3 bytes operand some is same p.0 refl tt
+    front h k (views.SetDiscriminator n) (ops.SetDiscriminator n) 3 bytes operand (some_bytes bytes some) is same p.0 refl tt
     (discriminator h k n (take 3 operand) e p.1 p.2)
 
 -- ---- steps of a walk
@@ -243,18 +231,14 @@ opcode_is h k n Operand bytes some s =
     ∙ ap (λ (z : List ℕ). z ++ t.back) t.first in
     (ap (λ (z : List ℕ). get_or z 0 0) same, subst Operand (sym (ap (λ (z : List ℕ). drop 1 z) same)) t.second)
 
-low_byte : (n : ℕ) (operand : List ℕ) → UnsignedLeb n (take 1 operand) → NoByte operand → ⊥
-low_byte n [] u none = absurd u.shape
-low_byte n (b ∷ operand) u none = omega (arith, u.shape, none (omega arith))
+low_byte : (operand : List ℕ) → IsLeb (take 1 operand) → NoByte operand → ⊥
+low_byte [] shape none = shape
+low_byte (b ∷ operand) shape none = omega (arith, shape, none (omega arith))
 
-low_group : (z : ℤ) (operand : List ℕ) → SignedLeb z (take 1 operand) → NoTwoBytes operand → ⊥
-low_group z [] s none = absurd s.shape
-low_group z (b ∷ operand) s none = omega (arith, s.shape, none.0 (omega arith))
-
-low_groups : (z : ℤ) (operand : List ℕ) → SignedLeb z (take 2 operand) → NoTwoBytes operand → ⊥
-low_groups z [] s none = absurd s.shape
-low_groups z (a ∷ []) s none = omega (arith, s.shape, none.0 (omega arith))
-low_groups z (a ∷ b ∷ operand) s none = omega (arith, s.shape.1, none.1 (omega arith))
+low_bytes : (operand : List ℕ) → IsLeb (take 2 operand) → NoTwoBytes operand → ⊥
+low_bytes [] shape none = shape
+low_bytes (a ∷ []) shape none = omega (arith, shape, none.0 (omega arith))
+low_bytes (a ∷ b ∷ operand) shape none = omega (arith, shape.1, none.1 (omega arith))
 
 three_bytes : (operand : List ℕ) (n : ℕ)
     → (3 ≤ length operand → get_or operand 0 0 ≡ 2 → get_or operand 1 0 ≡ 4 → get_or operand 2 0 < 128 → ⊥) → n < 128
@@ -271,30 +255,55 @@ pub no_discriminator_here : (operand : List ℕ)
 no_discriminator_here operand none = record { none = λ n lt same. three_bytes operand n none lt same }
 
 -- The bytes of a discriminator that are four are these.
-four_bytes : (n : ℕ) (rest number size back bytes : List ℕ) → rest ≡ 4 ∷ number → back ≡ size ++ rest → bytes ≡ 0 ∷ back
-    → UnsignedLeb n number → UnsignedLeb (length rest) size → length bytes ≡ 4
-    → (b : ℕ) × (b < 128) × (bytes ≡ 0 ∷ 2 ∷ 4 ∷ b ∷ [])
-four_bytes n rest [] size back bytes r k j u z e = absurd u.shape
-four_bytes n rest number [] back bytes r k j u z e = absurd z.shape
-four_bytes n rest (b ∷ []) (s ∷ []) back bytes r k j u z e =
-    let two : s ≡ 2 = omega (arith, z.shape, z.value, ap length r) in
-    (b, u.shape, j ∙ ap (λ (x : List ℕ). 0 ∷ x) (k ∙ ap (λ (x : List ℕ). s ∷ x) r) ∙ ap (λ (x : ℕ). 0 ∷ x ∷ 4 ∷ b ∷ []) two)
-four_bytes n rest (b ∷ c ∷ number) (s ∷ size) back bytes r k j u z e =
-    absurd (omega (arith, e, ap length r, ap length k, ap length j, length-append size rest))
-four_bytes n rest (b ∷ number) (s ∷ t ∷ size) back bytes r k j u z e =
-    absurd (omega (arith, e, ap length r, ap length k, ap length j, length-append size rest))
+four_bytes : (n : ℕ) (number size bytes : List ℕ) → bytes ≡ 0 ∷ (size ++ (4 ∷ number)) → UnsignedLeb n number
+    → UnsignedLeb (length (4 ∷ number)) size → length bytes ≡ 4 → (b : ℕ) × (b < 128) × (bytes ≡ 0 ∷ 2 ∷ 4 ∷ b ∷ [])
+four_bytes n [] size bytes j u z e = absurd u.shape
+four_bytes n number [] bytes j u z e = absurd z.shape
+four_bytes n (b ∷ []) (s ∷ []) bytes j u z e =
+    let two : s ≡ 2 = omega (arith, z.shape, z.value) in (b, u.shape, j ∙ ap (λ (x : ℕ). 0 ∷ x ∷ 4 ∷ b ∷ []) two)
+four_bytes n (b ∷ c ∷ number) (s ∷ size) bytes j u z e =
+    absurd (omega (arith, e, ap length j, length-append size (4 ∷ b ∷ c ∷ number)))
+four_bytes n (b ∷ number) (s ∷ t ∷ size) bytes j u z e = absurd (omega (arith, e, ap length j, length-append size (4 ∷ b ∷ number)))
 
-discriminator_bytes : (n : ℕ) (bytes : List ℕ) → Extended 4 (UnsignedLeb n) bytes → length bytes ≡ 4 → (b : ℕ) × (b < 128)
-    × (bytes ≡ 0 ∷ 2 ∷ 4 ∷ b ∷ [])
-discriminator_bytes n bytes x e =
-    let code = x.1 in
-    let all = x.2 in
-    let sized = all.second in
-    four_bytes n x.0 code.back sized.front all.back bytes (code.joined ∙ ap (λ (z : List ℕ). z ++ code.back) code.first)
-    (sized.joined ∙ ap (λ (z : List ℕ). sized.front ++ z) sized.second) (all.joined ∙ ap (λ (z : List ℕ). z ++ all.back) all.first)
-    code.second sized.first e
+-- ---- and so none does
 
--- ---- what begins the bytes where an operation of a kind does
+-- What a short operation has after its opcode, if the opcode is of a frequent kind.
+pub data ShortKind : Type 0 where
+  short_discriminator : ShortKind
+  no_operand : ShortKind
+  short_unsigned : ShortKind
+  short_signed : ShortKind
+  rare : ShortKind
+
+abbrev short_kinds : List ShortKind
+short_kinds =
+    short_discriminator ∷ no_operand ∷ short_unsigned ∷ short_signed ∷ short_unsigned ∷ short_unsigned ∷ no_operand ∷ rare ∷ no_operand ∷ []
+
+abbrev short_kind : ℕ → ShortKind
+short_kind k = get_or short_kinds k rare
+
+abbrev LacksOperand : ShortKind → List ℕ → Type 0
+LacksOperand short_discriminator operand = NoDiscriminator operand
+LacksOperand no_operand operand = ⊥
+LacksOperand short_unsigned operand = NoByte operand
+LacksOperand short_signed operand = NoTwoBytes operand
+LacksOperand rare operand = Unit {0}
+
+-- The opcode isn't of a frequent kind, or its operand isn't short.
+abbrev IsLong : ℕ → List ℕ → Type 0
+IsLong k operand = LacksOperand (short_kind k) operand
+
+-- what is so of the operand, where an operation begins the bytes that is coded so
+begins : (h : HeaderParts) (view : OpView) (k n size : ℕ) (operand : Operand) (bytes : List ℕ)
+    → IsLong (get_or bytes 0 0) (drop 1 bytes) → coding_of view ≡ standard k operand → size ≡ n + 1 → IsOperationFront h view size bytes
+    → IsLong k (drop 1 bytes) × OperandBytes h operand (take n (drop 1 bytes))
+begins h view k n size operand bytes long e count f =
+    let coded = is_coded view f.op (standard k operand) f.stands e (λ listed. listed) in
+    let s : Standard h k (OperandBytes h operand) (take (n + 1) bytes) =
+    subst (λ (m : ℕ). CodingBytes h (standard k operand) (take m bytes)) count
+    (subst (λ (c : Coding). CodingBytes h c (take size bytes)) coded f.spelled) in
+    let found = opcode_is h k n (OperandBytes h operand) bytes (omega (arith, f.within, count)) s in
+    (subst (λ (i : ℕ). IsLong i (drop 1 bytes)) found.0 long, found.1)
 
 special_begins : (h : HeaderParts) (c : ℕ) (op : Op) (bytes : List ℕ) → 0 < length bytes → StandsFor (views.Special c) op
     → OpBytes h op (take 1 bytes) → h.opcode_base ≤ get_or bytes 0 0
@@ -302,212 +311,71 @@ special_begins h c (ops.Special d) bytes some s b =
     omega (arith, b.0, ap (λ (z : List ℕ). get_or z 0 0) (sym (one_taken bytes some) ∙ b.2))
 special_begins h c _ bytes some s b = absurd s
 
-copy_begins : (h : HeaderParts) (op : Op) (bytes : List ℕ) → 0 < length bytes → StandsFor views.Copy op → OpBytes h op (take 1 bytes)
-    → get_or bytes 0 0 ≡ 1
-copy_begins h ops.Copy bytes some s b = (opcode_is h 1 0 (Exactly []) bytes some b).0
-copy_begins h _ bytes some s b = absurd s
-
-negate_stmt_begins : (h : HeaderParts) (op : Op) (bytes : List ℕ) → 0 < length bytes → StandsFor views.NegateStmt op
-    → OpBytes h op (take 1 bytes) → get_or bytes 0 0 ≡ 6
-negate_stmt_begins h ops.NegateStmt bytes some s b = (opcode_is h 6 0 (Exactly []) bytes some b).0
-negate_stmt_begins h _ bytes some s b = absurd s
-
-const_add_pc_begins : (h : HeaderParts) (op : Op) (bytes : List ℕ) → 0 < length bytes → StandsFor views.ConstAddPc op
-    → OpBytes h op (take 1 bytes) → get_or bytes 0 0 ≡ 8
-const_add_pc_begins h ops.ConstAddPc bytes some s b = (opcode_is h 8 0 (Exactly []) bytes some b).0
-const_add_pc_begins h _ bytes some s b = absurd s
-
--- an opcode, and an unsigned number of one byte
-abbrev NumberBegins : ℕ → List ℕ → Type 0
-NumberBegins k bytes = (get_or bytes 0 0 ≡ k) × ((n : ℕ) × UnsignedLeb n (take 1 (drop 1 bytes)))
-
-advance_pc_begins : (h : HeaderParts) (n : ℕ) (op : Op) (bytes : List ℕ) → 0 < length bytes → StandsFor (views.AdvancePc n) op
-    → OpBytes h op (take 2 bytes) → NumberBegins 2 bytes
-advance_pc_begins h n (ops.AdvancePc m) bytes some s b = let found = opcode_is h 2 1 (UnsignedLeb m) bytes some b in (found.0, (m, found.1))
-advance_pc_begins h n _ bytes some s b = absurd s
-
-set_file_begins : (h : HeaderParts) (n : ℕ) (op : Op) (bytes : List ℕ) → 0 < length bytes → StandsFor (views.SetFile n) op
-    → OpBytes h op (take 2 bytes) → NumberBegins 4 bytes
-set_file_begins h n (ops.SetFile m) bytes some s b = let found = opcode_is h 4 1 (UnsignedLeb m) bytes some b in (found.0, (m, found.1))
-set_file_begins h n _ bytes some s b = absurd s
-
-set_column_begins : (h : HeaderParts) (n : ℕ) (op : Op) (bytes : List ℕ) → 0 < length bytes → StandsFor (views.SetColumn n) op
-    → OpBytes h op (take 2 bytes) → NumberBegins 5 bytes
-set_column_begins h n (ops.SetColumn m) bytes some s b = let found = opcode_is h 5 1 (UnsignedLeb m) bytes some b in (found.0, (m, found.1))
-set_column_begins h n _ bytes some s b = absurd s
-
-advance_line_begins : (h : HeaderParts) (size : ℕ) (z : ℤ) (op : Op) (bytes : List ℕ) → 0 < length bytes
-    → StandsFor (views.AdvanceLine z) op → OpBytes h op (take (size + 1) bytes)
-    → (get_or bytes 0 0 ≡ 3) × ((y : ℤ) × SignedLeb y (take size (drop 1 bytes)))
-advance_line_begins h size z (ops.AdvanceLine y) bytes some s b =
-    let found = opcode_is h 3 size (SignedLeb y) bytes some b in (found.0, (y, found.1))
-advance_line_begins h size z _ bytes some s b = absurd s
-
 discriminator_begins : (h : HeaderParts) (n : ℕ) (op : Op) (bytes : List ℕ) → 4 ≤ length bytes → StandsFor (views.SetDiscriminator n) op
-    → OpBytes h op (take 4 bytes)
-    → (get_or bytes 0 0 ≡ 0) × (NoDiscriminator (drop 1 bytes) → ⊥)
-discriminator_begins h n (ops.SetDiscriminator m) bytes le s b =
-    let found = discriminator_bytes m (take 4 bytes) b (length-take-le 4 bytes le) in
-    let same : get_or bytes 0 0 ∷ take 3 (drop 1 bytes) ≡ 0 ∷ 2 ∷ 4 ∷ found.0 ∷ [] = sym (after_one bytes 3 (omega (arith, le)))
-    ∙ found.2 in
-    (ap (λ (z : List ℕ). get_or z 0 0) same, λ long. long.none found.0 found.1 (ap (λ (z : List ℕ). drop 1 z) same))
-discriminator_begins h n _ bytes le s b = absurd s
+    → OpBytes h op (take 4 bytes) → IsLong (get_or bytes 0 0) (drop 1 bytes) → ⊥
+discriminator_begins h n (ops.SetDiscriminator m) bytes le s b long =
+    let parts = extended_parts 4 (UnsignedLeb m) (take 4 bytes) b in
+    let found = four_bytes m parts.operand parts.spelling (take 4 bytes) parts.joined parts.is parts.spelled (length-take-le 4 bytes le) in
+    let same : get_or bytes 0 0 ∷ take 3 (drop 1 bytes) ≡ 0 ∷ 2 ∷ 4 ∷ found.0 ∷ [] =
+    sym (after_one bytes 3 (omega (arith, le))) ∙ found.2 in
+    let none = subst (λ (i : ℕ). IsLong i (drop 1 bytes)) (ap (λ (z : List ℕ). get_or z 0 0) same) long in
+    none.none found.0 found.1 (ap (λ (z : List ℕ). drop 1 z) same)
+discriminator_begins h n _ bytes le s b long = absurd s
 
--- ---- and so none does
-
--- What tells that none begins the bytes: their first one is no special opcode, and either of no frequent kind, or of one whose
--- operand isn't short.
-record BeginsLong (h : HeaderParts) (bytes : List ℕ) : Type 0 where
-  standard : get_or bytes 0 0 < h.opcode_base
-  copy : get_or bytes 0 0 ≡ 1 → ⊥
-  negate_stmt : get_or bytes 0 0 ≡ 6 → ⊥
-  const_add_pc : get_or bytes 0 0 ≡ 8 → ⊥
-  advance_pc : get_or bytes 0 0 ≡ 2 → NoByte (drop 1 bytes)
-  set_file : get_or bytes 0 0 ≡ 4 → NoByte (drop 1 bytes)
-  set_column : get_or bytes 0 0 ≡ 5 → NoByte (drop 1 bytes)
-  advance_line : get_or bytes 0 0 ≡ 3 → NoTwoBytes (drop 1 bytes)
-  discriminator : get_or bytes 0 0 ≡ 0 → NoDiscriminator (drop 1 bytes)
-
-long_number : (k : ℕ) (bytes : List ℕ) → (get_or bytes 0 0 ≡ k → NoByte (drop 1 bytes)) → NumberBegins k bytes → ⊥
-long_number k bytes none found = low_byte found.1.0 (drop 1 bytes) found.1.1 (none found.0)
-
-long_line : (h : HeaderParts) (z : ℤ) (bytes : List ℕ) (size : ℕ) → BeginsLong h bytes → (size ≡ 1) ⊎ (size ≡ 2)
-    → IsOperationFront h (views.AdvanceLine z) (size + 1) bytes → ⊥
-long_line h z bytes size long (inl e) front =
-    let f = subst (λ (n : ℕ). IsOperationFront h (views.AdvanceLine z) (n + 1) bytes) e front in
-    let found = advance_line_begins h 1 z f.op bytes (omega (arith, f.within)) f.stands f.spelled in
-    low_group found.1.0 (drop 1 bytes) found.1.1 (long.advance_line found.0)
-long_line h z bytes size long (inr e) front =
-    let f = subst (λ (n : ℕ). IsOperationFront h (views.AdvanceLine z) (n + 1) bytes) e front in
-    let found = advance_line_begins h 2 z f.op bytes (omega (arith, f.within)) f.stands f.spelled in
-    low_groups found.1.0 (drop 1 bytes) found.1.1 (long.advance_line found.0)
-
--- of so many bytes in place of an equal number
-sized : (h : HeaderParts) (view : OpView) (size n : ℕ) (bytes : List ℕ) → size ≡ n → IsOperationFront h view size bytes
-    → IsOperationFront h view n bytes
-sized h view size n bytes e f = subst (λ (m : ℕ). IsOperationFront h view m bytes) e f
-
-none_long : (h : HeaderParts) (bytes : List ℕ) → BeginsLong h bytes → NoneShort h bytes
-none_long h bytes long (views.Special c) size e f =
-    let g = sized h (views.Special c) size 1 bytes e f in
-    omega (arith, long.standard, special_begins h c g.op bytes (omega (arith, g.within)) g.stands g.spelled)
-none_long h bytes long views.Copy size e f =
-    let g = sized h views.Copy size 1 bytes e f in
-    long.copy (copy_begins h g.op bytes (omega (arith, g.within)) g.stands g.spelled)
-none_long h bytes long views.NegateStmt size e f =
-    let g = sized h views.NegateStmt size 1 bytes e f in
-    long.negate_stmt (negate_stmt_begins h g.op bytes (omega (arith, g.within)) g.stands g.spelled)
-none_long h bytes long views.ConstAddPc size e f =
-    let g = sized h views.ConstAddPc size 1 bytes e f in
-    long.const_add_pc (const_add_pc_begins h g.op bytes (omega (arith, g.within)) g.stands g.spelled)
-none_long h bytes long (views.AdvancePc n) size e f =
-    let g = sized h (views.AdvancePc n) size 2 bytes e f in
-    long_number 2 bytes long.advance_pc (advance_pc_begins h n g.op bytes (omega (arith, g.within)) g.stands g.spelled)
-none_long h bytes long (views.SetFile n) size e f =
-    let g = sized h (views.SetFile n) size 2 bytes e f in
-    long_number 4 bytes long.set_file (set_file_begins h n g.op bytes (omega (arith, g.within)) g.stands g.spelled)
-none_long h bytes long (views.SetColumn n) size e f =
-    let g = sized h (views.SetColumn n) size 2 bytes e f in
-    long_number 5 bytes long.set_column (set_column_begins h n g.op bytes (omega (arith, g.within)) g.stands g.spelled)
-none_long h bytes long (views.AdvanceLine z) size (inl e) f =
-    long_line h z bytes 1 long (inl refl) (sized h (views.AdvanceLine z) size 2 bytes e f)
-none_long h bytes long (views.AdvanceLine z) size (inr e) f =
-    long_line h z bytes 2 long (inr refl) (sized h (views.AdvanceLine z) size 3 bytes e f)
-none_long h bytes long (views.SetDiscriminator n) size e f =
-    let g = sized h (views.SetDiscriminator n) size 4 bytes e f in
-    let found = discriminator_begins h n g.op bytes g.within g.stands g.spelled in
-    found.1 (long.discriminator found.0)
-none_long h bytes long _ size e f = absurd e
+none_long : (h : HeaderParts) (bytes : List ℕ) → get_or bytes 0 0 < h.opcode_base → IsLong (get_or bytes 0 0) (drop 1 bytes)
+    → NoneShort h bytes
+none_long h bytes low long (views.Special c) size e f =
+    let g : IsOperationFront h (views.Special c) 1 bytes = subst (λ (m : ℕ). IsOperationFront h (views.Special c) m bytes) e f in
+    omega (arith, low, special_begins h c g.op bytes (omega (arith, g.within)) g.stands g.spelled)
+none_long h bytes low long views.Copy size e f = (begins h views.Copy 1 0 size bare bytes long refl e f).0
+none_long h bytes low long views.NegateStmt size e f = (begins h views.NegateStmt 6 0 size bare bytes long refl e f).0
+none_long h bytes low long views.ConstAddPc size e f = (begins h views.ConstAddPc 8 0 size bare bytes long refl e f).0
+none_long h bytes low long (views.AdvancePc n) size e f =
+    let found = begins h (views.AdvancePc n) 2 1 size (unsigned n) bytes long refl e f in low_byte (drop 1 bytes) found.1.shape found.0
+none_long h bytes low long (views.SetFile n) size e f =
+    let found = begins h (views.SetFile n) 4 1 size (unsigned n) bytes long refl e f in low_byte (drop 1 bytes) found.1.shape found.0
+none_long h bytes low long (views.SetColumn n) size e f =
+    let found = begins h (views.SetColumn n) 5 1 size (unsigned n) bytes long refl e f in low_byte (drop 1 bytes) found.1.shape found.0
+none_long h bytes low long (views.AdvanceLine z) size (inl e) f =
+    let found = begins h (views.AdvanceLine z) 3 1 size (signed z) bytes long refl e f in low_byte (drop 1 bytes) found.1.shape found.0.0
+none_long h bytes low long (views.AdvanceLine z) size (inr e) f =
+    let found = begins h (views.AdvanceLine z) 3 2 size (signed z) bytes long refl e f in low_bytes (drop 1 bytes) found.1.shape found.0
+none_long h bytes low long (views.SetDiscriminator n) size e f =
+    let g : IsOperationFront h (views.SetDiscriminator n) 4 bytes =
+    subst (λ (m : ℕ). IsOperationFront h (views.SetDiscriminator n) m bytes) e f in
+    discriminator_begins h n g.op bytes g.within g.stands g.spelled long
+none_long h bytes low long _ size e f = absurd e
 
 short_some : (view : OpView) (size : ℕ) → IsShort view size → 0 < size
-short_some (views.Special c) size e = omega (arith, e)
-short_some views.Copy size e = omega (arith, e)
-short_some views.NegateStmt size e = omega (arith, e)
-short_some views.ConstAddPc size e = omega (arith, e)
-short_some (views.AdvancePc n) size e = omega (arith, e)
-short_some (views.SetFile n) size e = omega (arith, e)
-short_some (views.SetColumn n) size e = omega (arith, e)
 short_some (views.AdvanceLine z) size (inl e) = omega (arith, e)
 short_some (views.AdvanceLine z) size (inr e) = omega (arith, e)
-short_some (views.SetDiscriminator n) size e = omega (arith, e)
-short_some _ size e = absurd e
+short_some view size e = grind (arith, e)
 
 pub none_empty : (h : HeaderParts) (bytes : List ℕ) → length bytes ≡ 0 → NoneShort h bytes
 none_empty h bytes empty = λ view size e f. omega (arith, empty, f.within, short_some view size e)
 
--- by the first byte and what follows it
-long_of : (h : HeaderParts) (k : ℕ) (bytes operand : List ℕ) → get_or bytes 0 0 ≡ k → k < h.opcode_base → operand ≡ drop 1 bytes
-    → (k ≡ 1 → ⊥) → (k ≡ 6 → ⊥) → (k ≡ 8 → ⊥)
-    → (k ≡ 2 → NoByte operand) → (k ≡ 4 → NoByte operand) → (k ≡ 5 → NoByte operand) → (k ≡ 3 → NoTwoBytes operand)
-    → (k ≡ 0 → NoDiscriminator operand) → NoneShort h bytes
-long_of h k bytes operand is lt same copy negate_stmt const_add_pc advance_pc set_file set_column advance_line discriminator =
-    let none = λ (P : List ℕ → Type 0) (p : P operand). subst P same p in
-    none_long h bytes (record {
-      standard = omega (arith, is, lt);
-      copy = λ e. copy (sym is ∙ e);
-      negate_stmt = λ e. negate_stmt (sym is ∙ e);
-      const_add_pc = λ e. const_add_pc (sym is ∙ e);
-      advance_pc = λ e. none NoByte (advance_pc (sym is ∙ e));
-      set_file = λ e. none NoByte (set_file (sym is ∙ e));
-      set_column = λ e. none NoByte (set_column (sym is ∙ e));
-      advance_line = λ e. none NoTwoBytes (advance_line (sym is ∙ e));
-      discriminator = λ e. none NoDiscriminator (discriminator (sym is ∙ e));
-    })
+-- by the opcode and what follows it
+pub none_here : (h : HeaderParts) (k base : ℕ) (bytes operand : List ℕ) → get_or bytes 0 0 ≡ k → get_or bytes 0 0 < base
+    → base ≡ h.opcode_base → operand ≡ drop 1 bytes → IsLong k operand → NoneShort h bytes
+none_here h k base bytes operand is lt base_is same long =
+    none_long h bytes (omega (arith, lt, base_is)) (rw is (subst (IsLong k) same long))
 
-pub none_discriminator : (h : HeaderParts) (k : ℕ) (bytes operand : List ℕ) → get_or bytes 0 0 ≡ k → k < h.opcode_base → k ≡ 0
-    → operand ≡ drop 1 bytes → NoDiscriminator operand → NoneShort h bytes
-none_discriminator h k bytes operand is lt e same long =
-    long_of h k bytes operand is lt same (λ x. omega (arith, e, x)) (λ x. omega (arith, e, x)) (λ x. omega (arith, e, x))
-    (λ x. absurd (omega (arith, e, x))) (λ x. absurd (omega (arith, e, x))) (λ x. absurd (omega (arith, e, x)))
-    (λ x. absurd (omega (arith, e, x))) (λ x. long)
-
-pub none_advance_pc : (h : HeaderParts) (k : ℕ) (bytes operand : List ℕ) → get_or bytes 0 0 ≡ k → k < h.opcode_base → k ≡ 2
-    → operand ≡ drop 1 bytes → NoByte operand → NoneShort h bytes
-none_advance_pc h k bytes operand is lt e same long =
-    long_of h k bytes operand is lt same (λ x. omega (arith, e, x)) (λ x. omega (arith, e, x)) (λ x. omega (arith, e, x))
-    (λ x. long) (λ x. long) (λ x. long) (λ x. absurd (omega (arith, e, x))) (λ x. absurd (omega (arith, e, x)))
-
-pub none_set_file : (h : HeaderParts) (k : ℕ) (bytes operand : List ℕ) → get_or bytes 0 0 ≡ k → k < h.opcode_base → k ≡ 4
-    → operand ≡ drop 1 bytes → NoByte operand → NoneShort h bytes
-none_set_file h k bytes operand is lt e same long =
-    long_of h k bytes operand is lt same (λ x. omega (arith, e, x)) (λ x. omega (arith, e, x)) (λ x. omega (arith, e, x))
-    (λ x. long) (λ x. long) (λ x. long) (λ x. absurd (omega (arith, e, x))) (λ x. absurd (omega (arith, e, x)))
-
-pub none_set_column : (h : HeaderParts) (k : ℕ) (bytes operand : List ℕ) → get_or bytes 0 0 ≡ k → k < h.opcode_base → k ≡ 5
-    → operand ≡ drop 1 bytes → NoByte operand → NoneShort h bytes
-none_set_column h k bytes operand is lt e same long =
-    long_of h k bytes operand is lt same (λ x. omega (arith, e, x)) (λ x. omega (arith, e, x)) (λ x. omega (arith, e, x))
-    (λ x. long) (λ x. long) (λ x. long) (λ x. absurd (omega (arith, e, x))) (λ x. absurd (omega (arith, e, x)))
-
-pub none_advance_line : (h : HeaderParts) (k : ℕ) (bytes operand : List ℕ) → get_or bytes 0 0 ≡ k → k < h.opcode_base → k ≡ 3
-    → operand ≡ drop 1 bytes → NoTwoBytes operand → NoneShort h bytes
-none_advance_line h k bytes operand is lt e same long =
-    long_of h k bytes operand is lt same (λ x. omega (arith, e, x)) (λ x. omega (arith, e, x)) (λ x. omega (arith, e, x))
-    (λ x. absurd (omega (arith, e, x))) (λ x. absurd (omega (arith, e, x))) (λ x. absurd (omega (arith, e, x))) (λ x. long)
-    (λ x. absurd (omega (arith, e, x)))
+is_rare : (k : ℕ) → k ≢ 0 → k ≢ 1 → k ≢ 2 → k ≢ 3 → k ≢ 4 → k ≢ 5 → k ≢ 6 → k ≢ 8 → (operand : List ℕ) → IsLong k operand
+is_rare zero n0 n1 n2 n3 n4 n5 n6 n8 operand = absurd (n0 refl)
+is_rare (suc zero) n0 n1 n2 n3 n4 n5 n6 n8 operand = absurd (n1 refl)
+is_rare (suc (suc zero)) n0 n1 n2 n3 n4 n5 n6 n8 operand = absurd (n2 refl)
+is_rare (suc (suc (suc zero))) n0 n1 n2 n3 n4 n5 n6 n8 operand = absurd (n3 refl)
+is_rare (suc (suc (suc (suc zero)))) n0 n1 n2 n3 n4 n5 n6 n8 operand = absurd (n4 refl)
+is_rare (suc (suc (suc (suc (suc zero))))) n0 n1 n2 n3 n4 n5 n6 n8 operand = absurd (n5 refl)
+is_rare (suc (suc (suc (suc (suc (suc zero)))))) n0 n1 n2 n3 n4 n5 n6 n8 operand = absurd (n6 refl)
+is_rare (suc (suc (suc (suc (suc (suc (suc zero))))))) n0 n1 n2 n3 n4 n5 n6 n8 operand = tt
+is_rare (suc (suc (suc (suc (suc (suc (suc (suc zero)))))))) n0 n1 n2 n3 n4 n5 n6 n8 operand = absurd (n8 refl)
+is_rare (suc (suc (suc (suc (suc (suc (suc (suc (suc k))))))))) n0 n1 n2 n3 n4 n5 n6 n8 operand = tt
 
 pub none_other : (h : HeaderParts) (k : ℕ) (bytes : List ℕ) → get_or bytes 0 0 ≡ k → k < h.opcode_base → k ≢ 0 → k ≢ 1 → k ≢ 2 → k ≢ 3
     → k ≢ 4 → k ≢ 5 → k ≢ 6 → k ≢ 8 → NoneShort h bytes
 none_other h k bytes is lt n0 n1 n2 n3 n4 n5 n6 n8 =
-    long_of h k bytes (drop 1 bytes) is lt refl n1 n6 n8 (λ x. absurd (n2 x)) (λ x. absurd (n4 x)) (λ x. absurd (n5 x)) (λ x. absurd (n3 x))
-    (λ x. absurd (n0 x))
+    none_here h k h.opcode_base bytes (drop 1 bytes) is (omega (arith, is, lt)) refl refl (is_rare k n0 n1 n2 n3 n4 n5 n6 n8 (drop 1 bytes))
 
 -- each short operation that bytes begin with, and why none does
-pub ruleset short_fronts = (
-  front_special,
-  front_copy,
-  front_advance_pc,
-  front_advance_line,
-  front_set_file,
-  front_set_column,
-  front_negate_stmt,
-  front_const_add_pc,
-  front_discriminator,
-  none_empty,
-  none_discriminator,
-  none_advance_pc,
-  none_advance_line,
-  none_set_file,
-  none_set_column,
-  none_other,
-)
+pub ruleset short_fronts = (front_special, front_bare, front_unsigned, front_signed, front_discriminator, none_empty, none_here, none_other)

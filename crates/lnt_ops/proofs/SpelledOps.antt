@@ -1,9 +1,9 @@
 -- Operations that a header admits have bytes.
-use Rattle.std.proofs.Common.{◌≡◌, ℕ, suc, ◌+◌, ◌^◌, ◌<◌, ◌≤◌, List, [], ◌∷◌, ◌++◌, length, refl, ap, ◌∙◌, arith, inl, inr}
+use Rattle.std.proofs.Common.{ℕ, suc, ◌^◌, ◌<◌, ◌≤◌, List, [], ◌∷◌, ◌++◌, length, refl, ap, arith, inl, inr}
 use Rattle.std.specs.List.{AllByRecursion}
 use Rattle.std.proofs.lemmas.List.{length-append}
 use Rattle.lnt_wire.specs.declared.format.Order.{Order}
-use Rattle.lnt_wire.specs.Bytes.{Exactly}
+use Rattle.lnt_wire.specs.Bytes.{Exactly, IsShortest}
 use Rattle.lnt_wire.specs.Laws as wire
 use Rattle.lnt_wire.proofs.LengthLaws.{length-number_bytes}
 use Rattle.lnt_wire.specs.Leb128.{SignedLeb, UnsignedLeb}
@@ -18,7 +18,8 @@ use Rattle.lnt_header.specs.OpRules.{Admits, AdmitsCoding, Coding, coding, Opera
 use Rattle.lnt_ops.specs.Laws.{AllowedOpsAreSpelled}
 use Rattle.lnt_ops.specs.OpBytes.{CodingBytes, Extended, OpBytes, OperandBytes, Standard}
 use Rattle.lnt_ops.specs.Spelled.{FitsCoding, FitsOp, FitsOperand}
-use Rattle.lnt_ops.proofs.LebSizes.{at_most_ten, shortest_of_less}
+use Rattle.lnt_ops.proofs.LebSizes.{at_most_ten}
+use Rattle.lnt_ops.proofs.OpPutLemmas.{shortest_extended}
 use Rattle.lnt_ops.proofs.OpLaws.{op_allowed}
 
 -- ---- bytes of a kind than which none of the kind are fewer
@@ -62,42 +63,12 @@ least_extended : wire.SpelledValues → (code : ℕ) (Operand : List ℕ → Typ
     → Least (Extended code Operand)
 least_extended law code Operand o fits =
     let number = law.unsigned (suc (length o.bytes)) fits in
+    let operand : IsShortest (λ (u : Unit {0}). Operand) tt o.bytes = record { spelled = o.is; shortest = o.least } in
+    let whole = shortest_extended (λ (u : Unit {0}). Operand) code tt number.0 o.bytes number.1 operand in
     record {
       bytes = 0 ∷ number.0 ++ code ∷ o.bytes;
-      is = (
-        code ∷ o.bytes,
-        record { front = code ∷ []; back = o.bytes; first = refl; second = o.is; joined = refl },
-        record {
-          front = 0 ∷ [];
-          back = number.0 ++ code ∷ o.bytes;
-          first = refl;
-          second = record { front = number.0; back = code ∷ o.bytes; first = number.1.spelled; second = refl; joined = refl };
-          joined = refl;
-        },
-      );
-      least = λ other t.
-          let rest = t.0 in
-          let body = t.1 in
-          let whole = t.2 in
-          let past = whole.second in
-          let least = o.least body.back body.second in
-          let size : length rest ≡ suc (length body.back) = ap length body.joined ∙ length-append body.front body.back
-          ∙ ap (λ (z : List ℕ). length z + length body.back) body.first ∙ omega arith in
-          let count = shortest_of_less (suc (length o.bytes)) (length rest) number.0 past.front (omega (arith, size, least)) number.1
-          past.first in
-          omega (
-            arith,
-            least,
-            size,
-            count,
-            length-append number.0 (code ∷ o.bytes),
-            ap length whole.joined,
-            length-append whole.front whole.back,
-            ap length whole.first,
-            ap length past.joined,
-            length-append past.front past.back,
-            ap length past.second,
-          );
+      is = whole.spelled.spelled;
+      least = λ other t. whole.shortest other (record { spelled = t });
     }
 
 -- ---- operations

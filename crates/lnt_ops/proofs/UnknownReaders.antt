@@ -1,25 +1,21 @@
 -- The operands of unknown standard operations.
-use Rattle.std.proofs.Common.{◌≡◌, ℕ, ◌+◌, ◌-◌, ◌*◌, ◌<◌, List, [], ◌∷◌, ◌++◌, length, take, refl, sym, ap, subst, ◌∙◌, arith}
+use Rattle.std.proofs.Common.{◌≡◌, ℕ, ◌+◌, ◌-◌, ◌<◌, List, [], ◌∷◌, ◌++◌, length, take, refl, sym, ap, subst, ◌∙◌, arith}
 use Rattle.std.proofs.Math.Seq.{take-append_seam}
 use Rattle.std.proofs.lemmas.List.{length-append}
 use Rattle.lnt_wire.specs.At.{At}
 use Rattle.lnt_wire.specs.declared.fault.Fault.{Fault}
-use Rattle.lnt_wire.proofs.CodeLaws.{unsigned_code}
 use Rattle.lnt_wire.specs.Leb128.{UnsignedLeb, IsLargeUnsigned, IsLebFault}
-use Rattle.lnt_wire.specs.Reading.{Reads, RefusesField, Refuses}
+use Rattle.lnt_wire.specs.Reading.{Reads, RefusesField}
 use Rattle.lnt_header.specs.declared.header.HeaderParts.{HeaderParts}
-use Rattle.lnt_header.specs.declared.op.Op.{Op}
 use Rattle.lnt_header.specs.declared.op.Op.TheVariants as ops
 use Rattle.lnt_header.specs.declared.op.OpView.{OpView}
 use Rattle.lnt_header.specs.HeaderRules.{IsHeader}
-use Rattle.lnt_header.specs.Joins.{Each, Several}
-use Rattle.lnt_header.proofs.ReaderLaws.{any_local, nothing_asked, moved_field, reads_none, reads_more, refuses_more, reads_map}
+use Rattle.lnt_header.specs.Joins.{Each}
+use Rattle.lnt_header.proofs.ReaderLaws.{reads_none, reads_more, reads_map}
 use Rattle.lnt_header.specs.OpRules.{last_known, standard_length, StandsFor}
-use Rattle.lnt_ops.proofs.StandardReaders.{standard, after_byte}
-use Rattle.lnt_ops.proofs.OpLaws.{tag, standard_tag}
-use Rattle.lnt_ops.specs.OpBytes.{OpBytes}
+use Rattle.lnt_ops.proofs.StandardReaders.{after_opcode}
 use Rattle.lnt_ops.specs.OpFaults.IsFirstFault.{unknown_operand}
-use Rattle.lnt_ops.specs.OpSteps.{BytesAfter, IsFaultAfter, GivesAfter, PassesOperands, IsOperandFault}
+use Rattle.lnt_ops.specs.OpSteps.{BytesAfter, GivesAfter, PassesOperands, RefusesAfter, RefusesOperands}
 
 -- ---- operands one by one
 
@@ -35,14 +31,15 @@ operands_more count n old middle new p r = record {
 }
 
 pub refuses_operands : (n count : ℕ) (old middle : At) (fault : Fault) → PassesOperands count old middle → count < n
-    → RefusesField (IsLebFault IsLargeUnsigned) UnsignedLeb middle fault
-    → Refuses (IsOperandFault n) (Several n UnsignedLeb) old fault
-refuses_operands n count old middle fault p lt r =
-    let fewer : length p.operands < n = omega (arith, p.count_is, lt) in
-    let refused = refuses_more (λ _. UnsignedLeb) n p.operands old middle fault any_local unsigned_code p.reads fewer
-    (nothing_asked UnsignedLeb middle fault r.place r.none) in
-    moved_field (Several n UnsignedLeb) p.operands old middle fault p.reads r.place
-    (record { operands = p.operands; spelled = p.reads.spelled; fewer = fewer; fault = r.reason }) refused.none
+    → RefusesField (IsLebFault IsLargeUnsigned) UnsignedLeb middle fault → RefusesOperands n old fault
+refuses_operands n count old middle fault p lt r = record {
+  operands = p.operands;
+  next = middle;
+  reads = p.reads;
+  fewer = omega (arith, p.count_is, lt);
+  place = r.place;
+  reason = r.reason;
+}
 
 -- ---- the operation
 
@@ -67,30 +64,15 @@ gives_unknown h k count view old new some lt counted p stands =
       stands = stands p.operands (subst (λ (x : List ℕ). Each UnsignedLeb p.operands x) (sym taken) r.spelled);
       admitted = (some, lt, several);
       reads = reads_map (Each UnsignedLeb) (BytesAfter h k) p.operands op old new
-          (λ y q. record { whole = (some, several, standard h k k (Each UnsignedLeb p.operands) y refl lt q) }) r;
+          (λ y q. record { whole = (some, several, after_opcode h k (Each UnsignedLeb p.operands) y lt q) }) r;
     }
 
-unknown_operands : (h : HeaderParts) (op : Op) (k : ℕ) (y : List ℕ) → last_known < k → tag op ≡ 2 * k + 1 → OpBytes h op (k ∷ y)
-    → (operands : List ℕ) × Several (standard_length h k) UnsignedLeb operands y
-unknown_operands h (ops.UnknownStandard j operands) k y some t p =
-    let same : j ≡ k = omega arith in
-    (operands, (p.1 ∙ ap (standard_length h) same, after_byte k j (Each UnsignedLeb operands) y p.2.1))
-unknown_operands h op k y some t p = absurd (omega arith)
-
 pub refuses_unknown : (h : HeaderParts) (k count : ℕ) (old : At) (fault : Fault) → last_known < k → k < h.opcode_base
-    → count ≡ standard_length h k
-    → Refuses (IsOperandFault count) (Several count UnsignedLeb) old fault → Refuses (IsFaultAfter h k) (BytesAfter h k) old fault
+    → count ≡ standard_length h k → RefusesOperands count old fault → RefusesAfter h k old fault
 refuses_unknown h k count old fault some lt counted r = record {
-  before = r.before;
-  left = r.left;
-  split = r.split;
-  place = r.place;
-  reason = record {
-    whole = unknown_operand k r.reason.operands r.before some lt r.reason.spelled (omega (arith, r.reason.fewer, counted))
-        refl r.reason.fault;
-  };
-  none = λ op y more p e.
-      let found = unknown_operands h op k y some (standard_tag h op k y (omega (arith, some)) lt p.whole) p.whole in
-      let several : Several count UnsignedLeb found.0 y = (found.1.0 ∙ sym counted, found.1.1) in
-      r.none found.0 y more several e;
+  before = r.reads.spelling;
+  left = r.next.rest;
+  split = r.reads.whole;
+  place = r.place ∙ r.reads.place;
+  reason = unknown_operand k r.operands r.reads.spelling some lt r.reads.spelled (omega (arith, r.fewer, counted)) refl r.reason;
 }

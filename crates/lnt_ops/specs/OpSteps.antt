@@ -1,9 +1,8 @@
 -- What the steps of reading an operation have found. No public contract speaks of it.
-use Rattle.std.specs.Prelude.{◌≡◌, ℕ, ◌+◌, ◌<◌, List, [], ◌∷◌, length}
+use Rattle.std.specs.Prelude.{◌≡◌, ℕ, ◌+◌, ◌<◌, List, [], ◌∷◌, ◌++◌, length}
 use Rattle.lnt_wire.specs.At.{At}
 use Rattle.lnt_wire.specs.Bytes.{Exactly, ◌⨾◌}
 use Rattle.lnt_wire.specs.declared.fault.Fault.{Fault}
-use Rattle.lnt_wire.specs.declared.fault.Reason.{Reason}
 use Rattle.lnt_wire.specs.declared.fault.Reason.TheVariants.{LebTooLarge, ExtendedLength}
 use Rattle.lnt_wire.specs.Leb128.{IsLeb, UnsignedLeb, IsLargeUnsigned, IsLebFault}
 use Rattle.lnt_wire.specs.Numbers.{NumberBytes}
@@ -25,9 +24,13 @@ use Rattle.lnt_ops.specs.OpFaults.{IsFirstFault}
 pub record BytesAfter (h : HeaderParts) (opcode : ℕ) (op : Op) (bytes : List ℕ) : Type 0 where
   pub whole : OpBytes h op (opcode ∷ bytes)
 
--- the reasons why no operation can be read after its first byte
-pub record IsFaultAfter (h : HeaderParts) (opcode : ℕ) (reason : Reason) (before left : List ℕ) : Type 0 where
-  pub whole : IsFirstFault h reason (opcode ∷ before) left
+-- No operation can be read after its first byte: the fault is the first one, after the bytes `before`.
+pub record RefusesAfter (h : HeaderParts) (opcode : ℕ) (old : At) (fault : Fault) : Type 0 where
+  pub before : List ℕ
+  pub left : List ℕ
+  pub split : old.rest ≡ before ++ left
+  pub place : fault.place ≡ old.place + length before
+  pub reason : IsFirstFault h fault.reason (opcode ∷ before) left
 
 -- a read of an operation after its first byte
 pub record GivesAfter (h : HeaderParts) (opcode : ℕ) (view : OpView) (old new : At) : Type 0 where
@@ -43,11 +46,13 @@ pub record PassesOperands (count : ℕ) (old new : At) : Type 0 where
   pub reads : Reads (Each UnsignedLeb) operands old new
 
 -- there are fewer operands than the count says, and the next one can't be read
-pub record IsOperandFault (count : ℕ) (reason : Reason) (before left : List ℕ) : Type 0 where
+pub record RefusesOperands (count : ℕ) (old : At) (fault : Fault) : Type 0 where
   pub operands : List ℕ
-  pub spelled : Each UnsignedLeb operands before
+  pub next : At
+  pub reads : Reads (Each UnsignedLeb) operands old next
   pub fewer : length operands < count
-  pub fault : IsLebFault IsLargeUnsigned reason left
+  pub place : fault.place ≡ next.place
+  pub reason : IsLebFault IsLargeUnsigned fault.reason next.rest
 
 -- ---- extended operations
 

@@ -2,11 +2,10 @@
 ghost use Rattle.std.specs.Prelude.{◌≡◌, ◌↔◌, ◌+◌, ◌^◌, ◌<◌, drop, get_or, length, IfOk, IfErr, OnErr, IsTrue, MatchBool};
 ghost use Rattle.lnt_wire.specs.Leb128.{IsLeb, UnsignedLeb};
 ghost use Rattle.lnt_wire.specs.Numbers.{NumberBytes};
-ghost use Rattle.lnt_wire.specs.Reading.{Refuses};
 ghost use Rattle.lnt_header.specs.FieldFaults.{IsWrongOperand};
 ghost use Rattle.lnt_header.specs.OpRules.{taken_by};
 ghost use Rattle.lnt_header.specs.OpRules.Taken.{takes_number};
-ghost use Rattle.lnt_ops.specs.OpSteps.{BytesAfter, IsFaultAfter, GivesAfter, IsRightOperand, GivesCounted, IsCountedOpFault};
+ghost use Rattle.lnt_ops.specs.OpSteps.{RefusesAfter, GivesAfter, IsRightOperand, GivesCounted, IsCountedOpFault};
 ghost use Rattle.lnt_ops.specs.OpSteps.{IsLargeNumber};
 
 use lnt_header::{Header, OpView};
@@ -19,9 +18,8 @@ pub(crate) fn read_extended<'a>(
     cursor: &mut Cursor<'a>,
     header: &Header,
 ) -> Result<OpView<'a>, Fault>
-    requires standard { 0 < header.now.opcode_base }
     ensures ok { IfOk result (λ view. GivesAfter header.now 0 view cursor.old cursor.new) }
-    ensures err { IfErr result (λ fault. Refuses (IsFaultAfter header.now 0) (BytesAfter header.now 0) cursor.old fault) }
+    ensures err { IfErr result (λ fault. RefusesAfter header.now 0 cursor.old fault) }
 {
     let length_place = cursor.place();
     let length = cursor.uleb()?;

@@ -6,7 +6,7 @@ ghost use Rattle.lnt_ops.specs.OpBytes.{OpBytes};
 ghost use Rattle.lnt_ops.specs.OpFaults.{IsFirstFault, IsOpFault};
 ghost use Rattle.lnt_ops.specs.OpReading.{GivesOp};
 ghost use Rattle.lnt_ops.specs.Stepping.{StandsForSome};
-ghost use Rattle.lnt_ops.specs.OpSteps.{BytesAfter, IsFaultAfter, GivesAfter};
+ghost use Rattle.lnt_ops.specs.OpSteps.{GivesAfter, RefusesAfter};
 
 use crate::extended::read_extended;
 use crate::owned::owned_operands;
@@ -53,7 +53,7 @@ fn read_operand<'a>(
     requires standard { opcode < header.now.opcode_base }
     requires order { cursor.old.order ≡ header.now.order }
     ensures ok { IfOk result (λ view. GivesAfter header.now opcode view cursor.old cursor.new) }
-    ensures err { IfErr result (λ fault. Refuses (IsFaultAfter header.now opcode) (BytesAfter header.now opcode) cursor.old fault) }
+    ensures err { IfErr result (λ fault. RefusesAfter header.now opcode cursor.old fault) }
 {
     match opcode {
         0 => read_apart(cursor, header, 0),
@@ -81,7 +81,7 @@ fn read_apart<'a>(cursor: &mut Cursor<'a>, header: &Header, opcode: u8) -> Resul
     requires rare { (opcode ≡ 0) ⊎ (last_known < opcode) }
     requires order { cursor.old.order ≡ header.now.order }
     ensures ok { IfOk result (λ view. GivesAfter header.now opcode view cursor.old cursor.new) }
-    ensures err { IfErr result (λ fault. Refuses (IsFaultAfter header.now opcode) (BytesAfter header.now opcode) cursor.old fault) }
+    ensures err { IfErr result (λ fault. RefusesAfter header.now opcode cursor.old fault) }
 {
     let mut ahead = Cursor::new(cursor.rest(), cursor.place(), cursor.order());
     let view = if opcode == 0 {

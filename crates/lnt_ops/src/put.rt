@@ -37,7 +37,7 @@ pub fn put_ops(out: &mut Vec<u8>, header: &Header, ops: &[Op]) -> Result<(), All
 }
 
 // Appends operations. After an error a part of them may have been added.
-#[tactic(auto, using(crate::proofs::OpPutLemmas::ops_begun, crate::proofs::OpPutLemmas::ops_more, crate::proofs::OpPutLemmas::ops_done, lnt_header::proofs::FirstLaws::all_at))]
+#[tactic(auto, using(lnt_header::proofs::PutLaws::each_begun, crate::proofs::OpPutLemmas::ops_more, lnt_header::proofs::PutLaws::each_done, lnt_header::proofs::FirstLaws::all_at))]
 fn add_ops(out: &mut Vec<u8>, header: &Header, ops: &[Op]) -> Result<(), AllocError>
     requires { AllByRecursion (Admits header.now) ops.now }
     ensures ok { OnOk result (Appends (Each (OpBytes header.now)) ops.now out.old.items out.new.items) }
@@ -155,7 +155,7 @@ fn add_spelled(out: &mut Vec<u8>, bytes: &[u8]) -> Result<(), AllocError>
 }
 
 // Appends unsigned numbers.
-#[tactic(auto, using(crate::proofs::OpPutLemmas::numbers_begun, crate::proofs::OpPutLemmas::numbers_more, crate::proofs::OpPutLemmas::numbers_done))]
+#[tactic(auto, using(lnt_header::proofs::PutLaws::each_begun, lnt_header::proofs::PutLaws::each_more, lnt_header::proofs::PutLaws::each_done))]
 fn add_numbers(out: &mut Vec<u8>, numbers: &[u64]) -> Result<(), AllocError>
     ensures ok { OnOk result (Appends (Each UnsignedLeb) numbers.now out.old.items out.new.items) }
     ensures extends { OnErr result (Extends out.old.items out.new.items) }

@@ -1,10 +1,7 @@
 //! Standard operations that DWARF 5 doesn't know (DWARF 5, section 6.2.5.2).
 ghost use Rattle.std.specs.Prelude.{◌<◌, IfOk, IfErr, OnOk};
-ghost use Rattle.lnt_wire.specs.Leb128.{UnsignedLeb};
-ghost use Rattle.lnt_wire.specs.Reading.{Refuses};
-ghost use Rattle.lnt_header.specs.Joins.{Several};
 ghost use Rattle.lnt_header.specs.OpRules.{last_known};
-ghost use Rattle.lnt_ops.specs.OpSteps.{BytesAfter, IsFaultAfter, GivesAfter, PassesOperands, IsOperandFault};
+ghost use Rattle.lnt_ops.specs.OpSteps.{GivesAfter, PassesOperands, RefusesAfter, RefusesOperands};
 
 use lnt_header::{Header, OpView, Operands};
 use lnt_wire::{Cursor, Fault};
@@ -20,7 +17,7 @@ pub(crate) fn read_unknown<'a>(
     requires unknown { last_known < opcode }
     requires standard { opcode < header.now.opcode_base }
     ensures ok { IfOk result (λ view. GivesAfter header.now opcode view cursor.old cursor.new) }
-    ensures err { IfErr result (λ fault. Refuses (IsFaultAfter header.now opcode) (BytesAfter header.now opcode) cursor.old fault) }
+    ensures err { IfErr result (λ fault. RefusesAfter header.now opcode cursor.old fault) }
 {
     let count = header.standard_lengths()[usize::from(opcode) - 1];
     let bytes = cursor.rest();
@@ -33,7 +30,7 @@ pub(crate) fn read_unknown<'a>(
 #[tactic(auto, using(crate::proofs::UnknownReaders::operands_none, crate::proofs::UnknownReaders::operands_more, crate::proofs::UnknownReaders::refuses_operands))]
 fn pass_operands(cursor: &mut Cursor<'_>, count: u8) -> Result<(), Fault>
     ensures ok { OnOk result (PassesOperands count cursor.old cursor.new) }
-    ensures err { IfErr result (λ fault. Refuses (IsOperandFault count) (Several count UnsignedLeb) cursor.old fault) }
+    ensures err { IfErr result (λ fault. RefusesOperands count cursor.old fault) }
 {
     for _ in 0..count {
         cursor.uleb()?;

@@ -1,74 +1,49 @@
 use Rattle.std.proofs.Common.{ap, rules}
 use Rattle.lnt_io.proofs.FrontLaws.{so_stopped}
-use Rattle.lnt_unit.specs.Readers.{offset_of, order_of, source_of}
-use Rattle.lnt_dump.proofs.Dumps.{next_framed, units_broken, units_cut, units_end, units_fault_cut, units_faulty, units_more, units_none}
+use Rattle.lnt_dump.proofs.Frames.{next_framed}
+use Rattle.lnt_dump.proofs.Dumps.{units_broken, units_cut, units_end, units_fault_cut, units_faulty, units_more, units_none}
 use Rattle.lnt_dump.proofs.Dumps.{units_stay}
 use Rattle.lnt_dump.proofs.dump.print_dump.Goals as goal
 
 pub loop-page-init : goal.loop-page-init
 loop-page-init g c = record {
   reading = c.new-reader.ensures.reading;
-  told = units_none c.args.order c.args.shown (g.R.Source.remaining c.args.source.now)
-      (g.R.Source.remaining (source_of c.new-reader.result)) (g.W.Write.contents c.args.out.now)
-      (order_of c.new-reader.result) (offset_of c.new-reader.result) c.new-reader.ensures.order c.new-reader.ensures.offset
-      (ap g.R.Source.remaining c.new-reader.ensures.source);
+  told = units_none c.new-reader.ensures.order c.new-reader.ensures.offset (ap g.R.Source.remaining c.new-reader.ensures.source);
 }
 
 pub returns-in_err-unit-clause-begun : goal.returns-in_err-unit-clause-begun
 returns-in_err-unit-clause-begun g c =
-    so_stopped c.from_residual.result _
-    (units_stay c.args.order c.args.shown (g.R.Source.remaining c.args.source.now) (g.R.Source.remaining (source_of c.loop-page.reader))
-    (g.W.Write.contents c.args.out.now) (g.W.Write.contents c.loop-page.out) (order_of c.loop-page.reader) (offset_of c.loop-page.reader)
-    c.loop-page.invariant.told)
+    so_stopped c.from_residual.result _ (units_stay c.loop-page.invariant.told)
 
 pub returns-in-Fault-clause-told : goal.returns-in-Fault-clause-told
 returns-in-Fault-clause-told g c =
-    units_faulty c.args.order c.args.shown (g.R.Source.remaining c.args.source.now) (g.R.Source.remaining (source_of c.loop-page.reader))
-    (g.W.Write.contents c.args.out.now) (g.W.Write.contents c.loop-page.out) (g.W.Write.contents c.print_fault.new.out)
-    (order_of c.loop-page.reader) (offset_of c.loop-page.reader) c.in-Fault.fault c.print_fault.result c.loop-page.invariant.told
-    (rw c.in-Fault.is at c.in_ok-unit.ensures.next) c.print_fault.ensures.no c.print_fault.ensures.line
+    units_faulty c.loop-page.invariant.told (g.W.Write.contents c.print_fault.new.out) c.in-Fault.fault c.print_fault.result (rw
+    c.in-Fault.is at c.in_ok-unit.ensures.next) c.print_fault.ensures.no c.print_fault.ensures.line
 
 pub returns-in-Fault-clause-begun : goal.returns-in-Fault-clause-begun
 returns-in-Fault-clause-begun g c =
-    units_fault_cut c.args.order c.args.shown (g.R.Source.remaining c.args.source.now) (g.R.Source.remaining (source_of c.loop-page.reader))
-    (g.W.Write.contents c.args.out.now) (g.W.Write.contents c.loop-page.out) (g.W.Write.contents c.print_fault.new.out)
-    (order_of c.loop-page.reader) (offset_of c.loop-page.reader) c.in-Fault.fault c.print_fault.result c.loop-page.invariant.told
-    (rw c.in-Fault.is at c.in_ok-unit.ensures.next) c.print_fault.ensures.front
+    units_fault_cut c.loop-page.invariant.told (g.W.Write.contents c.print_fault.new.out) c.in-Fault.fault c.print_fault.result (rw
+    c.in-Fault.is at c.in_ok-unit.ensures.next) c.print_fault.ensures.front
 
 pub returns-in-End-clause-told : goal.returns-in-End-clause-told
 returns-in-End-clause-told g c =
-    units_end c.args.order c.args.shown (g.R.Source.remaining c.args.source.now) (g.R.Source.remaining (source_of c.loop-page.reader))
-    (g.W.Write.contents c.args.out.now) (g.W.Write.contents c.loop-page.out) (order_of c.loop-page.reader) (offset_of c.loop-page.reader)
-    c.loop-page.invariant.told (rw c.in-End.is at c.in_ok-unit.ensures.next)
+    units_end c.loop-page.invariant.told (rw c.in-End.is at c.in_ok-unit.ensures.next)
 
 pub returns-in_err-print_unit-clause-begun : goal.returns-in_err-print_unit-clause-begun
 returns-in_err-print_unit-clause-begun g c =
-    so_stopped c.from_residual-in_err-print_unit.result _
-    (units_cut c.args.order c.args.shown (g.R.Source.remaining c.args.source.now) (g.R.Source.remaining (source_of c.loop-page.reader))
-    (g.R.Source.remaining (source_of c.next_of.new.reader)) (g.W.Write.contents c.args.out.now) (g.W.Write.contents c.loop-page.out)
-    (g.W.Write.contents c.print_unit.new.out) (order_of c.loop-page.reader) (order_of c.next_of.new.reader) (offset_of c.loop-page.reader)
-    (offset_of c.next_of.new.reader) c.in-Unit.unit c.frame.result c.in_ok-unit.ensures.order c.loop-page.invariant.told
-    (next_framed c.in-Unit.is c.in_ok-unit.ensures.next c.frame.ensures.offset c.frame.ensures.bytes c.frame.ensures.placed)
+    so_stopped c.from_residual-in_err-print_unit.result _ (units_cut c.in_ok-unit.ensures.order c.loop-page.invariant.told (next_framed
+    c.in-Unit.is c.in_ok-unit.ensures.next c.frame.ensures.offset c.frame.ensures.bytes c.frame.ensures.placed)
     c.in_err-print_unit.ensures.begun)
 
 pub returns-then-eq-clause-told : goal.returns-then-eq-clause-told
 returns-then-eq-clause-told g c =
-    units_broken c.args.order c.args.shown (g.R.Source.remaining c.args.source.now) (g.R.Source.remaining (source_of c.loop-page.reader))
-    (g.R.Source.remaining (source_of c.next_of.new.reader)) (g.W.Write.contents c.args.out.now) (g.W.Write.contents c.loop-page.out)
-    (g.W.Write.contents c.print_unit.new.out) (order_of c.loop-page.reader) (offset_of c.loop-page.reader)
-    (offset_of c.next_of.new.reader) c.in-Unit.unit c.frame.result c.in_ok-print_unit.field-0 c.loop-page.invariant.told
-    (next_framed c.in-Unit.is c.in_ok-unit.ensures.next c.frame.ensures.offset c.frame.ensures.bytes c.frame.ensures.placed)
-    c.in_ok-print_unit.ensures.told (search rules)
+    units_broken c.in_ok-unit.ensures.order c.loop-page.invariant.told (next_framed c.in-Unit.is c.in_ok-unit.ensures.next
+    c.frame.ensures.offset c.frame.ensures.bytes c.frame.ensures.placed) c.in_ok-print_unit.ensures.told (search rules)
 
 pub loop-page-preserved : goal.loop-page-preserved
 loop-page-preserved g c =
     record {
       reading = search rules;
-      told = units_more c.args.order c.args.shown (g.R.Source.remaining c.args.source.now)
-          (g.R.Source.remaining (source_of c.loop-page.reader)) (g.R.Source.remaining (source_of c.next_of.new.reader))
-          (g.W.Write.contents c.args.out.now) (g.W.Write.contents c.loop-page.out) (g.W.Write.contents c.print_unit.new.out)
-          (order_of c.loop-page.reader) (order_of c.next_of.new.reader) (offset_of c.loop-page.reader) (offset_of c.next_of.new.reader)
-          c.in-Unit.unit c.frame.result c.in_ok-print_unit.field-0 c.in_ok-unit.ensures.order c.loop-page.invariant.told
-          (next_framed c.in-Unit.is c.in_ok-unit.ensures.next c.frame.ensures.offset c.frame.ensures.bytes c.frame.ensures.placed)
-          c.in_ok-print_unit.ensures.told (λ no. search rules);
+      told = units_more c.in_ok-unit.ensures.order c.loop-page.invariant.told (next_framed c.in-Unit.is c.in_ok-unit.ensures.next
+          c.frame.ensures.offset c.frame.ensures.bytes c.frame.ensures.placed) c.in_ok-print_unit.ensures.told (λ no. search rules);
     }

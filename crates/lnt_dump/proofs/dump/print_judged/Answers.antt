@@ -10,17 +10,17 @@ returns-in_err-print_valid-in-Ok-clause-begun g c =
 
 pub returns-in_ok-print_valid-in-Ok-clause-told : goal.returns-in_ok-print_valid-in-Ok-clause-told
 returns-in_ok-print_valid-in-Ok-clause-told g c =
-    valid_told c.args.shown c.args.frame.now c.args.unit.now (g.W.Write.contents c.args.out.now)
-    (g.W.Write.contents c.print_valid.new.out) c.in-Ok.ensures.ok c.in_ok-print_valid-in-Ok.ensures.whole
+    valid_told c.args.unit.now
+    c.in-Ok.ensures.ok c.in_ok-print_valid-in-Ok.ensures.whole
 
 pub returns-in-Err-clause-told : goal.returns-in-Err-clause-told
 returns-in-Err-clause-told g c =
-    faulty_told c.args.shown c.args.frame.now c.args.unit.now.unit c.in-Err.fault c.args.frame.now.offset
+    faulty_told c.args.shown c.args.frame.now c.args.unit.now.unit c.in-Err.fault
     (g.W.Write.contents c.args.out.now) (g.W.Write.contents c.print_unit_fault.new.out) c.print_unit_fault.result c.requires
     c.in-Err.ensures.err c.print_unit_fault.ensures.no c.print_unit_fault.ensures.line
 
 pub returns-in-Err-clause-begun : goal.returns-in-Err-clause-begun
 returns-in-Err-clause-begun g c =
-    faulty_begun c.args.shown c.args.frame.now c.args.unit.now.unit c.in-Err.fault c.args.frame.now.offset
+    faulty_begun c.args.shown c.args.frame.now c.args.unit.now.unit c.in-Err.fault
     (g.W.Write.contents c.args.out.now) (g.W.Write.contents c.print_unit_fault.new.out) c.print_unit_fault.result c.requires
     c.in-Err.ensures.err c.print_unit_fault.ensures.front

@@ -8,16 +8,12 @@ loop-index-init g c = search (rules, at_first)
 
 pub loop-index-preserved : goal.loop-index-preserved
 loop-index-preserved g c =
-    at_next _ _ _ _ c.loop-index.index c.loop-index.cursor c.put_line.new.cursor c.args.page.now.items c.loop-index.page.items
-    c.put_line.new.text.items c.turn_full.new.page.items (g.W.Write.contents c.args.out.now) (g.W.Write.contents c.loop-index.out)
-    (g.W.Write.contents c.turn_full.new.out) c.format-format.ensures c.pairs-pairs.ensures (search rules) c.loop-index.invariant
-    c.in_ok-put_line.ensures c.in_ok-turn_full.ensures.ok
+    at_next c.format-format.ensures c.pairs-pairs.ensures c.loop-index.invariant (search rules) c.in_ok-put_line.ensures
+    c.in_ok-turn_full.ensures.ok
 
 pub put_line-requires : goal.put_line-requires
 put_line-requires g c =
-    λ none. is_there _ _ _ _ c.loop-index.index c.loop-index.cursor c.args.page.now.items c.loop-index.page.items
-    (g.W.Write.contents c.args.out.now) (g.W.Write.contents c.loop-index.out) c.format-format.ensures c.pairs-pairs.ensures
-    (search rules) c.loop-index.invariant none
+    λ none. is_there c.format-format.ensures c.pairs-pairs.ensures c.loop-index.invariant (search rules) none
 
 pub returns-in_err-put_line-clause-front : goal.returns-in_err-put_line-clause-front
 returns-in_err-put_line-clause-front g c =
@@ -28,10 +24,8 @@ returns-in_err-put_line-clause-front g c =
 pub returns-in_err-turn_full-clause-front : goal.returns-in_err-turn_full-clause-front
 returns-in_err-turn_full-clause-front g c =
     so_stopped c.from_residual-in_err-turn_full.result _
-    (line_cut _ _ _ _ c.loop-index.index c.loop-index.cursor c.put_line.new.cursor c.args.page.now.items c.loop-index.page.items
-    c.put_line.new.text.items (g.W.Write.contents c.args.out.now) (g.W.Write.contents c.loop-index.out)
-    (g.W.Write.contents c.turn_full.new.out) c.format-format.ensures c.pairs-pairs.ensures (search rules) c.loop-index.invariant
-    c.in_ok-put_line.ensures c.in_err-turn_full.ensures.front)
+    (line_cut c.format-format.ensures c.pairs-pairs.ensures c.loop-index.invariant (search rules) c.in_ok-put_line.ensures
+    c.in_err-turn_full.ensures.front)
 
 pub returns-clause-ok : goal.returns-clause-ok
 returns-clause-ok g c = search (rules, all_told)

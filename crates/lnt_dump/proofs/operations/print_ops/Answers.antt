@@ -9,43 +9,34 @@ pub loop-op-init : goal.loop-op-init
 loop-op-init g c =
     λ ops is. subst
     (λ (w : Walk). OpsTold c.args.unit.now ops 0 w c.args.page.now.items c.args.page.now.items (g.W.Write.contents c.args.out.now)
-    (g.W.Write.contents c.args.out.now))
-    (sym c.into_iter-op-iterator.ensures.into_iter_gives)
-    (ops_none c.args.unit.now ops c.ops-op-items.result c.args.page.now.items (g.W.Write.contents c.args.out.now)
+    (g.W.Write.contents c.args.out.now)) (sym c.into_iter-op-iterator.ensures.into_iter_gives)
+    (ops_none c.args.page.now.items (g.W.Write.contents c.args.out.now)
     (stands_first c.args.unit.now ops c.ops-op-items.result c.ops-op-items.ensures.is_view is c.ops-op-items.ensures.header
     c.ops-op-items.ensures.rest c.ops-op-items.ensures.going))
 
 pub unreachable-requires : goal.unreachable-requires
 unreachable-requires g c =
     let fails = fails_op c.in_default.is c.in-Some.ensures.steps in
-    stands_fails c.args.unit.now c.requires.0 c.loop-op.index c.in_default.field-0 c.loop-op.op-iterator c.next.new.self
-    (c.loop-op.invariant c.requires.0 c.requires.1).at fails
+    stands_fails (c.loop-op.invariant c.requires.0 c.requires.1).at fails
 
 pub returns-in_err-print_op-clause-front : goal.returns-in_err-print_op-clause-front
 returns-in_err-print_op-clause-front g c =
     let step = gives_op c.in-Ok.is c.in-Some.ensures.steps in
     so_stopped c.from_residual.result _
-    (λ ops is. ops_cut c.args.unit.now ops c.loop-op.index c.in-Ok.op c.loop-op.op-iterator c.next.new.self c.args.page.now.items
-    c.loop-op.page.items (g.W.Write.contents c.args.out.now) (g.W.Write.contents c.loop-op.out) (g.W.Write.contents c.print_op.new.out)
-    c.ops-op-items.ensures.is_header (c.loop-op.invariant ops is) step c.in_err-print_op.ensures.front)
+    (λ ops is. ops_cut c.ops-op-items.ensures.is_header (c.loop-op.invariant ops is) step c.in_err-print_op.ensures.front)
 
 pub overflow_add-index : goal.overflow_add-index
 overflow_add-index g c =
     let step = gives_op c.in-Ok.is c.in-Some.ensures.steps in
     let room : c.loop-op.index + 1 < 2 ^ 64 =
-    stands_room c.args.unit.now c.requires.0 c.loop-op.index c.in-Ok.op c.loop-op.op-iterator c.next.new.self c.ops-op-items.ensures.is_view
-    (c.loop-op.invariant c.requires.0 c.requires.1).at step in
+    stands_room c.ops-op-items.ensures.is_view (c.loop-op.invariant c.requires.0 c.requires.1).at step in
     omega (arith, room)
 
 pub loop-op-preserved : goal.loop-op-preserved
 loop-op-preserved g c =
     let step = gives_op c.in-Ok.is c.in-Some.ensures.steps in
-    λ ops is. ops_more c.args.unit.now ops c.loop-op.index c.in-Ok.op c.loop-op.op-iterator c.next.new.self c.args.page.now.items
-    c.loop-op.page.items c.print_op.new.page.items (g.W.Write.contents c.args.out.now) (g.W.Write.contents c.loop-op.out)
-    (g.W.Write.contents c.print_op.new.out) c.ops-op-items.ensures.is_header (c.loop-op.invariant ops is) step
-    c.in_ok-print_op.ensures.ok
+    λ ops is. ops_more c.ops-op-items.ensures.is_header (c.loop-op.invariant ops is) step c.in_ok-print_op.ensures.ok
 
 pub returns-clause-ok : goal.returns-clause-ok
 returns-clause-ok g c =
-    λ ops is. ops_all c.args.unit.now ops c.loop-op.index c.loop-op.op-iterator c.next.new.self c.args.page.now.items c.loop-op.page.items
-    (g.W.Write.contents c.args.out.now) (g.W.Write.contents c.loop-op.out) (c.loop-op.invariant ops is) c.in-None.ensures.steps
+    λ ops is. ops_all (c.loop-op.invariant ops is) c.in-None.ensures.steps

@@ -1,65 +1,39 @@
 use Rattle.std.proofs.Common.{ap, rules}
 use Rattle.lnt_io.proofs.FrontLaws.{so_stopped}
 use Rattle.lnt_dump.proofs.FrameFronts.{fault_cut, units_cut, units_stopped}
-use Rattle.lnt_dump.proofs.Frames.{frames_faulty, frames_more, frames_none}
+use Rattle.lnt_dump.proofs.Frames.{frames_faulty, frames_more, frames_none, next_framed}
 use Rattle.lnt_dump.proofs.units.print_units.Goals as goal
-use Rattle.lnt_unit.specs.Readers.{offset_of, order_of, source_of}
 
 pub loop-line-init : goal.loop-line-init
 loop-line-init g c = record {
   reading = c.new-reader.ensures.reading;
-  told = frames_none c.args.order (g.R.Source.remaining c.args.source.now) (g.R.Source.remaining (source_of c.new-reader.result))
-      (g.W.Write.contents c.args.out.now)
-      (order_of c.new-reader.result) (offset_of c.new-reader.result) c.new-reader.ensures.order c.new-reader.ensures.offset
-      (ap g.R.Source.remaining c.new-reader.ensures.source);
+  told = frames_none c.new-reader.ensures.order c.new-reader.ensures.offset (ap g.R.Source.remaining c.new-reader.ensures.source);
 }
 
 pub loop-line-preserved : goal.loop-line-preserved
 loop-line-preserved g c =
-    let next = rw c.in-Unit.is at c.in_ok-unit.ensures.next in
     record {
       reading = search rules;
-      told = frames_more c.args.order (g.R.Source.remaining c.args.source.now) (g.R.Source.remaining (source_of c.loop-line.reader))
-          (g.R.Source.remaining (source_of c.next_of.new.reader))
-          (g.W.Write.contents c.args.out.now) (g.W.Write.contents c.loop-line.out) (g.W.Write.contents c.print_frame.new.out)
-          (order_of c.loop-line.reader) (order_of c.next_of.new.reader) (offset_of c.loop-line.reader) (offset_of c.next_of.new.reader)
-          c.in-Unit.unit
-          c.frame.result
-          c.in_ok-unit.ensures.order c.loop-line.invariant.told next.0 next.1 c.frame.ensures.offset c.frame.ensures.bytes
-          c.frame.ensures.placed c.in_ok-print_frame-in-Unit.ensures.whole;
+      told = frames_more c.in_ok-unit.ensures.order c.loop-line.invariant.told (next_framed c.in-Unit.is c.in_ok-unit.ensures.next
+          c.frame.ensures.offset c.frame.ensures.bytes c.frame.ensures.placed) c.in_ok-print_frame-in-Unit.ensures.whole;
     }
 
 pub returns-in-Fault-clause-told : goal.returns-in-Fault-clause-told
 returns-in-Fault-clause-told g c =
-    frames_faulty c.args.order (g.R.Source.remaining c.args.source.now) (g.R.Source.remaining (source_of c.loop-line.reader))
-    (g.W.Write.contents c.args.out.now) (g.W.Write.contents c.loop-line.out)
-    (g.W.Write.contents c.print_fault.new.out) (order_of c.loop-line.reader) (offset_of c.loop-line.reader) c.in-Fault.fault
-    c.print_fault.result
-    c.loop-line.invariant.told (rw c.in-Fault.is at c.in_ok-unit.ensures.next) c.print_fault.ensures.no c.print_fault.ensures.line
+    frames_faulty (g.W.Write.contents c.print_fault.new.out) c.in-Fault.fault c.print_fault.result c.loop-line.invariant.told (rw
+    c.in-Fault.is at c.in_ok-unit.ensures.next) c.print_fault.ensures.no c.print_fault.ensures.line
 
 pub returns-in-Fault-clause-begun : goal.returns-in-Fault-clause-begun
 returns-in-Fault-clause-begun g c =
-    fault_cut c.args.order (g.R.Source.remaining c.args.source.now) (g.R.Source.remaining (source_of c.loop-line.reader))
-    (g.W.Write.contents c.args.out.now) (g.W.Write.contents c.loop-line.out)
-    (g.W.Write.contents c.print_fault.new.out) (order_of c.loop-line.reader) (offset_of c.loop-line.reader) c.in-Fault.fault
-    c.print_fault.result
-    c.loop-line.invariant.told (rw c.in-Fault.is at c.in_ok-unit.ensures.next) c.print_fault.ensures.front
+    fault_cut (g.W.Write.contents c.print_fault.new.out) c.in-Fault.fault c.print_fault.result c.loop-line.invariant.told (rw c.in-Fault.is
+    at c.in_ok-unit.ensures.next) c.print_fault.ensures.front
 
 pub returns-in_err-unit-clause-begun : goal.returns-in_err-unit-clause-begun
 returns-in_err-unit-clause-begun g c =
-    so_stopped c.from_residual.result _
-    (units_stopped c.args.order (g.R.Source.remaining c.args.source.now) (g.R.Source.remaining (source_of c.loop-line.reader))
-    (g.W.Write.contents c.args.out.now) (g.W.Write.contents c.loop-line.out) (order_of c.loop-line.reader) (offset_of c.loop-line.reader)
-    c.loop-line.invariant.told)
+    so_stopped c.from_residual.result _ (units_stopped c.loop-line.invariant.told)
 
 pub returns-in_err-print_frame-in-Unit-clause-begun : goal.returns-in_err-print_frame-in-Unit-clause-begun
 returns-in_err-print_frame-in-Unit-clause-begun g c =
-    let next = rw c.in-Unit.is at c.in_ok-unit.ensures.next in
-    so_stopped c.from_residual-in_err-print_frame-in-Unit.result _
-    (units_cut c.args.order (g.R.Source.remaining c.args.source.now) (g.R.Source.remaining (source_of c.loop-line.reader))
-    (g.R.Source.remaining (source_of c.next_of.new.reader))
-    (g.W.Write.contents c.args.out.now) (g.W.Write.contents c.loop-line.out) (g.W.Write.contents c.print_frame.new.out)
-    (order_of c.loop-line.reader) (order_of c.next_of.new.reader) (offset_of c.loop-line.reader) (offset_of c.next_of.new.reader)
-    c.in-Unit.unit
-    c.frame.result c.in_ok-unit.ensures.order c.loop-line.invariant.told next.0 next.1 c.frame.ensures.offset c.frame.ensures.bytes
-    c.frame.ensures.placed c.in_err-print_frame-in-Unit.ensures.front)
+    so_stopped c.from_residual-in_err-print_frame-in-Unit.result _ (units_cut c.in_ok-unit.ensures.order c.loop-line.invariant.told
+    (next_framed c.in-Unit.is c.in_ok-unit.ensures.next c.frame.ensures.offset c.frame.ensures.bytes c.frame.ensures.placed)
+    c.in_err-print_frame-in-Unit.ensures.front)

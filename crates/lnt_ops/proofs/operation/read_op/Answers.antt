@@ -26,14 +26,14 @@ returns-in_err-view-clause-err c =
     let p = err_from_is_err_and c.from_residual-in_err-view.result c.from_residual-in_err-view.ensures.1 in
     rw (p.1, p.2) (refuses_after c.args.header.now c.in_ok-opcode.opcode c.args.cursor.now c.new-ahead.result c.u8.new.self
     c.in_err-view.field-0.0 (c.new-ahead.ensures.place ∙ c.place.ensures.value) (c.new-ahead.ensures.rest ∙ c.rest.ensures)
-    c.in_ok-opcode.ensures.ok c.in_err-view.ensures.err)
+    c.in_ok-opcode.ensures.ok (omega (arith, c.if-opcode-opcode_base.false, c.opcode_base.ensures.value)) c.in_err-view.ensures.err)
 
 pub returns-in_err-view-clause-first : goal.returns-in_err-view-clause-first
 returns-in_err-view-clause-first c =
     let p = err_from_is_err_and c.from_residual-in_err-view.result c.from_residual-in_err-view.ensures.1 in
     rw (p.1, p.2) (first_after c.args.header.now c.in_ok-opcode.opcode c.args.cursor.now c.new-ahead.result c.u8.new.self
     c.in_err-view.field-0.0 (c.new-ahead.ensures.place ∙ c.place.ensures.value) (c.new-ahead.ensures.rest ∙ c.rest.ensures)
-    c.in_ok-opcode.ensures.ok c.in_err-view.ensures.err)
+    c.in_ok-opcode.ensures.ok (omega (arith, c.if-opcode-opcode_base.false, c.opcode_base.ensures.value)) c.in_err-view.ensures.err)
 
 pub returns-clause-ok : goal.returns-clause-ok
 returns-clause-ok c =

@@ -1,7 +1,8 @@
 use Rattle.std.proofs.lemmas.Result.{err_from_is_err_and}
 use Rattle.std.proofs.Common.{rules}
-use Rattle.lnt_ops.proofs.OpPutLemmas.{appended_extends, extends_more, ops_more, ops_begun, ops_done}
+use Rattle.lnt_ops.proofs.OpPutLemmas.{appended_extends, extends_more, ops_more}
 use Rattle.lnt_header.proofs.FirstLaws.{all_at}
+use Rattle.lnt_header.proofs.PutLaws.{each_begun, each_done}
 use Rattle.lnt_ops.proofs.put.add_ops.Goals as goal
 
 pub returns-in_err-add_op-clause-extends : goal.returns-in_err-add_op-clause-extends
@@ -15,7 +16,7 @@ loop-op-preserved c =
     c.in_ok-add_op.ensures.ok
 
 pub add_op-requires : goal.add_op-requires
-add_op-requires c = search (rules, ops_begun, ops_more, ops_done, all_at)
+add_op-requires c = search (rules, each_begun, ops_more, each_done, all_at)
 
 pub returns-clause-ok : goal.returns-clause-ok
-returns-clause-ok c = search (rules, ops_begun, ops_more, ops_done, all_at)
+returns-clause-ok c = search (rules, each_begun, ops_more, each_done, all_at)
