@@ -2,8 +2,8 @@
 use Rattle.std.proofs.Common.{◌≡◌, ◌∙◌, ◌==◌, ℕ, ◌+◌, ◌⊎◌, inl, inr, List, [], ◌∷◌, map, take, drop}
 use Rattle.std.proofs.Common.{Option, Some, None, refl, sym, ap, ap₂, subst}
 use Rattle.std.specs.List.{AllByRecursion, position}
-use Rattle.lnt_digits.proofs.DecidedLaws.{decide_address, decide_decimal}
-use Rattle.lnt_digits.proofs.TextLaws.{one_address_number, one_decimal_number}
+use Rattle.lnt_text.proofs.DecidedLaws.{decide_address, decide_decimal}
+use Rattle.lnt_text.proofs.TextLaws.{one_address_number, one_decimal_number}
 use Rattle.lnt_spans.specs.declared.position.Position.{Position}
 use Rattle.lnt_answers.specs.AddressLines.{Tells}
 use Rattle.lnt_answers.specs.Laws.{OneTellings, SomeTellings}

@@ -3,8 +3,8 @@ use Rattle.std.proofs.Common.{◌≡◌, ◌∙◌, ℕ, Bool, true, false, if�
 use Rattle.std.specs.Int.{from_bool}
 use Rattle.lnt_spans.specs.declared.answer.Answer.{Answer}
 use Rattle.lnt_spans.specs.declared.position.Position.{Position}
-use Rattle.lnt_digits.specs.Digits.{IsPlainAddress}
-use Rattle.lnt_digits.proofs.WrittenLaws.{address_text}
+use Rattle.lnt_text.specs.Digits.{IsPlainAddress}
+use Rattle.lnt_text.proofs.WrittenLaws.{address_text}
 use Rattle.lnt_wire.specs.FaultTexts.{hexadecimal}
 use Rattle.lnt_text.specs.Texts.{position_text}
 use Rattle.lnt_answers.specs.Lines.{numbers_text, place_text, row_text}

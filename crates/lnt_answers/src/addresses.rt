@@ -12,11 +12,10 @@ ghost use Rattle.lnt_spans.specs.declared.position.Position.{Position as Spec};
 
 use crate::display::put_text;
 use crate::lookup::{CachedLookups, put_lookup, send};
-use lnt_digits::{address, address_until, decimal, decimal_until};
 use lnt_io::{Halt, Source, Status};
 use lnt_lines::Index;
 use lnt_spans::Position;
-use lnt_text::Quoted;
+use lnt_text::{Quoted, address, address_until, decimal, decimal_until};
 use std::alloc::{AllocError, Global};
 use std::io::Write;
 

@@ -4,8 +4,8 @@ ghost use Rattle.lnt_text.specs.Texts.{position_text};
 ghost use Rattle.lnt_answers.specs.Lines.{none_text, numbers_text, place_text, row_text};
 
 use itoa::write_digits;
-use lnt_digits::address_before;
 use lnt_spans::{Answer, Position};
+use lnt_text::address_before;
 use std::alloc::AllocError;
 
 // More bytes than a position and the numbers of an answer have, with the words before them.

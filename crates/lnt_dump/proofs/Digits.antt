@@ -1,8 +1,8 @@
 -- The plain text of a number is the one that std writes.
 use Rattle.std.proofs.Common.{◌≡◌, ◌∙◌, ℕ, List, ◌++◌, Result, Ok, Err, OnOk, ap, decimal}
 use Rattle.lnt_wire.specs.FaultTexts.{hexadecimal}
-use Rattle.lnt_digits.specs.Digits.{IsPlainAddress, IsPlainDecimal, Puts}
-use Rattle.lnt_digits.proofs.WrittenLaws.{address_text, decimal_text}
+use Rattle.lnt_text.specs.Digits.{IsPlainAddress, IsPlainDecimal, Puts}
+use Rattle.lnt_text.proofs.WrittenLaws.{address_text, decimal_text}
 
 -- what a call appended is that text
 pub decimal_put : {A E : Type 0} (result : Result A E) (n : ℕ) (old new : List ℕ) → OnOk result (Puts IsPlainDecimal n old new)

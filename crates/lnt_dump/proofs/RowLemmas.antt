@@ -5,10 +5,10 @@ use Rattle.std.specs.Int.{from_bool}
 use Rattle.std.proofs.lemmas.List.{drop-set, drop-take}
 use Rattle.std.proofs.lemmas.List.Folds.{drop_split}
 use Rattle.lnt_wire.specs.FaultTexts.{hexadecimal}
-use Rattle.lnt_digits.specs.Digits.{IsPlainAddress, IsPlainDecimal}
+use Rattle.lnt_text.specs.Digits.{IsPlainAddress, IsPlainDecimal}
 use Rattle.lnt_machine.specs.declared.row.Row.{Row}
 use Rattle.lnt_dump.specs.Rows.{marks_text, row_line}
-use Rattle.lnt_digits.proofs.WrittenLaws.{address_text, decimal_text, text_before}
+use Rattle.lnt_text.proofs.WrittenLaws.{address_text, decimal_text, text_before}
 
 -- a byte that was written before a place
 pub byte_before : (room : List ℕ) (end byte : ℕ) → 1 ≤ end → end ≤ length room

@@ -2,8 +2,8 @@
 ghost use Rattle.std.specs.Prelude.{◌≡◌, ◌+◌, ◌<◌, ◌≤◌, ◌∷◌, ◌++◌, [], decimal, drop};
 ghost use Rattle.lnt_dump.specs.Rows.{mark_text, marks_text, row_line as line_of_row};
 
-use lnt_digits::{address_before, decimal_before};
 use lnt_machine::Row;
+use lnt_text::{address_before, decimal_before};
 
 // More bytes than the line of a row has.
 pub(crate) const MOST: usize = 192;

@@ -14,9 +14,9 @@ ghost use Rattle.lnt_dump.specs.Stepping.{HasOperands, IsPaged, IsUnitOf};
 
 use crate::header::print_bytes;
 use crate::page::turn_full;
-use lnt_digits::{put_address, put_decimal};
 use lnt_header::{OpView, Operands};
 use lnt_io::Halt;
+use lnt_text::{put_address, put_decimal};
 use lnt_unit::UnitInPlace;
 use lnt_wire::{Cursor, Order};
 use std::alloc::{AllocError, Global};

@@ -6,7 +6,7 @@ use Rattle.std.specs.Prelude.{Option, Some, None, IfSome, codes}
 use Rattle.std.specs.List.{AllZip, Any, find}
 use Rattle.std.specs.Option.{option_map_or}
 use Rattle.lnt_header.specs.Joins.{AreRising}
-use Rattle.lnt_digits.specs.Digits.{IsDecimal}
+use Rattle.lnt_text.specs.Digits.{IsDecimal}
 use Rattle.lnt_records.specs.Table.{BeginsWith, Fields, RecordsOf}
 use Rattle.lnt_wire.specs.FormBytes.{HasNoZero}
 use Rattle.lnt_older.specs.declared.directories.DirectoriesFault.{DirectoriesFault}

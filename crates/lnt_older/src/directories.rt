@@ -10,8 +10,8 @@ ghost use Rattle.lnt_older.specs.Directories.{IsLastUnit, IsNext, IsAmong, MayFo
 ghost use Rattle.lnt_older.specs.declared.directories.Directory.{Directory as Spec};
 
 use csv::{ByteRecord, Reader};
-use lnt_digits::decimal;
 use lnt_records::{field, is_field, read_next, reader_of};
+use lnt_text::decimal;
 use std::alloc::{AllocError, Global};
 
 /// The directory in which an older unit was compiled.

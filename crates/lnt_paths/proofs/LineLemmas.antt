@@ -6,8 +6,8 @@ use Rattle.std.specs.List.{All, AllByRecursion, AllZip}
 use Rattle.std.proofs.lemmas.List.Elements.{recursion_from_All}
 use Rattle.csv.specs.Reading.{strip_bom}
 use Rattle.csv.specs.Writing.{default_writer, field_text, fields_text, is_blank, needs_byte, row_text}
-use Rattle.lnt_digits.specs.Digits.{IsDecimal, IsPlainAddress, IsPlainDecimal, Puts}
-use Rattle.lnt_digits.proofs.TextLaws.{plain_address}
+use Rattle.lnt_text.specs.Digits.{IsDecimal, IsPlainAddress, IsPlainDecimal, Puts}
+use Rattle.lnt_text.proofs.TextLaws.{plain_address}
 use Rattle.lnt_records.specs.Table.{Fields}
 use Rattle.lnt_records.specs.Progress.{AddsLine}
 use Rattle.lnt_records.specs.Written.{line_text}

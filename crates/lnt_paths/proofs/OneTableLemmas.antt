@@ -1,8 +1,8 @@
 -- The laws of tables by path.
 use Rattle.std.proofs.Common.{◌≡◌, ◌∙◌, ℕ, zero, suc, ◌<◌, ◌≤◌, List, [], ◌∷◌, ◌++◌, Option, Some, None, get_or, length, refl, sym, ap}
 use Rattle.std.proofs.Common.{arith}
-use Rattle.lnt_digits.specs.Digits.{IsAddress, IsDecimal}
-use Rattle.lnt_digits.proofs.TextLaws.{one_address_number, one_decimal_number}
+use Rattle.lnt_text.specs.Digits.{IsAddress, IsDecimal}
+use Rattle.lnt_text.proofs.TextLaws.{one_address_number, one_decimal_number}
 use Rattle.lnt_records.proofs.TableLaws as any
 use Rattle.lnt_records.proofs.TableLaws.{FormatLaws}
 use Rattle.lnt_records.specs.declared.fault.TableFault.{TableFault}

@@ -1,8 +1,8 @@
 -- Spans by path have one plain table, and answers one table of the canonical spans that give them.
 use Rattle.std.proofs.Common.{◌≡◌, ◌∙◌, ℕ, zero, suc, ◌<◌, List, [], Option, Some, None, subst, sym, arith, get_or}
 use Rattle.std.proofs.lemmas.List.{ext_get_or}
-use Rattle.lnt_digits.specs.Digits.{IsPlainDecimal}
-use Rattle.lnt_digits.proofs.OneTextLaws.{one_address, one_decimal}
+use Rattle.lnt_text.specs.Digits.{IsPlainDecimal}
+use Rattle.lnt_text.proofs.OneTextLaws.{one_address, one_decimal}
 use Rattle.lnt_records.specs.Table.{Fields}
 use Rattle.lnt_records.proofs.LineLaws.{HasOneRecord, one_plain_table}
 use Rattle.lnt_spans.specs.declared.position.Position.{Position}

@@ -10,8 +10,8 @@ use Rattle.csv.specs.Reading.{Reached, default_config, strip_bom}
 use Rattle.csv.specs.Writing.{default_writer, field_text, fields_text, is_blank, row_body, row_text}
 use Rattle.csv.specs.declared.parser.State.{State}
 use Rattle.csv.specs.declared.parser.State.TheVariants as st
-use Rattle.lnt_digits.specs.Digits.{IsAddress, IsDecimal}
-use Rattle.lnt_digits.specs.Delimited.{Begins}
+use Rattle.lnt_text.specs.Digits.{IsAddress, IsDecimal}
+use Rattle.lnt_text.specs.Delimited.{Begins}
 use Rattle.lnt_spans.specs.Merged.{end_of_records}
 use Rattle.lnt_records.specs.Table.{Fields}
 use Rattle.lnt_spans.specs.declared.answer.Answer.{Answer}

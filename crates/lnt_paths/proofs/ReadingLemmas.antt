@@ -1,7 +1,7 @@
 -- Records of a table by path, and record 0.
 use Rattle.std.proofs.Common.{◌≡◌, ◌≢◌, ℕ, ◌≤◌, List, [], Option, length, get_or, refl, sym, subst, arith}
 use Rattle.std.specs.Prelude.{codes}
-use Rattle.lnt_digits.specs.Digits.{IsAddress, IsDecimal}
+use Rattle.lnt_text.specs.Digits.{IsAddress, IsDecimal}
 use Rattle.lnt_records.proofs.ColumnLemmas.{sound_more}
 use Rattle.lnt_records.proofs.HeaderLaws.{all_named}
 use Rattle.lnt_records.specs.Progress.{AreSoundBefore}

@@ -3,7 +3,7 @@
 use Rattle.std.proofs.Common.{◌≡◌, ◌≢◌, ◌∙◌, ◌⊎◌, ◌==◌, ℕ, suc, List, [], ◌∷◌, map, inl, inr, refl, sym, subst, eq-eqb, arith}
 use Rattle.std.proofs.lemmas.Bool.{cases_Bool, eqb-true}
 use Rattle.std.specs.List.{AllByRecursion, AllZip, Contains}
-use Rattle.lnt_digits.proofs.WrittenLaws.{has_address, has_decimal}
+use Rattle.lnt_text.proofs.WrittenLaws.{has_address, has_decimal}
 use Rattle.lnt_records.specs.Table.{Fields}
 use Rattle.lnt_records.proofs.LineLaws.{text_of}
 use Rattle.lnt_spans.specs.declared.answer.Answer.{Answer}

@@ -5,8 +5,8 @@ use Rattle.csv.specs.Reading.{Reached, default_config, strip_bom}
 use Rattle.csv.specs.Writing.{default_writer, row_text}
 use Rattle.csv.specs.declared.parser.State.{State}
 use Rattle.csv.specs.declared.parser.State.TheVariants as state
-use Rattle.lnt_digits.specs.Digits.{IsAddress, IsDecimal}
-use Rattle.lnt_digits.specs.Delimited.{Begins}
+use Rattle.lnt_text.specs.Digits.{IsAddress, IsDecimal}
+use Rattle.lnt_text.specs.Delimited.{Begins}
 use Rattle.lnt_records.specs.Reading.{IsNarrow}
 use Rattle.lnt_records.specs.Table.{Fields}
 use Rattle.lnt_spans.specs.declared.answer.Answer.{Answer}

@@ -1,6 +1,6 @@
 -- An address table by path, in terms of the records that `csv` reads from its bytes.
 use Rattle.std.specs.Prelude.{◌≡◌, ℕ, List, [], ◌∷◌, Option, Some, None, length, get_or, codes}
-use Rattle.lnt_digits.specs.Digits.{IsAddress, IsDecimal}
+use Rattle.lnt_text.specs.Digits.{IsAddress, IsDecimal}
 use Rattle.lnt_records.specs.Table.Kind.{address, decimal, text}
 use Rattle.lnt_records.specs.Table.{Fields, IsTableIn, IsTableOfIn, Kind, TableFormat}
 use Rattle.lnt_paths.specs.declared.version.PathVersion.{PathVersion}

@@ -7,8 +7,8 @@ ghost use Rattle.lnt_paths.specs.PathLines.{AddsPlace, AreFieldsOf, plain_told};
 use crate::field::PathFields;
 use crate::paths::Paths;
 use crate::version::PathVersion;
-use lnt_digits::{put_address, put_decimal};
 use lnt_spans::{Answer, Span};
+use lnt_text::{put_address, put_decimal};
 use std::alloc::{AllocError, Global};
 
 // Adds the line of a span; of its positions only the addresses are written.

@@ -7,7 +7,7 @@ ghost use Rattle.lnt_paths.specs.Passing.{IsPathBefore, IsPathLine, IsPlace};
 use crate::field::calls_for_quotes;
 use crate::record::PathRecord;
 use crate::version::PathVersion;
-use lnt_digits::{address_until, decimal_until, past};
+use lnt_text::{address_until, decimal_until, past};
 
 // Parses the line at `at`; gives its record and the index of the next line. `None` leaves the line to `csv`. `last` is the
 // path of the line before; it is tried first, since most lines repeat it.

@@ -2,7 +2,7 @@
 ghost use Rattle.std.specs.Prelude.{◌≡◌, ◌<◌, ◌≤◌, List, length, IfOk, IfErr};
 ghost use Rattle.std.specs.Bool.{MatchBool};
 ghost use Rattle.csv.specs.Records.{fields_of};
-ghost use Rattle.lnt_digits.specs.Digits.{IsAddress, IsDecimal};
+ghost use Rattle.lnt_text.specs.Digits.{IsAddress, IsDecimal};
 ghost use Rattle.lnt_paths.specs.Merging.{path_end};
 ghost use Rattle.lnt_paths.specs.PathFaults.{IsFaultyRecord};
 ghost use Rattle.lnt_paths.specs.PathSpans.{PathSpan, whole};

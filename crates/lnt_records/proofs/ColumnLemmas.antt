@@ -2,7 +2,7 @@
 use Rattle.std.proofs.Common.{◌≡◌, ℕ, zero, suc, ◌+◌, ◌<◌, ◌≤◌, List, [], ◌∷◌, Bool, Some, None, get_or, length, sym, subst, arith, ⊎_elim}
 use Rattle.std.proofs.lemmas.Bool.{cases_lt}
 use Rattle.csv.specs.Records.{field_at}
-use Rattle.lnt_digits.specs.Digits.{IsAddress, IsDecimal}
+use Rattle.lnt_text.specs.Digits.{IsAddress, IsDecimal}
 use Rattle.lnt_records.specs.Faults.{IsFaultyColumn}
 use Rattle.lnt_records.specs.Progress.{AreSoundBefore, IsColumnOf}
 use Rattle.lnt_records.specs.Table.{Fields, IsFlag, IsOfColumn, IsOfKind, Kind, address, decimal, flag}

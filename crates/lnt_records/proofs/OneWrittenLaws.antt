@@ -2,8 +2,8 @@
 use Rattle.std.proofs.Common.{◌≡◌, ◌∙◌, ℕ, zero, suc, ◌<◌, Bool, true, false, List, [], Option, Some, None, get_or}
 use Rattle.std.proofs.Common.{sym, arith}
 use Rattle.std.proofs.lemmas.List.{ext_get_or}
-use Rattle.lnt_digits.specs.Digits.{IsPlainDecimal}
-use Rattle.lnt_digits.proofs.OneTextLaws.{one_address, one_decimal}
+use Rattle.lnt_text.specs.Digits.{IsPlainDecimal}
+use Rattle.lnt_text.proofs.OneTextLaws.{one_address, one_decimal}
 use Rattle.lnt_spans.specs.declared.answer.More.{More}
 use Rattle.lnt_spans.specs.declared.answer.Version.{Version}
 use Rattle.lnt_spans.specs.declared.answer.Version.TheVariants.{One, Two}

@@ -6,8 +6,8 @@ use Rattle.csv.specs.Machine.{next_record}
 use Rattle.csv.specs.Reading.{default_config}
 use Rattle.csv.specs.Writing.{default_writer, field_text, needs_byte, read_back}
 use Rattle.csv.specs.declared.parser.State.TheVariants as st
-use Rattle.lnt_digits.specs.Digits.{IsAddress, IsDecimal}
-use Rattle.lnt_digits.proofs.TextLaws.{FromZero, address_from_zero, decimal_from_zero}
+use Rattle.lnt_text.specs.Digits.{IsAddress, IsDecimal}
+use Rattle.lnt_text.proofs.TextLaws.{FromZero, address_from_zero, decimal_from_zero}
 use Rattle.lnt_records.specs.Table.{Fields}
 
 -- ---- fields without a byte that needs quotes

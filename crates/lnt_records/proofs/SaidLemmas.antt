@@ -1,8 +1,8 @@
 -- What each column of a span's record holds, and that it is the record of one span only.
 use Rattle.std.proofs.Common.{◌≡◌, ◌∙◌, ℕ, zero, suc, ◌<◌, ◌≤◌, Bool, true, false, List, [], Option, Some, None, get_or, refl, sym, ap}
 use Rattle.std.proofs.Common.{arith}
-use Rattle.lnt_digits.specs.Digits.{IsAddress, IsDecimal, IsPlainDecimal}
-use Rattle.lnt_digits.proofs.TextLaws.{one_address_number, one_decimal_number, plain_address}
+use Rattle.lnt_text.specs.Digits.{IsAddress, IsDecimal, IsPlainDecimal}
+use Rattle.lnt_text.proofs.TextLaws.{one_address_number, one_decimal_number, plain_address}
 use Rattle.lnt_spans.specs.declared.answer.More.{More}
 use Rattle.lnt_spans.specs.declared.answer.Version.{Version}
 use Rattle.lnt_spans.specs.declared.answer.Version.TheVariants.{One, Two}

@@ -1,8 +1,8 @@
 -- Spans whose numbers are of at most 64 bits can be written as a table.
 use Rattle.std.proofs.Common.{◌≡◌, Bool, true, false, List, [], ◌∷◌, Some, codes, refl, sym, subst, ℕ}
 use Rattle.std.specs.List.{AllByRecursion, AllZip}
-use Rattle.lnt_digits.specs.Digits.{IsPlainDecimal}
-use Rattle.lnt_digits.proofs.WrittenLaws.{has_address, has_decimal}
+use Rattle.lnt_text.specs.Digits.{IsPlainDecimal}
+use Rattle.lnt_text.proofs.WrittenLaws.{has_address, has_decimal}
 use Rattle.lnt_spans.specs.declared.answer.Answer.{Answer}
 use Rattle.lnt_spans.specs.declared.answer.Version.{Version}
 use Rattle.lnt_spans.specs.declared.answer.Version.TheVariants.{One, Two}

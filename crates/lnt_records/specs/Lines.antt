@@ -1,6 +1,6 @@
 -- A table that is parsed line by line. No public contract speaks of it.
 use Rattle.std.specs.Prelude.{◌≡◌, ℕ, Bool, List, [], ◌∷◌, ◌++◌, Option, Some, None}
-use Rattle.lnt_digits.specs.Digits.{IsAddress, IsDecimal, IsPlainAddress, IsPlainDecimal}
+use Rattle.lnt_text.specs.Digits.{IsAddress, IsDecimal, IsPlainAddress, IsPlainDecimal}
 use Rattle.lnt_spans.specs.declared.answer.Answer.{Answer}
 use Rattle.lnt_spans.specs.declared.answer.More.{More}
 use Rattle.lnt_spans.specs.declared.answer.Version.{Version}

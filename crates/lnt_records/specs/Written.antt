@@ -1,7 +1,7 @@
 -- A table in the form in which it is written.
 use Rattle.std.specs.Prelude.{◌≡◌, ℕ, List, [], ◌∷◌, ◌++◌, Option, Some, None}
 use Rattle.std.specs.List.{AllZip}
-use Rattle.lnt_digits.specs.Digits.{IsPlainAddress, IsPlainDecimal}
+use Rattle.lnt_text.specs.Digits.{IsPlainAddress, IsPlainDecimal}
 use Rattle.lnt_io.specs.Fronts.{AppendsFront}
 use Rattle.lnt_spans.specs.declared.answer.Answer.{Answer}
 use Rattle.lnt_spans.specs.declared.answer.More.{More}

@@ -2,7 +2,7 @@
 ghost use Rattle.std.specs.Prelude.{◌≡◌, ◌≢◌, ◌+◌, ◌<◌, [], length, get_or, IfOk, IfErr, OnOk, MatchOption, Bool};
 ghost use Rattle.std.specs.Bool.{MatchBool};
 ghost use Rattle.csv.specs.Records.{fields_of};
-ghost use Rattle.lnt_digits.specs.Digits.{IsAddress, IsDecimal};
+ghost use Rattle.lnt_text.specs.Digits.{IsAddress, IsDecimal};
 ghost use Rattle.lnt_records.specs.Progress.{AreSoundBefore, IsColumnFault, IsColumnOf};
 ghost use Rattle.lnt_records.specs.Table.{IsFlag};
 ghost use Rattle.lnt_records.specs.Table as table;
@@ -58,7 +58,7 @@ pub fn address_at<C: Columns>(row: &ByteRecord, i: usize) -> Result<u64, RecordF
     ensures after { OnOk result (AreSoundBefore C.columns (fields_of row.now) (i + 1)) }
     ensures err { IfErr result (λ fault. IsColumnFault C.columns (fields_of row.now) fault) }
 {
-    match lnt_digits::address(field(row, i)) {
+    match lnt_text::address(field(row, i)) {
         Some(address) => Ok(address),
         None => Err(RecordFault::Number(i as u64)),
     }
@@ -74,7 +74,7 @@ pub fn decimal_at<C: Columns>(row: &ByteRecord, i: usize) -> Result<u64, RecordF
     ensures after { OnOk result (AreSoundBefore C.columns (fields_of row.now) (i + 1)) }
     ensures err { IfErr result (λ fault. IsColumnFault C.columns (fields_of row.now) fault) }
 {
-    match lnt_digits::decimal(field(row, i)) {
+    match lnt_text::decimal(field(row, i)) {
         Some(number) => Ok(number),
         None => Err(RecordFault::Number(i as u64)),
     }

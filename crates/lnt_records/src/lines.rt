@@ -1,7 +1,7 @@
 //! Reads tables line by line: each record on a line of its own that ends in a line feed, with nothing in quotes, as
 //! `write_spans` writes them. Each record is parsed in one pass over its bytes.
 ghost use Rattle.std.specs.Prelude.{◌≡◌, ◌≢◌, ◌+◌, ◌-◌, ◌^◌, ◌<◌, ◌++◌, ℕ, List, drop, length, IfSome, IsErrOf, MatchOption, OnOk};
-ghost use Rattle.lnt_digits.specs.Digits.{IsAddress, IsDecimal};
+ghost use Rattle.lnt_text.specs.Digits.{IsAddress, IsDecimal};
 ghost use Rattle.lnt_spans.specs.declared.span.Span as spec;
 ghost use Rattle.lnt_spans.specs.Comparing.{Compares};
 ghost use Rattle.lnt_records.specs.Lines.{IsAnswer, IsFlagBefore, IsTextLine, IsMore, IsPosition};
@@ -11,9 +11,9 @@ ghost use Rattle.lnt_records.specs.Written.{line_text};
 
 use crate::header::TableVersion;
 use crate::window::Window;
-use lnt_digits::{address_until, decimal_until, past};
 use lnt_io::{Source, Stop};
 use lnt_spans::{Answer, MergeByNumber, More, Position, Span, SpanSource, Version};
+use lnt_text::{address_until, decimal_until, past};
 use std::alloc::Global;
 
 // Parses the lines of a table and pushes their spans, up to the first line that isn't well formed, has quotes or a number of

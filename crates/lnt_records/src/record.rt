@@ -1,7 +1,7 @@
 //! Reads the span of a record.
 ghost use Rattle.std.specs.Prelude.{◌≡◌, ◌+◌, ◌<◌, length, IfOk, IfErr, OnOk};
 ghost use Rattle.csv.specs.Records.{fields_of};
-ghost use Rattle.lnt_digits.specs.Digits.{IsDecimal};
+ghost use Rattle.lnt_text.specs.Digits.{IsDecimal};
 ghost use Rattle.lnt_records.specs.Progress.{AreSoundBefore, IsColumnFault, IsColumnOf, IsRecordFault, SaysAnswer, SaysPosition};
 ghost use Rattle.lnt_records.specs.Table.{AreMore, IsSpanRecord, column_count, kinds};
 ghost use Rattle.lnt_records.specs.Table as table;

@@ -1,13 +1,13 @@
 //! Writes the line of a record backwards, from its end, so that no digits have to be counted or moved.
 ghost use Rattle.std.specs.Prelude.{◌≡◌, ◌+◌, ◌<◌, ◌≤◌, [], drop};
-ghost use Rattle.lnt_digits.specs.Digits.{IsPlainAddress, IsPlainDecimal};
+ghost use Rattle.lnt_text.specs.Digits.{IsPlainAddress, IsPlainDecimal};
 ghost use Rattle.lnt_spans.specs.declared.answer.Version.{Version};
-ghost use Rattle.lnt_digits.specs.Delimited.{Begins};
+ghost use Rattle.lnt_text.specs.Delimited.{Begins};
 ghost use Rattle.lnt_records.specs.Lines.{IsAnswer, IsFlagBefore, IsMore, IsPlainLine, IsPosition};
 ghost use Rattle.lnt_records.specs.Written.{IsOfVersion};
 
-use lnt_digits::{address_before, decimal_before};
 use lnt_spans::{Answer, Position, Span};
+use lnt_text::{address_before, decimal_before};
 
 // More bytes than there are in any line that is written here or parsed as a line.
 pub(crate) const ROOM: usize = 256;

@@ -11,7 +11,7 @@ use Rattle.clap.specs.declared.error.kind.ErrorKind.TheVariants as kind
 use Rattle.clap.specs.declared.error.kind.ErrorKind.{ErrorKind}
 use Rattle.clap.specs.declared.parser.matches.ArgMatches.{ArgMatches}
 use Rattle.clap.specs.declared.parser.matches.ArgMatches.TheViews.{out-ArgMatches}
-use Rattle.lnt_digits.specs.Digits.{IsAddress}
+use Rattle.lnt_text.specs.Digits.{IsAddress}
 use Rattle.lnt_spans.specs.declared.position.Position.{Position}
 use Rattle.lnt_words.specs.Asking.{AreAddresses, IsAskedOf, position_at}
 use Rattle.lnt_words.specs.Described.{IsAskedOfMatches, rows_in}

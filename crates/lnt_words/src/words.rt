@@ -2,7 +2,7 @@
 ghost use Rattle.std.specs.Prelude.{◌≡◌, ◌≢◌, ◌⊎◌, ℕ, IfErr, List, codes, map, option_map, string_bytes, IfOk};
 ghost use Rattle.clap.specs.Words.{Row, all_of, first_of, kind_of, subcommand_rows_of};
 ghost use Rattle.lnt_words.specs.Described.{IsAskedOfMatches, rows_in};
-ghost use Rattle.lnt_digits.specs.Digits.{IsAddress, IsDecimal};
+ghost use Rattle.lnt_text.specs.Digits.{IsAddress, IsDecimal};
 ghost use Rattle.lnt_words.specs.Asking.{AreAddresses, AreAddressesIn, ArePositionsIn, AskForNothing, IsAskedBy, IsAskedIn};
 ghost use Rattle.lnt_words.specs.Asking.{IsAskedOf, IsFlagGiven, IsHelp, IsJudging, IsOp};
 ghost use Rattle.lnt_words.specs.Asking.{IsOrder, IsQuestion, IsReading, IsSize, IsWord, IsWrittenFormat, IsWrittenOrder};
@@ -19,9 +19,8 @@ use crate::request::{AddressSize, Asked, Judging, Question, Reading, Request};
 use crate::stop::WordsStop;
 use clap::error::ErrorKind;
 use clap::{ArgMatches, Error};
-use lnt_digits::{address, decimal};
 use lnt_spans::{Position, Version};
-use lnt_text::{Argument, Shown};
+use lnt_text::{Argument, Shown, address, decimal};
 use lnt_wire::{Format, Order};
 use std::alloc::{AllocError, Global};
 

@@ -1,5 +1,5 @@
 use Rattle.std.proofs.Common.{◌∙◌, ℕ, ◌+◌, List, subst, sym}
-use Rattle.lnt_digits.specs.Digits.{IsDecimal}
+use Rattle.lnt_text.specs.Digits.{IsDecimal}
 use Rattle.lnt_answers.proofs.CommaLemmas.{none_alone, none_before, none_past, rest_after}
 use Rattle.lnt_answers.proofs.addresses.position_in.Goals as goal
 

@@ -1,5 +1,5 @@
 use Rattle.std.proofs.Common.{rules, drop, take}
-use Rattle.lnt_digits.proofs.WrittenLaws.{text_before}
+use Rattle.lnt_text.proofs.WrittenLaws.{text_before}
 use Rattle.lnt_answers.proofs.AnswerLineLemmas.{position_of}
 use Rattle.lnt_answers.proofs.answer_line.position_before.Goals as goal
 

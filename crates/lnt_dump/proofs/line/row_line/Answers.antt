@@ -1,6 +1,6 @@
 use Rattle.std.proofs.Common.{rules, ◌+◌, ap, drop, take}
 use Rattle.std.proofs.lemmas.List.{drop_all}
-use Rattle.lnt_digits.proofs.WrittenLaws.{text_before}
+use Rattle.lnt_text.proofs.WrittenLaws.{text_before}
 use Rattle.lnt_dump.proofs.RowLemmas.{line_of}
 use Rattle.lnt_dump.proofs.line.row_line.Goals as goal
 

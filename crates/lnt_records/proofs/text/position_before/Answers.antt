@@ -1,5 +1,5 @@
 use Rattle.std.proofs.Common.{arith, ◌≡◌, ◌≤◌, length}
-use Rattle.lnt_digits.specs.Digits.{IsPlainAddress, IsPlainDecimal}
+use Rattle.lnt_text.specs.Digits.{IsPlainAddress, IsPlainDecimal}
 use Rattle.lnt_records.proofs.LineLemmas.{position_taken}
 use Rattle.lnt_records.proofs.TextLemmas.{put_before}
 use Rattle.lnt_records.proofs.text.position_before.Goals as goal

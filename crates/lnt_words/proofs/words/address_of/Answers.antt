@@ -1,6 +1,6 @@
 use Rattle.std.proofs.Common.{subst, sym}
 use Rattle.clap.specs.Words.{Text}
-use Rattle.lnt_digits.specs.Digits.{IsAddress}
+use Rattle.lnt_text.specs.Digits.{IsAddress}
 use Rattle.lnt_words.proofs.words.address_of.Goals as goal
 
 pub returns-in-None-clause-refused : goal.returns-in-None-clause-refused

@@ -1,5 +1,0 @@
-use Rattle.std.proofs.Common.{rules}
-use Rattle.lnt_digits.proofs.radix.is_hexadecimal.Goals as goal
-
-pub returns : goal.returns
-returns c = search rules

@@ -1,5 +1,0 @@
-use Rattle.std.proofs.Common.{rules}
-use Rattle.lnt_digits.proofs.read.decimal.Goals as goal
-
-pub returns : goal.returns
-returns c = search rules

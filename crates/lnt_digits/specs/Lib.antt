@@ -1,3 +1,0 @@
-pub mod Delimited
-pub mod Digits
-pub mod Laws

@@ -1,0 +1,38 @@
+-- Numbers read from the front.
+use Rattle.std.proofs.Common.{◌≡◌, ◌∙◌, ℕ, ◌+◌, ◌*◌, ◌^◌, ◌<◌, ◌≤◌, List, length, get_or}
+use Rattle.std.proofs.Common.{take, drop, sym, ap, arith}
+use Rattle.std.proofs.lemmas.List.{drop_more}
+use Rattle.std.specs.List.{AllByRecursion}
+use Rattle.lnt_text.specs.declared.radix.Radix.{Radix}
+use Rattle.lnt_text.specs.Digits.{IsDigit, IsNumber, radix_base, digit_value, digits_value, most_digits}
+use Rattle.lnt_text.proofs.DigitLemmas.{base_some, value_grows}
+
+-- the front is read, as digits that have this number
+pub record IsRead (radix : Radix) (text : List ℕ) (i so_far : ℕ) : Type 0 where
+  pub digits : AllByRecursion (IsDigit radix) (take i text)
+  pub value : digits_value (radix_base radix) 0 text ≡ digits_value (radix_base radix) so_far (drop i text)
+  pub fits : so_far < 2 ^ 64
+
+read_value : (radix : Radix) (text : List ℕ) (i so_far d : ℕ) → i < length text → IsRead radix text i so_far
+    → d ≡ digit_value (get_or text i 0)
+    → digits_value (radix_base radix) 0 text ≡ digits_value (radix_base radix) (so_far * radix_base radix + d) (drop (i + 1) text)
+read_value radix text i so_far d lt r e =
+    r.value ∙ ap (digits_value (radix_base radix) so_far) (drop_more text i 0 lt)
+    ∙ ap (λ (v : ℕ). digits_value (radix_base radix) (so_far * radix_base radix + v) (drop (i + 1) text)) (sym e)
+
+-- ---- what is no number
+
+pub no_number_of_none : (radix : Radix) (text : List ℕ) → length text ≡ 0 → (n : ℕ) → IsNumber radix text n → ⊥
+no_number_of_none radix text e n h = omega (arith, e, h.some)
+
+pub no_number_of_many : (radix : Radix) (text : List ℕ) → most_digits radix < length text → (n : ℕ) → IsNumber radix text n → ⊥
+no_number_of_many radix text lt n h = omega (arith, lt, h.few)
+
+-- a number that is too large after a digit stays so
+pub too_large : (radix : Radix) (text : List ℕ) (i so_far d : ℕ) → i < length text → IsRead radix text i so_far
+    → d ≡ digit_value (get_or text i 0)
+    → 2 ^ 64 ≤ so_far * radix_base radix + d → (n : ℕ) → IsNumber radix text n → ⊥
+too_large radix text i so_far d lt r e large n h =
+    let value = read_value radix text i so_far d lt r e in
+    let grows = value_grows (radix_base radix) (so_far * radix_base radix + d) (drop (i + 1) text) (base_some radix) in
+    omega (arith, h.fits, h.value, value, grows, large)

@@ -1,0 +1,23 @@
+use Rattle.std.proofs.Common.{◌<◌, ◌+◌, ◌*◌, length, refl, arith}
+use Rattle.lnt_text.specs.declared.radix.Radix.TheVariants.{Ten}
+use Rattle.lnt_text.proofs.DelimitedLemmas.{digits_more, room_for_digit}
+use Rattle.lnt_text.proofs.delimited.digits_until.Goals as goal
+
+pub overflow_mul-value : goal.overflow_mul-value
+overflow_mul-value c =
+    let few : c.loop-i.i < c.args.at + 19 = omega (arith, c.loop-i-test.true, c.min-i-end.ensures, c.saturating_add.ensures) in
+    let room = room_for_digit _ _ _ _ c.loop-i.invariant few in
+    omega (arith, room)
+
+pub overflow_add-value : goal.overflow_add-value
+overflow_add-value c =
+    let few : c.loop-i.i < c.args.at + 19 = omega (arith, c.loop-i-test.true, c.min-i-end.ensures, c.saturating_add.ensures) in
+    let room = room_for_digit _ _ _ _ c.loop-i.invariant few in
+    omega (arith, room, c.in-Some.ensures.2)
+
+pub loop-i-preserved : goal.loop-i-preserved
+loop-i-preserved c =
+    let least : c.loop-i.i < length c.args.text.now = omega (arith, c.loop-i-test.true, c.min-i-end.ensures) in
+    digits_more Ten c.args.text.now c.args.at c.loop-i.i c.loop-i.value c.in-Some.digit (c.loop-i.value * 10 + c.in-Some.digit) least
+    c.loop-i.invariant c.in-Some.ensures.0 c.in-Some.ensures.1
+    c.in-Some.ensures.2 refl

@@ -1,0 +1,5 @@
+use Rattle.std.proofs.Common.{rules}
+use Rattle.lnt_text.proofs.read.decimal.Goals as goal
+
+pub returns : goal.returns
+returns c = search rules
