@@ -6,15 +6,16 @@ ghost use Rattle.lnt_sequences.specs.declared.brief.BriefRow as brief;
 ghost use Rattle.std.specs.Bool.{MatchBool};
 ghost use Rattle.lnt_sequences.specs.Briefs.{AreInBrief, AreKept, IsAdded, IsInBrief, IsReached, IsReachedIn, WereKept, brief_answer, place_of};
 
+use crate::buckets::Buckets;
 use lnt_machine::{Row, SequenceRows};
 use lnt_spans::{Answer, More, Position};
 use std::alloc::{AllocError, Global};
 
 // What a lookup needs of a row whose numbers are small: 16 bytes.
 #[derive(Clone, Copy)]
-struct BriefRow {
+pub(crate) struct BriefRow {
     // the row's address, counted from a base
-    address: u32,
+    pub(crate) address: u32,
     line: u32,
     file: u16,
     column: u16,
@@ -45,7 +46,7 @@ impl BriefRow {
 
     // The row's position, with its address counted from the base.
     #[inline(always)]
-    fn place(self) -> Position
+    pub(crate) fn place(self) -> Position
         ensures { result ≡ place_of self }
     {
         Position {
@@ -146,21 +147,22 @@ impl BriefRows {
         Ok(true)
     }
 
-    // The number of rows that are kept.
-    pub(crate) fn count(&self) -> usize {
-        self.rows.len()
+    // The rows that are kept.
+    pub(crate) fn rows(&self) -> &[BriefRow] {
+        &self.rows
     }
 
     // How many of the sequence's rows are at or below a position, where positions never fall. `None` if the rows that are kept
     // don't say it.
-    pub(crate) fn reached(&self, position: Position) -> Option<usize>
+    #[inline(always)]
+    pub(crate) fn reached(&self, buckets: &Buckets, position: Position) -> Option<usize>
         ensures { IfSome result (IsReachedIn self.now position) }
     {
         let at = Position {
             address: position.address.checked_sub(self.base)?,
             op: position.op,
         };
-        let count = reached(&self.rows, at);
+        let count = reached(&self.rows, buckets, at);
         if count == self.rows.len() && !self.is_whole {
             return None;
         }
@@ -179,11 +181,11 @@ impl BriefRows {
 }
 
 // How many of these rows are at or below a place, where places never fall.
-fn reached(rows: &[BriefRow], at: Position) -> usize
+#[inline(always)]
+fn reached(rows: &[BriefRow], buckets: &Buckets, at: Position) -> usize
     ensures { IsReached rows.now at result }
 {
-    let mut low = 0;
-    let mut high = rows.len();
+    let (mut low, mut high) = buckets.around(rows, at);
     while low < high {
         let middle = low + (high - low) / 2;
         if at.is_below(rows[middle].place()) {

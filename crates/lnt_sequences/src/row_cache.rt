@@ -8,6 +8,7 @@ ghost use Rattle.lnt_sequences.specs.Rules.{IsOrdered};
 ghost use Rattle.lnt_sequences.specs.Sequences as sequence;
 
 use crate::brief::BriefRows;
+use crate::buckets::Buckets;
 use crate::marks::Marks;
 use lnt_machine::SequenceRows;
 use lnt_spans::{Answer, Position};
@@ -20,6 +21,7 @@ const OWN: usize = 10;
 #[derive(Drop)]
 pub struct RowCache<'a> {
     brief: BriefRows,
+    buckets: Buckets,
     marks: Marks<'a>,
 }
 
@@ -34,16 +36,18 @@ impl<'a> RowCache<'a> {
         ensures { IfOk result (λ cache. (list : List spec.Row) → WillGive list rows.entry → IsCacheOf list cache) }
     {
         let brief = BriefRows::of(alloc, rows, *room)?;
-        *room = room.saturating_sub(brief.count()).saturating_sub(OWN);
+        *room = room.saturating_sub(brief.rows().len()).saturating_sub(OWN);
+        let buckets = Buckets::of(alloc, brief.rows())?;
         Ok(RowCache {
             brief,
+            buckets,
             marks: Marks::new(alloc),
         })
     }
 
     /// Whether nothing is kept.
     pub fn is_empty(&self) -> bool {
-        self.brief.count() == 0 && self.marks.is_empty()
+        self.brief.rows().is_empty() && self.marks.is_empty()
     }
 
     /// What the sequence answers at a position, as [`answer_at`](crate::answer_at) of all of its rows. `None` if the rows that
@@ -53,7 +57,7 @@ impl<'a> RowCache<'a> {
         ensures { IfSome result (λ answer. (list : List spec.Row) → IsCacheOf list self.now → IsOrdered list
             → answer ≡ option_map (sequence.answer_of unit) (sequence.row_at position list)) }
     {
-        let count = self.brief.reached(position)?;
+        let count = self.brief.reached(&self.buckets, position)?;
         Some(self.brief.answer(unit, count))
     }
 
