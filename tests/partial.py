@@ -377,9 +377,8 @@ def made_case(picked, sections):
         table, names = b",".join(VERSIONS[version]) + b"\n", ["bad section"]
     if picked.randrange(20) == 0:
         given, names = broken(picked, given), ["broken"]
-    # With both, --all changes nothing.
     all_stretches = picked.randrange(2) > 0
-    said, status = check(given.section, table, True, False)
+    said, status = check(given.section, table, True, all_stretches)
     files = {"section.bin": given.data, "table.csv": table}
     words = ["check", "section.bin", "table.csv", "--partial", *["--all"] * all_stretches, *given.words]
     for option, strings in ("--line-str", given.line), ("--str", given.general):

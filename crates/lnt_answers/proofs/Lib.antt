@@ -4,12 +4,12 @@ pub mod AddressLineLemmas
 pub mod AddressWholes
 pub mod AnswerLineLemmas
 pub mod CommaLemmas
-pub mod DifferenceLemmas
 pub mod DigestLemmas
 pub mod FileLemmas
 pub mod PathStretchLemmas
 pub mod PathTableLemmas
 pub mod RoomLaws
+pub mod ScopeLemmas
 pub mod StretchLemmas
 pub mod SumFronts
 pub mod SumLaws

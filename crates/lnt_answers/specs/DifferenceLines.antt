@@ -1,33 +1,85 @@
--- The lines that are printed for positions at which the answers of a table and of a section differ.
-use Rattle.std.specs.Prelude.{ℕ, List, [], ◌∷◌, ◌++◌, Option, codes}
+-- What is printed of all positions in a scope at which the answers of a table and of a section differ.
+use Rattle.std.specs.Prelude.{◌≡◌, ℕ, List, [], ◌∷◌, ◌++◌, Option, codes}
 use Rattle.std.specs.List.{flat_map}
+use Rattle.std.specs.Io.KnownBytes.{Appends}
 use Rattle.lnt_io.specs.Fronts.{AppendsFront}
 use Rattle.lnt_io.specs.declared.status.Status.{Status}
 use Rattle.lnt_io.specs.declared.status.Status.TheVariants.{Done, No}
 use Rattle.lnt_spans.specs.declared.answer.Answer.{Answer}
 use Rattle.lnt_spans.specs.declared.difference.Difference.{Difference}
 use Rattle.lnt_spans.specs.declared.position.Position.{Position}
-use Rattle.lnt_spans.specs.Stretches.{AreStretches}
+use Rattle.lnt_spans.specs.AnyStretches.{AreAllStretches, Stretch}
+use Rattle.lnt_spans.specs.Counts.{addresses_answered}
+use Rattle.lnt_spans.specs.Partial.{AreAllMistakes, where_answered}
+use Rattle.lnt_paths.specs.PathAnswers.{PathAnswer}
+use Rattle.lnt_table.specs.declared.by_path.Checked.TheVariants.{Numbered}
+use Rattle.lnt_table.specs.declared.verdict.Verdict.TheVariants.{Yes}
+use Rattle.lnt_table.specs.declared.within.CheckedWithin.{CheckedWithin}
+use Rattle.lnt_table.specs.declared.within.CheckedWithin.TheVariants.{Checked as Told, Covered}
+use Rattle.lnt_table.specs.declared.within.Coverage.{Coverage}
+use Rattle.lnt_table.specs.declared.within.Scope.{Scope}
+use Rattle.lnt_table.specs.declared.within.Scope.TheVariants.{All, Answered}
+use Rattle.lnt_table.specs.PathTexts.{path_stretch_text}
 use Rattle.lnt_text.specs.Texts.{difference_text}
+use Rattle.lnt_answers.specs.Verdicts.{checked_line}
 
+-- ---- the line of a stretch
+
+-- of a table of version 1 or 2
 abbrev pub difference_line : Difference → List ℕ
 difference_line difference = difference_text difference ++ codes "\n"
 
--- a line for each stretch, or `yes` if there is none
-abbrev pub stretches_text : List Difference → List ℕ
-stretches_text [] = codes "yes\n"
-stretches_text (first ∷ differences) = flat_map difference_line (first ∷ differences)
+abbrev pub stretch_line : Stretch Answer → List ℕ
+stretch_line stretch =
+    difference_line (record { position = stretch.position; by_table = stretch.by_table; by_section = stretch.by_section })
+
+-- of a table by path
+abbrev pub path_stretch_line : Stretch PathAnswer → List ℕ
+path_stretch_line stretch = path_stretch_text stretch ++ codes "\n"
+
+-- ---- all stretches in a scope
+
+-- These are exactly the stretches in the scope, in ascending order: all at which the two answer differently, or those among them at
+-- which the table answers.
+abbrev pub AreAllIn : {X : Type 0} → Scope → (Position → Option X) → (Position → Option X) → List (Stretch X) → Type 0
+AreAllIn All by_section by_table stretches = AreAllStretches by_section by_table stretches
+AreAllIn Answered by_section by_table stretches = AreAllMistakes by_table by_section stretches
+
+-- how much of the section the table answers
+abbrev pub coverage_of : {X : Type 0} → (Position → Option X) → (Position → Option X) → Coverage
+coverage_of by_section by_table =
+    record { answered = addresses_answered (where_answered by_table by_section); all = addresses_answered by_section }
+
+-- the answer where there is no stretch: in the scope of the positions at which the table answers, how much it answers
+abbrev pub answer_if_none : {X : Type 0} → Scope → (Position → Option X) → (Position → Option X) → CheckedWithin
+answer_if_none All by_section by_table = Told (Numbered Yes)
+answer_if_none Answered by_section by_table = Covered (coverage_of by_section by_table)
+
+-- a line for each stretch, or this text if there is none
+abbrev pub lines_or : {X : Type 0} → (Stretch X → List ℕ) → List ℕ → List (Stretch X) → List ℕ
+lines_or line none [] = none
+lines_or line none (first ∷ stretches) = flat_map line (first ∷ stretches)
 
 -- the status after these stretches
-abbrev pub stretches_status : List Difference → Status
+abbrev pub stretches_status : {X : Type 0} → List (Stretch X) → Status
 stretches_status [] = Done
-stretches_status (first ∷ differences) = No
+stretches_status (first ∷ stretches) = No
+
+-- What was appended to a writer that held these bytes (old) is a line for each stretch in the scope, or the answer if there is none;
+-- and this is the status after them.
+--     line    the line of a stretch
+pub record AreStretchesTold {X : Type 0} (line : Stretch X → List ℕ) (scope : Scope) (by_section by_table : Position → Option X)
+    (old new : Option (List ℕ)) (status : Status) : Type 0 where
+  pub stretches : List (Stretch X)
+  pub are_all : AreAllIn scope by_section by_table stretches
+  pub printed : Appends old new (lines_or line (checked_line (answer_if_none scope by_section by_table)) stretches)
+  pub status_is : status ≡ stretches_status stretches
 
 -- ---- where the writer stopped
 
--- What was appended to a writer that held these bytes (old) is a prefix of the lines of all stretches, or of `yes` if there
--- is none, and nothing else.
-pub record AreDifferencesBegun (by_section by_table : Position → Option Answer) (old new : Option (List ℕ)) : Type 0 where
-  pub differences : List Difference
-  pub are_all : AreStretches by_section by_table differences
-  pub front : AppendsFront old new (stretches_text differences)
+-- What was appended to a writer that held these bytes (old) is a prefix of that text, and nothing else.
+pub record AreDifferencesBegun {X : Type 0} (line : Stretch X → List ℕ) (scope : Scope) (by_section by_table : Position → Option X)
+    (old new : Option (List ℕ)) : Type 0 where
+  pub stretches : List (Stretch X)
+  pub are_all : AreAllIn scope by_section by_table stretches
+  pub front : AppendsFront old new (lines_or line (checked_line (answer_if_none scope by_section by_table)) stretches)

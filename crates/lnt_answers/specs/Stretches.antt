@@ -1,58 +1,47 @@
--- What is printed if all positions are reported at which a table and a good section answer differently.
-use Rattle.std.specs.Prelude.{◌≡◌, ◌≢◌, ◌++◌, ◌⊎◌, Bool, ℕ, List, [], ◌∷◌, Option, codes}
+-- What is printed if all positions in a scope are reported at which a table and a good section answer differently.
+use Rattle.std.specs.Prelude.{◌≢◌, ◌++◌, ◌⊎◌, Bool, ℕ, List, [], ◌∷◌, Option, codes}
 use Rattle.std.specs.Io.KnownBytes.{Appends}
 use Rattle.lnt_io.specs.Fronts.{AppendsFront}
 use Rattle.lnt_header.specs.declared.unit_parts.UnitParts.{UnitParts}
 use Rattle.lnt_spans.specs.declared.answer.Version.{Version}
-use Rattle.lnt_spans.specs.declared.difference.Difference.{Difference}
-use Rattle.lnt_spans.specs.declared.position.Position.{Position}
 use Rattle.lnt_spans.specs.declared.span.Span.{Span}
 use Rattle.lnt_spans.specs.Spans.{span_answer}
-use Rattle.lnt_spans.specs.Stretches.{AreStretches}
-use Rattle.lnt_spans.specs.AnyStretches.{AreAllStretches as AreAllByPath, Stretch}
 use Rattle.lnt_records.specs.declared.fault.TableFault.{TableFault}
 use Rattle.lnt_records.specs.declared.fault.TableFault.TheVariants as fault
 use Rattle.lnt_records.specs.Faults.{IsFault}
 use Rattle.lnt_records.specs.Table.{BeginsWith, IsTableOf, column_names}
 use Rattle.lnt_paths.specs.declared.version.PathVersion.{PathVersion}
-use Rattle.lnt_paths.specs.PathAnswers.{PathAnswer}
 use Rattle.lnt_paths.specs.PathFaults.{IsPathFault}
 use Rattle.lnt_paths.specs.PathSpans.{PathSpan, path_span_answer}
 use Rattle.lnt_paths.specs.PathTables.{IsPathTableOf}
 use Rattle.lnt_table.specs.ByPath.{told_path}
 use Rattle.lnt_table.specs.Headline.{told_answer}
-use Rattle.lnt_answers.specs.DifferenceLines.{AreDifferencesBegun, stretches_status, stretches_text}
+use Rattle.lnt_table.specs.declared.within.Scope.{Scope}
+use Rattle.lnt_answers.specs.DifferenceLines.{AreDifferencesBegun, AreStretchesTold, path_stretch_line, stretch_line}
 use Rattle.lnt_answers.specs.declared.stretches.Stretches.{Stretches}
 use Rattle.lnt_answers.specs.declared.stretches.Stretches.TheVariants.{Faulty, FaultyByPath, Told, ToldByPath}
 use Rattle.lnt_table.specs.Verdicts.{no_of_fault}
-use Rattle.lnt_answers.specs.Verdicts.{path_stretches_status, path_stretches_text}
 use Rattle.lnt_table.specs.FaultTexts.{table_no_text}
 use Rattle.lnt_lines.specs.Indexed.{Indexed}
 use Rattle.lnt_io.specs.declared.status.Status.{Status}
 use Rattle.lnt_io.specs.declared.status.Status.TheVariants as ending
 
--- The bytes are a table. These are exactly the stretches at which it and the rows of the units answer differently, in the
--- fields of its version, and what was appended to a writer that held these bytes is their lines, or `yes` if there is none.
-pub record AreToldOf (dead : Option ℕ) (skip : Bool) (units : List (ℕ × UnitParts)) (table : List ℕ) (old new : Option (List ℕ))
-    (status : Status) : Type 0 where
+-- The bytes are a table, and what was appended to a writer that held these bytes is told of the stretches in the scope at which it and
+-- the rows of the units answer differently, in the fields of its version.
+pub record AreToldOf (scope : Scope) (dead : Option ℕ) (skip : Bool) (units : List (ℕ × UnitParts)) (table : List ℕ)
+    (old new : Option (List ℕ)) (status : Status) : Type 0 where
   pub version : Version
   pub spans : List Span
   pub is_table : IsTableOf version table spans
-  pub differences : List Difference
-  pub are_stretches : AreStretches (told_answer version dead skip units) (span_answer spans) differences
-  pub printed : Appends old new (stretches_text differences)
-  pub status_is : status ≡ stretches_status differences
+  pub told : AreStretchesTold stretch_line scope (told_answer version dead skip units) (span_answer spans) old new status
 
 -- The same for a table by path, and for what the rows answer with the full path of each file.
-pub record AreToldByPath (index : Indexed) (dead : Option ℕ) (skip : Bool) (units : List (ℕ × UnitParts)) (table : List ℕ)
-    (old new : Option (List ℕ)) (status : Status) : Type 0 where
+pub record AreToldByPath (scope : Scope) (index : Indexed) (dead : Option ℕ) (skip : Bool) (units : List (ℕ × UnitParts))
+    (table : List ℕ) (old new : Option (List ℕ)) (status : Status) : Type 0 where
   pub version : PathVersion
   pub spans : List PathSpan
   pub is_table : IsPathTableOf version table spans
-  pub stretches : List (Stretch PathAnswer)
-  pub are_all : AreAllByPath (told_path version index dead skip units) (path_span_answer spans) stretches
-  pub printed : Appends old new (path_stretches_text stretches)
-  pub status_is : status ≡ path_stretches_status stretches
+  pub told : AreStretchesTold path_stretch_line scope (told_path version index dead skip units) (path_span_answer spans) old new status
 
 -- The bytes begin with the header of neither version 1 nor 2, and this is their first fault as a table by path: `Header` if
 -- they begin with the header of neither version 3 nor 4.
@@ -60,14 +49,15 @@ pub record IsFaultByPath (table : List ℕ) (told : TableFault) : Type 0 where
   pub unnumbered : (version : Version) → BeginsWith table (column_names version ∷ []) → ⊥
   pub fault : IsPathFault table told
 
--- What is reported is true of the bytes: the stretches at which the answers differ, or its first fault. Of bytes with the header of
--- version 1 or 2 it is Faulty or Told, of all others FaultyByPath or ToldByPath.
-abbrev pub AreStretchesOf : Indexed → Option ℕ → Bool → List (ℕ × UnitParts) → List ℕ → Option (List ℕ) → Option (List ℕ) → Stretches
-    → Type 0
-AreStretchesOf index dead skip units table old new (Faulty told) = IsFault table told × (told ≢ fault.Header)
-AreStretchesOf index dead skip units table old new (Told status) = AreToldOf dead skip units table old new status
-AreStretchesOf index dead skip units table old new (FaultyByPath told) = IsFaultByPath table told
-AreStretchesOf index dead skip units table old new (ToldByPath status) = AreToldByPath index dead skip units table old new status
+-- What is reported is true of the bytes: the stretches in the scope at which the answers differ, or its first fault. Of bytes with the
+-- header of version 1 or 2 it is Faulty or Told, of all others FaultyByPath or ToldByPath.
+abbrev pub AreStretchesOf : Scope → Indexed → Option ℕ → Bool → List (ℕ × UnitParts) → List ℕ → Option (List ℕ) → Option (List ℕ)
+    → Stretches → Type 0
+AreStretchesOf scope index dead skip units table old new (Faulty told) = IsFault table told × (told ≢ fault.Header)
+AreStretchesOf scope index dead skip units table old new (Told status) = AreToldOf scope dead skip units table old new status
+AreStretchesOf scope index dead skip units table old new (FaultyByPath told) = IsFaultByPath table told
+AreStretchesOf scope index dead skip units table old new (ToldByPath status) =
+    AreToldByPath scope index dead skip units table old new status
 
 -- What was appended to a writer that held these bytes is the line of what is wrong with the table, if something is.
 abbrev pub IsFaultTold : Stretches → Option (List ℕ) → Option (List ℕ) → Type 0
@@ -86,13 +76,6 @@ told_status (ToldByPath status) = status
 -- ---- where the writer stopped
 --     old, new    what it holds before and afterwards
 
--- A prefix of the lines of all stretches at which a table by path answers differently was written, or of `yes` if there is none,
--- and nothing else.
-pub record ArePathDifferencesBegun (by_section by_table : Position → Option PathAnswer) (old new : Option (List ℕ)) : Type 0 where
-  pub stretches : List (Stretch PathAnswer)
-  pub are_all : AreAllByPath by_section by_table stretches
-  pub front : AppendsFront old new (path_stretches_text stretches)
-
 -- What was written is a prefix of the line of a fault of the table.
 --     IsSo    which faults the table has
 pub record IsFaultBegun (IsSo : TableFault → Type 0) (old new : Option (List ℕ)) : Type 0 where
@@ -100,27 +83,28 @@ pub record IsFaultBegun (IsSo : TableFault → Type 0) (old new : Option (List �
   pub is_so : IsSo told
   pub front : AppendsFront old new (table_no_text (no_of_fault told) ++ codes "\n")
 
--- The bytes are a table, and a prefix of the lines of the stretches at which it and the rows of the units answer differently
--- was written.
-pub record AreBegunOf (dead : Option ℕ) (skip : Bool) (units : List (ℕ × UnitParts)) (table : List ℕ) (old new : Option (List ℕ)) : Type 0
-  where
-    pub version : Version
-    pub spans : List Span
-    pub is_table : IsTableOf version table spans
-    pub begun : AreDifferencesBegun (told_answer version dead skip units) (span_answer spans) old new
+-- The bytes are a table, and a prefix of what is told of the stretches in the scope at which it and the rows of the units answer
+-- differently was written.
+pub record AreBegunOf (scope : Scope) (dead : Option ℕ) (skip : Bool) (units : List (ℕ × UnitParts)) (table : List ℕ)
+    (old new : Option (List ℕ)) : Type 0 where
+  pub version : Version
+  pub spans : List Span
+  pub is_table : IsTableOf version table spans
+  pub begun : AreDifferencesBegun stretch_line scope (told_answer version dead skip units) (span_answer spans) old new
 
 -- The same for a table by path, and for what the rows answer with the full path of each file.
-pub record AreBegunByPath (index : Indexed) (dead : Option ℕ) (skip : Bool) (units : List (ℕ × UnitParts)) (table : List ℕ)
-    (old new : Option (List ℕ)) : Type 0 where
+pub record AreBegunByPath (scope : Scope) (index : Indexed) (dead : Option ℕ) (skip : Bool) (units : List (ℕ × UnitParts))
+    (table : List ℕ) (old new : Option (List ℕ)) : Type 0 where
   pub version : PathVersion
   pub spans : List PathSpan
   pub is_table : IsPathTableOf version table spans
-  pub begun : ArePathDifferencesBegun (told_path version index dead skip units) (path_span_answer spans) old new
+  pub begun : AreDifferencesBegun path_stretch_line scope (told_path version index dead skip units) (path_span_answer spans) old new
 
 -- What was written is a prefix of what is reported of the table, by its version: of the line of its first fault, or of the lines of
 -- the stretches.
-abbrev pub AreStretchesBegun : Indexed → Option ℕ → Bool → List (ℕ × UnitParts) → List ℕ → Option (List ℕ) → Option (List ℕ) → Type 0
-AreStretchesBegun index dead skip units table old new =
+abbrev pub AreStretchesBegun : Scope → Indexed → Option ℕ → Bool → List (ℕ × UnitParts) → List ℕ → Option (List ℕ) → Option (List ℕ)
+    → Type 0
+AreStretchesBegun scope index dead skip units table old new =
     IsFaultBegun (λ told. IsFault table told × (told ≢ fault.Header)) old new
-    ⊎ (AreBegunOf dead skip units table old new
-    ⊎ (IsFaultBegun (IsFaultByPath table) old new ⊎ AreBegunByPath index dead skip units table old new))
+    ⊎ (AreBegunOf scope dead skip units table old new
+    ⊎ (IsFaultBegun (IsFaultByPath table) old new ⊎ AreBegunByPath scope index dead skip units table old new))

@@ -1,19 +1,15 @@
 -- The lines that are printed for a check of a section and a table, and the statuses with which a run ends after them.
-use Rattle.std.specs.Prelude.{ℕ, List, [], ◌∷◌, ◌++◌, codes}
-use Rattle.std.specs.List.{flat_map}
+use Rattle.std.specs.Prelude.{ℕ, List, ◌++◌, codes}
 use Rattle.lnt_io.specs.declared.status.Status.{Status}
 use Rattle.lnt_io.specs.declared.status.Status.TheVariants as status
 use Rattle.lnt_paths.specs.declared.answer.ComparedByPath.{ComparedByPath}
 use Rattle.lnt_paths.specs.declared.answer.ComparedByPath.TheVariants.{Same, Fault, Differs}
-use Rattle.lnt_paths.specs.PathAnswers.{PathAnswer}
-use Rattle.lnt_spans.specs.AnyStretches.{Stretch}
 use Rattle.lnt_table.specs.declared.by_path.Checked.TheVariants.{Numbered, ByPath}
 use Rattle.lnt_table.specs.declared.verdict.Verdict.{Verdict}
 use Rattle.lnt_table.specs.declared.verdict.Verdict.TheVariants.{Yes, No}
 use Rattle.lnt_table.specs.declared.within.CheckedWithin.{CheckedWithin}
 use Rattle.lnt_table.specs.declared.within.CheckedWithin.TheVariants.{Checked as Told, Covered}
 use Rattle.lnt_table.specs.FaultTexts.{within_text}
-use Rattle.lnt_table.specs.PathTexts.{path_stretch_text}
 
 -- ---- a check's answer
 
@@ -37,17 +33,3 @@ abbrev pub checked_status : CheckedWithin → Status
 checked_status (Told (Numbered verdict)) = verdict_status verdict
 checked_status (Told (ByPath compared)) = compared_status compared
 checked_status (Covered coverage) = status.Done
-
--- ---- all stretches of a table by path
-
-abbrev pub path_stretch_line : Stretch PathAnswer → List ℕ
-path_stretch_line stretch = path_stretch_text stretch ++ codes "\n"
-
--- a line for each stretch, or `yes` if there is none
-abbrev pub path_stretches_text : List (Stretch PathAnswer) → List ℕ
-path_stretches_text [] = codes "yes\n"
-path_stretches_text (first ∷ stretches) = flat_map path_stretch_line (first ∷ stretches)
-
-abbrev pub path_stretches_status : List (Stretch PathAnswer) → Status
-path_stretches_status [] = status.Done
-path_stretches_status (first ∷ stretches) = status.No

@@ -17,6 +17,7 @@ mod judge;
 pub mod laws;
 mod line_ends;
 mod lookup;
+mod stretch_lines;
 mod stretches;
 mod sums;
 mod table;

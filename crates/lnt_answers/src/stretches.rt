@@ -1,35 +1,37 @@
-//! All stretches of positions at which a table and a good section answer differently.
+//! All stretches of positions in a scope at which a table and a good section answer differently.
 ghost use Rattle.std.specs.Prelude.{◌≡◌, ◌-◌, ◌^◌, ◌<◌, ◌+◌, ◌++◌, ◌⊎◌, [], Bool, ℕ, List, Option, IfErr, IfOk, IfSome, IsErrOf};
 ghost use Rattle.std.specs.Prelude.{OnErr, OnOk, codes};
 ghost use Rattle.std.specs.Io.KnownBytes.{Appends, Keeps};
-ghost use Rattle.lnt_answers.specs.Stretches.{ArePathDifferencesBegun, AreStretchesBegun, AreStretchesOf, IsFaultTold};
-ghost use Rattle.lnt_answers.specs.Verdicts.{path_stretch_line, path_stretches_status, path_stretches_text};
+ghost use Rattle.lnt_answers.specs.DifferenceLines.{AreDifferencesBegun, path_stretch_line};
+ghost use Rattle.lnt_answers.specs.Stepping.{ArePrinted, answer_of, end_status, end_text};
+ghost use Rattle.lnt_answers.specs.Stretches.{AreStretchesBegun, AreStretchesOf, IsFaultTold};
 ghost use Rattle.lnt_table.specs.FaultTexts.{table_no_text};
 ghost use Rattle.lnt_lines.specs.Indexed.{IsIndexOf};
-ghost use Rattle.lnt_paths.specs.declared.answer.DifferenceByPath.{DifferenceByPath as Spec};
 ghost use Rattle.lnt_paths.specs.PathAnswers.{PathAnswer};
-ghost use Rattle.lnt_paths.specs.PathStretches.{ArePathStretches, stretch_of, stretches_of};
 ghost use Rattle.lnt_paths.specs.Stretching.{HasToldByPath};
 ghost use Rattle.lnt_io.specs.Fronts.{AppendsFront};
 ghost use Rattle.lnt_io.specs.Halts.{IsPrinting};
+ghost use Rattle.lnt_sequences.specs.Sequences.{line_answer};
+ghost use Rattle.lnt_spans.specs.Counts.{addresses_answered};
 ghost use Rattle.lnt_spans.specs.declared.position.Position.{Position};
 ghost use Rattle.lnt_table.specs.Verdicts.{no_of_fault};
 ghost use Rattle.lnt_header.specs.declared.unit_parts.UnitParts.{UnitParts};
 
 use crate::differences::print_differences;
-use crate::display::put_text;
-use lnt_io::{Halt, Source, Status, print_line, write_whole};
+use crate::stretch_lines::StretchLines;
+use lnt_io::{Halt, Source, Status, print_line};
 use lnt_lines::Index;
-use lnt_paths::{DifferenceByPath, DifferencesByPath, HeldTable, Paths};
+use lnt_paths::{DifferencesByPath, HeldTable, Paths};
 use lnt_records::{Differing, TableFault};
-use lnt_spans::SpanSource;
+use lnt_spans::{SpanSource, count_all};
 use lnt_table::{
-    AnyDiffering, IndexPaths, PathDifferenceLine, TableNo, differences_any, differences_by_path,
+    AnyDiffering, Checked, CheckedWithin, Coverage, IndexPaths, PathDifferenceLine, Scope, TableNo,
+    Verdict, differences_any, differences_by_path,
 };
 use std::alloc::Global;
 use std::io::Write;
 
-/// What was printed about a table that was compared with a good section at every position.
+/// What was printed about a table that was compared with a good section at every position of a scope.
 #[derive(Drop)]
 pub enum Stretches {
     /// The header is that of version 1 or 2, but the bytes aren't a table: the first fault.
@@ -44,7 +46,8 @@ pub enum Stretches {
 
 /// Prints a line for each stretch of positions at which the table from a source, of any version, and a good section answer
 /// differently, in ascending order, or `yes` if there is none; or the line of the table's first fault. A line has the first
-/// position of its stretch, with both answers.
+/// position of its stretch, with both answers. In the scope `Answered` only those stretches count at which the table answers, and
+/// a second line after `yes` says at how many of the section's addresses it does.
 ///
 /// The result says which of these was printed. Stops with `Read` only if the source failed, with `TooLong` if the source has
 /// more bytes than it may give, with `Write` if the writer failed, and with `Memory`. If it stops, nothing has been written,
@@ -56,22 +59,24 @@ pub fn print_stretches<T: Source, W: Write>(
     alloc: Global,
     table: &mut T,
     index: &Index<'_>,
+    scope: Scope,
     out: &mut W,
 ) -> Result<Stretches, Halt>
     requires { T.failures table.old < 2 ^ 64 - 1 }
     ensures told { IfOk result (λ told. (dead : Option ℕ) (skip : Bool) (units : List (ℕ × UnitParts)) → IsIndexOf dead skip units index.now
-        → IfSome (T.remaining table.old) (λ text. AreStretchesOf index.now dead skip units text
+        → IfSome (T.remaining table.old) (λ text. AreStretchesOf scope index.now dead skip units text
         (W.contents out.old) (W.contents out.new) told)) }
     ensures faulty { IfOk result (λ told. IsFaultTold told (W.contents out.old) (W.contents out.new)) }
     ensures read { IsErrOf result Halt.Read → T.failures table.new ≡ T.failures table.old + 1 }
     ensures begun { OnErr result (Keeps (W.contents out.old) (W.contents out.new)
         ⊎ ((dead : Option ℕ) (skip : Bool) (units : List (ℕ × UnitParts)) → IsIndexOf dead skip units index.now
-        → IfSome (T.remaining table.old) (λ text. AreStretchesBegun index.now dead skip units text
+        → IfSome (T.remaining table.old) (λ text. AreStretchesBegun scope index.now dead skip units text
         (W.contents out.old) (W.contents out.new)))) }
 {
     match differences_any(alloc, table, index) {
         Ok(AnyDiffering::Numbered(Differing::Table(differences))) => {
-            let status = print_differences(alloc, differences, out)?;
+            let missed = print_differences(alloc, differences, scope, out)?;
+            let status = print_end(alloc, scope, missed, index, out)?;
             Ok(Stretches::Told(status))
         }
         Ok(AnyDiffering::Numbered(Differing::Fault(fault))) => {
@@ -80,9 +85,11 @@ pub fn print_stretches<T: Source, W: Write>(
         }
         Ok(AnyDiffering::ByPath(HeldTable::Table(version, spans))) => {
             let differences = differences_by_path(index, &spans, version);
-            let printed = print_path_differences(alloc, differences, &IndexPaths::of(index), out);
+            let paths = IndexPaths::of(index);
+            let printed = print_path_differences(alloc, differences, &paths, scope, out);
             drop(spans);
-            let status = printed?;
+            let missed = printed?;
+            let status = print_end(alloc, scope, missed, index, out)?;
             Ok(Stretches::ToldByPath(status))
         }
         Ok(AnyDiffering::ByPath(HeldTable::Fault(fault))) => {
@@ -103,55 +110,77 @@ fn print_fault<W: Write>(alloc: Global, fault: TableFault, out: &mut W) -> Resul
     print_line(alloc, &TableNo::from(fault), out)
 }
 
-// Prints a line for each stretch of positions at which a table by path and a section answer differently, in ascending order,
-// or `yes` if there is none. Stops if memory ran out or the writer failed. If it stops, a prefix of these lines has been
-// written.
+// Prints the answer if there is no stretch in the scope. `missed` is then the number of the section's addresses at which the table
+// doesn't answer; it is `None` if there is one, and nothing is printed. If it stops, a prefix of the answer has been written.
+fn print_end<W: Write>(
+    alloc: Global,
+    scope: Scope,
+    missed: Option<u128>,
+    index: &Index<'_>,
+    out: &mut W,
+) -> Result<Status, Halt>
+    ensures err { IfErr result IsPrinting }
+    ensures status { IfOk result (λ status. status ≡ end_status missed) }
+    ensures text { (dead : Option ℕ) (skip : Bool) (units : List (ℕ × UnitParts)) → IsIndexOf dead skip units index.now
+        → OnOk result (Appends (W.contents out.old) (W.contents out.new)
+        (end_text scope (addresses_answered (line_answer dead skip units)) missed)) }
+    ensures front { (dead : Option ℕ) (skip : Bool) (units : List (ℕ × UnitParts)) → IsIndexOf dead skip units index.now
+        → OnErr result (AppendsFront (W.contents out.old) (W.contents out.new)
+        (end_text scope (addresses_answered (line_answer dead skip units)) missed)) }
+{
+    let Some(missed) = missed else {
+        return Ok(Status::No);
+    };
+    print_line(alloc, &answer_if_none(scope, missed, index), out)?;
+    Ok(Status::Done)
+}
+
+// The answer if there is no stretch in the scope, and the table doesn't answer at this many of the section's addresses.
+fn answer_if_none(scope: Scope, missed: u128, index: &Index<'_>) -> CheckedWithin
+    ensures { (dead : Option ℕ) (skip : Bool) (units : List (ℕ × UnitParts)) → IsIndexOf dead skip units index.now
+        → result ≡ answer_of scope (addresses_answered (line_answer dead skip units)) missed }
+{
+    match scope {
+        Scope::All => CheckedWithin::Checked(Checked::Numbered(Verdict::Yes)),
+        Scope::Answered => {
+            let all = count_all(index.spans());
+            CheckedWithin::Covered(Coverage {
+                answered: all.saturating_sub(missed),
+                all,
+            })
+        }
+    }
+}
+
+// Prints a line for each stretch in the scope at which the answers of a table by path and of a section differ, in ascending order.
+// If there is none, it returns the number of addresses at which the section answers and the table doesn't. Stops if memory ran out
+// or the writer failed. If it stops, a prefix of these lines has been written.
 #[inline(never)]
 fn print_path_differences<S: SpanSource + Drop, P: Paths, W: Write>(
     alloc: Global,
     differences: DifferencesByPath<'_, S>,
     paths: &P,
+    scope: Scope,
     out: &mut W,
-) -> Result<Status, Halt>
+) -> Result<Option<u128>, Halt>
     requires { (by_section : Position → Option PathAnswer) × (by_table : Position → Option PathAnswer)
         × HasToldByPath S.to_come (P.bytes_of paths.now) differences by_section by_table [] }
     ensures err { IfErr result IsPrinting }
-    ensures lines { IfOk result (λ status. (by_section by_table : Position → Option PathAnswer)
+    ensures lines { IfOk result (λ missed. (by_section by_table : Position → Option PathAnswer)
         → HasToldByPath S.to_come (P.bytes_of paths.now) differences.entry by_section by_table []
-        → (list : List Spec) × ArePathStretches by_section by_table list
-        × Appends (W.contents out.old) (W.contents out.new) (path_stretches_text (stretches_of list))
-        × (status ≡ path_stretches_status (stretches_of list))) }
+        → ArePrinted path_stretch_line scope by_section by_table (W.contents out.old) (W.contents out.new) missed) }
     ensures begun { OnErr result ((by_section by_table : Position → Option PathAnswer)
         → HasToldByPath S.to_come (P.bytes_of paths.now) differences.entry by_section by_table []
-        → ArePathDifferencesBegun by_section by_table (W.contents out.old) (W.contents out.new)) }
+        → AreDifferencesBegun path_stretch_line scope by_section by_table (W.contents out.old) (W.contents out.new)) }
 {
     let mut differences = differences;
-    let Some(first) = differences.next_difference(alloc, paths)? else {
-        write_whole(out, b"yes\n")?;
-        return Ok(Status::Done);
-    };
-    let mut room = Vec::new(alloc);
-    print_path_difference(first, &mut room, out)?;
+    let mut lines = StretchLines::new(alloc, scope);
     while let Some(difference) = differences.next_difference(alloc, paths)? {
-        print_path_difference(difference, &mut room, out)?;
+        let is_answered = difference.by_table.is_some();
+        let line = PathDifferenceLine(&difference);
+        let printed = lines.print(is_answered, &format_args!("{line}\n"), out);
+        drop(difference);
+        printed?;
     }
-    Ok(Status::No)
-}
-
-// Prints the line of a stretch. The line is made in `room` first, whose old contents are dropped.
-fn print_path_difference<W: Write>(
-    difference: DifferenceByPath,
-    room: &mut Vec<u8>,
-    out: &mut W,
-) -> Result<(), Halt>
-    ensures err { IfErr result IsPrinting }
-    ensures line { OnOk result (Appends (W.contents out.old) (W.contents out.new) (path_stretch_line (stretch_of difference))) }
-    ensures front { OnErr result (AppendsFront (W.contents out.old) (W.contents out.new) (path_stretch_line (stretch_of difference))) }
-{
-    room.clear();
-    let put = put_text(&format_args!("{}\n", PathDifferenceLine(&difference)), room);
-    drop(difference);
-    put?;
-    write_whole(out, room.as_slice())?;
-    Ok(())
+    Ok(lines.if_right(differences.missed()))
 }

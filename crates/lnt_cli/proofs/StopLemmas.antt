@@ -124,17 +124,19 @@ of_file_stopped tells from file HasBegunOf old new texts section bytes (Err stop
 
 -- ---- all places
 
--- a front of the places at which a table answers otherwise than the units that an index was made of, whatever these are
-abbrev pub BeginsStretches : Indexed → Option (List ℕ) → Option (List ℕ) → Option (List ℕ) → Type 0
-BeginsStretches index table old new = Keeps old new ⊎ ((dead : Option ℕ) (skip : Bool) (units : List (ℕ × UnitParts))
-    → IsIndexOf dead skip units index → IfSome table (λ text. AreStretchesBegun index dead skip units text old new))
+-- a front of what is told of the places in the scope at which a table answers otherwise than the units that an index was made of,
+-- whatever these are
+abbrev pub BeginsStretches : Scope → Indexed → Option (List ℕ) → Option (List ℕ) → Option (List ℕ) → Type 0
+BeginsStretches scope index table old new = Keeps old new ⊎ ((dead : Option ℕ) (skip : Bool) (units : List (ℕ × UnitParts))
+    → IsIndexOf dead skip units index → IfSome table (λ text. AreStretchesBegun scope index dead skip units text old new))
 
 -- The printing of the places stopped the run.
-pub places_stopped : {R T S E : Type 0} (index : Indexed) (table old new : Option (List ℕ)) (worked : Result R E) (ended : Result T S)
-    → OnErr ended (IsErr worked) → OnErr worked (BeginsStretches index table old new)
-    → OnErr ended (Keeps old new ⊎ ((options : Options) → BeginsGoodFile Places options table index old new))
-places_stopped index table old new worked (Ok told) is begun = tt
-places_stopped index table old new (Ok value) (Err stop) is begun = absurd (false≢true is)
-places_stopped index table old new (Err halt) (Err stop) is (inl kept) = inl kept
-places_stopped index table old new (Err halt) (Err stop) is (inr begun) =
+pub places_stopped : {R T S E : Type 0} (scope : Scope) (index : Indexed) (table old new : Option (List ℕ)) (worked : Result R E)
+    (ended : Result T S)
+    → OnErr ended (IsErr worked) → OnErr worked (BeginsStretches scope index table old new)
+    → OnErr ended (Keeps old new ⊎ ((options : Options) → BeginsGoodFile (Places scope) options table index old new))
+places_stopped scope index table old new worked (Ok told) is begun = tt
+places_stopped scope index table old new (Ok value) (Err stop) is begun = absurd (false≢true is)
+places_stopped scope index table old new (Err halt) (Err stop) is (inl kept) = inl kept
+places_stopped scope index table old new (Err halt) (Err stop) is (inr begun) =
     inr (λ options units of_index. begun options.dead options.skip_copies units of_index)

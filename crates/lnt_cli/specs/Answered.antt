@@ -18,7 +18,6 @@ use Rattle.lnt_words.specs.declared.request.Request.{Request}
 use Rattle.lnt_words.specs.declared.request.Request.TheVariants.{Help, Read, Upgrade, Judge, Addresses, Check}
 use Rattle.lnt_table.specs.declared.within.CheckedWithin.{CheckedWithin}
 use Rattle.lnt_table.specs.declared.within.Scope.{Scope}
-use Rattle.lnt_table.specs.declared.within.Scope.TheVariants as scopes
 use Rattle.lnt_table.specs.Within.{IsOfScope, IsTrueOfSectionWithin, IsTrueWithin, scope_in}
 use Rattle.lnt_answers.specs.Verdicts.{checked_line, checked_status}
 use Rattle.lnt_words.specs.Sizes.{size_bytes}
@@ -138,5 +137,5 @@ IsAnswered tells (Judge from question) old new status = AnswersQuestion tells fr
 IsAnswered tells (Addresses from file op) old new status = AnswersFile tells from file.now (Lines op) old new status
 IsAnswered tells (Check from table false partial) old new status =
     AnswersCheck tells from table.now (scope_in partial) old new status
-IsAnswered tells (Check from table true false) old new status = AnswersFile tells from table.now Places old new status
-IsAnswered tells (Check from table true true) old new status = AnswersCheck tells from table.now scopes.Answered old new status
+IsAnswered tells (Check from table true partial) old new status =
+    AnswersFile tells from table.now (Places (scope_in partial)) old new status

@@ -18,6 +18,7 @@ use Rattle.lnt_words.specs.declared.request.Question.{Question}
 use Rattle.lnt_words.specs.declared.request.Question.TheVariants.{Verify, Lookup, Files, Table, TableByPath, Md5}
 use Rattle.lnt_paths.specs.declared.version.PathVersion.{PathVersion}
 use Rattle.lnt_paths.specs.declared.version.PathVersion.TheVariants.{Three, Four}
+use Rattle.lnt_table.specs.declared.within.Scope.{Scope}
 use Rattle.lnt_table.specs.ByPath.{told_path}
 use Rattle.lnt_table.specs.Written.{IsTableOfUnits}
 use Rattle.lnt_answers.specs.AddressLines.{AreAddressesTold}
@@ -64,18 +65,20 @@ AnswersGood tells options (TableByPath true) index old new status = IsPathTableT
 AnswersGood tells options (TableByPath false) index old new status = IsPathTableTold Four options index old new status
 AnswersGood tells options Md5 index old new status = AreSumsTold tells index (listed_files index) old new status
 
--- What is written for a good section with this index and a table: the table's first fault, or all places where the two differ.
-pub record AreTableTold (options : Options) (index : Indexed) (table old new : Option (List ℕ)) (status : Status) : Type 0 where
+-- What is written for a good section with this index and a table: the table's first fault, or all places in the scope where the two
+-- differ.
+pub record AreTableTold (scope : Scope) (options : Options) (index : Indexed) (table old new : Option (List ℕ)) (status : Status) : Type
+    0 where
   pub told : Stretches
   pub fault : IsFaultTold told old new
   pub status_is : status ≡ told_status told
   pub so : ForUnitsOf options index (λ units. IfSome table
-      (λ text. AreStretchesOf index options.dead options.skip_copies units text old new told))
+      (λ text. AreStretchesOf scope index options.dead options.skip_copies units text old new told))
 
 -- The answer for a good section with this index and another file, of these bytes.
 abbrev pub AnswersGoodFile : FileQuestion → Options → Option (List ℕ) → Indexed → Option (List ℕ) → Option (List ℕ) → Status → Type 0
 AnswersGoodFile (Lines op) options bytes index old new status = AreAddressesTold index op bytes old new status
-AnswersGoodFile Places options bytes index old new status = AreTableTold options index bytes old new status
+AnswersGoodFile (Places scope) options bytes index old new status = AreTableTold scope options index bytes old new status
 
 -- The answer for a section with this judgement: for a good one this, and for another the line that says why it isn't good.
 abbrev pub AnswersJudged : (Indexed → Option (List ℕ) → Option (List ℕ) → Status → Type 0) → Option (List ℕ) → Option (List ℕ) → Status

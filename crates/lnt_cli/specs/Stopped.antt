@@ -16,7 +16,6 @@ use Rattle.lnt_paths.specs.declared.version.PathVersion.TheVariants.{Three, Four
 use Rattle.lnt_table.specs.ByPath.{told_path}
 use Rattle.lnt_table.specs.Within.{scope_in}
 use Rattle.lnt_table.specs.Written.{BeginsTableOfUnits}
-use Rattle.lnt_table.specs.declared.within.Scope.TheVariants as scopes
 use Rattle.lnt_words.specs.declared.request.Judging.{Judging}
 use Rattle.lnt_words.specs.declared.request.Question.{Question}
 use Rattle.lnt_words.specs.declared.request.Question.TheVariants.{Verify, Lookup, Files, Table, TableByPath, Md5}
@@ -63,8 +62,8 @@ BeginsGood tells options (TableByPath false) index old new = BeginsPathTableText
 -- those of that file.
 abbrev pub BeginsGoodFile : FileQuestion → Options → Option (List ℕ) → Indexed → Option (List ℕ) → Option (List ℕ) → Type 0
 BeginsGoodFile (Lines op) options bytes index old new = AreAddressesBegun index op bytes old new
-BeginsGoodFile Places options bytes index old new = ForUnitsOf options index (λ units. IfSome bytes
-    (λ text. AreStretchesBegun index options.dead options.skip_copies units text old new))
+BeginsGoodFile (Places scope) options bytes index old new = ForUnitsOf options index (λ units. IfSome bytes
+    (λ text. AreStretchesBegun scope index options.dead options.skip_copies units text old new))
 
 -- A prefix of the answer for a section with this judgement.
 abbrev pub BeginsJudged : (Indexed → Option (List ℕ) → Option (List ℕ) → Type 0) → Option (List ℕ) → Option (List ℕ) → JudgedIndex
@@ -111,6 +110,5 @@ IsStopped tells (Judge from question) old new = Keeps old new ⊎ BeginsQuestion
 IsStopped tells (Addresses from file op) old new = Keeps old new ⊎ BeginsFile tells from file.now (Lines op) old new
 IsStopped tells (Check from table false partial) old new =
     Keeps old new ⊎ HasBegun (AnswersCheck tells from table.now (scope_in partial) old) old new
-IsStopped tells (Check from table true false) old new = Keeps old new ⊎ BeginsFile tells from table.now Places old new
-IsStopped tells (Check from table true true) old new =
-    Keeps old new ⊎ HasBegun (AnswersCheck tells from table.now scopes.Answered old) old new
+IsStopped tells (Check from table true partial) old new =
+    Keeps old new ⊎ BeginsFile tells from table.now (Places (scope_in partial)) old new

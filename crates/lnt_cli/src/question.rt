@@ -23,6 +23,7 @@ use lnt_io::{Halt, Opener, Source, Status, write_whole};
 use lnt_lines::{Index, JudgedIndex, Options};
 use lnt_notes::{Hints, Seen, hints_of};
 use lnt_paths::PathVersion;
+use lnt_table::Scope;
 use lnt_words::{Judging, Question};
 use std::alloc::Global;
 use std::cell::Cell;
@@ -33,8 +34,8 @@ use std::io::Write;
 pub(crate) enum FileQuestion {
     // The answers to the file's lines. This is the op index of a line that has none.
     Lines(u64),
-    // All places at which the table in the file answers otherwise than the section.
-    Places,
+    // All places in this scope at which the table in the file answers otherwise than the section.
+    Places(Scope),
 }
 
 impl<O: Opener, W: Write, N: Write> Session<'_, '_, '_, O, W, N> {
@@ -239,8 +240,8 @@ fn answer_good_file<'f, F: Source, W: Write>(
             let occasion = Occasion::Good(hints_of(index));
             Ok(Answered { status, occasion })
         }
-        FileQuestion::Places => {
-            let printed = print_stretches(alloc, bytes, index, out);
+        FileQuestion::Places(scope) => {
+            let printed = print_stretches(alloc, bytes, index, scope, out);
             let told = of_file(name, printed)?;
             Ok(Answered::of_stretches(&told, file))
         }

@@ -76,14 +76,8 @@ impl<O: Opener, W: Write, N: Write> Session<'_, '_, '_, O, W, N> {
                 from,
                 table,
                 all: true,
-                partial: false,
-            } => self.answer_file(from, table, FileQuestion::Places),
-            Request::Check {
-                from,
-                table,
-                all: true,
-                partial: true,
-            } => self.check_table(from, table, Scope::Answered),
+                partial,
+            } => self.answer_file(from, table, FileQuestion::Places(Scope::of(*partial))),
         }
     }
 

@@ -1,74 +1,76 @@
-use Rattle.std.proofs.Common.{rules, [], ◌∷◌, refl}
+use Rattle.std.proofs.Common.{◌∙◌}
 use Rattle.lnt_io.proofs.FrontLaws.{so_stopped}
-use Rattle.lnt_answers.proofs.PathStretchLemmas.{printed_first_path, printed_more_path, stopped_at_none_path, stopped_before_path}
-use Rattle.lnt_answers.proofs.PathStretchLemmas.{stopped_between_path, stopped_first_path, stopped_more_path}
+use Rattle.lnt_paths.specs.PathStretches.{stretch_of, stretches_of}
+use Rattle.lnt_paths.specs.Stretching.{HasToldByPath}
+use Rattle.lnt_paths.proofs.CompletionLaws.{path_stretches_on}
+use Rattle.lnt_answers.specs.DifferenceLines.{path_stretch_line}
+use Rattle.lnt_answers.proofs.PathStretchLemmas.{answered_so}
+use Rattle.lnt_answers.proofs.ScopeLemmas.{all_printed, printed_more, printed_none, stopped_between, stopped_within}
 use Rattle.lnt_answers.proofs.stretches.print_path_differences.Goals as goal
 
-pub returns-in_err-first-clause-begun : goal.returns-in_err-first-clause-begun
-returns-in_err-first-clause-begun g c =
-    so_stopped c.from_residual.result _
-    (λ f f' h. stopped_before_path g.S.SpanSource.to_come (g.P.Paths.bytes_of c.args.paths.now) c.args.differences f f'
-    (g.W.Write.contents c.args.out.now) h)
+pub loop-lines-init : goal.loop-lines-init
+loop-lines-init g c = (
+  c.new-lines.ensures.scope,
+  λ f f' h. printed_none stretch_of path_stretch_line
+      (λ given. HasToldByPath g.S.SpanSource.to_come (g.P.Paths.bytes_of c.args.paths.now) c.args.differences f f' (stretches_of given))
+      c.args.scope (g.W.Write.contents c.args.out.now) c.new-lines.result.is_right h c.new-lines.ensures.right,
+)
 
-pub returns-in_default-clause-lines : goal.returns-in_default-clause-lines
-returns-in_default-clause-lines g c f f' h =
-    ([], rw c.in_default.is at c.in_ok-first.ensures.told f f' [] h, search rules, refl)
-
-pub returns-in_err-write_whole-clause-begun : goal.returns-in_err-write_whole-clause-begun
-returns-in_err-write_whole-clause-begun g c =
-    so_stopped c.from_residual-in_err-write_whole.result _
-    (λ f f' h. stopped_at_none_path f f' (g.W.Write.contents c.args.out.now) (g.W.Write.contents c.write_whole.new.out)
-    (rw c.in_default.is at c.in_ok-first.ensures.told f f' [] h) c.in_err-write_whole.ensures.front)
-
-pub returns-in_err-print_path_difference-clause-begun : goal.returns-in_err-print_path_difference-clause-begun
-returns-in_err-print_path_difference-clause-begun g c =
-    so_stopped c.from_residual-in_err-print_path_difference.result _
-    (λ f f' h. stopped_first_path g.S.SpanSource.to_come (g.P.Paths.bytes_of c.args.paths.now) c.next_difference.new.self f f'
-    (g.W.Write.contents c.args.out.now) (g.W.Write.contents c.print_path_difference.new.out) c.in-Some.first
-    (rw c.in-Some.is at c.in_ok-first.ensures.told f f' [] h) c.in_err-print_path_difference.ensures.front)
-
-pub loop-room-init : goal.loop-room-init
-loop-room-init g c f f' h =
-    printed_first_path g.S.SpanSource.to_come (g.P.Paths.bytes_of c.args.paths.now) c.next_difference.new.self f f'
-    (g.W.Write.contents c.args.out.now) _ c.in-Some.first (rw c.in-Some.is at c.in_ok-first.ensures.told f f' [] h)
-    c.in_ok-print_path_difference.ensures.line
-
-pub next_difference-requires-in-loop-room : goal.next_difference-requires-in-loop-room
-next_difference-requires-in-loop-room g c =
+pub next_difference-requires : goal.next_difference-requires
+next_difference-requires g c =
     let known = c.requires in
-    let h = c.loop-room.invariant known.0 known.1 known.2 in
-    (known.0, known.1, h.first ∷ h.more, h.told)
-
-pub returns-clause-lines : goal.returns-clause-lines
-returns-clause-lines g c f f' h =
-    let printed = c.loop-room.invariant f f' h in (
-      printed.first ∷ printed.more,
-      rw c.in_default-2.is at c.in_ok-difference.ensures.told f f' (printed.first ∷ printed.more) printed.told,
-      printed.text,
-      refl,
-    )
+    let h = c.loop-lines.invariant.1 known.0 known.1 known.2 in
+    (known.0, known.1, h.given, h.so)
 
 pub returns-in_err-difference-clause-begun : goal.returns-in_err-difference-clause-begun
 returns-in_err-difference-clause-begun g c =
-    so_stopped c.from_residual-in_err-difference.result _
-    (λ f f' h. stopped_between_path g.S.SpanSource.to_come (g.P.Paths.bytes_of c.args.paths.now) c.loop-room.differences f f'
-    (g.W.Write.contents c.args.out.now) (g.W.Write.contents c.loop-room.out) (c.loop-room.invariant f f' h))
-
-pub returns-in_err-print_path_difference-2-clause-begun : goal.returns-in_err-print_path_difference-2-clause-begun
-returns-in_err-print_path_difference-2-clause-begun g c =
-    so_stopped c.from_residual-in_err-print_path_difference-2.result _
+    so_stopped c.from_residual.result _
     (λ f f' h.
-    let printed = c.loop-room.invariant f f' h in
-    stopped_more_path g.S.SpanSource.to_come (g.P.Paths.bytes_of c.args.paths.now) c.loop-room.differences
-    c.next_difference-in-loop-room.new.self f f' (g.W.Write.contents c.args.out.now) (g.W.Write.contents c.loop-room.out)
-    (g.W.Write.contents c.print_path_difference-in-Some-2.new.out) c.in-Some-2.difference printed
-    (rw c.in-Some-2.is at c.in_ok-difference.ensures.told f f' (printed.first ∷ printed.more) printed.told)
-    c.in_err-print_path_difference-2.ensures.front)
+    let printed = c.loop-lines.invariant.1 f f' h in
+    stopped_between stretch_of path_stretch_line
+    (λ given. HasToldByPath g.S.SpanSource.to_come (g.P.Paths.bytes_of c.args.paths.now) c.loop-lines.differences f f' (stretches_of given))
+    c.args.scope f f' (g.W.Write.contents c.args.out.now) (g.W.Write.contents c.loop-lines.out) c.loop-lines.lines.is_right printed
+    (path_stretches_on g.S.SpanSource.to_come (g.P.Paths.bytes_of c.args.paths.now) c.loop-lines.differences f f'
+    (stretches_of printed.given) printed.so))
 
-pub loop-room-preserved : goal.loop-room-preserved
-loop-room-preserved g c f f' h =
-    let printed = c.loop-room.invariant f f' h in
-    printed_more_path g.S.SpanSource.to_come (g.P.Paths.bytes_of c.args.paths.now) c.loop-room.differences
-    c.next_difference-in-loop-room.new.self f f' (g.W.Write.contents c.args.out.now) (g.W.Write.contents c.loop-room.out)
-    (g.W.Write.contents c.print_path_difference-in-Some-2.new.out) c.in-Some-2.difference printed
-    (rw c.in-Some-2.is at c.in_ok-difference.ensures.told f f' (printed.first ∷ printed.more) printed.told) (search rules)
+pub loop-lines-preserved : goal.loop-lines-preserved
+loop-lines-preserved g c = (
+  c.print-printed.ensures.scope ∙ c.loop-lines.invariant.0,
+  λ f f' h.
+      let printed = c.loop-lines.invariant.1 f f' h in
+      printed_more stretch_of path_stretch_line
+      (λ given. HasToldByPath g.S.SpanSource.to_come (g.P.Paths.bytes_of c.args.paths.now) c.loop-lines.differences f f'
+      (stretches_of given))
+      (λ given. HasToldByPath g.S.SpanSource.to_come (g.P.Paths.bytes_of c.args.paths.now) c.next_difference.new.self f f'
+      (stretches_of given))
+      c.args.scope (g.W.Write.contents c.args.out.now) (g.W.Write.contents c.loop-lines.out)
+      (g.W.Write.contents c.print-printed.new.out) c.in-Some.difference c.is_some-is_answered.result c.loop-lines.lines.is_right
+      c.print-printed.new.self.is_right printed (rw c.in-Some.is at c.in_ok-difference.ensures.told f f' printed.given printed.so)
+      (answered_so c.in-Some.difference c.is_some-is_answered.result c.is_some-is_answered.ensures)
+      (rw c.loop-lines.invariant.0 at c.in_ok-printed.ensures.line) (rw c.loop-lines.invariant.0 at c.in_ok-printed.ensures.right),
+)
+
+pub returns-in_err-printed-clause-begun : goal.returns-in_err-printed-clause-begun
+returns-in_err-printed-clause-begun g c =
+    so_stopped c.from_residual-in_err-printed.result _
+    (λ f f' h.
+    let printed = c.loop-lines.invariant.1 f f' h in
+    let told = rw c.in-Some.is at c.in_ok-difference.ensures.told f f' printed.given printed.so in
+    stopped_within stretch_of path_stretch_line
+    (λ given. HasToldByPath g.S.SpanSource.to_come (g.P.Paths.bytes_of c.args.paths.now) c.loop-lines.differences f f'
+    (stretches_of given))
+    c.args.scope f f' (g.W.Write.contents c.args.out.now) (g.W.Write.contents c.loop-lines.out)
+    (g.W.Write.contents c.print-printed.new.out) c.in-Some.difference c.is_some-is_answered.result c.loop-lines.lines.is_right printed
+    (path_stretches_on g.S.SpanSource.to_come (g.P.Paths.bytes_of c.args.paths.now) c.next_difference.new.self f f' _ told)
+    (answered_so c.in-Some.difference c.is_some-is_answered.result c.is_some-is_answered.ensures)
+    (rw c.loop-lines.invariant.0 at c.in_err-printed.ensures.front))
+
+pub returns-clause-lines : goal.returns-clause-lines
+returns-clause-lines g c f f' h =
+    let printed = c.loop-lines.invariant.1 f f' h in
+    all_printed stretch_of path_stretch_line
+    (λ given. HasToldByPath g.S.SpanSource.to_come (g.P.Paths.bytes_of c.args.paths.now) c.loop-lines.differences f f'
+    (stretches_of given))
+    c.args.scope f f' (g.W.Write.contents c.args.out.now) (g.W.Write.contents c.loop-lines.out) c.loop-lines.lines.is_right
+    c.missed.result c.if_right.result printed (rw c.in_default.is at c.in_ok-difference.ensures.told f f' printed.given printed.so)
+    (c.missed.ensures ∙ c.in_ok-difference.ensures.missed f f' printed.given printed.so c.in_default.is) c.if_right.ensures

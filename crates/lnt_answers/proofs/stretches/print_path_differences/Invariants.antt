@@ -1,16 +1,20 @@
-use Rattle.std.proofs.Common.{[], Option}
+use Rattle.std.proofs.Common.{◌≡◌, [], Option}
 use Rattle.lnt_spans.specs.declared.position.Position.{Position}
 use Rattle.lnt_paths.specs.PathAnswers.{PathAnswer}
+use Rattle.lnt_paths.specs.PathStretches.{stretch_of, stretches_of}
 use Rattle.lnt_paths.specs.Stretching.{HasToldByPath, path_stretches_left}
-use Rattle.lnt_answers.proofs.PathStretchLemmas.{HasPrintedByPath}
+use Rattle.lnt_answers.specs.DifferenceLines.{path_stretch_line}
+use Rattle.lnt_answers.proofs.ScopeLemmas.{HasPrinted}
 use Rattle.lnt_answers.proofs.stretches.print_path_differences.Given as goal
 
-abbrev pub invariant-loop-room : goal.invariant-loop-room
-invariant-loop-room g l =
-    (f f' : Position → Option PathAnswer)
+abbrev pub invariant-loop-lines : goal.invariant-loop-lines
+invariant-loop-lines g l =
+    (l.lines.scope ≡ l.fn.scope)
+    × ((f f' : Position → Option PathAnswer)
     → HasToldByPath g.S.SpanSource.to_come (g.P.Paths.bytes_of l.fn.paths) l.fn.differences f f' []
-    → HasPrintedByPath g.S.SpanSource.to_come (g.P.Paths.bytes_of l.fn.paths) l.differences f f' (g.W.Write.contents l.fn.out)
-    (g.W.Write.contents l.out)
+    → HasPrinted stretch_of path_stretch_line
+    (λ given. HasToldByPath g.S.SpanSource.to_come (g.P.Paths.bytes_of l.fn.paths) l.differences f f' (stretches_of given)) l.fn.scope
+    (g.W.Write.contents l.fn.out) (g.W.Write.contents l.out) l.lines.is_right)
 
-abbrev pub decreases-loop-room : goal.decreases-loop-room
-decreases-loop-room g l = path_stretches_left g.S.SpanSource.left l.differences
+abbrev pub decreases-loop-lines : goal.decreases-loop-lines
+decreases-loop-lines g l = path_stretches_left g.S.SpanSource.left l.differences
