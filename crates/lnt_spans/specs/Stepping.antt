@@ -1,16 +1,34 @@
 -- What the bodies of this crate say of one step. No public contract speaks of it.
-use Rattle.std.specs.Prelude.{◌≡◌, ◌≢◌, ◌⊎◌, ℕ, Bool, ◌&&◌, cond, is_some, is_none, List, [], ◌∷◌, ◌++◌, Option, Some, None}
+use Rattle.std.specs.Prelude.{◌≡◌, ◌≢◌, ◌⊎◌, ℕ, ◌<◌, ◌≤◌, Bool, ◌&&◌, cond, is_some, is_none, List, [], ◌∷◌, ◌++◌, Option, Some, None}
 use Rattle.std.specs.Bool.{MatchBool}
 use Rattle.std.specs.Option.{option_map}
 use Rattle.lnt_spans.specs.declared.answer.Answer.{Answer}
 use Rattle.lnt_spans.specs.declared.any_stretches.Step.{Step}
 use Rattle.lnt_spans.specs.declared.any_stretches.Stretches.{Stretches}
 use Rattle.lnt_spans.specs.declared.position.Position.{Position}
+use Rattle.lnt_spans.specs.declared.runs.Run.{Run}
 use Rattle.lnt_spans.specs.declared.span.Span.{Span}
 use Rattle.lnt_spans.specs.AnyStretches.{AreAllStretches, Stretch, stretch_at}
 use Rattle.lnt_spans.specs.Counts.{addresses_answered, addresses_between}
 use Rattle.lnt_spans.specs.Partial.{where_missed}
+use Rattle.lnt_spans.specs.Positions.{IsAtMost}
+use Rattle.lnt_spans.specs.Runs.{IsBefore, IsUpTo, runs_left}
 use Rattle.lnt_spans.specs.Stretching.{HasGiven}
+
+-- Within this run of a side, which began at `from`: the side still stands there, and up to the run's end it answers as the run does.
+pub record IsInRun {N A V : Type 0} (is_at : N → Position → (Position → Option V) → Type 0) (value_of : A → V) (run : Run A)
+    (from : Position) (side : N) (at : Position) (values : Position → Option V) : Type 0 where
+  pub began : is_at side from values
+  pub past : IsAtMost from at
+  pub up_to : IsUpTo at run.end
+  pub says : (p : Position) → IsAtMost at p → IsBefore p run.end → values p ≡ option_map value_of run.answer
+
+-- The section has fewer runs left than before, or no more and the table's run ends.
+abbrev pub HasFewerOrEnds : {S N A : Type 0} → (S → ℕ) → Stretches S N A → Stretches S N A → Option Position → Type 0
+HasFewerOrEnds left old new end =
+    (runs_left new.at new.section.next (left new.section.spans) ≤ runs_left old.at old.section.next (left old.section.spans))
+    × ((runs_left new.at new.section.next (left new.section.spans) < runs_left old.at old.section.next (left old.section.spans))
+    ⊎ (end ≡ Some new.at))
 
 -- Whether no stretch begins with these two answers: they are alike, or each is as it was before.
 abbrev pub IsKnown : {X : Type 0} → Bool → Option X → Option X → Option X → Option X → Type 0

@@ -8,15 +8,15 @@ ghost use Rattle.lnt_spans.specs.AnyStretches.{AreAllStretches, Stretch};
 ghost use Rattle.lnt_spans.specs.Counts.{addresses_answered};
 ghost use Rattle.lnt_spans.specs.Partial.{where_missed};
 ghost use Rattle.lnt_spans.specs.Positions.{IsAtMost, IsBelow};
-ghost use Rattle.lnt_spans.specs.Runs.{IsUpTo};
-ghost use Rattle.lnt_spans.specs.Stepping.{IsKnown, StretchStep, missed_between};
+ghost use Rattle.lnt_spans.specs.Runs.{IsBefore, IsUpTo};
+ghost use Rattle.lnt_spans.specs.Stepping.{HasFewerOrEnds, IsInRun, IsKnown, StretchStep, missed_between};
 ghost use Rattle.lnt_spans.specs.Stretching.{HasBegun, HasGiven, stretches_to_give};
 
 use crate::ahead::Ahead;
 use crate::answer::Answer;
 use crate::counts::AddressCount;
 use crate::position::Position;
-use crate::runs::Runs;
+use crate::runs::{Run, Runs};
 use crate::source::SpanSource;
 use crate::telling::Telling;
 
@@ -99,7 +99,7 @@ pub fn next_stretch<S: SpanSource, N: Runs<T::Said>, T: Telling>(
     ensures fewer { IfOk result (λ found. IfSome found (λ _.
         stretches_to_give S.left N.runs stretches.new < stretches_to_give S.left N.runs stretches.old)) }
 {
-    while let Some(step) = take_step(stretches, telling, memory)? {
+    while let Some(step) = pass_run(stretches, telling, memory)? {
         if !step.is_known {
             let difference = telling.difference(step.at, step.both.table, step.both.section)?;
             return Ok(Some(difference));
@@ -108,9 +108,9 @@ pub fn next_stretch<S: SpanSource, N: Runs<T::Said>, T: Telling>(
     Ok(None)
 }
 
-// Steps to the next position at which one of the two answers may end. `None` if neither ever ends: both sides are exhausted.
-#[inline(always)]
-fn take_step<S: SpanSource, N: Runs<T::Said>, T: Telling>(
+// Steps through a run of the table, up to the first position in it at which a stretch begins, or up to its end. What was compared
+// with the run's answer is remembered until then. `None` if both sides are exhausted.
+fn pass_run<S: SpanSource, N: Runs<T::Said>, T: Telling>(
     stretches: &mut Stretches<S, N, T::Said>,
     telling: &T,
     memory: &mut T::Memory,
@@ -126,19 +126,68 @@ fn take_step<S: SpanSource, N: Runs<T::Said>, T: Telling>(
     ensures fewer { IfOk result (λ found. IfSome found (λ _.
         stretches_to_give S.left N.runs stretches.new < stretches_to_give S.left N.runs stretches.old)) }
 {
+    let run = stretches.table.run_at(stretches.at);
+    let mut recalled = telling.nothing();
+    while let Some(step) = take_step(stretches, telling, memory, &mut recalled, run)? {
+        if !step.is_known || is_reached(run.end, stretches.at) {
+            stretches.table.pass_to(stretches.at);
+            return Ok(Some(step));
+        }
+    }
+    Ok(None)
+}
+
+// Whether an end was reached, if there is one.
+#[inline(always)]
+fn is_reached(end: Option<Position>, at: Position) -> bool
+    ensures { IsUpTo at end → MatchBool result (end ≡ Some at) (IsBefore at end) }
+{
+    match end {
+        Some(end) => !at.is_below(end),
+        None => false,
+    }
+}
+
+// Steps to the next position at which the section's answer may end, or this run of the table does. `None` if neither ever ends: both
+// sides are exhausted.
+#[inline(always)]
+fn take_step<S: SpanSource, N: Runs<T::Said>, T: Telling>(
+    stretches: &mut Stretches<S, N, T::Said>,
+    telling: &T,
+    memory: &mut T::Memory,
+    recalled: &mut T::Recalled,
+    run: Run<T::Said>,
+) -> Result<Option<Step<T::Said>>, T::Refusal>
+    requires sound { T.is_sound telling.now memory.old }
+    requires recalled { IfSome run.answer (T.recalls telling.now recalled.old) }
+    requires ended { run.end ≡ None → run.answer ≡ None }
+    requires past { IsBefore stretches.old.at run.end }
+    requires told { (from : spec_position.Position) × (by_section : spec_position.Position → Option T.Told)
+        × (by_table : spec_position.Position → Option T.Told) × (told : List (Stretch T.Told))
+        × HasGiven S.to_come (IsInRun N.is_at N.value_of run from) N.value_of (T.tell telling.now) T.said stretches.old
+        by_section by_table told }
+    ensures sound { OnOk result (T.is_sound telling.now memory.new) }
+    ensures recalled { OnOk result (IfSome run.answer (T.recalls telling.now recalled.new)) }
+    ensures table { OnOk result (stretches.new.table ≡ stretches.old.table) }
+    ensures told { IfOk result (λ found. (from : spec_position.Position) (by_section by_table : spec_position.Position → Option T.Told)
+        (told : List (Stretch T.Told))
+        → HasGiven S.to_come (IsInRun N.is_at N.value_of run from) N.value_of (T.tell telling.now) T.said stretches.old
+        by_section by_table told
+        → StretchStep S.to_come (IsInRun N.is_at N.value_of run from) N.value_of (T.tell telling.now) T.said stretches.new
+        by_section by_table told found) }
+    ensures fewer { IfOk result (λ found. IfSome found (λ _. HasFewerOrEnds S.left stretches.old stretches.new run.end)) }
+{
     let at = stretches.at;
     let section = stretches.section.run_at(at);
-    let table = stretches.table.run_at(at);
-    let Some(end) = earlier_end(section.end, table.end) else {
+    let Some(end) = earlier_end(section.end, run.end) else {
         return Ok(None);
     };
     let both = Both {
         section: section.answer,
-        table: table.answer,
+        table: run.answer,
     };
-    let is_known = is_known(telling, memory, both, stretches.before)?;
+    let is_known = is_known(telling, memory, recalled, both, stretches.before)?;
     stretches.section.pass_to(end);
-    stretches.table.pass_to(end);
     stretches.at = end;
     stretches.before = both;
     count_missed(&mut stretches.missed, both, at, end);
@@ -183,15 +232,18 @@ fn count_missed<A: Copy>(missed: &mut AddressCount, both: Both<A>, at: Position,
 fn is_known<T: Telling>(
     telling: &T,
     memory: &mut T::Memory,
+    recalled: &mut T::Recalled,
     both: Both<T::Said>,
     before: Both<T::Said>,
 ) -> Result<bool, T::Refusal>
     requires sound { T.is_sound telling.now memory.old }
+    requires recalled { IfSome both.table (T.recalls telling.now recalled.old) }
     ensures sound { OnOk result (T.is_sound telling.now memory.new) }
+    ensures recalled { OnOk result (IfSome both.table (T.recalls telling.now recalled.new)) }
     ensures known { IfOk result (λ known. IsKnown known (option_map (T.tell telling.now) both.section) (option_map T.said both.table)
         (option_map (T.tell telling.now) before.section) (option_map T.said before.table)) }
 {
-    if are_alike(telling, memory, both)? {
+    if are_alike(telling, memory, recalled, both)? {
         return Ok(true);
     }
     if !is_as_held(telling, both.table, before.table) {
@@ -205,18 +257,18 @@ fn is_known<T: Telling>(
 fn are_alike<T: Telling>(
     telling: &T,
     memory: &mut T::Memory,
+    recalled: &mut T::Recalled,
     both: Both<T::Said>,
 ) -> Result<bool, T::Refusal>
     requires sound { T.is_sound telling.now memory.old }
+    requires recalled { IfSome both.table (T.recalls telling.now recalled.old) }
     ensures sound { OnOk result (T.is_sound telling.now memory.new) }
+    ensures recalled { OnOk result (IfSome both.table (T.recalls telling.now recalled.new)) }
     ensures same { IfOk result (λ same. MatchBool same (option_map (T.tell telling.now) both.section ≡ option_map T.said both.table)
         (option_map (T.tell telling.now) both.section ≢ option_map T.said both.table)) }
 {
     match (both.section, both.table) {
-        (Some(answer), Some(held)) => {
-            let mut recalled = telling.nothing();
-            telling.is_said(memory, &mut recalled, &answer, held)
-        }
+        (Some(answer), Some(held)) => telling.is_said(memory, recalled, &answer, held),
         (None, None) => Ok(true),
         _ => Ok(false),
     }
