@@ -1,6 +1,6 @@
 -- What is printed if all positions in a scope are reported at which a table and a good section answer differently.
-use Rattle.std.specs.Prelude.{◌≢◌, ◌++◌, ◌⊎◌, Bool, ℕ, List, [], ◌∷◌, Option, codes}
-use Rattle.std.specs.Io.KnownBytes.{Appends}
+use Rattle.std.specs.Prelude.{◌≢◌, ◌++◌, ◌⊎◌, Bool, ℕ, List, [], ◌∷◌, IfSome, Option, codes}
+use Rattle.std.specs.Io.KnownBytes.{Appends, Keeps}
 use Rattle.lnt_io.specs.Fronts.{AppendsFront}
 use Rattle.lnt_header.specs.declared.unit_parts.UnitParts.{UnitParts}
 use Rattle.lnt_spans.specs.declared.answer.Version.{Version}
@@ -22,7 +22,7 @@ use Rattle.lnt_answers.specs.declared.stretches.Stretches.{Stretches}
 use Rattle.lnt_answers.specs.declared.stretches.Stretches.TheVariants.{Faulty, FaultyByPath, Told, ToldByPath}
 use Rattle.lnt_table.specs.Verdicts.{no_of_fault}
 use Rattle.lnt_table.specs.FaultTexts.{table_no_text}
-use Rattle.lnt_lines.specs.Indexed.{Indexed}
+use Rattle.lnt_lines.specs.Indexed.{Indexed, IsIndexOf}
 use Rattle.lnt_io.specs.declared.status.Status.{Status}
 use Rattle.lnt_io.specs.declared.status.Status.TheVariants as ending
 
@@ -58,6 +58,11 @@ AreStretchesOf scope index dead skip units table old new (Told status) = AreTold
 AreStretchesOf scope index dead skip units table old new (FaultyByPath told) = IsFaultByPath table told
 AreStretchesOf scope index dead skip units table old new (ToldByPath status) =
     AreToldByPath scope index dead skip units table old new status
+
+-- it is true whatever the units are that the index was made of, where the table's bytes are known
+abbrev pub TellsStretches : Scope → Indexed → Option (List ℕ) → Option (List ℕ) → Option (List ℕ) → Stretches → Type 0
+TellsStretches scope index table old new told = (dead : Option ℕ) (skip : Bool) (units : List (ℕ × UnitParts))
+    → IsIndexOf dead skip units index → IfSome table (λ text. AreStretchesOf scope index dead skip units text old new told)
 
 -- What was appended to a writer that held these bytes is the line of what is wrong with the table, if something is.
 abbrev pub IsFaultTold : Stretches → Option (List ℕ) → Option (List ℕ) → Type 0
@@ -108,3 +113,8 @@ AreStretchesBegun scope index dead skip units table old new =
     IsFaultBegun (λ told. IsFault table told × (told ≢ fault.Header)) old new
     ⊎ (AreBegunOf scope dead skip units table old new
     ⊎ (IsFaultBegun (IsFaultByPath table) old new ⊎ AreBegunByPath scope index dead skip units table old new))
+
+-- it is, whatever the units are that the index was made of, where the table's bytes are known; or nothing was written
+abbrev pub BeginsStretches : Scope → Indexed → Option (List ℕ) → Option (List ℕ) → Option (List ℕ) → Type 0
+BeginsStretches scope index table old new = Keeps old new ⊎ ((dead : Option ℕ) (skip : Bool) (units : List (ℕ × UnitParts))
+    → IsIndexOf dead skip units index → IfSome table (λ text. AreStretchesBegun scope index dead skip units text old new))

@@ -4,6 +4,7 @@ ghost use Rattle.std.specs.Prelude.{◌++◌, ◌≤◌, OnErr, OnOk, Some, drop
 ghost use Rattle.std.specs.List.{position};
 ghost use Rattle.std.specs.Str.Lines.{strip_carriage_return};
 ghost use Rattle.lnt_io.specs.declared.halt.Halt.TheVariants as halt;
+ghost use Rattle.lnt_io.specs.declared.status.Status.TheVariants.{Done};
 ghost use Rattle.lnt_io.specs.Halts.{IsPrinting};
 ghost use Rattle.lnt_answers.specs.AddressBlocks.{AreFirstBegun, AreFirstTold, BeginsWithLine, HasNo, IsCut};
 ghost use Rattle.lnt_answers.specs.AddressLines.{AreAddressesBegun, AreAddressesTold, AreLinesBegun, AreLinesTold};
@@ -53,14 +54,7 @@ pub fn print_addresses<T: Source, W: Write>(
 {
     let mut block = vec![in alloc; 0; BLOCK]?;
     let mut lookups = CachedLookups::new(alloc, index)?;
-    let mut asked = Asked {
-        line: Vec::new(alloc),
-        answers: Answers {
-            op,
-            lines: Vec::new(alloc),
-            status: Status::Done,
-        },
-    };
+    let mut asked = Asked::new(alloc, op);
     loop {
         let Ok(count) = lines.pull(&mut block) else {
             return Err(Halt::Read);
@@ -90,6 +84,23 @@ struct Asked {
 }
 
 impl Asked {
+    // No byte has come yet. The operation index is for a line without one.
+    fn new(alloc: Global, op: u64) -> Asked
+        ensures line { result.line.items ≡ [] }
+        ensures lines { result.answers.lines.items ≡ [] }
+        ensures op { result.answers.op ≡ op }
+        ensures status { result.answers.status ≡ Done }
+    {
+        Asked {
+            line: Vec::new(alloc),
+            answers: Answers {
+                op,
+                lines: Vec::new(alloc),
+                status: Status::Done,
+            },
+        }
+    }
+
     // Answers the lines that end in a block, and keeps the bytes after them as the current line.
     fn answer_block<W: Write>(
         &mut self,

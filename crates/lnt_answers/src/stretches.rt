@@ -1,10 +1,10 @@
 //! All stretches of positions in a scope at which a table and a good section answer differently.
-ghost use Rattle.std.specs.Prelude.{◌≡◌, ◌-◌, ◌^◌, ◌<◌, ◌+◌, ◌++◌, ◌⊎◌, [], Bool, ℕ, List, Option, IfErr, IfOk, IfSome, IsErrOf};
+ghost use Rattle.std.specs.Prelude.{◌≡◌, ◌-◌, ◌^◌, ◌<◌, ◌+◌, ◌++◌, [], Bool, ℕ, List, Option, IfErr, IfOk, IsErrOf};
 ghost use Rattle.std.specs.Prelude.{OnErr, OnOk, codes};
-ghost use Rattle.std.specs.Io.KnownBytes.{Appends, Keeps};
+ghost use Rattle.std.specs.Io.KnownBytes.{Appends};
 ghost use Rattle.lnt_answers.specs.DifferenceLines.{AreDifferencesBegun, path_stretch_line};
 ghost use Rattle.lnt_answers.specs.Stepping.{ArePrinted, answer_of, end_status, end_text};
-ghost use Rattle.lnt_answers.specs.Stretches.{AreStretchesBegun, AreStretchesOf, IsFaultTold};
+ghost use Rattle.lnt_answers.specs.Stretches.{BeginsStretches, IsFaultTold, TellsStretches};
 ghost use Rattle.lnt_table.specs.FaultTexts.{table_no_text};
 ghost use Rattle.lnt_lines.specs.Indexed.{IsIndexOf};
 ghost use Rattle.lnt_paths.specs.PathAnswers.{PathAnswer};
@@ -63,15 +63,10 @@ pub fn print_stretches<T: Source, W: Write>(
     out: &mut W,
 ) -> Result<Stretches, Halt>
     requires { T.failures table.old < 2 ^ 64 - 1 }
-    ensures told { IfOk result (λ told. (dead : Option ℕ) (skip : Bool) (units : List (ℕ × UnitParts)) → IsIndexOf dead skip units index.now
-        → IfSome (T.remaining table.old) (λ text. AreStretchesOf scope index.now dead skip units text
-        (W.contents out.old) (W.contents out.new) told)) }
+    ensures told { IfOk result (TellsStretches scope index.now (T.remaining table.old) (W.contents out.old) (W.contents out.new)) }
     ensures faulty { IfOk result (λ told. IsFaultTold told (W.contents out.old) (W.contents out.new)) }
     ensures read { IsErrOf result Halt.Read → T.failures table.new ≡ T.failures table.old + 1 }
-    ensures begun { OnErr result (Keeps (W.contents out.old) (W.contents out.new)
-        ⊎ ((dead : Option ℕ) (skip : Bool) (units : List (ℕ × UnitParts)) → IsIndexOf dead skip units index.now
-        → IfSome (T.remaining table.old) (λ text. AreStretchesBegun scope index.now dead skip units text
-        (W.contents out.old) (W.contents out.new)))) }
+    ensures begun { OnErr result (BeginsStretches scope index.now (T.remaining table.old) (W.contents out.old) (W.contents out.new)) }
 {
     match differences_any(alloc, table, index) {
         Ok(AnyDiffering::Numbered(Differing::Table(differences))) => {

@@ -1,17 +1,16 @@
 -- Answers that were stopped.
-use Rattle.std.proofs.Common.{ℕ, List, ◌⊎◌, Option, IfSome, IsErr, Result, Ok, Err, OnErr, inl, inr, refl, true, false}
+use Rattle.std.proofs.Common.{ℕ, List, ◌⊎◌, Option, IsErr, Result, Ok, Err, OnErr, inl, inr, refl, true, false}
 use Rattle.std.proofs.Common.{Bool, ◌++◌, codes}
 use Rattle.std.proofs.lemmas.Bool.{false≢true}
 use Rattle.std.specs.Io.KnownBytes.{Appends, Keeps, append_known}
 use Rattle.lnt_io.specs.Fronts.{AppendsFront, HasBegun}
 use Rattle.lnt_io.proofs.FrontLaws.{appends_known}
 use Rattle.lnt_io.specs.Files.{FileState, Readable, TellsNoMore}
-use Rattle.lnt_header.specs.declared.unit_parts.UnitParts.{UnitParts}
 use Rattle.lnt_lines.specs.declared.no.No.{No}
 use Rattle.lnt_lines.specs.declared.options.Options.{Options}
 use Rattle.lnt_lines.specs.declared.section.JudgedIndex.{JudgedIndex}
 use Rattle.lnt_lines.specs.declared.section.JudgedIndex.TheVariants.{Good, Bad}
-use Rattle.lnt_lines.specs.Indexed.{Indexed, IsIndexOf}
+use Rattle.lnt_lines.specs.Indexed.{Indexed}
 use Rattle.lnt_words.specs.declared.request.Judging.{Judging}
 use Rattle.lnt_words.specs.declared.request.Question.{Question}
 use Rattle.lnt_words.specs.declared.request.Question.TheVariants.{Verify, Lookup, Files, Table, TableByPath, Md5}
@@ -21,7 +20,7 @@ use Rattle.lnt_answers.specs.Lines.{HasBegunLine}
 use Rattle.lnt_answers.specs.SumLines.{listed_files}
 use Rattle.lnt_lines.specs.FaultTexts.{no_text}
 use Rattle.lnt_answers.proofs.SumLaws.{begun_later}
-use Rattle.lnt_answers.specs.Stretches.{AreStretchesBegun}
+use Rattle.lnt_answers.specs.Stretches.{BeginsStretches}
 use Rattle.lnt_answers.specs.Verdicts.{checked_line, checked_status}
 use Rattle.lnt_cli.specs.Answered.{AnswersCheck, AreTextsOf, IsChecked, IsOfFile, options_in}
 use Rattle.lnt_cli.specs.Stepping.{IsJudgedSo, IsTrueOf}
@@ -123,12 +122,6 @@ of_file_stopped tells from file HasBegunOf old new texts section bytes (Err stop
     inr (told_of_file tells from file HasBegunOf texts section bytes are_texts of_section of_file begun)
 
 -- ---- all places
-
--- a front of what is told of the places in the scope at which a table answers otherwise than the units that an index was made of,
--- whatever these are
-abbrev pub BeginsStretches : Scope → Indexed → Option (List ℕ) → Option (List ℕ) → Option (List ℕ) → Type 0
-BeginsStretches scope index table old new = Keeps old new ⊎ ((dead : Option ℕ) (skip : Bool) (units : List (ℕ × UnitParts))
-    → IsIndexOf dead skip units index → IfSome table (λ text. AreStretchesBegun scope index dead skip units text old new))
 
 -- The printing of the places stopped the run.
 pub places_stopped : {R T S E : Type 0} (scope : Scope) (index : Indexed) (table old new : Option (List ℕ)) (worked : Result R E)

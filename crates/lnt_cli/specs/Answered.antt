@@ -16,6 +16,7 @@ use Rattle.lnt_words.specs.declared.request.Question.{Question}
 use Rattle.lnt_words.specs.declared.request.Reading.{Reading}
 use Rattle.lnt_words.specs.declared.request.Request.{Request}
 use Rattle.lnt_words.specs.declared.request.Request.TheVariants.{Help, Read, Upgrade, Judge, Addresses, Check}
+use Rattle.lnt_words.specs.declared.request.Upgrading.{Upgrading}
 use Rattle.lnt_table.specs.declared.within.CheckedWithin.{CheckedWithin}
 use Rattle.lnt_table.specs.declared.within.Scope.{Scope}
 use Rattle.lnt_table.specs.Within.{IsOfScope, IsTrueOfSectionWithin, IsTrueWithin, scope_in}
@@ -115,15 +116,13 @@ IsTextOf tells (Some name) None = ⊥
 IsTextOf tells (Some name) (Some text) = AreBytesOf (tells name) text
 
 -- The section in the named file was written with its older units anew, or why it can't be.
---     size          how many bytes an address of these units has
---     directories   the file of their directories, if one is named
-pub record AnswersUpgrade (tells : List ℕ → FileState → Type 0) (section : List ℕ) (order : Order) (size : ℕ)
-    (directories : Option (List ℕ)) (old new : Option (List ℕ)) (status : Status) : Type 0 where
+pub record AnswersUpgrade (tells : List ℕ → FileState → Type 0) (from : Upgrading) (old new : Option (List ℕ)) (status : Status) : Type 0
+    where
   pub bytes : List ℕ
-  pub of_section : AreBytesOf (tells section) bytes
+  pub of_section : AreBytesOf (tells from.section.now) bytes
   pub text : Option (List ℕ)
-  pub of_directories : IsTextOf tells directories text
-  pub answered : IsUpgradeTold order size bytes text old new status
+  pub of_directories : IsTextOf tells (option_copied from.directories) text
+  pub answered : IsUpgradeTold from.order (size_bytes from.address_size) bytes text old new status
 
 -- ---- requests
 
@@ -131,8 +130,7 @@ pub record AnswersUpgrade (tells : List ℕ → FileState → Type 0) (section :
 abbrev pub IsAnswered : (List ℕ → FileState → Type 0) → Request → Option (List ℕ) → Option (List ℕ) → Status → Type 0
 IsAnswered tells (Help text) old new status = Appends old new (string_bytes text) × (status ≡ Done)
 IsAnswered tells (Read section order reading) old new status = AnswersRead tells section.now order reading old new status
-IsAnswered tells (Upgrade section order size directories) old new status =
-    AnswersUpgrade tells section.now order (size_bytes size) (option_copied directories) old new status
+IsAnswered tells (Upgrade from) old new status = AnswersUpgrade tells from old new status
 IsAnswered tells (Judge from question) old new status = AnswersQuestion tells from question old new status
 IsAnswered tells (Addresses from file op) old new status = AnswersFile tells from file.now (Lines op) old new status
 IsAnswered tells (Check from table false partial) old new status =

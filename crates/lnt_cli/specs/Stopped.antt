@@ -22,6 +22,7 @@ use Rattle.lnt_words.specs.declared.request.Question.TheVariants.{Verify, Lookup
 use Rattle.lnt_words.specs.declared.request.Reading.{Reading}
 use Rattle.lnt_words.specs.declared.request.Request.{Request}
 use Rattle.lnt_words.specs.declared.request.Request.TheVariants.{Help, Read, Upgrade, Judge, Addresses, Check}
+use Rattle.lnt_words.specs.declared.request.Upgrading.{Upgrading}
 use Rattle.lnt_answers.specs.AddressLines.{AreAddressesBegun}
 use Rattle.lnt_answers.specs.FileLines.{files_text}
 use Rattle.lnt_answers.specs.Lines.{lookup_line}
@@ -90,13 +91,12 @@ pub record StopsRead (tells : List ℕ → FileState → Type 0) (section : List
   pub begun : IfSome section_bytes (λ bytes. BeginsReading order reading bytes old new)
 
 -- A prefix of the section with its older units anew, or of the line that says why there is none, was written.
-pub record StopsUpgrade (tells : List ℕ → FileState → Type 0) (section : List ℕ) (order : Order) (size : ℕ)
-    (directories : Option (List ℕ)) (old new : Option (List ℕ)) : Type 0 where
+pub record StopsUpgrade (tells : List ℕ → FileState → Type 0) (from : Upgrading) (old new : Option (List ℕ)) : Type 0 where
   pub bytes : List ℕ
-  pub of_section : AreBytesOf (tells section) bytes
+  pub of_section : AreBytesOf (tells from.section.now) bytes
   pub text : Option (List ℕ)
-  pub of_directories : IsTextOf tells directories text
-  pub begun : IsUpgradeBegun order size bytes text old new
+  pub of_directories : IsTextOf tells (option_copied from.directories) text
+  pub begun : IsUpgradeBegun from.order (size_bytes from.address_size) bytes text old new
 
 -- ---- requests
 
@@ -104,8 +104,7 @@ pub record StopsUpgrade (tells : List ℕ → FileState → Type 0) (section : L
 abbrev pub IsStopped : (List ℕ → FileState → Type 0) → Request → Option (List ℕ) → Option (List ℕ) → Type 0
 IsStopped tells (Help text) old new = AppendsFront old new (string_bytes text)
 IsStopped tells (Read section order reading) old new = Keeps old new ⊎ StopsRead tells section.now order reading old new
-IsStopped tells (Upgrade section order size directories) old new =
-    Keeps old new ⊎ StopsUpgrade tells section.now order (size_bytes size) (option_copied directories) old new
+IsStopped tells (Upgrade from) old new = Keeps old new ⊎ StopsUpgrade tells from old new
 IsStopped tells (Judge from question) old new = Keeps old new ⊎ BeginsQuestion tells from question old new
 IsStopped tells (Addresses from file op) old new = Keeps old new ⊎ BeginsFile tells from file.now (Lines op) old new
 IsStopped tells (Check from table false partial) old new =

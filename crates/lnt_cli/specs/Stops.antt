@@ -8,6 +8,7 @@ use Rattle.lnt_words.specs.declared.request.Question.{Question}
 use Rattle.lnt_words.specs.declared.request.Question.TheVariants.{Md5}
 use Rattle.lnt_words.specs.declared.request.Request.{Request}
 use Rattle.lnt_words.specs.declared.request.Request.TheVariants.{Help, Read as ReadSection, Upgrade, Judge, Addresses, Check}
+use Rattle.lnt_words.specs.declared.request.Upgrading.{Upgrading}
 use Rattle.lnt_words.specs.declared.stop.WordsStop.{WordsStop}
 use Rattle.lnt_words.specs.declared.stop.WordsStop.TheVariants as words
 use Rattle.lnt_cli.specs.declared.stop.CliStop.{CliStop}
@@ -38,11 +39,15 @@ IsFileOf from name = (from.section.now ≡ name) ⊎ (option_copied from.line_st
 abbrev pub IsFileOfBoth : Judging → List ℕ → List ℕ → Type 0
 IsFileOfBoth from file name = IsFileOf from name ⊎ (file ≡ name)
 
+-- a file of the section that is written anew: its own, or that of the directories
+abbrev pub IsFileOfUpgrade : Upgrading → List ℕ → Type 0
+IsFileOfUpgrade from name = (from.section.now ≡ name) ⊎ (option_copied from.directories ≡ Some name)
+
 -- a file of the request
 abbrev pub IsFileIn : Request → List ℕ → Type 0
 IsFileIn (Help text) name = ⊥
 IsFileIn (ReadSection section order reading) name = section.now ≡ name
-IsFileIn (Upgrade section order size directories) name = (section.now ≡ name) ⊎ (option_copied directories ≡ Some name)
+IsFileIn (Upgrade from) name = IsFileOfUpgrade from name
 IsFileIn (Judge from question) name = IsFileOf from name
 IsFileIn (Addresses from file op) name = IsFileOfBoth from file.now name
 IsFileIn (Check from table all partial) name = IsFileOfBoth from table.now name

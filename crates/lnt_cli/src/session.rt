@@ -1,14 +1,13 @@
 //! The files and writers of a run, and how it answers a request.
 ghost use Rattle.std.specs.Prelude.{◌≡◌, ◌-◌, ◌^◌, ◌<◌, ◌⊎◌, IfErr, IfOk, IfSome, IsErrOf, OnErr, Some, option_map};
 ghost use Rattle.std.specs.Io.KnownBytes.{Keeps};
-ghost use Rattle.std.specs.Option.{option_copied};
 ghost use Rattle.lnt_io.specs.Files.{RefusesOnly};
 ghost use Rattle.lnt_words.specs.Sizes.{size_bytes};
 ghost use Rattle.lnt_dump.specs.Upgraded.{IsUpgradeBegun, IsUpgradeTold};
 ghost use Rattle.lnt_cli.specs.Answered.{AnswersRead, AnswersUpgrade, IsAnswered};
 ghost use Rattle.lnt_cli.specs.Readings.{AnswersReading, BeginsReading};
 ghost use Rattle.lnt_cli.specs.Stopped.{IsStopped, StopsRead, StopsUpgrade};
-ghost use Rattle.lnt_cli.specs.Stops.{IsFileIn, IsToldUnreadable, NamesOneOf, StopsIfRefused};
+ghost use Rattle.lnt_cli.specs.Stops.{IsFileIn, IsFileOfUpgrade, IsToldUnreadable, NamesOneOf, StopsIfRefused};
 
 use crate::inputs::{of_file, open_section, read_named, read_whole};
 use crate::question::FileQuestion;
@@ -18,7 +17,7 @@ use lnt_io::{Halt, Opener, Source, Status, write_whole};
 use lnt_notes::{Seen, tell_refused};
 use lnt_table::Scope;
 use lnt_wire::Order;
-use lnt_words::{AddressSize, Reading, Request};
+use lnt_words::{AddressSize, Reading, Request, Upgrading};
 use std::alloc::Global;
 use std::cell::Cell;
 use std::io::Write;
@@ -56,12 +55,7 @@ impl<O: Opener, W: Write, N: Write> Session<'_, '_, '_, O, W, N> {
                 order,
                 reading,
             } => self.read_section(section, *order, *reading),
-            Request::Upgrade {
-                section,
-                order,
-                address_size,
-                directories,
-            } => self.upgrade_section(section, *order, *address_size, *directories),
+            Request::Upgrade(from) => self.upgrade_section(from),
             Request::Judge { from, question } => self.answer_question(from, question),
             Request::Addresses { from, file, op } => {
                 self.answer_file(from, file, FileQuestion::Lines(*op))
@@ -130,37 +124,20 @@ impl<O: Opener, W: Write, N: Write> Session<'_, '_, '_, O, W, N> {
     }
 
     // Writes a section with its older units anew. The files are read before anything is written.
-    fn upgrade_section(
-        &mut self,
-        section: &str,
-        order: Order,
-        address_size: AddressSize,
-        directories: Option<&str>,
-    ) -> Result<Status, FileStop>
-        ensures named { IfErr result (NamesOneOf (λ name. (section.now ≡ name) ⊎ (option_copied directories.entry ≡ Some name))) }
-        ensures answer { IfOk result (λ status. AnswersUpgrade (O.tells self.old.opener.now) section.now order
-            (size_bytes address_size) (option_copied directories.entry) (W.contents self.old.out.now) (W.contents self.new.out.now)
-            status) }
+    fn upgrade_section(&mut self, from: &Upgrading<'_>) -> Result<Status, FileStop>
+        ensures named { IfErr result (NamesOneOf (IsFileOfUpgrade from.now)) }
+        ensures answer { IfOk result (AnswersUpgrade (O.tells self.old.opener.now) from.now (W.contents self.old.out.now)
+            (W.contents self.new.out.now)) }
         ensures stopped { OnErr result (Keeps (W.contents self.old.out.now) (W.contents self.new.out.now)
-            ⊎ StopsUpgrade (O.tells self.old.opener.now) section.now order (size_bytes address_size)
-            (option_copied directories.entry) (W.contents self.old.out.now) (W.contents self.new.out.now)) }
+            ⊎ StopsUpgrade (O.tells self.old.opener.now) from.now (W.contents self.old.out.now) (W.contents self.new.out.now)) }
         ensures refused { StopsIfRefused result (O.refused self.old.opener.now) (O.refused self.new.opener.now) }
         ensures same_reference { self.new.out.ghost_name ≡ self.old.out.ghost_name }
         ensures same_opener { self.new.opener.ghost_name ≡ self.old.opener.ghost_name }
     {
         let seen = Cell::new(Seen::nothing());
-        let status = upgrade_file(
-            self.alloc,
-            section,
-            order,
-            address_size,
-            directories,
-            self.opener,
-            &seen,
-            self.out,
-        )?;
+        let status = upgrade_file(self.alloc, from, self.opener, &seen, self.out)?;
         if status == Status::No && !self.quiet {
-            let _ = tell_refused(&seen.get(), order, self.notes);
+            let _ = tell_refused(&seen.get(), from.order, self.notes);
         }
         Ok(status)
     }
@@ -169,28 +146,30 @@ impl<O: Opener, W: Write, N: Write> Session<'_, '_, '_, O, W, N> {
 // Prints the section in the file with this name with its older units written anew. `seen` keeps what notes need of its bytes.
 fn upgrade_file<O: Opener, W: Write>(
     alloc: Global,
-    section: &str,
-    order: Order,
-    address_size: AddressSize,
-    directories: Option<&str>,
+    from: &Upgrading<'_>,
     opener: &mut O,
     seen: &Cell<Seen>,
     out: &mut W,
 ) -> Result<Status, FileStop>
-    ensures named { IfErr result (NamesOneOf (λ name. (section.now ≡ name) ⊎ (option_copied directories.entry ≡ Some name))) }
-    ensures answer { IfOk result (λ status. AnswersUpgrade (O.tells opener.old) section.now order (size_bytes address_size)
-        (option_copied directories.entry) (W.contents out.old) (W.contents out.new) status) }
+    ensures named { IfErr result (NamesOneOf (IsFileOfUpgrade from.now)) }
+    ensures answer { IfOk result (AnswersUpgrade (O.tells opener.old) from.now (W.contents out.old) (W.contents out.new)) }
     ensures stopped { OnErr result (Keeps (W.contents out.old) (W.contents out.new)
-        ⊎ StopsUpgrade (O.tells opener.old) section.now order (size_bytes address_size) (option_copied directories.entry)
-        (W.contents out.old) (W.contents out.new)) }
+        ⊎ StopsUpgrade (O.tells opener.old) from.now (W.contents out.old) (W.contents out.new)) }
     ensures refused { StopsIfRefused result (O.refused opener.old) (O.refused opener.new) }
 {
-    let name = String::from_str(alloc, section)?;
-    let read = read_whole(alloc, opener, section, seen);
+    let name = String::from_str(alloc, from.section)?;
+    let read = read_whole(alloc, opener, from.section, seen);
     let bytes = of_file(name, read)?;
-    let text = read_named(alloc, opener, directories)?;
-    let name = String::from_str(alloc, section)?;
-    let printed = print_upgrade(alloc, &bytes, order, address_size, text, out);
+    let text = read_named(alloc, opener, from.directories)?;
+    let name = String::from_str(alloc, from.section)?;
+    let printed = print_upgrade(
+        alloc,
+        &bytes,
+        from.order,
+        from.address_size,
+        text,
+        out,
+    );
     let status = of_file(name, printed)?;
     Ok(status)
 }

@@ -1,5 +1,5 @@
 -- A side within one of its runs: how the run is entered, followed and left.
-use Rattle.std.proofs.Common.{List, None, Option, Some}
+use Rattle.std.proofs.Common.{◌≡◌, List, None, Option, Some}
 use Rattle.std.specs.Option.{option_map}
 use Rattle.lnt_spans.specs.declared.answer.Answer.{Answer}
 use Rattle.lnt_spans.specs.declared.any_stretches.Stretches.{Stretches}
@@ -22,8 +22,8 @@ module _ {N A V X : Type 0} (is_at : N → Position → (Position → Option V) 
   -- the side stands where a run of it begins
   pub entered : IsSideAt is_at value_of said side from answers
       → ((values : Position → Option V) → is_at side from values → IsRun values from (option_map value_of run.answer) run.end)
-      → IsSideAt (IsInRun is_at value_of run from) value_of said side from answers
-  entered s runs =
+      → (run.end ≡ None → run.answer ≡ None) → IsSideAt (IsInRun is_at value_of run from) value_of said side from answers
+  entered s runs ended =
       let one = runs s.values s.valued in
       record {
         values = s.values;
@@ -32,6 +32,7 @@ module _ {N A V X : Type 0} (is_at : N → Position → (Position → Option V) 
           past = at_most_itself from;
           up_to = before_is_up_to from run.end one.past;
           says = one.says;
+          ended = ended;
         };
         same = s.same;
       }
@@ -49,6 +50,7 @@ module _ {N A V X : Type 0} (is_at : N → Position → (Position → Option V) 
     past = at_most_trans s.past le;
     up_to = up;
     says = λ p h. s.says p (at_most_trans le h);
+    ended = s.ended;
   }
 
   -- and left there
@@ -67,11 +69,11 @@ module _ {S N A V X : Type 0} (to_come : S → List Span → Type 0) (is_at : N 
   -- nothing changes where a run of the table is entered
   pub given_in : HasGiven to_come is_at value_of tell said stretches by_section by_table told
       → ((values : Position → Option V) → is_at stretches.table stretches.at values
-      → IsRun values stretches.at (option_map value_of run.answer) run.end)
+      → IsRun values stretches.at (option_map value_of run.answer) run.end) → (run.end ≡ None → run.answer ≡ None)
       → HasGiven to_come (IsInRun is_at value_of run stretches.at) value_of tell said stretches by_section by_table told
-  given_in h runs = record {
+  given_in h runs ended = record {
     section = h.section;
-    table = entered is_at value_of said run stretches.at stretches.table by_table h.table runs;
+    table = entered is_at value_of said run stretches.at stretches.table by_table h.table runs ended;
     below = h.below;
     counted = h.counted;
   }

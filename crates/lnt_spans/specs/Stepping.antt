@@ -22,6 +22,13 @@ pub record IsInRun {N A V : Type 0} (is_at : N → Position → (Position → Op
   pub past : IsAtMost from at
   pub up_to : IsUpTo at run.end
   pub says : (p : Position) → IsAtMost at p → IsBefore p run.end → values p ≡ option_map value_of run.answer
+  pub ended : run.end ≡ None → run.answer ≡ None
+
+-- as `HasGiven`, while the table's side still stands where this run of it began
+abbrev pub HasGivenIn : {S N A V X : Type 0} → (S → List Span → Type 0) → (N → Position → (Position → Option V) → Type 0) → (A → V)
+    → Run A → Position → (Answer → X) → (A → X) → Stretches S N A → (Position → Option X) → (Position → Option X) → List (Stretch X)
+    → Type 0
+HasGivenIn to_come is_at value_of run from = HasGiven to_come (IsInRun is_at value_of run from) value_of
 
 -- The section has fewer runs left than before, or no more and the table's run ends.
 abbrev pub HasFewerOrEnds : {S N A : Type 0} → (S → ℕ) → Stretches S N A → Stretches S N A → Option Position → Type 0

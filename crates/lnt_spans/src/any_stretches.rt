@@ -9,7 +9,7 @@ ghost use Rattle.lnt_spans.specs.Counts.{addresses_answered};
 ghost use Rattle.lnt_spans.specs.Partial.{where_missed};
 ghost use Rattle.lnt_spans.specs.Positions.{IsAtMost, IsBelow};
 ghost use Rattle.lnt_spans.specs.Runs.{IsBefore, IsUpTo};
-ghost use Rattle.lnt_spans.specs.Stepping.{HasFewerOrEnds, IsInRun, IsKnown, StretchStep, missed_between};
+ghost use Rattle.lnt_spans.specs.Stepping.{HasFewerOrEnds, HasGivenIn, IsInRun, IsKnown, StretchStep, missed_between};
 ghost use Rattle.lnt_spans.specs.Stretching.{HasBegun, HasGiven, stretches_to_give};
 
 use crate::ahead::Ahead;
@@ -160,19 +160,16 @@ fn take_step<S: SpanSource, N: Runs<T::Said>, T: Telling>(
 ) -> Result<Option<Step<T::Said>>, T::Refusal>
     requires sound { T.is_sound telling.now memory.old }
     requires recalled { IfSome run.answer (T.recalls telling.now recalled.old) }
-    requires ended { run.end ≡ None → run.answer ≡ None }
     requires past { IsBefore stretches.old.at run.end }
     requires told { (from : spec_position.Position) × (by_section : spec_position.Position → Option T.Told)
         × (by_table : spec_position.Position → Option T.Told) × (told : List (Stretch T.Told))
-        × HasGiven S.to_come (IsInRun N.is_at N.value_of run from) N.value_of (T.tell telling.now) T.said stretches.old
-        by_section by_table told }
+        × HasGivenIn S.to_come N.is_at N.value_of run from (T.tell telling.now) T.said stretches.old by_section by_table told }
     ensures sound { OnOk result (T.is_sound telling.now memory.new) }
     ensures recalled { OnOk result (IfSome run.answer (T.recalls telling.now recalled.new)) }
     ensures table { OnOk result (stretches.new.table ≡ stretches.old.table) }
     ensures told { IfOk result (λ found. (from : spec_position.Position) (by_section by_table : spec_position.Position → Option T.Told)
         (told : List (Stretch T.Told))
-        → HasGiven S.to_come (IsInRun N.is_at N.value_of run from) N.value_of (T.tell telling.now) T.said stretches.old
-        by_section by_table told
+        → HasGivenIn S.to_come N.is_at N.value_of run from (T.tell telling.now) T.said stretches.old by_section by_table told
         → StretchStep S.to_come (IsInRun N.is_at N.value_of run from) N.value_of (T.tell telling.now) T.said stretches.new
         by_section by_table told found) }
     ensures fewer { IfOk result (λ found. IfSome found (λ _. HasFewerOrEnds S.left stretches.old stretches.new run.end)) }

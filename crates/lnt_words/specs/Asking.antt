@@ -121,9 +121,9 @@ abbrev pub IsAskedIn : Text → List Row → Request → Type 0
 IsAskedIn name rows (Help text) = ⊥
 IsAskedIn name rows (Read section order reading) =
     IsWord rows (codes "SECTION") section.now × IsOrder rows order × IsReading name rows reading
-IsAskedIn name rows (Upgrade section order size directories) =
-    (name ≡ codes "upgrade") × IsWord rows (codes "SECTION") section.now × IsOrder rows order × IsSize rows size
-    × (option_copied directories ≡ first_of (codes "directories") rows)
+IsAskedIn name rows (Upgrade from) =
+    (name ≡ codes "upgrade") × IsWord rows (codes "SECTION") from.section.now × IsOrder rows from.order × IsSize rows from.address_size
+    × (option_copied from.directories ≡ first_of (codes "directories") rows)
 IsAskedIn name rows (Judge from question) = IsJudging rows from × IsQuestion name rows question
 IsAskedIn name rows (Addresses from file op) =
     (name ≡ codes "lookup") × IsJudging rows from × IsWord rows (codes "addresses") file.now

@@ -10,6 +10,6 @@ mod request;
 mod stop;
 mod words;
 
-pub use request::{AddressSize, Asked, Judging, Question, Reading, Request};
+pub use request::{AddressSize, Asked, Judging, Question, Reading, Request, Upgrading};
 pub use stop::WordsStop;
 pub use words::request_of;

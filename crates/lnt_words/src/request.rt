@@ -29,16 +29,7 @@ pub enum Request<'a> {
         reading: Reading,
     },
     /// The section with its older units written anew in version 5.
-    Upgrade {
-        /// The file of the section.
-        section: &'a str,
-        /// The order of the bytes of its numbers.
-        order: Order,
-        /// The size of the addresses of older units.
-        address_size: AddressSize,
-        /// The file of the compilation directories of older units, if one is named.
-        directories: Option<&'a str>,
-    },
+    Upgrade(Upgrading<'a>),
     /// What a good section says.
     Judge {
         /// The section.
@@ -66,6 +57,19 @@ pub enum Request<'a> {
         /// Whether they are compared only at the positions at which the table answers.
         partial: bool,
     },
+}
+
+/// A section whose older units are written anew: its file, and how these are read.
+#[derive(Clone, Copy)]
+pub struct Upgrading<'a> {
+    /// The file of the section.
+    pub section: &'a str,
+    /// The order of the bytes of its numbers.
+    pub order: Order,
+    /// The size of the addresses of older units.
+    pub address_size: AddressSize,
+    /// The file of the compilation directories of older units, if one is named.
+    pub directories: Option<&'a str>,
 }
 
 /// How many bytes an address has.

@@ -15,7 +15,7 @@ ghost use Rattle.lnt_wire.specs.declared.format.Format.{Format as FormatSpec};
 ghost use Rattle.lnt_wire.specs.declared.format.Order.{Order as OrderSpec};
 
 use crate::command::command_of;
-use crate::request::{AddressSize, Asked, Judging, Question, Reading, Request};
+use crate::request::{AddressSize, Asked, Judging, Question, Reading, Request, Upgrading};
 use crate::stop::WordsStop;
 use clap::error::ErrorKind;
 use clap::{ArgMatches, Error};
@@ -339,12 +339,12 @@ fn upgrade_in<'a>(alloc: Global, words: &ArgMatches<'a>) -> Result<Request<'a>, 
     ensures asked { IfOk result (λ request. IsAskedIn (codes "upgrade") (rows_in words.now) request) }
     ensures refused { IfErr result (λ _. (request : RequestSpec) → IsAskedIn (codes "upgrade") (rows_in words.now) request → ⊥) }
 {
-    Ok(Request::Upgrade {
+    Ok(Request::Upgrade(Upgrading {
         section: word_in(alloc, words, "SECTION")?,
         order: order_in(words),
         address_size: size_in(alloc, words)?,
         directories: str_in(words, "directories"),
-    })
+    }))
 }
 
 fn size_in(alloc: Global, words: &ArgMatches<'_>) -> Result<AddressSize, WordsStop>

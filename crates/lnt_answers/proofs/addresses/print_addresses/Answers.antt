@@ -11,11 +11,11 @@ pub loop-count-init : goal.loop-count-init
 loop-count-init g c = record {
   failures = refl;
   full = search rules;
-  same = refl;
+  same = c.new-asked.ensures.op;
   index = search rules;
-  none = search rules;
-  told = text_begun c.args.index.now c.args.op (g.T.Source.remaining c.args.lines.now) c.new-2.result.items
-      (g.W.Write.contents c.args.out.now) _ c.new-2.ensures.items refl;
+  none = c.new-asked.ensures.lines;
+  told = text_begun c.args.index.now c.args.op (g.T.Source.remaining c.args.lines.now) c.new-asked.result.line.items
+      (g.W.Write.contents c.args.out.now) _ c.new-asked.ensures.line c.new-asked.ensures.status;
 }
 
 pub loop-count-preserved : goal.loop-count-preserved

@@ -12,6 +12,6 @@ returns-clause-answer g c =
       text = _;
       of_directories = text_before (g.O.Opener.tells c.args.opener.now) (g.O.Opener.tells c.read_whole-read.new.opener) _ _
           c.read_whole-read.ensures.later c.in_ok-text.ensures.text;
-      answered = told_of c.args.order (size_bytes c.args.address_size) _ _ _ (g.W.Write.contents c.args.out.now)
+      answered = told_of c.args.from.now.order (size_bytes c.args.from.now.address_size) _ _ _ (g.W.Write.contents c.args.out.now)
           (g.W.Write.contents c.print_upgrade-printed.new.out) c.in_ok-status.status c.deref.ensures.value told;
     }

@@ -20,7 +20,7 @@ returns-in_default-clause-told g c from f f' told h =
     c.run_at-section.result.end h.section c.run_at-section.ensures.run)
     (side_run within g.N.Runs.value_of g.T.Telling.said own.table own.at f' run.answer run.end h.table
     (λ values s. run_on g.N.Runs.is_at g.N.Runs.value_of g.T.Telling.said run from own.table f' own.at values s c.requires.past))
-    c.in_default.ensures (c.run_at-section.ensures.ended c.in_default.ensures.0) (c.requires.ended c.in_default.ensures.1)
+    c.in_default.ensures (c.run_at-section.ensures.ended c.in_default.ensures.0) (h.table.valued.ended c.in_default.ensures.1)
 
 pub returns-clause-told : goal.returns-clause-told
 returns-clause-told g c from f f' told h =
