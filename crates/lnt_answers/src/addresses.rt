@@ -14,7 +14,7 @@ ghost use Rattle.lnt_spans.specs.declared.position.Position.{Position as Spec};
 use crate::display::put_text;
 use crate::lookup::{CachedLookups, put_lookup, send};
 use lnt_io::{Halt, Source, Status};
-use lnt_lines::Index;
+use lnt_lines::{Index, KeepsFrom};
 use lnt_spans::Position;
 use lnt_text::{Quoted, address, address_until, decimal, decimal_until};
 use std::alloc::{AllocError, Global};
@@ -53,7 +53,7 @@ pub fn print_addresses<T: Source, W: Write>(
     ensures too_long { IsErrOf result halt.TooLong → IsTrue (T.too_long lines.new) }
 {
     let mut block = vec![in alloc; 0; BLOCK]?;
-    let mut lookups = CachedLookups::new(alloc, index)?;
+    let mut lookups = CachedLookups::new(alloc, index, KeepsFrom::First)?;
     let mut asked = Asked::new(alloc, op);
     loop {
         let Ok(count) = lines.pull(&mut block) else {

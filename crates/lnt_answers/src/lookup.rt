@@ -12,7 +12,7 @@ ghost use Rattle.lnt_answers.specs.Lines.{lookup_line};
 use crate::answer_line::{put_answer, put_none};
 use crate::line_ends::LineEnds;
 use lnt_io::{Halt, Status, write_whole};
-use lnt_lines::{Index, Lookups};
+use lnt_lines::{Index, KeepsFrom, Lookups};
 use lnt_spans::{Position, Probes};
 use std::alloc::{AllocError, Global};
 use std::io::Write;
@@ -43,10 +43,11 @@ impl<'i, 'a> CachedLookups<'i, 'a> {
     pub(crate) fn new(
         alloc: Global,
         index: &'i Index<'a>,
+        keeps: KeepsFrom,
     ) -> Result<CachedLookups<'i, 'a>, AllocError>
         ensures { IfOk result (λ lookups. lookups ≡ index.entry.now) }
     {
-        let lookups = Lookups::new(alloc, index)?;
+        let lookups = Lookups::new(alloc, index, keeps)?;
         let ends = LineEnds::new(alloc)?;
         Ok(CachedLookups { lookups, ends })
     }
@@ -107,7 +108,7 @@ pub fn print_lookups<W: Write>(
         → OnErr result (AppendsFront (W.contents out.old) (W.contents out.new)
         (flat_map (lookup_line index.now dead skip units) positions.now)) }
 {
-    let mut lookups = CachedLookups::new(alloc, index)?;
+    let mut lookups = CachedLookups::new(alloc, index, KeepsFrom::Second)?;
     let mut line = Vec::new(alloc);
     for position in positions {
         put_lookup(alloc, &mut lookups, *position, &mut line)?;

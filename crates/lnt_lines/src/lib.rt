@@ -29,7 +29,7 @@ pub use section::{Judged, JudgedIndex, index_section, verify};
 // What a good section answers.
 pub use index::Index;
 pub use lines::Lines;
-pub use lookups::Lookups;
+pub use lookups::{KeepsFrom, Lookups};
 pub use spans::Spans;
 
 // Positions and answers.

@@ -18,11 +18,20 @@ use std::marker::Model;
 // The number of rows that are kept in brief at most: 4 MB.
 const ROOM: usize = 1 << 18;
 
-// A place of a sequence that was looked up once.
+// The place of a sequence whose rows are kept from the next lookup on.
 const ONCE: u32 = u32::MAX;
 
-/// Lookups in an index. From the second lookup in a sequence on they keep its rows in brief, so that a later one there decodes
-/// none; beyond a limit they keep marks, so that it walks over no more than the rows between two of them.
+/// From which lookup in a sequence on its rows are kept. Only the time and the memory of lookups depend on it.
+#[derive(Clone, Copy)]
+pub enum KeepsFrom {
+    /// The first, which then decodes all rows of the sequence: for many lookups.
+    First,
+    /// The second. The first decodes the rows up to its position.
+    Second,
+}
+
+/// Lookups in an index. They keep the rows of a sequence in brief, so that a later lookup there decodes none; beyond a limit they
+/// keep marks, so that it walks over no more than the rows between two of them.
 ///
 /// Contracts see the index, but not what is kept.
 #[derive(Drop)]
@@ -44,10 +53,14 @@ impl<'i, 'a> Model for Lookups<'i, 'a> {
 
 impl<'i, 'a> Lookups<'i, 'a> {
     /// Lookups in this index. Fails only if memory runs out. It allocates four bytes for each nonempty sequence.
-    pub fn new(alloc: Global, index: &'i Index<'a>) -> Result<Lookups<'i, 'a>, AllocError>
+    pub fn new(
+        alloc: Global,
+        index: &'i Index<'a>,
+        keeps: KeepsFrom,
+    ) -> Result<Lookups<'i, 'a>, AllocError>
         ensures { IfOk result (λ lookups. lookups ≡ index.entry.now) }
     {
-        let known = Known::new(alloc, index.entry_count())?;
+        let known = Known::new(alloc, index.entry_count(), keeps)?;
         Ok(Lookups { index, known })
     }
 
@@ -92,8 +105,8 @@ struct Cached<'i> {
 #[derive(Drop)]
 struct Known<'i> {
     sequences: Vec<Cached<'i>>,
-    // For each entry of the index, one more than the index of its sequence in `sequences`; 0 if it wasn't looked up, and `ONCE`
-    // if it was and nothing is kept. Only the time of a lookup depends on it.
+    // For each entry of the index, one more than the index of its sequence in `sequences`; if nothing is kept, `ONCE` if the next
+    // lookup keeps its rows, and 0 if only the one after it does. Only the time of a lookup depends on it.
     places: Vec<u32>,
     // The number of rows that may yet be kept. Only the time and the memory of a lookup depend on it.
     room: usize,
@@ -101,12 +114,16 @@ struct Known<'i> {
 
 impl<'i> Known<'i> {
     // Nothing of this many entries.
-    fn new(alloc: Global, count: usize) -> Result<Known<'i>, AllocError>
+    fn new(alloc: Global, count: usize, keeps: KeepsFrom) -> Result<Known<'i>, AllocError>
         ensures { IfOk result (λ known. (index : Indexed) → AreKnownOf index known) }
     {
+        let place = match keeps {
+            KeepsFrom::First => ONCE,
+            KeepsFrom::Second => 0,
+        };
         Ok(Known {
             sequences: Vec::new(alloc),
-            places: vec![in alloc; 0; count]?,
+            places: vec![in alloc; place; count]?,
             room: ROOM,
         })
     }
