@@ -116,8 +116,8 @@ IsTextOf tells (Some name) None = ⊥
 IsTextOf tells (Some name) (Some text) = AreBytesOf (tells name) text
 
 -- The section in the named file was written with its older units anew, or why it can't be.
-pub record AnswersUpgrade (tells : List ℕ → FileState → Type 0) (from : Upgrading) (old new : Option (List ℕ)) (status : Status) : Type 0
-    where
+pub record AnswersUpgrade (tells : List ℕ → FileState → Type 0) (from : Upgrading) (old new : Option (List ℕ)) (status : Status)
+    : Type 0 where
   pub bytes : List ℕ
   pub of_section : AreBytesOf (tells from.section.now) bytes
   pub text : Option (List ℕ)

@@ -162,14 +162,7 @@ fn upgrade_file<O: Opener, W: Write>(
     let bytes = of_file(name, read)?;
     let text = read_named(alloc, opener, from.directories)?;
     let name = String::from_str(alloc, from.section)?;
-    let printed = print_upgrade(
-        alloc,
-        &bytes,
-        from.order,
-        from.address_size,
-        text,
-        out,
-    );
+    let printed = print_upgrade(alloc, &bytes, from.order, from.address_size, text, out);
     let status = of_file(name, printed)?;
     Ok(status)
 }
