@@ -5,7 +5,7 @@ use Rattle.std.specs.Prelude.{IsTrue, map}
 use Rattle.std.specs.List.{AllByRecursion, flat_map}
 use Rattle.std.specs.Io.KnownBytes.{Appends, Keeps}
 use Rattle.std.proofs.KnownBytes.{Appends-nil, Appends-trans}
-use Rattle.std.proofs.lemmas.List.{length-append}
+use Rattle.std.proofs.lemmas.List.{length-append, map-append}
 use Rattle.lnt_io.specs.Fronts.{AppendsFront}
 use Rattle.lnt_io.proofs.FrontLaws.{front_after, front_before, front_none, front_same, front_since}
 use Rattle.lnt_io.specs.Pulling.{Pulls}
@@ -13,6 +13,7 @@ use Rattle.lnt_header.specs.declared.op.Op.{Op}
 use Rattle.lnt_header.specs.declared.unit_parts.UnitParts.{UnitParts}
 use Rattle.lnt_machine.specs.declared.fault.RowFault.{RowFault}
 use Rattle.lnt_machine.specs.declared.fault.RowFault.TheVariants.{Malformed, Run}
+use Rattle.lnt_machine.proofs.SequenceLaws.{all-append}
 use Rattle.lnt_machine.specs.Matrix.{Runs}
 use Rattle.lnt_io.specs.declared.halt.Halt.{Halt}
 use Rattle.lnt_io.specs.declared.status.Status.{Status}
@@ -35,38 +36,9 @@ use Rattle.lnt_dump.specs.declared.dump.DumpParts.{DumpParts}
 use Rattle.lnt_dump.specs.Dumps.{BeginsWithUnits, DoesNotRun, FramedUnit, IsDumpBegun, IsDumped, IsDumpedUnit, IsDumpFault}
 use Rattle.lnt_dump.specs.Dumps.{fault_line, fault_status, unit_lines}
 use Rattle.lnt_dump.specs.Stepping.{IsFaultOf, IsUnitOf, UnitBegun, UnitEnds, UnitTold}
-use Rattle.lnt_io.proofs.PullLaws.{pulls_none}
-use Rattle.lnt_wire.proofs.FrameListLaws.{no_frames}
-use Rattle.lnt_dump.proofs.Frames.{flat_push, FramesRead, IsNextFramed, read_more}
+use Rattle.lnt_dump.proofs.Frames.{flat_push, FramesRead, IsNextFramed, read_more, read_none}
 
 -- ---- one unit
-
--- the line of bytes that are no unit
-pub broken_told : (shown : DumpParts) (frame : Frame) (unit : BufferedUnit) (fault : Fault) (old new : Option (List ℕ))
-    (printed : Result Status Halt) → (fault.reason ≢ Memory → BrokenUnit unit.order fault unit.offset unit.bytes)
-    → OnOk printed (fault.reason ≢ Memory) → IfOk printed (λ status. status ≡ No)
-    → OnOk printed (Appends old new (malformed_text fault ++ codes "\n")) → IfOk printed (UnitTold shown frame unit old new)
-broken_told shown frame unit fault old new (Ok status) broken other is_no line = record {
-  fault = Some (Malformed fault);
-  text = malformed_text fault ++ codes "\n";
-  ends = (broken other, refl);
-  printed = line;
-  status_is = is_no;
-}
-broken_told shown frame unit fault old new (Err halt) broken other is_no line = tt
-
-pub broken_begun : (shown : DumpParts) (frame : Frame) (unit : BufferedUnit) (fault : Fault) (old new : Option (List ℕ))
-    (printed : Result Status Halt) → (fault.reason ≢ Memory → BrokenUnit unit.order fault unit.offset unit.bytes)
-    → OnErr printed (Keeps old new ⊎ (fault.reason ≢ Memory)) → OnErr printed (AppendsFront old new (malformed_text fault ++ codes "\n"))
-    → OnErr printed (Keeps old new ⊎ UnitBegun shown frame unit old new)
-broken_begun shown frame unit fault old new (Ok status) broken other line = tt
-broken_begun shown frame unit fault old new (Err halt) broken (inl kept) line = inl kept
-broken_begun shown frame unit fault old new (Err halt) broken (inr other) line = inr (record {
-  fault = Some (Malformed fault);
-  text = malformed_text fault ++ codes "\n";
-  ends = (broken other, refl);
-  begun = line;
-})
 
 -- the line of any fault
 pub faulty_told : {offset : ℕ} (shown : DumpParts) (frame : Frame) (unit : BufferedUnit) (fault : RowFault) (old new : Option (List ℕ))
@@ -92,6 +64,24 @@ faulty_begun {offset} shown frame unit fault old new (Err halt) at is line = inr
   ends = (is, ap (λ (n : ℕ). fault_line n (Some fault)) at);
   begun = line;
 })
+
+-- the line of bytes that are no unit
+pub broken_told : (shown : DumpParts) (frame : Frame) (unit : BufferedUnit) (fault : Fault) (old new : Option (List ℕ))
+    (printed : Result Status Halt) → (fault.reason ≢ Memory → BrokenUnit unit.order fault unit.offset unit.bytes)
+    → OnOk printed (fault.reason ≢ Memory) → IfOk printed (λ status. status ≡ No)
+    → OnOk printed (Appends old new (malformed_text fault ++ codes "\n")) → IfOk printed (UnitTold shown frame unit old new)
+broken_told shown frame unit fault old new (Ok status) broken other is_no line =
+    faulty_told shown frame unit (Malformed fault) old new (Ok status) refl (broken other) is_no line
+broken_told shown frame unit fault old new (Err halt) broken other is_no line = tt
+
+pub broken_begun : (shown : DumpParts) (frame : Frame) (unit : BufferedUnit) (fault : Fault) (old new : Option (List ℕ))
+    (printed : Result Status Halt) → (fault.reason ≢ Memory → BrokenUnit unit.order fault unit.offset unit.bytes)
+    → OnErr printed (Keeps old new ⊎ (fault.reason ≢ Memory)) → OnErr printed (AppendsFront old new (malformed_text fault ++ codes "\n"))
+    → OnErr printed (Keeps old new ⊎ UnitBegun shown frame unit old new)
+broken_begun shown frame unit fault old new (Ok status) broken other line = tt
+broken_begun shown frame unit fault old new (Err halt) broken (inl kept) line = inl kept
+broken_begun shown frame unit fault old new (Err halt) broken (inr other) line =
+    faulty_begun shown frame unit (Malformed fault) old new (Err halt) refl (broken other) line
 
 -- the lines of a unit
 pub valid_told : {shown : DumpParts} {frame : Frame} {old new : Option (List ℕ)} (view : View)
@@ -129,16 +119,8 @@ pub record UnitsTold (order : Order) (shown : DumpParts) (start now old new : Op
 
 pub units_none : {order : Order} {shown : DumpParts} {start now old : Option (List ℕ)} {of_reader : Order} {offset : ℕ} → of_reader ≡ order
     → offset ≡ 0 → now ≡ start → UnitsTold order shown start now old old of_reader offset
-units_none {order} {shown} {start} {now} {old} {of_reader} {offset} ordered at same = record {
-  units = [];
-  read = record {
-    front = [];
-    so_far = no_frames order [] (record { place = offset; rest = []; order = of_reader }) refl at ordered;
-    pulls = subst (λ (o : Option (List ℕ)). Pulls start o []) (sym same) (pulls_none start);
-  };
-  each = tt;
-  printed = Appends-nil old;
-}
+units_none {old = old} ordered at same =
+    record { units = []; read = read_none ordered at same; each = tt; printed = Appends-nil old }
 
 -- the section begins with them
 begins : (order : Order) (shown : DumpParts) (start now : Option (List ℕ)) (units : List FramedUnit) (of_reader : Order) (offset : ℕ)
@@ -159,14 +141,6 @@ begins order shown (Some bytes) (Some rest) units of_reader offset Ends read eac
   ends,
 )
 
-map_push : {X Y : Type 0} (f : X → Y) (xs : List X) (x : X) → map f (xs ++ x ∷ []) ≡ map f xs ++ f x ∷ []
-map_push f [] x = refl
-map_push f (y ∷ xs) x = ap (λ (list : List _). f y ∷ list) (map_push f xs x)
-
-all_push : {X : Type 0} (P : X → Type 0) (xs : List X) (x : X) → AllByRecursion P xs → P x → AllByRecursion P (xs ++ x ∷ [])
-all_push P [] x all here = (here, tt)
-all_push P (y ∷ xs) x all here = (all.0, all_push P xs x all.1 here)
-
 -- one more unit
 module _ {order : Order} {start mid now : Option (List ℕ)} {of_reader next_order : Order} {offset after : ℕ} {unit : BufferedUnit}
     {frame : Frame} (units : List FramedUnit) (ordered : next_order ≡ of_reader)
@@ -176,7 +150,7 @@ module _ {order : Order} {start mid now : Option (List ℕ)} {of_reader next_ord
   read_unit : (parts : UnitParts) → FramesRead order start now (map (λ unit. unit.0) (units ++ (frame, parts) ∷ [])) next_order after
   read_unit parts =
       subst (λ (frames : List Frame). FramesRead order start now frames next_order after)
-      (sym (map_push (λ (unit : FramedUnit). unit.0) units (frame, parts)))
+      (sym (map-append (λ (unit : FramedUnit). unit.0) units ((frame, parts) ∷ [])))
       (read_more ordered read n)
 
   -- and is the unit of its frame
@@ -321,7 +295,7 @@ module _ {order : Order} {shown : DumpParts} {start mid now old then : Option (L
   dumped : {parts : UnitParts} → UnitBytesIn unit.order parts unit.bytes → (IsTrue shown.rows → Runs parts)
       → AllByRecursion (IsDumpedUnit order shown) (told.units ++ (frame, parts) ∷ [])
   dumped {parts} spelled runs =
-      all_push (IsDumpedUnit order shown) told.units (frame, parts) told.each (dumped_one told.units ordered told.read n spelled runs)
+      all-append (IsDumpedUnit order shown) told.units (frame, parts) told.each (dumped_one told.units ordered told.read n spelled runs)
 
   -- it was printed
   pub units_more : {new : Option (List ℕ)} {status : Status} → UnitTold shown frame unit then new status → (status ≡ No → ⊥)

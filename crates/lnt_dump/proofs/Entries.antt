@@ -2,7 +2,7 @@
 use Rattle.std.proofs.Common.{◌≡◌, ℕ, ◌+◌, ◌<◌, ◌≤◌, List, [], ◌∷◌, ◌++◌, length, take, drop, get_or, codes, decimal}
 use Rattle.std.proofs.Common.{Option, Some, Result, Ok, Err, OnOk, refl, sym, ap, subst, ◌∙◌, append-nil, arith}
 use Rattle.std.proofs.Common.{take_all, take-append-drop}
-use Rattle.std.proofs.KnownBytes.{Appends-nil, Appends-trans}
+use Rattle.std.proofs.KnownBytes.{Appends-trans}
 use Rattle.std.proofs.lemmas.List.{drop_more, length-append, length-take-le, take_more}
 use Rattle.std.proofs.lemmas.List.Concat.{flat_map-append}
 use Rattle.std.specs.Io.KnownBytes.{Appends}
@@ -40,10 +40,6 @@ pub record AreReadTold (format : Format) (pairs : List Pair) (count : ℕ) (old 
   pub count_is : length values ≡ count
   pub read : laws.AreReadTo format pairs count values old now
   pub told : Appends before after (flat_map component_text (zip (take count pairs) values))
-
-pub read_none : (format : Format) (pairs : List Pair) (at : At) (out : Option (List ℕ)) → AreReadTold format pairs 0 at at out out
-read_none format pairs at out =
-    record { values = []; count_is = refl; read = laws.read_none format pairs at; told = Appends-nil out }
 
 -- the components with one more
 zip_push : (pairs : List Pair) (values : List FormValue) (pair : Pair) (value : FormValue) → length pairs ≡ length values

@@ -35,17 +35,17 @@ pub record FramesTold (order : Order) (start now old new : Option (List ℕ)) (o
   pub read : FramesRead order start now frames of_reader offset
   pub printed : Appends old new (flat_map unit_line frames)
 
+pub read_none : {order : Order} {start now : Option (List ℕ)} {of_reader : Order} {offset : ℕ} → of_reader ≡ order → offset ≡ 0
+    → now ≡ start → FramesRead order start now [] of_reader offset
+read_none {order} {start} {now} {of_reader} {offset} ordered at same = record {
+  front = [];
+  so_far = no_frames order [] (record { place = offset; rest = []; order = of_reader }) refl at ordered;
+  pulls = subst (λ (o : Option (List ℕ)). Pulls start o []) (sym same) (pulls_none start);
+}
+
 pub frames_none : {order : Order} {start now old : Option (List ℕ)} {of_reader : Order} {offset : ℕ} → of_reader ≡ order → offset ≡ 0
     → now ≡ start → FramesTold order start now old old of_reader offset
-frames_none {order} {start} {now} {old} {of_reader} {offset} ordered at same = record {
-  frames = [];
-  read = record {
-    front = [];
-    so_far = no_frames order [] (record { place = offset; rest = []; order = of_reader }) refl at ordered;
-    pulls = subst (λ (o : Option (List ℕ)). Pulls start o []) (sym same) (pulls_none start);
-  };
-  printed = Appends-nil old;
-}
+frames_none {old = old} ordered at same = record { frames = []; read = read_none ordered at same; printed = Appends-nil old }
 
 -- the frames of the bytes with one frame more
 frames_push : {order : Order} {frames : List Frame} {frame : Frame} {front more : List ℕ} {of_reader : Order} {offset after : ℕ}

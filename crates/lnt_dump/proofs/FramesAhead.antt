@@ -3,7 +3,7 @@
 use Rattle.std.proofs.Common.{◌≡◌, ◌⊎◌, ℕ, zero, suc, ◌+◌, ◌^◌, ◌<◌, ◌≤◌, List, [], ◌∷◌, ◌++◌, length, take, drop, Option, Some, None}
 use Rattle.std.proofs.Common.{refl, sym, ap, subst, ◌∙◌, append_assoc, take-append-drop, arith, inl, inr}
 use Rattle.std.proofs.lemmas.Bool.{cases_eq, cases_lt}
-use Rattle.std.proofs.lemmas.List.{length-append, length-take-le}
+use Rattle.std.proofs.lemmas.List.{length-append, length-take-le, nil_from_length}
 use Rattle.std.proofs.lemmas.List.Elements.{All-head, All-tail, All-take}
 use Rattle.std.specs.Borrow.{Bor}
 use Rattle.lnt_wire.specs.At.{At}
@@ -317,14 +317,10 @@ one_ahead at f later =
           (subst (λ (p : ℕ). Ends f.next.order p) place later.ends);
     }
 
-no_bytes : (bytes : List ℕ) → length bytes ≤ 0 → bytes ≡ []
-no_bytes [] le = refl
-no_bytes (b ∷ bytes) le = absurd (omega arith)
-
 frames_within : (most : ℕ) (at : At) → length at.rest ≤ most → AreBytes at.rest → FramesAhead at
-frames_within zero at le are = none_ahead at (no_bytes at.rest le)
+frames_within zero at le are = none_ahead at (nil_from_length at.rest (omega arith))
 frames_within (suc most) at le are = elim (cases_lt 0 (length at.rest)) [
-  | inr none ↦ none_ahead at (no_bytes at.rest none)
+  | inr none ↦ none_ahead at (nil_from_length at.rest (omega arith))
   | inl some ↦ elim (frame_ahead at are) [
     | inr n ↦ fault_ahead at some n
     | inl f ↦

@@ -1,12 +1,10 @@
 -- The program of a valid unit, run operation by operation, and the lines of its rows.
-use Rattle.std.proofs.Common.{◌≡◌, ◌∙◌, ℕ, zero, suc, ◌+◌, ◌^◌, ◌<◌, ◌≤◌, Bool, true, false, List, [], ◌∷◌, ◌++◌}
-use Rattle.std.proofs.Common.{length, take, drop, get_or, refl}
+use Rattle.std.proofs.Common.{◌≡◌, ◌∙◌, ℕ, ◌+◌, ◌^◌, ◌<◌, true, false, List, [], ◌∷◌, ◌++◌, length, take, drop, refl}
 use Rattle.std.proofs.Common.{sym, ap, subst, arith, append-nil, take_all, take-append-drop}
-use Rattle.std.specs.Prelude.{Option, Some, None, not}
+use Rattle.std.specs.Prelude.{Option, Some}
 use Rattle.lnt_wire.specs.declared.fault.Fault.{Fault}
-use Rattle.std.proofs.lemmas.Bool.{true≢false}
 use Rattle.std.specs.List.{cons_option}
-use Rattle.std.proofs.lemmas.List.{length-append, length-take-le, take_more}
+use Rattle.std.proofs.lemmas.List.{length-append, length-take-le}
 use Rattle.lnt_io.specs.Fronts.{AppendsFront}
 use Rattle.lnt_header.specs.HeaderNumbers.{without_entries}
 use Rattle.lnt_header.specs.HeaderRules.{IsHeader}
@@ -24,16 +22,15 @@ use Rattle.lnt_unit.specs.Views.{by_numbers, IsUnitView, View, with_ops}
 use Rattle.lnt_machine.specs.declared.fault.RunFault.{RunFault}
 use Rattle.lnt_machine.specs.declared.fault.RunFault.TheVariants.{LineOutOfRange, OpenSequence}
 use Rattle.lnt_machine.specs.declared.row.Row.{Row}
-use Rattle.lnt_machine.specs.declared.row.Sequence.{Sequence}
-use Rattle.lnt_machine.specs.Cuts.{are_some, IsCut}
-use Rattle.lnt_machine.specs.Matrix.{done, IsRunFault, joined_rows, LinesFit, row_made, rows, rows_after, Runs, sequences}
-use Rattle.lnt_machine.specs.Registers.{IsLine, line}
-use Rattle.lnt_machine.specs.Running.{HasDone, open_with, RunsOn, RunState}
-use Rattle.lnt_machine.specs.State.{StandsAfter}
+use Rattle.lnt_machine.specs.Matrix.{IsRunFault, row_made, rows, rows_after, Runs}
+use Rattle.lnt_machine.specs.Registers.{line}
+use Rattle.lnt_machine.specs.Running.{HasDone, RunsOn, RunState}
 use Rattle.lnt_machine.specs.Steps.{LeavesRange}
 use Rattle.lnt_machine.proofs.NumberLaws.{same_by_numbers}
-use Rattle.lnt_machine.proofs.RowLaws.{cons_option-append, done-more, few_rows, lines_more, rows_after-append}
-use Rattle.lnt_machine.proofs.SequenceLaws.{cut_closed, cut_end, cut_more, cut_none, cut_open, some_after}
+use Rattle.lnt_machine.proofs.RanLaws.{may_step, no_row, out_taken, ran_all, ran_first, ran_open, ran_taken, ran_whole, rows_taken}
+use Rattle.lnt_machine.proofs.RowLaws.{cons_option-append, few_rows}
+use Rattle.lnt_machine.specs.Parts.{rows_of_ops}
+use Rattle.lnt_machine.specs.Stepping.{HasRan}
 use Rattle.lnt_dump.specs.Numbered.{numbered}
 use Rattle.lnt_dump.specs.Rows.{row_line}
 use Rattle.lnt_machine.specs.declared.fault.RowFault.TheVariants.{Run}
@@ -43,152 +40,16 @@ use Rattle.lnt_dump.proofs.UnitWalks.{IsNextAt, StandsAt, stands_last, stands_fi
 
 -- ---- the run
 
--- The first k operations were run, with no line out of range. The rows are cut into sequences, and those after the last end row.
-pub record RanTo (unit : UnitParts) (k : ℕ) (run : RunState) : Type 0 where
-  pub header : run.machine.header ≡ unit.header
-  pub stands : StandsAfter run.machine (done unit.ops k)
-  pub count : run.machine.count ≡ k
-  pub lines : LinesFit unit k
-  pub ended : List Sequence
-  pub left : List Row
-  pub cut : IsCut (rows_after unit.header [] (take k unit.ops)) ended left
-  pub open_is : run.is_open ≡ are_some left
-
-no_lines : (unit : UnitParts) → IsLine (line unit.header []) → LinesFit unit 0
-no_lines unit fits zero le = fits
-no_lines unit fits (suc j) le = absurd (omega (arith, le))
-
-ran_first : (unit : UnitParts) (run : RunState) → run.machine.header ≡ unit.header → HasDone run [] → run.machine.count ≡ 0
-    → RanTo unit 0 run
-ran_first unit run header has count = record {
-  header = header;
-  stands = has.machine;
-  count = count;
-  lines = no_lines unit (subst (λ (h : HeaderParts). IsLine (line h [])) header has.machine.line);
-  ended = [];
-  left = [];
-  cut = cut_none;
-  open_is = has.open_is;
-}
-
--- the cut with the row of an operation, if it makes one
-record CutNext (all : List Row) (was_open : Bool) (made : Option Row) : Type 0 where
-  ended : List Sequence
-  left : List Row
-  cut : IsCut (all ++ cons_option made []) ended left
-  open_is : open_with was_open made ≡ are_some left
-
-cut_next : (all left : List Row) (ended : List Sequence) (was_open : Bool) (made : Option Row) → IsCut all ended left
-    → was_open ≡ are_some left → CutNext all was_open made
-cut_next all left ended was_open None cut is = record {
-  ended = ended;
-  left = left;
-  cut = subst (λ (rows : List Row). IsCut rows ended left) (sym (append-nil all)) cut;
-  open_is = is;
-}
-cut_next all left ended was_open (Some row) cut is = by_end row.end_sequence refl
-  where
-    by_end : (ends : Bool) → row.end_sequence ≡ ends → CutNext all was_open (Some row)
-    by_end true e = record {
-      ended = ended ++ record { rows = left ++ row ∷ [] } ∷ [];
-      left = [];
-      cut = cut_end all left ended row cut e;
-      open_is = ap not e;
-    }
-    by_end false e = record {
-      ended = ended;
-      left = left ++ row ∷ [];
-      cut = cut_more all left ended row cut e;
-      open_is = ap not e ∙ sym (some_after left row);
-    }
-
--- the rows of one operation more
-rows_taken : {unit : UnitParts} {k : ℕ} {run run' : RunState} {item : OpView} {made : Option Row} {op : Op} → RanTo unit k run
-    → k < length unit.ops → op ≡ get_or unit.ops k op → StandsFor item op → RunsOn item run run' made
-    → rows_after unit.header [] (take k unit.ops) ++ cons_option made [] ≡ rows_after unit.header [] (take (k + 1) unit.ops)
-rows_taken {unit} {k} {run} {run'} {item} {made} {op} r more is stands on =
-    let h = unit.header in
-    let back = done unit.ops k in
-    let so_far = rows_after h [] (take k unit.ops) in
-    let row_is : made ≡ row_made h back op =
-    on.machine.row_is back op r.stands stands ∙ ap (λ (g : HeaderParts). row_made g back op) r.header in
-    ap (λ (m : Option Row). so_far ++ cons_option m []) row_is
-    ∙ ap (λ (b : List Op). so_far ++ cons_option (row_made h b op) []) (sym (append-nil back))
-    ∙ sym (rows_after-append h [] (take k unit.ops) op)
-    ∙ ap (λ (o : Op). rows_after h [] (take k unit.ops ++ o ∷ [])) is
-    ∙ ap (rows_after h []) (sym (take_more unit.ops k op more))
-
-ran_next : {unit : UnitParts} {k : ℕ} {run run' : RunState} {item : OpView} {made : Option Row} {op : Op} → RanTo unit k run
-    → k < length unit.ops → k + 1 < 2 ^ 64 → op ≡ get_or unit.ops k op → StandsFor item op → RunsOn item run run' made
-    → RanTo unit (k + 1) run'
-ran_next {unit} {k} {run} {run'} {item} {made} {op} r more few is stands on =
-    let back = done unit.ops k in
-    let next : done unit.ops (k + 1) ≡ op ∷ back = done-more unit.ops k op more ∙ ap (λ (o : Op). o ∷ back) (sym is) in
-    let after : StandsAfter run'.machine (done unit.ops (k + 1)) =
-    subst (StandsAfter run'.machine) (sym next) (on.machine.stands back op r.stands stands) in
-    let header : run'.machine.header ≡ unit.header = on.machine.header ∙ r.header in
-    let cut = cut_next (rows_after unit.header [] (take k unit.ops)) r.left r.ended run.is_open made r.cut r.open_is in
-    record {
-      header = header;
-      stands = after;
-      count = omega (arith, on.machine.count, r.count, few);
-      lines = lines_more unit k r.lines (subst (λ (h : HeaderParts). IsLine (line h (done unit.ops (k + 1)))) header after.line);
-      ended = cut.ended;
-      left = cut.left;
-      cut = subst (λ (rows : List Row). IsCut rows cut.ended cut.left) (rows_taken r more is stands on)
-          cut.cut;
-      open_is = on.open_is ∙ cut.open_is;
-    }
-
--- an operation that leads out of the range of lines
-ran_out : {unit : UnitParts} {k : ℕ} {run : RunState} (item : OpView) {op : Op} {fault : RunFault} → RanTo unit k run
-    → k < length unit.ops → op ≡ get_or unit.ops k op → StandsFor item op → LeavesRange item run.machine
-    → fault ≡ LineOutOfRange run.machine.count → IsRunFault unit fault
-ran_out {unit} {k} {run} item {op} {fault} r more is stands leaves fault_is =
-    let back = done unit.ops k in
-    let next : done unit.ops (k + 1) ≡ op ∷ back = done-more unit.ops k op more ∙ ap (λ (o : Op). o ∷ back) (sym is) in
-    let out : IsLine (line unit.header (done unit.ops (k + 1))) → ⊥ =
-    λ fits. leaves back op r.stands stands (subst (λ (h : HeaderParts). IsLine (line h (op ∷ back))) (sym r.header)
-    (subst (λ (b : List Op). IsLine (line unit.header b)) next fits)) in
-    subst (IsRunFault unit) (sym (fault_is ∙ ap LineOutOfRange r.count)) (more, r.lines, out)
-
--- all operations were run
-lines_all : {unit : UnitParts} {k : ℕ} {run : RunState} → RanTo unit k run → length unit.ops ≤ k → LinesFit unit (length unit.ops)
-lines_all {unit} {k} {run} r all j le = r.lines j (omega (arith, all, le))
-
-cut_all : {unit : UnitParts} {k : ℕ} {run : RunState} → (r : RanTo unit k run) → length unit.ops ≤ k → IsCut (rows unit) r.ended r.left
-cut_all {unit} {k} {run} r all =
-    subst (λ (ops : List Op). IsCut (rows_after unit.header [] ops) r.ended r.left) (take_all k unit.ops all) r.cut
-
-ran_whole : {unit : UnitParts} {k : ℕ} {run : RunState} → RanTo unit k run → length unit.ops ≤ k → run.is_open ≡ false → Runs unit
-ran_whole {unit} {k} {run} r all closed = record {
-  lines = lines_all r all;
-  closed = by_left r.left r.open_is (cut_all r all);
-}
-  where
-    by_left : (left : List Row) → run.is_open ≡ are_some left → IsCut (rows unit) r.ended left → joined_rows (sequences unit) ≡ rows unit
-    by_left [] e cut = cut_closed (rows unit) r.ended cut
-    by_left (row ∷ left) e cut = absurd (true≢false (sym e ∙ closed))
-
-ran_open : {unit : UnitParts} {k : ℕ} {run : RunState} → RanTo unit k run → length unit.ops ≤ k → run.is_open ≡ true
-    → IsRunFault unit OpenSequence
-ran_open {unit} {k} {run} r all opens = (lines_all r all, by_left r.left r.open_is (cut_all r all))
-  where
-    by_left : (left : List Row) → run.is_open ≡ are_some left → IsCut (rows unit) r.ended left
-        → joined_rows (sequences unit) ≡ rows unit → ⊥
-    by_left [] e cut = absurd (true≢false (sym opens ∙ e))
-    by_left (row ∷ left) e cut = cut_open (rows unit) left r.ended row cut
-
 -- The program of a unit with these operations was run as far as the walk goes.
 pub record IsRunning (view : View) (ops : List Op) (walk : Walk) (run : RunState) : Type 0 where
   pub k : ℕ
   pub at : StandsAt view ops k walk
-  pub ran : RanTo (unit_of view ops) k run
+  pub ran : HasRan (without_entries view.header) (take k ops) run
 
 pub running_first : {view : View} {ops : List Op} {walk : Walk} {run : RunState} → StandsAt view ops 0 walk
     → run.machine.header ≡ without_entries view.header → HasDone run [] → run.machine.count ≡ 0 → IsRunning view ops walk run
 running_first {view} {ops} {walk} {run} s header has count =
-    record { k = 0; at = s; ran = ran_first (unit_of view ops) run header has count }
+    record { k = 0; at = s; ran = ran_first header has count }
 
 -- where the program runs, no operation leads out of the range
 no_fault : (unit : UnitParts) (fault : RunFault) (k : ℕ) → fault ≡ LineOutOfRange k → Runs unit → IsRunFault unit fault → ⊥
@@ -198,29 +59,31 @@ no_fault unit fault k is runs out =
 
 -- the rows of the first k operations
 abbrev so_far : View → List Op → ℕ → List Row
-so_far view ops k = rows_after (without_entries view.header) [] (take k ops)
+so_far view ops k = rows_of_ops (without_entries view.header) (take k ops)
 
 -- the next operation
 module _ {view : View} {ops : List Op} {walk walk' : Walk} {run : RunState} {item : OpView} (header : IsHeader view.header)
     (r : IsRunning view ops walk run) (step : GivesOperation item walk walk') where
   -- what may be run
   pub running_allowed : (op : Op) × StandsFor item op × Admits run.machine.header op
-  running_allowed =
-      let admits = subst (λ (h : HeaderParts). Admits h step.gives.op) (r.at.left.header_is ∙ sym r.ran.header) step.gives.admitted in
-      (step.gives.op, step.gives.stands, admits)
+  running_allowed = may_step item run.machine walk walk' (r.ran.header_is ∙ sym r.at.left.header_is) step
 
   next : IsNextAt view ops r.k item walk'
   next = stands_next header r.at step
 
   pub running_next : {run' : RunState} {made : Option Row} → IsUnitView view → RunsOn item run run' made → IsRunning view ops walk' run'
-  running_next is on =
-      record { k = r.k + 1; at = next.at; ran = ran_next r.ran next.more (stands_room is r.at step) next.is next.stands on }
+  running_next is on = record {
+    k = r.k + 1;
+    at = next.at;
+    ran = ran_taken (unit_of view ops) r.k item next.op r.ran next.more next.is next.stands on (stands_room is r.at step);
+  }
 
   -- it leads out of the range of lines
   pub running_out : {fault : RunFault} → LeavesRange item run.machine → fault ≡ LineOutOfRange run.machine.count
       → IsRunFault (with_ops view ops) fault
   running_out {fault} leaves out =
-      (same_by_numbers.faults (with_ops view ops) fault).0 (ran_out item r.ran next.more next.is next.stands leaves out)
+      (same_by_numbers.faults (with_ops view ops) fault).0 (subst (IsRunFault (unit_of view ops)) (sym out)
+      (out_taken (unit_of view ops) r.k item next.op r.ran next.more next.is next.stands leaves))
 
   pub running_in : {fault : RunFault} → Runs (with_ops view ops) → LeavesRange item run.machine → fault ≡ LineOutOfRange run.machine.count
       → ⊥
@@ -228,18 +91,18 @@ module _ {view : View} {ops : List Op} {walk walk' : Walk} {run : RunState} {ite
 
   rows_next : {run' : RunState} {made : Option Row} → RunsOn item run run' made
       → so_far view ops (r.k + 1) ≡ so_far view ops r.k ++ cons_option made []
-  rows_next on = sym (rows_taken r.ran next.more next.is next.stands on)
+  rows_next on = sym (rows_taken (unit_of view ops) r.k item next.op r.ran next.more next.is next.stands on)
 
 pub running_whole : {view : View} {ops : List Op} {walk walk' : Walk} {run : RunState} → IsRunning view ops walk run → Ends walk walk'
     → run.is_open ≡ false → Runs (with_ops view ops)
 running_whole {view} {ops} {walk} {walk'} {run} r ends closed =
-    (same_by_numbers.runs (with_ops view ops)).0 (ran_whole r.ran (stands_last r.at ends) closed)
+    (same_by_numbers.runs (with_ops view ops)).0 (ran_whole (ran_all (unit_of view ops) r.k r.ran (stands_last r.at ends)) closed)
 
 pub running_open : {view : View} {ops : List Op} {walk walk' : Walk} {run : RunState} {fault : RunFault} → IsRunning view ops walk run
     → Ends walk walk' → run.is_open ≡ true → fault ≡ OpenSequence → IsRunFault (with_ops view ops) fault
 running_open {view} {ops} {walk} {walk'} {run} {fault} r ends opens is =
     subst (IsRunFault (with_ops view ops)) (sym is) ((same_by_numbers.faults (with_ops view ops) OpenSequence).0
-    (ran_open r.ran (stands_last r.at ends) opens))
+    (ran_open (ran_all (unit_of view ops) r.k r.ran (stands_last r.at ends)) opens))
 
 -- ---- the lines of rows
 
@@ -260,10 +123,6 @@ rows_none {view} {ops} {walk} {run} page out s header has count = record {
   told = paged_none page out;
 }
 
-no_row : (made : Option Row) → ((row : Row) → made ≡ Some row → ⊥) → cons_option made [] ≡ []
-no_row None none = refl
-no_row (Some row) none = absurd (none row refl)
-
 -- the rows of the first operations begin those of all
 rows_front : (h : HeaderParts) (back xs ys : List Op) → (more : List Row) × (rows_after h back (xs ++ ys) ≡ rows_after h back xs ++ more)
 rows_front h back [] ys = (rows_after h back ys, refl)
@@ -282,7 +141,7 @@ module _ {view : View} {ops : List Op} {index : ℕ} {walk walk' : Walk} {run ru
   rows_quiet none =
       let list = so_far view ops t.running.k in
       let same : so_far view ops (t.running.k + 1) ≡ list =
-      rows_next header t.running step on ∙ ap (λ (z : List Row). list ++ z) (no_row made none) ∙ append-nil list in
+      rows_next header t.running step on ∙ ap (λ (z : List Row). list ++ z) (no_row made [] none) ∙ append-nil list in
       record {
         running = running_next header t.running step is on;
         index_is = t.index_is ∙ ap length (sym same);
@@ -359,14 +218,6 @@ judging_first {view} {walk} {run} is header going place rest order same has coun
   header = same ∙ sym header;
   running = λ all p. running_first (stands_first view all walk is p header rest going) same has count;
 }
-
-pub judging_allowed : {view : View} {walk walk' : Walk} {run : RunState} {item : OpView} → IsJudging view walk run
-    → GivesOperation item walk walk' → (op : Op) × StandsFor item op × Admits run.machine.header op
-judging_allowed {view} {walk} {walk'} {run} {item} j step = (
-  step.gives.op,
-  step.gives.stands,
-  subst (λ (h : HeaderParts). Admits h step.gives.op) (sym j.header) step.gives.admitted,
-)
 
 pub judging_next : {view : View} {walk walk' : Walk} {run run' : RunState} {item : OpView} {made : Option Row} → IsHeader view.header
     → IsUnitView view → IsJudging view walk run → GivesOperation item walk walk' → RunsOn item run run' made → IsJudging view walk' run'

@@ -10,7 +10,7 @@ use Rattle.lnt_wire.specs.declared.format.Format.{Format}
 use Rattle.lnt_wire.specs.declared.format.Order.{Order}
 use Rattle.lnt_unit.specs.ConvertFaults.{IsConvertFault}
 use Rattle.lnt_unit.specs.declared.convert.ConvertFault.{ConvertFault}
-use Rattle.lnt_unit.specs.declared.convert.ConvertFault.TheVariants.{Malformed, Memory, TooLarge}
+use Rattle.lnt_unit.specs.declared.convert.ConvertFault.TheVariants.{Memory}
 use Rattle.lnt_dump.specs.Printed.{IsConversionBegun, refusal_text}
 
 none_front : (front rest : List ℕ) → front ++ rest ≡ [] → front ≡ []
@@ -28,13 +28,10 @@ kept_front (Some xs) (Some ys) f =
 line_begun : (order : Order) (section : List ℕ) (format : Format) (to : Order) (fault : ConvertFault) (old new : Option (List ℕ))
     → IsConvertFault order section format to fault → AppendsFront old new (refusal_text fault)
     → IsConversionBegun order section format to old new
-line_begun order section format to (Malformed told) old new is front =
-    let text = refusal_text (Malformed told) in
-    inr (record { whole = text; ending = No; is_end = (Malformed told, λ e. absurd (cc e), is, appends_known old text); front = front })
-line_begun order section format to (TooLarge offset) old new is front =
-    let text = refusal_text (TooLarge offset) in
-    inr (record { whole = text; ending = No; is_end = (TooLarge offset, λ e. absurd (cc e), is, appends_known old text); front = front })
 line_begun order section format to Memory old new is front = inl (kept_front old new front)
+line_begun order section format to fault old new is front =
+    let text = refusal_text fault in
+    inr (record { whole = text; ending = No; is_end = (fault, λ e. absurd (cc e), is, appends_known old text); front = front })
 
 pub refusal_begun : (order : Order) (section : List ℕ) (format : Format) (to : Order) (fault : ConvertFault) (old new : Option (List ℕ))
     (printed : Result Status Halt) → IsConvertFault order section format to fault

@@ -1,7 +1,7 @@
 -- Walks over the operations of a valid unit: the lines of its operations, its rows, and whether its program runs.
 use Rattle.std.proofs.Common.{◌≡◌, ◌∙◌, ℕ, ◌+◌, ◌^◌, ◌<◌, ◌≤◌, List, [], ◌∷◌, ◌++◌, length, take, drop, get_or, refl, sym, ap, subst}
 use Rattle.std.proofs.Common.{arith, false, take_all}
-use Rattle.std.specs.Prelude.{Option, Some, Result, Ok, Err}
+use Rattle.std.specs.Prelude.{Option}
 use Rattle.std.proofs.lemmas.List.{drop_more, length-drop}
 use Rattle.lnt_io.specs.Fronts.{AppendsFront}
 use Rattle.lnt_header.specs.HeaderNumbers.{without_entries}
@@ -17,7 +17,7 @@ use Rattle.lnt_ops.proofs.LeftLaws.{left_ends, left_fails, left_next}
 use Rattle.lnt_ops.proofs.NumberLaws.{numbers_of_ops}
 use Rattle.lnt_ops.specs.Left.{OperationsAreLeft}
 use Rattle.lnt_ops.specs.OpBytes.{OpBytes}
-use Rattle.lnt_ops.specs.Walks.{Ends, Fails, GivesOperation, Walk, WalkStep}
+use Rattle.lnt_ops.specs.Walks.{Ends, Fails, GivesOperation, Walk}
 use Rattle.lnt_unit.proofs.UnitLaws.{header_of}
 use Rattle.lnt_unit.specs.Views.{IsUnitView, View, with_ops}
 use Rattle.lnt_wire.specs.declared.fault.Fault.{Fault}
@@ -57,15 +57,6 @@ stands_first view ops walk is p header rest going = record {
   };
   few = omega (arith, ap length rest);
 }
-
--- what a step of the walk gave
-pub gives_op : {item : OpView} {given : Result OpView Fault} {old new : Walk} → given ≡ Ok item → WalkStep old (Some given) new
-    → GivesOperation item old new
-gives_op {old = old} {new = new} is step = subst (λ (r : Result OpView Fault). WalkStep old (Some r) new) is step
-
-pub fails_op : {fault : Fault} {given : Result OpView Fault} {old new : Walk} → given ≡ Err fault → WalkStep old (Some given) new
-    → Fails fault old new
-fails_op {old = old} {new = new} is step = subst (λ (r : Result OpView Fault). WalkStep old (Some r) new) is step
 
 -- the next operation
 pub record IsNextAt (view : View) (ops : List Op) (k : ℕ) (item : OpView) (new : Walk) : Type 0 where

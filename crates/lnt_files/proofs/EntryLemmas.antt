@@ -30,48 +30,28 @@ use Rattle.lnt_files.specs.Stepping.{ReadsEntry, IsComponent, AreComponents}
 abbrev pair_of : ℕ → Form → Pair
 pair_of content form = record { content = content; form = form }
 
-abbrev path_format : List Pair
-path_format = pair_of content_path LineStrp ∷ []
-
-abbrev indexed_format : List Pair
-indexed_format = pair_of content_path LineStrp ∷ pair_of content_directory_index Udata ∷ []
-
-abbrev summed_format : List Pair
-summed_format = pair_of content_path LineStrp ∷ pair_of content_directory_index Udata ∷ pair_of content_md5 Data16 ∷ []
-
 -- the pairs of these content types and forms
-pairs_of : List ℕ → List Form → List Pair
+abbrev pairs_of : List ℕ → List Form → List Pair
 pairs_of [] forms = []
 pairs_of (content ∷ contents) [] = []
 pairs_of (content ∷ contents) (form ∷ forms) = pair_of content form ∷ pairs_of contents forms
 
 their_pairs : (pairs : List Pair) → pairs_of (contents_of pairs) (forms_of pairs) ≡ pairs
-unfolding pairs_of
 their_pairs [] = refl
 their_pairs (pair ∷ pairs) = ap (λ (ps : List Pair). pair ∷ ps) (their_pairs pairs)
 
-is_path : (pairs : List Pair) → IsUsual Path pairs → path_format ≡ pairs
-unfolding pairs_of
-is_path pairs e =
-    let both : pairs_of (contents_of pairs) (forms_of pairs) ≡ pairs_of (content_path ∷ []) (LineStrp ∷ []) =
-    ap (λ (cs : List ℕ). pairs_of cs (forms_of pairs)) e.0 ∙ ap (pairs_of (content_path ∷ [])) e.1 in
-    sym both ∙ their_pairs pairs
+are_pairs : (pairs : List Pair) (contents : List ℕ) (forms : List Form) → contents_of pairs ≡ contents → forms_of pairs ≡ forms
+    → pairs_of contents forms ≡ pairs
+are_pairs pairs contents forms e f =
+    sym (ap (λ (cs : List ℕ). pairs_of cs (forms_of pairs)) e ∙ ap (pairs_of contents) f) ∙ their_pairs pairs
 
-is_indexed : (pairs : List Pair) → IsUsual IndexedPath pairs → indexed_format ≡ pairs
-unfolding pairs_of
-is_indexed pairs e =
-    let contents = content_path ∷ content_directory_index ∷ [] in
-    let both : pairs_of (contents_of pairs) (forms_of pairs) ≡ pairs_of contents (LineStrp ∷ Udata ∷ []) =
-    ap (λ (cs : List ℕ). pairs_of cs (forms_of pairs)) e.0 ∙ ap (pairs_of contents) e.1 in
-    sym both ∙ their_pairs pairs
+abbrev directory_pair : Pair
+directory_pair = pair_of content_directory_index Udata
 
-is_summed : (pairs : List Pair) → IsUsual SummedPath pairs → summed_format ≡ pairs
-unfolding pairs_of
-is_summed pairs e =
-    let contents = content_path ∷ content_directory_index ∷ content_md5 ∷ [] in
-    let both : pairs_of (contents_of pairs) (forms_of pairs) ≡ pairs_of contents (LineStrp ∷ Udata ∷ Data16 ∷ []) =
-    ap (λ (cs : List ℕ). pairs_of cs (forms_of pairs)) e.0 ∙ ap (pairs_of contents) e.1 in
-    sym both ∙ their_pairs pairs
+abbrev sum_pair : Pair
+sum_pair = pair_of content_md5 Data16
+
+-- ---- their values
 
 -- an entry of these values
 says_read : (format : Format) (pairs : List Pair) (count : ℕ) (values : List FormValue) (view : EntryView) (old new : At)
@@ -80,130 +60,90 @@ says_read : (format : Format) (pairs : List Pair) (count : ℕ) (values : List F
 says_read format pairs count values view old new le r says =
     record { entry = entry_of values; says = says; read = entry_read format pairs count values old new le r }
 
-first_to : (format : Format) (content : ℕ) (form : Form) (more : List Pair) (u : FormValue) (old new : At)
-    → Reads (ValueBytes format old.order form) u old new → AreReadTo format (pair_of content form ∷ more) 1 (u ∷ []) old new
-first_to format content form more u old new r =
-    let pairs = pair_of content form ∷ more in
-    read_more format pairs 0 (pair_of content form) [] u old old new (omega arith) (read_none format pairs old) r
-
--- ---- paths
-
-path_said : (format : Format) (u : ValueView) (view : EntryView) (old new : At)
-    → view ≡ record { path = Some u; directory = None; sum = None } → Reads (ValueBytes format old.order LineStrp) (value_of u) old new
-    → ReadsEntry format path_format view old new
-path_said format u view old new view_is r =
-    subst (λ (v : EntryView). ReadsEntry format path_format v old new) (sym view_is)
-    (says_read format path_format 1 (value_of u ∷ []) (record { path = Some u; directory = None; sum = None }) old new (lit≤ tt)
-    (first_to format content_path LineStrp [] (value_of u) old new r) (record { path = refl; directory = refl; sum = refl }))
-
-pub path_read : (format : Format) (pairs : List Pair) (u : ValueView) (view : EntryView) (old new : At) → IsUsual Path pairs
-    → view ≡ record { path = Some u; directory = None; sum = None }
-    → Reads (ValueBytes format old.order LineStrp) (value_of u) old new → ReadsEntry format pairs view old new
-path_read format pairs u view old new e view_is r =
-    subst (λ (ps : List Pair). ReadsEntry format ps view old new) (is_path pairs e) (path_said format u view old new view_is r)
-
-none_first : (format : Format) (content : ℕ) (form : Form) (more : List Pair) (old : At)
-    → NoneSpelled (ValueBytes format old.order form) old.rest
-    → NoneSpelled (EntryBytes format old.order (pair_of content form ∷ more)) old.rest
-none_first format content form more old none =
-    let pairs = pair_of content form ∷ more in
-    no_entry format pairs 0 (pair_of content form) [] old old (omega arith) (read_none format pairs old) none
-
-pub no_path : (format : Format) (pairs : List Pair) (old : At) → IsUsual Path pairs
-    → NoneSpelled (ValueBytes format old.order LineStrp) old.rest → NoneSpelled (EntryBytes format old.order pairs) old.rest
-no_path format pairs old e none = subst (λ (ps : List Pair). NoneSpelled (EntryBytes format old.order ps) old.rest) (is_path pairs e)
-    (none_first format content_path LineStrp [] old none)
-
--- ---- paths with the numbers of their directories
+first_to : (format : Format) (more : List Pair) (u : FormValue) (old new : At) → Reads (ValueBytes format old.order LineStrp) u old new
+    → AreReadTo format (pair_of content_path LineStrp ∷ more) 1 (u ∷ []) old new
+first_to format more u old new r =
+    let pairs = pair_of content_path LineStrp ∷ more in
+    read_more format pairs 0 (pair_of content_path LineStrp) [] u old old new (omega arith) (read_none format pairs old) r
 
 second_to : (format : Format) (more : List Pair) (u v : FormValue) (old middle new : At)
     → Reads (ValueBytes format old.order LineStrp) u old middle → Reads (ValueBytes format middle.order Udata) v middle new
-    → AreReadTo format (pair_of content_path LineStrp ∷ pair_of content_directory_index Udata ∷ more) 2 (u ∷ v ∷ []) old new
+    → AreReadTo format (pair_of content_path LineStrp ∷ directory_pair ∷ more) 2 (u ∷ v ∷ []) old new
 second_to format more u v old middle new r s =
-    let past = pair_of content_directory_index Udata ∷ more in
-    read_more format (pair_of content_path LineStrp ∷ past) 1 (pair_of content_path LineStrp) (u ∷ []) v old middle new (omega arith)
-    (first_to format content_path LineStrp past u old middle r) s
+    let pairs = pair_of content_path LineStrp ∷ directory_pair ∷ more in
+    read_more format pairs 1 (pair_of content_path LineStrp) (u ∷ []) v old middle new (omega arith)
+    (first_to format (directory_pair ∷ more) u old middle r) s
 
-indexed_said : (format : Format) (u v : ValueView) (old middle new : At)
-    → Reads (ValueBytes format old.order LineStrp) (value_of u) old middle
-    → Reads (ValueBytes format middle.order Udata) (value_of v) middle new
-    → ReadsEntry format indexed_format (record { path = Some u; directory = Some v; sum = None }) old new
-indexed_said format u v old middle new r s =
-    says_read format indexed_format 2 (value_of u ∷ value_of v ∷ []) (record { path = Some u; directory = Some v; sum = None }) old new
-    (lit≤ tt)
-    (second_to format [] (value_of u) (value_of v) old middle new r s) (record { path = refl; directory = refl; sum = refl })
+-- an entry of a usual format
+module _ (format : Format) (pairs : List Pair) where
+  -- the pairs of the format are those of the table
+  usual_read : (theirs : List Pair) (count : ℕ) (values : List FormValue) (view said : EntryView) (old new : At) → theirs ≡ pairs
+      → view ≡ said → length theirs ≤ count → AreReadTo format theirs count values old new → Says theirs (entry_of values) said
+      → ReadsEntry format pairs view old new
+  usual_read theirs count values view said old new same view_is le r says =
+      subst (λ (ps : List Pair). ReadsEntry format ps view old new) same
+      (subst (λ (v : EntryView). ReadsEntry format theirs v old new) (sym view_is)
+      (says_read format theirs count values said old new le r says))
 
-pub indexed_path_read : (format : Format) (pairs : List Pair) (u v : ValueView) (view : EntryView) (old middle new : At)
-    → IsUsual IndexedPath pairs → view ≡ record { path = Some u; directory = Some v; sum = None }
-    → Reads (ValueBytes format old.order LineStrp) (value_of u) old middle
-    → Reads (ValueBytes format middle.order Udata) (value_of v) middle new → ReadsEntry format pairs view old new
-indexed_path_read format pairs u v view old middle new e view_is r s =
-    subst (λ (ps : List Pair). ReadsEntry format ps view old new) (is_indexed pairs e)
-    (subst (λ (w : EntryView). ReadsEntry format indexed_format w old new) (sym view_is) (indexed_said format u v old middle new r s))
+  pub path_read : (u : ValueView) (view : EntryView) (old new : At) → IsUsual Path pairs
+      → view ≡ record { path = Some u; directory = None; sum = None } → Reads (ValueBytes format old.order LineStrp) (value_of u) old new
+      → ReadsEntry format pairs view old new
+  path_read u view old new e view_is r =
+      usual_read (pair_of content_path LineStrp ∷ []) 1 (value_of u ∷ []) view (record { path = Some u; directory = None; sum = None }) old
+      new (are_pairs pairs (content_path ∷ []) (LineStrp ∷ []) e.0 e.1) view_is (lit≤ tt) (first_to format [] (value_of u) old new r)
+      (record { path = refl; directory = refl; sum = refl })
 
-pub no_indexed_path : (format : Format) (pairs : List Pair) (old : At) → IsUsual IndexedPath pairs
-    → NoneSpelled (ValueBytes format old.order LineStrp) old.rest → NoneSpelled (EntryBytes format old.order pairs) old.rest
-no_indexed_path format pairs old e none =
-    subst (λ (ps : List Pair). NoneSpelled (EntryBytes format old.order ps) old.rest) (is_indexed pairs e)
-    (none_first format content_path LineStrp (pair_of content_directory_index Udata ∷ []) old none)
+  pub indexed_path_read : (u v : ValueView) (view : EntryView) (old middle new : At) → IsUsual IndexedPath pairs
+      → view ≡ record { path = Some u; directory = Some v; sum = None }
+      → Reads (ValueBytes format old.order LineStrp) (value_of u) old middle
+      → Reads (ValueBytes format middle.order Udata) (value_of v) middle new → ReadsEntry format pairs view old new
+  indexed_path_read u v view old middle new e view_is r s =
+      usual_read (pair_of content_path LineStrp ∷ directory_pair ∷ []) 2 (value_of u ∷ value_of v ∷ []) view
+      (record { path = Some u; directory = Some v; sum = None }) old new
+      (are_pairs pairs (content_path ∷ content_directory_index ∷ []) (LineStrp ∷ Udata ∷ []) e.0 e.1) view_is (lit≤ tt)
+      (second_to format [] (value_of u) (value_of v) old middle new r s) (record { path = refl; directory = refl; sum = refl })
 
-none_second : (format : Format) (more : List Pair) (u : FormValue) (old middle : At)
-    → Reads (ValueBytes format old.order LineStrp) u old middle → NoneSpelled (ValueBytes format middle.order Udata) middle.rest
-    → NoneSpelled (EntryBytes format old.order (pair_of content_path LineStrp ∷ pair_of content_directory_index Udata ∷ more)) old.rest
-none_second format more u old middle r none =
-    let past = pair_of content_directory_index Udata ∷ more in
-    no_entry format (pair_of content_path LineStrp ∷ past) 1 (pair_of content_path LineStrp) (u ∷ []) old middle (omega arith)
-    (first_to format content_path LineStrp past u old middle r) none
+  pub summed_path_read : (u v w : ValueView) (view : EntryView) (old m1 m2 new : At) → IsUsual SummedPath pairs
+      → view ≡ record { path = Some u; directory = Some v; sum = Some w }
+      → Reads (ValueBytes format old.order LineStrp) (value_of u) old m1 → Reads (ValueBytes format m1.order Udata) (value_of v) m1 m2
+      → Reads (ValueBytes format m2.order Data16) (value_of w) m2 new → ReadsEntry format pairs view old new
+  summed_path_read u v w view old m1 m2 new e view_is r s t =
+      let theirs = pair_of content_path LineStrp ∷ directory_pair ∷ sum_pair ∷ [] in
+      usual_read theirs 3 (value_of u ∷ value_of v ∷ value_of w ∷ []) view (record { path = Some u; directory = Some v; sum = Some w }) old
+      new (are_pairs pairs (content_path ∷ content_directory_index ∷ content_md5 ∷ []) (LineStrp ∷ Udata ∷ Data16 ∷ []) e.0 e.1) view_is
+      (lit≤ tt)
+      (read_more format theirs 2 (pair_of content_path LineStrp) (value_of u ∷ value_of v ∷ []) (value_of w) old m2 new (omega arith)
+      (second_to format (sum_pair ∷ []) (value_of u) (value_of v) old m1 m2 r s) t) (record { path = refl; directory = refl; sum = refl })
 
-pub no_index : (format : Format) (pairs : List Pair) (u : FormValue) (old middle : At) → IsUsual IndexedPath pairs
-    → Reads (ValueBytes format old.order LineStrp) u old middle
-    → NoneSpelled (ValueBytes format middle.order Udata) middle.rest → NoneSpelled (EntryBytes format old.order pairs) old.rest
-no_index format pairs u old middle e r none = subst (λ (ps : List Pair). NoneSpelled (EntryBytes format old.order ps) old.rest)
-    (is_indexed pairs e) (none_second format [] u old middle r none)
+  -- a value isn't there
+  pub no_path : (contents : List ℕ) (forms : List Form) (old : At) → contents_of pairs ≡ content_path ∷ contents
+      → forms_of pairs ≡ LineStrp ∷ forms → NoneSpelled (ValueBytes format old.order LineStrp) old.rest
+      → NoneSpelled (EntryBytes format old.order pairs) old.rest
+  no_path contents forms old e f none =
+      let theirs = pair_of content_path LineStrp ∷ pairs_of contents forms in
+      subst (λ (ps : List Pair). NoneSpelled (EntryBytes format old.order ps) old.rest)
+      (are_pairs pairs (content_path ∷ contents) (LineStrp ∷ forms) e f)
+      (no_entry format theirs 0 (pair_of content_path LineStrp) [] old old (omega arith) (read_none format theirs old) none)
 
--- ---- the same with sums
+  pub no_index : (contents : List ℕ) (forms : List Form) (u : FormValue) (old middle : At)
+      → contents_of pairs ≡ content_path ∷ content_directory_index ∷ contents → forms_of pairs ≡ LineStrp ∷ Udata ∷ forms
+      → Reads (ValueBytes format old.order LineStrp) u old middle → NoneSpelled (ValueBytes format middle.order Udata) middle.rest
+      → NoneSpelled (EntryBytes format old.order pairs) old.rest
+  no_index contents forms u old middle e f r none =
+      let more = directory_pair ∷ pairs_of contents forms in
+      subst (λ (ps : List Pair). NoneSpelled (EntryBytes format old.order ps) old.rest)
+      (are_pairs pairs (content_path ∷ content_directory_index ∷ contents) (LineStrp ∷ Udata ∷ forms) e f)
+      (no_entry format (pair_of content_path LineStrp ∷ more) 1 (pair_of content_path LineStrp) (u ∷ []) old middle (omega arith)
+      (first_to format more u old middle r) none)
 
-summed_said : (format : Format) (u v w : ValueView) (old m1 m2 new : At) → Reads (ValueBytes format old.order LineStrp) (value_of u) old m1
-    → Reads (ValueBytes format m1.order Udata) (value_of v) m1 m2
-    → Reads (ValueBytes format m2.order Data16) (value_of w) m2 new
-    → ReadsEntry format summed_format (record { path = Some u; directory = Some v; sum = Some w }) old new
-summed_said format u v w old m1 m2 new r s t =
-    let read = read_more format summed_format 2 (pair_of content_path LineStrp) (value_of u ∷ value_of v ∷ []) (value_of w) old m2 new
-    (omega arith) (second_to format (pair_of content_md5 Data16 ∷ []) (value_of u) (value_of v) old m1 m2 r s) t in
-    says_read format summed_format 3 (value_of u ∷ value_of v ∷ value_of w ∷ [])
-    (record { path = Some u; directory = Some v; sum = Some w }) old new (lit≤ tt) read
-    (record { path = refl; directory = refl; sum = refl })
-
-pub summed_path_read : (format : Format) (pairs : List Pair) (u v w : ValueView) (view : EntryView) (old m1 m2 new : At)
-    → IsUsual SummedPath pairs → view ≡ record { path = Some u; directory = Some v; sum = Some w }
-    → Reads (ValueBytes format old.order LineStrp) (value_of u) old m1 → Reads (ValueBytes format m1.order Udata) (value_of v) m1 m2
-    → Reads (ValueBytes format m2.order Data16) (value_of w) m2 new
-    → ReadsEntry format pairs view old new
-summed_path_read format pairs u v w view old m1 m2 new e view_is r s t =
-    subst (λ (ps : List Pair). ReadsEntry format ps view old new) (is_summed pairs e)
-    (subst (λ (x : EntryView). ReadsEntry format summed_format x old new) (sym view_is) (summed_said format u v w old m1 m2 new r s t))
-
-pub no_summed_path : (format : Format) (pairs : List Pair) (old : At) → IsUsual SummedPath pairs
-    → NoneSpelled (ValueBytes format old.order LineStrp) old.rest → NoneSpelled (EntryBytes format old.order pairs) old.rest
-no_summed_path format pairs old e none =
-    subst (λ (ps : List Pair). NoneSpelled (EntryBytes format old.order ps) old.rest) (is_summed pairs e)
-    (none_first format content_path LineStrp (pair_of content_directory_index Udata ∷ pair_of content_md5 Data16 ∷ []) old none)
-
-pub no_summed_index : (format : Format) (pairs : List Pair) (u : FormValue) (old middle : At) → IsUsual SummedPath pairs
-    → Reads (ValueBytes format old.order LineStrp) u old middle
-    → NoneSpelled (ValueBytes format middle.order Udata) middle.rest → NoneSpelled (EntryBytes format old.order pairs) old.rest
-no_summed_index format pairs u old middle e r none =
-    subst (λ (ps : List Pair). NoneSpelled (EntryBytes format old.order ps) old.rest) (is_summed pairs e)
-    (none_second format (pair_of content_md5 Data16 ∷ []) u old middle r none)
-
-pub no_sum : (format : Format) (pairs : List Pair) (u v : FormValue) (old m1 m2 : At) → IsUsual SummedPath pairs
-    → Reads (ValueBytes format old.order LineStrp) u old m1
-    → Reads (ValueBytes format m1.order Udata) v m1 m2 → NoneSpelled (ValueBytes format m2.order Data16) m2.rest
-    → NoneSpelled (EntryBytes format old.order pairs) old.rest
-no_sum format pairs u v old m1 m2 e r s none =
-    subst (λ (ps : List Pair). NoneSpelled (EntryBytes format old.order ps) old.rest) (is_summed pairs e)
-    (no_entry format summed_format 2 (pair_of content_path LineStrp) (u ∷ v ∷ []) old m2 (omega arith)
-    (second_to format (pair_of content_md5 Data16 ∷ []) u v old m1 m2 r s) none)
+  pub no_sum : (u v : FormValue) (old m1 m2 : At) → IsUsual SummedPath pairs → Reads (ValueBytes format old.order LineStrp) u old m1
+      → Reads (ValueBytes format m1.order Udata) v m1 m2 → NoneSpelled (ValueBytes format m2.order Data16) m2.rest
+      → NoneSpelled (EntryBytes format old.order pairs) old.rest
+  no_sum u v old m1 m2 e r s none =
+      subst (λ (ps : List Pair). NoneSpelled (EntryBytes format old.order ps) old.rest)
+      (are_pairs pairs (content_path ∷ content_directory_index ∷ content_md5 ∷ []) (LineStrp ∷ Udata ∷ Data16 ∷ []) e.0 e.1)
+      (no_entry format (pair_of content_path LineStrp ∷ directory_pair ∷ sum_pair ∷ []) 2 (pair_of content_path LineStrp) (u ∷ v ∷ []) old
+      m2 (omega arith) (second_to format (sum_pair ∷ []) u v old m1 m2 r s) none)
 
 -- ---- components that are kept
 

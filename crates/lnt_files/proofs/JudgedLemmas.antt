@@ -3,7 +3,7 @@ use Rattle.std.proofs.Common.{◌≡◌, ℕ, ◌+◌, ◌<◌, ◌≤◌, ◌�
 use Rattle.std.proofs.Common.{append_assoc, arith}
 use Rattle.std.specs.Prelude.{Bool, true, false, IsTrue, MatchOption}
 use Rattle.std.specs.List.{AllByRecursion}
-use Rattle.std.proofs.lemmas.List.{length-append, append-nil}
+use Rattle.std.proofs.lemmas.List.{length-append, append-nil, nil_from_length}
 use Rattle.lnt_header_bytes.specs.Borrowed.{BorrowedTable}
 use Rattle.lnt_header.specs.HeaderTests.{IsFirstNot}
 use Rattle.lnt_header.specs.declared.header.Entry.{Entry}
@@ -15,7 +15,7 @@ use Rattle.lnt_header.specs.declared.header.EntryTable.TheVariants.{Files}
 use Rattle.lnt_files.specs.declared.walk.EntryView.{EntryView}
 use Rattle.lnt_files.specs.Contents.{directory_number}
 use Rattle.lnt_files.specs.Seen.{first_missing, NamesDirectoryBelow, HasAll, IsFilesFault, HasSeenEntries}
-use Rattle.lnt_files.specs.Tables.{HasUsableFormat, HasPath, HasDirectory, AreUsableTables, IsTablesFault}
+use Rattle.lnt_files.specs.Tables.{HasUsableFormat, HasPath, AreUsableTables, IsTablesFault}
 use Rattle.lnt_files.specs.Walks.{Says, EntryStep, GivesEntry}
 
 -- ---- what was seen
@@ -36,16 +36,12 @@ pub says_in : (seen : List Entry) (table old new : BorrowedTable) (count : ℕ) 
     → (g : GivesEntry old view new) → Says table.pairs g.entry view
 says_in seen table old new count view s g = subst (λ (ps : List Pair). Says ps g.entry view) s.pairs_are g.says
 
-empty : {X : Type 0} (xs : List X) → length xs ≡ 0 → xs ≡ []
-empty [] e = refl
-empty (x ∷ xs) e = absurd (omega arith)
-
 pub seen_all : (seen : List Entry) (table walk : BorrowedTable) (count : ℕ) → HasSeenEntries seen table walk count
     → length table.entries ≤ count
     → seen ≡ table.entries
 seen_all seen table walk count s le =
     let none : walk.entries ≡ [] =
-    empty walk.entries (omega (arith, ap length s.joined, length-append seen walk.entries, s.count_is, le)) in
+    nil_from_length walk.entries (omega (arith, ap length s.joined, length-append seen walk.entries, s.count_is, le)) in
     sym (append-nil seen) ∙ ap (λ (es : List Entry). seen ++ es) (sym none) ∙ sym s.joined
 
 pub some_left : (seen : List Entry) (table old new : BorrowedTable) (count : ℕ) → HasSeenEntries seen table old count
@@ -110,7 +106,7 @@ all_but line general table old new count view told a g tells other = record {
 
 pub no_entries : (pairs : List Pair) (entries : List Entry) (count : ℕ) → count ≡ length entries
     → (count ≡ 0 → entries ≡ []) × (entries ≡ [] → count ≡ 0)
-no_entries pairs entries count e = ((λ none. empty entries (sym e ∙ none)), (λ none. e ∙ ap length none))
+no_entries pairs entries count e = ((λ none. nil_from_length entries (sym e ∙ none)), (λ none. e ∙ ap length none))
 
 -- ---- files
 
@@ -235,60 +231,37 @@ pub record AreJudged (line general : List ℕ) (h : HeaderParts) (d f : Borrowed
   pub file_format : HasUsableFormat f.pairs f.entries
   pub paths : AllByRecursion (HasPath line general d.pairs) d.entries
 
--- the same of the same pairs and entries
-moved : (P : List Pair → List Entry → Type 0) (ps qs : List Pair) (es fs : List Entry) → ps ≡ qs → es ≡ fs → P ps es → P qs fs
-moved P ps qs es fs e e' p = subst (λ (z : List Entry). P qs z) e' (subst (λ (z : List Pair). P z es) e p)
+-- the header with these tables
+abbrev with_tables : HeaderParts → List Pair → List Entry → List Pair → List Entry → HeaderParts
+with_tables h pairs directories file_pairs files =
+    record h { directory_format = pairs; directories = directories; file_format = file_pairs; files = files }
 
-directory_format_of : (line general : List ℕ) (h : HeaderParts) (d f : BorrowedTable) (count : ℕ) → AreJudged line general h d f count
-    → HasUsableFormat h.directory_format h.directories
-directory_format_of line general h d f count j =
-    moved HasUsableFormat d.pairs h.directory_format d.entries h.directories j.directory_pairs j.directories j.directory_format
+abbrev IsFound : List ℕ → List ℕ → Option EntryTableFault → HeaderParts → Type 0
+IsFound line general found h = MatchOption found (AreUsableTables line general h) (λ fault. IsTablesFault line general h fault)
 
-file_format_of : (line general : List ℕ) (h : HeaderParts) (d f : BorrowedTable) (count : ℕ) → AreJudged line general h d f count
-    → HasUsableFormat h.file_format h.files
-file_format_of line general h d f count j = moved HasUsableFormat f.pairs h.file_format f.entries h.files j.file_pairs j.files j.file_format
-
-directory_paths_of : (line general : List ℕ) (h : HeaderParts) (d f : BorrowedTable) (count : ℕ) → AreJudged line general h d f count
-    → AllByRecursion (HasPath line general h.directory_format) h.directories
-directory_paths_of line general h d f count j =
-    moved (λ ps es. AllByRecursion (HasPath line general ps) es) d.pairs h.directory_format d.entries h.directories j.directory_pairs
-    j.directories j.paths
-
-file_paths_of : (line general : List ℕ) (h : HeaderParts) (d f : BorrowedTable) (count : ℕ) → AreJudged line general h d f count
-    → AllByRecursion (HasPath line general f.pairs) f.entries
-    → AllByRecursion (HasPath line general h.file_format) h.files
-file_paths_of line general h d f count j p =
-    moved (λ ps es. AllByRecursion (HasPath line general ps) es) f.pairs h.file_format f.entries h.files j.file_pairs j.files p
-
-count_of : (line general : List ℕ) (h : HeaderParts) (d f : BorrowedTable) (count : ℕ) → AreJudged line general h d f count
-    → count ≡ length h.directories
-count_of line general h d f count j = j.count_is ∙ ap length j.directories
-
-numbers_of : (line general : List ℕ) (h : HeaderParts) (d f : BorrowedTable) (count : ℕ) → AreJudged line general h d f count
-    → AllByRecursion (NamesDirectoryBelow count f.pairs) f.entries → AllByRecursion (HasDirectory h) h.files
-numbers_of line general h d f count j p =
-    subst (λ (n : ℕ). AllByRecursion (NamesDirectoryBelow n h.file_format) h.files) (count_of line general h d f count j)
-    (moved (λ ps es. AllByRecursion (NamesDirectoryBelow count ps) es) f.pairs h.file_format f.entries h.files j.file_pairs j.files p)
+found_in : (line general : List ℕ) (h : HeaderParts) (d f : BorrowedTable) (found : Option EntryTableFault)
+    → HasUsableFormat d.pairs d.entries → HasUsableFormat f.pairs f.entries → AllByRecursion (HasPath line general d.pairs) d.entries
+    → MatchOption found (HasAll line general (length d.entries) f) (λ fault. IsFilesFault line general (length d.entries) f fault)
+    → IsFound line general found (with_tables h d.pairs d.entries f.pairs f.entries)
+found_in line general h d f None first second paths m = record {
+  directories = record { format = first; paths = paths };
+  files = record { format = second; paths = m.paths };
+  numbers = m.numbers;
+}
+found_in line general h d f (Some (StringOutside Files index)) first second paths m =
+    (record { directories = first; files = second }, paths, m)
+found_in line general h d f (Some (DirectoryNumber index)) first second paths m =
+    (record { format = first; paths = paths }, record { format = second; paths = m.0 }, m.1)
+found_in line general h d f (Some fault) first second paths m = absurd m
 
 pub judged : (line general : List ℕ) (h : HeaderParts) (d f : BorrowedTable) (count : ℕ) (found : Option EntryTableFault)
     → AreJudged line general h d f count
     → MatchOption found (HasAll line general count f) (λ fault. IsFilesFault line general count f fault)
     → MatchOption found (AreUsableTables line general h) (λ fault. IsTablesFault line general h fault)
-judged line general h d f count None j m = record {
-  directories = record { format = directory_format_of line general h d f count j; paths = directory_paths_of line general h d f count j };
-  files = record { format = file_format_of line general h d f count j; paths = file_paths_of line general h d f count j m.paths };
-  numbers = numbers_of line general h d f count j m.numbers;
-}
-judged line general h d f count (Some (StringOutside Files index)) j m = (
-  record { directories = directory_format_of line general h d f count j; files = file_format_of line general h d f count j },
-  directory_paths_of line general h d f count j,
-  moved (λ ps es. IsFirstNot (HasPath line general ps) es index) f.pairs h.file_format f.entries h.files j.file_pairs j.files m,
-)
-judged line general h d f count (Some (DirectoryNumber index)) j m = (
-  record { format = directory_format_of line general h d f count j; paths = directory_paths_of line general h d f count j },
-  record { format = file_format_of line general h d f count j; paths = file_paths_of line general h d f count j m.0 },
-  subst (λ (n : ℕ). IsFirstNot (NamesDirectoryBelow n h.file_format) h.files index) (count_of line general h d f count j)
-      (moved (λ ps es. IsFirstNot (NamesDirectoryBelow count ps) es index) f.pairs h.file_format f.entries h.files j.file_pairs j.files
-      m.1),
-)
-judged line general h d f count (Some fault) j m = absurd m
+judged line general h d f count found j m =
+    subst (λ (pairs : List Pair). IsFound line general found (with_tables h pairs h.directories h.file_format h.files)) j.directory_pairs
+    (subst (λ (es : List Entry). IsFound line general found (with_tables h d.pairs es h.file_format h.files)) j.directories
+    (subst (λ (pairs : List Pair). IsFound line general found (with_tables h d.pairs d.entries pairs h.files)) j.file_pairs
+    (subst (λ (es : List Entry). IsFound line general found (with_tables h d.pairs d.entries f.pairs es)) j.files
+    (found_in line general h d f found j.directory_format j.file_format j.paths
+    (subst (λ (n : ℕ). MatchOption found (HasAll line general n f) (λ fault. IsFilesFault line general n f fault)) j.count_is m)))))

@@ -4,7 +4,7 @@ use Rattle.std.proofs.Common.{refl, sym, ap, subst, ◌∙◌, arith, length-app
 use Rattle.std.proofs.lemmas.List.{drop_at, take-append-le, drop-append-le, take_more, take_all}
 use Rattle.std.proofs.lemmas.Option.{slice_get_within}
 use Rattle.std.proofs.lemmas.Slice.{between_is}
-use Rattle.std.proofs.lemmas.Slice.Zip.{all_zipped_more}
+use Rattle.std.proofs.lemmas.Slice.Zip.{all_zipped_more, AllZip-long}
 use Rattle.std.specs.List.{AllZip, slice_get, slice_range}
 use Rattle.std.specs.Option.{option_map, option_and_then}
 use Rattle.lnt_header.specs.declared.header.Entry.{Entry}
@@ -164,29 +164,21 @@ keeps_more line general h files i entry paths new kept file k those lt is path s
 
 -- ---- all files
 
-same_count : {X Y : Type 0} (R : X → Y → Type 0) (xs : List X) (ys : List Y) → AllZip R xs ys → length ys ≡ length xs
-same_count R [] [] h = refl
-same_count R [] (y ∷ ys) h = absurd h
-same_count R (x ∷ xs) [] h = absurd h
-same_count R (x ∷ xs) (y ∷ ys) h = ap suc (same_count R xs ys h.1)
-
 same_path : (line general : List ℕ) (h : HeaderParts) (files : List Entry) (kept : List KeptFile) (n : ℕ)
     → AllZip (IsKeptFile line general h) files kept
     → kept_path kept n ≡ option_and_then (file_path line general h) (slice_get files n)
 same_path line general h [] [] n all = refl
-same_path line general h [] (k ∷ kept) n all = absurd all
-same_path line general h (file ∷ files) [] n all = absurd all
 same_path line general h (file ∷ files) (k ∷ kept) zero all = sym all.0.path
 same_path line general h (file ∷ files) (k ∷ kept) (suc n) all = same_path line general h files kept n all.1
+same_path line general h _ _ n all = absurd all
 
 same_sum : (line general : List ℕ) (h : HeaderParts) (files : List Entry) (kept : List KeptFile) (n : ℕ)
     → AllZip (IsKeptFile line general h) files kept
     → kept_sum kept n ≡ option_and_then (sum_of h.file_format) (slice_get files n)
 same_sum line general h [] [] n all = refl
-same_sum line general h [] (k ∷ kept) n all = absurd all
-same_sum line general h (file ∷ files) [] n all = absurd all
 same_sum line general h (file ∷ files) (k ∷ kept) zero all = sym all.0.sum
 same_sum line general h (file ∷ files) (k ∷ kept) (suc n) all = same_sum line general h files kept n all.1
+same_sum line general h _ _ n all = absurd all
 
 pub all_kept : (line general : List ℕ) (h : HeaderParts) (n : ℕ) (paths : List ℕ) (kept : List PathEnd)
     → KeepsFiles line general h (take n h.files) paths kept → length h.files ≤ n → KeepsFiles line general h h.files paths kept
@@ -196,7 +188,7 @@ all_kept line general h n paths kept k le =
 pub are_files : (line general : List ℕ) (h : HeaderParts) (paths : List ℕ) (kept : List PathEnd)
     → KeepsFiles line general h h.files paths kept → AreFilesOf line general h (kept_files paths 0 kept)
 are_files line general h paths kept k = record {
-  count = same_count (IsKeptFile line general h) h.files (kept_files paths 0 kept) k.same;
+  count = AllZip-long (IsKeptFile line general h) h.files (kept_files paths 0 kept) k.same;
   paths = λ number. same_path line general h h.files (kept_files paths 0 kept) number k.same;
   sums = λ number. same_sum line general h h.files (kept_files paths 0 kept) number k.same;
 }

@@ -121,12 +121,11 @@ entries_found : (dead : Option ℕ) (skip : Bool) (units : List (ℕ × UnitPart
     → IsIndexOf dead skip units index
     → AllZip (IsExtentOf (kept_sequences dead skip units)) entries in_turn → AllZip (IsEntry index.units index.programs) entries in_turn
 entries_found dead skip units index [] [] is each = tt
-entries_found dead skip units index [] (placed ∷ in_turn) is each = absurd each
-entries_found dead skip units index (entry ∷ entries) [] is each = absurd each
 entries_found dead skip units index (entry ∷ entries) (placed ∷ in_turn) is each = (
   (each.0.id_is, sequence_in dead skip units index entry.id placed is each.0.contained each.0.id_is),
   entries_found dead skip units index entries in_turn is each.1,
 )
+entries_found dead skip units index _ _ is each = absurd each
 
 -- numbers that fit, each by its index
 pub all_small : (offsets : List ℕ) → ((k : ℕ) → get_or offsets k 0 < 2 ^ 64) → AllByRecursion (λ offset. offset < 2 ^ 64) offsets

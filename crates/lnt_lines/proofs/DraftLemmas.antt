@@ -1,7 +1,8 @@
 -- Units added to a draft, one at a time.
-use Rattle.std.proofs.Common.{◌≡◌, Bool, ℕ, ◌+◌, ◌<◌, ◌≤◌, List, [], ◌∷◌, ◌++◌, map, length, refl, sym, ap, subst, ◌∙◌, arith}
+use Rattle.std.proofs.Common.{◌≡◌, Bool, ℕ, ◌+◌, ◌<◌, ◌≤◌, List, [], ◌∷◌, ◌++◌, map, length, sym, ap, subst, ◌∙◌, arith}
 use Rattle.std.specs.Prelude.{Option}
 use Rattle.std.specs.List.{All, AllByRecursion, AllZip}
+use Rattle.std.proofs.lemmas.List.{map-append}
 use Rattle.std.proofs.lemmas.List.Elements.{All-cons, All-nil, All-weaker}
 use Rattle.lnt_wire.specs.declared.format.Order.{Order}
 use Rattle.lnt_header.specs.HeaderRules.{HasHeaderNumbers}
@@ -9,6 +10,8 @@ use Rattle.lnt_unit.specs.Units.{BufferedUnit}
 use Rattle.lnt_header.specs.declared.unit_parts.UnitParts.{UnitParts}
 use Rattle.lnt_unit.proofs.UnitLaws.{unit_is_some}
 use Rattle.lnt_unit.specs.UnitBytes.{UnitsFrom}
+use Rattle.std.proofs.lemmas.Slice.Zip.{all_zipped_more}
+use Rattle.lnt_machine.proofs.SequenceLaws.{all-append}
 use Rattle.lnt_machine.specs.Walking.{KeptProgram, KeepsProgram}
 use Rattle.lnt_files.specs.Tables.{AreUsableTables}
 use Rattle.lnt_sequences.proofs.UnitLaws.{distinct_sequences, offsets_differ, ordered-append}
@@ -27,22 +30,6 @@ use Rattle.lnt_lines.specs.Judging.{IsJudgedSound}
 
 -- ---- one unit more
 
-all_push : {X : Type 0} (P : X → Type 0) (xs : List X) (x : X) → AllByRecursion P xs → P x → AllByRecursion P (xs ++ x ∷ [])
-all_push P [] x all here = (here, tt)
-all_push P (y ∷ xs) x all here = (all.0, all_push P xs x all.1 here)
-
-pub zip_push : {X Y : Type 0} (R : X → Y → Type 0) (xs : List X) (ys : List Y) (x : X) (y : Y) → AllZip R xs ys → R x y
-    → AllZip R (xs ++ x ∷ []) (ys ++ y ∷ [])
-zip_push R [] [] x y all here = (here, tt)
-zip_push R [] (v ∷ ys) x y all here = absurd all
-zip_push R (u ∷ xs) [] x y all here = absurd all
-zip_push R (u ∷ xs) (v ∷ ys) x y all here = (all.0, zip_push R xs ys x y all.1 here)
-
-offsets_push : (units : List (ℕ × UnitParts)) (unit : ℕ × UnitParts)
-    → map (λ (u : ℕ × UnitParts). u.0) (units ++ unit ∷ []) ≡ map (λ (u : ℕ × UnitParts). u.0) units ++ unit.0 ∷ []
-offsets_push [] unit = refl
-offsets_push (first ∷ units) unit = ap (λ (rest : List ℕ). first.0 ∷ rest) (offsets_push units unit)
-
 pub added : (text general : List ℕ) (dead : Option ℕ) (buffer : BufferedUnit) (old new : Draft) (offset : ℕ) (kept : KeptProgram)
     → IsJudgedSound text general dead buffer old.collected new.collected kept
     → offset ≡ buffer.offset → new.units.items ≡ old.units.items ++ offset ∷ [] → new.programs.items ≡ old.programs.items ++ kept ∷ []
@@ -51,14 +38,14 @@ added text general dead buffer old new offset kept judged at offsets programs = 
   unit = judged.unit;
   spelled = judged.spelled;
   drafts = λ units draft. record {
-    sound = all_push (IsSoundUnit text general dead) units (buffer.offset, judged.unit) draft.sound judged.sound;
+    sound = all-append (IsSoundUnit text general dead) units (buffer.offset, judged.unit) draft.sound judged.sound;
     collects = judged.collects units draft.collects;
     offsets = offsets ∙ ap (λ (n : ℕ). old.units.items ++ n ∷ []) at ∙ ap (λ (list : List ℕ). list ++ buffer.offset ∷ []) draft.offsets
-        ∙ sym (offsets_push units (buffer.offset, judged.unit));
+        ∙ sym (map-append (λ (u : ℕ × UnitParts). u.0) units ((buffer.offset, judged.unit) ∷ []));
     programs = subst (AllZip (λ (unit : ℕ × UnitParts) (k : KeptProgram). KeepsProgram k unit.1)
         (units ++ (buffer.offset, judged.unit) ∷ [])) (sym programs)
-        (zip_push (λ (unit : ℕ × UnitParts) (k : KeptProgram). KeepsProgram k unit.1) units old.programs.items (buffer.offset, judged.unit)
-        kept
+        (all_zipped_more (λ (unit : ℕ × UnitParts) (k : KeptProgram). KeepsProgram k unit.1) units old.programs.items
+        (buffer.offset, judged.unit) kept
         draft.programs judged.keeps);
   };
 }

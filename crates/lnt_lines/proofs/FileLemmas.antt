@@ -1,48 +1,25 @@
 -- The files that are held of a unit.
-use Rattle.std.proofs.Common.{◌≡◌, ◌≢◌, Bool, ℕ, zero, suc, ◌==◌, ◌<◌, false, List, [], ◌∷◌, map, length, get_or, refl, sym, ap, subst, ◌∙◌}
+use Rattle.std.proofs.Common.{◌≡◌, ◌≢◌, Bool, ℕ, ◌==◌, ◌<◌, false, List, [], ◌∷◌, map, length, get_or, refl, sym, ap, subst, ◌∙◌}
 use Rattle.std.proofs.Common.{arith}
 use Rattle.std.specs.Prelude.{None, Option, Some}
-use Rattle.std.specs.List.{All, AllZip, Contains, position, position_or_len, slice_get}
+use Rattle.std.specs.List.{All, Contains, position, position_or_len, slice_get}
 use Rattle.std.specs.Option.{option_and_then, option_map, option_map_or}
+use Rattle.std.proofs.lemmas.List.{length-map}
 use Rattle.std.proofs.lemmas.List.Sums.{position_or_len_is}
-use Rattle.lnt_header.specs.Joins.{AreRising}
+use Rattle.std.proofs.lemmas.Option.{slice_get-get_or}
 use Rattle.lnt_wire.specs.declared.format.Order.{Order}
 use Rattle.lnt_header.specs.declared.header.HeaderParts.{HeaderParts}
 use Rattle.lnt_header.specs.declared.unit_parts.UnitParts.{UnitParts}
-use Rattle.lnt_machine.specs.Walking.{KeepsProgram, KeptProgram}
+use Rattle.lnt_machine.specs.Walking.{KeptProgram}
 use Rattle.lnt_unit.specs.UnitBytes.{SectionBytes}
 use Rattle.lnt_files.specs.Files.{AreFilesOf, KeptFile, kept_path, kept_sum}
 use Rattle.lnt_lines.specs.Contents.{Contents, files_at, files_of, TellsOf}
 use Rattle.lnt_lines.specs.Indexed.{header_in, Indexed, IsIndexOf}
 use Rattle.lnt_lines.specs.Laws.{FilesOfUnits, HeadersOfUnits, ListsFilesOf}
 use Rattle.lnt_lines.proofs.DraftLemmas.{rising_from}
+use Rattle.lnt_lines.proofs.IndexLemmas.{offset_at, zip_at}
+use Rattle.lnt_lines.proofs.NamedLemmas.{header_at}
 use Rattle.lnt_lines.proofs.PlaceLemmas.{other_is, outside_is, place_found}
-
--- what two lists hold at one place
-record StandsAt {X Y : Type 0} (R : X → Y → Type 0) (x : X) (ys : List Y) (k : ℕ) : Type 0 where
-  y : Y
-  there : slice_get ys k ≡ Some y
-  related : R x y
-
-zip_at : {X Y : Type 0} (R : X → Y → Type 0) (xs : List X) (ys : List Y) (k : ℕ) (d : X) → AllZip R xs ys → k < length xs
-    → StandsAt R (get_or xs k d) ys k
-zip_at R [] [] k d all lt = absurd (omega arith)
-zip_at R [] (y ∷ ys) k d all lt = absurd all
-zip_at R (x ∷ xs) [] k d all lt = absurd all
-zip_at R (x ∷ xs) (y ∷ ys) zero d all lt = record { y = y; there = refl; related = all.0 }
-zip_at R (x ∷ xs) (y ∷ ys) (suc k) d all lt =
-    let rest = zip_at R xs ys k d all.1 (omega arith) in
-    record { y = rest.y; there = rest.there; related = rest.related }
-
-offset_at : (units : List (ℕ × UnitParts)) (k : ℕ) (d : ℕ × UnitParts) → k < length units
-    → get_or (map (λ (u : ℕ × UnitParts). u.0) units) k 0 ≡ (get_or units k d).0
-offset_at [] k d lt = absurd (omega arith)
-offset_at (unit ∷ units) zero d lt = refl
-offset_at (unit ∷ units) (suc k) d lt = offset_at units k d (omega arith)
-
-as_many : (units : List (ℕ × UnitParts)) → length (map (λ (u : ℕ × UnitParts). u.0) units) ≡ length units
-as_many [] = refl
-as_many (unit ∷ units) = let more = as_many units in omega (arith, more)
 
 abbrev FilesOf : List ℕ → List ℕ → ℕ × UnitParts → List KeptFile → Type 0
 FilesOf text general unit files = AreFilesOf text general unit.1.header files
@@ -53,16 +30,16 @@ held : (text general : List ℕ) (dead : Option ℕ) (skip : Bool) (order : Orde
     → SectionBytes order units section → TellsOf text general dead skip units contents → Contains units unit
     → (files : List KeptFile) × (files_of contents unit.0 ≡ Some files) × AreFilesOf text general unit.1.header files
 held text general dead skip order section units contents unit spelled tells (k, lt, same) =
-    let offsets : List ℕ = map (λ (u : ℕ × UnitParts). u.0) units in
-    let at = zip_at (FilesOf text general) units contents.files k unit tells.files_are lt in
-    let few : k < length offsets = omega (arith, lt, as_many units) in
-    let place : Some k ≡ position (λ offset. offset == unit.0) offsets =
-    place_found offsets unit.0 k (rising_from order 0 units section spelled) few
-    (offset_at units k unit lt ∙ ap (λ (u : ℕ × UnitParts). u.0) same) in
-    let there : files_of contents unit.0 ≡ Some at.y =
+    let files = get_or contents.files k [] in
+    let kept = zip_at (FilesOf text general) units contents.files k unit [] tells.files_are lt in
+    let at = offset_at units k unit lt in
+    let place : Some k ≡ position (λ offset. offset == unit.0) (map (λ (u : ℕ × UnitParts). u.0) units) =
+    place_found (map (λ (u : ℕ × UnitParts). u.0) units) unit.0 k (rising_from order 0 units section spelled) at.1
+    (at.0 ∙ ap (λ (u : ℕ × UnitParts). u.0) same) in
+    let there : files_of contents unit.0 ≡ Some files =
     ap (λ (list : List ℕ). files_at list contents.files unit.0) tells.units_are
-    ∙ ap (λ (o : Option ℕ). option_and_then (slice_get contents.files) o) (sym place) ∙ at.there in
-    (at.y, there, subst (λ (u : ℕ × UnitParts). AreFilesOf text general u.1.header at.y) same at.related)
+    ∙ ap (λ (o : Option ℕ). option_and_then (slice_get contents.files) o) (sym place) ∙ slice_get-get_or contents.files k [] kept.1 in
+    (files, there, subst (λ (u : ℕ × UnitParts). AreFilesOf text general u.1.header files) same kept.0)
 
 listed : (text general : List ℕ) (dead : Option ℕ) (skip : Bool) (order : Order) (section : List ℕ) (units : List (ℕ × UnitParts))
     (contents : Contents) (unit : ℕ × UnitParts)
@@ -84,9 +61,9 @@ no_place : (units : List (ℕ × UnitParts)) (offset : ℕ) → All (λ (unit : 
 no_place units offset all =
     let offsets : List ℕ = map (λ (u : ℕ × UnitParts). u.0) units in
     let none : (j : ℕ) → j < length offsets → (get_or offsets j 0 == offset) ≡ false = λ j lt.
-    let few : j < length units = omega (arith, lt, as_many units) in
+    let few : j < length units = omega (arith, lt, length-map units (λ (u : ℕ × UnitParts). u.0)) in
     other_is (get_or offsets j 0) offset (λ same. all j (0, get_or_unit units j few) few
-    (sym (offset_at units j (0, get_or_unit units j few) few) ∙ same)) in
+    (sym (offset_at units j (0, get_or_unit units j few) few).0 ∙ same)) in
     let at : position_or_len (λ (n : ℕ). n == offset) offsets ≡ length offsets =
     position_or_len_is (λ (n : ℕ). n == offset) offsets (length offsets) 0 (omega arith) none (λ lt. absurd (omega arith)) in
     rw (at, outside_is (length offsets) (length offsets) (omega arith)) refl
@@ -112,16 +89,7 @@ say_header found = option_map (λ (kept : KeptProgram). kept.header) found
 header_found : (dead : Option ℕ) (skip : Bool) (units : List (ℕ × UnitParts)) (index : Indexed) (unit : ℕ × UnitParts)
     → IsIndexOf dead skip units index → Contains units unit → header_in index unit.0 ≡ Some unit.1.header
 header_found dead skip units index unit is (k, lt, same) =
-    let offsets : List ℕ = map (λ (u : ℕ × UnitParts). u.0) units in
-    let at = zip_at (λ (u : ℕ × UnitParts) (kept : KeptProgram). KeepsProgram kept u.1) units index.programs k unit is.programs lt in
-    let few : k < length offsets = omega (arith, lt, as_many units) in
-    let place : Some k ≡ position (λ offset. offset == unit.0) offsets =
-    place_found offsets unit.0 k (subst AreRising is.offsets is.rising) few
-    (offset_at units k unit lt ∙ ap (λ (u : ℕ × UnitParts). u.0) same) in
-    ap (λ (list : List ℕ). say_header (option_and_then (slice_get index.programs) (position (λ offset. offset == unit.0) list))) is.offsets
-    ∙ ap (λ (o : Option ℕ). say_header (option_and_then (slice_get index.programs) o)) (sym place)
-    ∙ ap say_header at.there
-    ∙ ap Some (at.related.header_is ∙ ap (λ (u : ℕ × UnitParts). u.1.header) same)
+    subst (λ (u : ℕ × UnitParts). header_in index u.0 ≡ Some u.1.header) same (header_at index dead skip units k unit is lt)
 
 pub headers_of_units : HeadersOfUnits
 headers_of_units = record {

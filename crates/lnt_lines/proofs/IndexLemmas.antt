@@ -4,6 +4,8 @@ use Rattle.std.proofs.Common.{subst, arith, length, get_or}
 use Rattle.std.specs.Prelude.{cond, IfNone, IfSome, IsSomeAnd, map}
 use Rattle.std.specs.List.{AllByRecursion, AllZip, Contains, position}
 use Rattle.std.specs.Option.{option_map}
+use Rattle.std.proofs.lemmas.List.{length-map}
+use Rattle.std.proofs.lemmas.Slice.Zip.{AllZip-long}
 use Rattle.std.proofs.lemmas.Option.{same_Some}
 use Rattle.lnt_header.specs.declared.unit_parts.UnitParts.{UnitParts}
 use Rattle.lnt_header.proofs.FirstLaws.{all_at}
@@ -142,12 +144,11 @@ pub usable_at : (line general : List ℕ) (units : List (ℕ × UnitParts)) (pro
     → AllByRecursion (λ (unit : ℕ × UnitParts). AreUsableTables line general unit.1.header) units → k < length programs
     → AreUsableTables line general (get_or programs k d).header
 usable_at line general [] [] k d keeps usable few = absurd (omega arith)
-usable_at line general [] (kept ∷ programs) k d keeps usable few = absurd keeps
-usable_at line general (unit ∷ units) [] k d keeps usable few = absurd keeps
 usable_at line general (unit ∷ units) (kept ∷ programs) zero d keeps usable few =
     subst (AreUsableTables line general) (sym keeps.0.header_is) usable.0
 usable_at line general (unit ∷ units) (kept ∷ programs) (suc k) d keeps usable few =
     usable_at line general units programs k d keeps.1 usable.1 (omega arith)
+usable_at line general _ _ k d keeps usable few = absurd keeps
 
 -- the files of programs are those of the units
 pub files_zip : (line general : List ℕ) (units : List (ℕ × UnitParts)) (programs : List KeptProgram) (files : List (List KeptFile))
@@ -165,15 +166,9 @@ files_zip line general (unit ∷ units) (kept ∷ programs) (some ∷ files) kee
 )
 
 -- as many files as units
-zip_length : {X Y : Type 0} (R : X → Y → Type 0) (f : X → ℕ) (xs : List X) (ys : List Y) → AllZip R xs ys → length (map f xs) ≡ length ys
-zip_length R f [] [] all = refl
-zip_length R f [] (y ∷ ys) all = absurd all
-zip_length R f (x ∷ xs) [] all = absurd all
-zip_length R f (x ∷ xs) (y ∷ ys) all = let more = zip_length R f xs ys all.1 in omega (arith, more)
-
 pub same_number : (line general : List ℕ) (units : List (ℕ × UnitParts)) (files : List (List KeptFile))
     → AllZip (λ (unit : ℕ × UnitParts) (some : List KeptFile). AreFilesOf line general unit.1.header some) units files
     → length (map (λ (u : ℕ × UnitParts). u.0) units) ≡ length files
-same_number line general units files all = zip_length
-    (λ (unit : ℕ × UnitParts) (some : List KeptFile). AreFilesOf line general unit.1.header some) (λ (u : ℕ × UnitParts). u.0) units files
-    all
+same_number line general units files all =
+    length-map units (λ (u : ℕ × UnitParts). u.0)
+    ∙ sym (AllZip-long (λ (unit : ℕ × UnitParts) (some : List KeptFile). AreFilesOf line general unit.1.header some) units files all)

@@ -5,7 +5,7 @@ use Rattle.std.specs.Option.{option_map, option_or}
 use Rattle.lnt_header.specs.declared.header.HeaderParts.{HeaderParts}
 use Rattle.lnt_unit.specs.Views.{View}
 use Rattle.lnt_files.specs.declared.tables.EntryTableFault.{EntryTableFault}
-use Rattle.lnt_files.specs.declared.tables.EntryTableFault.TheVariants.{DirectoryNumber, EntryFormat, StringOutside}
+use Rattle.lnt_files.specs.declared.tables.EntryTableFault.TheVariants.{EntryFormat}
 use Rattle.lnt_files.specs.Tables.{AreUsableTables, IsTablesFault}
 use Rattle.lnt_sequences.specs.declared.collected.Collected.{Collected}
 use Rattle.lnt_sequences.specs.declared.watch.MissingFile.{MissingFile}
@@ -17,7 +17,7 @@ use Rattle.lnt_sequences.specs.Sequences.{live_of, live_sequences, placed_rows}
 use Rattle.lnt_sequences.specs.Watching.{HasSeenAll}
 use Rattle.lnt_machine.specs.declared.row.Row.{Row}
 use Rattle.lnt_machine.specs.Matrix.{rows}
-use Rattle.lnt_lines.specs.declared.no.No.TheVariants.{Falls, FileNumber}
+use Rattle.lnt_lines.specs.declared.no.No.TheVariants.{Falls}
 use Rattle.lnt_lines.specs.Good.{IsWellFormed}
 use Rattle.lnt_lines.specs.Judging.{HasRun, IsFlawedRun, IsSoundRun, IsUnitNo}
 use Rattle.lnt_lines.specs.Refusals.{missing_no, table_no}
@@ -33,96 +33,17 @@ flaw_in_tables text general dead view unit places old new watch (EntryFormat whi
       spelled = run.spelled;
       flaw = (at, run.runs, subst (λ (h : HeaderParts). IsTablesFault text general h (EntryFormat which)) (sym run.header_is) f);
     }
-flaw_in_tables text general dead view unit places old new watch (StringOutside which entry) run at f =
+flaw_in_tables text general dead view unit places old new watch fault run at f =
     record {
       unit = run.unit;
       spelled = run.spelled;
-      flaw = (at, run.runs, subst (λ (h : HeaderParts). IsTablesFault text general h (StringOutside which entry)) (sym run.header_is) f);
-    }
-flaw_in_tables text general dead view unit places old new watch (DirectoryNumber file) run at f =
-    record {
-      unit = run.unit;
-      spelled = run.spelled;
-      flaw = (at, run.runs, subst (λ (h : HeaderParts). IsTablesFault text general h (DirectoryNumber file)) (sym run.header_is) f);
+      flaw = (at, run.runs, subst (λ (h : HeaderParts). IsTablesFault text general h fault) (sym run.header_is) f);
     }
 
-flawed_tables : (text general : List ℕ) (view : View) (header : HeaderParts) (unit : ℕ) (watch : Watch) (fault : EntryTableFault)
-    → unit ≡ view.unit.offset → header ≡ view.header → IsTablesFault text general header fault
-    → IsFlawedRun text general view watch (table_no unit fault)
-flawed_tables text general view header unit watch fault at header_is f dead places old new run =
-    flaw_in_tables text general dead view unit places old new watch fault run at
-    (subst (λ (h : HeaderParts). IsTablesFault text general h fault) header_is f)
-
-well_formed : (text general : List ℕ) (dead : Option ℕ) (view : View) (header : HeaderParts) (places : List ℕ) (old new : Collected)
-    (watch : Watch) → (run : HasRun dead view places old new watch) → header ≡ view.header
+well_formed : {text general : List ℕ} {dead : Option ℕ} {view : View} {header : HeaderParts} {places : List ℕ} {old new : Collected}
+    {watch : Watch} → (run : HasRun dead view places old new watch) → header ≡ view.header
     → AreUsableTables text general header → IsWellFormed text general run.unit
-well_formed text general dead view header places old new watch run header_is usable =
-    record { runs = run.runs; tables = rw run.header_is (rw (← header_is) usable) }
-
--- what the watch says of the live sequences of whichever unit it has seen
-abbrev SaysMissing : Watch → MissingFile → Type 0
-SaysMissing watch missing = (dead : Option ℕ) (unit files : ℕ) (rows : List Row) → HasSeenAll dead unit files watch rows
-    → IsFirstMissingFile dead files (placed_rows unit rows) missing
-
-abbrev SaysNamed : Watch → Type 0
-SaysNamed watch = (dead : Option ℕ) (unit files : ℕ) (rows : List Row) → HasSeenAll dead unit files watch rows
-    → HaveFiles files (live_of dead (placed_rows unit rows))
-
-abbrev SaysFall : Watch → ℕ → Type 0
-SaysFall watch row = (dead : Option ℕ) (unit files : ℕ) (rows : List Row) → HasSeenAll dead unit files watch rows
-    → IsFirstFall dead (placed_rows unit rows) row
-
-abbrev SaysOrdered : Watch → Type 0
-SaysOrdered watch = (dead : Option ℕ) (unit files : ℕ) (rows : List Row) → HasSeenAll dead unit files watch rows
-    → AreOrdered (live_of dead (placed_rows unit rows))
-
-flawed_files : (text general : List ℕ) (view : View) (header : HeaderParts) (unit : ℕ) (watch : Watch) (missing : MissingFile)
-    → unit ≡ view.unit.offset → header ≡ view.header → AreUsableTables text general header → SaysMissing watch missing
-    → IsFlawedRun text general view watch (FileNumber unit missing.row missing.file)
-flawed_files text general view header unit watch missing at header_is usable says dead places old new run =
-    record {
-      unit = run.unit;
-      spelled = run.spelled;
-      flaw = (
-        at,
-        well_formed text general dead view header places old new watch run header_is usable,
-        says dead view.unit.offset (length run.unit.header.files) (rows run.unit) run.seen,
-      );
-    }
-
-flawed_order : (text general : List ℕ) (view : View) (header : HeaderParts) (unit : ℕ) (watch : Watch) (row : ℕ)
-    → unit ≡ view.unit.offset → header ≡ view.header → AreUsableTables text general header → SaysNamed watch → SaysFall watch row
-    → IsFlawedRun text general view watch (Falls unit row)
-flawed_order text general view header unit watch row at header_is usable named says dead places old new run =
-    record {
-      unit = run.unit;
-      spelled = run.spelled;
-      flaw = (
-        at,
-        well_formed text general dead view header places old new watch run header_is usable,
-        named dead view.unit.offset (length run.unit.header.files) (rows run.unit) run.seen,
-        says dead view.unit.offset (length run.unit.header.files) (rows run.unit) run.seen,
-      );
-    }
-
--- ---- nothing is wrong with it
-
-judged_sound : (text general : List ℕ) (view : View) (header : HeaderParts) (watch : Watch) → header ≡ view.header
-    → AreUsableTables text general header → SaysNamed watch → SaysOrdered watch
-    → IsSoundRun text general view watch
-judged_sound text general view header watch header_is usable named ordered dead places old new run =
-    record {
-      unit = run.unit;
-      spelled = run.spelled;
-      sound = record {
-        well_formed = well_formed text general dead view header places old new watch run header_is usable;
-        files = named dead view.unit.offset (length run.unit.header.files) (rows run.unit) run.seen;
-        ordered = ordered dead view.unit.offset (length run.unit.header.files) (rows run.unit) run.seen;
-      };
-      keeps = run.kept;
-      collects = λ units c. collects_more dead units (view.unit.offset, run.unit) new run.runs run.seen.few
-          (run.collects (live_sequences dead units) c);
-    }
+well_formed run header_is usable = record { runs = run.runs; tables = rw run.header_is (rw (← header_is) usable) }
 
 -- ---- the first thing that is wrong with it, if anything is
 
@@ -136,11 +57,40 @@ pub flaw_judged : (text general : List ℕ) (view : View) (header : HeaderParts)
     → MatchOption falls (AreOrdered (live_of dead (placed_rows unit rows))) (IsFirstFall dead (placed_rows unit rows)))
     → MatchOption (option_or (option_or (option_map (table_no unit) tables) (option_map (missing_no unit) missing))
     (option_map (Falls unit) falls)) (IsSoundRun text general view watch) (IsFlawedRun text general view watch)
-flaw_judged text general view header unit watch (Some fault) missing falls at header_is fault_is named ordered =
-    flawed_tables text general view header unit watch fault at header_is fault_is
-flaw_judged text general view header unit watch None (Some missing) falls at header_is usable named ordered =
-    flawed_files text general view header unit watch missing at header_is usable named
-flaw_judged text general view header unit watch None None (Some row) at header_is usable named ordered =
-    flawed_order text general view header unit watch row at header_is usable named ordered
-flaw_judged text general view header unit watch None None None at header_is usable named ordered =
-    judged_sound text general view header watch header_is usable named ordered
+flaw_judged text general view header unit watch (Some fault) missing falls at header_is fault_is named ordered = λ dead places old new run.
+    flaw_in_tables text general dead view unit places old new watch fault run at
+    (subst (λ (h : HeaderParts). IsTablesFault text general h fault) header_is fault_is)
+flaw_judged text general view header unit watch None (Some missing) falls at header_is usable named ordered = λ dead places old new run.
+    record {
+      unit = run.unit;
+      spelled = run.spelled;
+      flaw = (
+        at,
+        well_formed run header_is usable,
+        named dead view.unit.offset (length run.unit.header.files) (rows run.unit) run.seen,
+      );
+    }
+flaw_judged text general view header unit watch None None (Some row) at header_is usable named ordered = λ dead places old new run.
+    record {
+      unit = run.unit;
+      spelled = run.spelled;
+      flaw = (
+        at,
+        well_formed run header_is usable,
+        named dead view.unit.offset (length run.unit.header.files) (rows run.unit) run.seen,
+        ordered dead view.unit.offset (length run.unit.header.files) (rows run.unit) run.seen,
+      );
+    }
+flaw_judged text general view header unit watch None None None at header_is usable named ordered = λ dead places old new run.
+    record {
+      unit = run.unit;
+      spelled = run.spelled;
+      sound = record {
+        well_formed = well_formed run header_is usable;
+        files = named dead view.unit.offset (length run.unit.header.files) (rows run.unit) run.seen;
+        ordered = ordered dead view.unit.offset (length run.unit.header.files) (rows run.unit) run.seen;
+      };
+      keeps = run.kept;
+      collects = λ units c. collects_more dead units (view.unit.offset, run.unit) new run.runs run.seen.few
+          (run.collects (live_sequences dead units) c);
+    }

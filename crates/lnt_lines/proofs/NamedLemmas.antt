@@ -22,7 +22,7 @@ use Rattle.lnt_lines.proofs.IndexLemmas.{offset_at, zip_at}
 use Rattle.lnt_lines.proofs.PlaceLemmas.{place_found}
 
 -- the header that is found by the offset of a unit
-header_at : (index : Indexed) (dead : Option ℕ) (skip : Bool) (units : List (ℕ × UnitParts)) (k : ℕ) (d : ℕ × UnitParts)
+pub header_at : (index : Indexed) (dead : Option ℕ) (skip : Bool) (units : List (ℕ × UnitParts)) (k : ℕ) (d : ℕ × UnitParts)
     → IsIndexOf dead skip units index → k < length units → header_in index (get_or units k d).0 ≡ Some (get_or units k d).1.header
 header_at index dead skip units k d is few =
     let unit : ℕ × UnitParts = get_or units k d in

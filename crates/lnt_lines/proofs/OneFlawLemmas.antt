@@ -72,8 +72,7 @@ one_run unit (run.LineOutOfRange k) run.OpenSequence m n f g = absurd (f.2 (g.0 
 one_run unit run.OpenSequence (run.LineOutOfRange l) m n f g = absurd (g.2 (f.0 (l + 1) (omega (arith, g.0))))
 one_run unit run.OpenSequence run.OpenSequence m n f g = refl
 one_run unit run.Memory g m n f h = absurd (m refl)
-one_run unit (run.LineOutOfRange k) run.Memory m n f g = absurd (n refl)
-one_run unit run.OpenSequence run.Memory m n f g = absurd (n refl)
+one_run unit f run.Memory m n g h = absurd (n refl)
 
 -- ---- tables
 

@@ -34,14 +34,14 @@ record SameHead (u v : ℕ × UnitParts) (x y r s : List ℕ) : Type 0 where
   past : r ≡ s
 
 -- the rests are compared with what follows them
-same_head : (order : Order) (offset : ℕ) (u v : ℕ × UnitParts) (x y x' y' r s : List ℕ) → u.0 ≡ offset → v.0 ≡ offset
-    → UnitBytesIn order u.1 x
-    → UnitBytesIn order v.1 y → (x ++ x') ++ r ≡ (y ++ y') ++ s
-    → SameHead u v x y (x' ++ r) (y' ++ s)
-same_head order offset u v x y x' y' r s at at' p q e =
-    let all : x ++ (x' ++ r) ≡ y ++ (y' ++ s) = sym (append_assoc x x' r) ∙ e ∙ append_assoc y y' s in
-    let one = (one_spelling order).one u.1 v.1 x y (x' ++ r) (y' ++ s) p q all in
-    record { unit = same_pair u v (at ∙ sym at') one.0; bytes = one.1; past = same_rest x y (x' ++ r) (y' ++ s) one.1 all }
+same_head : (order : Order) (offset : ℕ) (u v : ℕ × UnitParts) (us vs : List (ℕ × UnitParts)) (x y r s : List ℕ)
+    → (p : UnitsFrom order offset (u ∷ us) x) → (q : UnitsFrom order offset (v ∷ vs) y) → x ++ r ≡ y ++ s
+    → SameHead u v p.0 q.0 (p.1 ++ r) (q.1 ++ s)
+same_head order offset u v us vs x y r s p q e =
+    let all : p.0 ++ (p.1 ++ r) ≡ q.0 ++ (q.1 ++ s) = sym (append_assoc p.0 p.1 r) ∙ ap (λ (z : List ℕ). z ++ r) (sym p.4) ∙ e
+    ∙ ap (λ (z : List ℕ). z ++ s) q.4 ∙ append_assoc q.0 q.1 s in
+    let one = (one_spelling order).one u.1 v.1 p.0 q.0 (p.1 ++ r) (q.1 ++ s) p.3 q.3 all in
+    record { unit = same_pair u v (p.2 ∙ sym q.2) one.0; bytes = one.1; past = same_rest p.0 q.0 (p.1 ++ r) (q.1 ++ s) one.1 all }
 
 -- ---- the first flaw
 
@@ -52,19 +52,15 @@ module _ (falls : FallIsNotOrdered) (missing : MissingFileIsNotThere) (text gene
       → x ++ r ≡ y ++ s → AllByRecursion (IsSoundUnit text general dead) us → AllByRecursion (IsSoundUnit text general dead) vs
       → IsFlaw text general dead u one → IsFlaw text general dead v two → u ≡ v
   same_flawed offset [] [] u v x y r s one two p q e sound sound' f g =
-      (same_head order offset u v p.0 q.0 p.1 q.1 r s p.2 q.2 p.3 q.3
-      (ap (λ (z : List ℕ). z ++ r) (sym p.4) ∙ e ∙ ap (λ (z : List ℕ). z ++ s) q.4)).unit
+      (same_head order offset u v [] [] x y r s p q e).unit
   same_flawed offset [] (w ∷ vs) u v x y r s one two p q e sound sound' f g =
-      let h = same_head order offset u w p.0 q.0 p.1 q.1 r s p.2 q.2 p.3 q.3
-      (ap (λ (z : List ℕ). z ++ r) (sym p.4) ∙ e ∙ ap (λ (z : List ℕ). z ++ s) q.4) in
+      let h = same_head order offset u w [] (vs ++ v ∷ []) x y r s p q e in
       absurd (sound_well falls missing text general dead u one (subst (IsSoundUnit text general dead) (sym h.unit) sound'.0) f)
   same_flawed offset (w ∷ us) [] u v x y r s one two p q e sound sound' f g =
-      let h = same_head order offset w v p.0 q.0 p.1 q.1 r s p.2 q.2 p.3 q.3
-      (ap (λ (z : List ℕ). z ++ r) (sym p.4) ∙ e ∙ ap (λ (z : List ℕ). z ++ s) q.4) in
+      let h = same_head order offset w v (us ++ u ∷ []) [] x y r s p q e in
       absurd (sound_well falls missing text general dead v two (subst (IsSoundUnit text general dead) h.unit sound.0) g)
   same_flawed offset (a ∷ us) (b ∷ vs) u v x y r s one two p q e sound sound' f g =
-      let h = same_head order offset a b p.0 q.0 p.1 q.1 r s p.2 q.2 p.3 q.3
-      (ap (λ (z : List ℕ). z ++ r) (sym p.4) ∙ e ∙ ap (λ (z : List ℕ). z ++ s) q.4) in
+      let h = same_head order offset a b (us ++ u ∷ []) (vs ++ v ∷ []) x y r s p q e in
       let later : UnitsFrom order (offset + length p.0) (vs ++ v ∷ []) q.1 =
       subst (λ (z : List ℕ). UnitsFrom order (offset + length z) (vs ++ v ∷ []) q.1) (sym h.bytes) q.5 in
       same_flawed (offset + length p.0) us vs u v p.1 q.1 r s one two p.5 later h.past sound.1 sound'.1 f g
@@ -81,12 +77,10 @@ module _ (falls : FallIsNotOrdered) (missing : MissingFileIsNotThere) (text gene
       none b.1 q.0 (q.1 ++ s) q.3 (sym (append_assoc q.0 q.1 s) ∙ ap (λ (z : List ℕ). z ++ s) (sym q.4) ∙ sym e
       ∙ ap (λ (z : List ℕ). z ++ r) p)
   none_flawed offset (a ∷ us) [] v x y r s two p q e none sound g =
-      let h = same_head order offset a v p.0 q.0 p.1 q.1 r s p.2 q.2 p.3 q.3
-      (ap (λ (z : List ℕ). z ++ r) (sym p.4) ∙ e ∙ ap (λ (z : List ℕ). z ++ s) q.4) in
+      let h = same_head order offset a v us [] x y r s p q e in
       sound_well falls missing text general dead v two (subst (IsSoundUnit text general dead) h.unit sound.0) g
   none_flawed offset (a ∷ us) (b ∷ vs) v x y r s two p q e none sound g =
-      let h = same_head order offset a b p.0 q.0 p.1 q.1 r s p.2 q.2 p.3 q.3
-      (ap (λ (z : List ℕ). z ++ r) (sym p.4) ∙ e ∙ ap (λ (z : List ℕ). z ++ s) q.4) in
+      let h = same_head order offset a b us (vs ++ v ∷ []) x y r s p q e in
       let later : UnitsFrom order (offset + length p.0) (vs ++ v ∷ []) q.1 =
       subst (λ (z : List ℕ). UnitsFrom order (offset + length z) (vs ++ v ∷ []) q.1) (sym h.bytes) q.5 in
       none_flawed (offset + length p.0) us vs v p.1 q.1 r s two p.5 later h.past none sound.1 g
@@ -105,12 +99,7 @@ kind_of : (text general : List ℕ) (options : Options) (section : List ℕ) (re
 kind_of text general options section (no.Malformed fault) h = malformed fault refl h
 kind_of text general options section (no.Overlap first second position) h =
     overlaps (record { first = first; second = second; position = position }) refl h
-kind_of text general options section (no.Run unit fault) h = flawed h
-kind_of text general options section (no.EntryFormat unit which) h = flawed h
-kind_of text general options section (no.StringOutside unit which entry) h = flawed h
-kind_of text general options section (no.DirectoryNumber unit file) h = flawed h
-kind_of text general options section (no.FileNumber unit row file) h = flawed h
-kind_of text general options section (no.Falls unit row) h = flawed h
+kind_of text general options section reason h = flawed h
 
 -- a flaw, and an overlap of sound units
 flaw_and_overlap : FallIsNotOrdered → MissingFileIsNotThere

@@ -1,5 +1,5 @@
 -- Sequences have one first overlap.
-use Rattle.std.proofs.Common.{◌≡◌, ◌≢◌, ◌⊎◌, ℕ, ◌≤◌, List, sym, ap, subst, ◌∙◌, arith, get_or, inl, inr, ⊎_elim}
+use Rattle.std.proofs.Common.{◌≡◌, ◌≢◌, ◌⊎◌, ℕ, List, sym, ap, subst, ◌∙◌, arith, get_or, inl, inr, ⊎_elim}
 use Rattle.std.specs.List.{Contains}
 use Rattle.std.proofs.lemmas.Bool.{cases_eq}
 use Rattle.std.proofs.lemmas.List.{get_or_default}
@@ -7,11 +7,13 @@ use Rattle.std.proofs.lemmas.Option.{same_Some}
 use Rattle.lnt_machine.specs.declared.row.Row.{Row}
 use Rattle.lnt_spans.specs.declared.position.Position.{Position}
 use Rattle.lnt_spans.proofs.EachTwoLaws.{each_two_from_pairs}
-use Rattle.lnt_spans.proofs.PositionLaws.{at_most_itself, order_three}
+use Rattle.lnt_spans.proofs.PositionLaws.{order_three}
 use Rattle.lnt_spans.specs.Positions.{IsBelow}
 use Rattle.lnt_sequences.specs.declared.extent.Overlap.{Overlap}
 use Rattle.lnt_sequences.specs.declared.sequence.SeqId.{SeqId}
 use Rattle.lnt_sequences.specs.Extents.{BeginsNoLater, IsFirstOverlap, IsNotLater}
+use Rattle.lnt_sequences.proofs.KeptLaws.{same_id}
+use Rattle.lnt_sequences.proofs.OverlapLemmas.{place_itself, place_trans}
 use Rattle.lnt_sequences.specs.Rules.{AreDistinct}
 use Rattle.lnt_sequences.specs.Sequences.{Holds, Placed, position_of}
 
@@ -53,49 +55,27 @@ no_later one two three h k =
       other_first = k.other_first;
       first_is = h.first_is;
       other_is = k.other_is;
-      order = not_later (position_of h.first) (position_of h.other_first) (position_of k.other_first) one.id two.id three.id h.order second;
+      order = place_trans (position_of h.first) (position_of h.other_first) (position_of k.other_first) one.id two.id three.id h.order
+          second;
     }
-  where
-    not_later : (p q r : Position) (a b c : SeqId) → IsNotLater p a q b → IsNotLater q b r c → IsNotLater p a r c
-    not_later p q r a b c h k =
-        let x = h.low.address in
-        let y = k.low.address in
-        let ops : p.address ≡ r.address → (p.op ≤ q.op) × (q.op ≤ r.op) = λ e. (h.low.op (omega arith), k.low.op (omega arith)) in
-        let units : (e : p.address ≡ r.address) → p.op ≡ r.op → (a.unit ≤ b.unit) × (b.unit ≤ c.unit) = λ e f.
-        let o = ops e in
-        (h.unit (omega arith) (omega (arith, o)), k.unit (omega arith) (omega (arith, o))) in
-        record {
-          low = record { address = omega arith; op = λ e. let o = ops e in omega (arith, o) };
-          unit = λ e f. let u = units e f in omega (arith, u);
-          index = λ e f g.
-              let o = ops e in
-              let u = units e f in
-              let i : a.index ≤ b.index = h.index (omega arith) (omega (arith, o)) (omega (arith, u)) in
-              let j : b.index ≤ c.index = k.index (omega arith) (omega (arith, o)) (omega (arith, u)) in
-              omega arith;
-        }
-
-id_of : ℕ → ℕ → SeqId
-id_of unit index = record { unit = unit; index = index }
 
 -- neither begins later: they have one id
 both_ways : (one two : Placed) → BeginsNoLater one two → BeginsNoLater two one → one.id ≡ two.id
-unfolding id_of
 both_ways one two h k =
     let first : h.other_first ≡ k.first = same_Some h.other_first k.first (sym h.other_is ∙ k.first_is) in
     let last : h.first ≡ k.other_first = same_Some h.first k.other_first (sym h.first_is ∙ k.other_is) in
     let back : IsNotLater (position_of h.other_first) two.id (position_of h.first) one.id =
     subst (λ (row : Row). IsNotLater (position_of row) two.id (position_of h.first) one.id) (sym first)
     (subst (λ (row : Row). IsNotLater (position_of k.first) two.id (position_of row) one.id) (sym last) k.order) in
-    same_id (position_of h.first) (position_of h.other_first) one.id two.id h.order back
+    one_id (position_of h.first) (position_of h.other_first) one.id two.id h.order back
   where
-    same_id : (p q : Position) (a b : SeqId) → IsNotLater p a q b → IsNotLater q b p a → a ≡ b
-    same_id p q a b h k =
+    one_id : (p q : Position) (a b : SeqId) → IsNotLater p a q b → IsNotLater q b p a → a ≡ b
+    one_id p q a b h k =
         let address : p.address ≡ q.address = omega (arith, h.low.address, k.low.address) in
         let op : p.op ≡ q.op = omega (arith, h.low.op address, k.low.op (sym address)) in
         let unit : a.unit ≡ b.unit = omega (arith, h.unit address op, k.unit (sym address) (sym op)) in
         let index : a.index ≡ b.index = omega (arith, h.index address op unit, k.index (sym address) (sym op) (sym unit)) in
-        ap (λ (n : ℕ). id_of n a.index) unit ∙ ap (id_of b.unit) index
+        same_id a b unit index
 
 -- ---- the first two
 
@@ -122,7 +102,7 @@ itself one two h = record {
   other_first = h.other_first;
   first_is = h.other_is;
   other_is = h.other_is;
-  order = record { low = at_most_itself (position_of h.other_first); unit = λ e f. omega arith; index = λ e f g. omega arith };
+  order = place_itself (position_of h.other_first) two.id;
 }
 
 -- it is the first, or the second doesn't begin later

@@ -80,34 +80,11 @@ frame_is_some order frame bytes f = omega (
   length-initial frame.0 order (length frame.1),
 )
 
--- the unit after the sound ones has the flaw
-first_flaw : (text general : List ℕ) (options : Options) (old now : Option (List ℕ)) (bytes rest : List ℕ) (offset : ℕ) (draft : Draft)
-    (buffer : BufferedUnit) (reason : No)
-    → (so_far : JudgedSoFar text general options old now offset draft) → buffer.offset ≡ offset → buffer.order ≡ options.order
-    → bytes ≡ so_far.front ++ (buffer.bytes ++ rest)
-    → HasFlaw text general options.dead buffer reason → IsFirstFlaw text general options bytes reason
-first_flaw text general options old now bytes rest offset draft buffer reason so_far at same whole flaw =
-    let here : UnitBytesIn options.order flaw.unit buffer.bytes =
-    subst (λ (o : Order). UnitBytesIn o flaw.unit buffer.bytes) same flaw.spelled in
-    record {
-      units = so_far.units;
-      unit = (buffer.offset, flaw.unit);
-      front = so_far.front ++ buffer.bytes;
-      rest = rest;
-      spelled = units_push options.order 0 so_far.units (buffer.offset, flaw.unit) so_far.front buffer.bytes so_far.spelled
-          (omega (arith, at, so_far.place)) here;
-      split = whole ∙ sym (append_assoc so_far.front buffer.bytes rest);
-      sound = so_far.draft_is.sound;
-      flaw = flaw.flaw;
-    }
-
 -- no unit begins what stands after the sound ones
-malformed : (text general : List ℕ) (options : Options) (old now : Option (List ℕ)) (bytes rest : List ℕ) (offset : ℕ) (draft : Draft)
-    (fault : Fault)
-    → (so_far : JudgedSoFar text general options old now offset draft) → bytes ≡ so_far.front ++ rest → 0 < length rest
-    → BrokenUnit options.order fault offset rest
-    → IsMalformed text general options bytes fault
-malformed text general options old now bytes rest offset draft fault so_far whole some b =
+malformed : {text general : List ℕ} {options : Options} {old now : Option (List ℕ)} {offset : ℕ} {draft : Draft} (bytes rest : List ℕ)
+    (fault : Fault) → (so_far : JudgedSoFar text general options old now offset draft) → bytes ≡ so_far.front ++ rest → 0 < length rest
+    → BrokenUnit options.order fault offset rest → IsMalformed text general options bytes fault
+malformed {options = options} bytes rest fault so_far whole some b =
     let t : IsTrueFault options.order fault bytes = record {
       units = so_far.units;
       front = so_far.front;
@@ -119,41 +96,40 @@ malformed text general options old now bytes rest offset draft fault so_far whol
     } in
     record { broken = record { none = no_section options.order fault bytes t; true_fault = t }; sound = so_far.draft_is.sound }
 
-malformed_in : (text general : List ℕ) (options : Options) (old now : Option (List ℕ)) (bytes rest : List ℕ) (offset : ℕ) (draft : Draft)
-    (buffer : BufferedUnit) (fault : Fault)
-    → (so_far : JudgedSoFar text general options old now offset draft) → IsWholeUnit buffer → buffer.offset ≡ offset
-    → buffer.order ≡ options.order → bytes ≡ so_far.front ++ (buffer.bytes ++ rest)
-    → BrokenUnit buffer.order fault buffer.offset buffer.bytes → IsMalformed text general options bytes fault
-malformed_in text general options old now bytes rest offset draft buffer fault so_far is at same whole b =
-    let more : BrokenUnit buffer.order fault buffer.offset (buffer.bytes ++ rest) =
-    broken_more buffer.order fault buffer.offset (is.format, is.body) buffer.bytes rest is.spelled b in
-    let here : BrokenUnit options.order fault offset (buffer.bytes ++ rest) =
-    subst (λ (n : ℕ). BrokenUnit options.order fault n (buffer.bytes ++ rest)) at
-    (subst (λ (o : Order). BrokenUnit o fault buffer.offset (buffer.bytes ++ rest)) same more) in
-    malformed text general options old now bytes (buffer.bytes ++ rest) offset draft fault so_far whole
-    (omega (arith, length-append buffer.bytes rest, frame_is_some buffer.order (is.format, is.body) buffer.bytes is.spelled)) here
+-- the unit after the sound ones
+module _ {text general : List ℕ} {options : Options} {old now : Option (List ℕ)} {offset : ℕ} {draft : Draft} (bytes rest : List ℕ)
+    (buffer : BufferedUnit) (so_far : JudgedSoFar text general options old now offset draft) (at : buffer.offset ≡ offset)
+    (same : buffer.order ≡ options.order) (whole : bytes ≡ so_far.front ++ (buffer.bytes ++ rest)) where
+  -- has the flaw
+  first_flaw : (reason : No) → HasFlaw text general options.dead buffer reason → IsFirstFlaw text general options bytes reason
+  first_flaw reason flaw = record {
+    units = so_far.units;
+    unit = (buffer.offset, flaw.unit);
+    front = so_far.front ++ buffer.bytes;
+    rest = rest;
+    spelled = units_push options.order 0 so_far.units (buffer.offset, flaw.unit) so_far.front buffer.bytes so_far.spelled
+        (omega (arith, at, so_far.place)) (subst (λ (o : Order). UnitBytesIn o flaw.unit buffer.bytes) same flaw.spelled);
+    split = whole ∙ sym (append_assoc so_far.front buffer.bytes rest);
+    sound = so_far.draft_is.sound;
+    flaw = flaw.flaw;
+  }
 
-refused : (text general : List ℕ) (options : Options) (old now : Option (List ℕ)) (bytes rest : List ℕ) (offset : ℕ) (draft : Draft)
-    (buffer : BufferedUnit) (reason : No)
-    → (so_far : JudgedSoFar text general options old now offset draft) → IsWholeUnit buffer → buffer.offset ≡ offset
-    → buffer.order ≡ options.order → bytes ≡ so_far.front ++ (buffer.bytes ++ rest)
-    → IsUnitNo text general options.dead buffer reason → IsTrueNo text general options bytes reason
-refused text general options old now bytes rest offset draft buffer (bad.Malformed fault) so_far is at same whole b =
-    malformed_in text general options old now bytes rest offset draft buffer fault so_far is at same whole b
-refused text general options old now bytes rest offset draft buffer (bad.Overlap first second position) so_far is at same whole h =
-    absurd h.flaw
-refused text general options old now bytes rest offset draft buffer (bad.Run unit fault) so_far is at same whole h =
-    first_flaw text general options old now bytes rest offset draft buffer (bad.Run unit fault) so_far at same whole h
-refused text general options old now bytes rest offset draft buffer (bad.EntryFormat unit which) so_far is at same whole h =
-    first_flaw text general options old now bytes rest offset draft buffer (bad.EntryFormat unit which) so_far at same whole h
-refused text general options old now bytes rest offset draft buffer (bad.StringOutside unit which entry) so_far is at same whole h =
-    first_flaw text general options old now bytes rest offset draft buffer (bad.StringOutside unit which entry) so_far at same whole h
-refused text general options old now bytes rest offset draft buffer (bad.DirectoryNumber unit file) so_far is at same whole h =
-    first_flaw text general options old now bytes rest offset draft buffer (bad.DirectoryNumber unit file) so_far at same whole h
-refused text general options old now bytes rest offset draft buffer (bad.FileNumber unit row file) so_far is at same whole h =
-    first_flaw text general options old now bytes rest offset draft buffer (bad.FileNumber unit row file) so_far at same whole h
-refused text general options old now bytes rest offset draft buffer (bad.Falls unit row) so_far is at same whole h =
-    first_flaw text general options old now bytes rest offset draft buffer (bad.Falls unit row) so_far at same whole h
+  malformed_in : (fault : Fault) → IsWholeUnit buffer → BrokenUnit buffer.order fault buffer.offset buffer.bytes
+      → IsMalformed text general options bytes fault
+  malformed_in fault is b =
+      let more : BrokenUnit buffer.order fault buffer.offset (buffer.bytes ++ rest) =
+      broken_more buffer.order fault buffer.offset (is.format, is.body) buffer.bytes rest is.spelled b in
+      let here : BrokenUnit options.order fault offset (buffer.bytes ++ rest) =
+      subst (λ (n : ℕ). BrokenUnit options.order fault n (buffer.bytes ++ rest)) at
+      (subst (λ (o : Order). BrokenUnit o fault buffer.offset (buffer.bytes ++ rest)) same more) in
+      malformed bytes (buffer.bytes ++ rest) fault so_far whole
+      (omega (arith, length-append buffer.bytes rest, frame_is_some buffer.order (is.format, is.body) buffer.bytes is.spelled)) here
+
+  refused : (reason : No) → IsWholeUnit buffer → IsUnitNo text general options.dead buffer reason
+      → IsTrueNo text general options bytes reason
+  refused (bad.Malformed fault) is b = malformed_in fault is b
+  refused (bad.Overlap first second position) is h = absurd h.flaw
+  refused reason is h = first_flaw reason h
 
 pub unit_refused : (text general : List ℕ) (options : Options) (old now now' : Option (List ℕ)) (order : Order) (offset : ℕ)
     (buffer : BufferedUnit) (draft : Draft) (told : Refusal)
@@ -170,9 +146,8 @@ unit_refused text general options (Some bytes) now now' order offset buffer draf
     by_left None b p q = absurd p
     by_left (Some x) None p q = absurd q
     by_left (Some x) (Some y) p q =
-        refused text general options (Some bytes) now bytes y offset draft buffer reason so_far next.whole next.offset_is
-        (next.order_is ∙ same)
-        (p ∙ ap (λ (z : List ℕ). so_far.front ++ z) q) r
+        refused bytes y buffer so_far next.offset_is (next.order_is ∙ same) (p ∙ ap (λ (z : List ℕ). so_far.front ++ z) q) reason
+        next.whole r
 
 -- ---- no unit comes
 
@@ -187,7 +162,7 @@ fault_refused text general options (Some bytes) now order offset draft fault so_
         → IsMalformed text general options bytes fault
     by_left None p e = absurd p
     by_left (Some x) p e =
-        malformed text general options (Some bytes) now bytes x offset draft fault so_far p e.0
+        malformed bytes x fault so_far p e.0
         (subst (λ (o : Order). BrokenUnit o fault offset x) same
         (frame_broken order (record { place = offset; rest = x; order = order }) fault e.1))
 

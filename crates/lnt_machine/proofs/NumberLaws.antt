@@ -1,7 +1,8 @@
--- The rows of a unit are told by its header's numbers.
+-- Rows are told by the numbers of a header: its format, its byte order, its directories and its files don't matter.
 use Rattle.std.proofs.Common.{◌≡◌, ℕ, ◌+◌, ◌%◌, ◌<◌, ◌≤◌, List, [], ◌∷◌, length, refl, sym, ap, subst, ◌∙◌}
-use Rattle.std.specs.Prelude.{true, false, ℤ, pos, ◌+ℤ◌, unsigned_abs, Option, Some, reverse, slice_index_or}
+use Rattle.std.specs.Prelude.{◌↔◌, true, false, ℤ, pos, ◌+ℤ◌, unsigned_abs, Option, Some, reverse, slice_index_or}
 use Rattle.std.specs.List.{cons_option}
+use Rattle.lnt_header.specs.Conversion.{in_format}
 use Rattle.lnt_header.specs.HeaderNumbers.{without_entries}
 use Rattle.lnt_header.specs.declared.header.HeaderParts.{HeaderParts}
 use Rattle.lnt_header.specs.declared.op.Op.{Op}
@@ -9,8 +10,8 @@ use Rattle.lnt_header.specs.declared.op.Op.TheVariants.{Special, Copy, AdvanceLi
 use Rattle.lnt_header.specs.declared.unit_parts.UnitParts.{UnitParts}
 use Rattle.lnt_ops.proofs.NumberLaws.{numbers_of_ops, ops_by_numbers}
 use Rattle.lnt_machine.proofs.PlaceLaws.{kept_sequence}
-use Rattle.lnt_machine.specs.Laws.{unit_by_numbers, SameByNumbers}
-use Rattle.lnt_machine.specs.Matrix.{row_of, end_row_of, row_made, rows_after, rows, sequences_of, joined_rows, done}
+use Rattle.lnt_machine.specs.Laws.{SameByNumbers, SameMatrix}
+use Rattle.lnt_machine.specs.Matrix.{row_of, end_row_of, row_made, rows_after, sequences_of, joined_rows, done}
 use Rattle.lnt_machine.specs.Matrix.{sequences, Runs, IsRunFault}
 use Rattle.lnt_machine.specs.Parts.{first_sequence}
 use Rattle.lnt_machine.specs.Walking.{IsSequencePlace, KeptProgram, KeepsProgram, LinesAfter, WillGive, SequenceWalk}
@@ -23,37 +24,49 @@ use Rattle.lnt_machine.specs.declared.fault.RunFault.TheVariants.{LineOutOfRange
 use Rattle.lnt_machine.specs.declared.row.Row.{Row}
 use Rattle.lnt_machine.specs.declared.row.Sequence.{Sequence}
 
+-- a header with the numbers of another one
+abbrev numbers_in : HeaderParts → HeaderParts → HeaderParts
+numbers_in other h = record other {
+  address_size = h.address_size;
+  minimum_instruction_length = h.minimum_instruction_length;
+  max_ops = h.max_ops;
+  default_is_stmt = h.default_is_stmt;
+  line_base = h.line_base;
+  line_range = h.line_range;
+  opcode_base = h.opcode_base;
+}
+
 -- ---- registers
 
-same_advances : (h : HeaderParts) (back : List Op) → advances (without_entries h) back ≡ advances h back
-same_advances h [] = refl
-same_advances h (EndSequence ∷ back) = refl
-same_advances h (SetAddress a ∷ back) = refl
-same_advances h (FixedAdvancePc n ∷ back) = refl
-same_advances h (op ∷ back) = ap (λ (n : ℕ). advance_of h op + n) (same_advances h back)
+same_advances : (other h : HeaderParts) (back : List Op) → advances (numbers_in other h) back ≡ advances h back
+same_advances other h [] = refl
+same_advances other h (EndSequence ∷ back) = refl
+same_advances other h (SetAddress a ∷ back) = refl
+same_advances other h (FixedAdvancePc n ∷ back) = refl
+same_advances other h (op ∷ back) = ap (λ (n : ℕ). advance_of h op + n) (same_advances other h back)
 
-same_base : (h : HeaderParts) (back : List Op) → base (without_entries h) back ≡ base h back
-same_base h [] = refl
-same_base h (EndSequence ∷ back) = refl
-same_base h (SetAddress a ∷ back) = refl
-same_base h (FixedAdvancePc n ∷ back) =
-    ap (λ (from : ℕ). moved h from (advances (without_entries h) back) + n) (same_base h back)
-    ∙ ap (λ (by : ℕ). moved h (base h back) by + n) (same_advances h back)
-same_base h (op ∷ back) = same_base h back
+same_base : (other h : HeaderParts) (back : List Op) → base (numbers_in other h) back ≡ base h back
+same_base other h [] = refl
+same_base other h (EndSequence ∷ back) = refl
+same_base other h (SetAddress a ∷ back) = refl
+same_base other h (FixedAdvancePc n ∷ back) =
+    ap (λ (from : ℕ). moved h from (advances (numbers_in other h) back) + n) (same_base other h back)
+    ∙ ap (λ (by : ℕ). moved h (base h back) by + n) (same_advances other h back)
+same_base other h (op ∷ back) = same_base other h back
 
-same_increment : (h : HeaderParts) (op : Op) → line_increment (without_entries h) op ≡ line_increment h op
-same_increment h (AdvanceLine z) = refl
-same_increment h (Special c) = refl
-same_increment h op = refl
+same_increment : (other h : HeaderParts) (op : Op) → line_increment (numbers_in other h) op ≡ line_increment h op
+same_increment other h (AdvanceLine z) = refl
+same_increment other h (Special c) = refl
+same_increment other h op = refl
 
-same_sum : (h : HeaderParts) (back : List Op) → line_sum (without_entries h) back ≡ line_sum h back
-same_sum h [] = refl
-same_sum h (op ∷ back) =
-    ap (λ (z : ℤ). z +ℤ line_sum (without_entries h) back) (same_increment h op)
-    ∙ ap (λ (z : ℤ). line_increment h op +ℤ z) (same_sum h back)
+same_sum : (other h : HeaderParts) (back : List Op) → line_sum (numbers_in other h) back ≡ line_sum h back
+same_sum other h [] = refl
+same_sum other h (op ∷ back) =
+    ap (λ (z : ℤ). z +ℤ line_sum (numbers_in other h) back) (same_increment other h op)
+    ∙ ap (λ (z : ℤ). line_increment h op +ℤ z) (same_sum other h back)
 
-pub same_line : (h : HeaderParts) (back : List Op) → line (without_entries h) back ≡ line h back
-same_line h back = ap (λ (z : ℤ). pos 1 +ℤ z) (same_sum h (part back))
+same_line : (other h : HeaderParts) (back : List Op) → line (numbers_in other h) back ≡ line h back
+same_line other h back = ap (λ (z : ℤ). pos 1 +ℤ z) (same_sum other h (part back))
 
 -- the registers, by the three sums
 by_sums : HeaderParts → List Op → ℕ → ℕ → ℤ → Row
@@ -72,43 +85,39 @@ by_sums h back from by moves = record {
   epilogue_begin = epilogue_begin back;
 }
 
-same_registers : (h : HeaderParts) (back : List Op) → registers_after (without_entries h) back ≡ registers_after h back
+same_registers : (other h : HeaderParts) (back : List Op) → registers_after (numbers_in other h) back ≡ registers_after h back
 unfolding by_sums
-same_registers h back =
-    let other = without_entries h in
-    ap (λ (from : ℕ). by_sums h back from (advances other back) (line_sum other (part back))) (same_base h back)
-    ∙ ap (λ (by : ℕ). by_sums h back (base h back) by (line_sum other (part back))) (same_advances h back)
-    ∙ ap (λ (moves : ℤ). by_sums h back (base h back) (advances h back) moves) (same_sum h (part back))
+same_registers other h back =
+    let g = numbers_in other h in
+    ap (λ (from : ℕ). by_sums h back from (advances g back) (line_sum g (part back))) (same_base other h back)
+    ∙ ap (λ (by : ℕ). by_sums h back (base h back) by (line_sum g (part back))) (same_advances other h back)
+    ∙ ap (λ (moves : ℤ). by_sums h back (base h back) (advances h back) moves) (same_sum other h (part back))
 
 -- ---- rows
 
-same_row : (h : HeaderParts) (back : List Op) (op : Op) → row_of (without_entries h) back op ≡ row_of h back op
-same_row h back op =
+same_row : (other h : HeaderParts) (back : List Op) (op : Op) → row_of (numbers_in other h) back op ≡ row_of h back op
+same_row other h back op =
     ap (λ (r : Row). record r {
       discriminator = discriminator back;
       basic_block = basic_block back;
       prologue_end = prologue_end back;
       epilogue_begin = epilogue_begin back;
-    }) (same_registers h (op ∷ back))
+    }) (same_registers other h (op ∷ back))
 
-same_end_row : (h : HeaderParts) (back : List Op) → end_row_of (without_entries h) back ≡ end_row_of h back
-same_end_row h back = ap (λ (r : Row). record r { end_sequence = true }) (same_registers h back)
+same_end_row : (other h : HeaderParts) (back : List Op) → end_row_of (numbers_in other h) back ≡ end_row_of h back
+same_end_row other h back = ap (λ (r : Row). record r { end_sequence = true }) (same_registers other h back)
 
-same_made : (h : HeaderParts) (back : List Op) (op : Op) → row_made (without_entries h) back op ≡ row_made h back op
-same_made h back Copy = ap Some (same_row h back Copy)
-same_made h back (Special c) = ap Some (same_row h back (Special c))
-same_made h back EndSequence = ap Some (same_end_row h back)
-same_made h back op = refl
+same_made : (other h : HeaderParts) (back : List Op) (op : Op) → row_made (numbers_in other h) back op ≡ row_made h back op
+same_made other h back Copy = ap Some (same_row other h back Copy)
+same_made other h back (Special c) = ap Some (same_row other h back (Special c))
+same_made other h back EndSequence = ap Some (same_end_row other h back)
+same_made other h back op = refl
 
-pub same_rows : (h : HeaderParts) (back ops : List Op) → rows_after (without_entries h) back ops ≡ rows_after h back ops
-same_rows h back [] = refl
-same_rows h back (op ∷ ops) =
-    ap (λ (row : Option Row). cons_option row (rows_after (without_entries h) (op ∷ back) ops)) (same_made h back op)
-    ∙ ap (λ (more : List Row). cons_option (row_made h back op) more) (same_rows h (op ∷ back) ops)
-
--- the unit of the same operations, with the numbers of its header alone
-unit_rows : (unit : UnitParts) → rows (unit_by_numbers unit) ≡ rows unit
-unit_rows unit = same_rows unit.header [] unit.ops
+same_rows : (other h : HeaderParts) (back ops : List Op) → rows_after (numbers_in other h) back ops ≡ rows_after h back ops
+same_rows other h back [] = refl
+same_rows other h back (op ∷ ops) =
+    ap (λ (row : Option Row). cons_option row (rows_after (numbers_in other h) (op ∷ back) ops)) (same_made other h back op)
+    ∙ ap (λ (more : List Row). cons_option (row_made h back op) more) (same_rows other h (op ∷ back) ops)
 
 -- ---- how the program runs
 
@@ -120,7 +129,7 @@ lines_over h other ops k same fit j le = subst IsLine (same (done ops j)) (fit j
 closed_over : (us vs : List Row) → us ≡ vs → joined_rows (sequences_of us) ≡ us → joined_rows (sequences_of vs) ≡ vs
 closed_over us vs same closed = subst (λ (rows : List Row). joined_rows (sequences_of rows) ≡ rows) same closed
 
-pub runs_over : (h other : HeaderParts) (ops : List Op) → ((back : List Op) → line h back ≡ line other back)
+runs_over : (h other : HeaderParts) (ops : List Op) → ((back : List Op) → line h back ≡ line other back)
     → rows_after h [] ops ≡ rows_after other [] ops
     → Runs (record { header = h; ops = ops }) → Runs (record { header = other; ops = ops })
 runs_over h other ops lines same runs = record {
@@ -128,7 +137,7 @@ runs_over h other ops lines same runs = record {
   closed = closed_over (rows_after h [] ops) (rows_after other [] ops) same runs.closed;
 }
 
-pub fault_over : (h other : HeaderParts) (ops : List Op) → ((back : List Op) → line h back ≡ line other back)
+fault_over : (h other : HeaderParts) (ops : List Op) → ((back : List Op) → line h back ≡ line other back)
     → rows_after h [] ops ≡ rows_after other [] ops
     → (fault : RunFault) → IsRunFault (record { header = h; ops = ops }) fault → IsRunFault (record { header = other; ops = ops }) fault
 fault_over h other ops lines same (LineOutOfRange k) (within, fit, leaves) =
@@ -140,22 +149,41 @@ fault_over h other ops lines same OpenSequence (fit, left) = (
 )
 fault_over h other ops lines same Memory is = tt
 
+-- the unit with another header of the same numbers runs where the unit runs
+runs_alike : (other : HeaderParts) (unit : UnitParts) → Runs (record unit { header = numbers_in other unit.header }) ↔ Runs unit
+runs_alike other unit =
+    let h = unit.header in
+    let g = numbers_in other h in
+    let rows = same_rows other h [] unit.ops in (
+      runs_over g h unit.ops (same_line other h) rows,
+      runs_over h g unit.ops (λ back. sym (same_line other h back)) (sym rows),
+    )
+
+-- and doesn't run for the same reasons
+faults_alike : (other : HeaderParts) (unit : UnitParts) (fault : RunFault)
+    → IsRunFault (record unit { header = numbers_in other unit.header }) fault ↔ IsRunFault unit fault
+faults_alike other unit fault =
+    let h = unit.header in
+    let g = numbers_in other h in
+    let rows = same_rows other h [] unit.ops in (
+      fault_over g h unit.ops (same_line other h) rows fault,
+      fault_over h g unit.ops (λ back. sym (same_line other h back)) (sym rows) fault,
+    )
+
 pub same_by_numbers : SameByNumbers
 same_by_numbers = record {
-  same_rows = unit_rows;
-  same_sequences = λ unit. ap sequences_of (unit_rows unit);
-  runs = λ unit.
-      let h = unit.header in
-      let other = without_entries h in (
-        runs_over other h unit.ops (same_line h) (same_rows h [] unit.ops),
-        runs_over h other unit.ops (λ back. sym (same_line h back)) (sym (same_rows h [] unit.ops)),
-      );
-  faults = λ unit fault.
-      let h = unit.header in
-      let other = without_entries h in (
-        fault_over other h unit.ops (same_line h) (same_rows h [] unit.ops) fault,
-        fault_over h other unit.ops (λ back. sym (same_line h back)) (sym (same_rows h [] unit.ops)) fault,
-      );
+  same_rows = λ unit. same_rows (without_entries unit.header) unit.header [] unit.ops;
+  same_sequences = λ unit. ap sequences_of (same_rows (without_entries unit.header) unit.header [] unit.ops);
+  runs = λ unit. runs_alike (without_entries unit.header) unit;
+  faults = λ unit. faults_alike (without_entries unit.header) unit;
+}
+
+pub same_matrix : SameMatrix
+same_matrix = record {
+  same_rows = λ unit format order. same_rows (in_format unit.header format order) unit.header [] unit.ops;
+  same_sequences = λ unit format order. ap sequences_of (same_rows (in_format unit.header format order) unit.header [] unit.ops);
+  runs = λ unit format order. runs_alike (in_format unit.header format order) unit;
+  faults = λ unit format order. faults_alike (in_format unit.header format order) unit;
 }
 
 -- ---- places of sequences
@@ -163,7 +191,7 @@ same_by_numbers = record {
 lines_by_numbers : (h : HeaderParts) (back later : List Op) → LinesAfter h back later → LinesAfter (without_entries h) back later
 lines_by_numbers h back [] lines = tt
 lines_by_numbers h back (op ∷ later) lines =
-    (subst IsLine (sym (same_line h (op ∷ back))) lines.0, lines_by_numbers h (op ∷ back) later lines.1)
+    (subst IsLine (sym (same_line (without_entries h) h (op ∷ back))) lines.0, lines_by_numbers h (op ∷ back) later lines.1)
 
 -- a place by the header is one by its numbers
 place_by_numbers : (h : HeaderParts) (program : List ℕ) (earlier later : List Op) (place : ℕ)
@@ -198,7 +226,7 @@ sequence_by_numbers kept numbers unit index place d walk same keeps few at gives
     subst (λ (n : HeaderParts). IsSequencePlace n kept.program earlier later place) (sym same)
     (place_by_numbers h kept.program earlier later place is) in
     let rows_are : rows_after numbers (reverse earlier) later ≡ rows_after h (reverse earlier) later =
-    ap (λ (n : HeaderParts). rows_after n (reverse earlier) later) same ∙ same_rows h (reverse earlier) later in
+    ap (λ (n : HeaderParts). rows_after n (reverse earlier) later) same ∙ same_rows (without_entries h) h (reverse earlier) later in
     subst (λ (rows : List Row). WillGive (first_sequence rows) walk) rows_are (gives earlier later begins))
 
 -- a front by the header's numbers is one by the header
@@ -212,7 +240,7 @@ front_by_numbers h program index place is = record {
   place_is = is.place_is;
   spelled = ops_by_numbers h is.earlier is.front is.spelled;
   start = is.start;
-  index_is = is.index_is ∙ ap (λ (rows : List Row). length (sequences_of rows)) (same_rows h [] is.earlier);
+  index_is = is.index_is ∙ ap (λ (rows : List Row). length (sequences_of rows)) (same_rows (without_entries h) h [] is.earlier);
 }
 
 -- places that were found by the header's numbers are those of the header

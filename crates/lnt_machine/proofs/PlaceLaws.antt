@@ -4,7 +4,7 @@ use Rattle.std.proofs.Common.{append_assoc, arith, inl, inr}
 use Rattle.std.specs.Prelude.{reverse, slice_index_or, Some, None}
 use Rattle.std.proofs.lemmas.Bool.{cases_lt, true≢false}
 use Rattle.std.proofs.lemmas.Option.{same_Some}
-use Rattle.std.proofs.lemmas.List.{get_or_append_left, length-append, reverse-append, take_all, take-append-le}
+use Rattle.std.proofs.lemmas.List.{get_or_append_left, length-append, reverse-append}
 use Rattle.std.proofs.Math.Seq.{get_or-append_seam}
 use Rattle.lnt_header.specs.declared.header.HeaderParts.{HeaderParts}
 use Rattle.lnt_wire.specs.At.{At}
@@ -20,7 +20,8 @@ use Rattle.lnt_header.specs.declared.unit_parts.UnitParts.{UnitParts}
 use Rattle.lnt_machine.specs.declared.row.Row.{Row}
 use Rattle.lnt_machine.specs.declared.row.Sequence.{Sequence}
 use Rattle.lnt_machine.proofs.PartLaws.{first_of, rows_at_start, sequences_of_parts}
-use Rattle.lnt_machine.specs.Matrix.{done, LinesFit, row_made, rows_after, sequences, sequences_of}
+use Rattle.lnt_machine.proofs.RanLaws.{done_next}
+use Rattle.lnt_machine.specs.Matrix.{LinesFit, row_made, rows_after, sequences, sequences_of}
 use Rattle.lnt_machine.specs.Parts.{AtStart, first_sequence, rows_of_ops}
 use Rattle.lnt_machine.specs.Registers.{IsLine, line}
 use Rattle.lnt_machine.specs.Walking.{IsPlaceOf, IsSequencePlace, KeptProgram, KeepsProgram, LinesAfter, SequenceWalk, WillGive}
@@ -77,12 +78,7 @@ pub lines_after : (h : HeaderParts) (earlier later : List Op)
     → LinesFit (record { header = h; ops = earlier ++ later }) (length (earlier ++ later)) → LinesAfter h (reverse earlier) later
 lines_after h earlier [] fit = tt
 lines_after h earlier (op ∷ later) fit =
-    let next : done (earlier ++ op ∷ later) (length earlier + 1) ≡ op ∷ reverse earlier =
-    ap (λ (ops : List Op). done ops (length earlier + 1)) (sym (append_assoc earlier (op ∷ []) later))
-    ∙ ap reverse (take-append-le (length earlier + 1) (earlier ++ op ∷ []) later (omega (arith, length-append earlier (op ∷ [])))
-    ∙ take_all (length earlier + 1) (earlier ++ op ∷ []) (omega (arith, length-append earlier (op ∷ []))))
-    ∙ reverse-append earlier (op ∷ []) in
-    let here : IsLine (line h (op ∷ reverse earlier)) = subst (λ (back : List Op). IsLine (line h back)) next
+    let here : IsLine (line h (op ∷ reverse earlier)) = subst (λ (back : List Op). IsLine (line h back)) (done_next earlier op later)
     (fit (length earlier + 1) (omega (arith, length-append earlier (op ∷ later)))) in
     let more : LinesAfter h (reverse (earlier ++ op ∷ [])) later =
     lines_after h (earlier ++ op ∷ []) later

@@ -10,7 +10,7 @@ use Rattle.lnt_machine.specs.Cuts.{are_some, AreOpen, IsEnded, IsCut}
 pub cut_none : IsCut [] [] []
 cut_none = record { joined = refl; each = tt; past = tt }
 
-all-append : {X : Type 0} (P : X → Type 0) (xs : List X) (x : X) → AllByRecursion P xs → P x → AllByRecursion P (xs ++ x ∷ [])
+pub all-append : {X : Type 0} (P : X → Type 0) (xs : List X) (x : X) → AllByRecursion P xs → P x → AllByRecursion P (xs ++ x ∷ [])
 all-append P [] x all here = (here, tt)
 all-append P (y ∷ xs) x all here = (all.0, all-append P xs x all.1 here)
 

@@ -8,12 +8,11 @@ use Rattle.lnt_header.specs.declared.header.HeaderParts.{HeaderParts}
 use Rattle.lnt_header.specs.declared.op.Op.{Op}
 use Rattle.lnt_header.specs.declared.op.OpView.{OpView}
 use Rattle.lnt_header.specs.HeaderRules.{IsHeader}
-use Rattle.lnt_header.specs.OpRules.{Admits, StandsFor}
 use Rattle.lnt_ops.proofs.LeftLaws.{left_at, left_ends, left_fails, left_next}
-use Rattle.lnt_ops.specs.Walks as walks
-use Rattle.lnt_ops.specs.Walks.{Walk, Ends, Fails}
+use Rattle.lnt_ops.specs.Walks.{Ends, Fails, GivesOperation, Walk}
 use Rattle.lnt_machine.specs.declared.row.Row.{Row}
 use Rattle.lnt_machine.proofs.PartLaws.{stands_at_start}
+use Rattle.lnt_machine.proofs.RanLaws.{no_row}
 use Rattle.lnt_machine.specs.Matrix.{row_made, rows_after}
 use Rattle.lnt_machine.specs.Parts.{first_sequence}
 use Rattle.lnt_machine.specs.Registers.{IsLine, line}
@@ -23,82 +22,71 @@ use Rattle.lnt_machine.specs.Walking.{GivesFirstRow, GivesRow, HasRows, IsSequen
 use Rattle.lnt_machine.specs.Stepping.{GivesNext}
 use Rattle.lnt_machine.specs.Walking.WillGive.{none, some}
 
--- what the machine may do, where its header is that of the walk
-pub may_step : (view : OpView) (machine : MachineState) (old new : Walk) → machine.header ≡ old.header
-    → walks.GivesOperation view old new → (op : Op)
-    × StandsFor view op × Admits machine.header op
-may_step view machine old new same step =
-    (step.gives.op, step.gives.stands, subst (λ (g : HeaderParts). Admits g step.gives.op) (sym same) step.gives.admitted)
-
 -- the rows from the next operation on
 record IsDone (h : HeaderParts) (rows : List Row) (made : Option Row) (machine : MachineState) (walk : Walk) : Type 0 where
   others : List Row
   rows_are : rows ≡ cons_option made others
   has : HasRows h others machine walk
 
-done_one : (h : HeaderParts) (rows : List Row) (view : OpView) (old new : Walk) (machine machine' : MachineState) (made : Option Row)
-    → HasRows h rows machine old → walks.GivesOperation view old new → Steps view machine machine' made → IsDone h rows made machine' new
-done_one h rows view old new machine machine' made has step steps =
-    let next = left_next h has.later view old new has.valid has.left step in
-    let lines : LinesAfter h has.back (next.op ∷ next.others) = subst (LinesAfter h has.back) next.later_is has.lines in
-    let made_is : made ≡ row_made h has.back next.op =
-    steps.row_is has.back next.op has.stands next.stands ∙ ap (λ (g : HeaderParts). row_made g has.back next.op) has.header_is in
-    record {
-      others = rows_after h (next.op ∷ has.back) next.others;
-      rows_are = has.rows_are ∙ ap (rows_after h has.back) next.later_is
-          ∙ ap (λ (m : Option Row). cons_option m (rows_after h (next.op ∷ has.back) next.others)) (sym made_is);
-      has = record {
-        back = next.op ∷ has.back;
-        later = next.others;
-        valid = has.valid;
-        header_is = steps.header ∙ has.header_is;
-        stands = steps.stands has.back next.op has.stands next.stands;
-        left = next.left;
-        lines = lines.1;
-        rows_are = refl;
-      };
-    }
+-- the walk gives an operation
+module _ {h : HeaderParts} {rows : List Row} {view : OpView} {old new : Walk} {machine : MachineState} (has : HasRows h rows machine old)
+    (step : GivesOperation view old new) where
+  next_done : {machine' : MachineState} {made : Option Row} → Steps view machine machine' made → IsDone h rows made machine' new
+  next_done {machine'} {made} steps =
+      let next = left_next h has.later view old new has.valid has.left step in
+      let lines : LinesAfter h has.back (next.op ∷ next.others) = subst (LinesAfter h has.back) next.later_is has.lines in
+      let made_is : made ≡ row_made h has.back next.op =
+      steps.row_is has.back next.op has.stands next.stands ∙ ap (λ (g : HeaderParts). row_made g has.back next.op) has.header_is in
+      record {
+        others = rows_after h (next.op ∷ has.back) next.others;
+        rows_are = has.rows_are ∙ ap (rows_after h has.back) next.later_is
+            ∙ ap (λ (m : Option Row). cons_option m (rows_after h (next.op ∷ has.back) next.others)) (sym made_is);
+        has = record {
+          back = next.op ∷ has.back;
+          later = next.others;
+          valid = has.valid;
+          header_is = steps.header ∙ has.header_is;
+          stands = steps.stands has.back next.op has.stands next.stands;
+          left = next.left;
+          lines = lines.1;
+          rows_are = refl;
+        };
+      }
 
--- an operation without a row
-pub next_quiet : (h : HeaderParts) (rows : List Row) (view : OpView) (old new : Walk) (machine machine' : MachineState) (made : Option Row)
-    → HasRows h rows machine old → walks.GivesOperation view old new → Steps view machine machine' made
-    → ((row : Row) → made ≡ Some row → ⊥)
-    → HasRows h rows machine' new
-next_quiet h rows view old new machine machine' (Some row) has step steps quiet = absurd (quiet row refl)
-next_quiet h rows view old new machine machine' None has step steps quiet =
-    let one = done_one h rows view old new machine machine' None has step steps in
-    subst (λ (list : List Row). HasRows h list machine' new) (sym one.rows_are) one.has
+  -- it makes no row
+  pub next_quiet : {machine' : MachineState} {made : Option Row} → Steps view machine machine' made
+      → ((row : Row) → made ≡ Some row → ⊥) → HasRows h rows machine' new
+  next_quiet {machine'} {made} steps quiet =
+      let one = next_done steps in
+      subst (λ (list : List Row). HasRows h list machine' new) (sym (one.rows_are ∙ no_row made one.others quiet)) one.has
 
--- an operation and its row
-pub next_row : (h : HeaderParts) (rows : List Row) (view : OpView) (old new : Walk) (machine machine' : MachineState) (made : Option Row)
-    (row : Row)
-    → HasRows h rows machine old → walks.GivesOperation view old new → Steps view machine machine' made → made ≡ Some row
-    → GivesNext h rows (Some row) machine' new
-next_row h rows view old new machine machine' made row has step steps is =
-    let one = done_one h rows view old new machine machine' made has step steps in
-    subst (λ (list : List Row). GivesNext h list (Some row) machine' new)
-    (sym (one.rows_are ∙ ap (λ (m : Option Row). cons_option m one.others) is)) (refl, one.has)
+  -- it makes a row
+  pub next_row : {machine' : MachineState} {made : Option Row} {row : Row} → Steps view machine machine' made → made ≡ Some row
+      → GivesNext h rows (Some row) machine' new
+  next_row {machine'} {made} {row} steps is =
+      let one = next_done steps in
+      subst (λ (list : List Row). GivesNext h list (Some row) machine' new)
+      (sym (one.rows_are ∙ ap (λ (m : Option Row). cons_option m one.others) is)) (refl, one.has)
+
+  -- no line is out of range
+  pub next_out : LeavesRange view machine → ⊥
+  next_out leaves =
+      let next = left_next h has.later view old new has.valid has.left step in
+      let lines : LinesAfter h has.back (next.op ∷ next.others) = subst (LinesAfter h has.back) next.later_is has.lines in
+      leaves has.back next.op has.stands next.stands
+      (subst (λ (g : HeaderParts). IsLine (line g (next.op ∷ has.back))) (sym has.header_is) lines.0)
 
 -- no operation is left
-pub next_ends : (h : HeaderParts) (rows : List Row) (old new : Walk) (machine : MachineState) → HasRows h rows machine old → Ends old new
+pub next_ends : {h : HeaderParts} {rows : List Row} {old new : Walk} {machine : MachineState} → HasRows h rows machine old → Ends old new
     → GivesNext h rows None machine new
-next_ends h rows old new machine has ends =
+next_ends {h} {rows} {old} {new} {machine} has ends =
     let empty : rows ≡ [] = has.rows_are ∙ ap (rows_after h has.back) (left_ends h has.later old new has.left ends) in
     subst (λ (list : List Row). GivesNext h list None machine new) (sym empty) tt
 
 -- no operation is refused
-pub next_fails : (h : HeaderParts) (rows : List Row) (fault : Fault) (old new : Walk) (machine : MachineState) → HasRows h rows machine old
+pub next_fails : {h : HeaderParts} {rows : List Row} {fault : Fault} {old new : Walk} {machine : MachineState} → HasRows h rows machine old
     → Fails fault old new → ⊥
-next_fails h rows fault old new machine has fails = left_fails h has.later fault old new has.left fails
-
--- no line is out of range
-pub next_out : (h : HeaderParts) (rows : List Row) (view : OpView) (old new : Walk) (machine : MachineState) → HasRows h rows machine old
-    → walks.GivesOperation view old new → LeavesRange view machine → ⊥
-next_out h rows view old new machine has step leaves =
-    let next = left_next h has.later view old new has.valid has.left step in
-    let lines : LinesAfter h has.back (next.op ∷ next.others) = subst (LinesAfter h has.back) next.later_is has.lines in
-    leaves has.back next.op has.stands next.stands
-    (subst (λ (g : HeaderParts). IsLine (line g (next.op ∷ has.back))) (sym has.header_is) lines.0)
+next_fails {h} {rows} {fault} {old} {new} has fails = left_fails h has.later fault old new has.left fails
 
 -- ---- one sequence
 
@@ -135,10 +123,10 @@ short_quiet old new going on same rows (none e empty) = absurd (true≢false (sy
 short_quiet old new going on same rows (some h all e has are) = some h all on (same h all has) are
 
 -- no line is out of range
-pub short_out : (old : SequenceWalk) (view : OpView) (new : Walk) → old.ended ≡ false → walks.GivesOperation view old.walk new
+pub short_out : (old : SequenceWalk) (view : OpView) (new : Walk) → old.ended ≡ false → GivesOperation view old.walk new
     → LeavesRange view old.machine → (rows : List Row) → WillGive rows old → ⊥
 short_out old view new going step leaves rows (none e empty) = absurd (true≢false (sym e ∙ going))
-short_out old view new going step leaves rows (some h all e has are) = next_out h all view old.walk new old.machine has step leaves
+short_out old view new going step leaves rows (some h all e has are) = next_out has step leaves
 
 pub has_begun : (h : HeaderParts) (program : List ℕ) (earlier later : List Op) (place : ℕ) (machine : MachineState) (walk : Walk)
     → IsHeader h

@@ -1,4 +1,4 @@
--- What the bodies of this crate say of one step, and those of lnt_lines of places. No public contract speaks of it.
+-- What bodies say of one step, of a program that is run, and of places. No public contract speaks of it.
 use Rattle.std.specs.Prelude.{◌≡◌, ℕ, ◌<◌, List, [], ◌∷◌, ◌++◌, length, reverse, slice_index_or, Option, Some, None}
 use Rattle.lnt_header.specs.declared.header.HeaderParts.{HeaderParts}
 use Rattle.lnt_header.specs.declared.op.Op.{Op}
@@ -6,9 +6,12 @@ use Rattle.lnt_header.specs.Joins.{Each}
 use Rattle.lnt_ops.specs.OpBytes.{OpBytes}
 use Rattle.lnt_ops.specs.Walks.{Walk}
 use Rattle.lnt_machine.specs.declared.row.Row.{Row}
-use Rattle.lnt_machine.specs.Matrix.{sequences_of}
+use Rattle.lnt_machine.specs.declared.row.Sequence.{Sequence}
+use Rattle.lnt_machine.specs.Cuts.{are_some, IsCut}
+use Rattle.lnt_machine.specs.Matrix.{LinesFit, sequences_of}
 use Rattle.lnt_machine.specs.Parts.{AtStart, rows_of_ops}
-use Rattle.lnt_machine.specs.State.{MachineState}
+use Rattle.lnt_machine.specs.Running.{RunState}
+use Rattle.lnt_machine.specs.State.{MachineState, StandsAfter}
 use Rattle.lnt_machine.specs.Walking.{HasRows}
 
 -- The first of the rows was appended, and the others are to come; or there is none.
@@ -21,6 +24,18 @@ GivesNext h _ _ machine walk = ⊥
 abbrev pub ComesNext : HeaderParts → List Row → Option Row → MachineState → Walk → Type 0
 ComesNext h rows None machine walk = HasRows h rows machine walk
 ComesNext h rows (Some made) machine walk = GivesNext h rows (Some made) machine walk
+
+-- These operations were run, the oldest first, with no line out of range. Their rows are those of sequences, and those after the last
+-- end row.
+pub record HasRan (h : HeaderParts) (ops : List Op) (run : RunState) : Type 0 where
+  pub header_is : run.machine.header ≡ h
+  pub stands : StandsAfter run.machine (reverse ops)
+  pub count : run.machine.count ≡ length ops
+  pub lines : LinesFit (record { header = h; ops = ops }) (length ops)
+  pub ended : List Sequence
+  pub left : List Row
+  pub cut : IsCut (rows_of_ops h ops) ended left
+  pub open_is : run.is_open ≡ are_some left
 
 -- A prefix of the program, of this many whole sequences, ends at this place.
 pub record IsProgramFront (h : HeaderParts) (program : List ℕ) (index place : ℕ) : Type 0 where

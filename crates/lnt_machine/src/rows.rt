@@ -89,7 +89,6 @@ impl<'a> Iterator for Rows<'a> {
 impl<'a> FusedIterator for Rows<'a> {}
 
 // The row of the next operation that appends one. `None` if the program has ended and no rows are open.
-#[tactic(auto, using(crate::proofs::RowWalkLemmas::may_run))]
 #[inline(always)]
 fn next_row(run: &mut Run<'_>, ops: &mut Ops<'_>) -> Result<Option<Row>, RowFault>
     requires { run.old.machine.header ≡ ops.old.header }

@@ -17,7 +17,6 @@ use std::mem;
 /// Fails with `LineOutOfRange` (22) if the operation with this index is the first that sets the line below 0, or to 2^32 or
 /// more. If no operation does, fails with `OpenSequence` (23) if rows follow the last end row, or there are rows and no end
 /// row. Fails with `Memory` (24) if memory runs out.
-#[tactic(auto, using(crate::proofs::MatrixLemmas::ran_sequences))]
 pub fn matrix(alloc: Global, unit: &Unit) -> Result<Vec<Sequence>, RunFault>
     ensures runs { OnOk result (Runs unit.now) }
     ensures rows { IfOk result (λ made. made.items ≡ sequences unit.now) }

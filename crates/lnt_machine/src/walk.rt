@@ -68,7 +68,7 @@ impl<'a> SequenceRows<'a> {
     /// Does the next operation, if it is short, and returns the row that it appends, if any. `None` if no short operation
     /// comes next, or the rows have ended; then the same rows are still to come. For loops over many rows, since it is inlined;
     /// `next` returns what comes. Allocates nothing.
-    #[tactic(auto, using(crate::proofs::WalkingLemmas::may_step))]
+    #[tactic(auto, using(crate::proofs::RanLaws::may_step))]
     #[inline(always)]
     pub fn step_short(&mut self) -> Option<Option<Row>>
         ensures comes { ComesShort self.old result self.new }
@@ -134,7 +134,7 @@ fn next_row(machine: &mut Machine<'_>, ops: &mut Ops<'_>) -> Option<Row>
 }
 
 // The next row, for any operations: the slow path.
-#[tactic(auto, using(crate::proofs::WalkingLemmas::may_step))]
+#[tactic(auto, using(crate::proofs::RanLaws::may_step))]
 #[inline(never)]
 fn any_row(machine: &mut Machine<'_>, ops: &mut Ops<'_>) -> Option<Row>
     requires { machine.old.header ≡ ops.old.header }
@@ -159,7 +159,7 @@ fn any_row(machine: &mut Machine<'_>, ops: &mut Ops<'_>) -> Option<Row>
 
 // The row that the next operations append, if all of them up to it are short. Otherwise `None`; operations that append no
 // row may then already be done.
-#[tactic(auto, using(crate::proofs::WalkingLemmas::may_step))]
+#[tactic(auto, using(crate::proofs::RanLaws::may_step))]
 #[inline(always)]
 fn short_row(machine: &mut Machine<'_>, ops: &mut Ops<'_>) -> Option<Row>
     requires { machine.old.header ≡ ops.old.header }

@@ -1,11 +1,12 @@
 -- Rows in brief: how they are kept, and that the last of them that isn't above a position answers there as all rows do.
-use Rattle.std.proofs.Common.{◌≡◌, ℕ, zero, suc, ◌+◌, ◌-◌, ◌<◌, ◌≤◌, Bool, true, false, List, [], ◌∷◌, ◌++◌, length, get_or, take, drop}
+use Rattle.std.proofs.Common.{◌≡◌, ℕ, zero, suc, ◌-◌, ◌<◌, ◌≤◌, Bool, true, false, List, [], ◌∷◌, ◌++◌, length, get_or, take, drop}
 use Rattle.std.proofs.Common.{Option, Some, None, refl, sym, ap, ◌∙◌, subst, arith, append_assoc}
 use Rattle.std.specs.Bool.{MatchBool}
 use Rattle.std.specs.List.{AllZip}
 use Rattle.std.specs.Option.{option_map}
 use Rattle.std.proofs.lemmas.Bool.{true≢false}
 use Rattle.std.proofs.lemmas.List.{take-append-drop}
+use Rattle.std.proofs.lemmas.Slice.Zip.{all_zipped_more, AllZip-long}
 use Rattle.lnt_machine.specs.declared.row.Row.{Row}
 use Rattle.lnt_machine.specs.Walking.{ComesShort, GivesFirstRow, GivesRow, SequenceWalk, WillGive}
 use Rattle.lnt_spans.specs.declared.answer.Answer.{Answer}
@@ -43,13 +44,6 @@ kept_same rows brief old walk are same = record {
   to_come = same are.others are.to_come;
 }
 
-zip_push : {X Y : Type 0} (R : X → Y → Type 0) (xs : List X) (ys : List Y) (x : X) (y : Y) → AllZip R xs ys → R x y
-    → AllZip R (xs ++ x ∷ []) (ys ++ y ∷ [])
-zip_push R [] [] x y all here = (here, tt)
-zip_push R [] (v ∷ ys) x y all here = absurd all
-zip_push R (u ∷ xs) [] x y all here = absurd all
-zip_push R (u ∷ xs) (v ∷ ys) x y all here = (all.0, zip_push R xs ys x y all.1 here)
-
 -- a short operation without a row
 pub comes_quiet : (old new : SequenceWalk) (made : Option Row) → ComesShort old (Some made) new → ((row : Row) → made ≡ Some row → ⊥)
     → (others : List Row) → WillGive others old → WillGive others new
@@ -73,7 +67,7 @@ kept_more rows brief new old walk row are gives is base = by_others are.others a
       rows_are = same ∙ ap (λ (r : Row). are.kept ++ r ∷ others) (sym g.0) ∙ sym (append_assoc are.kept (row ∷ []) others);
       kept_are = subst (λ (b : ℕ). AllZip (IsInBrief b) (are.kept ++ row ∷ []) new.rows.items) (sym base)
           (subst (AllZip (IsInBrief brief.base) (are.kept ++ row ∷ [])) (sym is.added)
-          (zip_push (IsInBrief brief.base) are.kept brief.rows.items row is.one are.kept_are is.in_brief));
+          (all_zipped_more (IsInBrief brief.base) are.kept brief.rows.items row is.one are.kept_are is.in_brief));
       to_come = g.1;
     }
 
@@ -104,12 +98,6 @@ kept_some rows brief (walk, are) part = record {
 }
 
 -- ---- what they answer
-
-zip_length : {X Y : Type 0} (R : X → Y → Type 0) (xs : List X) (ys : List Y) → AllZip R xs ys → length xs ≡ length ys
-zip_length R [] [] all = refl
-zip_length R [] (y ∷ ys) all = absurd all
-zip_length R (x ∷ xs) [] all = absurd all
-zip_length R (x ∷ xs) (y ∷ ys) all = ap suc (zip_length R xs ys all.1)
 
 zip_at : {X Y : Type 0} (R : X → Y → Type 0) (xs : List X) (ys : List Y) (k : ℕ) (x : X) (y : Y) → AllZip R xs ys → k < length ys
     → R (get_or xs k x) (get_or ys k y)
@@ -173,14 +161,14 @@ none_after rows brief p count are is ordered = by_left (drop count are.kept) ref
     by_whole true e few = are.none_other e
     by_whole false e few =
         let more = is.known (λ t. true≢false (sym t ∙ e)) in
-        let same = zip_length (IsInBrief brief.base) are.kept brief.rows.items are.kept_are in
+        let same = AllZip-long (IsInBrief brief.base) are.kept brief.rows.items are.kept_are in
         absurd (omega (arith, more, same, few))
 
     by_left : (left : List Row) → drop count are.kept ≡ left → IsOrdered (left ++ are.others) → row_at p (left ++ are.others) ≡ None
     by_left [] e o = ap (row_at p) (by_whole brief.is_whole refl (none_dropped are.kept count e))
     by_left (row ∷ left) e o =
         let first = first_dropped are.kept count row row left e in
-        let same = zip_length (IsInBrief brief.base) are.kept brief.rows.items are.kept_are in
+        let same = AllZip-long (IsInBrief brief.base) are.kept brief.rows.items are.kept_are in
         let few : count < length brief.rows.items = omega (arith, first.1, same) in
         none_at p row (left ++ are.others) (rising_from_ordered row (left ++ are.others) o)
         (row_below brief p is.place row (get_or brief.rows.items count some_brief) is.position_is
@@ -199,7 +187,7 @@ last_said : (rows : List Row) (brief : BriefRows) (p : Position) (unit count : �
     → IsNotAbove (last_row (take count are.kept)) p × (answer ≡ option_map (answer_of unit) (last_row (take count are.kept)))
 last_said rows brief p unit zero answer are is says = (tt, says.0 refl)
 last_said rows brief p unit (suc k) answer are is says =
-    let same = zip_length (IsInBrief brief.base) are.kept brief.rows.items are.kept_are in
+    let same = AllZip-long (IsInBrief brief.base) are.kept brief.rows.items are.kept_are in
     let within = is.reached.within in
     let few : k < length brief.rows.items = omega (arith, within) in
     by_row are.kept are.kept_are (omega (arith, few, same)) few

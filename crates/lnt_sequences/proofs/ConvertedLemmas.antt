@@ -24,31 +24,27 @@ use Rattle.lnt_sequences.specs.Sequences.{live_in, live_sequences, Placed, place
 zip_to : {X Y : Type 0} (R Q : X → Y → Type 0) → ((x : X) (y : Y) → R x y → Q x y) → (xs : List X) (ys : List Y) → AllZip R xs ys
     → AllZip Q xs ys
 zip_to R Q to [] [] z = tt
-zip_to R Q to [] (y ∷ ys) z = absurd z
-zip_to R Q to (x ∷ xs) [] z = absurd z
 zip_to R Q to (x ∷ xs) (y ∷ ys) z = (to x y z.0, zip_to R Q to xs ys z.1)
+zip_to R Q to _ _ z = absurd z
 
 zip_append : {X Y : Type 0} (R : X → Y → Type 0) (xs : List X) (ys : List Y) (us : List X) (vs : List Y) → AllZip R xs ys → AllZip R us vs
     → AllZip R (xs ++ us) (ys ++ vs)
 zip_append R [] [] us vs z w = w
-zip_append R [] (y ∷ ys) us vs z w = absurd z
-zip_append R (x ∷ xs) [] us vs z w = absurd z
 zip_append R (x ∷ xs) (y ∷ ys) us vs z w = (z.0, zip_append R xs ys us vs z.1 w)
+zip_append R _ _ us vs z w = absurd z
 
 zip_filter : {X Y : Type 0} (R : X → Y → Type 0) (test : X → Bool) (other : Y → Bool) → ((x : X) (y : Y) → R x y → test x ≡ other y)
     → (xs : List X) (ys : List Y) → AllZip R xs ys
     → AllZip R (filter test xs) (filter other ys)
 zip_filter R test other same [] [] z = tt
-zip_filter R test other same [] (y ∷ ys) z = absurd z
-zip_filter R test other same (x ∷ xs) [] z = absurd z
 zip_filter R test other same (x ∷ xs) (y ∷ ys) z = by_test (test x) (other y) (same x y z.0) (zip_filter R test other same xs ys z.1)
   where
     by_test : (s t : Bool) → s ≡ t → AllZip R (filter test xs) (filter other ys)
         → AllZip R (cond s (x ∷ filter test xs) (filter test xs)) (cond t (y ∷ filter other ys) (filter other ys))
     by_test true true e rest = (z.0, rest)
-    by_test true false e rest = absurd cc
-    by_test false true e rest = absurd cc
     by_test false false e rest = rest
+    by_test _ _ e rest = absurd cc
+zip_filter R test other same _ _ z = absurd z
 
 -- what a test finds in both
 abbrev FoundAlike : {X Y : Type 0} → (X → Y → Type 0) → Option X → Option Y → Type 0
@@ -60,16 +56,14 @@ zip_find : {X Y : Type 0} (R : X → Y → Type 0) (test : X → Bool) (other : 
     → (xs : List X) (ys : List Y) → AllZip R xs ys
     → FoundAlike R (find test xs) (find other ys)
 zip_find R test other same [] [] z = tt
-zip_find R test other same [] (y ∷ ys) z = absurd z
-zip_find R test other same (x ∷ xs) [] z = absurd z
 zip_find R test other same (x ∷ xs) (y ∷ ys) z = by_test (test x) (other y) (same x y z.0) (zip_find R test other same xs ys z.1)
   where
     by_test : (s t : Bool) → s ≡ t → FoundAlike R (find test xs) (find other ys)
         → FoundAlike R (cond s (Some x) (find test xs)) (cond t (Some y) (find other ys))
     by_test true true e rest = z.0
-    by_test true false e rest = absurd cc
-    by_test false true e rest = absurd cc
     by_test false false e rest = rest
+    by_test _ _ e rest = absurd cc
+zip_find R test other same _ _ z = absurd z
 
 -- ---- the sequences of two units with the same rows
 
@@ -145,12 +139,11 @@ SameRows one two = one.rows ≡ two.rows
 any_alike : (rows others : List Row) (seen found : List Placed) → rows ≡ others → AllZip SameRows seen found
     → list_any (λ (e : Placed). hold_alike rows e.rows) seen ≡ list_any (λ (e : Placed). hold_alike others e.rows) found
 any_alike rows others [] [] same z = refl
-any_alike rows others [] (t ∷ found) same z = absurd z
-any_alike rows others (s ∷ seen) [] same z = absurd z
 any_alike rows others (s ∷ seen) (t ∷ found) same z =
     ap (λ (list : List Row). hold_alike list s.rows || list_any (λ (e : Placed). hold_alike rows e.rows) seen) same
     ∙ ap (λ (list : List Row). hold_alike others list || list_any (λ (e : Placed). hold_alike rows e.rows) seen) z.0
     ∙ ap (λ (b : Bool). hold_alike others t.rows || b) (any_alike rows others seen found same z.1)
+any_alike rows others _ _ same z = absurd z
 
 -- lists with the same rows, element for element, each in the order of its section: those after the ones seen
 kept_twins : (R : Placed → Placed → Type 0) → ((s t : Placed) → R s t → SameRows s t) → (all others seen found ss ts : List Placed)
@@ -158,8 +151,6 @@ kept_twins : (R : Placed → Placed → Type 0) → ((s t : Placed) → R s t �
     → AllPairs IsBefore all → AllPairs IsBefore others → AllZip SameRows seen found → AllZip R ss ts
     → AllZip R (filter (λ (s : Placed). not (is_copy all s)) ss) (filter (λ (t : Placed). not (is_copy others t)) ts)
 kept_twins R rows all others seen found [] [] are are' order order' before z = tt
-kept_twins R rows all others seen found [] (t ∷ ts) are are' order order' before z = absurd z
-kept_twins R rows all others seen found (s ∷ ss) [] are are' order order' before z = absurd z
 kept_twins R rows all others seen found (s ∷ ss) (t ∷ ts) are are' order order' before z =
     let left : is_copy all s ≡ list_any (λ (e : Placed). hold_alike s.rows e.rows) seen =
     ap (λ (list : List Placed). is_copy list s) are ∙ copy_by_look_back seen s ss (subst (AllPairs IsBefore) are order) in
@@ -176,9 +167,9 @@ kept_twins R rows all others seen found (s ∷ ss) (t ∷ ts) are are' order ord
         → AllZip R (cond a (s ∷ filter (λ (s : Placed). not (is_copy all s)) ss) (filter (λ (s : Placed). not (is_copy all s)) ss))
         (cond b (t ∷ filter (λ (t : Placed). not (is_copy others t)) ts) (filter (λ (t : Placed). not (is_copy others t)) ts))
     by_test true true e rest = (z.0, rest)
-    by_test true false e rest = absurd cc
-    by_test false true e rest = absurd cc
     by_test false false e rest = rest
+    by_test _ _ e rest = absurd cc
+kept_twins R rows all others seen found _ _ are are' order order' before z = absurd z
 
 kept_alike : (R : Placed → Placed → Type 0) → ((s t : Placed) → R s t → SameRows s t) → (skip : Bool) (ss ts : List Placed)
     → AllPairs IsBefore ss → AllPairs IsBefore ts → AllZip R ss ts
@@ -197,12 +188,11 @@ said_alike : (units others : List (ℕ × UnitParts)) (p : Position) (one two : 
     → AreAlike units others (option_and_then (λ (placed : Placed). option_map (answer_of placed.id.unit) (row_at p placed.rows)) one)
     (option_and_then (λ (placed : Placed). option_map (answer_of placed.id.unit) (row_at p placed.rows)) two)
 said_alike units others p None None t = tt
-said_alike units others p None (Some two) t = absurd t
-said_alike units others p (Some one) None t = absurd t
 said_alike units others p (Some one) (Some two) t =
     subst (λ (rows : List Row). AreAlike units others (option_map (answer_of one.id.unit) (row_at p one.rows))
     (option_map (answer_of two.id.unit) (row_at p rows))) t.rows_are
     (row_alike units others one.id.unit two.id.unit (row_at p one.rows) t.stand)
+said_alike units others p _ _ t = absurd t
 
 pub converted_answers : SameMatrix → ConvertedAnswers
 converted_answers law order section format to result c dead skip p =

@@ -1,25 +1,22 @@
 -- Extents in an order in which copies stand after what they are copies of: there the copies are those that begin and end as the
 -- one before them does.
-use Rattle.std.proofs.Common.{◌≡◌, ◌≢◌, ℕ, zero, suc, ◌<◌, ◌≤◌, Bool, true, false, not, ◌&&◌, cond, List, [], ◌∷◌, ◌++◌}
-use Rattle.std.proofs.Common.{refl, sym, ap, ◌∙◌, subst, arith, length, get_or, ⊎_elim, add-one, append_assoc, is_lt}
-use Rattle.std.proofs.Common.{nat_cmp}
+use Rattle.std.proofs.Common.{◌≡◌, ◌≢◌, ℕ, ◌<◌, ◌≤◌, Bool, true, false, not, ◌&&◌, cond, List, [], ◌∷◌, ◌++◌}
+use Rattle.std.proofs.Common.{refl, sym, ap, ◌∙◌, subst, arith, length, get_or, append_assoc, is_lt, nat_cmp}
 use Rattle.std.specs.List.{All, AllPairs, Contains, dedup, dedup_from, filter, flat_map}
 use Rattle.std.specs.List.Sorted.{IsPermutation}
 use Rattle.std.specs.Ordering.{ordering_then}
-use Rattle.std.proofs.lemmas.Bool.{cases_lt, true≢false}
+use Rattle.std.proofs.lemmas.Bool.{and_left, and_right, false_from_ne_true, true≢false}
 use Rattle.std.proofs.lemmas.Bool.Decides.{nat_tests}
-use Rattle.std.proofs.lemmas.List.Elements.{All-append, All-cons, All-nil, All-tail, All-weaker}
+use Rattle.std.proofs.lemmas.List.Elements.{All-append, All-cons, All-nil, All-push, All-tail, All-weaker}
 use Rattle.std.proofs.lemmas.List.Folds.{list_any_at, list_any_none}
 use Rattle.std.proofs.lemmas.List.Sorted.{list_any-IsPermutation}
-use Rattle.lnt_spans.specs.declared.position.Position.{Position}
 use Rattle.lnt_spans.proofs.EachTwoLaws.{each_two_from_pairs, each_two_permutation, pairs_cons, pairs_from_each_two, pairs_head, pairs_tail}
 use Rattle.lnt_spans.proofs.PositionLaws.{at_most_itself, at_most_trans}
 use Rattle.lnt_sequences.specs.declared.extent.Extent.{Extent}
-use Rattle.lnt_sequences.specs.declared.sequence.SeqId.{SeqId}
 use Rattle.lnt_sequences.specs.Copies.{AreGathered, end_alike, EndsNoLater, is_copied, kept_extents}
-use Rattle.lnt_sequences.specs.Extents.{IsNotLater}
 use Rattle.lnt_sequences.specs.Sequences.{stands_before}
-use Rattle.lnt_sequences.proofs.ExtentLemmas.{Contains-past}
+use Rattle.lnt_sequences.proofs.KeptLaws.{middle, same_id}
+use Rattle.lnt_sequences.proofs.OverlapLemmas.{place_itself, place_trans, stand_far}
 use Rattle.lnt_sequences.proofs.SpansOfLemmas.{pieces_permuted}
 
 -- ---- extents that begin and end at the same positions
@@ -59,11 +56,7 @@ alike_trans a b c h k = record {
 
 -- where the relation doesn't hold, the test says so
 not_alike : (a b : Extent) → (Alike a b → ⊥) → end_alike a b ≡ false
-not_alike a b h = by_test (end_alike a b) refl
-  where
-    by_test : (t : Bool) → end_alike a b ≡ t → end_alike a b ≡ false
-    by_test true e = absurd (h (alike_is a b e))
-    by_test false e = e
+not_alike a b h = false_from_ne_true (end_alike a b) (λ e. h (alike_is a b e))
 
 -- ---- the order
 
@@ -81,16 +74,6 @@ ends_no_later one other h = record {
     unit = λ e f. grind (arith, nat_tests);
     index = λ e f g. grind (arith, nat_tests);
   };
-}
-
-place_itself : (p : Position) (id : SeqId) → IsNotLater p id p id
-place_itself p id = record { low = at_most_itself p; unit = λ _ _. omega arith; index = λ _ _ _. omega arith }
-
-place_trans : (p q r : Position) (a b c : SeqId) → IsNotLater p a q b → IsNotLater q b r c → IsNotLater p a r c
-place_trans p q r a b c h k = record {
-  low = at_most_trans h.low k.low;
-  unit = λ e f. grind arith;
-  index = λ e f g. grind arith;
 }
 
 follows_itself : (a : Extent) → EndsNoLater a a
@@ -144,13 +127,6 @@ not_before a b h s =
     let index = rest.index s.high_address s.high_op in
     grind (arith, nat_tests)
 
-id_of : ℕ → ℕ → SeqId
-id_of unit index = record { unit = unit; index = index }
-
-same_id : (a b : SeqId) → a.unit ≡ b.unit → a.index ≡ b.index → a ≡ b
-unfolding id_of
-same_id a b e f = ap (λ (n : ℕ). id_of n a.index) e ∙ ap (id_of b.unit) f
-
 is_before : (a b : Extent) → EndsNoLater a b → Alike a b → a.id ≢ b.id → stands_before a.id b.id ≡ true
 is_before a b h s ne =
     let rest = h.rest s.low_address s.low_op in
@@ -163,23 +139,9 @@ is_before a b h s ne =
 
 pub gathered_far : (es : List Extent) → AreGathered es → (i j : ℕ) (d : Extent) → i ≤ j → j < length es
     → EndsNoLater (get_or es i d) (get_or es j d)
-gathered_far es s i zero d h l =
-    let e : i ≡ 0 = omega arith in subst (λ (k : ℕ). EndsNoLater (get_or es k d) (get_or es 0 d)) (sym e) (follows_itself (get_or es 0 d))
-gathered_far es s i (suc j) d h l =
-    ⊎_elim
-    (λ (lt : i < suc j).
-    let next : EndsNoLater (get_or es j d) (get_or es (suc j) d) = rw add-one at (s j d (omega arith)) in
-    follows_trans (get_or es i d) (get_or es j d) (get_or es (suc j) d) (gathered_far es s i j d (omega arith) (omega arith)) next)
-    (λ (le : suc j ≤ i).
-    let e : i ≡ suc j = omega arith in subst (λ (k : ℕ). EndsNoLater (get_or es k d) (get_or es (suc j) d)) (sym e)
-    (follows_itself (get_or es (suc j) d)))
-    (cases_lt i (suc j))
+gathered_far = stand_far EndsNoLater follows_itself follows_trans
 
 -- ---- which are copies
-
-contains_middle : {X : Type 0} (xs : List X) (x : X) (ys : List X) → Contains (xs ++ x ∷ ys) x
-contains_middle [] x ys = (0, omega arith, refl)
-contains_middle (y ∷ xs) x ys = Contains-past y (xs ++ x ∷ ys) x (contains_middle xs x ys)
 
 -- whether the one makes the other a copy
 abbrev copies : Extent → Extent → Bool
@@ -189,20 +151,16 @@ copied_by : (all : List Extent) (a b : Extent) → Contains all b → stands_bef
     → is_copied all a ≡ true
 copied_by all a b c before alike = list_any_at (copies a) all c.0 b c.1 (ap (copies a) c.2 ∙ rw (before, alike) refl)
 
-none_left : (b : Bool) → (b && false) ≡ false
-none_left true = refl
-none_left false = refl
-
 -- one that isn't alike makes no copy, and neither does a later one
 unlike : (a b : Extent) → (Alike a b → ⊥) → copies a b ≡ false
-unlike a b ne = ap (λ (t : Bool). stands_before b.id a.id && t) (not_alike a b ne) ∙ none_left (stands_before b.id a.id)
+unlike a b ne = and_right (stands_before b.id a.id) (end_alike a b) (not_alike a b ne)
 
 no_copy_of_later : (a b : Extent) → EndsNoLater a b → copies a b ≡ false
 no_copy_of_later a b h = by_test (end_alike a b) refl
   where
     by_test : (t : Bool) → end_alike a b ≡ t → copies a b ≡ false
-    by_test true e = ap (λ (t : Bool). t && end_alike a b) (not_before a b h (alike_is a b e))
-    by_test false e = ap (λ (t : Bool). stands_before b.id a.id && t) e ∙ none_left (stands_before b.id a.id)
+    by_test true e = and_left (stands_before b.id a.id) (end_alike a b) (not_before a b h (alike_is a b e))
+    by_test false e = and_right (stands_before b.id a.id) (end_alike a b) e
 
 abbrev IdDiffers : Extent → Extent → Type 0
 IdDiffers a b = a.id ≢ b.id
@@ -210,9 +168,6 @@ IdDiffers a b = a.id ≢ b.id
 -- what comes after the last kept one and is like one of those seen is like the last kept one
 abbrev Stands : Extent → List Extent → Type 0
 Stands last seen = All (λ (e : Extent). (y : Extent) → EndsNoLater last y → Alike e y → Alike last y) seen
-
-all_push : {X : Type 0} (P : X → Type 0) (xs : List X) (x : X) → All P xs → P x → All P (xs ++ x ∷ [])
-all_push P xs x h k = All-append P xs (x ∷ []) h (All-cons P x [] k (All-nil P))
 
 without_second : {X : Type 0} (R : X → X → Type 0) (k x : X) (xs : List X) → AllPairs R (k ∷ x ∷ xs) → AllPairs R (k ∷ xs)
 without_second R k x xs h =
@@ -236,7 +191,7 @@ dedup_from_kept all seen last (x ∷ xs) are c stands order ids =
     goes = are ∙ sym (append_assoc seen (x ∷ []) xs)
 
     here : Contains all x
-    here = subst (λ (list : List Extent). Contains list x) (sym are) (contains_middle seen x xs)
+    here = subst (λ (list : List Extent). Contains list x) (sym are) (middle seen x xs)
 
     -- those seen, where x isn't like the last kept one
     apart : (Alike last x → ⊥) → is_copied all x ≡ false
@@ -254,7 +209,7 @@ dedup_from_kept all seen last (x ∷ xs) are c stands order ids =
 
     new_stands : Stands x (seen ++ x ∷ [])
     new_stands =
-        all_push (λ (e : Extent). (y : Extent) → EndsNoLater x y → Alike e y → Alike x y) seen x
+        All-push (λ (e : Extent). (y : Extent) → EndsNoLater x y → Alike e y → Alike x y) seen x
         (All-weaker (λ (e : Extent). (y : Extent) → EndsNoLater last y → Alike e y → Alike last y)
         (λ (e : Extent). (y : Extent) → EndsNoLater x y → Alike e y → Alike x y)
         (λ e s y f a. between last x y follows f (s y (follows_trans last x y follows f) a)) seen stands)
@@ -262,7 +217,7 @@ dedup_from_kept all seen last (x ∷ xs) are c stands order ids =
 
     still : end_alike x last ≡ true → Stands last (seen ++ x ∷ [])
     still e =
-        all_push (λ (e : Extent). (y : Extent) → EndsNoLater last y → Alike e y → Alike last y) seen x stands
+        All-push (λ (e : Extent). (y : Extent) → EndsNoLater last y → Alike e y → Alike last y) seen x stands
         (λ y f a. alike_trans last x y (alike_back x last (alike_is x last e)) a)
 
     by_test : (t : Bool) → end_alike x last ≡ t

@@ -45,10 +45,9 @@ turns sequences (entry ∷ entries) h =
 turn_entries : (sequences : List Placed) (entries : List Extent) (in_turn : List Placed) → AllZip (IsTurn sequences) entries in_turn
     → AllZip (IsExtentOf sequences) entries in_turn
 turn_entries sequences [] [] z = tt
-turn_entries sequences [] (s ∷ ss) z = absurd z
-turn_entries sequences (e ∷ es) [] z = absurd z
 turn_entries sequences (e ∷ es) (s ∷ ss) z =
     (record { contained = z.0.contained; id_is = sym z.0.sketch.id }, turn_entries sequences es ss z.1)
+turn_entries sequences _ _ z = absurd z
 
 -- ---- they are ordered
 
@@ -60,10 +59,9 @@ of_contained P (y ∷ xs) x all k =
 turns_ordered : (sequences : List Placed) (entries : List Extent) (in_turn : List Placed) → AreOrdered sequences
     → AllZip (IsTurn sequences) entries in_turn → AreOrdered in_turn
 turns_ordered sequences [] [] o z = tt
-turns_ordered sequences [] (s ∷ ss) o z = absurd z
-turns_ordered sequences (e ∷ es) [] o z = absurd z
 turns_ordered sequences (e ∷ es) (s ∷ ss) o z =
     (of_contained (λ (placed : Placed). IsOrdered placed.rows) sequences s o z.0.contained, turns_ordered sequences es ss o z.1)
+turns_ordered sequences _ _ o z = absurd z
 
 -- ---- they stand in turn
 
@@ -77,8 +75,6 @@ stand sequences entry [] placed [] low apart z from =
       position_of (last_after s.first s.others),
       (s.first, s.others, s.rows_are, subst (IsAtMost low) s.low from, at_most_itself (position_of (last_after s.first s.others))),
     )
-stand sequences entry [] placed (t ∷ in_turn) low apart z from = absurd z.1
-stand sequences entry (next ∷ entries) placed [] low apart z from = absurd z.1
 stand sequences entry (next ∷ entries) placed (t ∷ in_turn) low apart z from =
     let s = z.0.sketch in
     let begins : IsAtMost (position_of (last_after s.first s.others)) next.low = subst (λ (p : Position). IsAtMost p next.low) s.high
@@ -93,16 +89,16 @@ stand sequences entry (next ∷ entries) placed (t ∷ in_turn) low apart z from
     later k d h =
         let e : suc k + 1 ≡ suc (k + 1) = omega arith in
         subst (λ (n : ℕ). IsAtMost (slice_index_or (next ∷ entries) k d).high (slice_index_or (entry ∷ next ∷ entries) n d).low) e h
+stand sequences entry _ placed _ low apart z from = absurd z.1
 
 turns_in_order : (sequences : List Placed) (entries : List Extent) (in_turn : List Placed) → AreApartUpTo (length entries - 1) entries
     → AllZip (IsTurn sequences) entries in_turn → AreOrdered in_turn
     → AreInOrder (spans_of in_turn)
 turns_in_order sequences [] [] apart z o = tt
-turns_in_order sequences [] (s ∷ ss) apart z o = absurd z
-turns_in_order sequences (e ∷ es) [] apart z o = absurd z
 turns_in_order sequences (e ∷ es) (s ∷ ss) apart z o =
     let all = stand sequences e es s ss e.low (λ k d few. apart k d (omega (arith, few))) z (at_most_itself e.low) in
     spans_in_turn e.low all.0 (s ∷ ss) all.1 o
+turns_in_order sequences _ _ apart z o = absurd z
 
 -- ---- they answer as all do
 
@@ -114,8 +110,6 @@ FoundAlike sequences entries in_turn p =
 found_alike : (sequences : List Placed) (entries : List Extent) (in_turn : List Placed) (p : Position) → AreApart sequences
     → AllZip (IsTurn sequences) entries in_turn → FoundAlike sequences entries in_turn p
 found_alike sequences [] [] p apart z = inr (All-nil (λ (e : Extent). IsIn p e → ⊥), refl)
-found_alike sequences [] (s ∷ ss) p apart z = absurd z
-found_alike sequences (e ∷ es) [] p apart z = absurd z
 found_alike sequences (e ∷ es) (s ∷ ss) p apart z = by_test (holds p s.rows) refl (found_alike sequences es ss p apart z.1)
   where
     by_test : (t : Bool) → holds p s.rows ≡ t → FoundAlike sequences es ss p → FoundAlike sequences (e ∷ es) (s ∷ ss) p
@@ -128,6 +122,7 @@ found_alike sequences (e ∷ es) (s ∷ ss) p apart z = by_test (holds p s.rows)
               none.0,
           rw h none.1,
         )
+found_alike sequences _ _ p apart z = absurd z
 
 turns_answer : (sequences : List Placed) (entries : List Extent) (in_turn : List Placed) (p : Position)
     → IsPermutation (extents_of sequences) entries → AreApart sequences
@@ -172,11 +167,10 @@ some_span entry placed s =
 turns_some : (sequences : List Placed) (entries : List Extent) (in_turn : List Placed) → AllZip (IsTurn sequences) entries in_turn
     → length entries ≤ length (spans_of in_turn)
 turns_some sequences [] [] z = omega arith
-turns_some sequences [] (s ∷ ss) z = absurd z
-turns_some sequences (e ∷ es) [] z = absurd z
 turns_some sequences (e ∷ es) (s ∷ ss) z =
     let more = turns_some sequences es ss z.1 in
     omega (arith, more, some_span e s z.0.sketch, length-append (row_spans s.id.unit s.rows) (spans_of ss))
+turns_some sequences _ _ z = absurd z
 
 pub entries_in_turn : EntriesInTurn
 entries_in_turn sequences entries settled permuted apart ordered =

@@ -4,6 +4,7 @@ use Rattle.std.proofs.Common.{Option, Some, None, refl, sym, ap, ◌∙◌, subs
 use Rattle.std.specs.List.{All, AllByRecursion, filter}
 use Rattle.std.specs.Option.{option_or}
 use Rattle.std.specs.Prelude.{MatchOption}
+use Rattle.std.proofs.lemmas.Bool.{and_parts}
 use Rattle.std.proofs.lemmas.Bool.Decides.{nat_tests}
 use Rattle.std.proofs.lemmas.List.{append-nil, length-append}
 use Rattle.std.proofs.lemmas.List.Concat.{flat_map-append}
@@ -334,10 +335,6 @@ live_is dead walk row p after e = by_begun walk.begun ∙ ap (are_live dead) (sy
     by_begun [] = refl
     by_begun (first ∷ rest) = refl
 
-both : (a b : Bool) → (a && b) ≡ true → (a ≡ true) × (b ≡ true)
-both true b e = (refl, e)
-both false b e = absurd cc
-
 -- it falls
 record FallsFrom (begun : List Row) (row : Row) : Type 0 where
   previous : Row
@@ -385,7 +382,7 @@ first_fall : (dead : Option ℕ) (ss : List Placed) (all : List Row) (index : �
 first_fall dead ss all index w e =
     let f = found_in ss all (fall_shown dead) index w e in
     let s = shows (is_in_live dead f.walk f.row && falls_after (current_of dead f.walk.begun) f.row) f.walk.rows index f.here in
-    let b = both (is_in_live dead f.walk f.row) (falls_after (current_of dead f.walk.begun) f.row) s.0 in
+    let b = and_parts (is_in_live dead f.walk f.row) (falls_after (current_of dead f.walk.begun) f.row) s.0 in
     let falls = falls_from dead f.walk.begun f.row b.1 in
     record {
       fall = record {
@@ -511,7 +508,7 @@ first_file dead files ss all missing w e =
     f.here in
     let row_is : f.walk.rows ≡ missing.row = ap (λ (m : MissingFile). m.row) s.1 in
     let file_is : f.row.file ≡ missing.file = ap (λ (m : MissingFile). m.file) s.1 in
-    let b = both (is_in_live dead f.walk f.row) (names_no_file files f.row) s.0 in
+    let b = and_parts (is_in_live dead f.walk f.row) (names_no_file files f.row) s.0 in
     let names = names_parts files f.row f.row.end_sequence refl b.1 in
     let outside = names.1 in
     record {

@@ -2,6 +2,7 @@
 use Rattle.std.proofs.Common.{◌≡◌, ◌≢◌, ◌⊎◌, ℕ, zero, suc, ◌<◌, Bool, true, false, ◌&&◌, List, [], ◌∷◌, ◌++◌, Option}
 use Rattle.std.proofs.Common.{Some, None, refl, sym, ap, ◌∙◌, subst, arith, length, get_or, inl, inr, ⊎_elim}
 use Rattle.std.specs.List.{AllPairs, All, Contains}
+use Rattle.std.proofs.lemmas.Bool.{false_from_ne_true}
 use Rattle.std.proofs.lemmas.List.{get_or_default}
 use Rattle.std.proofs.lemmas.List.Elements.{All-cons, All-head, All-tail, All-nil, All-weaker}
 use Rattle.std.proofs.lemmas.Option.{same_Some}
@@ -307,12 +308,8 @@ overlap_is_not_apart ss overlap o apart =
     (subst (λ (s : Placed). Holds s.rows overlap.position) (sym o.one_in.2) o.one_holds)
     (subst (λ (s : Placed). Holds s.rows overlap.position) (sym other_at) o.other_holds)
 
-not_held : (rows : List Row) (p : Position) → (Holds rows p → ⊥) → holds p rows ≡ false
-not_held rows p h = by_test (holds p rows) refl
-  where
-    by_test : (t : Bool) → holds p rows ≡ t → holds p rows ≡ false
-    by_test true e = absurd (h (holds_from_test rows p e))
-    by_test false e = e
+pub not_held : (rows : List Row) (p : Position) → (Holds rows p → ⊥) → holds p rows ≡ false
+not_held rows p h = false_from_ne_true (holds p rows) (λ e. h (holds_from_test rows p e))
 
 -- the spans of one sequence, by Holds
 pub sequence_spans : SequenceSpans

@@ -1,11 +1,12 @@
 -- A live sequence, found again by its id.
-use Rattle.std.proofs.Common.{◌≡◌, ℕ, zero, suc, ◌+◌, ◌<◌, Bool, true, false, List, [], ◌∷◌, ◌++◌, Option, refl, sym}
+use Rattle.std.proofs.Common.{◌≡◌, ℕ, suc, ◌+◌, ◌<◌, Bool, true, false, List, [], ◌∷◌, ◌++◌, Option, refl, sym}
 use Rattle.std.proofs.Common.{ap, ◌∙◌, arith, length, get_or, inl, inr, ◌⊎◌, ⊎_elim}
 use Rattle.std.specs.Prelude.{cond}
 use Rattle.std.specs.List.{Contains, filter}
 use Rattle.lnt_header.specs.declared.unit_parts.UnitParts.{UnitParts}
 use Rattle.lnt_machine.specs.declared.row.Sequence.{Sequence}
 use Rattle.lnt_machine.specs.Matrix.{sequences}
+use Rattle.lnt_sequences.proofs.ExtentLemmas.{here_or_later}
 use Rattle.lnt_sequences.proofs.WalkLaws.{placed_from}
 use Rattle.lnt_sequences.specs.Sequences.{is_live, live_in, live_sequences, Placed, placed_in}
 
@@ -26,13 +27,6 @@ record IsOneOf (unit index : ℕ) (ss : List Sequence) (placed : Placed) : Type 
   unit_is : placed.id.unit ≡ unit
   index_is : placed.id.index ≡ index + k
   rows_are : (d : Sequence) → placed.rows ≡ (get_or ss k d).rows
-
-head_or_tail : {X : Type 0} (y : X) (xs : List X) (x : X) → Contains (y ∷ xs) x → (y ≡ x) ⊎ Contains xs x
-head_or_tail {X} y xs x h = by_place h.0 h.1 h.2
-  where
-    by_place : (k : ℕ) → k < suc (length xs) → get_or (y ∷ xs) k x ≡ x → (y ≡ x) ⊎ Contains xs x
-    by_place zero l e = inl e
-    by_place (suc k) l e = inr (k, omega arith, e)
 
 one_of : (unit index : ℕ) (ss : List Sequence) (placed : Placed) → Contains (placed_from unit index ss) placed
     → IsOneOf unit index ss placed
@@ -57,7 +51,7 @@ one_of unit index (s ∷ ss) placed h =
       index_is = omega (arith, one.index_is);
       rows_are = one.rows_are;
     })
-    (head_or_tail first (placed_from unit (index + 1) ss) placed h)
+    (here_or_later first (placed_from unit (index + 1) ss) placed h)
 
 pub of_filter : {X : Type 0} (test : X → Bool) (xs : List X) (x : X) → Contains (filter test xs) x → Contains xs x
 of_filter test [] x h = h
@@ -69,7 +63,7 @@ of_filter {X} test (y ∷ xs) x h = by_test (test y) h (λ k. of_filter test xs 
     by_test : (t : Bool) → Contains (cond t (y ∷ filter test xs) (filter test xs)) x → (Contains (filter test xs) x → Contains xs x)
         → Contains (y ∷ xs) x
     by_test true k rest = ⊎_elim (λ (here : y ≡ x). (0, omega arith, here)) (λ (later : Contains (filter test xs) x). past (rest later))
-        (head_or_tail y (filter test xs) x k)
+        (here_or_later y (filter test xs) x k)
     by_test false k rest = past (rest k)
 
 of_append : {X : Type 0} (xs ys : List X) (x : X) → Contains (xs ++ ys) x → Contains xs x ⊎ Contains ys x
@@ -82,7 +76,7 @@ of_append {X} (y ∷ xs) ys x h =
     (λ (k : Contains xs x). inl (suc k.0, omega (arith, k.1), k.2))
     (λ (k : Contains ys x). inr k)
     (of_append xs ys x later))
-    (head_or_tail y (xs ++ ys) x h)
+    (here_or_later y (xs ++ ys) x h)
 
 pub live_placed : (dead : Option ℕ) (units : List (ℕ × UnitParts)) (placed : Placed) → Contains (live_sequences dead units) placed
     → IsSequenceOf units placed

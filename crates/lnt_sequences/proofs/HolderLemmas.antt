@@ -1,23 +1,22 @@
 -- The extent that holds a position, found by bisection, and what its sequence answers.
-use Rattle.std.proofs.Common.{◌≡◌, ◌≢◌, ℕ, ◌+◌, ◌-◌, ◌<◌, ◌≤◌, Bool, true, false, List, [], ◌∷◌, ◌++◌, Option, Some}
-use Rattle.std.proofs.Common.{None, refl, sym, ap, ◌∙◌, subst, arith, length, get_or, ⊎_elim}
-use Rattle.std.specs.List.{All, find}
+use Rattle.std.proofs.Common.{◌≡◌, ◌≢◌, ℕ, ◌+◌, ◌-◌, ◌<◌, ◌≤◌, true, false, List, Option}
+use Rattle.std.proofs.Common.{None, sym, ap, subst, arith, length, get_or, ⊎_elim}
+use Rattle.std.specs.List.{All}
 use Rattle.std.specs.List.Sorted.{IsPermutation}
 use Rattle.std.specs.Option.{option_and_then, option_map}
 use Rattle.std.proofs.lemmas.Bool.{cases_eq, cases_lt}
 use Rattle.std.proofs.lemmas.List.{get_or_default}
 use Rattle.std.proofs.lemmas.List.Elements.{Contains-get_or}
 use Rattle.std.proofs.lemmas.List.Sorted.{All-permutation, Contains-permutation, IsPermutation-sym}
-use Rattle.lnt_machine.specs.declared.row.Row.{Row}
 use Rattle.lnt_spans.specs.declared.position.Position.{Position}
-use Rattle.lnt_spans.specs.Positions.{IsBelow, IsAtMost, is_at_most}
+use Rattle.lnt_spans.specs.Positions.{IsBelow, IsAtMost}
 use Rattle.lnt_spans.proofs.EachTwoLaws.{each_two_from_pairs, find_none, find_only}
 use Rattle.lnt_spans.proofs.PositionLaws.{at_most_trans, below_at_most, below_is_at_most, not_both}
 use Rattle.lnt_sequences.specs.declared.extent.Extent.{Extent}
 use Rattle.lnt_sequences.specs.Extents.{AnswersFor, AreSettled, extents_of, HolderAnswers, IsHolder, IsHolderAt, IsIn, NoneHolds}
 use Rattle.lnt_sequences.specs.Rules.{AreApart}
-use Rattle.lnt_sequences.specs.Sequences.{answer_in, answer_of, holds, Holds, Placed, position_of, row_at}
-use Rattle.lnt_sequences.proofs.ExtentLemmas.{all_back, holds_from_test, IsEmpty, IsSketch, of_sequence, sketch, test_from_holds}
+use Rattle.lnt_sequences.specs.Sequences.{answer_in, answer_of, holds, Placed, row_at}
+use Rattle.lnt_sequences.proofs.ExtentLemmas.{all_back, holds_from_test, IsEmpty, IsSketch, not_held, of_sequence, sketch, test_from_holds}
 use Rattle.lnt_sequences.proofs.OverlapLemmas.{ends_before}
 
 -- ---- what is known of the places on both sides
@@ -99,13 +98,6 @@ held_once sequences p apart =
     (λ i j d lt l x y. apart i j d lt l p (holds_from_test (get_or sequences i d).rows p x)
     (holds_from_test (get_or sequences j d).rows p y))
 
-not_held_by_test : (rows : List Row) (p : Position) → (Holds rows p → ⊥) → holds p rows ≡ false
-not_held_by_test rows p h = by_test (holds p rows) refl
-  where
-    by_test : (t : Bool) → holds p rows ≡ t → holds p rows ≡ false
-    by_test true e = absurd (h (holds_from_test rows p e))
-    by_test false e = e
-
 pub answer_none : (sequences : List Placed) (extents : List Extent) (p : Position) → IsPermutation (extents_of sequences) extents
     → NoneHolds extents p → answer_in sequences p ≡ None
 answer_none sequences extents p permuted none =
@@ -114,7 +106,7 @@ answer_none sequences extents p permuted none =
     let each = all_back (λ (e : Extent). IsIn p e → ⊥) sequences before in
     let all : All (λ (s : Placed). holds p s.rows ≡ false) sequences =
     λ k d l.
-    not_held_by_test (get_or sequences k d).rows p
+    not_held (get_or sequences k d).rows p
     (λ h.
     ⊎_elim
     (λ (empty : IsEmpty (get_or sequences k d)). empty.none p h)

@@ -1,8 +1,8 @@
 -- The kept sequences of a section.
 use Rattle.std.proofs.Common.{◌≡◌, ◌≢◌, ℕ, suc, ◌+◌, ◌<◌, Bool, true, false, not, ◌&&◌, ◌||◌, cond, List, [], ◌∷◌, ◌++◌}
-use Rattle.std.proofs.Common.{Option, Some, None, refl, sym, ap, ◌∙◌, arith, get_or}
+use Rattle.std.proofs.Common.{Option, Some, refl, sym, ap, ◌∙◌, arith, get_or}
 use Rattle.std.specs.List.{All, AllPairs, Contains, filter, list_any}
-use Rattle.std.proofs.lemmas.Bool.{true≢false}
+use Rattle.std.proofs.lemmas.Bool.{false_from_ne_true, true≢false}
 use Rattle.std.proofs.lemmas.Bool.Decides.{nat_tests}
 use Rattle.std.proofs.lemmas.List.Elements.{All-append, All-contains, All-contains_itself, All-cons, All-filter}
 use Rattle.std.proofs.lemmas.List.Elements.{All-nil, All-weaker, filter_passes}
@@ -60,28 +60,21 @@ positions_back p q r s h = by_parts (is_below p q) (is_same p r) (is_same q s) r
     by_parts : (a b c : Bool) → is_below p q ≡ a → is_same p r ≡ b → is_same q s ≡ c → (a && (b && c)) ≡ true
         → (is_below r s && (is_same r p && is_same s q)) ≡ true
     by_parts true true true e f g h = rw (below_back p q r s e f g, same_back p r f, same_back q s g) refl
-    by_parts true true false e f g h = absurd cc
-    by_parts true false c e f g h = absurd cc
-    by_parts false b c e f g h = absurd cc
+    by_parts _ _ _ e f g h = absurd cc
 
 alike_back : (a b c d : Option Row) → ends_alike a b c d ≡ true → ends_alike c d a b ≡ true
-alike_back None b c d h = absurd cc
-alike_back (Some a) None c d h = absurd cc
-alike_back (Some a) (Some b) None d h = absurd cc
-alike_back (Some a) (Some b) (Some c) None h = absurd cc
 alike_back (Some a) (Some b) (Some c) (Some d) h = positions_back (position_of a) (position_of b) (position_of c) (position_of d) h
+alike_back _ _ _ _ h = absurd cc
 
 pub hold_alike_back : (rows others : List Row) → hold_alike rows others ≡ false → hold_alike others rows ≡ false
-hold_alike_back rows others h = by_test (hold_alike others rows) refl
-  where
-    by_test : (t : Bool) → hold_alike others rows ≡ t → hold_alike others rows ≡ false
-    by_test true e = absurd (true≢false (sym (alike_back (first_row others) (last_row others) (first_row rows) (last_row rows) e) ∙ h))
-    by_test false e = e
+hold_alike_back rows others h =
+    false_from_ne_true (hold_alike others rows)
+    (λ e. true≢false (sym (alike_back (first_row others) (last_row others) (first_row rows) (last_row rows) e) ∙ h))
 
 id_of : ℕ → ℕ → SeqId
 id_of unit index = record { unit = unit; index = index }
 
-same_id : (a b : SeqId) → a.unit ≡ b.unit → a.index ≡ b.index → a ≡ b
+pub same_id : (a b : SeqId) → a.unit ≡ b.unit → a.index ≡ b.index → a ≡ b
 unfolding id_of
 same_id a b e f = ap (λ (n : ℕ). id_of n a.index) e ∙ ap (id_of b.unit) f
 
@@ -98,12 +91,9 @@ makes_copy placed earlier = stands_before earlier.id placed.id && hold_alike pla
 -- what stands before one that is no copy isn't like it
 unlike_before : (ss : List Placed) (s t : Placed) → Contains ss t → is_copy ss s ≡ false → stands_before t.id s.id ≡ true
     → hold_alike s.rows t.rows ≡ false
-unlike_before ss s t c none before = by_test (hold_alike s.rows t.rows) refl
-  where
-    by_test : (b : Bool) → hold_alike s.rows t.rows ≡ b → hold_alike s.rows t.rows ≡ false
-    by_test true e = absurd (true≢false
-        (sym (list_any_at (makes_copy s) ss c.0 t c.1 (ap (makes_copy s) c.2 ∙ rw (before, e) refl)) ∙ none))
-    by_test false e = e
+unlike_before ss s t c none before =
+    false_from_ne_true (hold_alike s.rows t.rows) (λ e. true≢false
+    (sym (list_any_at (makes_copy s) ss c.0 t c.1 (ap (makes_copy s) c.2 ∙ rw (before, e) refl)) ∙ none))
 
 record IsKept (ss : List Placed) (s : Placed) : Type 0 where
   contained : Contains ss s

@@ -4,6 +4,7 @@ use Rattle.std.proofs.Common.{refl, sym, ap, ◌∙◌, subst, arith, ⊎_elim, 
 use Rattle.std.specs.List.{All, AllPairs, filter}
 use Rattle.std.specs.List.Sorted.{IsPermutation}
 use Rattle.std.proofs.Math.Seq.{take-append_seam}
+use Rattle.std.proofs.lemmas.Bool.{and_right}
 use Rattle.std.proofs.lemmas.Bool.Decides.{nat_tests}
 use Rattle.std.proofs.lemmas.List.Sorted.{All-permutation, IsPermutation-sym}
 use Rattle.lnt_machine.specs.declared.row.Row.{Row}
@@ -88,10 +89,6 @@ unlike_empty s t e k none = rw k.rows_are (by_rows t.rows none.none)
 
 -- ---- which are copies
 
-no_left : (b : Bool) → (b && false) ≡ false
-no_left true = refl
-no_left false = refl
-
 copy_by_extents : (s : Placed) (e : Extent) → IsSketch s e → (all : List Placed) → is_copy all s ≡ is_copied (extents_of all) e
 copy_by_extents s e k [] = refl
 copy_by_extents s e k (t ∷ all) =
@@ -99,8 +96,8 @@ copy_by_extents s e k (t ∷ all) =
     let first : Bool = stands_before t.id s.id && hold_alike s.rows t.rows in
     ⊎_elim
     (λ (none : IsEmpty t).
-    let no : (stands_before t.id s.id && hold_alike s.rows t.rows) ≡ false = ap (λ (b : Bool). stands_before t.id s.id && b)
-    (unlike_empty s t e k none) ∙ no_left (stands_before t.id s.id) in
+    let no : (stands_before t.id s.id && hold_alike s.rows t.rows) ≡ false = and_right
+    (stands_before t.id s.id) (hold_alike s.rows t.rows) (unlike_empty s t e k none) in
     ap (λ (b : Bool). b || is_copy all s) no ∙ rest ∙ sym (ap (λ (es : List Extent). is_copied (es ++ extents_of all) e) none.list))
     (λ (one : (f : Extent) × IsSketch t f).
     let same : (stands_before t.id s.id && hold_alike s.rows t.rows) ≡ (stands_before one.0.id e.id && end_alike e one.0) =

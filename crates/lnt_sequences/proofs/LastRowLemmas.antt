@@ -15,7 +15,7 @@ use Rattle.lnt_spans.proofs.PositionLaws.{at_most_from_test, below_from_not_at_m
 use Rattle.lnt_sequences.specs.Laws.{AnswersAsHolder, IsLastAt}
 use Rattle.lnt_sequences.specs.Rules.{AreApart}
 use Rattle.lnt_sequences.specs.Sequences.{answer_in, answer_of, holds, Holds, Placed, position_of, row_at}
-use Rattle.lnt_sequences.proofs.ExtentLemmas.{Apart, holds_from_test, test_from_holds}
+use Rattle.lnt_sequences.proofs.ExtentLemmas.{Apart, not_held, test_from_holds}
 use Rattle.lnt_sequences.proofs.HolderLemmas.{held_once}
 use Rattle.lnt_sequences.proofs.RowLemmas.{holds_some, row_at_cons}
 
@@ -78,14 +78,7 @@ none : (sequences : List Placed) (p : Position) → ((placed : Placed) → Conta
 unfolding said_by
 none sequences p h =
     ap (said_by p) (find_none (λ (s : Placed). holds p s.rows) sequences
-    (λ k d l. by_test (get_or sequences k d) (Contains-get_or sequences k d l)))
-  where
-    by_test : (placed : Placed) → Contains sequences placed → holds p placed.rows ≡ false
-    by_test placed c = by (holds p placed.rows) refl
-      where
-        by : (t : Bool) → holds p placed.rows ≡ t → holds p placed.rows ≡ false
-        by true e = absurd (h placed c (holds_from_test placed.rows p e))
-        by false e = e
+    (λ k d l. not_held (get_or sequences k d).rows p (h (get_or sequences k d) (Contains-get_or sequences k d l))))
 
 pub answers_as_holder : AnswersAsHolder
 answers_as_holder = record { one_alone = one_alone; held = held; none = none }

@@ -15,7 +15,8 @@ use Rattle.lnt_spans.specs.Positions.{IsBelow, IsAtMost}
 use Rattle.lnt_spans.proofs.EachTwoLaws.{EachTwo, each_two_from_pairs, pairs_from_each_two, each_two_permutation}
 use Rattle.lnt_spans.proofs.PositionLaws.{at_most_itself, at_most_trans, not_both}
 use Rattle.lnt_sequences.specs.declared.extent.Extent.{Extent}
-use Rattle.lnt_sequences.specs.Extents.{AreApartUpTo, AreSorted, ComesNoLater, IsIn}
+use Rattle.lnt_sequences.specs.declared.sequence.SeqId.{SeqId}
+use Rattle.lnt_sequences.specs.Extents.{AreApartUpTo, AreSorted, ComesNoLater, IsIn, IsNotLater}
 use Rattle.lnt_sequences.specs.Overlaps.{AreFirstToOverlap, ExtentsDisjoint}
 
 -- ---- extents in order
@@ -31,30 +32,34 @@ not_later one other h = record {
   index = λ e f g. grind (arith, nat_tests);
 }
 
-not_later_itself : (a : Extent) → ComesNoLater a a
-not_later_itself a = record { low = at_most_itself a.low; unit = λ _ _. omega arith; index = λ _ _ _. omega arith }
+pub place_itself : (p : Position) (id : SeqId) → IsNotLater p id p id
+place_itself p id = record { low = at_most_itself p; unit = λ _ _. omega arith; index = λ _ _ _. omega arith }
 
-not_later_trans : (a b c : Extent) → ComesNoLater a b → ComesNoLater b c → ComesNoLater a c
-not_later_trans a b c h k = record {
+pub place_trans : (p q r : Position) (a b c : SeqId) → IsNotLater p a q b → IsNotLater q b r c → IsNotLater p a r c
+place_trans p q r a b c h k = record {
   low = at_most_trans h.low k.low;
   unit = λ e f. grind arith;
   index = λ e f g. grind arith;
 }
 
-pub sorted_far : (es : List Extent) → AreSorted es → (i j : ℕ) (d : Extent) → i ≤ j → j < length es
-    → ComesNoLater (get_or es i d) (get_or es j d)
-sorted_far es s i zero d h l =
-    let e : i ≡ 0 = omega arith in subst (λ (k : ℕ). ComesNoLater (get_or es k d) (get_or es 0 d)) (sym e)
-    (not_later_itself (get_or es 0 d))
-sorted_far es s i (suc j) d h l =
+-- what holds of all neighbours, holds of any two in order
+pub stand_far : {X : Type 0} (R : X → X → Type 0) → ((x : X) → R x x) → ((x y z : X) → R x y → R y z → R x z) → (xs : List X)
+    → ((k : ℕ) (d : X) → k + 1 < length xs → R (get_or xs k d) (get_or xs (k + 1) d)) → (i j : ℕ) (d : X) → i ≤ j → j < length xs
+    → R (get_or xs i d) (get_or xs j d)
+stand_far R itself passes xs s i zero d h l =
+    let e : i ≡ 0 = omega arith in subst (λ (k : ℕ). R (get_or xs k d) (get_or xs 0 d)) (sym e) (itself (get_or xs 0 d))
+stand_far R itself passes xs s i (suc j) d h l =
     ⊎_elim
     (λ (lt : i < suc j).
-    let next : ComesNoLater (get_or es j d) (get_or es (suc j) d) = rw add-one at (s j d (omega arith)) in
-    not_later_trans (get_or es i d) (get_or es j d) (get_or es (suc j) d) (sorted_far es s i j d (omega arith) (omega arith)) next)
+    let next : R (get_or xs j d) (get_or xs (suc j) d) = rw add-one at (s j d (omega arith)) in
+    passes (get_or xs i d) (get_or xs j d) (get_or xs (suc j) d) (stand_far R itself passes xs s i j d (omega arith) (omega arith)) next)
     (λ (le : suc j ≤ i).
-    let e : i ≡ suc j = omega arith in subst (λ (k : ℕ). ComesNoLater (get_or es k d) (get_or es (suc j) d)) (sym e)
-    (not_later_itself (get_or es (suc j) d)))
+    let e : i ≡ suc j = omega arith in subst (λ (k : ℕ). R (get_or xs k d) (get_or xs (suc j) d)) (sym e) (itself (get_or xs (suc j) d)))
     (cases_lt i (suc j))
+
+pub sorted_far : (es : List Extent) → AreSorted es → (i j : ℕ) (d : Extent) → i ≤ j → j < length es
+    → ComesNoLater (get_or es i d) (get_or es j d)
+sorted_far = stand_far ComesNoLater (λ a. place_itself a.low a.id) (λ a b c. place_trans a.low b.low c.low a.id b.id c.id)
 
 -- up to the first neighbours that overlap, an extent ends before a later one begins
 pub ends_before : (es : List Extent) → AreSorted es → (n : ℕ) → AreApartUpTo n es → (i j : ℕ) (d : Extent) → i < n → i < j → j < length es

@@ -6,8 +6,7 @@ use Rattle.std.specs.List.Sorted.{IsPermutation}
 use Rattle.std.proofs.lemmas.List.{append_assoc}
 use Rattle.std.proofs.lemmas.List.Edits.{swap_is}
 use Rattle.std.proofs.lemmas.List.Sorted.{IsPermutation-append_comm, IsPermutation-append_left}
-use Rattle.std.proofs.lemmas.List.Sorted.{IsPermutation-append_right, IsPermutation-keeps, IsPermutation-refl}
-use Rattle.std.proofs.lemmas.List.Sorted.{IsPermutation-trans}
+use Rattle.std.proofs.lemmas.List.Sorted.{IsPermutation-append_right, IsPermutation-keeps, IsPermutation-refl, IsPermutation-trans}
 use Rattle.lnt_machine.specs.declared.row.Row.{Row}
 use Rattle.lnt_spans.specs.declared.position.Position.{Position}
 use Rattle.lnt_spans.specs.declared.span.Span.{Span}
@@ -137,11 +136,10 @@ spans_by_entries : (sequences : List Placed) (entries : List Extent) (in_turn : 
     → AllZip (IsTurnOf sequences) entries in_turn
     → spans_of in_turn ≡ flat_map (spans_by sequences) entries
 spans_by_entries sequences [] [] apart z = refl
-spans_by_entries sequences [] (s ∷ ss) apart z = absurd z
-spans_by_entries sequences (e ∷ es) [] apart z = absurd z
 spans_by_entries sequences (e ∷ es) (s ∷ ss) apart z =
     ap (λ (spans : List Span). spans ++ spans_of ss) (sym (spans_by_sketch sequences s e apart z.0.contained z.0.sketch))
     ∙ ap (λ (spans : List Span). spans_by sequences e ++ spans) (spans_by_entries sequences es ss apart z.1)
+spans_by_entries sequences _ _ apart z = absurd z
 
 pub turns_permuted : (sequences : List Placed) (entries : List Extent) (in_turn : List Placed)
     → IsPermutation (extents_of sequences) entries → AreApart sequences → AreOrdered sequences

@@ -1,7 +1,8 @@
 use Rattle.std.proofs.Common.{◌+◌, ◌^◌, ◌<◌, arith, subst, sym}
 use Rattle.lnt_io.proofs.FrontLaws.{so_stopped}
 use Rattle.lnt_ops.specs.Walks.{Walk}
-use Rattle.lnt_dump.proofs.UnitWalks.{OpsTold, fails_op, gives_op, ops_all, ops_cut, ops_more, ops_none}
+use Rattle.lnt_machine.proofs.RanLaws.{fails_op, gives_op}
+use Rattle.lnt_dump.proofs.UnitWalks.{OpsTold, ops_all, ops_cut, ops_more, ops_none}
 use Rattle.lnt_dump.proofs.UnitWalks.{stands_fails, stands_first, stands_room}
 use Rattle.lnt_dump.proofs.operations.print_ops.Goals as goal
 

@@ -3,7 +3,8 @@ use Rattle.lnt_io.proofs.FrontLaws.{so_stopped}
 use Rattle.lnt_ops.specs.Walks.{Walk}
 use Rattle.lnt_dump.proofs.RunWalks.{RowsTold, rows_all, rows_cut, rows_more, rows_none, rows_quiet, rows_room}
 use Rattle.lnt_dump.proofs.RunWalks.{running_allowed, running_in}
-use Rattle.lnt_dump.proofs.UnitWalks.{fails_op, gives_op, stands_fails, stands_first}
+use Rattle.lnt_machine.proofs.RanLaws.{fails_op, gives_op}
+use Rattle.lnt_dump.proofs.UnitWalks.{stands_fails, stands_first}
 use Rattle.lnt_dump.proofs.rows.print_rows.Goals as goal
 
 pub loop-op-init : goal.loop-op-init

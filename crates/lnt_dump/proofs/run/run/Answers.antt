@@ -1,9 +1,8 @@
 use Rattle.std.proofs.Common.{◌∙◌, subst, sym}
 use Rattle.std.proofs.lemmas.Result.{err_from_is_err_and}
 use Rattle.lnt_ops.specs.Walks.{Walk}
-use Rattle.lnt_dump.proofs.RunWalks.{IsJudging, judging_allowed, judging_fails, judging_first, judging_next, judging_open, judging_whole}
-use Rattle.lnt_dump.proofs.RunWalks.{running_out}
-use Rattle.lnt_dump.proofs.UnitWalks.{fails_op, gives_op}
+use Rattle.lnt_dump.proofs.RunWalks.{IsJudging, judging_fails, judging_first, judging_next, judging_open, judging_whole, running_out}
+use Rattle.lnt_machine.proofs.RanLaws.{fails_op, gives_op, may_step}
 use Rattle.lnt_dump.proofs.run.run.Goals as goal
 
 pub loop-op-init : goal.loop-op-init
@@ -15,7 +14,7 @@ loop-op-init c =
 
 pub step-requires : goal.step-requires
 step-requires c =
-    judging_allowed c.loop-op.invariant (gives_op c.in_ok-op.was c.in-Some.ensures.steps)
+    may_step _ c.loop-op.run.machine _ _ c.loop-op.invariant.header (gives_op c.in_ok-op.was c.in-Some.ensures.steps)
 
 pub returns-in_err-op-clause-err : goal.returns-in_err-op-clause-err
 returns-in_err-op-clause-err c =

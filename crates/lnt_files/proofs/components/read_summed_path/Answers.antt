@@ -1,23 +1,22 @@
 use Rattle.std.proofs.Common.{refl}
 use Rattle.std.proofs.lemmas.Result.{err_from_is_err_and}
-use Rattle.lnt_files.proofs.EntryLemmas.{no_sum, no_summed_index, no_summed_path, summed_path_read}
+use Rattle.lnt_files.proofs.EntryLemmas.{no_index, no_path, no_sum, summed_path_read}
 use Rattle.lnt_files.proofs.components.read_summed_path.Goals as goal
 
 pub returns-clause-ok : goal.returns-clause-ok
 returns-clause-ok c =
     summed_path_read c.args.format c.args.pairs.now c.in_ok-path.path c.in_ok-directory.directory c.in_ok-sum.sum _ c.args.cursor.now _ _ _
-    c.requires
-    refl c.in_ok-path.ensures.ok c.in_ok-directory.ensures.ok c.in_ok-sum.ensures.ok
+    c.requires refl c.in_ok-path.ensures.ok c.in_ok-directory.ensures.ok c.in_ok-sum.ensures.ok
 
 pub returns-in_err-path-clause-err : goal.returns-in_err-path-clause-err
 returns-in_err-path-clause-err c =
     let p = err_from_is_err_and c.from_residual.result c.from_residual.ensures.1 in
-    rw p.1 (no_summed_path c.args.format c.args.pairs.now c.args.cursor.now c.requires c.in_err-path.ensures.err.none)
+    rw p.1 (no_path c.args.format c.args.pairs.now _ _ c.args.cursor.now c.requires.0 c.requires.1 c.in_err-path.ensures.err.none)
 
 pub returns-in_err-directory-clause-err : goal.returns-in_err-directory-clause-err
 returns-in_err-directory-clause-err c =
     let p = err_from_is_err_and c.from_residual-in_err-directory.result c.from_residual-in_err-directory.ensures.1 in
-    rw p.1 (no_summed_index c.args.format c.args.pairs.now _ c.args.cursor.now _ c.requires c.in_ok-path.ensures.ok
+    rw p.1 (no_index c.args.format c.args.pairs.now _ _ _ c.args.cursor.now _ c.requires.0 c.requires.1 c.in_ok-path.ensures.ok
     c.in_err-directory.ensures.err.none)
 
 pub returns-in_err-sum-clause-err : goal.returns-in_err-sum-clause-err

@@ -1,9 +1,9 @@
 use Rattle.std.proofs.Common.{◌≡◌, ◌∙◌, ◌++◌, ◌∷◌, [], get_or, subst, sym, List, take, ◌+◌}
 use Rattle.std.specs.List.{AllZip}
 use Rattle.std.proofs.lemmas.List.{get_or_default, take_more}
+use Rattle.std.proofs.lemmas.Slice.Zip.{all_zipped_more}
 use Rattle.lnt_machine.specs.Walking.{KeptProgram}
 use Rattle.lnt_files.specs.Files.{AreFilesOf, KeptFile}
-use Rattle.lnt_lines.proofs.DraftLemmas.{zip_push}
 use Rattle.lnt_lines.proofs.index.files_of.Goals as goal
 
 pub loop-program-preserved : goal.loop-program-preserved
@@ -18,5 +18,5 @@ loop-program-preserved c =
     subst (λ (all : List (List KeptFile)). AllZip R (take (i + 1) programs) all) (sym {A = List (List KeptFile)} c.in_ok-push.ensures.items)
     (subst (λ (ks : List KeptProgram). AllZip R ks (c.loop-program.all.items ++ files ∷ []))
     (sym (take_more programs i d c.loop-program-test.true))
-    (zip_push R (take i programs) c.loop-program.all.items (get_or programs i d) files c.loop-program.invariant
+    (all_zipped_more R (take i programs) c.loop-program.all.items (get_or programs i d) files c.loop-program.invariant
     (subst (λ (k : KeptProgram). R k files) (sym item) c.in_ok-files_in.ensures)))

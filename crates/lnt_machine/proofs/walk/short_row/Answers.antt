@@ -4,19 +4,16 @@ use Rattle.lnt_machine.proofs.walk.short_row.Goals as goal
 
 pub returns-in_default-step-clause-gives : goal.returns-in_default-step-clause-gives
 returns-in_default-step-clause-gives c h rows has =
-    absurd (next_out h rows c.in-Some.op c.loop-op.ops c.next_short.new.self c.loop-op.machine (c.loop-op.invariant.2 h rows has)
-    c.in-Some.ensures.steps c.in_default-step.ensures.out_of_range)
+    absurd (next_out (c.loop-op.invariant.2 h rows has) c.in-Some.ensures.steps c.in_default-step.ensures.out_of_range)
 
 pub returns-in-Some-made-clause-gives : goal.returns-in-Some-made-clause-gives
 returns-in-Some-made-clause-gives c h rows has =
-    next_row h rows c.in-Some.op c.loop-op.ops c.next_short.new.self c.loop-op.machine c.step.new.self c.in-Ok.made c.in-Some-made.row
-    (c.loop-op.invariant.2 h rows has) c.in-Some.ensures.steps c.in-Ok.ensures.ok c.in-Some-made.is
+    next_row (c.loop-op.invariant.2 h rows has) c.in-Some.ensures.steps c.in-Ok.ensures.ok c.in-Some-made.is
 
 pub loop-op-preserved : goal.loop-op-preserved
 loop-op-preserved c =
     let step = c.in-Some.ensures.steps in (
       rw (c.in-Ok.ensures.ok.header, step.header_is) c.loop-op.invariant.0,
       omega (arith, step.shorter, c.loop-op.invariant.1),
-      λ h rows has. next_quiet h rows c.in-Some.op c.loop-op.ops c.next_short.new.self c.loop-op.machine c.step.new.self c.in-Ok.made
-          (c.loop-op.invariant.2 h rows has) step c.in-Ok.ensures.ok c.in_default-made.not-Some,
+      λ h rows has. next_quiet (c.loop-op.invariant.2 h rows has) step c.in-Ok.ensures.ok c.in_default-made.not-Some,
     )

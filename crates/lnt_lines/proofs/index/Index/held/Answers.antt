@@ -8,29 +8,13 @@ use Rattle.lnt_lines.proofs.index.Index.held.Goals as goal
 
 pub returns-in_default-clause-none : goal.returns-in_default-clause-none
 returns-in_default-clause-none c dead skip units is =
-    let index : Indexed = record {
-      line = c.self.inside.strings.line.now;
-      general = c.self.inside.strings.general.now;
-      entries = c.self.inside.entries.items;
-      units = c.self.inside.units.items;
-      programs = c.self.inside.programs.items;
-    } in
-    let of_index : IsIndexOf dead skip units index = subst (IsIndexOf dead skip units) (sym c.self.view_is) is in
-    found_none dead skip units index c.args.position c.holder_answers.ensures of_index
+    found_none dead skip units _ c.args.position c.holder_answers.ensures (subst (IsIndexOf dead skip units) (sym c.self.view_is) is)
     (subst (λ (es : List Extent). NoneHolds es c.args.position) c.deref.ensures.value c.in_default.ensures.found)
 
 pub returns-clause-answers : goal.returns-clause-answers
 returns-clause-answers c dead skip units is =
-    let index : Indexed = record {
-      line = c.self.inside.strings.line.now;
-      general = c.self.inside.strings.general.now;
-      entries = c.self.inside.entries.items;
-      units = c.self.inside.units.items;
-      programs = c.self.inside.programs.items;
-    } in
-    let holder : IsHolderAt index.entries c.args.position c.in-Some.place =
+    let holder : IsHolderAt c.self.inside.entries.items c.args.position c.in-Some.place =
     subst (λ (es : List Extent). IsHolderAt es c.args.position c.in-Some.place) c.deref.ensures.value c.in-Some.ensures.found in
-    let of_index : IsIndexOf dead skip units index = subst (IsIndexOf dead skip units) (sym c.self.view_is) is in
     subst (λ (i : Indexed). Answers dead skip units i c.args.position c.index.result.now.id) c.self.view_is
-    (held_answers dead skip units index c.args.position c.in-Some.place c.index.result.now c.holder_answers.ensures of_index holder
-    c.index.ensures)
+    (held_answers dead skip units _ c.args.position c.in-Some.place c.index.result.now c.holder_answers.ensures
+    (subst (IsIndexOf dead skip units) (sym c.self.view_is) is) holder c.index.ensures)

@@ -1,19 +1,12 @@
 use Rattle.std.proofs.Common.{subst, sym, ◌<◌, ◌^◌}
 use Rattle.std.specs.List.{AllByRecursion}
-use Rattle.lnt_lines.specs.Indexed.{Indexed, IsIndexOf}
+use Rattle.lnt_lines.specs.Indexed.{IsIndexOf}
 use Rattle.lnt_lines.proofs.CursorLemmas.{gives_all}
 use Rattle.lnt_lines.proofs.index.Index.spans.Goals as goal
 
 pub returns-clause-gives : goal.returns-clause-gives
 returns-clause-gives c dead skip units is =
-    let index : Indexed = record {
-      line = c.self.inside.strings.line.now;
-      general = c.self.inside.strings.general.now;
-      entries = c.self.inside.entries.items;
-      units = c.self.inside.units.items;
-      programs = c.self.inside.programs.items;
-    } in
-    let small : AllByRecursion (λ offset. offset < 2 ^ 64) index.units = rw c.deref.ensures.value at c.offsets_fit.ensures in
+    let small : AllByRecursion (λ offset. offset < 2 ^ 64) c.self.inside.units.items = rw c.deref.ensures.value at c.offsets_fit.ensures in
     rw (c.of.ensures, c.deref-2.ensures.value, c.deref-3.ensures.value, c.deref-4.ensures.value, ← c.self.view_is)
-    (gives_all dead skip units index c.entries_in_turn.ensures c.self.invariant.numbers small
+    (gives_all dead skip units _ c.entries_in_turn.ensures c.self.invariant.numbers small
     (subst (IsIndexOf dead skip units) (sym c.self.view_is) is))

@@ -8,31 +8,22 @@ use Rattle.lnt_lines.proofs.run.Watched.step.Goals as goal
 pub returns-in_err-row-clause-err : goal.returns-in_err-row-clause-err
 returns-in_err-row-clause-err c =
     let p = err_from_is_err_and c.from_residual.result c.from_residual.ensures.1 in
-    let watched = c.args.self.now in
-    rw (p.1, p.2) (λ other dead view files old walk walk' ran step. out_at dead view files old c.args.collected.now walk walk' watched.run
-    watched.watch c.args.places.now.items watched.place c.args.op.now c.in_err-row.field-0.0
-    ran step c.in_err-row.ensures.out_of_range c.in_err-row.ensures.fault)
+    rw (p.1, p.2) (λ other dead view files old walk walk' ran step. out_at ran step c.in_err-row.ensures.out_of_range
+    c.in_err-row.ensures.fault)
 
 pub returns-in_default-clause-goes_on : goal.returns-in_default-clause-goes_on
 returns-in_default-clause-goes_on c dead view files old walk walk' ran step room left =
-    let watched = c.args.self.now in
-    ran_quiet dead view files old c.args.collected.now walk walk' watched.run c.step.new.self watched.watch c.args.places.now.items
-    watched.place c.args.op.now c.in_ok-row.field-0 ran step c.in_ok-row.ensures.ok room.0 c.in_default.not-Some
+    ran_quiet ran step c.in_ok-row.ensures.ok room.0 c.in_default.not-Some
 
 pub returns-else-is_err-clause-goes_on : goal.returns-else-is_err-clause-goes_on
 returns-else-is_err-clause-goes_on c dead view files old walk walk' ran step room left =
     let watched = c.args.self.now in
     let items : c.push.new.self.items ≡ c.args.places.now.items ++ watched.place ∷ [] = grind (arith, common_steps) in
     let here : watched.length - c.args.left ≡ length view.program - length walk'.at.rest = omega (arith, room.1, left) in
-    ran_row dead view files old c.args.collected.now c.see.new.collected walk walk' watched.run c.step.new.self watched.watch c.see.new.self
-    c.args.places.now.items _ watched.place _ c.args.op.now c.in_ok-row.field-0 c.in-Some.row
-    ran step c.in_ok-row.ensures.ok room.0 c.in-Some.is c.in-Ok.ensures.seen c.in-Ok.ensures.collects (λ e. (items, here))
+    ran_row ran step c.in_ok-row.ensures.ok room.0 c.in-Some.is c.in-Ok.ensures.seen c.in-Ok.ensures.collects (λ e. (items, here))
     (λ e. absurd (true≢false (sym c.if-row.true ∙ e)))
 
 pub returns-else-row-clause-goes_on : goal.returns-else-row-clause-goes_on
 returns-else-row-clause-goes_on c dead view files old walk walk' ran step room left =
-    let watched = c.args.self.now in
-    ran_row dead view files old c.args.collected.now c.see.new.collected walk walk' watched.run c.step.new.self watched.watch c.see.new.self
-    c.args.places.now.items _ watched.place _ c.args.op.now c.in_ok-row.field-0 c.in-Some.row
-    ran step c.in_ok-row.ensures.ok room.0 c.in-Some.is c.in-Ok.ensures.seen c.in-Ok.ensures.collects
+    ran_row ran step c.in_ok-row.ensures.ok room.0 c.in-Some.is c.in-Ok.ensures.seen c.in-Ok.ensures.collects
     (λ e. absurd (true≢false (sym e ∙ c.if-row.false))) (λ e. (refl, refl))

@@ -20,8 +20,8 @@ pub returns-in_default-made-clause-comes : goal.returns-in_default-made-clause-c
 returns-in_default-made-clause-comes c rows will =
     short_quiet (record { machine = c.self.inside.machine; walk = c.self.inside.ops; ended = c.self.inside.ended })
     (record { machine = c.step.new.self; walk = c.next_short.new.self; ended = c.self.inside.ended }) c.if-self.false c.if-self.false
-    (λ h all has. next_quiet h all c.in-Some.op c.self.inside.ops c.next_short.new.self c.self.inside.machine c.step.new.self c.in-Ok.made
-    has c.in-Some.ensures.steps c.in-Ok.ensures.ok c.in_default-made.not-Some) rows (subst (WillGive rows) (sym c.self.view_is) will)
+    (λ h all has. next_quiet has c.in-Some.ensures.steps c.in-Ok.ensures.ok c.in_default-made.not-Some) rows
+    (subst (WillGive rows) (sym c.self.view_is) will)
 
 pub returns-clause-comes : goal.returns-clause-comes
 returns-clause-comes c =
@@ -33,5 +33,4 @@ returns-clause-comes c =
     subst (λ (old : SequenceWalk). GivesRow old (Some c.in-Some-made.row) new) c.self.view_is
     (gives_some (record { machine = c.self.inside.machine; walk = c.self.inside.ops; ended = c.self.inside.ended }) new
     (Some c.in-Some-made.row) c.if-self.false
-    (λ h all has. next_row h all c.in-Some.op c.self.inside.ops c.next_short.new.self c.self.inside.machine c.step.new.self c.in-Ok.made
-    c.in-Some-made.row has c.in-Some.ensures.steps c.in-Ok.ensures.ok c.in-Some-made.is) refl)
+    (λ h all has. next_row has c.in-Some.ensures.steps c.in-Ok.ensures.ok c.in-Some-made.is) refl)
