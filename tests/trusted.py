@@ -22,8 +22,10 @@ YES = [
     ("Rattle.lnt_lines.specs.Good", "IsGood"),
     ("Rattle.lnt_records.specs.Table", "BeginsWith"),
     ("Rattle.lnt_records.specs.Table", "column_names"),
-    ("Rattle.lnt_paths.specs.PathDifferences", "AnswersByPath"),
-    ("Rattle.lnt_table.specs.ByPath", "answer_by_path"),
+    ("Rattle.lnt_records.specs.Comparisons", "IsTableWhere"),
+    ("Rattle.lnt_paths.specs.PathTables", "by_path"),
+    ("Rattle.lnt_paths.specs.PathSpans", "path_span_answer"),
+    ("Rattle.lnt_table.specs.AnyVersion", "told_paths"),
 ]
 UPGRADE = [
     ASKED,
