@@ -1,10 +1,11 @@
 -- The bytes of a table are taken from a source and passed.
 use Rattle.std.proofs.Common.{◌≡◌, ◌∙◌, ℕ, ◌+◌, ◌≤◌, Bool, true, false, List, [], ◌∷◌, ◌++◌, Option, Some, None, IfSome, map, subst}
-use Rattle.std.proofs.Common.{append-nil, append_assoc, drop, length, length-append, refl, ap, sym, arith}
+use Rattle.std.proofs.Common.{append-nil, append_assoc, drop, length, length-append, not, refl, ap, sym, arith}
 use Rattle.std.proofs.lemmas.List.{drop-drop}
+use Rattle.std.proofs.lemmas.Option.{same_Some}
 use Rattle.std.specs.Bool.{MatchBool}
 use Rattle.std.specs.List.{AllByRecursion, AllZip, cons_option}
-use Rattle.std.specs.Option.{option_map}
+use Rattle.std.specs.Option.{is_some, option_map}
 use Rattle.lnt_io.specs.Pulling.{GivesMore, HasMoreThan}
 use Rattle.lnt_io.proofs.PullLaws.{more_from_start, pulls_all, pulls_append, pulls_none}
 use Rattle.lnt_spans.specs.declared.answer.Answer.{Answer}
@@ -16,6 +17,7 @@ use Rattle.lnt_spans.specs.declared.span.Span.{Span}
 use Rattle.lnt_spans.specs.Answers.{in_version}
 use Rattle.lnt_spans.specs.Comparing.{Compares, IsTold, Merging, end_of}
 use Rattle.lnt_spans.specs.Joined.{HasJoined}
+use Rattle.lnt_spans.specs.Remaining.{SpansAreLeft}
 use Rattle.lnt_spans.proofs.ComingLaws.{HasGiven, all_given, none_given, one_given}
 use Rattle.lnt_spans.proofs.ToldLaws.{told, told_answer, told_order}
 use Rattle.lnt_spans.specs.Coming.{GivesFirstSpan}
@@ -201,7 +203,7 @@ stands_grown to_come first now next version old new one a b la lb w0 w1 count en
   given = λ list coming. one_given list s.pushed span (to_come now) (to_come next) (s.given list coming) p.gives;
 }
 
-end_added : (table : List Span) (span : Span) → end_of (table ++ span ∷ []) ≡ span.high
+pub end_added : (table : List Span) (span : Span) → end_of (table ++ span ∷ []) ≡ span.high
 end_added [] span = refl
 end_added (r ∷ []) span = refl
 end_added (r ∷ next ∷ table) span = end_added (next ∷ table) span
@@ -338,6 +340,27 @@ gives_told version old new None (Some x) first' second' is_ended span e1 e2 e3 e
 gives_told version old new None None (Some x) second' is_ended span e1 e2 e3 e4 e5 gives spans h = absurd (cc e3)
 gives_told version old new None None None (Some x) is_ended span e1 e2 e3 e4 e5 gives spans h = absurd (cc e4)
 gives_told version old new None None None None true span e1 e2 e3 e4 e5 gives spans h = absurd (cc e5)
+
+in_full : (spans : List Span) → map (span_in_version Two) spans ≡ spans
+in_full [] = refl
+in_full (span ∷ spans) = ap (λ (rest : List Span). span ∷ rest) (in_full spans)
+
+-- the next span was already taken out of the source
+pub left_after : {S : Type 0} (to_come : S → List Span → Type 0) (first next : Option Span) (spans : S) (is_ended : Bool)
+    → is_some next ≡ not is_ended → (rest : List Span) → SpansAreLeft to_come next spans rest
+    → (more : List Span) × AreLeft is_ended (to_come spans) more
+    × (cons_option first rest ≡ cons_option first (cons_option next (map (span_in_version Two) more)))
+left_after to_come first None spans true e [] left = ([], refl, refl)
+left_after to_come first None spans true e (span ∷ rest) left = absurd (cc (left.0))
+left_after to_come first None spans false e rest left = absurd (cc e)
+left_after to_come first (Some next) spans true e rest left = absurd (cc e)
+left_after to_come first (Some next) spans false e [] left = absurd (cc left)
+left_after to_come first (Some next) spans false e (span ∷ rest) left = (
+  rest,
+  left.1,
+  ap (λ (s : Span). cons_option first (s ∷ rest)) (sym (same_Some next span left.0))
+  ∙ ap (λ (xs : List Span). cons_option first (next ∷ xs)) (sym (in_full rest)),
+)
 
 -- ---- lines that are read and pushed
 

@@ -15,14 +15,16 @@ use Rattle.lnt_io.specs.Pulling.{Pulls}
 use Rattle.lnt_records.specs.declared.outcome.Outcome.{Outcome}
 use Rattle.lnt_records.specs.declared.outcome.Outcome.TheVariants.{Fault}
 use Rattle.lnt_records.specs.declared.fault.TableFault.TheVariants as fault
-use Rattle.lnt_records.specs.declared.stream.TableRead.TheVariants.{Compared as Told}
-use Rattle.lnt_records.specs.Outcomes.{IsOutcome, IsTableRead}
+use Rattle.lnt_records.specs.declared.stream.TableRead.{TableRead}
+use Rattle.lnt_records.specs.declared.stream.TableRead.TheVariants.{Compared as Told, Other}
+use Rattle.lnt_records.specs.Faults.{IsComparison}
+use Rattle.lnt_records.specs.Outcomes.{IsOutcome, IsTableRead, whole_read}
 use Rattle.lnt_records.proofs.BeginningLaws.{first_begins}
 use Rattle.lnt_records.specs.Passing.{AreLines, Ends, HasPassed, IsCut, LeavesOff, Passes}
 use Rattle.lnt_records.specs.Progress.{Judges}
 use Rattle.lnt_records.specs.Table.{BeginsWith, Fields, IsSpanRecord, by_number, column_names}
 use Rattle.lnt_records.specs.Written.{line_text, lines_text, plain_by_number}
-use Rattle.lnt_records.proofs.ComparisonLemmas.{AnswersSo}
+use Rattle.lnt_records.proofs.ComparisonLemmas.{AnswersSo, compared_whole}
 use Rattle.lnt_records.proofs.LineLaws as any
 use Rattle.lnt_records.proofs.LineLaws.{IsReadBack}
 use Rattle.lnt_records.proofs.LineLemmas.{line_some}
@@ -139,6 +141,26 @@ whole_bytes (Some x) (Some y) given rest p e = ap (λ (t : List ℕ). given ++ t
 told_bytes : (a : Option (List ℕ)) (bytes : List ℕ) (P : List ℕ → Type 0) → IfSome a (λ all. bytes ≡ all) → P bytes → IfSome a P
 told_bytes None bytes P e h = tt
 told_bytes (Some all) bytes P e h = subst P e h
+
+-- what holds of all bytes, of which the first were taken
+pub first_taken : (a b : Option (List ℕ)) (la lb : ℕ) (window : List ℕ) (P : List ℕ → Type 0) → Passes a b la lb [] window []
+    → IfSome b (λ more. P (window ++ more)) → IfSome a P
+first_taken None b la lb window P p h = tt
+first_taken (Some x) None la lb window P p h = absurd p.pulls
+first_taken (Some x) (Some y) la lb window P p h =
+    subst P (ap (λ (t : List ℕ). t ++ y) (sym p.joined) ∙ sym p.pulls) h
+
+-- what holds of a text that is the first bytes and the rest
+pub rest_taken : (a : Option (List ℕ)) (la : ℕ) (window all : List ℕ) (P : List ℕ → Type 0) → Ends a la window all → P all
+    → IfSome a (λ more. P (window ++ more))
+rest_taken None la window all P ends h = tt
+rest_taken (Some bytes) la window all P ends h = subst P (ends.joined ∙ ap (λ (t : List ℕ). window ++ t) ends.whole) h
+
+pub read_whole : (table : Option (List ℕ)) (list : List Span) (read : TableRead) → IfSome table (λ bytes. IsTableRead bytes list read)
+    → IfSome table (λ bytes. IsComparison bytes list (whole_read read))
+read_whole None list read h = tt
+read_whole (Some bytes) list (Told outcome) h = compared_whole bytes list outcome h.0
+read_whole (Some bytes) list (Other text) h = h.1
 
 -- ---- the header's fault
 

@@ -1,5 +1,5 @@
 -- What the comparison of a table with a section comes to, by number or by path.
-use Rattle.std.specs.Prelude.{◌≡◌, ◌≢◌, ℕ, List, [], ◌∷◌, Option, Some, None}
+use Rattle.std.specs.Prelude.{◌≡◌, ◌≢◌, ℕ, List, [], ◌∷◌, Option, Some, None, IfSome}
 use Rattle.lnt_spans.specs.declared.answer.Version.{Version}
 use Rattle.lnt_spans.specs.declared.difference.Difference.{Difference}
 use Rattle.lnt_spans.specs.declared.found.Found.{Found}
@@ -17,7 +17,10 @@ use Rattle.lnt_records.specs.declared.outcome.Outcome.TheVariants as outcome
 use Rattle.lnt_records.specs.declared.fault.TableFault.TheVariants as fault
 use Rattle.lnt_records.specs.declared.stream.TableRead.{TableRead}
 use Rattle.lnt_records.specs.declared.stream.TableRead.TheVariants.{Compared as Read, Other}
+use Rattle.lnt_records.specs.declared.stream.TableStart.{TableStart}
+use Rattle.lnt_records.specs.declared.stream.TableStart.TheVariants as start
 use Rattle.lnt_records.specs.Faults.{IsFault}
+use Rattle.lnt_records.specs.Passing.{Passes}
 use Rattle.lnt_records.specs.Table.{BeginsWith, IsTableOf, column_names}
 
 -- The bytes are a table, and this is what its comparison with the section found.
@@ -46,6 +49,16 @@ abbrev pub IsTableRead : List ℕ → List Span → TableRead → Type 0
 IsTableRead bytes section (Read told) = IsOutcome bytes section told × (told ≢ outcome.Fault fault.Header)
 IsTableRead bytes section (Other text) = (text.items ≡ bytes) × ((version : Version) → BeginsWith bytes (column_names version ∷ []) → ⊥)
 
+-- A table that begins with the header of a version as a line was compared, so the fault isn't the header's.
+abbrev pub IsStartOf : {S : Type 0} → Option (List ℕ) → List Span → TableStart S → Type 0
+IsStartOf table section (start.Compared told) = IfSome table (λ bytes. IsOutcome bytes section told × (told ≢ outcome.Fault fault.Header))
+IsStartOf table section (start.Other window spans) = Unit {0}
+
+-- Or only the first bytes were taken, and the spans are as they were.
+abbrev pub HasBegun : {S : Type 0} → Option (List ℕ) → Option (List ℕ) → ℕ → ℕ → S → TableStart S → Type 0
+HasBegun old new may_give may_still spans (start.Compared told) = Unit {0}
+HasBegun old new may_give may_still spans (start.Other window same) = Passes old new may_give may_still [] window [] × (same ≡ spans)
+
 -- ---- what is told of it
 
 -- no difference, or this one
@@ -57,6 +70,11 @@ compared_of (Some difference) = Differs difference
 abbrev pub whole_of : Outcome Difference → Compared
 whole_of (outcome.Fault told) = Fault told
 whole_of (outcome.Found found) = compared_of (first_of found)
+
+-- of all positions, if no other kind of table is known
+abbrev pub whole_read : TableRead → Compared
+whole_read (Read told) = whole_of told
+whole_read (Other text) = Fault fault.Header
 
 -- of those at which the table answers
 abbrev pub part_of : Outcome Difference → Compared

@@ -15,6 +15,7 @@ use crate::header::{TableVersion, header_of};
 use crate::lines::pass_header;
 use crate::passing::pass_spans;
 use crate::remaining::Remaining;
+use crate::text::ROOM;
 use crate::window::Window;
 use lnt_io::{Source, Stop};
 use lnt_spans::{Differences, MergeByNumber, Position, SpanList, SpanSlice, SpanSource, Version};
@@ -96,8 +97,8 @@ pub fn differ_or_take<S: SpanSource + Drop, T: Source>(
     // For the proofs: a table has no more records than its source may give bytes, so their number fits.
     let _may_give = table.left();
     let mut window = Window::new(alloc);
-    window.fill(alloc, table)?;
-    let Some(version) = pass_header(&mut window) else {
+    window.fill(alloc, table, ROOM)?;
+    let Some(version) = pass_header(&mut window, Version::One, Version::Two) else {
         let text = window.rest_after(alloc, &[], table)?;
         return told(differ_taken(alloc, text, spans));
     };

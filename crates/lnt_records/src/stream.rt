@@ -1,10 +1,10 @@
 //! Compares a table with the spans of a section, both as they come.
-ghost use Rattle.std.specs.Prelude.{◌≡◌, ◌≢◌, ◌+◌, ◌-◌, ◌^◌, ◌<◌, List, IfOk, IfSome, IsErrOf, IsTrue};
+ghost use Rattle.std.specs.Prelude.{◌≡◌, ◌≢◌, ◌+◌, ◌-◌, ◌^◌, ◌<◌, ◌++◌, List, IfOk, IfSome, IsErrOf, IsTrue};
 ghost use Rattle.lnt_spans.specs.declared.span.Span.{Span};
 ghost use Rattle.lnt_spans.specs.Spans.{AreInOrder};
 ghost use Rattle.lnt_io.specs.Pulling.{HasMoreThan};
 ghost use Rattle.lnt_records.specs.Faults.{IsComparison};
-ghost use Rattle.lnt_records.specs.Outcomes.{IsTableRead};
+ghost use Rattle.lnt_records.specs.Outcomes.{HasBegun, IsStartOf, IsTableRead, whole_read};
 
 use crate::comparison::{Compared, compare_after, compare_records};
 use crate::fault::{TableFault, told};
@@ -12,6 +12,7 @@ use crate::header::{TableVersion, header_of};
 use crate::lines::{pass_header, push_lines};
 use crate::outcome::Outcome;
 use crate::passing::pass_spans;
+use crate::text::ROOM;
 use crate::window::Window;
 use lnt_io::{Source, Stop};
 use lnt_spans::{Difference, MergeByNumber, SpanSource, Version};
@@ -47,32 +48,36 @@ pub fn compare_table<S: SpanSource + Drop, T: Source>(
     ensures too_long { IsErrOf result Stop.TooLong → IsTrue (T.too_long table.new) }
     ensures more { IsErrOf result Stop.TooLong → HasMoreThan (T.remaining table.old) (T.left table.old) }
 {
-    match compare_or_take(alloc, table, spans)? {
-        TableRead::Compared(outcome) => Ok(outcome.whole()),
-        TableRead::Other(_) => Ok(Compared::Fault(TableFault::Header)),
-    }
+    let (window, spans) = match compare_lines(alloc, table, spans)? {
+        TableStart::Compared(outcome) => return Ok(outcome.whole()),
+        TableStart::Other(window, spans) => (window, spans),
+    };
+    let read = compare_or_take(alloc, table, window, spans)?;
+    Ok(read.whole())
 }
 
-/// The outcome for a table that may be of another kind.
+/// The outcome for a table of which the first line was looked at.
 #[derive(Drop)]
-pub enum TableRead {
-    /// It was compared, with this outcome.
+pub enum TableStart<S> {
+    /// The line is the header of version 1 or 2. The table was compared, with this outcome.
     Compared(Outcome<Difference>),
-    /// Record 0 names the columns of neither version. These are all bytes of the table.
-    Other(Vec<u8>),
+    /// It isn't. These bytes were taken from the source, and none was passed; the spans are as they were.
+    Other(Window, S),
 }
 
-/// Compares a table as `compare_table` does, except one that names the columns of neither version: its bytes are given back,
-/// and nothing is said about them. Stops as `compare_table` does.
-pub fn compare_or_take<S: SpanSource + Drop, T: Source>(
+/// Compares a table as `compare_table` does, if its first line is the header of version 1 or 2. Otherwise it takes only the first
+/// bytes, and nothing is said about them. Stops as `compare_table` does.
+pub fn compare_lines<S: SpanSource + Drop, T: Source>(
     alloc: Global,
     table: &mut T,
     spans: S,
-) -> Result<TableRead, Stop>
+) -> Result<TableStart<S>, Stop>
     requires failures { T.failures table.old < 2 ^ 64 - 1 }
     requires spans { (list : List Span) × S.to_come spans list × AreInOrder list }
-    ensures ok { IfOk result (λ read. (list : List Span) → S.to_come spans list → AreInOrder list
-        → IfSome (T.remaining table.old) (λ bytes. IsTableRead bytes list read)) }
+    ensures ok { IfOk result (λ start. (list : List Span) → S.to_come spans list → AreInOrder list
+        → IsStartOf (T.remaining table.old) list start) }
+    ensures begun { IfOk result (λ start. HasBegun (T.remaining table.old) (T.remaining table.new) (T.left table.old) (T.left table.new)
+        spans start) }
     ensures read { IsErrOf result Stop.Read → T.failures table.new ≡ T.failures table.old + 1 }
     ensures no_failure { result ≢ Err Stop.Read → T.failures table.new ≡ T.failures table.old }
     ensures too_long { IsErrOf result Stop.TooLong → IsTrue (T.too_long table.new) }
@@ -81,10 +86,9 @@ pub fn compare_or_take<S: SpanSource + Drop, T: Source>(
     // For the proofs: a table has no more records than its source may give bytes, so their number fits.
     let _may_give = table.left();
     let mut window = Window::new(alloc);
-    window.fill(alloc, table)?;
-    let Some(version) = pass_header(&mut window) else {
-        let text = window.rest_after(alloc, &[], table)?;
-        return told(compare_taken(alloc, text, spans));
+    window.fill(alloc, table, ROOM)?;
+    let Some(version) = pass_header(&mut window, Version::One, Version::Two) else {
+        return Ok(TableStart::Other(window, spans));
     };
     let passed = pass_spans::<S, T, Outcome<Difference>>(
         alloc,
@@ -97,7 +101,50 @@ pub fn compare_or_take<S: SpanSource + Drop, T: Source>(
     let mut count = passed.count;
     push_lines(alloc, &mut merge, &mut count, version, table, &mut window)?;
     let text = window.rest_after(alloc, version.header_line(), table)?;
-    told(compare_after(alloc, &text, merge, version, count)).map(TableRead::Compared)
+    let outcome = told(compare_after(alloc, &text, merge, version, count))?;
+    Ok(TableStart::Compared(outcome))
+}
+
+/// The outcome for a table that may be of another kind.
+#[derive(Drop)]
+pub enum TableRead {
+    /// It was compared, with this outcome.
+    Compared(Outcome<Difference>),
+    /// Record 0 names the columns of neither version. These are all bytes of the table.
+    Other(Vec<u8>),
+}
+
+impl TableRead {
+    // The comparison at all positions, if no other kind of table is known.
+    fn whole(self) -> Compared
+        ensures { result ≡ whole_read self }
+    {
+        match self {
+            TableRead::Compared(outcome) => outcome.whole(),
+            TableRead::Other(_) => Compared::Fault(TableFault::Header),
+        }
+    }
+}
+
+/// Takes all bytes of a table of which the source gave the first ones, and compares it as `compare_table` does; except one that
+/// names the columns of neither version: its bytes are given back, and nothing is said about them. Stops as `compare_table` does.
+pub fn compare_or_take<S: SpanSource + Drop, T: Source>(
+    alloc: Global,
+    table: &mut T,
+    first: Window,
+    spans: S,
+) -> Result<TableRead, Stop>
+    requires failures { T.failures table.old < 2 ^ 64 - 1 }
+    requires spans { (list : List Span) × S.to_come spans list × AreInOrder list }
+    ensures ok { IfOk result (λ read. (list : List Span) → S.to_come spans list → AreInOrder list
+        → IfSome (T.remaining table.old) (λ more. IsTableRead (first ++ more) list read)) }
+    ensures read { IsErrOf result Stop.Read → T.failures table.new ≡ T.failures table.old + 1 }
+    ensures no_failure { result ≢ Err Stop.Read → T.failures table.new ≡ T.failures table.old }
+    ensures too_long { IsErrOf result Stop.TooLong → IsTrue (T.too_long table.new) }
+    ensures more { IsErrOf result Stop.TooLong → HasMoreThan (T.remaining table.old) (T.left table.old) }
+{
+    let text = first.rest_after(alloc, &[], table)?;
+    told(compare_taken(alloc, text, spans))
 }
 
 // Does the same for a table whose bytes are all in memory.

@@ -10,10 +10,14 @@ use crate::paths::IndexPaths;
 use crate::verdict::verdict_of;
 use lnt_io::{Source, Stop};
 use lnt_lines::Index;
-use lnt_paths::{ComparedByPath, DifferenceByPath, compare_by_path};
-use lnt_records::{Outcome, TableRead, compare_or_take};
+use lnt_paths::{
+    ComparedByPath, DifferenceByPath, PathVersion, compare_by_path, compare_lines_by_path,
+};
+use lnt_records::{
+    Outcome, TableRead, TableStart, compare_lines, compare_or_take, pass_header, told,
+};
 use lnt_spans::Difference;
-use std::alloc::{AllocError, Global};
+use std::alloc::Global;
 
 // What the comparison of a table of any version with a good section comes to.
 #[derive(Drop)]
@@ -71,14 +75,21 @@ pub(crate) fn judge_index<T: Source>(
     ensures no_failure { result ≢ Err Stop.Read → T.failures table.new ≡ T.failures table.old }
     ensures too_long { IsErrOf result Stop.TooLong → IsFoundTooLong (T.too_long table.new) (T.remaining table.old) (T.left table.old) }
 {
-    let read = compare_or_take(alloc, table, index.spans())?;
-    let text = match read {
+    // For the proofs: a table has no more bytes than its source may give, so their number fits.
+    let _may_give = table.left();
+    let (mut window, spans) = match compare_lines(alloc, table, index.spans())? {
+        TableStart::Compared(outcome) => return Ok(Judged::Numbered(outcome)),
+        TableStart::Other(window, spans) => (window, spans),
+    };
+    let paths = IndexPaths { index };
+    if let Some(version) = pass_header(&mut window, PathVersion::Three, PathVersion::Four) {
+        let outcome = compare_lines_by_path(alloc, table, window, version, spans, &paths)?;
+        return Ok(Judged::ByPath(outcome));
+    }
+    let text = match compare_or_take(alloc, table, window, spans)? {
         TableRead::Compared(outcome) => return Ok(Judged::Numbered(outcome)),
         TableRead::Other(text) => text,
     };
-    let paths = IndexPaths { index };
-    match compare_by_path(alloc, &text, index.spans(), &paths) {
-        Ok(outcome) => Ok(Judged::ByPath(outcome)),
-        Err(AllocError) => Err(Stop::Memory),
-    }
+    let outcome = told(compare_by_path(alloc, &text, index.spans(), &paths))?;
+    Ok(Judged::ByPath(outcome))
 }
