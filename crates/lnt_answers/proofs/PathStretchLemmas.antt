@@ -1,15 +1,13 @@
 -- The stretches at which a table by path answers otherwise than the rows of units, given one after another.
-use Rattle.std.proofs.Common.{◌≡◌, ◌∙◌, Bool, ℕ, List, [], ◌∷◌, inr, map, Option, Some, None, IfSome, is_some, refl, subst}
+use Rattle.std.proofs.Common.{◌≡◌, ◌∙◌, Bool, ℕ, List, [], map, Option, Some, None, IfSome, is_some, refl, subst}
 use Rattle.std.specs.Option.{option_map}
 use Rattle.lnt_header.specs.declared.unit_parts.UnitParts.{UnitParts}
-use Rattle.lnt_io.specs.declared.status.Status.{Status}
-use Rattle.lnt_spans.specs.declared.answer.Version.{Version}
 use Rattle.lnt_spans.specs.declared.position.Position.{Position}
 use Rattle.lnt_spans.specs.declared.span.Span.{Span}
 use Rattle.lnt_spans.specs.Counts.{addresses_answered}
 use Rattle.lnt_sequences.specs.Sequences.{line_answer}
 use Rattle.lnt_lines.specs.Indexed.{Indexed}
-use Rattle.lnt_records.specs.Table.{BeginsWith, column_names}
+use Rattle.lnt_records.specs.Faults.{IsUnnumbered}
 use Rattle.lnt_paths.specs.declared.answer.AnswerByPath.{AnswerByPath}
 use Rattle.lnt_paths.specs.declared.answer.DifferenceByPath.{DifferenceByPath}
 use Rattle.lnt_paths.specs.declared.held.HeldSpan.{HeldSpan}
@@ -21,11 +19,9 @@ use Rattle.lnt_paths.specs.PathSpans.{StandInOrder, path_span_answer}
 use Rattle.lnt_paths.specs.PathStretches.{stretch_of}
 use Rattle.lnt_paths.specs.PathTables.{IsPathTableOf}
 use Rattle.lnt_paths.specs.Stretching.{HasToldByPath}
-use Rattle.lnt_table.specs.declared.within.Scope.{Scope}
 use Rattle.lnt_table.specs.ByPath.{indexed_path, path_at, told_path}
-use Rattle.lnt_answers.specs.DifferenceLines.{AreDifferencesBegun, AreStretchesTold, path_stretch_line}
-use Rattle.lnt_answers.proofs.ScopeLemmas.{told_addresses}
-use Rattle.lnt_answers.specs.Stretches.{AreStretchesBegun, AreToldByPath}
+use Rattle.lnt_table.proofs.CheckLemmas.{told_addresses}
+use Rattle.lnt_answers.specs.Stretches.{IsSoByPath}
 
 -- whether the table answers there, as its answer is held
 pub answered_so : (difference : DifferenceByPath) (is_answered : Bool) → is_answered ≡ is_some difference.by_table
@@ -50,55 +46,21 @@ HasStarted to_come index differences version dead skip units spans = StandInOrde
     (path_span_answer (map held_span spans)) []
 
 -- The slice has the held spans, and the paths are those of the index. So it holds of the differences from the units' rows.
-for_path_units : {S : Type 0} (to_come : S → List Span → Type 0) (index : Indexed) (path : ℕ → ℕ → List ℕ)
+pub for_path_units : {S : Type 0} (to_come : S → List Span → Type 0) (index : Indexed) (path : ℕ → ℕ → List ℕ)
     (differences : DifferencesByPath S) (version : PathVersion) (spans slice : List HeldSpan) (dead : Option ℕ) (skip : Bool)
-    (units : List (ℕ × UnitParts)) (IsSo : (Position → Option PathAnswer) → (Position → Option PathAnswer) → Type 0)
-    → slice ≡ spans → path ≡ indexed_path index → StandInOrder (map held_span spans)
-    → HasStarted to_come index differences version dead skip units slice
+    (units : List (ℕ × UnitParts)) (table : Option (List ℕ))
+    (IsSo : (Position → Option PathAnswer) → (Position → Option PathAnswer) → Type 0) → slice ≡ spans → path ≡ indexed_path index
+    → IfSome table (λ text. IsUnnumbered text × IsPathTableOf version text (map held_span spans))
+    → StandInOrder (map held_span spans) → HasStarted to_come index differences version dead skip units slice
     → ForPathDifferences to_come path differences (addresses_answered (line_answer dead skip units)) IsSo
-    → IsSo (told_path version index dead skip units) (path_span_answer (map held_span spans))
-for_path_units to_come index path differences version spans slice dead skip units IsSo same by order started p =
-    subst (λ (q : ℕ → ℕ → List ℕ). ForPathDifferences to_come q differences (addresses_answered (line_answer dead skip units)) IsSo) by p
-    (told_path version index dead skip units) (path_span_answer (map held_span spans))
-    (subst (HasStarted to_come index differences version dead skip units) same started order)
-    (told_addresses (path_answer version (path_at index.line index.general units)) dead skip units)
-
--- What was printed is told of the differences that were given.
-pub told_by_path : {S : Type 0} (to_come : S → List Span → Type 0) (scope : Scope) (index : Indexed) (path : ℕ → ℕ → List ℕ)
-    (differences : DifferencesByPath S) (version : PathVersion) (spans slice : List HeldSpan) (dead : Option ℕ) (skip : Bool)
-    (units : List (ℕ × UnitParts)) (table old new : Option (List ℕ)) (status : Status) → slice ≡ spans → path ≡ indexed_path index
-    → IfSome table (λ text. ((numbered : Version) → BeginsWith text (column_names numbered ∷ []) → ⊥)
-    × IsPathTableOf version text (map held_span spans))
-    → StandInOrder (map held_span spans) → HasStarted to_come index differences version dead skip units slice
-    → ForPathDifferences to_come path differences (addresses_answered (line_answer dead skip units))
-    (λ f g. AreStretchesTold path_stretch_line scope f g old new status)
-    → IfSome table (λ text. AreToldByPath scope index dead skip units text old new status)
-told_by_path to_come scope index path differences version spans slice dead skip units None old new status same by is order started p = tt
-told_by_path to_come scope index path differences version spans slice dead skip units (Some text) old new status same by is order started
-    p = record {
-      version = version;
-      spans = map held_span spans;
-      is_table = is.1;
-      told = for_path_units to_come index path differences version spans slice dead skip units
-          (λ f g. AreStretchesTold path_stretch_line scope f g old new status) same by order started p;
-    }
-
--- The front that was printed is one of what is told of them.
-pub begun_by_path : {S : Type 0} (to_come : S → List Span → Type 0) (scope : Scope) (index : Indexed) (path : ℕ → ℕ → List ℕ)
-    (differences : DifferencesByPath S) (version : PathVersion) (spans slice : List HeldSpan) (dead : Option ℕ) (skip : Bool)
-    (units : List (ℕ × UnitParts)) (table old new : Option (List ℕ)) → slice ≡ spans → path ≡ indexed_path index
-    → IfSome table (λ text. ((numbered : Version) → BeginsWith text (column_names numbered ∷ []) → ⊥)
-    × IsPathTableOf version text (map held_span spans))
-    → StandInOrder (map held_span spans) → HasStarted to_come index differences version dead skip units slice
-    → ForPathDifferences to_come path differences (addresses_answered (line_answer dead skip units))
-    (λ f g. AreDifferencesBegun path_stretch_line scope f g old new)
-    → IfSome table (λ text. AreStretchesBegun scope index dead skip units text old new)
-begun_by_path to_come scope index path differences version spans slice dead skip units None old new same by is order started p = tt
-begun_by_path to_come scope index path differences version spans slice dead skip units (Some text) old new same by is order started p =
-    inr (inr (inr (record {
-      version = version;
-      spans = map held_span spans;
-      is_table = is.1;
-      begun = for_path_units to_come index path differences version spans slice dead skip units
-          (λ f g. AreDifferencesBegun path_stretch_line scope f g old new) same by order started p;
-    })))
+    → IfSome table (λ text. IsSoByPath index dead skip units text IsSo)
+for_path_units to_come index path differences version spans slice dead skip units None IsSo same by is order started p = tt
+for_path_units to_come index path differences version spans slice dead skip units (Some text) IsSo same by is order started p = record {
+  version = version;
+  table = map held_span spans;
+  is_table = is.1;
+  so = subst (λ (q : ℕ → ℕ → List ℕ). ForPathDifferences to_come q differences (addresses_answered (line_answer dead skip units)) IsSo) by
+      p (told_path version index dead skip units) (path_span_answer (map held_span spans))
+      (subst (HasStarted to_come index differences version dead skip units) same started order)
+      (told_addresses (path_answer version (path_at index.line index.general units)) (line_answer dead skip units));
+}

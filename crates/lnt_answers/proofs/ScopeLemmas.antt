@@ -3,24 +3,19 @@ use Rattle.std.proofs.Common.{◌≡◌, ◌∙◌, ◌-◌, Bool, true, false, 
 use Rattle.std.proofs.Common.{IfSome, ap, arith, is_some, map, refl, subst, sym}
 use Rattle.std.specs.List.{flat_map}
 use Rattle.std.specs.Io.KnownBytes.{Appends}
-use Rattle.std.specs.Option.{option_map}
 use Rattle.std.proofs.KnownBytes.{Appends-nil, Appends-trans}
 use Rattle.std.proofs.lemmas.List.{map-append}
 use Rattle.std.proofs.lemmas.List.Concat.{flat_map-append}
 use Rattle.lnt_io.specs.Fronts.{AppendsFront}
 use Rattle.lnt_io.proofs.FrontLaws.{front_after, front_all, front_before, front_same}
 use Rattle.lnt_io.specs.declared.status.Status.{Status}
-use Rattle.lnt_header.specs.declared.unit_parts.UnitParts.{UnitParts}
-use Rattle.lnt_spans.specs.declared.answer.Answer.{Answer}
 use Rattle.lnt_spans.specs.declared.position.Position.{Position}
 use Rattle.lnt_spans.specs.AnyStretches.{AreAllStretches, Stretch}
 use Rattle.lnt_spans.specs.Counts.{addresses_answered}
 use Rattle.lnt_spans.specs.Partial.{where_answered, where_missed}
 use Rattle.lnt_spans.specs.PartialLaws.{answered_stretches, if_some}
 use Rattle.lnt_spans.proofs.AmongLemmas.{mistakes_among}
-use Rattle.lnt_spans.proofs.CountLemmas.{same_addresses}
 use Rattle.lnt_spans.proofs.PartialLemmas.{answered_and_missed}
-use Rattle.lnt_sequences.specs.Sequences.{line_answer}
 use Rattle.lnt_table.specs.declared.within.CheckedWithin.TheVariants.{Covered}
 use Rattle.lnt_table.specs.declared.within.Scope.{Scope}
 use Rattle.lnt_table.specs.declared.within.Scope.TheVariants.{All, Answered}
@@ -229,17 +224,6 @@ stopped_within of line AreGiven scope f g old now new d is_answered is_right h l
     h.text front))
 
 -- ---- the end
-
--- what a table contains of answers is answered at as many addresses
-pub told_addresses : {X : Type 0} (tell : Answer → X) (dead : Option ℕ) (skip : Bool) (units : List (ℕ × UnitParts))
-    → addresses_answered (line_answer dead skip units) ≡ addresses_answered (λ p. option_map tell (line_answer dead skip units p))
-told_addresses tell dead skip units =
-    same_addresses (line_answer dead skip units) (λ p. option_map tell (line_answer dead skip units p))
-    (λ p. told (line_answer dead skip units p))
-  where
-    told : (answer : Option Answer) → is_some answer ≡ is_some (option_map tell answer)
-    told None = refl
-    told (Some answer) = refl
 
 -- what the table misses of all is what it doesn't answer
 end_answer : {X : Type 0} (scope : Scope) (f g : Position → Option X) (all missed : ℕ) → all ≡ addresses_answered f

@@ -2,8 +2,9 @@
 use Rattle.std.specs.Prelude.{ℕ, List, ◌++◌, codes}
 use Rattle.lnt_io.specs.declared.status.Status.{Status}
 use Rattle.lnt_io.specs.declared.status.Status.TheVariants as status
-use Rattle.lnt_paths.specs.declared.answer.ComparedByPath.{ComparedByPath}
-use Rattle.lnt_paths.specs.declared.answer.ComparedByPath.TheVariants.{Same, Fault, Differs}
+use Rattle.lnt_records.specs.declared.outcome.Compared.{Compared}
+use Rattle.lnt_records.specs.declared.outcome.Compared.TheVariants.{Same, Fault, Differs}
+use Rattle.lnt_paths.specs.declared.answer.DifferenceByPath.{DifferenceByPath}
 use Rattle.lnt_table.specs.declared.by_path.Checked.TheVariants.{Numbered, ByPath}
 use Rattle.lnt_table.specs.declared.verdict.Verdict.{Verdict}
 use Rattle.lnt_table.specs.declared.verdict.Verdict.TheVariants.{Yes, No}
@@ -23,7 +24,7 @@ verdict_status Yes = status.Done
 verdict_status (No reason) = status.No
 
 -- of a table by path
-abbrev pub compared_status : ComparedByPath → Status
+abbrev pub compared_status : Compared DifferenceByPath → Status
 compared_status Same = status.Done
 compared_status (Fault told) = status.No
 compared_status (Differs difference) = status.No

@@ -8,8 +8,7 @@ use lnt_answers::Stretches;
 use lnt_io::{Opener, Status};
 use lnt_lines::No;
 use lnt_notes::{Columns, Given, Hints, Seen, tell_agreed, tell_bad, tell_good, tell_table};
-use lnt_paths::ComparedByPath;
-use lnt_records::TableFault;
+use lnt_records::{Compared, TableFault};
 use lnt_table::{Checked, CheckedWithin, TableNo, Verdict};
 use lnt_words::Judging;
 use std::io::Write;
@@ -63,7 +62,7 @@ impl<'t> Answered<'t> {
         ensures { result.status ≡ checked_status (CheckedWithin.Checked checked.now) }
     {
         match checked {
-            Checked::Numbered(Verdict::Yes) | Checked::ByPath(ComparedByPath::Same) => Answered {
+            Checked::Numbered(Verdict::Yes) | Checked::ByPath(Compared::Same) => Answered {
                 status: Status::Done,
                 occasion: Occasion::Compared(table),
             },
@@ -74,10 +73,10 @@ impl<'t> Answered<'t> {
                 Some(fault) => Occasion::Faulty(table, fault, Columns::Numbered),
                 None => Occasion::Compared(table),
             }),
-            Checked::ByPath(ComparedByPath::Fault(fault)) => {
+            Checked::ByPath(Compared::Fault(fault)) => {
                 Answered::no(Occasion::Faulty(table, *fault, Columns::ByPath))
             }
-            Checked::ByPath(ComparedByPath::Differs(_)) => Answered::no(Occasion::Compared(table)),
+            Checked::ByPath(Compared::Differs(_)) => Answered::no(Occasion::Compared(table)),
         }
     }
 

@@ -1,8 +1,8 @@
 -- The verdict that C sees of a check of a table of any version, and the paths beside it.
 use Rattle.std.specs.Prelude.{ℕ, Bool, ◌/◌, ◌%◌, ◌^◌, ◌||◌, if◌then◌else◌, false, is_some, List, [], Option, Some, None, length, unwrap_or}
 use Rattle.lnt_paths.specs.declared.answer.AnswerByPath.{AnswerByPath}
-use Rattle.lnt_paths.specs.declared.answer.ComparedByPath.{ComparedByPath}
-use Rattle.lnt_paths.specs.declared.answer.ComparedByPath.TheVariants.{Same, Fault, Differs}
+use Rattle.lnt_records.specs.declared.outcome.Compared.{Compared}
+use Rattle.lnt_records.specs.declared.outcome.Compared.TheVariants.{Same, Fault, Differs}
 use Rattle.lnt_paths.specs.declared.answer.DifferenceByPath.{DifferenceByPath}
 use Rattle.lnt_table.specs.declared.by_path.Checked.TheVariants.{Numbered, ByPath}
 use Rattle.lnt_table.specs.declared.verdict.Verdict.TheVariants.{No}
@@ -49,7 +49,7 @@ of_difference difference = record (numbered 40 0) {
 
 -- ---- a check
 
-abbrev pub verdict_of_compared : ComparedByPath → FlatVerdict
+abbrev pub verdict_of_compared : Compared DifferenceByPath → FlatVerdict
 verdict_of_compared Same = yes
 verdict_of_compared (Fault told) = verdict_of_table (No (no_of_fault told))
 verdict_of_compared (Differs difference) = of_difference difference

@@ -5,7 +5,8 @@ ghost use Rattle.lnt_ffi.specs.ByPath.{tells_column, verdict_of_check, verdict_o
 
 use crate::flat::{FlatAnswer, NOTHING};
 use crate::verdict::{FlatVerdict, YES, at, verdict_of_table};
-use lnt_paths::{AnswerByPath, ComparedByPath, DifferenceByPath};
+use lnt_paths::{AnswerByPath, DifferenceByPath};
+use lnt_records::Compared;
 use lnt_table::{Checked, CheckedWithin, Coverage, TableNo, Verdict};
 
 // What a check finds, but for the paths.
@@ -20,13 +21,13 @@ pub(crate) fn verdict_of_check(found: &CheckedWithin) -> FlatVerdict
 }
 
 // The outcome of a comparison by path.
-fn of_compared(compared: &ComparedByPath) -> FlatVerdict
+fn of_compared(compared: &Compared<DifferenceByPath>) -> FlatVerdict
     ensures { result ≡ verdict_of_compared compared.now }
 {
     match compared {
-        ComparedByPath::Same => YES,
-        ComparedByPath::Fault(fault) => verdict_of_table(Verdict::No(TableNo::from(*fault))),
-        ComparedByPath::Differs(difference) => of_difference(difference),
+        Compared::Same => YES,
+        Compared::Fault(fault) => verdict_of_table(Verdict::No(TableNo::from(*fault))),
+        Compared::Differs(difference) => of_difference(difference),
     }
 }
 
@@ -113,7 +114,7 @@ pub(crate) fn table_path(found: &CheckedWithin) -> &[u8]
     ensures { result.now ≡ table_path found.now }
 {
     match found {
-        CheckedWithin::Checked(Checked::ByPath(ComparedByPath::Differs(difference))) => {
+        CheckedWithin::Checked(Checked::ByPath(Compared::Differs(difference))) => {
             path_in(&difference.by_table)
         }
         _ => &[],
@@ -125,7 +126,7 @@ pub(crate) fn section_path(found: &CheckedWithin) -> &[u8]
     ensures { result.now ≡ section_path found.now }
 {
     match found {
-        CheckedWithin::Checked(Checked::ByPath(ComparedByPath::Differs(difference))) => {
+        CheckedWithin::Checked(Checked::ByPath(Compared::Differs(difference))) => {
             path_in(&difference.by_section)
         }
         _ => &[],

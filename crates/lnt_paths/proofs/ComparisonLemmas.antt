@@ -6,8 +6,7 @@ use Rattle.std.proofs.lemmas.Bool.{cases_lt}
 use Rattle.lnt_text.specs.Digits.{IsAddress, IsDecimal}
 use Rattle.lnt_records.specs.declared.fault.TableFault.TheVariants as fault
 use Rattle.lnt_records.specs.declared.fault.TableFault.{TableFault}
-use Rattle.lnt_records.specs.declared.outcome.Outcome.{Outcome}
-use Rattle.lnt_records.specs.declared.outcome.Outcome.TheVariants.{Fault, Found}
+use Rattle.lnt_records.specs.declared.outcome.Outcome.TheVariants.{Found}
 use Rattle.lnt_records.specs.Reading.{IsReadAs}
 use Rattle.lnt_records.specs.Table.{BeginsWith, Fields, RecordsOf}
 use Rattle.lnt_spans.specs.declared.answer.Answer.{Answer}
@@ -21,9 +20,8 @@ use Rattle.lnt_paths.specs.declared.version.PathVersion.{PathVersion}
 use Rattle.lnt_paths.specs.Merging.{IsMerged, JudgesByPath, path_end}
 use Rattle.lnt_paths.specs.PathAnswers.{PathAnswer}
 use Rattle.lnt_spans.specs.declared.found.Found.{Found as FoundSpec}
-use Rattle.lnt_spans.specs.Merged.{AreFound, answer_told, end_of_records, first_of}
-use Rattle.lnt_paths.specs.PathDifferences.{IsLeastPathDifference, IsPathComparison}
-use Rattle.lnt_paths.specs.PathOutcomes.{IsPathOutcome, compared_of, whole_of}
+use Rattle.lnt_spans.specs.Merged.{AreFound, answer_told, end_of_records}
+use Rattle.lnt_paths.specs.PathOutcomes.{IsPathOutcome}
 use Rattle.lnt_paths.specs.PathStretches.{stretch_of}
 use Rattle.lnt_paths.specs.PathFaults.{IsFaultyRecord, IsPathFault}
 use Rattle.lnt_paths.specs.PathSpans.{PathSpan, StandInOrder, path_span_answer, whole}
@@ -123,21 +121,7 @@ pub found_told : {S : Type 0} (to_come : S → List Span → Type 0) (tell : Pat
     → RecordsOf bytes records → AreFound stretch_of (answer_told (tell version) list) (path_span_answer j.table) found
     → IsPathOutcome bytes (λ version. answer_told (tell version) list) (Found found)
 found_told to_come tell version comparison bytes list records found j all told =
-    record { version = version; table = j.table; is_table = (records, all, j.is_table); found = told }
-
--- at all positions
-pub compared_whole : (bytes : List ℕ) (section : PathVersion → Position → Option PathAnswer) (outcome : Outcome DifferenceByPath)
-    → IsPathOutcome bytes section outcome → IsPathComparison bytes section (whole_of outcome)
-compared_whole bytes section (Fault told) h = h
-compared_whole bytes section (Found found) h = by_first (first_of found) h.found.first
-  where
-    by_first : (first : Option DifferenceByPath)
-        → MatchOption first ((p : Position) → section h.version p ≡ path_span_answer h.table p)
-        (λ difference. IsLeastPathDifference (section h.version) (path_span_answer h.table) difference)
-        → IsPathComparison bytes section (compared_of first)
-    by_first None agree = record { version = h.version; table = h.table; is_table = h.is_table; agree = agree }
-    by_first (Some difference) least =
-        record { version = h.version; table = h.table; is_table = h.is_table; least = least }
+    record { version = version; table = j.table; is_table = (records, all, j.is_table); so = told }
 
 -- a record was taken, or its fault is that of the bytes
 pub found_in : (version : PathVersion) (records : List Fields) (fields : Fields) (found : Option TableFault) (Taken : Type 0)

@@ -5,7 +5,6 @@ pub mod HeldLemmas
 pub mod JoiningLemmas
 pub mod LineLemmas
 pub mod MergingLemmas
-pub mod OneComparisonLemmas
 pub mod OneTableLemmas
 pub mod OneWrittenLaws
 pub mod PassingLemmas

@@ -10,7 +10,6 @@ use Rattle.lnt_records.specs.Reading.{IsNarrow, IsReadAs}
 use Rattle.lnt_records.specs.Table.{BeginsWith, Fields, IsOfColumn}
 use Rattle.lnt_paths.specs.declared.version.PathVersion.{PathVersion}
 use Rattle.lnt_paths.specs.declared.version.PathVersion.TheVariants.{Three, Four}
-use Rattle.lnt_paths.specs.Laws.{NoPathFault, OnePathFault, OnePathTable}
 use Rattle.lnt_paths.specs.PathAnswers.{PathAnswer}
 use Rattle.lnt_paths.specs.PathFaults.{IsFaultyRecord, IsPathFault}
 use Rattle.lnt_paths.specs.PathSpans.{PathSpan, StandInOrder}
@@ -109,12 +108,3 @@ pub path_refused : (version : PathVersion) (records : List Fields) (table : List
     → IsPathTable version records table → IsFaultyRecord version table (length records) fields told → (whole : Fields) (bytes : List ℕ)
     → IsReadAs fields whole → BeginsWith bytes (records ++ whole ∷ []) → IsPathFault bytes told
 path_refused = any.refused by_path pathed
-
-pub one_table : OnePathTable
-one_table = any.one_table by_path pathed
-
-pub no_fault : NoPathFault
-no_fault = any.no_fault by_path pathed
-
-pub one_fault : OnePathFault
-one_fault = any.one_fault by_path pathed

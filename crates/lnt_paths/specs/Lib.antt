@@ -6,7 +6,6 @@ pub mod Laws
 pub mod Merging
 pub mod Passing
 pub mod PathAnswers
-pub mod PathDifferences
 pub mod PathFaults
 pub mod PathLines
 pub mod PathOutcomes

@@ -1,6 +1,8 @@
 //! Laws of tables by path. Each is the contract of a function that takes nothing and does nothing.
-ghost use Rattle.lnt_paths.specs.Laws.{NoPathFault, OneCanonicalOfPaths, OneLeastPathDifference, OnePathComparison, OnePathFault};
-ghost use Rattle.lnt_paths.specs.Laws.{FirstStretchesBegin, OnePathTable};
+ghost use Rattle.lnt_records.specs.Laws.{NoFault, OneComparison, OneFault, OneTable};
+ghost use Rattle.lnt_paths.specs.Laws.{FirstStretchesBegin, OneCanonicalOfPaths, OneLeastPathDifference};
+ghost use Rattle.lnt_paths.specs.PathOutcomes.{tables_by_path};
+ghost use Rattle.lnt_paths.specs.PathTables.{by_path};
 
 /// Two canonical lists of spans by path that answer alike at every position are the same list. So there is one shortest
 /// table for each way to answer.
@@ -11,17 +13,17 @@ pub fn one_canonical()
 
 /// Bytes are a table by path of at most one version and one list of spans.
 pub fn one_table()
-    ensures { OnePathTable }
+    ensures { OneTable by_path }
 {}
 
 /// Bytes that are a table by path have no fault.
 pub fn no_fault()
-    ensures { NoPathFault }
+    ensures { NoFault by_path }
 {}
 
 /// At most one fault of a table by path is the first of some bytes.
 pub fn one_fault()
-    ensures { OnePathFault }
+    ensures { OneFault by_path }
 {}
 
 /// Two ways to answer have at most one first difference: one position, with one answer of each.
@@ -30,15 +32,11 @@ pub fn one_difference()
 {}
 
 /// For given bytes, and what a section answers, a comparison at all positions
-/// ([`ComparedByPath::whole_of`](crate::ComparedByPath::whole_of)) has only one possible result: that both answer the same, one
-/// fault, or one position with two answers. Paths count by their bytes, not by where they are held.
+/// ([`Outcome::whole`](lnt_records::Outcome::whole)) has only one possible result: that both answer the same, one fault, or one
+/// position with two answers. Paths count by their bytes, not by where they are held.
 pub fn one_comparison()
-    ensures { OnePathComparison }
-{
-    one_table();
-    no_fault();
-    one_fault();
-}
+    ensures { OneComparison tables_by_path }
+{}
 
 /// The first stretches at which a section and a table by path answer differently (`AreFirstStretches`) begin every list of all of
 /// them.

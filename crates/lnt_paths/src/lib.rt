@@ -26,7 +26,7 @@ mod told;
 mod version;
 mod write;
 
-pub use answer::{AnswerByPath, ComparedByPath, DifferenceByPath};
+pub use answer::{AnswerByPath, DifferenceByPath};
 pub use comparison::compare_by_path;
 pub use held::{HeldSpan, HeldTable, hold_table};
 pub use paths::Paths;

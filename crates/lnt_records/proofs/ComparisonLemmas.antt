@@ -1,23 +1,19 @@
 -- What a comparison knows after one more record, and its result.
 use Rattle.std.proofs.Common.{◌≡◌, ◌∙◌, ℕ, ◌+◌, List, [], ◌∷◌, ◌++◌, length-append, refl}
-use Rattle.std.proofs.Common.{Option, None, Some, sym, arith}
-use Rattle.std.specs.Prelude.{MatchOption}
+use Rattle.std.proofs.Common.{sym, arith}
 use Rattle.lnt_spans.specs.declared.answer.Version.{Version}
 use Rattle.lnt_spans.specs.declared.position.Position.{Position}
 use Rattle.lnt_spans.specs.declared.difference.Difference.{Difference}
 use Rattle.lnt_spans.specs.declared.span.Span.{Span}
 use Rattle.lnt_spans.specs.Comparing.{Compares}
 use Rattle.lnt_spans.specs.declared.found.Found.{Found as FoundSpec}
-use Rattle.lnt_spans.specs.Differences.{Agree, IsFirstDifference}
-use Rattle.lnt_spans.specs.Merged.{AreFound, first_of}
+use Rattle.lnt_spans.specs.Merged.{AreFound}
 use Rattle.lnt_spans.specs.Spans.{AreInOrder, span_answer, version_answer}
 use Rattle.lnt_spans.specs.Stretches.{stretch_of}
 use Rattle.lnt_spans.proofs.FoundLaws.{found_so}
 use Rattle.lnt_records.specs.declared.comparison.Comparison.{Comparison}
-use Rattle.lnt_records.specs.declared.outcome.Outcome.{Outcome}
-use Rattle.lnt_records.specs.declared.outcome.Outcome.TheVariants.{Fault, Found}
-use Rattle.lnt_records.specs.Faults.{IsComparison}
-use Rattle.lnt_records.specs.Outcomes.{IsOutcome, compared_of, whole_of}
+use Rattle.lnt_records.specs.declared.outcome.Outcome.TheVariants.{Found}
+use Rattle.lnt_records.specs.Outcomes.{IsOutcome}
 use Rattle.lnt_records.specs.Progress.{Judges}
 use Rattle.lnt_records.specs.Table.{Fields, IsSpanRecord, RecordsOf, by_number, column_names}
 use Rattle.lnt_records.proofs.TableLaws.{table_push}
@@ -70,20 +66,6 @@ found_told to_come bytes comparison list section records found j all same told =
       version = comparison.version;
       table = j.table;
       is_table = (records, all, j.is_table);
-      found = found_so stretch_of (span_answer j.table) (version_answer comparison.version list)
+      so = found_so stretch_of (span_answer j.table) (version_answer comparison.version list)
           (version_answer comparison.version section) found same own;
     }
-
--- at all positions
-pub compared_whole : (bytes : List ℕ) (section : List Span) (outcome : Outcome Difference) → IsOutcome bytes section outcome
-    → IsComparison bytes section (whole_of outcome)
-compared_whole bytes section (Fault told) h = h
-compared_whole bytes section (Found found) h = by_first (first_of found) h.found.first
-  where
-    by_first : (first : Option Difference)
-        → MatchOption first (Agree (version_answer h.version section) (span_answer h.table))
-        (λ difference. IsFirstDifference (version_answer h.version section) (span_answer h.table) (stretch_of difference))
-        → IsComparison bytes section (compared_of first)
-    by_first None agree = record { version = h.version; table = h.table; is_table = h.is_table; agree = agree }
-    by_first (Some difference) least =
-        record { version = h.version; table = h.table; is_table = h.is_table; least = least }

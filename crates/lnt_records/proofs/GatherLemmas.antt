@@ -137,7 +137,7 @@ pub started : {S : Type 0} (of_section : Remaining S → List Span → Type 0) (
     (section : Position → Option Answer) (differing : Differing S)
     → IsDiffering of_section of_table bytes section differing → IsStarted of_section of_table differing
 started of_section of_table bytes section (Fault told) h = tt
-started of_section of_table bytes section (Table differences) h = (_, _, h.told)
+started of_section of_table bytes section (Table differences) h = (_, _, h.so)
 
 -- bytes that begin with a header don't have the header's fault
 pub no_header_fault : {S : Type 0} (of_section : Remaining S → List Span → Type 0) (of_table : SpanList → List Span → Type 0)

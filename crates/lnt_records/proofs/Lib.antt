@@ -1,6 +1,7 @@
 pub mod BeginningLaws
 pub mod BegunLaws
 pub mod ColumnLemmas
+pub mod ComparedLaws
 pub mod ComparisonLemmas
 pub mod FrontLaws
 pub mod GatherLemmas

@@ -1,38 +1,26 @@
 -- A table compared with a section's spans at every position.
-use Rattle.std.specs.Prelude.{◌≡◌, ◌≢◌, ℕ, List, [], ◌∷◌, Option}
-use Rattle.std.specs.Option.{option_map}
+use Rattle.std.specs.Prelude.{◌≡◌, ◌≢◌, ℕ, List, [], Option}
 use Rattle.lnt_spans.specs.declared.answer.Answer.{Answer}
-use Rattle.lnt_spans.specs.declared.answer.Version.{Version}
 use Rattle.lnt_spans.specs.declared.listed.SpanList.{SpanList}
 use Rattle.lnt_spans.specs.declared.position.Position.{Position}
 use Rattle.lnt_spans.specs.declared.span.Span.{Span}
-use Rattle.lnt_spans.specs.declared.stretches.Differences.{Differences}
-use Rattle.lnt_spans.specs.Answers.{in_version}
 use Rattle.lnt_spans.specs.Differing.{HasTold}
-use Rattle.lnt_spans.specs.Spans.{span_answer}
 use Rattle.lnt_records.specs.declared.differing.Differing.{Differing}
 use Rattle.lnt_records.specs.declared.differing.Differing.TheVariants as differing
 use Rattle.lnt_records.specs.declared.differing.DifferingRead.{DifferingRead}
 use Rattle.lnt_records.specs.declared.differing.DifferingRead.TheVariants as read
 use Rattle.lnt_records.specs.declared.fault.TableFault.TheVariants as fault
 use Rattle.lnt_records.specs.declared.remaining.Remaining.{Remaining}
-use Rattle.lnt_records.specs.Faults.{IsFault}
-use Rattle.lnt_records.specs.Table.{BeginsWith, IsTableOf, column_names}
+use Rattle.lnt_records.specs.Comparisons.{IsTableWhere, in_versions, tables_by_number}
+use Rattle.lnt_records.specs.Faults.{IsFault, IsUnnumbered}
 
--- The bytes are a table, and `differences` is about to give the stretches at which it and the section answer differently, in
--- the fields of the table's version; none was given yet.
-pub record DiffersAlong {S T : Type 0} (of_section : S → List Span → Type 0) (of_table : T → List Span → Type 0) (bytes : List ℕ)
-    (section : Position → Option Answer) (differences : Differences S T) : Type 0 where
-  pub version : Version
-  pub table : List Span
-  pub is_table : IsTableOf version bytes table
-  pub told : HasTold of_section of_table differences (λ p. option_map (in_version version) (section p)) (span_answer table) []
-
--- Either that, or the first fault of the bytes.
+-- The bytes are a table, and `differences` is about to give the first of the stretches at which it and the section answer differently,
+-- in the fields of the table's version; or this is their first fault.
 abbrev pub IsDiffering : {S : Type 0} → (Remaining S → List Span → Type 0) → (SpanList → List Span → Type 0) → List ℕ
     → (Position → Option Answer) → Differing S → Type 0
 IsDiffering of_section of_table bytes section (differing.Fault told) = IsFault bytes told
-IsDiffering of_section of_table bytes section (differing.Table differences) = DiffersAlong of_section of_table bytes section differences
+IsDiffering of_section of_table bytes section (differing.Table differences) = IsTableWhere tables_by_number (in_versions section) bytes
+    (λ by_section by_table. HasTold of_section of_table differences by_section by_table [])
 
 -- If the result is a table, no stretch was given yet.
 abbrev pub IsStarted : {S : Type 0} → (Remaining S → List Span → Type 0) → (SpanList → List Span → Type 0) → Differing S → Type 0
@@ -48,7 +36,7 @@ abbrev pub IsDifferingRead : {S : Type 0} → (Remaining S → List Span → Typ
 IsDifferingRead of_section of_table bytes section (read.Differing told) =
     IsDiffering of_section of_table bytes section told × (told ≢ differing.Fault fault.Header)
 IsDifferingRead of_section of_table bytes section (read.Other text) =
-    (text.items ≡ bytes) × ((version : Version) → BeginsWith bytes (column_names version ∷ []) → ⊥)
+    (text.items ≡ bytes) × IsUnnumbered bytes
 
 -- If the table was compared, no stretch was given yet.
 abbrev pub IsStartedRead : {S : Type 0} → (Remaining S → List Span → Type 0) → (SpanList → List Span → Type 0) → DifferingRead S → Type 0

@@ -1,15 +1,10 @@
--- What is wrong with a table, and the result of comparing it with a section's spans.
+-- What is wrong with a table.
 use Rattle.std.specs.Prelude.{◌≡◌, ◌≢◌, ℕ, ◌<◌, List, [], ◌∷◌, ◌++◌, length}
 use Rattle.lnt_spans.specs.declared.answer.Version.{Version}
-use Rattle.lnt_spans.specs.declared.difference.Difference.{Difference}
 use Rattle.lnt_spans.specs.declared.span.Span.{Span}
-use Rattle.lnt_spans.specs.Differences.{Agree, IsLeastDifference}
-use Rattle.lnt_spans.specs.Spans.{span_answer, version_answer}
-use Rattle.lnt_records.specs.declared.comparison.Compared.{Compared}
-use Rattle.lnt_records.specs.declared.comparison.Compared.TheVariants.{Same, Fault, Differs}
 use Rattle.lnt_records.specs.declared.fault.TableFault.{TableFault}
 use Rattle.lnt_records.specs.declared.fault.TableFault.TheVariants as fault
-use Rattle.lnt_records.specs.Table.{BeginsWith, Fields, IsOfColumn, IsTableIn, IsTableOf, Kind, TableFormat, by_number}
+use Rattle.lnt_records.specs.Table.{BeginsWith, Fields, IsOfColumn, IsTableIn, Kind, TableFormat, by_number}
 
 -- ---- one record
 
@@ -55,23 +50,6 @@ IsFaulty version spans number fields told = IsFaultyIn by_number version spans n
 abbrev pub IsFault : List ℕ → TableFault → Type 0
 IsFault bytes told = IsFaultIn by_number bytes told
 
--- ---- a comparison
-
--- The bytes are a table, and this is the least difference from the section, in the fields of the table's version.
-pub record DiffersSo (bytes : List ℕ) (section : List Span) (difference : Difference) : Type 0 where
-  pub version : Version
-  pub table : List Span
-  pub is_table : IsTableOf version bytes table
-  pub least : IsLeastDifference (version_answer version section) (span_answer table) difference
-
--- The bytes are a table that answers at every position as the section does, in the fields of the table's version.
-pub record AnswersAs (bytes : List ℕ) (section : List Span) : Type 0 where
-  pub version : Version
-  pub table : List Span
-  pub is_table : IsTableOf version bytes table
-  pub agree : Agree (version_answer version section) (span_answer table)
-
-abbrev pub IsComparison : List ℕ → List Span → Compared → Type 0
-IsComparison bytes section Same = AnswersAs bytes section
-IsComparison bytes section (Fault told) = IsFault bytes told
-IsComparison bytes section (Differs difference) = DiffersSo bytes section difference
+-- The bytes begin with the header of neither version 1 nor 2.
+abbrev pub IsUnnumbered : List ℕ → Type 0
+IsUnnumbered bytes = IsFault bytes fault.Header

@@ -1,29 +1,28 @@
--- What the laws of tables say.
-use Rattle.std.specs.Prelude.{◌≡◌, ℕ, List}
-use Rattle.lnt_spans.specs.declared.answer.Version.{Version}
-use Rattle.lnt_spans.specs.declared.span.Span.{Span}
-use Rattle.lnt_spans.specs.Differences.{Agree}
-use Rattle.lnt_spans.specs.Spans.{span_answer, version_answer}
-use Rattle.lnt_records.specs.declared.comparison.Compared.{Compared}
-use Rattle.lnt_records.specs.declared.comparison.Compared.TheVariants.{Same}
+-- What the laws of tables of any format and kind say.
+use Rattle.std.specs.Prelude.{◌≡◌, ℕ, List, Option}
+use Rattle.lnt_spans.specs.declared.position.Position.{Position}
 use Rattle.lnt_records.specs.declared.fault.TableFault.{TableFault}
-use Rattle.lnt_records.specs.Faults.{IsComparison, IsFault}
-use Rattle.lnt_records.specs.Table.{IsTableOf}
+use Rattle.lnt_records.specs.declared.outcome.Compared.{Compared}
+use Rattle.lnt_records.specs.Comparisons.{IsComparisonOf, TableKind, stretch_told}
+use Rattle.lnt_records.specs.Faults.{IsFaultIn}
+use Rattle.lnt_records.specs.Table.{IsTableOfIn, TableFormat}
 
 -- Bytes are a table of at most one version and one list of spans.
-abbrev pub OneTable : Type 0
-OneTable = (bytes : List ℕ) (v w : Version) (xs ys : List Span) → IsTableOf v bytes xs → IsTableOf w bytes ys → (v ≡ w) × (xs ≡ ys)
+abbrev pub OneTable : {V X : Type 0} → TableFormat V X → Type 0
+OneTable {V} {X} format = (bytes : List ℕ) (v w : V) (xs ys : List X) → IsTableOfIn format v bytes xs → IsTableOfIn format w bytes ys
+    → (v ≡ w) × (xs ≡ ys)
 
 -- Bytes that are a table have no fault.
-abbrev pub NoFault : Type 0
-NoFault =
-    (bytes : List ℕ) (version : Version) (spans : List Span) (told : TableFault) → IsTableOf version bytes spans → IsFault bytes told → ⊥
+abbrev pub NoFault : {V X : Type 0} → TableFormat V X → Type 0
+NoFault {V} {X} format = (bytes : List ℕ) (version : V) (spans : List X) (told : TableFault) → IsTableOfIn format version bytes spans
+    → IsFaultIn format bytes told → ⊥
 
 -- At most one fault is the first of the bytes.
-abbrev pub OneFault : Type 0
-OneFault = (bytes : List ℕ) (told other : TableFault) → IsFault bytes told → IsFault bytes other → told ≡ other
+abbrev pub OneFault : {V X : Type 0} → TableFormat V X → Type 0
+OneFault format = (bytes : List ℕ) (told other : TableFault) → IsFaultIn format bytes told → IsFaultIn format bytes other → told ≡ other
 
--- Comparing a section with a table that answers as it does has no other result.
-abbrev pub ComparisonAgrees : Type 0
-ComparisonAgrees = (bytes : List ℕ) (version : Version) (section table : List Span) (compared : Compared) → IsTableOf version bytes table
-    → Agree (version_answer version section) (span_answer table) → IsComparison bytes section compared → compared ≡ Same
+-- For given bytes, and what a section answers, all true comparisons say the same, wherever their differences are held.
+abbrev pub OneComparison : {V X Y D : Type 0} → TableKind V X Y D → Type 0
+OneComparison {V} {X} {Y} {D} kind = (bytes : List ℕ) (section : V → Position → Option Y) (one other : Compared D)
+    → IsComparisonOf kind section bytes one → IsComparisonOf kind section bytes other
+    → stretch_told kind.stretch one ≡ stretch_told kind.stretch other

@@ -1,3 +1,4 @@
+pub mod Comparisons
 pub mod Differing
 pub mod FaultTexts
 pub mod Faults

@@ -1,64 +1,49 @@
 -- What the comparison of a table with a section comes to, by number or by path.
-use Rattle.std.specs.Prelude.{◌≡◌, ◌≢◌, ℕ, List, [], ◌∷◌, Option, Some, None}
-use Rattle.lnt_spans.specs.declared.answer.Version.{Version}
+use Rattle.std.specs.Prelude.{◌≡◌, ◌≢◌, ℕ, List, Option, Some, None}
 use Rattle.lnt_spans.specs.declared.difference.Difference.{Difference}
-use Rattle.lnt_spans.specs.declared.found.Found.{Found}
 use Rattle.lnt_spans.specs.declared.position.Position.{Position}
 use Rattle.lnt_spans.specs.declared.span.Span.{Span}
-use Rattle.lnt_spans.specs.AnyStretches.{Stretch}
 use Rattle.lnt_spans.specs.Merged.{AreFound, first_of}
-use Rattle.lnt_spans.specs.Spans.{span_answer, version_answer}
-use Rattle.lnt_spans.specs.Stretches.{stretch_of}
-use Rattle.lnt_records.specs.declared.comparison.Compared.{Compared}
-use Rattle.lnt_records.specs.declared.comparison.Compared.TheVariants.{Same, Fault, Differs}
-use Rattle.lnt_records.specs.declared.fault.TableFault.{TableFault}
+use Rattle.lnt_spans.specs.Spans.{span_answer}
+use Rattle.lnt_records.specs.declared.fault.TableFault.TheVariants as fault
+use Rattle.lnt_records.specs.declared.outcome.Compared.{Compared}
+use Rattle.lnt_records.specs.declared.outcome.Compared.TheVariants.{Same, Fault, Differs}
 use Rattle.lnt_records.specs.declared.outcome.Outcome.{Outcome}
 use Rattle.lnt_records.specs.declared.outcome.Outcome.TheVariants as outcome
-use Rattle.lnt_records.specs.declared.fault.TableFault.TheVariants as fault
 use Rattle.lnt_records.specs.declared.stream.TableRead.{TableRead}
 use Rattle.lnt_records.specs.declared.stream.TableRead.TheVariants.{Compared as Read, Other}
-use Rattle.lnt_records.specs.Faults.{IsFault}
-use Rattle.lnt_records.specs.Table.{BeginsWith, IsTableOf, column_names}
+use Rattle.lnt_records.specs.Comparisons.{IsTableWhere, TableKind, in_versions, tables_by_number}
+use Rattle.lnt_records.specs.Faults.{IsFaultIn, IsUnnumbered}
 
--- The bytes are a table, and this is what its comparison with the section found.
-pub record IsFoundOf {V X Y D : Type 0} (IsTable : V → List ℕ → List X → Type 0) (answers : List X → Position → Option Y)
-    (section : V → Position → Option Y) (value_of : D → Stretch Y) (bytes : List ℕ) (told : Found D) : Type 0 where
-  pub version : V
-  pub table : List X
-  pub is_table : IsTable version bytes table
-  pub found : AreFound value_of (section version) (answers table) told
+-- The bytes are a table, and this is what its comparison with the section's answers found; or this is their first fault.
+abbrev pub IsOutcomeOf : {V X Y D : Type 0} → TableKind V X Y D → (V → Position → Option Y) → List ℕ → Outcome D → Type 0
+IsOutcomeOf kind section bytes (outcome.Fault told) = IsFaultIn kind.format bytes told
+IsOutcomeOf kind section bytes (outcome.Found found) =
+    IsTableWhere kind section bytes (λ by_section by_table. AreFound kind.stretch by_section by_table found)
 
--- Either that, or the bytes have this fault, which is the first.
-abbrev pub IsOutcomeOf : {V X Y D : Type 0} → (V → List ℕ → List X → Type 0) → (List ℕ → TableFault → Type 0)
-    → (List X → Position → Option Y) → (V → Position → Option Y) → (D → Stretch Y) → List ℕ → Outcome D → Type 0
-IsOutcomeOf IsTable IsFaulty answers section value_of bytes (outcome.Fault told) = IsFaulty bytes told
-IsOutcomeOf IsTable IsFaulty answers section value_of bytes (outcome.Found found) =
-    IsFoundOf IsTable answers section value_of bytes found
-
--- the same of a table by number
+-- the same of a table by number and the spans of a section
 abbrev pub IsOutcome : List ℕ → List Span → Outcome Difference → Type 0
-IsOutcome bytes section told =
-    IsOutcomeOf IsTableOf IsFault span_answer (λ version. version_answer version section) stretch_of bytes told
+IsOutcome bytes section told = IsOutcomeOf tables_by_number (in_versions (span_answer section)) bytes told
 
 -- Either the table was compared, which happens only if it begins with the header of a version, so the fault isn't the
 -- header's; or the bytes begin with the header of neither version and were given back.
 abbrev pub IsTableRead : List ℕ → List Span → TableRead → Type 0
 IsTableRead bytes section (Read told) = IsOutcome bytes section told × (told ≢ outcome.Fault fault.Header)
-IsTableRead bytes section (Other text) = (text.items ≡ bytes) × ((version : Version) → BeginsWith bytes (column_names version ∷ []) → ⊥)
+IsTableRead bytes section (Other text) = (text.items ≡ bytes) × IsUnnumbered bytes
 
 -- ---- what is told of it
 
 -- no difference, or this one
-abbrev pub compared_of : Option Difference → Compared
+abbrev pub compared_of : {D : Type 0} → Option D → Compared D
 compared_of None = Same
 compared_of (Some difference) = Differs difference
 
 -- of all positions
-abbrev pub whole_of : Outcome Difference → Compared
+abbrev pub whole_of : {D : Type 0} → Outcome D → Compared D
 whole_of (outcome.Fault told) = Fault told
 whole_of (outcome.Found found) = compared_of (first_of found)
 
 -- of those at which the table answers
-abbrev pub part_of : Outcome Difference → Compared
+abbrev pub part_of : {D : Type 0} → Outcome D → Compared D
 part_of (outcome.Fault told) = Fault told
 part_of (outcome.Found found) = compared_of found.mistake

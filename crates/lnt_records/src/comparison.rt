@@ -4,43 +4,21 @@ ghost use Rattle.csv.specs.Records.{fields_of};
 ghost use Rattle.lnt_spans.specs.declared.span.Span.{Span};
 ghost use Rattle.lnt_spans.specs.declared.position.Position.{Position};
 ghost use Rattle.lnt_spans.specs.Spans.{AreInOrder, version_answer};
-ghost use Rattle.lnt_records.specs.Faults.{IsComparison, IsFaulty};
-ghost use Rattle.lnt_records.specs.Outcomes.{IsOutcome, compared_of};
+ghost use Rattle.lnt_records.specs.Comparisons.{IsComparison};
+ghost use Rattle.lnt_records.specs.Faults.{IsFaulty};
+ghost use Rattle.lnt_records.specs.Outcomes.{IsOutcome};
 ghost use Rattle.lnt_records.specs.Passing.{IsCut};
 ghost use Rattle.lnt_records.specs.Progress.{Judges};
 ghost use Rattle.lnt_records.specs.Table.{BeginsWith, Fields, IsSpanRecord, IsTable, column_names};
 
 use crate::fault::TableFault;
 use crate::header::header_of;
-use crate::outcome::Outcome;
+use crate::outcome::{Compared, Outcome};
 use crate::record::{RecordFault, span_of};
 use crate::taking::{TakesRecords, take_records};
 use csv::ByteRecord;
 use lnt_spans::{Difference, MergeByNumber, Span, SpanSlice, SpanSource, Version};
 use std::alloc::{AllocError, Global};
-
-/// What a comparison found.
-#[derive(Clone, Copy, Debug, PartialEq, Eq)]
-pub enum Compared {
-    /// The table answers as the section does at every position.
-    Same,
-    /// The bytes are not a table: this is the first fault.
-    Fault(TableFault),
-    /// The bytes are a table, and this is the least position at which it and the section answer differently.
-    Differs(Difference),
-}
-
-impl Compared {
-    // No difference, or this one.
-    pub(crate) fn of(difference: Option<Difference>) -> Compared
-        ensures { result ≡ compared_of difference }
-    {
-        match difference {
-            None => Compared::Same,
-            Some(difference) => Compared::Differs(difference),
-        }
-    }
-}
 
 /// Compares the table in these bytes with the spans of a section.
 ///
@@ -51,7 +29,11 @@ impl Compared {
 /// both are reported in the table's version.
 ///
 /// The caller makes sure that the spans are in order and none is empty. Fails only if memory runs out.
-pub fn compare(alloc: Global, table: &[u8], spans: &[Span]) -> Result<Compared, AllocError>
+pub fn compare(
+    alloc: Global,
+    table: &[u8],
+    spans: &[Span],
+) -> Result<Compared<Difference>, AllocError>
     requires { AreInOrder spans.now }
     ensures { IfOk result (λ compared. IsComparison table.now spans.now compared) }
 {

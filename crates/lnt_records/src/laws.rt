@@ -1,24 +1,25 @@
 //! Laws of tables. Each is the contract of a function that takes nothing and does nothing.
-ghost use Rattle.lnt_records.specs.Laws.{ComparisonAgrees, NoFault, OneFault, OneTable};
+ghost use Rattle.lnt_records.specs.Comparisons.{tables_by_number};
+ghost use Rattle.lnt_records.specs.Laws.{NoFault, OneComparison, OneFault, OneTable};
+ghost use Rattle.lnt_records.specs.Table.{by_number};
 
 /// Bytes are a table of at most one version and one list of spans.
 pub fn one_table()
-    ensures { OneTable }
+    ensures { OneTable by_number }
 {}
 
 /// Bytes that are a table have no fault.
 pub fn no_fault()
-    ensures { NoFault }
+    ensures { NoFault by_number }
 {}
 
-/// At most one fault is the first of some bytes.
-#[tactic(auto, using(crate::proofs::LawLemmas::one_fault))]
+/// At most one fault of a table is the first of some bytes.
 pub fn one_fault()
-    ensures { OneFault }
+    ensures { OneFault by_number }
 {}
 
-/// A comparison of a section with a table that answers at every position as the section does, in the fields of its version,
-/// has no other result than that.
-pub fn agreement()
-    ensures { ComparisonAgrees }
+/// For given bytes, and what a section answers, a comparison at all positions ([`Outcome::whole`](crate::Outcome::whole)) has only
+/// one possible result: that both answer the same, in the fields of the table's version, one fault, or one position with two answers.
+pub fn one_comparison()
+    ensures { OneComparison tables_by_number }
 {}

@@ -30,11 +30,11 @@ mod write;
 
 pub use canonical::write_canonical;
 pub use column::{Columns, address_at, decimal_at, field, is_field};
-pub use comparison::{Compared, compare};
+pub use comparison::compare;
 pub use differing::{Differing, DifferingRead, compare_all, differ_or_take};
 pub use fault::{TableFault, WriteStop};
 pub use header::{TableVersion, header_of};
-pub use outcome::Outcome;
+pub use outcome::{Compared, Outcome};
 pub use reading::{read_next, reader_of};
 pub use record::RecordFault;
 pub use remaining::Remaining;

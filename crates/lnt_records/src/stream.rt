@@ -3,14 +3,14 @@ ghost use Rattle.std.specs.Prelude.{◌≡◌, ◌≢◌, ◌+◌, ◌-◌, ◌^
 ghost use Rattle.lnt_spans.specs.declared.span.Span.{Span};
 ghost use Rattle.lnt_spans.specs.Spans.{AreInOrder};
 ghost use Rattle.lnt_io.specs.Pulling.{HasMoreThan};
-ghost use Rattle.lnt_records.specs.Faults.{IsComparison};
+ghost use Rattle.lnt_records.specs.Comparisons.{IsComparison};
 ghost use Rattle.lnt_records.specs.Outcomes.{IsTableRead};
 
-use crate::comparison::{Compared, compare_after, compare_records};
+use crate::comparison::{compare_after, compare_records};
 use crate::fault::{TableFault, told};
 use crate::header::{TableVersion, header_of};
 use crate::lines::{pass_header, push_lines};
-use crate::outcome::Outcome;
+use crate::outcome::{Compared, Outcome};
 use crate::passing::pass_spans;
 use crate::window::Window;
 use lnt_io::{Source, Stop};
@@ -32,12 +32,12 @@ use std::alloc::{AllocError, Global};
 /// The caller makes sure that the spans are in order and none is empty, and that the number of the source's failures is
 /// below `u64::MAX`. Stops with `Memory`; with `Read` only if the source failed; and with `TooLong` only if the source has
 /// more bytes than it may give. The table is read to its end before a fault is reported.
-#[tactic(auto, using(crate::proofs::ComparisonLemmas::compared_whole))]
+#[tactic(auto, using(crate::proofs::ComparedLaws::compared_whole))]
 pub fn compare_table<S: SpanSource + Drop, T: Source>(
     alloc: Global,
     table: &mut T,
     spans: S,
-) -> Result<Compared, Stop>
+) -> Result<Compared<Difference>, Stop>
     requires failures { T.failures table.old < 2 ^ 64 - 1 }
     requires spans { (list : List Span) × S.to_come spans list × AreInOrder list }
     ensures ok { IfOk result (λ compared. (list : List Span) → S.to_come spans list → AreInOrder list

@@ -1,15 +1,21 @@
 -- Which answers of `check_any` can be true of one section and one table.
-use Rattle.std.proofs.Common.{◌≡◌, ℕ, List, length, refl, sym, ap, arith}
+use Rattle.std.proofs.Common.{◌≡◌, ◌≢◌, ◌∙◌, ℕ, List, Option, length, refl, sym, ap, arith}
 use Rattle.lnt_header.specs.declared.unit_parts.UnitParts.{UnitParts}
+use Rattle.lnt_spans.specs.declared.answer.Answer.{Answer}
 use Rattle.lnt_spans.specs.declared.answer.Version.{Version}
 use Rattle.lnt_spans.specs.declared.answer.Version.TheVariants.{One, Two}
+use Rattle.lnt_spans.specs.declared.difference.Difference.{Difference}
+use Rattle.lnt_spans.specs.declared.position.Position.{Position}
 use Rattle.lnt_records.specs.declared.fault.TableFault.TheVariants as fault
+use Rattle.lnt_records.specs.declared.outcome.Compared.{Compared}
+use Rattle.lnt_records.specs.declared.outcome.Compared.TheVariants.{Same, Fault, Differs}
+use Rattle.lnt_records.specs.Comparisons.{IsComparisonOf, tables_by_number}
+use Rattle.lnt_records.specs.Faults.{IsUnnumbered}
 use Rattle.lnt_records.proofs.BeginningLaws.{faulty_begins, one_beginning, table_begins}
 use Rattle.lnt_records.specs.Table as numbered
 use Rattle.lnt_records.specs.Table.{column_names}
 use Rattle.lnt_paths.specs.declared.version.PathVersion.{PathVersion}
 use Rattle.lnt_paths.specs.declared.version.PathVersion.TheVariants.{Three, Four}
-use Rattle.lnt_paths.specs.declared.answer.ComparedByPath.TheVariants.{Same}
 use Rattle.lnt_paths.specs.PathTables as pathed
 use Rattle.lnt_paths.specs.PathTables.{path_column_names}
 use Rattle.lnt_paths.specs.Written.{IsCanonicalPathTable}
@@ -18,14 +24,30 @@ use Rattle.lnt_lines.specs.Good.{IsGood}
 use Rattle.lnt_lines.specs.Laws.{GoodHasNoFlaw}
 use Rattle.lnt_table.specs.declared.by_path.Checked.{Checked}
 use Rattle.lnt_table.specs.declared.by_path.Checked.TheVariants.{Numbered, ByPath}
-use Rattle.lnt_table.specs.declared.verdict.TableNo.TheVariants as no
 use Rattle.lnt_table.specs.declared.verdict.Verdict.{Verdict}
-use Rattle.lnt_table.specs.declared.verdict.Verdict.TheVariants.{Yes, No}
 use Rattle.lnt_table.specs.AnyVersion.{IsTrueCheck}
 use Rattle.lnt_table.specs.ByPath.{answer_by_path}
+use Rattle.lnt_table.specs.Headline.{told_rows}
 use Rattle.lnt_table.specs.Laws.{OneNumbered, OneVerdict, OwnTableByPath}
+use Rattle.lnt_table.specs.Verdicts.{verdict_of}
+use Rattle.lnt_table.proofs.OneVerdictLemmas.{Kind, kind_of}
+use Rattle.lnt_table.proofs.OneVerdictLemmas.Kind.{bad, compared}
 
 -- ---- a verdict
+
+-- bytes that were compared by number begin with the header of version 1 or 2
+headed : (section : Version → Position → Option Answer) (table : List ℕ) (told : Compared Difference)
+    → IsComparisonOf tables_by_number section table told → told ≢ Fault fault.Header → IsUnnumbered table → ⊥
+headed section table Same h other none = none h.version (table_begins numbered.by_number table h.version h.table h.is_table)
+headed section table (Fault fault.Header) h other none = other refl
+headed section table (Fault (fault.Fields n)) h other none =
+    none h.version (faulty_begins numbered.by_number table (fault.Fields n) h)
+headed section table (Fault (fault.Number n i)) h other none =
+    none h.version (faulty_begins numbered.by_number table (fault.Number n i) h)
+headed section table (Fault (fault.Order n)) h other none =
+    none h.version (faulty_begins numbered.by_number table (fault.Order n) h)
+headed section table (Differs difference) h other none =
+    none h.version (table_begins numbered.by_number table h.version h.table h.is_table)
 
 by_number : OneVerdict → GoodHasNoFlaw
     → (line general : List ℕ) (options : Options) (section table : List ℕ) (verdict : Verdict) (checked : Checked)
@@ -33,19 +55,13 @@ by_number : OneVerdict → GoodHasNoFlaw
     → checked ≡ Numbered verdict
 by_number verdicts flawless line general options section table verdict (Numbered other) h k =
     ap Numbered (verdicts.one line general options section table other verdict k.0 h.0)
-by_number verdicts flawless line general options section table Yes (ByPath compared) h k =
-    absurd (k.told.unnumbered h.0.version (table_begins numbered.by_number table h.0.version h.0.spans h.0.is_table))
-by_number verdicts flawless line general options section table (No (no.Section reason)) (ByPath compared) h k =
-    absurd (flawless line general options section k.units reason k.good h.0)
-by_number verdicts flawless line general options section table (No no.TableHeader) (ByPath compared) h k = absurd (h.1 refl)
-by_number verdicts flawless line general options section table (No (no.TableFields n)) (ByPath compared) h k =
-    absurd (k.told.unnumbered h.0.faulty.version (faulty_begins numbered.by_number table (fault.Fields n) h.0.faulty))
-by_number verdicts flawless line general options section table (No (no.TableNumber n i)) (ByPath compared) h k =
-    absurd (k.told.unnumbered h.0.faulty.version (faulty_begins numbered.by_number table (fault.Number n i) h.0.faulty))
-by_number verdicts flawless line general options section table (No (no.TableOrder n)) (ByPath compared) h k =
-    absurd (k.told.unnumbered h.0.faulty.version (faulty_begins numbered.by_number table (fault.Order n) h.0.faulty))
-by_number verdicts flawless line general options section table (No (no.Differs position by_table by_section)) (ByPath compared) h k =
-    absurd (k.told.unnumbered h.0.version (table_begins numbered.by_number table h.0.version h.0.spans h.0.is_table))
+by_number verdicts flawless line general options section table verdict (ByPath told) h k =
+    absurd (by_kind (kind_of line general options section table verdict h.0))
+  where
+    by_kind : Kind line general options section table verdict → ⊥
+    by_kind (bad reason e is) = flawless line general options section k.1.units reason k.1.good is
+    by_kind (compared told e is) =
+        headed (told_rows options is.units) table told is.told (λ same. h.1 (e ∙ ap verdict_of same)) k.0
 
 pub one_numbered : OneVerdict → GoodHasNoFlaw → OneNumbered
 one_numbered verdicts flawless = record { one = by_number verdicts flawless }
@@ -62,16 +78,16 @@ own : (line general : List ℕ) (options : Options) (section table : List ℕ) (
     → IsGood line general options section units
     → IsCanonicalPathTable version (answer_by_path version line general options.dead options.skip_copies units) table
     → IsTrueCheck line general options section table (ByPath Same)
-own line general options section table units version good w = record {
-  units = units;
-  good = good;
-  told = record {
-    unnumbered = λ v begins.
-        names_differ v version
-        (one_beginning table (column_names v) (path_column_names version) begins (table_begins pathed.by_path table version w.spans w.table));
-    comparison = record { version = version; table = w.spans; is_table = w.table; agree = λ p. sym (w.canonical.same p) };
-  };
-}
+own line general options section table units version good w = (
+  λ v begins.
+      names_differ v version
+      (one_beginning table (column_names v) (path_column_names version) begins (table_begins pathed.by_path table version w.spans w.table)),
+  record {
+    units = units;
+    good = good;
+    told = record { version = version; table = w.spans; is_table = w.table; so = λ p. sym (w.canonical.same p) };
+  },
+)
 
 none_numbered : (verdict : Verdict) → ByPath Same ≡ Numbered verdict → ⊥
 none_numbered verdict e = cc

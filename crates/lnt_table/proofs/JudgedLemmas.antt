@@ -1,42 +1,33 @@
 -- What a comparison of a table of any version with a good section says of the two.
-use Rattle.std.proofs.Common.{◌≡◌, ◌≢◌, ◌-◌, Bool, ℕ, List, Option, Some, None, IfSome, arith, inl, inr, is_some, refl, subst}
-use Rattle.std.specs.Option.{option_map}
+use Rattle.std.proofs.Common.{◌≡◌, ◌≢◌, ◌-◌, Bool, ℕ, List, Option, Some, None, IfSome, arith, inl, inr, refl, subst}
 use Rattle.std.specs.Prelude.{MatchOption}
 use Rattle.lnt_header.specs.declared.unit_parts.UnitParts.{UnitParts}
-use Rattle.lnt_spans.specs.declared.answer.Answer.{Answer}
-use Rattle.lnt_spans.specs.declared.answer.Version.{Version}
 use Rattle.lnt_spans.specs.declared.difference.Difference.{Difference}
+use Rattle.lnt_spans.specs.declared.found.Found.{Found as FoundSpec}
 use Rattle.lnt_spans.specs.declared.position.Position.{Position}
 use Rattle.lnt_spans.specs.declared.span.Span.{Span}
 use Rattle.lnt_spans.specs.Answers.{in_version}
 use Rattle.lnt_spans.specs.Counts.{addresses_answered}
-use Rattle.lnt_spans.specs.Merged.{AreFound, unless}
+use Rattle.lnt_spans.specs.Merged.{missed_of, unless}
 use Rattle.lnt_spans.specs.Partial.{AreCounts, IsFirstMistake, IsRightWherever, where_missed}
-use Rattle.lnt_spans.specs.Spans.{span_answer, version_answer}
-use Rattle.lnt_spans.specs.Stretches.{stretch_of}
-use Rattle.lnt_spans.proofs.CountLemmas.{same_addresses}
-use Rattle.lnt_spans.proofs.FoundLaws.{found_so}
+use Rattle.lnt_spans.specs.Spans.{span_answer}
 use Rattle.lnt_spans.proofs.PartialLemmas.{answered_and_missed}
 use Rattle.lnt_sequences.specs.Sequences.{line_answer}
-use Rattle.lnt_records.specs.declared.comparison.Compared.TheVariants as kind
 use Rattle.lnt_records.specs.declared.fault.TableFault.TheVariants as fault
 use Rattle.lnt_records.specs.declared.outcome.Outcome.{Outcome}
 use Rattle.lnt_records.specs.declared.outcome.Outcome.TheVariants.{Fault, Found}
-use Rattle.lnt_records.specs.Outcomes as numbered
-use Rattle.lnt_records.specs.Outcomes.{IsOutcome}
-use Rattle.lnt_records.proofs.ComparisonLemmas as numbered_lemmas
+use Rattle.lnt_records.specs.Comparisons.{TableKind, in_versions, tables_by_number}
+use Rattle.lnt_records.specs.Faults.{IsUnnumbered}
+use Rattle.lnt_records.specs.Outcomes.{IsOutcome, IsOutcomeOf, compared_of, part_of, whole_of}
+use Rattle.lnt_records.proofs.ComparedLaws.{compared_whole, outcome_so}
 use Rattle.lnt_paths.specs.declared.answer.DifferenceByPath.{DifferenceByPath}
-use Rattle.lnt_paths.specs.declared.version.PathVersion.{PathVersion}
-use Rattle.lnt_paths.specs.PathAnswers.{PathAnswer, path_answer, spans_by_path}
-use Rattle.lnt_paths.specs.PathOutcomes as pathed
-use Rattle.lnt_paths.specs.PathOutcomes.{IsPathOutcome}
-use Rattle.lnt_paths.specs.PathSpans.{path_span_answer}
-use Rattle.lnt_paths.specs.PathStretches as path_stretches
-use Rattle.lnt_paths.proofs.ComparisonLemmas as path_lemmas
+use Rattle.lnt_paths.specs.PathAnswers.{path_answer, spans_by_path}
+use Rattle.lnt_paths.specs.PathOutcomes.{IsPathOutcome, tables_by_path}
 use Rattle.lnt_lines.specs.declared.no.No.{No as SectionNo}
 use Rattle.lnt_lines.specs.declared.options.Options.{Options}
 use Rattle.lnt_lines.specs.Drafts.{IsIndexOfSection}
 use Rattle.lnt_lines.specs.Indexed.{Indexed, IsIndexOf}
+use Rattle.lnt_table.specs.declared.by_path.Checked.{Checked}
 use Rattle.lnt_table.specs.declared.by_path.Checked.TheVariants.{Numbered, ByPath}
 use Rattle.lnt_table.specs.declared.judged.Judged.{Judged}
 use Rattle.lnt_table.specs.declared.judged.Judged.TheVariants as judged
@@ -44,97 +35,93 @@ use Rattle.lnt_table.specs.declared.verdict.TableNo.TheVariants as no
 use Rattle.lnt_table.specs.declared.verdict.Verdict.TheVariants.{No}
 use Rattle.lnt_table.specs.declared.within.CheckedWithin.{CheckedWithin}
 use Rattle.lnt_table.specs.declared.within.CheckedWithin.TheVariants.{Checked as Told, Covered}
+use Rattle.lnt_table.specs.declared.within.Coverage.{Coverage}
 use Rattle.lnt_table.specs.declared.within.Scope.{Scope}
 use Rattle.lnt_table.specs.declared.within.Scope.TheVariants.{All, Answered}
-use Rattle.lnt_table.specs.AnyVersion.{IsTrueCheck, IsTrueCheckOfSection}
-use Rattle.lnt_table.specs.ByPath.{answer_by_path, indexed_path, path_at, told_path}
-use Rattle.lnt_table.specs.Headline.{told_answer}
-use Rattle.lnt_table.specs.Judged.{IsJudgedWith, IsNumberedWith, IsPathedWith, covered_or, missed_in, missed_in_outcome}
-use Rattle.lnt_table.specs.Judged.{part_check, part_checked, whole_checked, within_scope}
-use Rattle.lnt_table.specs.Stepping.{verdict_of}
-use Rattle.lnt_table.specs.Within.{IsOfScope, IsTrueOfSectionWithin, IsTrueWithin, IsUnnumbered}
-use Rattle.lnt_table.proofs.CheckLemmas.{compared_told, none_of_section, section_told, told_so}
+use Rattle.lnt_table.specs.AnyVersion.{IsTrueCheck, IsTrueCheckOfSection, told_paths}
+use Rattle.lnt_table.specs.ByPath.{indexed_path, path_at, told_path}
+use Rattle.lnt_table.specs.Headline.{told_rows}
+use Rattle.lnt_table.specs.Judged.{IsJudgedWith, covered_or, missed_in, part_check, part_checked, whole_checked, within_scope}
+use Rattle.lnt_table.specs.Verdicts.{verdict_of}
+use Rattle.lnt_table.specs.Within.{IsMistakenOf, IsOfScope, IsRightOf, IsTrueOfSectionWithin, IsTrueWithin}
+use Rattle.lnt_table.proofs.CheckLemmas.{both_known, compared_told, each_known, none_of_section, section_told, told_addresses, told_so}
 use Rattle.lnt_table.proofs.UnitPathLemmas.{told_by_units}
 
 -- ---- the comparison with an index
 
-pub numbered_with : (text : Option (List ℕ)) (dead : Option ℕ) (skip : Bool) (units : List (ℕ × UnitParts)) (spans : List Span)
-    (outcome : Outcome Difference) → ((p : Position) → span_answer spans p ≡ line_answer dead skip units p)
+pub numbered_with : (text : Option (List ℕ)) (index : Indexed) (dead : Option ℕ) (skip : Bool) (units : List (ℕ × UnitParts))
+    (spans : List Span) (outcome : Outcome Difference) → ((p : Position) → span_answer spans p ≡ line_answer dead skip units p)
     → IfSome text (λ bytes. IsOutcome bytes spans outcome × (outcome ≢ Fault fault.Header))
-    → IfSome text (λ bytes. IsNumberedWith dead skip units bytes outcome)
-numbered_with None dead skip units spans outcome answers h = tt
-numbered_with (Some bytes) dead skip units spans outcome answers h =
-    record { spans = spans; answers = answers; is_outcome = h.0; headed = h.1 }
-
--- an outcome for some answers is one for the same answers
-outcome_so : (bytes : List ℕ) (f g : PathVersion → Position → Option PathAnswer) (outcome : Outcome DifferenceByPath)
-    → ((version : PathVersion) (p : Position) → f version p ≡ g version p) → IsPathOutcome bytes f outcome → IsPathOutcome bytes g outcome
-outcome_so bytes f g (Fault told) same h = h
-outcome_so bytes f g (Found found) same h = record {
-  version = h.version;
-  table = h.table;
-  is_table = h.is_table;
-  found = found_so path_stretches.stretch_of (path_span_answer h.table) (f h.version) (g h.version) found (same h.version) h.found;
-}
+    → IfSome text (λ bytes. IsJudgedWith index dead skip units bytes (judged.Numbered outcome))
+numbered_with text index dead skip units spans outcome answers h =
+    each_known text (λ bytes. IsOutcome bytes spans outcome × (outcome ≢ Fault fault.Header))
+    (λ bytes. IsJudgedWith index dead skip units bytes (judged.Numbered outcome)) h
+    (λ bytes is. (
+      outcome_so tables_by_number bytes (in_versions (span_answer spans)) (in_versions (line_answer dead skip units)) outcome
+          (λ version. told_so version dead skip units spans answers) is.0,
+      is.1,
+    ))
 
 pub pathed_with : (text : Option (List ℕ)) (taken : List ℕ) (index : Indexed) (dead : Option ℕ) (skip : Bool) (units : List (ℕ × UnitParts))
     (spans : List Span) (outcome : Outcome DifferenceByPath) → IsIndexOf dead skip units index
     → IfSome text (λ bytes. (taken ≡ bytes) × IsUnnumbered bytes)
     → ((p : Position) → span_answer spans p ≡ line_answer dead skip units p)
     → IsPathOutcome taken (λ version. spans_by_path version (indexed_path index) spans) outcome
-    → IfSome text (λ bytes. IsPathedWith index dead skip units bytes outcome)
-pathed_with None taken index dead skip units spans outcome is other answers h = tt
-pathed_with (Some bytes) taken index dead skip units spans outcome is other answers h = record {
-  unnumbered = other.1;
-  is_outcome = subst (λ (b : List ℕ). IsPathOutcome b (λ version. told_path version index dead skip units) outcome) other.0
-      (outcome_so taken (λ version. spans_by_path version (indexed_path index) spans)
-      (λ version. told_path version index dead skip units) outcome
-      (λ version. told_by_units version index dead skip units spans is answers) h);
-}
+    → IfSome text (λ bytes. IsJudgedWith index dead skip units bytes (judged.ByPath outcome))
+pathed_with text taken index dead skip units spans outcome is other answers h =
+    each_known text (λ bytes. (taken ≡ bytes) × IsUnnumbered bytes)
+    (λ bytes. IsJudgedWith index dead skip units bytes (judged.ByPath outcome)) other
+    (λ bytes o. (
+      o.1,
+      subst (λ (b : List ℕ). IsPathOutcome b (λ version. told_path version index dead skip units) outcome) o.0
+          (outcome_so tables_by_path taken (λ version. spans_by_path version (indexed_path index) spans)
+          (λ version. told_path version index dead skip units) outcome
+          (λ version. told_by_units version index dead skip units spans is answers) h),
+    ))
 
 -- the answers of the index are those of the units in the section
 own_path : (line general : List ℕ) (options : Options) (section table : List ℕ) (index : Indexed) (outcome : Outcome DifferenceByPath)
     → (i : IsIndexOfSection line general options section index)
     → IsPathOutcome table (λ version. told_path version index options.dead options.skip_copies i.units) outcome
-    → IsPathOutcome table (λ version. answer_by_path version line general options.dead options.skip_copies i.units) outcome
+    → IsPathOutcome table (told_paths line general options i.units) outcome
 own_path line general options section table index outcome i h =
-    subst (λ (l : List ℕ). IsPathOutcome table (λ version. answer_by_path version l general options.dead options.skip_copies i.units) outcome)
-    i.line_is
-    (subst (λ (g : List ℕ). IsPathOutcome table
-    (λ version. answer_by_path version index.line g options.dead options.skip_copies i.units) outcome) i.general_is h)
+    subst (λ (l : List ℕ). IsPathOutcome table (told_paths l general options i.units) outcome) i.line_is
+    (subst (λ (g : List ℕ). IsPathOutcome table (told_paths index.line g options i.units) outcome) i.general_is h)
 
 -- ---- at all positions
 
 -- The verdict is `Header` only where the outcome is that fault.
-header_found : (outcome : Outcome Difference) → verdict_of (numbered.whole_of outcome) ≡ No no.TableHeader → outcome ≡ Fault fault.Header
+header_found : (outcome : Outcome Difference) → verdict_of (whole_of outcome) ≡ No no.TableHeader → outcome ≡ Fault fault.Header
 header_found (Fault fault.Header) e = refl
 header_found (Fault (fault.Fields k)) e = cc
 header_found (Fault (fault.Number k i)) e = cc
 header_found (Fault (fault.Order k)) e = cc
 header_found (Found found) e = absurd (by_first _ e)
   where
-    by_first : (first : Option Difference) → verdict_of (numbered.compared_of first) ≡ No no.TableHeader → ⊥
+    by_first : (first : Option Difference) → verdict_of (compared_of first) ≡ No no.TableHeader → ⊥
     by_first None e = cc e
     by_first (Some difference) e = cc e
 
-pub check_told : (line general : List ℕ) (options : Options) (section table : List ℕ) (index : Indexed) (told : Judged)
+check_told : (line general : List ℕ) (options : Options) (section table : List ℕ) (index : Indexed) (told : Judged)
     → (i : IsIndexOfSection line general options section index) → IsJudgedWith index options.dead options.skip_copies i.units table told
     → IsTrueCheck line general options section table (whole_checked told)
 check_told line general options section table index (judged.Numbered outcome) i h = (
-  compared_told line general options section table index h.spans (numbered.whole_of outcome) i h.answers
-      (numbered_lemmas.compared_whole table h.spans outcome h.is_outcome),
-  λ e. h.headed (header_found outcome e),
+  compared_told line general options section table (whole_of outcome) (record {
+    units = i.units;
+    good = i.good;
+    told = compared_whole tables_by_number table (told_rows options i.units) outcome h.0;
+  }),
+  λ e. h.1 (header_found outcome e),
 )
-check_told line general options section table index (judged.ByPath outcome) i h = record {
-  units = i.units;
-  good = i.good;
-  told = record {
-    unnumbered = h.unnumbered;
-    comparison = path_lemmas.compared_whole table
-        (λ version. answer_by_path version line general options.dead options.skip_copies i.units) outcome
-        (own_path line general options section table index outcome i h.is_outcome);
-  };
-}
+check_told line general options section table index (judged.ByPath outcome) i h = (
+  h.0,
+  record {
+    units = i.units;
+    good = i.good;
+    told = compared_whole tables_by_path table (told_paths line general options i.units) outcome
+        (own_path line general options section table index outcome i h.1);
+  },
+)
 
 -- ---- at the positions at which the table answers
 
@@ -144,125 +131,60 @@ counts_of : {X : Type 0} (by_table by_section : Position → Option X) (all miss
 counts_of by_table by_section all missed section out =
     record { both = omega (arith, section, out, answered_and_missed by_table by_section); section = section }
 
--- what a table contains of answers is answered at as many addresses
-told_addresses : {X : Type 0} (tell : Answer → X) (dead : Option ℕ) (skip : Bool) (units : List (ℕ × UnitParts))
-    → addresses_answered (line_answer dead skip units) ≡ addresses_answered (λ p. option_map tell (line_answer dead skip units p))
-told_addresses tell dead skip units =
-    same_addresses (line_answer dead skip units) (λ p. option_map tell (line_answer dead skip units p))
-    (λ p. told (line_answer dead skip units p))
+-- What was found says how much a table answers that is right wherever it answers, and else its first mistake.
+part_found : {V X Y D : Type 0} (kind : TableKind V X Y D) (section : V → Position → Option Y) (table : List ℕ) (found : FoundSpec D)
+    (all : ℕ) (checked : Option D → Checked) (IsSo : CheckedWithin → Type 0) → ((version : V) → all ≡ addresses_answered (section version))
+    → ((coverage : Coverage) → IsRightOf kind section table coverage → IsSo (Covered coverage))
+    → ((mistake : D) → IsMistakenOf kind section table mistake → IsSo (Told (checked (Some mistake))))
+    → IsOutcomeOf kind section table (Found found) → IsSo (covered_or (missed_of found) all (checked found.mistake))
+part_found {V} {X} {Y} {D} kind section table found all checked IsSo addresses right mistaken h = by_mistake found.mistake refl
   where
-    told : (answer : Option Answer) → is_some answer ≡ is_some (option_map tell answer)
-    told None = refl
-    told (Some answer) = refl
+    Mistakes : Option D → Type 0
+    Mistakes mistake = MatchOption mistake (IsRightWherever (kind.answers h.table) (section h.version))
+        (λ mistake. IsFirstMistake (kind.answers h.table) (section h.version) (kind.stretch mistake))
 
--- one table by number
-part_numbered : (line general : List ℕ) (options : Options) (section table : List ℕ) (index : Indexed) (outcome : Outcome Difference)
-    → (i : IsIndexOfSection line general options section index) → IsNumberedWith options.dead options.skip_copies i.units table outcome
-    → IsTrueWithin Answered line general options section table
-    (covered_or (missed_in_outcome outcome) (addresses_answered (line_answer options.dead options.skip_copies i.units))
-    (Numbered (verdict_of (numbered.part_of outcome))))
-part_numbered line general options section table index (Fault fault.Header) i h = absurd (h.headed refl)
-part_numbered line general options section table index (Fault (fault.Fields k)) i h =
-    (record { units = i.units; good = i.good; faulty = h.is_outcome }, λ e. cc e)
-part_numbered line general options section table index (Fault (fault.Number k n)) i h =
-    (record { units = i.units; good = i.good; faulty = h.is_outcome }, λ e. cc e)
-part_numbered line general options section table index (Fault (fault.Order k)) i h =
-    (record { units = i.units; good = i.good; faulty = h.is_outcome }, λ e. cc e)
-part_numbered line general options section table index (Found found) i h = by_mistake found.mistake refl
-  where
-    version : Version
-    version = h.is_outcome.version
-
-    spans : List Span
-    spans = h.is_outcome.table
-
-    answers : Position → Option Answer
-    answers = told_answer version options.dead options.skip_copies i.units
-
-    own : AreFound stretch_of answers (span_answer spans) found
-    own = found_so stretch_of (span_answer spans) (version_answer version h.spans) answers found
-        (told_so version options.dead options.skip_copies i.units h.spans h.answers) h.is_outcome.found
-
-    Mistakes : Option Difference → Type 0
-    Mistakes mistake = MatchOption mistake (IsRightWherever (span_answer spans) answers)
-        (λ mistake. IsFirstMistake (span_answer spans) answers (stretch_of mistake))
-
-    by_mistake : (mistake : Option Difference) → found.mistake ≡ mistake
-        → IsTrueWithin Answered line general options section table
-        (covered_or (unless mistake found.missed) (addresses_answered (line_answer options.dead options.skip_copies i.units))
-        (Numbered (verdict_of (numbered.compared_of mistake))))
-    by_mistake None e = inl (record {
-      units = i.units;
-      good = i.good;
-      version = version;
-      spans = spans;
-      is_table = h.is_outcome.is_table;
-      right = subst Mistakes e own.mistake;
-      counts = counts_of (span_answer spans) answers (addresses_answered (line_answer options.dead options.skip_copies i.units)) found.missed
-          (told_addresses (in_version version) options.dead options.skip_copies i.units) (own.missed e);
-    })
-    by_mistake (Some mistake) e = record {
-      units = i.units;
-      good = i.good;
-      version = version;
-      spans = spans;
-      is_table = h.is_outcome.is_table;
-      first = subst Mistakes e own.mistake;
-    }
-
--- one by path
-part_pathed : (line general : List ℕ) (options : Options) (section table : List ℕ) (index : Indexed) (outcome : Outcome DifferenceByPath)
-    → (i : IsIndexOfSection line general options section index) → IsUnnumbered table
-    → IsPathOutcome table (λ version. answer_by_path version line general options.dead options.skip_copies i.units) outcome
-    → IsTrueWithin Answered line general options section table
-    (covered_or (missed_in_outcome outcome) (addresses_answered (line_answer options.dead options.skip_copies i.units))
-    (ByPath (pathed.part_of outcome)))
-part_pathed line general options section table index (Fault told) i unnumbered h = record {
-  units = i.units;
-  good = i.good;
-  told = record { unnumbered = unnumbered; comparison = h };
-}
-part_pathed line general options section table index (Found found) i unnumbered h = by_mistake found.mistake refl
-  where
-    answers : Position → Option PathAnswer
-    answers = answer_by_path h.version line general options.dead options.skip_copies i.units
-
-    by_mistake : (mistake : Option DifferenceByPath) → found.mistake ≡ mistake
-        → IsTrueWithin Answered line general options section table
-        (covered_or (unless mistake found.missed) (addresses_answered (line_answer options.dead options.skip_copies i.units))
-        (ByPath (pathed.compared_of mistake)))
-    by_mistake None e = inr (record {
-      units = i.units;
-      good = i.good;
-      unnumbered = unnumbered;
+    by_mistake : (mistake : Option D) → found.mistake ≡ mistake → IsSo (covered_or (unless mistake found.missed) all (checked mistake))
+    by_mistake None e = right (record { answered = all - found.missed; all = all }) (record {
       version = h.version;
-      spans = h.table;
+      table = h.table;
       is_table = h.is_table;
-      right = rw e at h.found.mistake;
-      counts = counts_of (path_span_answer h.table) answers (addresses_answered (line_answer options.dead options.skip_copies i.units))
-          found.missed
-          (told_addresses (path_answer h.version (path_at line general i.units)) options.dead options.skip_copies i.units) (h.found.missed e);
+      so = (
+        subst Mistakes e h.so.mistake,
+        counts_of (kind.answers h.table) (section h.version) all found.missed (addresses h.version) (h.so.missed e),
+      );
     })
-    by_mistake (Some mistake) e = record {
-      units = i.units;
-      good = i.good;
-      unnumbered = unnumbered;
-      version = h.version;
-      spans = h.table;
-      is_table = h.is_table;
-      first = rw e at h.found.mistake;
-    }
+    by_mistake (Some mistake) e =
+        mistaken mistake (record { version = h.version; table = h.table; is_table = h.is_table; so = subst Mistakes e h.so.mistake })
 
-pub within_told : (scope : Scope) (line general : List ℕ) (options : Options) (section table : List ℕ) (index : Indexed) (told : Judged)
+within_told : (scope : Scope) (line general : List ℕ) (options : Options) (section table : List ℕ) (index : Indexed) (told : Judged)
     → (i : IsIndexOfSection line general options section index) → IsJudgedWith index options.dead options.skip_copies i.units table told
     → IsTrueWithin scope line general options section table
     (within_scope scope told (addresses_answered (line_answer options.dead options.skip_copies i.units)))
 within_told All line general options section table index told i h = check_told line general options section table index told i h
-within_told Answered line general options section table index (judged.Numbered outcome) i h =
-    part_numbered line general options section table index outcome i h
-within_told Answered line general options section table index (judged.ByPath outcome) i h =
-    part_pathed line general options section table index outcome i h.unnumbered
-    (own_path line general options section table index outcome i h.is_outcome)
+within_told Answered line general options section table index (judged.Numbered (Fault fault.Header)) i h = absurd (h.1 refl)
+within_told Answered line general options section table index (judged.Numbered (Fault (fault.Fields k))) i h =
+    (record { units = i.units; good = i.good; told = h.0 }, λ e. cc e)
+within_told Answered line general options section table index (judged.Numbered (Fault (fault.Number k n))) i h =
+    (record { units = i.units; good = i.good; told = h.0 }, λ e. cc e)
+within_told Answered line general options section table index (judged.Numbered (Fault (fault.Order k))) i h =
+    (record { units = i.units; good = i.good; told = h.0 }, λ e. cc e)
+within_told Answered line general options section table index (judged.Numbered (Found found)) i h =
+    let answers = line_answer options.dead options.skip_copies i.units in
+    part_found tables_by_number (told_rows options i.units) table found (addresses_answered answers)
+    (λ mistake. Numbered (verdict_of (compared_of mistake))) (IsTrueWithin Answered line general options section table)
+    (λ version. told_addresses (in_version version) answers)
+    (λ coverage right. inl (record { units = i.units; good = i.good; told = right }))
+    (λ mistake first. record { units = i.units; good = i.good; told = first }) h.0
+within_told Answered line general options section table index (judged.ByPath (Fault told)) i h =
+    (h.0, record { units = i.units; good = i.good; told = h.1 })
+within_told Answered line general options section table index (judged.ByPath (Found found)) i h =
+    let answers = line_answer options.dead options.skip_copies i.units in
+    part_found tables_by_path (told_paths line general options i.units) table found (addresses_answered answers)
+    (λ mistake. ByPath (compared_of mistake)) (IsTrueWithin Answered line general options section table)
+    (λ version. told_addresses (path_answer version (path_at line general i.units)) answers)
+    (λ coverage right. inr (h.0, record { units = i.units; good = i.good; told = right }))
+    (λ mistake first. (h.0, record { units = i.units; good = i.good; told = first }))
+    (own_path line general options section table index (Found found) i h.1)
 
 -- ---- the same for sources whose bytes are known
 
@@ -270,15 +192,6 @@ within_told Answered line general options section table index (judged.ByPath out
 abbrev pub Judges : Option (List ℕ) → Indexed → Judged → Type 0
 Judges table index told = (dead : Option ℕ) (skip : Bool) (units : List (ℕ × UnitParts)) → IsIndexOf dead skip units index
     → IfSome table (λ text. IsJudgedWith index dead skip units text told)
-
-both_known : (section table : Option (List ℕ)) (P : List ℕ → Type 0) (Q : List ℕ → List ℕ → Type 0) → IfSome section P
-    → ((bytes : List ℕ) → P bytes → IfSome table (Q bytes)) → IfSome section (λ bytes. IfSome table (Q bytes))
-both_known None table P Q i h = tt
-both_known (Some bytes) table P Q i h = h bytes i
-
-each_known : (table : Option (List ℕ)) (P Q : List ℕ → Type 0) → IfSome table P → ((text : List ℕ) → P text → Q text) → IfSome table Q
-each_known None P Q h step = tt
-each_known (Some text) P Q h step = step text h
 
 pub any_told : (line general : List ℕ) (options : Options) (section table : Option (List ℕ)) (index : Indexed) (told : Judged)
     → IfSome section (λ bytes. IsIndexOfSection line general options bytes index) → Judges table index told
@@ -312,8 +225,8 @@ of_good : (line general : List ℕ) (options : Options) (section : List ℕ) (in
     → IsTrueCheckOfSection line general options section (whole_checked told)
     × IsTrueCheckOfSection line general options section (part_checked told)
 of_good line general options section index (judged.Numbered outcome) i = (
-  section_told line general options section index (numbered.whole_of outcome) i,
-  section_told line general options section index (numbered.part_of outcome) i,
+  section_told line general options section index (whole_of outcome) i,
+  section_told line general options section index (part_of outcome) i,
 )
 of_good line general options section index (judged.ByPath outcome) i = ((i.units, i.good), (i.units, i.good))
 
@@ -347,8 +260,8 @@ section_within line general options section index scope told all i =
 pub not_of_section : (told : Judged) (reason : SectionNo)
     → (whole_checked told ≡ Numbered (No (no.Section reason)) → ⊥) × (part_checked told ≡ Numbered (No (no.Section reason)) → ⊥)
 not_of_section (judged.Numbered outcome) reason = (
-  λ e. none_of_section (numbered.whole_of outcome) reason cc,
-  λ e. none_of_section (numbered.part_of outcome) reason cc,
+  λ e. none_of_section (whole_of outcome) reason cc,
+  λ e. none_of_section (part_of outcome) reason cc,
 )
 not_of_section (judged.ByPath outcome) reason = (λ e. cc e, λ e. cc e)
 

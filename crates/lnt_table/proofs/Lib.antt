@@ -1,5 +1,5 @@
 pub mod JudgedLemmas
-mod CheckLemmas
+pub mod CheckLemmas
 mod LawLemmas
 mod PathLemmas
 mod StretchLemmas

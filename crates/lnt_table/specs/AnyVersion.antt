@@ -1,34 +1,34 @@
 -- What the answers of `check_any` say of a section and an address table of any version.
 --     line, general    the bytes of .debug_line_str and of .debug_str
 --     section, table   the bytes of .debug_line, and those of the address table
-use Rattle.std.specs.Prelude.{◌≢◌, ℕ, Bool, List, [], ◌∷◌, Option}
+use Rattle.std.specs.Prelude.{◌≢◌, ℕ, List, Option}
 use Rattle.lnt_header.specs.declared.unit_parts.UnitParts.{UnitParts}
-use Rattle.lnt_spans.specs.declared.answer.Version.{Version}
-use Rattle.lnt_records.specs.Table.{BeginsWith, column_names}
-use Rattle.lnt_paths.specs.declared.answer.ComparedByPath.{ComparedByPath}
-use Rattle.lnt_paths.specs.PathDifferences.{IsPathComparison}
+use Rattle.lnt_spans.specs.declared.position.Position.{Position}
+use Rattle.lnt_records.specs.declared.outcome.Compared.{Compared}
+use Rattle.lnt_records.specs.Comparisons.{IsComparisonOf}
+use Rattle.lnt_records.specs.Faults.{IsUnnumbered}
+use Rattle.lnt_paths.specs.declared.answer.DifferenceByPath.{DifferenceByPath}
+use Rattle.lnt_paths.specs.declared.version.PathVersion.{PathVersion}
+use Rattle.lnt_paths.specs.PathAnswers.{PathAnswer}
+use Rattle.lnt_paths.specs.PathOutcomes.{tables_by_path}
 use Rattle.lnt_lines.specs.declared.options.Options.{Options}
-use Rattle.lnt_lines.specs.Good.{IsGood}
 use Rattle.lnt_table.specs.declared.by_path.Checked.{Checked}
 use Rattle.lnt_table.specs.declared.by_path.Checked.TheVariants.{Numbered, ByPath}
 use Rattle.lnt_table.specs.declared.verdict.TableNo.TheVariants as no
 use Rattle.lnt_table.specs.declared.verdict.Verdict.TheVariants.{No}
 use Rattle.lnt_table.specs.ByPath.{answer_by_path}
-use Rattle.lnt_table.specs.Headline.{IsGoodSection, IsTrueOfSection, IsTrueVerdict}
+use Rattle.lnt_table.specs.Headline.{IsGoodSection, IsGoodWith, IsTrueOfSection, IsTrueVerdict}
 
--- The table begins with the header of neither version 1 nor 2. `compared` is true of the table and of the answers of the
--- units' rows, with the full path of each file, in the fields of versions 3 and 4: `Fault` of the header if the table
--- begins with that of neither of these.
-pub record IsComparedByPath (line general : List ℕ) (dead : Option ℕ) (skip : Bool) (units : List (ℕ × UnitParts)) (table : List ℕ)
-    (compared : ComparedByPath) : Type 0 where
-  pub unnumbered : (version : Version) → BeginsWith table (column_names version ∷ []) → ⊥
-  pub comparison : IsPathComparison table (λ version. answer_by_path version line general dead skip units) compared
+-- the answers of a section's rows by path, with the full path of each file, for the options
+abbrev pub told_paths : List ℕ → List ℕ → Options → List (ℕ × UnitParts) → PathVersion → Position → Option PathAnswer
+told_paths line general options units version = answer_by_path version line general options.dead options.skip_copies units
 
--- The section is good, and `compared` is true of the table and of the section's units.
-pub record IsTrueByPath (line general : List ℕ) (options : Options) (section table : List ℕ) (compared : ComparedByPath) : Type 0 where
-  pub units : List (ℕ × UnitParts)
-  pub good : IsGood line general options section units
-  pub told : IsComparedByPath line general options.dead options.skip_copies units table compared
+-- The section is good. The table begins with the header of neither version 1 nor 2. `compared` is true of the table and of the answers
+-- of the section's rows by path, in the fields of versions 3 and 4: `Fault` of the header if the table begins with that of neither of
+-- these.
+abbrev pub IsTrueByPath : List ℕ → List ℕ → Options → List ℕ → List ℕ → Compared DifferenceByPath → Type 0
+IsTrueByPath line general options section table compared = IsUnnumbered table
+    × IsGoodWith line general options section (λ units. IsComparisonOf tables_by_path (told_paths line general options units) table compared)
 
 -- The answer is true, and a reason that it gives is the first. If the section is good and the table begins with the header of
 -- neither version 1 nor 2, it is an answer by path, not a verdict.

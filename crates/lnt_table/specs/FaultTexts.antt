@@ -13,8 +13,9 @@ use Rattle.lnt_table.specs.Verdicts.{no_of_fault}
 use Rattle.lnt_lines.specs.FaultTexts.{no_text}
 use Rattle.lnt_records.specs.FaultTexts.{table_fault_text}
 use Rattle.lnt_records.specs.declared.fault.TableFault.TheVariants as fault
-use Rattle.lnt_paths.specs.declared.answer.ComparedByPath.{ComparedByPath}
-use Rattle.lnt_paths.specs.declared.answer.ComparedByPath.TheVariants.{Same, Fault, Differs}
+use Rattle.lnt_records.specs.declared.outcome.Compared.{Compared}
+use Rattle.lnt_records.specs.declared.outcome.Compared.TheVariants.{Same, Fault, Differs}
+use Rattle.lnt_paths.specs.declared.answer.DifferenceByPath.{DifferenceByPath}
 use Rattle.lnt_paths.specs.PathStretches.{stretch_of}
 use Rattle.lnt_text.specs.Texts.{difference_text}
 
@@ -34,7 +35,7 @@ verdict_text Yes = codes "yes"
 verdict_text (No reason) = table_no_text reason
 
 -- the outcome of a comparison by path
-abbrev pub compared_text : ComparedByPath → List ℕ
+abbrev pub compared_text : Compared DifferenceByPath → List ℕ
 compared_text Same = codes "yes"
 compared_text (Fault told) = table_no_text (no_of_fault told)
 compared_text (Differs difference) = path_stretch_text (stretch_of difference)

@@ -1,7 +1,7 @@
 -- What verdicts say of a section (DWARF 5, section 6.2) and an address table.
 --     line, general    the bytes of .debug_line_str and of .debug_str
 --     section, table   the bytes of .debug_line, and those of the address table
-use Rattle.std.specs.Prelude.{◌≡◌, ℕ, Bool, IsTrue, List, Option}
+use Rattle.std.specs.Prelude.{ℕ, Bool, IsTrue, List, Option}
 use Rattle.std.specs.Option.{option_map}
 use Rattle.lnt_io.specs.Pulling.{HasMoreThan}
 use Rattle.lnt_header.specs.declared.unit_parts.UnitParts.{UnitParts}
@@ -9,15 +9,12 @@ use Rattle.lnt_spans.specs.declared.answer.Answer.{Answer}
 use Rattle.lnt_spans.specs.declared.answer.Version.{Version}
 use Rattle.lnt_spans.specs.declared.difference.Difference.{Difference}
 use Rattle.lnt_spans.specs.declared.position.Position.{Position}
-use Rattle.lnt_spans.specs.declared.span.Span.{Span}
 use Rattle.lnt_spans.specs.Answers.{in_version}
-use Rattle.lnt_spans.specs.Differences.{IsLeastDifference}
-use Rattle.lnt_spans.specs.Spans.{span_answer}
 use Rattle.lnt_sequences.specs.Sequences.{line_answer}
-use Rattle.lnt_records.specs.declared.fault.TableFault.{TableFault}
 use Rattle.lnt_records.specs.declared.fault.TableFault.TheVariants as fault
-use Rattle.lnt_records.specs.Faults.{IsFault}
-use Rattle.lnt_records.specs.Table.{IsTableOf}
+use Rattle.lnt_records.specs.declared.outcome.Compared.{Compared}
+use Rattle.lnt_records.specs.declared.outcome.Compared.TheVariants.{Same, Fault, Differs}
+use Rattle.lnt_records.specs.Comparisons.{IsComparisonOf, in_versions, tables_by_number}
 use Rattle.lnt_lines.specs.declared.options.Options.{Options}
 use Rattle.lnt_lines.specs.Good.{IsGood}
 use Rattle.lnt_lines.specs.Nos.{IsTrueNo}
@@ -30,42 +27,40 @@ use Rattle.lnt_table.specs.declared.verdict.Verdict.TheVariants.{Yes, No}
 abbrev pub told_answer : Version → Option ℕ → Bool → List (ℕ × UnitParts) → Position → Option Answer
 told_answer version dead skip units p = option_map (in_version version) (line_answer dead skip units p)
 
+-- the same in the fields of each version, for the address of dead code and the copies that options name
+abbrev pub told_rows : Options → List (ℕ × UnitParts) → Version → Position → Option Answer
+told_rows options units = in_versions (line_answer options.dead options.skip_copies units)
+
+-- The section is good, and this is so of its units.
+pub record IsGoodWith (line general : List ℕ) (options : Options) (section : List ℕ) (IsSo : List (ℕ × UnitParts) → Type 0) : Type 0 where
+  pub units : List (ℕ × UnitParts)
+  pub good : IsGood line general options section units
+  pub told : IsSo units
+
+-- The section is good, and the result is that of comparing the table with its rows: that the table is one of a version, and at every
+-- position its answer is that of the rows (`Same`); the first fault of bytes that aren't a table; or that the table is one of a version,
+-- and the least position at which the two answers differ.
+abbrev pub IsTrueByNumber : List ℕ → List ℕ → Options → List ℕ → List ℕ → Compared Difference → Type 0
+IsTrueByNumber line general options section table compared =
+    IsGoodWith line general options section (λ units. IsComparisonOf tables_by_number (told_rows options units) table compared)
+
 -- The section is good. The table is one of a version, and at every position its answer is that of the section's rows.
-pub record AnswersRight (line general : List ℕ) (options : Options) (section table : List ℕ) : Type 0 where
-  pub units : List (ℕ × UnitParts)
-  pub good : IsGood line general options section units
-  pub version : Version
-  pub spans : List Span
-  pub is_table : IsTableOf version table spans
-  pub answers : (p : Position) → span_answer spans p ≡ told_answer version options.dead options.skip_copies units p
-
--- The section is good. The table's bytes aren't a table, and `told` is their first fault.
-pub record IsFaultyTable (line general : List ℕ) (options : Options) (section table : List ℕ) (told : TableFault) : Type 0 where
-  pub units : List (ℕ × UnitParts)
-  pub good : IsGood line general options section units
-  pub faulty : IsFault table told
-
--- The section is good. The table is one of a version, and this is the least position at which the two answers differ.
-pub record AnswersOtherwise (line general : List ℕ) (options : Options) (section table : List ℕ) (difference : Difference) : Type 0 where
-  pub units : List (ℕ × UnitParts)
-  pub good : IsGood line general options section units
-  pub version : Version
-  pub spans : List Span
-  pub is_table : IsTableOf version table spans
-  pub least : IsLeastDifference (told_answer version options.dead options.skip_copies units) (span_answer spans) difference
+abbrev pub AnswersRight : List ℕ → List ℕ → Options → List ℕ → List ℕ → Type 0
+AnswersRight line general options section table = IsTrueByNumber line general options section table Same
 
 -- The reason is true, and it is the first thing that is wrong.
 abbrev pub IsTrueTableNo : List ℕ → List ℕ → Options → List ℕ → List ℕ → TableNo → Type 0
 IsTrueTableNo line general options section table (no.Section reason) = IsTrueNo line general options section reason
-IsTrueTableNo line general options section table no.TableHeader = IsFaultyTable line general options section table fault.Header
+IsTrueTableNo line general options section table no.TableHeader = IsTrueByNumber line general options section table (Fault fault.Header)
 IsTrueTableNo line general options section table (no.TableFields record_number) =
-    IsFaultyTable line general options section table (fault.Fields record_number)
+    IsTrueByNumber line general options section table (Fault (fault.Fields record_number))
 IsTrueTableNo line general options section table (no.TableNumber record_number column) =
-    IsFaultyTable line general options section table (fault.Number record_number column)
+    IsTrueByNumber line general options section table (Fault (fault.Number record_number column))
 IsTrueTableNo line general options section table (no.TableOrder record_number) =
-    IsFaultyTable line general options section table (fault.Order record_number)
+    IsTrueByNumber line general options section table (Fault (fault.Order record_number))
 IsTrueTableNo line general options section table (no.Differs position by_table by_section) =
-    AnswersOtherwise line general options section table (record { position = position; by_table = by_table; by_section = by_section })
+    IsTrueByNumber line general options section table
+    (Differs (record { position = position; by_table = by_table; by_section = by_section }))
 
 abbrev pub IsTrueVerdict : List ℕ → List ℕ → Options → List ℕ → List ℕ → Verdict → Type 0
 IsTrueVerdict line general options section table Yes = AnswersRight line general options section table

@@ -7,10 +7,11 @@ use Rattle.lnt_lines.specs.declared.options.Options.{Options}
 use Rattle.lnt_lines.specs.Contents.{Contents}
 use Rattle.lnt_lines.specs.Drafts.{AreLinesOf}
 use Rattle.lnt_lines.specs.Good.{IsGood}
-use Rattle.lnt_paths.specs.declared.answer.ComparedByPath.TheVariants.{Same}
+use Rattle.lnt_records.specs.declared.outcome.Compared.TheVariants.{Same}
+use Rattle.lnt_records.specs.Comparisons.{stretch_told}
 use Rattle.lnt_paths.specs.declared.version.PathVersion.{PathVersion}
-use Rattle.lnt_paths.specs.Laws.{told_by_path}
 use Rattle.lnt_paths.specs.PathAnswers.{PathAnswer}
+use Rattle.lnt_paths.specs.PathStretches.{stretch_of}
 use Rattle.lnt_paths.specs.Written.{IsCanonicalPathTable}
 use Rattle.lnt_table.specs.declared.by_path.Checked.{Checked}
 use Rattle.lnt_table.specs.declared.by_path.Checked.TheVariants.{Numbered, ByPath}
@@ -64,7 +65,7 @@ pub record OneNumbered : Type 0 where
 -- Two answers say the same: the same verdict, or the same by path.
 abbrev pub SayTheSame : Checked → Checked → Type 0
 SayTheSame (Numbered one) (Numbered other) = one ≡ other
-SayTheSame (ByPath one) (ByPath other) = told_by_path one ≡ told_by_path other
+SayTheSame (ByPath one) (ByPath other) = stretch_told stretch_of one ≡ stretch_told stretch_of other
 SayTheSame one other = ⊥
 
 -- For one section, table and choice of options all true answers say the same.

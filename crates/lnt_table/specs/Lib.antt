@@ -5,7 +5,6 @@ pub mod Headline
 pub mod Judged
 pub mod Laws
 pub mod PathTexts
-pub mod Stepping
 pub mod Stretches
 pub mod Verdicts
 pub mod Within
@@ -20,11 +19,12 @@ pub use Rattle.lnt_lines.specs.Nos
 -- and of tables: their records, their spans, and what differs
 pub use Rattle.lnt_paths.specs.Held
 pub use Rattle.lnt_paths.specs.PathAnswers
-pub use Rattle.lnt_paths.specs.PathDifferences
+pub use Rattle.lnt_paths.specs.PathOutcomes
 pub use Rattle.lnt_paths.specs.PathSpans
 pub use Rattle.lnt_paths.specs.PathStretches
 pub use Rattle.lnt_paths.specs.Stretching
 pub use Rattle.lnt_paths.specs.Written as WrittenByPath
+pub use Rattle.lnt_records.specs.Comparisons
 pub use Rattle.lnt_records.specs.Differing
 pub use Rattle.lnt_records.specs.FaultTexts as TableTexts
 pub use Rattle.lnt_records.specs.Faults

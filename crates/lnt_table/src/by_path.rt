@@ -11,7 +11,8 @@ use crate::path_lines::PathDifferenceLine;
 use crate::verdict::{TableNo, Verdict};
 use lnt_io::{Source, Stop};
 use lnt_lines::{JudgedIndex, Options, index_section};
-use lnt_paths::ComparedByPath;
+use lnt_paths::DifferenceByPath;
+use lnt_records::Compared;
 use lnt_wire::Strings;
 use std::alloc::Global;
 use std::fmt;
@@ -23,7 +24,7 @@ pub enum Checked {
     Numbered(Verdict),
     /// The section is good, and the table begins with the header of neither version 1 nor 2. This is the outcome of its
     /// comparison with the section in versions 3 and 4: `Fault` of the header if it begins with neither of theirs.
-    ByPath(ComparedByPath),
+    ByPath(Compared<DifferenceByPath>),
 }
 
 /// The line that reports it, without its line feed.
@@ -33,11 +34,9 @@ impl fmt::Display for Checked {
     fn fmt<W: fmt::Write>(&self, f: &mut fmt::Formatter<W>) -> fmt::Result {
         match self {
             Checked::Numbered(verdict) => verdict.fmt(f),
-            Checked::ByPath(ComparedByPath::Same) => f.write_str("yes"),
-            Checked::ByPath(ComparedByPath::Fault(fault)) => TableNo::from(*fault).fmt(f),
-            Checked::ByPath(ComparedByPath::Differs(difference)) => {
-                PathDifferenceLine(difference).fmt(f)
-            }
+            Checked::ByPath(Compared::Same) => f.write_str("yes"),
+            Checked::ByPath(Compared::Fault(fault)) => TableNo::from(*fault).fmt(f),
+            Checked::ByPath(Compared::Differs(difference)) => PathDifferenceLine(difference).fmt(f),
         }
     }
 }

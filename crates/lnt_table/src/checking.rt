@@ -4,13 +4,15 @@ ghost use Rattle.lnt_lines.specs.declared.no.No.{No as SectionNo};
 ghost use Rattle.lnt_io.specs.declared.stop.Stop.TheVariants.{Read, TooLong};
 ghost use Rattle.lnt_header.specs.declared.unit_parts.UnitParts.{UnitParts};
 ghost use Rattle.lnt_lines.specs.Indexed.{IsIndexOf};
+ghost use Rattle.lnt_records.specs.Comparisons.{IsComparisonOf, in_versions, tables_by_number};
+ghost use Rattle.lnt_sequences.specs.Sequences.{line_answer};
 ghost use Rattle.lnt_table.specs.Headline.{IsFoundTooLong, IsTrueOfSection, IsTrueVerdict};
-ghost use Rattle.lnt_table.specs.Stepping.{IsComparedWith};
 
 use crate::verdict::{TableNo, Verdict, verdict_of};
 use lnt_io::{Source, Stop};
 use lnt_lines::{Index, JudgedIndex, Options, index_section};
 use lnt_records::{Compared, compare_table};
+use lnt_spans::Difference;
 use lnt_wire::Strings;
 use std::alloc::Global;
 
@@ -36,8 +38,8 @@ use std::alloc::Global;
 ///   of its end row, which is not held;
 /// - *file number used*: `HaveFiles` of `lnt_sequences`, for each row of a live sequence but its end row;
 /// - *directory number used*: `AreUsableTables` of `lnt_files`, for each file that a unit lists;
-/// - *the table's answer*: `IsTableOf` of `lnt_records`, for all bytes of `table`, and `span_answer` of `lnt_spans`, for
-///   the table's spans;
+/// - *the table's answer*: `IsTableOfIn` of `lnt_records` (by `IsTableWhere`), for all bytes of `table`, and `span_answer` of
+///   `lnt_spans`, for the table's spans;
 /// - *the last matrix row at or before it*: `line_answer` of `lnt_sequences`, over the rows of `lnt_machine`; under version 1
 ///   of the table without instruction set and discriminator.
 ///
@@ -83,11 +85,12 @@ fn compare_index<T: Source>(
     alloc: Global,
     table: &mut T,
     index: &Index<'_>,
-) -> Result<Compared, Stop>
+) -> Result<Compared<Difference>, Stop>
     requires { T.failures table.old < 2 ^ 64 - 1 }
     ensures ok { IfOk result (λ compared. (dead : Option ℕ) (skip : Bool) (units : List (ℕ × UnitParts))
         → IsIndexOf dead skip units index.now
-        → IfSome (T.remaining table.old) (λ text. IsComparedWith dead skip units text compared)) }
+        → IfSome (T.remaining table.old) (λ text.
+        IsComparisonOf tables_by_number (in_versions (line_answer dead skip units)) text compared)) }
     ensures read { IsErrOf result Stop.Read → T.failures table.new ≡ T.failures table.old + 1 }
     ensures no_failure { result ≢ Err Stop.Read → T.failures table.new ≡ T.failures table.old }
     ensures too_long { IsErrOf result Stop.TooLong → IsFoundTooLong (T.too_long table.new) (T.remaining table.old) (T.left table.old) }

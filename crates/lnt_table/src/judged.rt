@@ -10,7 +10,7 @@ use crate::paths::IndexPaths;
 use crate::verdict::verdict_of;
 use lnt_io::{Source, Stop};
 use lnt_lines::Index;
-use lnt_paths::{ComparedByPath, DifferenceByPath, compare_by_path};
+use lnt_paths::{DifferenceByPath, compare_by_path};
 use lnt_records::{Outcome, TableRead, compare_or_take};
 use lnt_spans::Difference;
 use std::alloc::{AllocError, Global};
@@ -31,7 +31,7 @@ impl Judged {
     {
         match self {
             Judged::Numbered(outcome) => Checked::Numbered(verdict_of(outcome.whole())),
-            Judged::ByPath(outcome) => Checked::ByPath(ComparedByPath::whole_of(outcome)),
+            Judged::ByPath(outcome) => Checked::ByPath(outcome.whole()),
         }
     }
 
@@ -41,7 +41,7 @@ impl Judged {
     {
         match self {
             Judged::Numbered(outcome) => Checked::Numbered(verdict_of(outcome.part())),
-            Judged::ByPath(outcome) => Checked::ByPath(ComparedByPath::part_of(outcome)),
+            Judged::ByPath(outcome) => Checked::ByPath(outcome.part()),
         }
     }
 

@@ -12,29 +12,24 @@ pub fn borders()
     lnt_spans::laws::borders();
 }
 
-/// For a good section, and a table that answers as it does at every position, Yes is the only true verdict. So if `check`
-/// doesn't stop, it answers Yes exactly for these.
-#[tactic(auto, using(crate::proofs::LawLemmas::only_yes))]
-pub fn only_yes()
-    ensures { OnlyYes }
-{
-    lnt_lines::laws::good_has_no_flaw();
-    lnt_records::laws::one_table();
-    lnt_records::laws::no_fault();
-}
-
 /// For one section, table and choice of options at most one verdict is true. So if `check` doesn't stop, its answer is
 /// determined, including the fault in malformed bytes and its place.
 #[tactic(auto, using(crate::proofs::OneVerdictLemmas::one_verdict))]
 pub fn one_verdict()
     ensures { OneVerdict }
 {
-    only_yes();
     lnt_lines::laws::good_has_no_flaw();
     lnt_lines::laws::one_no();
-    lnt_records::laws::one_table();
-    lnt_records::laws::no_fault();
-    lnt_records::laws::one_fault();
+    lnt_records::laws::one_comparison();
+}
+
+/// For a good section, and a table that answers as it does at every position, Yes is the only true verdict. So if `check`
+/// doesn't stop, it answers Yes exactly for these.
+#[tactic(auto, using(crate::proofs::LawLemmas::only_yes))]
+pub fn only_yes()
+    ensures { OnlyYes }
+{
+    one_verdict();
 }
 
 /// For a good section, and the table that `write_table` wrote of its lines in either version, Yes is the only true verdict.

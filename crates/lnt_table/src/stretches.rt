@@ -3,14 +3,15 @@ ghost use Rattle.std.specs.Prelude.{◌≡◌, ◌≢◌, ◌+◌, ◌-◌, ◌^
 ghost use Rattle.lnt_lines.specs.Indexed.{IsIndexOf};
 ghost use Rattle.lnt_io.specs.declared.stop.Stop.TheVariants.{Read, TooLong};
 ghost use Rattle.lnt_spans.specs.declared.position.Position.{Position};
-ghost use Rattle.lnt_records.specs.Differing.{IsStarted};
+ghost use Rattle.lnt_records.specs.Differing.{IsDiffering, IsStarted};
+ghost use Rattle.lnt_sequences.specs.Sequences.{line_answer};
 ghost use Rattle.lnt_paths.specs.Held.{held_span};
 ghost use Rattle.lnt_paths.specs.PathAnswers.{PathAnswer};
 ghost use Rattle.lnt_paths.specs.PathSpans.{StandInOrder, path_span_answer};
 ghost use Rattle.lnt_paths.specs.Stretching.{HasToldByPath};
 ghost use Rattle.lnt_table.specs.ByPath.{indexed_path, told_path};
 ghost use Rattle.lnt_table.specs.Headline.{IsFoundTooLong};
-ghost use Rattle.lnt_table.specs.Stretches.{IsAnyDiffering, IsDifferingFrom, IsStartedAny};
+ghost use Rattle.lnt_table.specs.Stretches.{IsAnyDiffering, IsStartedAny};
 ghost use Rattle.lnt_header.specs.declared.unit_parts.UnitParts.{UnitParts};
 
 use lnt_io::{Source, Stop};
@@ -37,7 +38,8 @@ pub fn differences<'i, T: Source>(
     requires { T.failures table.old < 2 ^ 64 - 1 }
     ensures ok { IfOk result (λ differing. (dead : Option ℕ) (skip : Bool) (units : List (ℕ × UnitParts))
         → IsIndexOf dead skip units index.entry.now → IfSome (T.remaining table.old) (λ text.
-        IsDifferingFrom ⟦<Remaining<Spans<'i>> as SpanSource>⟧.to_come ⟦<SpanList as SpanSource>⟧.to_come dead skip units text differing)) }
+        IsDiffering ⟦<Remaining<Spans<'i>> as SpanSource>⟧.to_come ⟦<SpanList as SpanSource>⟧.to_come text (line_answer dead skip units)
+        differing)) }
     ensures started { IfOk result (λ differing. IsStarted ⟦<Remaining<Spans<'i>> as SpanSource>⟧.to_come ⟦<SpanList as SpanSource>⟧.to_come
         differing) }
     ensures read { IsErrOf result Stop.Read → T.failures table.new ≡ T.failures table.old + 1 }

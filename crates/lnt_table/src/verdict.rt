@@ -2,8 +2,7 @@
 ghost use Rattle.std.specs.Prelude.{◌≡◌, ◌≢◌, IfNone, IfSome, Some};
 ghost use Rattle.lnt_records.specs.declared.fault.TableFault.{TableFault as TableFaultSpec};
 ghost use Rattle.lnt_table.specs.FaultTexts.{table_no_text, verdict_text};
-ghost use Rattle.lnt_table.specs.Stepping.{verdict_of};
-ghost use Rattle.lnt_table.specs.Verdicts.{no_of_fault};
+ghost use Rattle.lnt_table.specs.Verdicts.{no_of_fault, verdict_of};
 
 use lnt_lines::No;
 use lnt_records::{Compared, TableFault};
@@ -121,7 +120,7 @@ impl TableNo {
 }
 
 // The verdict that follows from comparing a table with a good section.
-pub(crate) fn verdict_of(compared: Compared) -> Verdict
+pub(crate) fn verdict_of(compared: Compared<Difference>) -> Verdict
     ensures { result ≡ verdict_of compared }
 {
     match compared {

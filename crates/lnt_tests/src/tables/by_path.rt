@@ -5,7 +5,8 @@ use lnt_io::Counted;
 use lnt_lines::{JudgedIndex, index_section};
 use lnt_records::TableFault;
 use lnt_table::{
-    AnyDiffering, Checked, ComparedByPath, HeldTable, Verdict, check_any, differences_any,
+    AnyDiffering, Checked, Compared, DifferenceByPath, HeldTable, Verdict, check_any,
+    differences_any,
 };
 use std::alloc::Global;
 
@@ -40,7 +41,7 @@ const FALLING: &[u8] = b"low,high,path,line
 ";
 
 // What a check of the unit against a table reports by path.
-fn compared(alloc: Global, table: &[u8]) -> Option<ComparedByPath> {
+fn compared(alloc: Global, table: &[u8]) -> Option<Compared<DifferenceByPath>> {
     let mut section = Counted::new(whole(&PLAIN), 1000);
     let mut table = Counted::new(whole(table), 1000);
     match check_any(alloc, &mut section, &STRINGS, &mut table, &OPTIONS) {
@@ -50,12 +51,12 @@ fn compared(alloc: Global, table: &[u8]) -> Option<ComparedByPath> {
 }
 
 fn is_same(alloc: Global, table: &[u8]) -> bool {
-    matches!(compared(alloc, table), Some(ComparedByPath::Same))
+    matches!(compared(alloc, table), Some(Compared::Same))
 }
 
 fn has_fault(alloc: Global, table: &[u8], fault: TableFault) -> bool {
     match compared(alloc, table) {
-        Some(ComparedByPath::Fault(found)) => found == fault,
+        Some(Compared::Fault(found)) => found == fault,
         _ => false,
     }
 }
@@ -63,7 +64,7 @@ fn has_fault(alloc: Global, table: &[u8], fault: TableFault) -> bool {
 // Whether this is the least address at which they differ, and both answer there.
 fn differs_at(alloc: Global, table: &[u8], address: u64, both: bool) -> bool {
     match compared(alloc, table) {
-        Some(ComparedByPath::Differs(found)) => {
+        Some(Compared::Differs(found)) => {
             found.position.address == address
                 && found.by_section.is_some()
                 && found.by_table.is_some() == both

@@ -3,7 +3,7 @@ use crate::samples::{PLAIN, TABLE, whole};
 use crate::tables::lines::{OPTIONS, STRINGS};
 use lnt_io::Counted;
 use lnt_table::{
-    Checked, CheckedWithin, ComparedByPath, Coverage, Scope, TableNo, Verdict, check_within,
+    Checked, CheckedWithin, Compared, Coverage, Scope, TableNo, Verdict, check_within,
 };
 use std::alloc::Global;
 
@@ -63,7 +63,7 @@ fn is_mistaken_at(alloc: Global, table: &[u8], address: u64) -> bool {
                 ),
             ),
         ) => position.address == address && by_table.is_some(),
-        Some(CheckedWithin::Checked(Checked::ByPath(ComparedByPath::Differs(mistake)))) => {
+        Some(CheckedWithin::Checked(Checked::ByPath(Compared::Differs(mistake)))) => {
             mistake.position.address == address && mistake.by_table.is_some()
         }
         _ => false,
@@ -105,13 +105,13 @@ fn tables_checked_at_all_positions(rt: HostRuntime) {
     assert!(rt;
         matches!(
             checked(alloc, PATHS, Scope::All),
-            Some(CheckedWithin::Checked(Checked::ByPath(ComparedByPath::Differs(_))))
+            Some(CheckedWithin::Checked(Checked::ByPath(Compared::Differs(_))))
         )
     );
     assert!(rt;
         matches!(
             checked(alloc, b"low\n", Scope::Answered),
-            Some(CheckedWithin::Checked(Checked::ByPath(ComparedByPath::Fault(_))))
+            Some(CheckedWithin::Checked(Checked::ByPath(Compared::Fault(_))))
         )
     );
 }

@@ -1,5 +1,7 @@
-use Rattle.lnt_paths.proofs.OneComparisonLemmas.{one_comparison}
+use Rattle.lnt_records.proofs.ComparedLaws.{one_comparison}
+use Rattle.lnt_paths.specs.PathOutcomes.{tables_by_path}
+use Rattle.lnt_paths.proofs.OneTableLemmas.{pathed}
 use Rattle.lnt_paths.proofs.laws.one_comparison.Goals as goal
 
 pub returns : goal.returns
-returns c = one_comparison c.one_table.ensures c.no_fault.ensures c.one_fault.ensures
+returns c = one_comparison tables_by_path pathed

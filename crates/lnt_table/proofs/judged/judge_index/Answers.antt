@@ -10,7 +10,7 @@ compare_or_take-requires-clause-spans g c =
 pub returns-in-Compared-clause-ok : goal.returns-in-Compared-clause-ok
 returns-in-Compared-clause-ok g c dead skip units is =
     let all = c.spans.ensures.gives dead skip units is in
-    numbered_with (g.T.Source.remaining c.args.table.now) dead skip units all.spans c.in-Compared.outcome all.answers
+    numbered_with (g.T.Source.remaining c.args.table.now) c.args.index.now dead skip units all.spans c.in-Compared.outcome all.answers
     (rw c.in-Compared.is at c.in_ok-read.ensures.ok all.spans all.to_come all.in_order)
 
 pub returns-in-Ok-clause-ok : goal.returns-in-Ok-clause-ok

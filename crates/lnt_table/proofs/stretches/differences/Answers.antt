@@ -1,5 +1,4 @@
 use Rattle.lnt_sequences.specs.Sequences.{line_answer}
-use Rattle.lnt_table.proofs.StretchLemmas.{from_units}
 use Rattle.lnt_table.proofs.stretches.differences.Goals as goal
 
 pub compare_all-requires-clause-spans : goal.compare_all-requires-clause-spans
@@ -11,5 +10,4 @@ compare_all-requires-clause-spans g c =
 pub returns-clause-ok : goal.returns-clause-ok
 returns-clause-ok g c dead skip units is =
     let all = c.spans.ensures.gives dead skip units is in
-    from_units _ _ dead skip units (g.T.Source.remaining c.args.table.now) c.in_ok-differing.differing
-    (c.in_ok-differing.ensures.ok all.spans (line_answer dead skip units) all.to_come all.in_order all.answers)
+    c.in_ok-differing.ensures.ok all.spans (line_answer dead skip units) all.to_come all.in_order all.answers

@@ -11,7 +11,7 @@ differ_or_take-requires-clause-spans g c =
 pub returns-in-Differing-clause-ok : goal.returns-in-Differing-clause-ok
 returns-in-Differing-clause-ok g c dead skip units is =
     let all = c.spans.ensures.gives dead skip units is in
-    numbered_from_units _ _ dead skip units (g.T.Source.remaining c.args.table.now) c.in_ok-read.read c.in-Differing.differing
+    numbered_from_units _ _ (line_answer dead skip units) (g.T.Source.remaining c.args.table.now) c.in_ok-read.read c.in-Differing.differing
     c.in-Differing.is
     (c.in_ok-read.ensures.ok all.spans (line_answer dead skip units) all.to_come all.in_order all.answers)
 
