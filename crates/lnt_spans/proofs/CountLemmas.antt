@@ -2,6 +2,7 @@
 use Rattle.std.proofs.Common.{◌≡◌, ◌∙◌, ℕ, zero, suc, ◌+◌, ◌-◌, ◌^◌, ◌<◌, ◌≤◌, Bool, true, false, cond, ◌&&◌, is_some}
 use Rattle.std.proofs.Common.{List, [], ◌∷◌, Option, Some, None, inl, inr, refl, sym, ap, subst, arith, ⊎_elim}
 use Rattle.std.specs.List.{AllByRecursion}
+use Rattle.std.specs.Option.{option_map}
 use Rattle.std.proofs.lemmas.Bool.{cases_lt}
 use Rattle.lnt_spans.specs.declared.position.Position.{Position}
 use Rattle.lnt_spans.specs.declared.span.Span.{Span}
@@ -148,6 +149,15 @@ most_addresses answers = count_most (is_answered answers) (2 ^ 64)
 pub same_addresses : {X Y : Type 0} (one : Position → Option X) (other : Position → Option Y)
     → ((p : Position) → is_some (one p) ≡ is_some (other p)) → addresses_answered one ≡ addresses_answered other
 same_addresses one other h = count_same (is_answered one) (is_answered other) (2 ^ 64) (λ a. h (whole a))
+
+-- what a table contains of an answer is there where the answer is
+pub is_some_told : {X Y : Type 0} (tell : Y → X) (answer : Option Y) → is_some answer ≡ is_some (option_map tell answer)
+is_some_told tell None = refl
+is_some_told tell (Some answer) = refl
+
+pub told_addresses : {X Y : Type 0} (tell : Y → X) (answers : Position → Option Y)
+    → addresses_answered answers ≡ addresses_answered (λ p. option_map tell (answers p))
+told_addresses tell answers = same_addresses answers (λ p. option_map tell (answers p)) (λ p. is_some_told tell (answers p))
 
 pub no_addresses : {X : Type 0} (answers : Position → Option X) → ((p : Position) → is_some (answers p) ≡ false)
     → addresses_answered answers ≡ 0

@@ -19,8 +19,7 @@ use Rattle.lnt_spans.specs.Partial.{IsRightWherever, where_missed}
 use Rattle.lnt_spans.specs.Positions.{IsAtMost}
 use Rattle.lnt_spans.specs.Spans.{span_answer}
 use Rattle.lnt_spans.proofs.AheadLaws.{left_first}
-use Rattle.lnt_spans.proofs.CountLemmas.{addresses_of_spans, count_either, most_addresses, one_if}
-use Rattle.lnt_spans.proofs.CountLemmas.{same_addresses}
+use Rattle.lnt_spans.proofs.CountLemmas.{addresses_of_spans, count_either, is_some_told, most_addresses, one_if, same_addresses}
 use Rattle.lnt_spans.proofs.PositionLaws.{order_cases}
 use Rattle.lnt_spans.proofs.MergedLemmas.{alike_here, gap_begins, missed_here, missed_unanswered, none_from, none_is, until_below, until_from}
 
@@ -129,10 +128,6 @@ missed_rest {X} tell spans by_table at AreLeft passed ended =
     missed : Position → Option X
     missed = where_missed by_table (answer_told tell spans)
 
-    is_some_told : (answer : Option Answer) → is_some (option_map tell answer) ≡ is_some answer
-    is_some_told None = refl
-    is_some_told (Some answer) = refl
-
     counted : {Y : Type 0} → Option Y → ℕ
     counted answer = one_if (is_some answer)
 
@@ -146,7 +141,7 @@ missed_rest {X} tell spans by_table at AreLeft passed ended =
           let none : counted (until at missed p) ≡ 0 = ap counted (until_from at p missed late) in
           let rest : counted (missed p) ≡ counted (span_answer passed.rest p) =
           ap counted (missed_here by_table (answer_told tell spans) p (ended p late) ∙ ap (option_map tell) (passed.same p late))
-          ∙ ap one_if (is_some_told (span_answer passed.rest p)) in
+          ∙ ap one_if (sym (is_some_told tell (span_answer passed.rest p))) in
           omega (arith, none, rest)
     ]
 

@@ -8,10 +8,10 @@ use Rattle.lnt_spans.specs.declared.difference.Difference.{Difference}
 use Rattle.lnt_spans.specs.declared.position.Position.{Position}
 use Rattle.lnt_spans.specs.AnyStretches.{AreAllStretches, AreAnswers, BeginsStretch, IsInOne, Stretch}
 use Rattle.lnt_spans.specs.Counts.{addresses_answered, is_answered, whole}
-use Rattle.lnt_spans.specs.Differences.{IsLeastDifference}
+use Rattle.lnt_spans.specs.Differences.{Agree, IsLeastDifference}
 use Rattle.lnt_spans.specs.Partial.{AreAllMistakes, AreCounts, IsFirstMistake, IsRightWherever, where_answered}
 use Rattle.lnt_spans.specs.Partial.{where_missed, where_none, where_some}
-use Rattle.lnt_spans.specs.PartialLaws.{AnswerAlike, AnswersAddresses, ChangesAtInstructions}
+use Rattle.lnt_spans.specs.PartialLaws.{AnswersAddresses, ChangesAtInstructions}
 use Rattle.lnt_spans.specs.Stretches.{stretch_of}
 use Rattle.lnt_spans.proofs.CountLemmas.{count_either, no_addresses, one_if, passed_same, same_addresses}
 
@@ -39,7 +39,7 @@ answered_from_differ (Some answer) section h = refl
 -- ---- the whole relation
 
 pub right_as_answered : {X : Type 0} (by_table by_section : Position → Option X)
-    → IsRightWherever by_table by_section ↔ AnswerAlike (where_answered by_table by_section) by_table
+    → IsRightWherever by_table by_section ↔ Agree (where_answered by_table by_section) by_table
 right_as_answered by_table by_section =
     ((λ h p. alike_from_right (by_table p) (by_section p) (h p)), (λ h p. right_from_alike (by_table p) (by_section p) (h p)))
 
@@ -199,7 +199,7 @@ answered_and_missed by_table by_section =
     (is_answered (where_missed by_table by_section)) (2 ^ 64)
     (λ a. answered_or_missed (by_table (whole a)) (by_section (whole a)))
 
-pub whole_table : {X : Type 0} (by_table by_section : Position → Option X) (of_both of_section : ℕ) → AnswerAlike by_section by_table
+pub whole_table : {X : Type 0} (by_table by_section : Position → Option X) (of_both of_section : ℕ) → Agree by_section by_table
     → AreCounts by_table by_section of_both of_section
     → IsRightWherever by_table by_section × (of_both ≡ of_section)
 whole_table by_table by_section of_both of_section alike counts = (
@@ -244,7 +244,7 @@ alike_from_none table section (inr k) e = sym k
 
 pub all_answered : {X : Type 0} (by_table by_section : Position → Option X) (of_both of_section : ℕ)
     → IsRightWherever by_table by_section → AreCounts by_table by_section of_both of_section → of_both ≡ of_section
-    → ChangesAtInstructions by_table → ChangesAtInstructions by_section → AnswersAddresses by_section → AnswerAlike by_section by_table
+    → ChangesAtInstructions by_table → ChangesAtInstructions by_section → AnswersAddresses by_section → Agree by_section by_table
 all_answered by_table by_section of_both of_section right counts same table section fits p =
     ⊎_elim
     (λ (l : p.address < 2 ^ 64).

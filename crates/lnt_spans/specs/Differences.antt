@@ -8,7 +8,7 @@ use Rattle.lnt_spans.specs.Positions.{IsBelow}
 use Rattle.lnt_spans.specs.Stretches.{stretch_of}
 
 -- The two answer the same at every position.
-abbrev pub Agree : (Position → Option Answer) → (Position → Option Answer) → Type 0
+abbrev pub Agree : {X : Type 0} → (Position → Option X) → (Position → Option X) → Type 0
 Agree by_section by_table = (p : Position) → by_section p ≡ by_table p
 
 -- At this position the two sides answer differently, with the answers given here, and at every lower one they answer alike.

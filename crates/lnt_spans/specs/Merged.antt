@@ -10,7 +10,7 @@ use Rattle.lnt_spans.specs.declared.span.Span.{Span}
 use Rattle.lnt_spans.specs.Ahead.{IsAhead}
 use Rattle.lnt_spans.specs.AnyStretches.{Stretch}
 use Rattle.lnt_spans.specs.Counts.{addresses_answered}
-use Rattle.lnt_spans.specs.Differences.{IsFirstDifference}
+use Rattle.lnt_spans.specs.Differences.{Agree, IsFirstDifference}
 use Rattle.lnt_spans.specs.Partial.{IsFirstMistake, IsRightAt, IsRightWherever, where_missed}
 use Rattle.lnt_spans.specs.Positions.{IsBelow, IsAtMost, is_below}
 use Rattle.lnt_spans.specs.Spans.{AreInOrder, span_answer}
@@ -114,7 +114,7 @@ missed_of found = unless found.mistake found.missed
 -- mistake. Without a mistake, the section answers at this many addresses at which the table doesn't.
 pub record AreFound {D X : Type 0} (value_of : D → Stretch X) (by_section by_table : Position → Option X) (found : Found D) : Type
     0 where
-  pub first : MatchOption (first_of found) ((p : Position) → by_section p ≡ by_table p)
+  pub first : MatchOption (first_of found) (Agree by_section by_table)
       (λ difference. IsFirstDifference by_section by_table (value_of difference))
   pub mistake : MatchOption found.mistake (IsRightWherever by_table by_section)
       (λ mistake. IsFirstMistake by_table by_section (value_of mistake))

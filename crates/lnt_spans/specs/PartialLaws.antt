@@ -7,7 +7,7 @@ use Rattle.lnt_spans.specs.declared.position.Position.{Position}
 use Rattle.lnt_spans.specs.declared.span.Span.{Span}
 use Rattle.lnt_spans.specs.AnyStretches.{AreAllStretches, Stretch}
 use Rattle.lnt_spans.specs.Counts.{addresses_answered, addresses_between, addresses_of, whole}
-use Rattle.lnt_spans.specs.Differences.{IsLeastDifference}
+use Rattle.lnt_spans.specs.Differences.{Agree, IsLeastDifference}
 use Rattle.lnt_spans.specs.Fitting.{FitSpans}
 use Rattle.lnt_spans.specs.Instructions.{IsOfInstructions}
 use Rattle.lnt_spans.specs.Partial.{AreAllMistakes, AreCounts, IsFirstMistake, IsRightWherever, where_answered, where_missed}
@@ -15,16 +15,12 @@ use Rattle.lnt_spans.specs.Positions.{IsBelow, IsAtMost}
 use Rattle.lnt_spans.specs.Spans.{AreInOrder, span_answer}
 use Rattle.lnt_spans.specs.Stretches.{stretch_of}
 
--- Both answer the same at every position.
-abbrev pub AnswerAlike : {X : Type 0} → (Position → Option X) → (Position → Option X) → Type 0
-AnswerAlike one other = (p : Position) → one p ≡ other p
-
 -- ---- tables that are right wherever they answer
 
 -- A table is right wherever it answers exactly if it answers as the section does where the table answers.
 abbrev pub RightAsAnswered : Type 0 → Type 0
 RightAsAnswered X = (by_table by_section : Position → Option X)
-    → IsRightWherever by_table by_section ↔ AnswerAlike (where_answered by_table by_section) by_table
+    → IsRightWherever by_table by_section ↔ Agree (where_answered by_table by_section) by_table
 
 -- The first mistake of a table is its least difference from the section's answers where the table answers.
 abbrev pub FirstMistake : Type 0
@@ -89,7 +85,7 @@ AnsweredAndMissed X = (by_table by_section : Position → Option X) → addresse
 
 -- A table that answers as the section does at every position is right wherever it answers, and answers at all of its addresses.
 abbrev pub WholeTable : Type 0 → Type 0
-WholeTable X = (by_table by_section : Position → Option X) (of_both of_section : ℕ) → AnswerAlike by_section by_table
+WholeTable X = (by_table by_section : Position → Option X) (of_both of_section : ℕ) → Agree by_section by_table
     → AreCounts by_table by_section of_both of_section
     → IsRightWherever by_table by_section × (of_both ≡ of_section)
 
@@ -119,7 +115,7 @@ FittingSpans = (spans : List Span) → FitSpans spans → AnswersAddresses (span
 abbrev pub AllAnswered : Type 0 → Type 0
 AllAnswered X = (by_table by_section : Position → Option X) (of_both of_section : ℕ) → IsRightWherever by_table by_section
     → AreCounts by_table by_section of_both of_section → of_both ≡ of_section
-    → ChangesAtInstructions by_table → ChangesAtInstructions by_section → AnswersAddresses by_section → AnswerAlike by_section by_table
+    → ChangesAtInstructions by_table → ChangesAtInstructions by_section → AnswersAddresses by_section → Agree by_section by_table
 
 -- A table that never answers is right wherever it answers, and answers at no address.
 abbrev pub EmptyTable : Type 0 → Type 0
