@@ -1,8 +1,9 @@
 """Makes good sections of shapes that cost a careless reader much, looks up an address in each, and lists its files. A section
-of four times the size has to take less than eight times the processor time. The memory of each word has to stay within four times the
-bytes that are given and 8 MB, or within what docs/LIMITS.md says of the shape. With the word --figures it also prints what each took.
-The last line is 'N passed, M failed'."""
+of four times the size has to take at most eight times the processor time, and many addresses a few times that of one. The memory of each
+word has to stay within four times the bytes that are given and 8 MB, or within what docs/LIMITS.md says of the shape. With the word
+--figures it also prints what each took. The last line is 'N passed, M failed'."""
 
+import math
 import os
 import struct
 import subprocess
@@ -12,10 +13,12 @@ import tempfile
 from line_writer import PLAIN, leb
 
 PROGRAM = "crates/linetab/out/linetab"
-TURNS = 5
-# Four times the work takes four times as long, and a machine that others use may double that; what grows with the square takes
-# sixteen times as long. What takes no time is measured in whole clock ticks.
-MOST_GROWTH, TICKS = 8, 0.012
+# The least time of each of the two sizes counts. Where these are too far apart, and not by twice as much, more turns are taken, since
+# other work on the machine slows some of them.
+TURNS, MOST_TURNS = 5, 25
+# Four times the size takes at most eight times as long, also where it no longer fits a cache; what grows with the square takes sixteen
+# times as long.
+MOST_GROWTH = 8
 MOST_COPIES, OWN_MEMORY = 4, 8 << 20
 
 ONE_DIRECTORY = bytes([1, 1, 8, 1]) + b"/s\0"
@@ -109,12 +112,18 @@ def files_before(count):
     return {"line": one_sequence(ONE_DIRECTORY + bytes([1, 1, 8]) + leb(128) + names, rows)}
 
 
+def long_sequence(rows):
+    return one_sequence(ONE_DIRECTORY + TWO_FILES, NEXT_ROW * rows)
+
+
+def addresses_in(rows, count):
+    """So many addresses of the long sequence, in no order."""
+    return ["0x%x" % (0x1000 + place * 7919 % rows) for place in range(1, count + 1)]
+
+
 def many_addresses(count):
-    """Addresses of one long sequence, in no order."""
-    return {
-        "line": one_sequence(ONE_DIRECTORY + TWO_FILES, NEXT_ROW * count),
-        "addresses": b"".join(b"0x%x\n" % (0x1000 + place * 7919 % count) for place in range(count)),
-    }
+    """Addresses of a long sequence, in no order, 64 for each row: so few rows stay in the same caches at each size."""
+    return {"line": long_sequence(count), "addresses": "\n".join(addresses_in(count, 64 * count)).encode()}
 
 
 def columns_of_one_file(count):
@@ -174,14 +183,14 @@ LONG_PATHS = "one long directory of many files"
 
 # For each shape the section of a size, the bytes of its strings, and the size.
 SHAPES = {
-    "neighbours exchanged": (lambda count: sequences(place ^ 1 for place in range(count)), None, 40_000),
-    "groups reversed": (lambda count: sequences(place - 2 * (place % 100) + 99 for place in range(count)), None, 40_000),
+    "neighbours exchanged": (lambda count: sequences(place ^ 1 for place in range(count)), None, 200_000),
+    "groups reversed": (lambda count: sequences(place - 2 * (place % 100) + 99 for place in range(count)), None, 200_000),
     LONG_PATHS: (one_directory, None, 200_000),
-    "one long string of many directories": (one_string, lambda count: b"a" * count + b"\0", 50_000),
+    "one long string of many directories": (one_string, lambda count: b"a" * count + b"\0", 400_000),
     "many files": (files, None, 300_000),
     "many directories": (directories, None, 300_000),
-    "many values of a file": (formats, None, 2_000),
-    "many rows": (rows, None, 1_000_000),
+    "many values of a file": (formats, None, 8_000),
+    "many rows": (rows, None, 2_000_000),
     "many units": (units, None, 20_000),
 }
 
@@ -190,16 +199,26 @@ SHAPES = {
 SLOW = {
     "many files of a long path": (long_paths, 250_000, ["check LINE TABLE"]),
     "many long directories before a short one": (directories_before, 20_000, ["files LINE"]),
-    "many long names before short ones": (files_before, 10_000, ["table LINE --paths"]),
-    "many addresses of a long sequence": (many_addresses, 20_000, ["lookup LINE --addresses ADDRESSES"]),
-    "columns of a file with a long path": (columns_of_one_file, 40_000, ["check LINE TABLE", "check LINE TABLE --all"]),
-    "two files of a long path": (two_files, 40_000, ["table LINE --lines"]),
+    "many long names before short ones": (files_before, 160_000, ["table LINE --paths"]),
+    "many addresses of a long sequence": (many_addresses, 5_000, ["lookup LINE --addresses ADDRESSES"]),
+    "columns of a file with a long path": (columns_of_one_file, 400_000, ["check LINE TABLE", "check LINE TABLE --all"]),
+    "two files of a long path": (two_files, 640_000, ["table LINE --lines"]),
     "many older units": (
         older_units,
         60_000,
         ["upgrade LINE --address-size 8", "upgrade LINE --address-size 8 --directories DIRECTORIES"],
     ),
     "many files of an older unit": (older_files, 800_000, ["upgrade LINE --address-size 8"]),
+}
+
+
+# For each way to ask for many addresses of a long sequence the rows of the sequence, the addresses, the words, and how many times as
+# long as one address they may take, which is twice what they take. Of 200,000 rows all are kept, of a million not. Where nothing was
+# kept, each address would take as long as one.
+MANY = {
+    "many addresses beside one": (200_000, 20_000, "lookup LINE --addresses ADDRESSES", 3),
+    "many addresses of a very long sequence beside one": (1_000_000, 20_000, "lookup LINE --addresses ADDRESSES", 8),
+    "many addresses among the words beside one": (200_000, 2_000, "lookup LINE ASKED", 4),
 }
 
 
@@ -241,17 +260,19 @@ TIMED = ["lookup 0x1000", "files"]
 class Files:
     """Contents in files, by their kind, and the bytes of memory that a word may take with them."""
 
-    def __init__(self, contents, size, folder, most=lambda size, given: MOST_COPIES * given):
+    def __init__(self, contents, size, folder, most=lambda size, given: MOST_COPIES * given, asked=()):
         self.bytes = sum(map(len, contents.values()))
         self.allowed = OWN_MEMORY + most(size, self.bytes)
         self.names = {kind: os.path.join(folder, "%s%d" % (kind, size)) for kind in contents}
+        self.asked = asked
         for kind, content in contents.items():
             with open(self.names[kind], "wb") as file:
                 file.write(content)
 
     def words(self, text):
-        """The words of a text, with the names of the files."""
-        return [self.names.get(word.lower(), word) if word.isupper() else word for word in text.split()]
+        """The words of a text, with the names of the files, and in the place of ASKED the addresses that are asked for."""
+        words = [self.names.get(word.lower(), word) if word.isupper() else word for word in text.split()]
+        return [*words[:-1], *self.asked] if words[-1] == "ASKED" else words
 
 
 class Given(Files):
@@ -301,18 +322,21 @@ def judged_memory(measured, text, files, wanted=0):
     return memory_fault(status, wanted, memory, files), times_given(memory, files)
 
 
-def judged_timed(measured, text, small, large):
-    """What is wrong with the time and memory of a word, if anything, and what it took."""
-    least = [None, None]
-    for _ in range(TURNS):
+def judged_timed(measured, text, small, large, most=MOST_GROWTH):
+    """What is wrong with the time and memory of a word, if anything, and what it took, where the second files may take so many times as
+    long as the first."""
+    least = [math.inf, math.inf]
+    for turn in range(1, MOST_TURNS + 1):
         for which, files in enumerate((small, large)):
             status, seconds, memory = taken(measured, files.words(text))
             figures, fault = times_given(memory, files), memory_fault(status, 0, memory, files)
             if fault:
                 return fault, figures
-            least[which] = seconds if least[which] is None else min(least[which], seconds)
-    times = "%.3f s, and %.3f s for four times the size" % tuple(least)
-    return times if least[1] > MOST_GROWTH * least[0] + TICKS else None, times + ", " + figures
+            least[which] = min(least[which], seconds)
+        if turn >= TURNS and not 1 < least[1] / (most * least[0]) < 2:
+            break
+    times = "%.3f s and %.3f s, %.2f times as long" % (*least, least[1] / least[0])
+    return times if least[1] > most * least[0] else None, "%s, in %d turns, %s" % (times, turn, figures)
 
 
 def judged(shape, measured, folder):
@@ -336,6 +360,14 @@ def judged_slow(name, measured, folder):
         yield text, *judged_timed(measured, text, small, large)
 
 
+def judged_many(name, measured, folder):
+    """A word that asks for many addresses beside one, as `judged` gives it."""
+    rows, count, text, most = MANY[name]
+    line, many = long_sequence(rows), addresses_in(rows, count)
+    one, all_of_them = [Files({"line": line, "addresses": "\n".join(it).encode()}, len(it), folder, asked=it) for it in (many[:1], many)]
+    yield text, *judged_timed(measured, text, one, all_of_them, most)
+
+
 def judged_large(name, measured, folder):
     """A word with a shape that takes much memory for this word alone, as `judged` gives it."""
     make, size, text, wanted, most = LARGE[name]
@@ -347,7 +379,7 @@ def main():
     with tempfile.TemporaryDirectory() as folder:
         measured = os.path.join(folder, "measured")
         subprocess.run(["cc", "-O2", "-o", measured, "bench/peers/measured.c"], check=True)
-        for judge, shapes in (judged, SHAPES), (judged_slow, SLOW), (judged_large, LARGE):
+        for judge, shapes in (judged, SHAPES), (judged_slow, SLOW), (judged_many, MANY), (judged_large, LARGE):
             for shape in shapes:
                 for text, fault, figures in judge(shape, measured, folder):
                     if "--figures" in sys.argv:

@@ -1,5 +1,5 @@
 //! The headers of DWARF 5 line number units, the operations that they admit, and the parts of a unit. The crate
-//! `lnt_header_bytes` reads headers, `lnt_header_bytes` writes them, and `lnt_unit` has the units.
+//! `lnt_header_bytes` reads and writes headers, and `lnt_unit` has the units.
 #![tactic(auto)]
 
 mod fault;

@@ -5,12 +5,9 @@ ghost use Rattle.lnt_io.specs.Halts.{IsOpening};
 ghost use Rattle.lnt_io.specs.declared.halt.Halt.TheVariants.{Write};
 
 use crate::halt::Halt;
-use crate::{Counted, LIMIT, OpenedFile, Source, read_all};
+use crate::{BLOCK, Counted, LIMIT, OpenedFile, Source, read_all};
 use std::alloc::{AllocError, Global};
 use std::io::{BufReader, Read};
-
-// The number of bytes that are read from a file at once.
-const BLOCK: usize = 1 << 16;
 
 /// Gives readers of files by their names.
 ///

@@ -70,7 +70,8 @@ pub trait Source {
     ghost more: { (s : Self) → too_long s ≡ true → HasMoreThan (remaining s) (left s) };
 }
 
-/// The greatest number of bytes that are pulled from a source at once, and reserved ahead of them: 64 KiB.
+/// The number of bytes in a block, 64 KiB: the most that are pulled from a source at once and reserved ahead of them, the size of a
+/// file's buffer, and how many of a text are collected before they are written.
 pub const BLOCK: usize = 1 << 16;
 
 // Writes the next bytes of the source to the start of the room, until it is full or no more come. It returns how many came:

@@ -7,7 +7,7 @@
 
 mod ends;
 mod look;
-mod marks;
+mod markers;
 mod records;
 mod survey;
 mod tell;

@@ -1,7 +1,7 @@
 //! The addresses at which sequences of discarded code may begin in a section.
 ghost use Rattle.std.specs.Prelude.{◌-◌, ◌^◌, ◌<◌};
 
-use crate::marks::is_mark;
+use crate::markers::is_marker;
 use lnt_io::Source;
 use lnt_machine::{Row, Rows};
 use lnt_unit::{SectionReader, UnitBuffer, UnitInPlace};
@@ -16,7 +16,7 @@ pub(crate) struct Survey {
     // whether a sequence begins at that address
     pub(crate) begins_dead: bool,
     // the first other address at which a sequence begins and linkers leave discarded code, and how many sequences begin there
-    pub(crate) mark: Option<u64>,
+    pub(crate) marker: Option<u64>,
     pub(crate) count: u64,
 }
 
@@ -25,7 +25,7 @@ impl Survey {
         Survey {
             dead,
             begins_dead: false,
-            mark: None,
+            marker: None,
             count: 0,
         }
     }
@@ -37,10 +37,10 @@ impl Survey {
             self.begins_dead = true;
             return;
         }
-        if self.mark.is_none() && is_mark(address, address_size) {
-            self.mark = Some(address);
+        if self.marker.is_none() && is_marker(address, address_size) {
+            self.marker = Some(address);
         }
-        if self.mark == Some(address) {
+        if self.marker == Some(address) {
             self.count = self.count.saturating_add(1);
         }
     }

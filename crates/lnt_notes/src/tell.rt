@@ -10,7 +10,7 @@ ghost use Rattle.lnt_notes.specs.Told.{AddsNotes};
 
 use crate::ends::end_alike;
 use crate::look::look_of;
-use crate::marks::may_be_mark;
+use crate::markers::{GREATEST, may_be_marker};
 use crate::records::{Columns, column_at, line_after};
 use crate::survey::{Survey, survey_of};
 use crate::texts::strings_of;
@@ -49,7 +49,7 @@ pub struct Hints {
     /// No sequence holds a position.
     pub holds_nothing: bool,
     /// An address that a sequence holds and at which linkers leave discarded code. A sequence may begin there.
-    pub mark: Option<u64>,
+    pub marker: Option<u64>,
     /// No sum is listed, and sums were asked for.
     pub lists_no_sum: bool,
 }
@@ -61,30 +61,20 @@ pub fn hints_of(index: &Index<'_>) -> Hints
     ensures sums { result.lists_no_sum ≡ false }
 {
     let first = index.spans().next_span();
-    let mark = match &first {
+    let marker = match &first {
         Some(span) if span.low.address == 0 => Some(0),
-        _ => held_mark(index),
+        _ => held_marker(index),
     };
     Hints {
         holds_nothing: first.is_none(),
-        mark,
+        marker,
         lists_no_sum: false,
     }
 }
 
-// The addresses other than 0 at which linkers leave discarded code: the two greatest of 2, 4 and 8 bytes.
-const MARKS: [u64; 6] = [
-    0xfffe,
-    0xffff,
-    0xffff_fffe,
-    0xffff_ffff,
-    0xffff_ffff_ffff_fffe,
-    0xffff_ffff_ffff_ffff,
-];
-
-// The first of `MARKS` that some sequence holds while none holds the address before it, so that one may begin there.
-fn held_mark(index: &Index<'_>) -> Option<u64> {
-    for address in MARKS {
+// The first of `GREATEST` that some sequence holds while none holds the address before it, so that one may begin there.
+fn held_marker(index: &Index<'_>) -> Option<u64> {
+    for address in GREATEST {
         if holds(index, address) && !holds(index, address - 1) {
             return Some(address);
         }
@@ -157,7 +147,7 @@ pub fn tell_bad<O: Opener, N: Write>(
             second,
             position,
         } => {
-            let address = Some(position.address).filter(|address| may_be_mark(*address));
+            let address = Some(position.address).filter(|address| may_be_marker(*address));
             tell_dead(alloc, address, true, given, opener, notes)?;
             tell_copies(alloc, first, second, given, opener, notes)
         }
@@ -177,11 +167,11 @@ pub fn tell_good<O: Opener, N: Write>(
 {
     print_where(hints.holds_nothing, Note::HoldsNothing, notes)?;
     print_where(hints.lists_no_sum, Note::NoSums, notes)?;
-    if hints.mark.is_some() || given.dead.is_some() {
+    if hints.marker.is_some() || given.dead.is_some() {
         tell_dead(
             alloc,
-            hints.mark,
-            hints.mark.is_some(),
+            hints.marker,
+            hints.marker.is_some(),
             given,
             opener,
             notes,
@@ -247,7 +237,7 @@ fn tell_dead<O: Opener, N: Write>(
             None => Ok(()),
         };
     };
-    tell_mark(&survey, notes)?;
+    tell_marker(&survey, notes)?;
     match given.dead {
         Some(address) if !survey.begins_dead => print_note(Note::NoneDead(address), notes),
         _ => Ok(()),
@@ -255,10 +245,10 @@ fn tell_dead<O: Opener, N: Write>(
 }
 
 // Prints the note that sequences begin at an address of discarded code, if any does.
-fn tell_mark<N: Write>(survey: &Survey, notes: &mut N) -> io::Result<()>
+fn tell_marker<N: Write>(survey: &Survey, notes: &mut N) -> io::Result<()>
     ensures { OnOk result (AddsNotes (N.contents notes.old) (N.contents notes.new)) }
 {
-    match survey.mark {
+    match survey.marker {
         Some(address) => print_note(Note::MaybeDead(Some(survey.count), address), notes),
         None => Ok(()),
     }

@@ -1,4 +1,7 @@
 //! Frequent operations with short operands, read by inlined code (DWARF 5, section 6.2.5).
+//!
+//! What it gives, `read_op` reads too; where it gives nothing, that one reads the operation. With a loop over such operations, in place
+//! of one over all, a `lookup` takes 0.57 and 0.80 of the instructions (`bench/RESULTS.md`).
 ghost use Rattle.std.specs.Prelude.{◌≡◌, ◌<◌, ◌≤◌, length, take, [], ◌∷◌, IfNone, IfSome};
 ghost use Rattle.lnt_wire.specs.Leb128.{SignedLeb, UnsignedLeb};
 ghost use Rattle.lnt_ops.specs.Short.{IsOperationFront, NoneShort};

@@ -1,4 +1,7 @@
 //! Moves past the lines of a table that are the lines of a section's canonical spans, without parsing them.
+//!
+//! Without it `push_lines` would parse each line and merge its span, as it does from the first other line on. A check of a section's own
+//! table takes 0.63 of the instructions of that (`bench/RESULTS.md`).
 ghost use Rattle.std.specs.Prelude.{◌≡◌, ◌≢◌, ◌+◌, ◌-◌, ◌^◌, ◌<◌, ℕ, List, length, IfOk, IsErrOf};
 ghost use Rattle.std.specs.Bool.{MatchBool};
 ghost use Rattle.lnt_spans.specs.declared.span.Span as spec;

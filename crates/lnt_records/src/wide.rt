@@ -5,13 +5,14 @@ ghost use Rattle.lnt_records.specs.Table.{BeginsWith, Fields};
 
 use crate::reading::{read_next, reader_of};
 use csv::ByteRecord;
+use lnt_io::BLOCK;
 use std::alloc::{AllocError, Global};
 
 // The most columns that a table of any version has.
 const MOST: usize = 11;
 
-// The number of bytes in a block. A record without quotes that fills none has less than twice as many.
-const LONG: usize = 1 << 16;
+// The byte that stands before and after a field with other bytes that mean something.
+const QUOTE: u8 = b'"';
 
 // A byte order mark, which `csv` passes.
 const MARK: &[u8] = b"\xEF\xBB\xBF";
@@ -62,13 +63,14 @@ pub fn up_to_wide<'a>(alloc: Global, bytes: &'a [u8]) -> Result<&'a [u8], AllocE
     Ok(front)
 }
 
-// Whether a record may be long: one with quotes, or one that fills a block. Others, with too many fields or not, are held.
+// Whether a record may be long: one with quotes, or one that fills a block. Others, with too many fields or not, have less than
+// twice the bytes of a block, and are held.
 fn may_be_long(bytes: &[u8]) -> bool {
-    if bytes.contains(&b'"') {
+    if bytes.contains(&QUOTE) {
         return true;
     }
-    for block in bytes.chunks(LONG) {
-        if block.len() == LONG && !block.contains(&b'\n') {
+    for block in bytes.chunks(BLOCK) {
+        if block.len() == BLOCK && !block.contains(&b'\n') {
             return true;
         }
     }
@@ -140,8 +142,8 @@ fn ends_record(place: Place, byte: u8) -> bool {
 // Where the byte after this one stands.
 fn after(place: Place, byte: u8) -> Place {
     match (place, byte) {
-        (Place::Start | Place::QuoteSeen, b'"') => Place::Quoted,
-        (Place::Quoted, b'"') => Place::QuoteSeen,
+        (Place::Start | Place::QuoteSeen, QUOTE) => Place::Quoted,
+        (Place::Quoted, QUOTE) => Place::QuoteSeen,
         (Place::Quoted, _) => Place::Quoted,
         (_, b',' | b'\r' | b'\n') => Place::Start,
         _ => Place::Plain,

@@ -1,4 +1,7 @@
 //! Numbers written as text.
+//!
+//! The digits are those that `Display` writes. They are written from the last one on, into the text that they belong to, so that none is
+//! counted before, or moved or copied after.
 ghost use Rattle.std.specs.Prelude.{◌≡◌, ℕ, ◌+◌, ◌++◌, ◌<◌, ◌≤◌, List, drop, length, take, OnOk, OnErr};
 ghost use Rattle.lnt_text.specs.declared.radix.Radix.TheVariants.{Ten, Sixteen};
 ghost use Rattle.lnt_text.specs.Digits.{IsPlain, IsPlainAddress, IsPlainDecimal, Puts, most_digits};

@@ -1,0 +1,70 @@
+#!/usr/bin/env bash
+# docs/NUMBERS.md and the code give each number to the same reason: beside the variants of the types, in the lines that are printed, in
+# the texts of reasons, and in what C gets.
+cd "$(dirname "$(readlink -f -- "$0")")/.." || exit 1
+top=$PWD
+. ./sources.bash
+tell_help tests/numbers.sh "$@"
+exec python3 - <<'END'
+import collections
+import glob
+import re
+import sys
+
+passed, faults = 0, []
+
+
+def judge(is_so, text):
+    global passed
+    passed += bool(is_so)
+    if not is_so:
+        faults.append(text)
+
+
+def read(name):
+    with open(name, encoding="utf-8") as file:
+        return file.read()
+
+
+def skeleton(text):
+    """A text with an asterisk in place of each number and word that is put into it."""
+    return re.sub(r"\{[^}]*\}|\b[A-Z]+\b|(?<=0x)[A-Z]", "*", text)
+
+
+# Of each number the name and the text in code font on its row of the page.
+names, texts = {}, {}
+for numbers, name, text in re.findall(r"(?m)^\| (\d[\d, ]*)(?: `(\w+)`)? \| (.*?) \|", read("docs/NUMBERS.md")):
+    name = name or (re.match(r"`(?:\w+::)?(\w+)`", text) or ["", ""])[1]
+    for number in map(int, numbers.split(", ")):
+        names.setdefault(number, name)
+        texts.setdefault(number, skeleton((re.match(r"`(.*?)`", text) or ["", ""])[1]))
+judge(sorted(names) == list(range(1, 45)), "the numbers of docs/NUMBERS.md aren't 1 to 44")
+
+sources = {name: read(name) for name in sorted(glob.glob("crates/*/src/**/*.rt", recursive=True))}
+named = collections.defaultdict(set)
+for source, text in sources.items():
+    for number, name in re.findall(r"/// (\d+): (?:.*\n +///)*.*\n +(\w+)(?=[,( {])", text):
+        named[int(number)].add(name)
+        judge(names.get(int(number)) in (name, ""), "%s: %s is %s, which docs/NUMBERS.md doesn't call so" % (source, number, name))
+    for number, line in re.findall(r'"no (\d+) ([^"]*)"', text):
+        line, row = skeleton("no %s %s" % (number, line)), texts.get(int(number), "")
+        judge(re.fullmatch(re.escape(line).replace(r"\*", ".+"), row), "%s: %r isn't %r" % (source, line, row))
+# The type whose variant is 42 has no numbers.
+judge(set(names) - set(named) == {42}, "the code has the numbers %s" % sorted(named))
+
+reasons = re.findall(r'Reason::(\w+)[^=]*=> \{?\s*(?:f.write_str\(|write!\(f, )"(.*?)"', sources["crates/lnt_wire/src/fault.rt"])
+judge(len(reasons) == 15, "not each reason has a text")
+for name, text in reasons:
+    number = next((number for number in range(1, 16) if names[number] == name), 0)
+    judge(number == 15 or skeleton(text) == texts.get(number), "the text of %s, %r, isn't that of docs/NUMBERS.md" % (name, text))
+
+told = re.findall(
+    r"\b(?:Reason|RunFault|Stop|No|TableNo)::(\w+)[^=]*=> (?:\(|(?:FlatVerdict \{[^}]*?\.\.)?(?:numbered|of_record|at)\((?:position, )?)(\d+)",
+    sources["crates/lnt_ffi/src/verdict.rt"],
+)
+judge(len(told) == 31, "lnt_ffi gives %d numbers by name" % len(told))
+for name, number in told:
+    judge(names[int(number)] == name, "lnt_ffi gives %s the number %s" % (name, number))
+print("\n".join(faults + ["%d passed, %d failed" % (passed, len(faults))]))
+sys.exit(bool(faults))
+END
