@@ -19,141 +19,130 @@ use Rattle.lnt_answers.proofs.RoomLaws.{text_in_room}
 
 -- ---- lines
 
-begun_none : (index : Indexed) (op : ℕ) (old : Option (List ℕ)) → AreLinesBegun index op [] old old
-begun_none index op old = record { told = []; lines_are = refl; so = tt; front = λ dead skip units is. front_none old [] }
+module _ {index : Indexed} {op : ℕ} where
+  -- lines that were all answered
+  begun_told : {texts : List (List ℕ)} {old new : Option (List ℕ)} {s t : Status} → AreLinesTold index op texts old new s t
+      → AreLinesBegun index op texts old new
+  begun_told {old = old} {new = new} all = record {
+    told = all.told;
+    lines_are = all.lines_are;
+    so = all.so;
+    front = λ dead skip units is. front_all old new (flat_map (told_line index dead skip units) all.told) (all.printed dead skip units is);
+  }
 
--- lines that were all answered
-begun_told : (index : Indexed) (op : ℕ) (texts : List (List ℕ)) (old new : Option (List ℕ)) (s t : Status)
-    → AreLinesTold index op texts old new s t → AreLinesBegun index op texts old new
-begun_told index op texts old new s t all = record {
-  told = all.told;
-  lines_are = all.lines_are;
-  so = all.so;
-  front = λ dead skip units is. front_all old new (flat_map (told_line index dead skip units) all.told) (all.printed dead skip units is);
-}
+  -- those before some of which a prefix was written
+  begun_append : {xs ys : List (List ℕ)} {old now new : Option (List ℕ)} {s t : Status} → AreLinesTold index op xs old now s t
+      → AreLinesBegun index op ys now new → AreLinesBegun index op (xs ++ ys) old new
+  begun_append {xs} {ys} {old} {now} {new} a b = record {
+    told = a.told ++ b.told;
+    lines_are = texts_append a.told b.told ∙ ap (λ (z : List (List ℕ)). z ++ map (λ line. line.0) b.told) a.lines_are
+        ∙ ap (λ (z : List (List ℕ)). xs ++ z) b.lines_are;
+    so = all_append (Tells op) a.told b.told a.so b.so;
+    front = λ dead skip units is.
+        let text = told_line index dead skip units in
+        front_same old new _ _ (sym (flat_map-append text a.told b.told))
+        (front_after old now new (flat_map text a.told) (flat_map text b.told) (a.printed dead skip units is) (b.front dead skip units is));
+  }
 
--- those before some of which a prefix was written
-begun_append : (index : Indexed) (op : ℕ) (xs ys : List (List ℕ)) (old now new : Option (List ℕ)) (s t : Status)
-    → AreLinesTold index op xs old now s t → AreLinesBegun index op ys now new → AreLinesBegun index op (xs ++ ys) old new
-begun_append index op xs ys old now new s t a b = record {
-  told = a.told ++ b.told;
-  lines_are = texts_append a.told b.told ∙ ap (λ (z : List (List ℕ)). z ++ map (λ line. line.0) b.told) a.lines_are
-      ∙ ap (λ (z : List (List ℕ)). xs ++ z) b.lines_are;
-  so = all_append (Tells op) a.told b.told a.so b.so;
-  front = λ dead skip units is.
-      front_same old new _ _ (sym (flat_map-append (told_line index dead skip units) a.told b.told))
-      (front_after old now new (flat_map (told_line index dead skip units) a.told) (flat_map (told_line index dead skip units) b.told)
-      (a.printed dead skip units is) (b.front dead skip units is));
-}
+  -- Others follow, whatever they tell: what was gained of these is a front of what is printed of all of them.
+  begun_before : {xs : List (List ℕ)} {old new : Option (List ℕ)} (ys : List (List ℕ)) → AreLinesBegun index op xs old new
+      → AreLinesBegun index op (xs ++ ys) old new
+  begun_before {xs} {old} {new} ys begun =
+      let others = tell_lines op ys in
+      record {
+        told = begun.told ++ others.0;
+        lines_are = texts_append begun.told others.0 ∙ ap (λ (z : List (List ℕ)). z ++ map (λ line. line.0) others.0) begun.lines_are
+            ∙ ap (λ (z : List (List ℕ)). xs ++ z) others.1.0;
+        so = all_append (Tells op) begun.told others.0 begun.so others.1.1;
+        front = λ dead skip units is.
+            let text = told_line index dead skip units in
+            front_same old new _ _ (sym (flat_map-append text begun.told others.0))
+            (front_before old new (flat_map text begun.told) (flat_map text others.0) (begun.front dead skip units is));
+      }
 
--- Others follow, whatever they tell: what was gained of these is a front of what is printed of all of them.
-begun_before : (index : Indexed) (op : ℕ) (xs ys : List (List ℕ)) (old new : Option (List ℕ)) → AreLinesBegun index op xs old new
-    → AreLinesBegun index op (xs ++ ys) old new
-begun_before index op xs ys old new begun =
-    let others = tell_lines op ys in
-    record {
-      told = begun.told ++ others.0;
-      lines_are = texts_append begun.told others.0 ∙ ap (λ (z : List (List ℕ)). z ++ map (λ line. line.0) others.0) begun.lines_are
-          ∙ ap (λ (z : List (List ℕ)). xs ++ z) others.1.0;
-      so = all_append (Tells op) begun.told others.0 begun.so others.1.1;
-      front = λ dead skip units is.
-          let text = told_line index dead skip units in
-          front_same old new _ _ (sym (flat_map-append text begun.told others.0))
-          (front_before old new (flat_map text begun.told) (flat_map text others.0) (begun.front dead skip units is));
-    }
+  -- nothing was written
+  pub begun_nothing : (texts : List (List ℕ)) (old : Option (List ℕ)) → AreLinesBegun index op texts old old
+  begun_nothing texts old =
+      begun_before {xs = []} texts (record { told = []; lines_are = refl; so = tt; front = λ dead skip units is. front_none old [] })
 
--- nothing was written
-pub begun_nothing : (index : Indexed) (op : ℕ) (texts : List (List ℕ)) (old : Option (List ℕ)) → AreLinesBegun index op texts old old
-begun_nothing index op texts old = begun_before index op [] texts old old (begun_none index op old)
+  -- within their lines, which were made in an empty buffer
+  begun_sending : {texts : List (List ℕ)} {none made : List ℕ} {old new : Option (List ℕ)} {s t : Status}
+      → AreLinesTold index op texts (Some none) (Some made) s t → none ≡ [] → AppendsFront old new made → AreLinesBegun index op texts old new
+  begun_sending {none = none} {made = made} {old = old} {new = new} all empty front = record {
+    told = all.told;
+    lines_are = all.lines_are;
+    so = all.so;
+    front = λ dead skip units is. front_same old new made _
+        (text_in_room none made made (flat_map (told_line index dead skip units) all.told) empty (all.printed dead skip units is) refl) front;
+  }
 
--- within their lines, which were made in an empty buffer
-pub begun_sending : (index : Indexed) (op : ℕ) (texts : List (List ℕ)) (none made : List ℕ) (old new : Option (List ℕ)) (s t : Status)
-    → AreLinesTold index op texts (Some none) (Some made) s t → none ≡ [] → AppendsFront old new made → AreLinesBegun index op texts old new
-begun_sending index op texts none made old new s t all empty front = record {
-  told = all.told;
-  lines_are = all.lines_are;
-  so = all.so;
-  front = λ dead skip units is.
-      front_same old new made _
-      (text_in_room none made made (flat_map (told_line index dead skip units) all.told) empty (all.printed dead skip units is) refl) front;
-}
+  -- ---- the first lines of a text
 
--- ---- the first lines of a text
+  -- after a line
+  pub first_kept : {text rest : List ℕ} {old new : Option (List ℕ)} {s t : Status} → AreFirstTold index op text rest old new s t
+      → AreFirstBegun index op text old new
+  first_kept {rest = rest} first =
+      record { texts = first.texts; begun = begun_told first.told; cut = λ more. (lines (rest ++ more), sym (first.cut more)) }
 
--- after a line
-pub first_kept : (index : Indexed) (op : ℕ) (text rest : List ℕ) (old new : Option (List ℕ)) (s t : Status)
-    → AreFirstTold index op text rest old new s t → AreFirstBegun index op text old new
-first_kept index op text rest old new s t first = record {
-  texts = first.texts;
-  begun = begun_told index op first.texts old new s t first.told;
-  cut = λ more. (lines (rest ++ more), sym (first.cut more));
-}
+  -- within those after some
+  pub first_stopped : {text mid rest none made : List ℕ} {old now new : Option (List ℕ)} {s t u : Status}
+      → AreFirstTold index op text mid old now s t → AreFirstTold index op mid rest (Some none) (Some made) t u → none ≡ []
+      → AppendsFront now new made → AreFirstBegun index op text old new
+  first_stopped {rest = rest} a b empty front = record {
+    texts = a.texts ++ b.texts;
+    begun = begun_append a.told (begun_sending b.told empty front);
+    cut = λ more. (
+      lines (rest ++ more),
+      append_assoc a.texts b.texts (lines (rest ++ more)) ∙ ap (λ (z : List (List ℕ)). a.texts ++ z) (sym (b.cut more)) ∙ sym (a.cut more),
+    );
+  }
 
--- within those after some
-pub first_stopped : (index : Indexed) (op : ℕ) (text mid rest none made : List ℕ) (old now new : Option (List ℕ)) (s t u : Status)
-    → AreFirstTold index op text mid old now s t → AreFirstTold index op mid rest (Some none) (Some made) t u → none ≡ []
-    → AppendsFront now new made → AreFirstBegun index op text old new
-first_stopped index op text mid rest none made old now new s t u a b empty front = record {
-  texts = a.texts ++ b.texts;
-  begun = begun_append index op a.texts b.texts old now new s t a.told
-      (begun_sending index op b.texts none made now new t u b.told empty front);
-  cut = λ more. (
-    lines (rest ++ more),
-    append_assoc a.texts b.texts (lines (rest ++ more)) ∙ ap (λ (z : List (List ℕ)). a.texts ++ z) (sym (b.cut more)) ∙ sym (a.cut more),
-  );
-}
+  -- ---- a whole text
 
--- ---- a whole text
-
--- the first lines of the text
-begun_in : (index : Indexed) (op : ℕ) (start : Option (List ℕ)) (texts rest : List (List ℕ)) (old new : Option (List ℕ))
-    → IfSome start (λ text. texts ++ rest ≡ lines text) → AreLinesBegun index op texts old new
-    → AreAddressesBegun index op start old new
-begun_in index op None texts rest old new e begun = tt
-begun_in index op (Some text) texts rest old new e begun =
-    subst (λ (z : List (List ℕ)). AreLinesBegun index op z old new) e (begun_before index op texts rest old new begun)
+  -- the first lines of the text
+  begun_in : (start : Option (List ℕ)) (texts rest : List (List ℕ)) (old new : Option (List ℕ))
+      → IfSome start (λ text. texts ++ rest ≡ lines text) → AreLinesBegun index op texts old new → AreAddressesBegun index op start old new
+  begun_in None texts rest old new e begun = tt
+  begun_in (Some text) texts rest old new e begun =
+      subst (λ (z : List (List ℕ)). AreLinesBegun index op z old new) e (begun_before rest begun)
 
 pub text_unbegun : (index : Indexed) (op : ℕ) (start : Option (List ℕ)) (old : Option (List ℕ)) → AreAddressesBegun index op start old old
 text_unbegun index op None old = tt
-text_unbegun index op (Some text) old = begun_nothing index op (lines text) old
+text_unbegun index op (Some text) old = begun_nothing (lines text) old
 
 -- between two blocks
-pub text_kept_begun : (index : Indexed) (op : ℕ) (start now : Option (List ℕ)) (line : List ℕ) (old new : Option (List ℕ)) (status : Status)
-    → IsTextTold index op start now line old new status → AreAddressesBegun index op start old new
-text_kept_begun index op None now line old new status before = tt
-text_kept_begun index op (Some text) None line old new status before = absurd before.cut
-text_kept_begun index op (Some text) (Some rest) line old new status before =
-    begun_in index op (Some text) before.texts (lines (line ++ rest)) old new (sym before.cut)
-    (begun_told index op before.texts old new _ status before.told)
+pub text_kept_begun : {index : Indexed} {op : ℕ} {start now : Option (List ℕ)} {line : List ℕ} {old new : Option (List ℕ)}
+    {status : Status} → IsTextTold index op start now line old new status → AreAddressesBegun index op start old new
+text_kept_begun {start = None} before = tt
+text_kept_begun {start = Some text} {now = None} before = absurd before.cut
+text_kept_begun {start = Some text} {now = Some rest} {line = line} {old = old} {new = new} before =
+    begun_in (Some text) before.texts (lines (line ++ rest)) old new (sym before.cut) (begun_told before.told)
 
 -- within a block
-pub text_stopped : (index : Indexed) (op : ℕ) (start mid now : Option (List ℕ)) (line block : List ℕ) (old then new : Option (List ℕ))
-    (s : Status)
-    → IsTextTold index op start mid line old then s → Pulls mid now block → AreFirstBegun index op (line ++ block) then new
-    → AreAddressesBegun index op start old new
-text_stopped index op None mid now line block old then new s before pulls begun = tt
-text_stopped index op (Some text) None now line block old then new s before pulls begun = absurd before.cut
-text_stopped index op (Some text) (Some x) None line block old then new s before pulls begun = absurd pulls
-text_stopped index op (Some text) (Some x) (Some y) line block old then new s before pulls begun =
+pub text_stopped : {index : Indexed} {op : ℕ} {start mid : Option (List ℕ)} {line : List ℕ} {old then new : Option (List ℕ)} {s : Status}
+    (now : Option (List ℕ)) (block : List ℕ) → IsTextTold index op start mid line old then s → Pulls mid now block
+    → AreFirstBegun index op (line ++ block) then new → AreAddressesBegun index op start old new
+text_stopped {start = None} now block before pulls begun = tt
+text_stopped {start = Some text} {mid = None} now block before pulls begun = absurd before.cut
+text_stopped {start = Some text} {mid = Some x} None block before pulls begun = absurd pulls
+text_stopped {start = Some text} {mid = Some x} {line = line} {old = old} {new = new} (Some y) block before pulls begun =
     let after = begun.cut y in
-    begun_in index op (Some text) (before.texts ++ begun.texts) after.0 old new
+    begun_in (Some text) (before.texts ++ begun.texts) after.0 old new
     (append_assoc before.texts begun.texts after.0 ∙ ap (λ (z : List (List ℕ)). before.texts ++ z) after.1
     ∙ sym (before.cut ∙ ap (λ (z : List ℕ). before.texts ++ lines (line ++ z)) pulls
     ∙ ap (λ (z : List ℕ). before.texts ++ lines z) (sym (append_assoc line block y))))
-    (begun_append index op before.texts begun.texts old then new _ s before.told begun.begun)
+    (begun_append before.told begun.begun)
 
 -- within the answer to a last line without a line feed
-pub last_stopped : (index : Indexed) (op : ℕ) (start now : Option (List ℕ)) (line : List ℕ) (old then new : Option (List ℕ)) (s : Status)
-    (ended : Bool)
-    → IsTextTold index op start now line old then s → IsAtEnd now ended → ended ≡ false → 0 < length line
+pub last_stopped : {index : Indexed} {op : ℕ} {start now : Option (List ℕ)} {line : List ℕ} {old then new : Option (List ℕ)} {s : Status}
+    {ended : Bool} → IsTextTold index op start now line old then s → IsAtEnd now ended → ended ≡ false → 0 < length line
     → AreLinesBegun index op (line ∷ []) then new → AreAddressesBegun index op start old new
-last_stopped index op start now [] old then new s ended before at short some begun = absurd (omega arith)
-last_stopped index op start now (b ∷ line) old then new s ended before at short some begun =
-    let line_is = line_last b line before.whole in
-    begun_in index op start (before.texts ++ (b ∷ line) ∷ []) [] old new
-    (last_in start (before.texts ++ (b ∷ line) ∷ []) (before.texts ++ lines (b ∷ line))
-    (cut_ended start now before.texts (b ∷ line) ended before.cut at short) (ap (λ (z : List (List ℕ)). before.texts ++ z) (sym line_is)))
-    (begun_append index op before.texts ((b ∷ line) ∷ []) old then new _ s before.told begun)
+last_stopped {line = []} before at short some begun = absurd (omega arith)
+last_stopped {start = start} {now = now} {line = b ∷ line} {old = old} {new = new} {ended = ended} before at short some begun =
+    let texts = before.texts ++ (b ∷ line) ∷ [] in
+    begun_in start texts [] old new
+    (last_in start texts (before.texts ++ lines (b ∷ line)) (cut_ended start now before.texts (b ∷ line) ended before.cut at short)
+    (ap (λ (z : List (List ℕ)). before.texts ++ z) (sym (line_last b line before.whole)))) (begun_append before.told begun)
   where
     last_in : (start : Option (List ℕ)) (texts all : List (List ℕ)) → IfSome start (λ text. lines text ≡ all) → texts ≡ all
         → IfSome start (λ text. texts ++ [] ≡ lines text)

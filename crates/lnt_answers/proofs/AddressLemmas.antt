@@ -58,25 +58,6 @@ line_last b line whole =
 
 -- ---- lines that were answered
 
-pub told_none : (index : Indexed) (op : ℕ) (old : Option (List ℕ)) (status : Status) → AreLinesTold index op [] old old status status
-told_none index op old status =
-    record { told = []; lines_are = refl; so = tt; printed = λ dead skip units is. Appends-nil old; status_is = refl }
-
--- one line
-pub told_one : (index : Indexed) (op : ℕ) (line : List ℕ) (position : Option Position) (old new : Option (List ℕ)) (before after : Status)
-    → Tells op (line, position)
-    → ((dead : Option ℕ) (skip : Bool) (units : List (ℕ × UnitParts)) → IsIndexOf dead skip units index
-    → Appends old new (told_line index dead skip units (line, position)))
-    → after ≡ line_status before position → AreLinesTold index op (line ∷ []) old new before after
-told_one index op line position old new before after tells printed status = record {
-  told = (line, position) ∷ [];
-  lines_are = refl;
-  so = (tells, tt);
-  printed = λ dead skip units is. subst (Appends old new) (sym (append-nil (told_line index dead skip units (line, position))))
-      (printed dead skip units is);
-  status_is = status;
-}
-
 status_append : (before : Status) (a b : List (List ℕ × Option Position))
     → lines_status before (a ++ b) ≡ lines_status (lines_status before a) b
 status_append before [] b = refl
@@ -87,97 +68,111 @@ pub texts_append : (a b : List (List ℕ × Option Position))
 texts_append [] b = refl
 texts_append (told ∷ a) b = ap (λ (z : List (List ℕ)). told.0 ∷ z) (texts_append a b)
 
--- and others after them
-pub told_append : (index : Indexed) (op : ℕ) (xs ys : List (List ℕ)) (old now new : Option (List ℕ)) (s t u : Status)
-    → AreLinesTold index op xs old now s t
-    → AreLinesTold index op ys now new t u → AreLinesTold index op (xs ++ ys) old new s u
-told_append index op xs ys old now new s t u a b = record {
-  told = a.told ++ b.told;
-  lines_are = texts_append a.told b.told ∙ ap (λ (z : List (List ℕ)). z ++ map (λ line. line.0) b.told) a.lines_are
-      ∙ ap (λ (z : List (List ℕ)). xs ++ z) b.lines_are;
-  so = all_append (Tells op) a.told b.told a.so b.so;
-  printed = λ dead skip units is.
-      subst (Appends old new) (sym (flat_map-append (told_line index dead skip units) a.told b.told))
-      (Appends-trans old now new (flat_map (told_line index dead skip units) a.told) (flat_map (told_line index dead skip units) b.told)
-      (a.printed dead skip units is) (b.printed dead skip units is));
-  status_is = b.status_is ∙ ap (λ (z : Status). lines_status z b.told) a.status_is ∙ sym (status_append s a.told b.told);
-}
+module _ {index : Indexed} {op : ℕ} where
+  pub told_none : (old : Option (List ℕ)) (status : Status) → AreLinesTold index op [] old old status status
+  told_none old status =
+      record { told = []; lines_are = refl; so = tt; printed = λ dead skip units is. Appends-nil old; status_is = refl }
 
--- Their lines were made in an empty buffer, and are then written.
-pub told_sent : (index : Indexed) (op : ℕ) (texts : List (List ℕ)) (none made : List ℕ) (old new : Option (List ℕ)) (s t : Status)
-    → AreLinesTold index op texts (Some none) (Some made) s t → none ≡ [] → Appends old new made → AreLinesTold index op texts old new s t
-told_sent index op texts none made old new s t all empty gained = record {
-  told = all.told;
-  lines_are = all.lines_are;
-  so = all.so;
-  printed = λ dead skip units is.
-      subst (Appends old new)
-      (text_in_room none made made (flat_map (told_line index dead skip units) all.told) empty (all.printed dead skip units is) refl) gained;
-  status_is = all.status_is;
-}
+  -- one line
+  pub told_one : {line : List ℕ} {old new : Option (List ℕ)} {before after : Status} (position : Option Position)
+      → Tells op (line, position)
+      → ((dead : Option ℕ) (skip : Bool) (units : List (ℕ × UnitParts)) → IsIndexOf dead skip units index
+      → Appends old new (told_line index dead skip units (line, position)))
+      → after ≡ line_status before position → AreLinesTold index op (line ∷ []) old new before after
+  told_one {line} {old} {new} position tells printed status = record {
+    told = (line, position) ∷ [];
+    lines_are = refl;
+    so = (tells, tt);
+    printed = λ dead skip units is. subst (Appends old new) (sym (append-nil (told_line index dead skip units (line, position))))
+        (printed dead skip units is);
+    status_is = status;
+  }
 
--- ---- the first lines of a text
+  -- and others after them
+  pub told_append : {xs ys : List (List ℕ)} {old now new : Option (List ℕ)} {s t u : Status} → AreLinesTold index op xs old now s t
+      → AreLinesTold index op ys now new t u → AreLinesTold index op (xs ++ ys) old new s u
+  told_append {xs} {ys} {old} {now} {new} {s} a b = record {
+    told = a.told ++ b.told;
+    lines_are = texts_append a.told b.told ∙ ap (λ (z : List (List ℕ)). z ++ map (λ line. line.0) b.told) a.lines_are
+        ∙ ap (λ (z : List (List ℕ)). xs ++ z) b.lines_are;
+    so = all_append (Tells op) a.told b.told a.so b.so;
+    printed = λ dead skip units is.
+        let text = told_line index dead skip units in
+        subst (Appends old new) (sym (flat_map-append text a.told b.told))
+        (Appends-trans old now new (flat_map text a.told) (flat_map text b.told) (a.printed dead skip units is)
+        (b.printed dead skip units is));
+    status_is = b.status_is ∙ ap (λ (z : Status). lines_status z b.told) a.status_is ∙ sym (status_append s a.told b.told);
+  }
 
-pub first_none : (index : Indexed) (op : ℕ) (text : List ℕ) (old : Option (List ℕ)) (status : Status)
-    → AreFirstTold index op text text old old status status
-first_none index op text old status = record { texts = []; told = told_none index op old status; cut = λ more. refl }
+  -- Their lines were made in an empty buffer, and are then written.
+  told_sent : {texts : List (List ℕ)} {none made : List ℕ} {old new : Option (List ℕ)} {s t : Status}
+      → AreLinesTold index op texts (Some none) (Some made) s t → none ≡ [] → Appends old new made → AreLinesTold index op texts old new s t
+  told_sent {none = none} {made = made} {old = old} {new = new} all empty gained = record {
+    told = all.told;
+    lines_are = all.lines_are;
+    so = all.so;
+    printed = λ dead skip units is. subst (Appends old new) (text_in_room none made made
+        (flat_map (told_line index dead skip units) all.told) empty (all.printed dead skip units is) refl) gained;
+    status_is = all.status_is;
+  }
 
--- the first one
-pub first_line : (index : Indexed) (op : ℕ) (text line rest stripped : List ℕ) (old new : Option (List ℕ)) (s t : Status)
-    → IsCut 10 text line rest → stripped ≡ strip_carriage_return line → AreLinesTold index op (stripped ∷ []) old new s t
-    → AreFirstTold index op text rest old new s t
-first_line index op text line rest stripped old new s t at stripped_is told = record {
-  texts = stripped ∷ [];
-  told = told;
-  cut = λ more.
-      ap (λ (z : List ℕ). lines (z ++ more)) at.0 ∙ ap lines (append_assoc line (10 ∷ rest) more) ∙ line_cut line (rest ++ more) at.1
-      ∙ ap (λ (z : List ℕ). z ∷ lines (rest ++ more)) (sym stripped_is);
-}
+  -- ---- the first lines of a text
 
--- and those after it
-pub first_more : (index : Indexed) (op : ℕ) (text mid rest : List ℕ) (old now new : Option (List ℕ)) (s t u : Status)
-    → AreFirstTold index op text mid old now s t → AreFirstTold index op mid rest now new t u → AreFirstTold index op text rest old new s u
-first_more index op text mid rest old now new s t u a b = record {
-  texts = a.texts ++ b.texts;
-  told = told_append index op a.texts b.texts old now new s t u a.told b.told;
-  cut = λ more. a.cut more ∙ ap (λ (z : List (List ℕ)). a.texts ++ z) (b.cut more) ∙ sym (append_assoc a.texts b.texts (lines (rest ++ more)));
-}
+  pub first_none : (text : List ℕ) (old : Option (List ℕ)) (status : Status) → AreFirstTold index op text text old old status status
+  first_none text old status = record { texts = []; told = told_none old status; cut = λ more. refl }
 
--- The lines were made in an empty buffer, and are then written.
-pub first_sent : (index : Indexed) (op : ℕ) (text rest none made : List ℕ) (old new : Option (List ℕ)) (s t : Status)
-    → AreFirstTold index op text rest (Some none) (Some made) s t → none ≡ [] → Appends old new made
-    → AreFirstTold index op text rest old new s t
-first_sent index op text rest none made old new s t first empty gained =
-    record { texts = first.texts; told = told_sent index op first.texts none made old new s t first.told empty gained; cut = first.cut }
+  -- the first one
+  pub first_line : {text rest stripped : List ℕ} {old new : Option (List ℕ)} {s t : Status} (line : List ℕ) → IsCut 10 text line rest
+      → stripped ≡ strip_carriage_return line → AreLinesTold index op (stripped ∷ []) old new s t
+      → AreFirstTold index op text rest old new s t
+  first_line {rest = rest} {stripped = stripped} line at stripped_is told = record {
+    texts = stripped ∷ [];
+    told = told;
+    cut = λ more.
+        ap (λ (z : List ℕ). lines (z ++ more)) at.0 ∙ ap lines (append_assoc line (10 ∷ rest) more) ∙ line_cut line (rest ++ more) at.1
+        ∙ ap (λ (z : List ℕ). z ∷ lines (rest ++ more)) (sym stripped_is);
+  }
 
--- the first one, in which a position was found
-pub first_found : (index : Indexed) (op : ℕ) (text rest : List ℕ) (place : Position) (old new : List ℕ) (s : Status)
-    → BeginsWithLine op text place rest
-    → ((dead : Option ℕ) (skip : Bool) (units : List (ℕ × UnitParts)) → IsIndexOf dead skip units index
-    → new ≡ old ++ lookup_line index dead skip units place)
-    → AreFirstTold index op text rest (Some old) (Some new) s s
-first_found index op text rest place old new s begins printed =
-    first_line index op text begins.line rest (strip_carriage_return begins.line) (Some old) (Some new) s s begins.cut refl
-    (told_one index op (strip_carriage_return begins.line) (Some place) (Some old) (Some new) s s begins.tells printed refl)
+  -- and those after it
+  pub first_more : {text mid rest : List ℕ} {old now new : Option (List ℕ)} {s t u : Status} → AreFirstTold index op text mid old now s t
+      → AreFirstTold index op mid rest now new t u → AreFirstTold index op text rest old new s u
+  first_more {rest = rest} a b = record {
+    texts = a.texts ++ b.texts;
+    told = told_append a.told b.told;
+    cut = λ more. a.cut more ∙ ap (λ (z : List (List ℕ)). a.texts ++ z) (b.cut more)
+        ∙ sym (append_assoc a.texts b.texts (lines (rest ++ more)));
+  }
 
--- A line that began before this text ends in it, and others follow.
-pub first_joined : (index : Indexed) (op : ℕ) (line text front back next rest : List ℕ) (old now new : Option (List ℕ)) (s t u : Status)
-    → HasNo 10 line → IsCut 10 text front back → AreLinesTold index op (strip_carriage_return (line ++ front) ∷ []) old now s t → next ≡ back
-    → AreFirstTold index op next rest now new t u → AreFirstTold index op (line ++ text) rest old new s u
-first_joined index op line text front back next rest old now new s t u whole at told next_is more =
-    let joined : IsCut 10 (line ++ text) (line ++ front) back = (
-      ap (λ (z : List ℕ). line ++ z) at.0 ∙ sym (append_assoc line front (10 ∷ back)),
-      All-append (λ other. (other == 10) ≡ false) line front whole at.1,
-    ) in
-    first_more index op (line ++ text) back rest old now new s t u
-    (first_line index op (line ++ text) (line ++ front) back _ old now s t joined refl told)
-    (subst (λ (z : List ℕ). AreFirstTold index op z rest now new t u) next_is more)
+  -- The lines were made in an empty buffer, and are then written.
+  pub first_sent : {text rest none made : List ℕ} {old new : Option (List ℕ)} {s t : Status}
+      → AreFirstTold index op text rest (Some none) (Some made) s t → none ≡ [] → Appends old new made
+      → AreFirstTold index op text rest old new s t
+  first_sent first empty gained = record { texts = first.texts; told = told_sent first.told empty gained; cut = first.cut }
 
--- the rest after a line that is empty
-pub first_emptied : (index : Indexed) (op : ℕ) (text rest line : List ℕ) (old new : Option (List ℕ)) (s t : Status)
-    → AreFirstTold index op text rest old new s t → line ≡ [] → AreFirstTold index op text (line ++ rest) old new s t
-first_emptied index op text rest line old new s t first empty =
-    subst (λ (z : List ℕ). AreFirstTold index op text (z ++ rest) old new s t) (sym empty) first
+  -- the first one, in which a position was found
+  pub first_found : {text rest : List ℕ} {place : Position} {old new : List ℕ} {s : Status} → BeginsWithLine op text place rest
+      → ((dead : Option ℕ) (skip : Bool) (units : List (ℕ × UnitParts)) → IsIndexOf dead skip units index
+      → new ≡ old ++ lookup_line index dead skip units place)
+      → AreFirstTold index op text rest (Some old) (Some new) s s
+  first_found {place = place} begins printed = first_line begins.line begins.cut refl (told_one (Some place) begins.tells printed refl)
+
+  -- A line that began before this text ends in it, and others follow.
+  pub first_joined : {back next rest : List ℕ} {old now new : Option (List ℕ)} {s t u : Status} (line text front : List ℕ)
+      → HasNo 10 line → IsCut 10 text front back → AreLinesTold index op (strip_carriage_return (line ++ front) ∷ []) old now s t → next ≡ back
+      → AreFirstTold index op next rest now new t u → AreFirstTold index op (line ++ text) rest old new s u
+  first_joined {back} {next} {rest} {old} {now} {new} {s} {t} {u} line text front whole at told next_is more =
+      let joined : IsCut 10 (line ++ text) (line ++ front) back = (
+        ap (λ (z : List ℕ). line ++ z) at.0 ∙ sym (append_assoc line front (10 ∷ back)),
+        All-append (λ other. (other == 10) ≡ false) line front whole at.1,
+      ) in
+      first_more (first_line (line ++ front) joined refl told)
+      (subst (λ (z : List ℕ). AreFirstTold index op z rest now new t u) next_is more)
+
+  -- the rest after a line that is empty
+  pub first_emptied : {text rest line : List ℕ} {old new : Option (List ℕ)} {s t : Status}
+      → AreFirstTold index op text rest old new s t → line ≡ [] → AreFirstTold index op text (line ++ rest) old new s t
+  first_emptied {text} {rest} {line} {old} {new} {s} {t} first empty =
+      subst (λ (z : List ℕ). AreFirstTold index op text (z ++ rest) old new s t) (sym empty) first
 
 -- ---- the current line
 
@@ -207,14 +202,6 @@ cut_begun : (start : Option (List ℕ)) → IsTextCut start start [] []
 cut_begun None = tt
 cut_begun (Some text) = refl
 
-pub text_begun : (index : Indexed) (op : ℕ) (start : Option (List ℕ)) (line : List ℕ) (old : Option (List ℕ)) (status : Status) → line ≡ []
-    → status ≡ Done
-    → IsTextTold index op start start line old old status
-text_begun index op start line old status empty done =
-    subst (λ (z : List ℕ). IsTextTold index op start start z old old status) (sym empty)
-    (subst (λ (z : Status). IsTextTold index op start start [] old old z) (sym done)
-    (record { texts = []; told = told_none index op old Done; cut = cut_begun start; whole = λ j d few. absurd (omega arith) }))
-
 cut_more : (start mid now : Option (List ℕ)) (texts more : List (List ℕ)) (line block left : List ℕ) → IsTextCut start mid texts line
     → Pulls mid now block
     → ((rest : List ℕ) → lines ((line ++ block) ++ rest) ≡ more ++ lines (left ++ rest)) → IsTextCut start now (texts ++ more) left
@@ -225,34 +212,12 @@ cut_more (Some text) (Some x) (Some y) texts more line block left c p cut =
     c ∙ ap (λ (z : List ℕ). texts ++ lines (line ++ z)) p ∙ ap (λ (z : List ℕ). texts ++ lines z) (sym (append_assoc line block y))
     ∙ ap (λ (z : List (List ℕ)). texts ++ z) (cut y) ∙ sym (append_assoc texts more (lines (left ++ y)))
 
--- with one block more
-pub text_more : (index : Indexed) (op : ℕ) (start mid now : Option (List ℕ)) (line block left : List ℕ) (old then new : Option (List ℕ))
-    (s t : Status)
-    → IsTextTold index op start mid line old then s → Pulls mid now block → AreFirstTold index op (line ++ block) left then new s t
-    → HasNo 10 left → IsTextTold index op start now left old new t
-text_more index op start mid now line block left old then new s t before pulls more whole = record {
-  texts = before.texts ++ more.texts;
-  told = told_append index op before.texts more.texts old then new Done s t before.told more.told;
-  cut = cut_more start mid now before.texts more.texts line block left before.cut pulls more.cut;
-  whole = whole;
-}
-
 cut_pulled : (start mid now : Option (List ℕ)) (texts : List (List ℕ)) (line : List ℕ) → IsTextCut start mid texts line → Pulls mid now []
     → IsTextCut start now texts line
 cut_pulled None mid now texts line c p = tt
 cut_pulled (Some text) None now texts line c p = absurd c
 cut_pulled (Some text) (Some x) None texts line c p = absurd p
 cut_pulled (Some text) (Some x) (Some y) texts line c p = c ∙ ap (λ (z : List ℕ). texts ++ lines (line ++ z)) p
-
--- nothing more came
-pub text_pulled : (index : Indexed) (op : ℕ) (start mid now : Option (List ℕ)) (line : List ℕ) (old new : Option (List ℕ)) (status : Status)
-    → IsTextTold index op start mid line old new status → Pulls mid now [] → IsTextTold index op start now line old new status
-text_pulled index op start mid now line old new status before pulls = record {
-  texts = before.texts;
-  told = before.told;
-  cut = cut_pulled start mid now before.texts line before.cut pulls;
-  whole = before.whole;
-}
 
 -- The text is at its end: its lines are those answered, and the current line, if it isn't empty.
 pub cut_ended : (start now : Option (List ℕ)) (texts : List (List ℕ)) (line : List ℕ) (ended : Bool) → IsTextCut start now texts line
@@ -264,33 +229,6 @@ cut_ended (Some text) (Some rest) texts line ended c e short =
     ⊎_elim (λ nothing. c ∙ ap (λ (z : List ℕ). texts ++ lines z) (ap (λ (z : List ℕ). line ++ z) nothing ∙ append-nil line))
     (λ (long : IsTrue ended). absurd (let not_long = short in grind (arith, long, not_long))) e
 
-told_lines : (index : Indexed) (op : ℕ) (start : Option (List ℕ)) (texts all : List (List ℕ)) (old new : Option (List ℕ)) (status : Status)
-    → IfSome start (λ text. lines text ≡ all)
-    → texts ≡ all → AreLinesTold index op texts old new Done status → AreAddressesTold index op start old new status
-told_lines index op None texts all old new status e same told = tt
-told_lines index op (Some text) texts all old new status e same told =
-    subst (λ (z : List (List ℕ)). AreLinesTold index op z old new Done status) (same ∙ sym e) told
-
-pub text_ended : (index : Indexed) (op : ℕ) (start now : Option (List ℕ)) (line : List ℕ) (old new : Option (List ℕ)) (status : Status)
-    (ended : Bool)
-    → IsTextTold index op start now line old new status → IsAtEnd now ended → ended ≡ false → line ≡ []
-    → AreAddressesTold index op start old new status
-text_ended index op start now line old new status ended before at short empty =
-    told_lines index op start before.texts (before.texts ++ lines line) old new status
-    (cut_ended start now before.texts line ended before.cut at short)
-    (sym (append-nil before.texts) ∙ ap (λ (z : List ℕ). before.texts ++ lines z) (sym empty)) before.told
-
-pub text_ended_within : (index : Indexed) (op : ℕ) (start now : Option (List ℕ)) (line : List ℕ) (old then new : Option (List ℕ))
-    (s t : Status) (ended : Bool)
-    → IsTextTold index op start now line old then s → IsAtEnd now ended → ended ≡ false → 0 < length line
-    → AreLinesTold index op (line ∷ []) then new s t → AreAddressesTold index op start old new t
-text_ended_within index op start now [] old then new s t ended before at short some told = absurd (omega arith)
-text_ended_within index op start now (b ∷ line) old then new s t ended before at short some told =
-    told_lines index op start (before.texts ++ (b ∷ line) ∷ []) (before.texts ++ lines (b ∷ line)) old new t
-    (cut_ended start now before.texts (b ∷ line) ended before.cut at short)
-    (ap (λ (z : List (List ℕ)). before.texts ++ z) (sym (line_last b line before.whole)))
-    (told_append index op before.texts ((b ∷ line) ∷ []) old then new Done s t before.told told)
-
 -- ---- a writer that was flushed
 
 appends_kept : (a b c : Option (List ℕ)) (text : List ℕ) → Appends a b text → Keeps b c → Appends a c text
@@ -299,21 +237,73 @@ appends_kept (Some x) None c text gained kept = absurd gained
 appends_kept (Some x) (Some y) None text gained kept = absurd kept
 appends_kept (Some x) (Some y) (Some z) text gained kept = kept ∙ gained
 
-pub text_kept : (index : Indexed) (op : ℕ) (start now : Option (List ℕ)) (line : List ℕ) (old then new : Option (List ℕ)) (status : Status)
-    → IsTextTold index op start now line old then status → Keeps then new → IsTextTold index op start now line old new status
-text_kept index op start now line old then new status before kept = record {
-  texts = before.texts;
-  told = record {
-    told = before.told.told;
-    lines_are = before.told.lines_are;
-    so = before.told.so;
-    printed = λ dead skip units is. appends_kept old then new (flat_map (told_line index dead skip units) before.told.told)
-        (before.told.printed dead skip units is) kept;
-    status_is = before.told.status_is;
-  };
-  cut = before.cut;
-  whole = before.whole;
-}
+told_lines : {index : Indexed} {op : ℕ} {old new : Option (List ℕ)} {status : Status} (start : Option (List ℕ)) (texts all : List (List ℕ))
+    → IfSome start (λ text. lines text ≡ all) → texts ≡ all → AreLinesTold index op texts old new Done status
+    → AreAddressesTold index op start old new status
+told_lines None texts all e same told = tt
+told_lines {index} {op} {old} {new} {status} (Some text) texts all e same told =
+    subst (λ (z : List (List ℕ)). AreLinesTold index op z old new Done status) (same ∙ sym e) told
+
+module _ {index : Indexed} {op : ℕ} {start old : Option (List ℕ)} where
+  pub text_begun : {line : List ℕ} {status : Status} → line ≡ [] → status ≡ Done → IsTextTold index op start start line old old status
+  text_begun {status = status} empty done =
+      subst (λ (z : List ℕ). IsTextTold index op start start z old old status) (sym empty)
+      (subst (λ (z : Status). IsTextTold index op start start [] old old z) (sym done)
+      (record { texts = []; told = told_none old Done; cut = cut_begun start; whole = λ j d few. absurd (omega arith) }))
+
+  -- with one block more
+  pub text_more : {mid now then new : Option (List ℕ)} {line left : List ℕ} {s t : Status} (block : List ℕ)
+      → IsTextTold index op start mid line old then s → Pulls mid now block → AreFirstTold index op (line ++ block) left then new s t
+      → HasNo 10 left → IsTextTold index op start now left old new t
+  text_more {mid} {now} {line = line} {left = left} block before pulls more whole = record {
+    texts = before.texts ++ more.texts;
+    told = told_append before.told more.told;
+    cut = cut_more start mid now before.texts more.texts line block left before.cut pulls more.cut;
+    whole = whole;
+  }
+
+  module _ {now : Option (List ℕ)} {line : List ℕ} {then : Option (List ℕ)} {s : Status} where
+    -- nothing more came
+    pub text_pulled : {mid : Option (List ℕ)} → IsTextTold index op start mid line old then s → Pulls mid now []
+        → IsTextTold index op start now line old then s
+    text_pulled {mid} before pulls = record {
+      texts = before.texts;
+      told = before.told;
+      cut = cut_pulled start mid now before.texts line before.cut pulls;
+      whole = before.whole;
+    }
+
+    pub text_ended : {ended : Bool} → IsTextTold index op start now line old then s → IsAtEnd now ended → ended ≡ false → line ≡ []
+        → AreAddressesTold index op start old then s
+    text_ended {ended} before at short empty =
+        told_lines start before.texts (before.texts ++ lines line)
+        (cut_ended start now before.texts line ended before.cut at short)
+        (sym (append-nil before.texts) ∙ ap (λ (z : List ℕ). before.texts ++ lines z) (sym empty)) before.told
+
+    pub text_kept : {new : Option (List ℕ)} → IsTextTold index op start now line old then s → Keeps then new
+        → IsTextTold index op start now line old new s
+    text_kept {new} before kept = record {
+      texts = before.texts;
+      told = record {
+        told = before.told.told;
+        lines_are = before.told.lines_are;
+        so = before.told.so;
+        printed = λ dead skip units is. appends_kept old then new (flat_map (told_line index dead skip units) before.told.told)
+            (before.told.printed dead skip units is) kept;
+        status_is = before.told.status_is;
+      };
+      cut = before.cut;
+      whole = before.whole;
+    }
+
+  pub text_ended_within : {now then new : Option (List ℕ)} {line : List ℕ} {s t : Status} {ended : Bool}
+      → IsTextTold index op start now line old then s → IsAtEnd now ended → ended ≡ false → 0 < length line
+      → AreLinesTold index op (line ∷ []) then new s t → AreAddressesTold index op start old new t
+  text_ended_within {line = []} before at short some told = absurd (omega arith)
+  text_ended_within {now} {line = b ∷ line} {ended = ended} before at short some told =
+      told_lines start (before.texts ++ (b ∷ line) ∷ []) (before.texts ++ lines (b ∷ line))
+      (cut_ended start now before.texts (b ∷ line) ended before.cut at short)
+      (ap (λ (z : List (List ℕ)). before.texts ++ z) (sym (line_last b line before.whole))) (told_append before.told told)
 
 -- ---- numbers and fronts, in the code's terms
 
@@ -327,9 +317,11 @@ pub is_empty : (n : ℕ) (line : List ℕ) → n ≡ length line → (n == 0) �
 is_empty n [] same zero_is = refl
 is_empty n (b ∷ line) same zero_is = absurd (omega (arith, eqb-true n 0 zero_is, same))
 
-pub front_of : (n : ℕ) (front rest : List ℕ) → n ≡ length front → take n (front ++ rest) ≡ front
+front_of : (n : ℕ) (front rest : List ℕ) → n ≡ length front → take n (front ++ rest) ≡ front
 front_of n front rest same = grind (arith, common_steps)
 
-pub pulls_front : (old new : Option (List ℕ)) (k : ℕ) (room block : List ℕ) → block ≡ room → Pulls old new (take k room)
-    → Pulls old new (take k block)
-pulls_front old new k room block same pulls = subst (λ (z : List ℕ). Pulls old new (take k z)) (sym same) pulls
+-- what was pulled into a room, of which the block is all
+pub pulls_front : (old new : Option (List ℕ)) (k n : ℕ) (room rest block : List ℕ) → n ≡ length room → block ≡ take n (room ++ rest)
+    → Pulls old new (take k room) → Pulls old new (take k block)
+pulls_front old new k n room rest block whole same pulls =
+    subst (λ (z : List ℕ). Pulls old new (take k z)) (sym (same ∙ front_of n room rest whole)) pulls

@@ -1,6 +1,6 @@
 -- Texts of items, one after another.
 use Rattle.std.proofs.Common.{◌≡◌, ◌∙◌, ℕ, ◌+◌, ◌<◌, ◌≤◌, suc, List, [], ◌∷◌, ◌++◌, append-nil, length, get_or, take, Option, ap}
-use Rattle.std.proofs.Common.{append_assoc, sym, subst, arith, ◌-◌, zero}
+use Rattle.std.proofs.Common.{append_assoc, refl, sym, subst, arith, ◌-◌, zero}
 use Rattle.std.specs.List.{flat_map}
 use Rattle.std.specs.Io.KnownBytes.{Appends}
 use Rattle.std.proofs.KnownBytes.{Appends-nil, Appends-trans}
@@ -11,12 +11,29 @@ use Rattle.lnt_io.proofs.FrontLaws.{front_after, front_before, front_same}
 use Rattle.lnt_lines.specs.Indexed.{Indexed}
 use Rattle.lnt_answers.specs.FileLines.{file_record, records_below}
 
--- the texts of one item more end with its text
-text_of_more : {X : Type 0} (f : X → List ℕ) (items : List X) (i : ℕ) (d : X) → i < length items
+-- the lists of one item more end with its list
+pub lists_of_more : {X A : Type 0} (f : X → List A) (items : List X) (i : ℕ) (d : X) → i < length items
     → flat_map f (take (i + 1) items) ≡ flat_map f (take i items) ++ f (get_or items i d)
-text_of_more f items i d lt =
+lists_of_more f items i d lt =
     ap (flat_map f) (take_more items i d lt) ∙ flat_map-append f (take i items) (get_or items i d ∷ [])
-    ∙ ap (λ text. flat_map f (take i items) ++ text) (append-nil (f (get_or items i d)))
+    ∙ ap (λ list. flat_map f (take i items) ++ list) (append-nil (f (get_or items i d)))
+
+-- Where each list is the one before it with more at its end, it is a front of each later one.
+pub front_of_later : {A : Type 0} (below at : ℕ → List A) → ((n : ℕ) → below (suc n) ≡ below n ++ at n) → (n count : ℕ) → n ≤ count
+    → (rest : List A) × (below n ++ rest ≡ below count)
+front_of_later {A} below at step n count le =
+    let all : (count - n) + n ≡ count = omega (arith, le) in
+    subst (λ (m : ℕ). (rest : List A) × (below n ++ rest ≡ below m)) all (by_more (count - n))
+  where
+    by_more : (k : ℕ) → (rest : List A) × (below n ++ rest ≡ below (k + n))
+    by_more zero = let same : n ≡ 0 + n = omega arith in ([], append-nil (below n) ∙ ap below same)
+    by_more (suc k) =
+        let before = by_more k in
+        let next : suc (k + n) ≡ suc k + n = omega arith in (
+          before.0 ++ at (k + n),
+          sym (append_assoc (below n) before.0 (at (k + n))) ∙ ap (λ (list : List A). list ++ at (k + n)) before.1
+              ∙ sym (step (k + n)) ∙ ap below next,
+        )
 
 -- a writer that has gained a head and the texts of some items gains the text of one more
 pub gained_more : {X : Type 0} (f : X → List ℕ) (head : List ℕ) (items : List X) (i : ℕ) (d : X) (a b c : Option (List ℕ))
@@ -25,7 +42,7 @@ pub gained_more : {X : Type 0} (f : X → List ℕ) (head : List ℕ) (items : L
     → Appends a c (head ++ flat_map f (take (i + 1) items))
 gained_more f head items i d a b c lt before here =
     subst (Appends a c) (append_assoc head (flat_map f (take i items)) (f (get_or items i d))
-    ∙ ap (λ text. head ++ text) (sym (text_of_more f items i d lt)))
+    ∙ ap (λ text. head ++ text) (sym (lists_of_more f items i d lt)))
     (Appends-trans a b c (head ++ flat_map f (take i items)) (f (get_or items i d)) before here)
 
 -- all items
@@ -46,31 +63,12 @@ records_more index unit file a b c before here =
     subst (λ (n : ℕ). Appends a c (records_below index unit n)) next
     (Appends-trans a b c (records_below index unit file) (file_record index unit file) before here)
 
--- the records up to a file are a front of those up to a later one
-records_after : (index : Indexed) (unit file k : ℕ)
-    → (rest : List ℕ) × (records_below index unit (suc file) ++ rest ≡ records_below index unit (k + suc file))
-records_after index unit file zero =
-    let first = records_below index unit (suc file) in
-    let same : suc file ≡ 0 + suc file = omega arith in
-    ([], subst (λ (n : ℕ). first ++ [] ≡ records_below index unit n) same (append-nil first))
-records_after index unit file (suc k) =
-    let first = records_below index unit (suc file) in
-    let before = records_after index unit file k in
-    let here = file_record index unit (k + suc file) in
-    let next : suc (k + suc file) ≡ suc k + suc file = omega arith in (
-      before.0 ++ here,
-      subst (λ (n : ℕ). first ++ (before.0 ++ here) ≡ records_below index unit n) next
-          (sym (append_assoc first before.0 here) ∙ ap (λ (l : List ℕ). l ++ here) before.1),
-    )
-
 -- a writer that was stopped within a record
 pub records_stopped : (index : Indexed) (unit file count : ℕ) (a b c : Option (List ℕ)) → file < count
     → Appends a b (records_below index unit file) → AppendsFront b c (file_record index unit file)
     → AppendsFront a c (records_below index unit count)
 records_stopped index unit file count a b c lt before here =
-    let after = records_after index unit file (count - suc file) in
-    let all : (count - suc file) + suc file ≡ count = omega arith in
-    subst (λ (n : ℕ). AppendsFront a c (records_below index unit n)) all
-    (front_same a c (records_below index unit (suc file) ++ after.0) _ after.1
+    let after = front_of_later (records_below index unit) (file_record index unit) (λ n. refl) (suc file) count (omega (arith, lt)) in
+    front_same a c (records_below index unit (suc file) ++ after.0) _ after.1
     (front_before a c (records_below index unit (suc file)) after.0
-    (front_after a b c (records_below index unit file) (file_record index unit file) before here)))
+    (front_after a b c (records_below index unit file) (file_record index unit file) before here))

@@ -110,14 +110,14 @@ pub record HasPrinted {D X : Type 0} (of : D → Stretch X) (line : Stretch X �
   pub text : Appends old new (flat_map line (told_in scope (map of given)))
   pub right : is_right ≡ has_none (told_in scope (map of given))
 
-pub printed_none : {D X : Type 0} (of : D → Stretch X) (line : Stretch X → List ℕ) (AreGiven : List D → Type 0) (scope : Scope)
-    (old : Option (List ℕ)) (is_right : Bool) → AreGiven [] → is_right ≡ true → HasPrinted of line AreGiven scope old old is_right
-printed_none {D} {X} of line AreGiven scope old is_right so right = record {
-  given = [];
-  so = so;
-  text = subst (λ (list : List (Stretch X)). Appends old old (flat_map line list)) (sym (in_none scope)) (Appends-nil old);
-  right = right ∙ ap has_none (sym (in_none {X = X} scope));
-}
+module _ {D X : Type 0} {of : D → Stretch X} {line : Stretch X → List ℕ} {scope : Scope} {old : Option (List ℕ)} {is_right : Bool} where
+  pub printed_none : {AreGiven : List D → Type 0} → AreGiven [] → is_right ≡ true → HasPrinted of line AreGiven scope old old is_right
+  printed_none so right = record {
+    given = [];
+    so = so;
+    text = subst (λ (list : List (Stretch X)). Appends old old (flat_map line list)) (sym (in_none scope)) (Appends-nil old);
+    right = right ∙ ap has_none (sym (in_none {X = X} scope));
+  }
 
 -- those with one more that are in the scope
 in_more : {D X : Type 0} (of : D → Stretch X) (scope : Scope) (given : List D) (d : D)
@@ -139,44 +139,45 @@ more_lines {D} {X} of line scope given d is_answered same =
     ∙ ap (λ (text : List ℕ). flat_map line front ++ text) (one_line line (of d) counts)
     ∙ sym (flat_map-append line front (cond counts (of d ∷ []) [])) ∙ ap (flat_map line) (in_more of scope given d)
 
-pub printed_more : {D X : Type 0} (of : D → Stretch X) (line : Stretch X → List ℕ) (AreGiven AreMore : List D → Type 0) (scope : Scope)
-    (old now new : Option (List ℕ)) (d : D) (is_answered was_right is_right : Bool)
-    → (h : HasPrinted of line AreGiven scope old now was_right) → AreMore (h.given ++ d ∷ []) → is_answered ≡ is_some (of d).by_table
-    → Appends now new (cond (counts_in scope is_answered) (line (of d)) [])
-    → is_right ≡ cond (counts_in scope is_answered) false was_right
-    → HasPrinted of line AreMore scope old new is_right
-printed_more {D} {X} of line AreGiven AreMore scope old now new d is_answered was_right is_right h so same text right = record {
-  given = h.given ++ d ∷ [];
-  so = so;
-  text =
-      subst (Appends old new) (more_lines of line scope h.given d is_answered same)
-      (Appends-trans old now new (flat_map line (told_in scope (map of h.given))) (cond (counts_in scope is_answered) (line (of d)) [])
-      h.text text);
-  right =
-      right ∙ ap (λ (answered : Bool). cond (counts_in scope answered) false was_right) same
-      ∙ ap (λ (was : Bool). cond (counts_in scope (is_some (of d).by_table)) false was) h.right
-      ∙ none_more (told_in scope (map of h.given)) (of d) (counts_in scope (is_some (of d).by_table))
-      ∙ ap has_none (in_more of scope h.given d);
-}
+module _ {D X : Type 0} {of : D → Stretch X} {line : Stretch X → List ℕ} {AreGiven : List D → Type 0} {scope : Scope}
+    {old : Option (List ℕ)} {is_right : Bool} where
+  pub printed_more : {AreMore : List D → Type 0} {now new : Option (List ℕ)} {is_answered was_right : Bool} (d : D)
+      → (h : HasPrinted of line AreGiven scope old now was_right) → AreMore (h.given ++ d ∷ []) → is_answered ≡ is_some (of d).by_table
+      → Appends now new (cond (counts_in scope is_answered) (line (of d)) [])
+      → is_right ≡ cond (counts_in scope is_answered) false was_right
+      → HasPrinted of line AreMore scope old new is_right
+  printed_more {now = now} {new = new} {is_answered = is_answered} {was_right = was_right} d h so same text right =
+      let counts = counts_in scope (is_some (of d).by_table) in
+      record {
+        given = h.given ++ d ∷ [];
+        so = so;
+        text =
+            subst (Appends old new) (more_lines of line scope h.given d is_answered same)
+            (Appends-trans old now new (flat_map line (told_in scope (map of h.given))) (cond (counts_in scope is_answered) (line (of d)) [])
+            h.text text);
+        right =
+            right ∙ ap (λ (answered : Bool). cond (counts_in scope answered) false was_right) same
+            ∙ ap (λ (was : Bool). cond counts false was) h.right ∙ none_more (told_in scope (map of h.given)) (of d) counts
+            ∙ ap has_none (in_more of scope h.given d);
+      }
 
--- all were given
-pub all_printed : {D X : Type 0} (of : D → Stretch X) (line : Stretch X → List ℕ) (AreGiven : List D → Type 0) (scope : Scope)
-    (f g : Position → Option X) (old new : Option (List ℕ)) (is_right : Bool) (missed : ℕ) (if_right : Option ℕ)
-    → (h : HasPrinted of line AreGiven scope old new is_right) → AreAllStretches f g (map of h.given)
-    → missed ≡ addresses_answered (where_missed g f) → if_right ≡ cond is_right (Some missed) None
-    → ArePrinted line scope f g old new if_right
-all_printed {D} {X} of line AreGiven scope f g old new is_right missed if_right h all missed_is if_right_is = record {
-  stretches = told_in scope (map of h.given);
-  are_all = all_in scope f g (map of h.given) all;
-  text = h.text;
-  missed_is =
-      if_right_is ∙ ap (λ (right : Bool). cond right (Some missed) None) h.right ∙ by_list (told_in scope (map of h.given))
-      ∙ ap (if_none (told_in scope (map of h.given))) missed_is;
-}
-  where
-    by_list : (list : List (Stretch X)) → cond (has_none list) (Some missed) None ≡ if_none list missed
-    by_list [] = refl
-    by_list (first ∷ list) = refl
+  -- all were given
+  pub all_printed : {f g : Position → Option X} {new : Option (List ℕ)} {missed : ℕ} {if_right : Option ℕ}
+      → (h : HasPrinted of line AreGiven scope old new is_right) → AreAllStretches f g (map of h.given)
+      → missed ≡ addresses_answered (where_missed g f) → if_right ≡ cond is_right (Some missed) None
+      → ArePrinted line scope f g old new if_right
+  all_printed {f} {g} {missed = missed} h all missed_is if_right_is = record {
+    stretches = told_in scope (map of h.given);
+    are_all = all_in scope f g (map of h.given) all;
+    text = h.text;
+    missed_is =
+        if_right_is ∙ ap (λ (right : Bool). cond right (Some missed) None) h.right ∙ by_list (told_in scope (map of h.given))
+        ∙ ap (if_none (told_in scope (map of h.given))) missed_is;
+  }
+    where
+      by_list : (list : List (Stretch X)) → cond (has_none list) (Some missed) None ≡ if_none list missed
+      by_list [] = refl
+      by_list (first ∷ list) = refl
 
 -- ---- a writer that was stopped
 
@@ -191,11 +192,10 @@ front_of_all line none (first ∷ told) more old new front =
 abbrev pub HasMore : {D X : Type 0} → (D → Stretch X) → (Position → Option X) → (Position → Option X) → List D → Type 0
 HasMore {D} {X} of f g given = (more : List (Stretch X)) × AreAllStretches f g (map of given ++ more)
 
-front_begun : {D X : Type 0} (of : D → Stretch X) (line : Stretch X → List ℕ) (scope : Scope) (f g : Position → Option X)
-    (old new : Option (List ℕ)) (given : List D) → HasMore of f g given
-    → AppendsFront old new (flat_map line (told_in scope (map of given)))
+front_begun : {D X : Type 0} {line : Stretch X → List ℕ} {scope : Scope} {f g : Position → Option X} {old new : Option (List ℕ)}
+    (of : D → Stretch X) (given : List D) → HasMore of f g given → AppendsFront old new (flat_map line (told_in scope (map of given)))
     → AreDifferencesBegun line scope f g old new
-front_begun {D} {X} of line scope f g old new given later front = record {
+front_begun {X = X} {line = line} {scope = scope} {f = f} {g = g} {old = old} {new = new} of given later front = record {
   stretches = told_in scope (map of given ++ later.0);
   are_all = all_in scope f g (map of given ++ later.0) later.1;
   front =
@@ -204,24 +204,22 @@ front_begun {D} {X} of line scope f g old new given later front = record {
       (front_of_all line (checked_line (answer_if_none scope f g)) (told_in scope (map of given)) (told_in scope later.0) old new front);
 }
 
--- before the next stretch was found
-pub stopped_between : {D X : Type 0} (of : D → Stretch X) (line : Stretch X → List ℕ) (AreGiven : List D → Type 0) (scope : Scope)
-    (f g : Position → Option X) (old new : Option (List ℕ)) (is_right : Bool) → (h : HasPrinted of line AreGiven scope old new is_right)
-    → HasMore of f g h.given → AreDifferencesBegun line scope f g old new
-stopped_between of line AreGiven scope f g old new is_right h later =
-    front_begun of line scope f g old new h.given later (front_all old new _ h.text)
+module _ {D X : Type 0} {of : D → Stretch X} {line : Stretch X → List ℕ} {scope : Scope} {f g : Position → Option X}
+    {old new : Option (List ℕ)} where
+  -- before the next stretch was found
+  pub stopped_between : {AreGiven : List D → Type 0} {is_right : Bool} → (h : HasPrinted of line AreGiven scope old new is_right)
+      → HasMore of f g h.given → AreDifferencesBegun line scope f g old new
+  stopped_between h later = front_begun of h.given later (front_all old new _ h.text)
 
--- within the line of a stretch
-pub stopped_within : {D X : Type 0} (of : D → Stretch X) (line : Stretch X → List ℕ) (AreGiven : List D → Type 0) (scope : Scope)
-    (f g : Position → Option X) (old now new : Option (List ℕ)) (d : D) (is_answered is_right : Bool)
-    → (h : HasPrinted of line AreGiven scope old now is_right) → HasMore of f g (h.given ++ d ∷ []) → is_answered ≡ is_some (of d).by_table
-    → AppendsFront now new (cond (counts_in scope is_answered) (line (of d)) [])
-    → AreDifferencesBegun line scope f g old new
-stopped_within of line AreGiven scope f g old now new d is_answered is_right h later same front =
-    front_begun of line scope f g old new (h.given ++ d ∷ []) later
-    (front_same old new _ _ (more_lines of line scope h.given d is_answered same)
-    (front_after old now new (flat_map line (told_in scope (map of h.given))) (cond (counts_in scope is_answered) (line (of d)) [])
-    h.text front))
+  -- within the line of a stretch
+  pub stopped_within : {AreGiven : List D → Type 0} {now : Option (List ℕ)} {is_answered is_right : Bool} (d : D)
+      → (h : HasPrinted of line AreGiven scope old now is_right) → HasMore of f g (h.given ++ d ∷ []) → is_answered ≡ is_some (of d).by_table
+      → AppendsFront now new (cond (counts_in scope is_answered) (line (of d)) []) → AreDifferencesBegun line scope f g old new
+  stopped_within {now = now} {is_answered = is_answered} d h later same front =
+      front_begun of (h.given ++ d ∷ []) later
+      (front_same old new _ _ (more_lines of line scope h.given d is_answered same)
+      (front_after old now new (flat_map line (told_in scope (map of h.given))) (cond (counts_in scope is_answered) (line (of d)) [])
+      h.text front))
 
 -- ---- the end
 
@@ -242,10 +240,10 @@ whole_text line scope f g [] all section =
     ap checked_line (end_answer scope f g all (addresses_answered (where_missed g f)) section refl)
 whole_text line scope f g (first ∷ stretches) all section = append-nil (flat_map line (first ∷ stretches))
 
-pub end_told : {X : Type 0} (line : Stretch X → List ℕ) (scope : Scope) (f g : Position → Option X) (old now new : Option (List ℕ))
-    (missed : Option ℕ) (all : ℕ) (status : Status) → ArePrinted line scope f g old now missed → all ≡ addresses_answered f
+pub end_told : {X : Type 0} {line : Stretch X → List ℕ} {scope : Scope} {f g : Position → Option X} {old now new : Option (List ℕ)}
+    {missed : Option ℕ} {all : ℕ} {status : Status} → ArePrinted line scope f g old now missed → all ≡ addresses_answered f
     → Appends now new (end_text scope all missed) → status ≡ end_status missed → AreStretchesTold line scope f g old new status
-end_told {X} line scope f g old now new missed all status h section text status_is =
+end_told {X} {line} {scope} {f} {g} {old} {now} {new} {all = all} h section text status_is =
     let number = addresses_answered (where_missed g f) in
     let end : Appends now new (end_text scope all (if_none h.stretches number)) =
     subst (λ (m : Option ℕ). Appends now new (end_text scope all m)) h.missed_is text in
@@ -262,10 +260,10 @@ end_told {X} line scope f g old now new missed all status h section text status_
     by_list number [] = refl
     by_list number (first ∷ list) = refl
 
-pub end_begun : {X : Type 0} (line : Stretch X → List ℕ) (scope : Scope) (f g : Position → Option X) (old now new : Option (List ℕ))
-    (missed : Option ℕ) (all : ℕ) → ArePrinted line scope f g old now missed → all ≡ addresses_answered f
+pub end_begun : {X : Type 0} {line : Stretch X → List ℕ} {scope : Scope} {f g : Position → Option X} {old now new : Option (List ℕ)}
+    {missed : Option ℕ} {all : ℕ} → ArePrinted line scope f g old now missed → all ≡ addresses_answered f
     → AppendsFront now new (end_text scope all missed) → AreDifferencesBegun line scope f g old new
-end_begun {X} line scope f g old now new missed all h section front =
+end_begun {X} {line} {scope} {f} {g} {old} {now} {new} {all = all} h section front =
     let number = addresses_answered (where_missed g f) in
     record {
       stretches = h.stretches;

@@ -22,14 +22,23 @@ use Rattle.lnt_records.specs.declared.fault.TableFault.TheVariants as fault
 use Rattle.lnt_records.specs.declared.remaining.Remaining.{Remaining}
 use Rattle.lnt_records.specs.Comparisons.{in_versions, tables_by_number}
 use Rattle.lnt_records.specs.Differing.{IsDiffering}
-use Rattle.lnt_records.specs.Faults.{IsFault}
+use Rattle.lnt_records.specs.Faults.{IsFault, IsUnnumbered}
 use Rattle.lnt_records.proofs.ComparedLaws.{where_so}
 use Rattle.lnt_lines.specs.Indexed.{Indexed}
 use Rattle.lnt_sequences.specs.Sequences.{line_answer}
 use Rattle.lnt_table.specs.declared.within.Scope.{Scope}
 use Rattle.lnt_table.specs.Verdicts.{no_of_fault}
-use Rattle.lnt_table.proofs.CheckLemmas.{told_addresses}
+use Rattle.lnt_table.proofs.CheckLemmas.{each_known, told_addresses}
 use Rattle.lnt_answers.proofs.ScopeLemmas.{HasMore}
+use Rattle.lnt_answers.proofs.PathStretchLemmas.{ForPathDifferences, for_path_units, HasStarted}
+use Rattle.lnt_answers.specs.DifferenceLines.{AreDifferencesBegun, path_stretch_line, stretch_line}
+use Rattle.lnt_paths.specs.declared.held.HeldSpan.{HeldSpan}
+use Rattle.lnt_paths.specs.declared.stretches.DifferencesByPath.{DifferencesByPath}
+use Rattle.lnt_paths.specs.declared.version.PathVersion.{PathVersion}
+use Rattle.lnt_paths.specs.Held.{held_span}
+use Rattle.lnt_paths.specs.PathSpans.{StandInOrder}
+use Rattle.lnt_paths.specs.PathTables.{IsPathTableOf}
+use Rattle.lnt_table.specs.ByPath.{indexed_path}
 use Rattle.lnt_answers.specs.Stretches.{AreStretchesBegun, IsFaultByPath, IsSoOfRows}
 use Rattle.lnt_table.specs.FaultTexts.{table_no_text}
 
@@ -68,21 +77,44 @@ more_stretches of_section of_table differences f g given told =
 abbrev pub IsNoHeader : {S : Type 0} → Differing S → Type 0
 IsNoHeader found = found ≢ Fault fault.Header
 
--- within the line of the fault of a table of version 1 or 2
-pub fault_begun : (S : Type 0) (scope : Scope) (index : Indexed) (dead : Option ℕ) (skip : Bool) (units : List (ℕ × UnitParts))
-    (table old new : Option (List ℕ)) (told : TableFault) → IfSome table (λ text. IsFault text told × IsNoHeader {S = S} (Fault told))
-    → AppendsFront old new (table_no_text (no_of_fault told) ++ codes "\n")
-    → IfSome table (λ text. AreStretchesBegun scope index dead skip units text old new)
-fault_begun S scope index dead skip units None old new told is front = tt
-fault_begun S scope index dead skip units (Some text) old new told is front =
-    inl (record { told = told; is_so = (is.0, λ e. is.1 (ap (λ (t : TableFault). Fault t) e)); front = front })
+-- ---- a writer that was stopped
 
--- within the line of the fault of a table by path
-pub path_fault_begun : (scope : Scope) (index : Indexed) (dead : Option ℕ) (skip : Bool) (units : List (ℕ × UnitParts))
-    (table old new : Option (List ℕ)) (told : TableFault)
-    → IfSome table (λ text. IsFaultByPath text told)
-    → AppendsFront old new (table_no_text (no_of_fault told) ++ codes "\n")
-    → IfSome table (λ text. AreStretchesBegun scope index dead skip units text old new)
-path_fault_begun scope index dead skip units None old new told is front = tt
-path_fault_begun scope index dead skip units (Some text) old new told is front =
-    inr (inr (inl (record { told = told; is_so = is; front = front })))
+module _ (scope : Scope) (index : Indexed) (dead : Option ℕ) (skip : Bool) (units : List (ℕ × UnitParts)) where
+  -- within the line of the fault of a table of version 1 or 2
+  pub fault_begun : (S : Type 0) (table : Option (List ℕ)) {old new : Option (List ℕ)} (told : TableFault)
+      → IfSome table (λ text. IsFault text told × IsNoHeader {S = S} (Fault told))
+      → AppendsFront old new (table_no_text (no_of_fault told) ++ codes "\n")
+      → IfSome table (λ text. AreStretchesBegun scope index dead skip units text old new)
+  fault_begun S None told is front = tt
+  fault_begun S (Some text) told is front =
+      inl (record { told = told; is_so = (is.0, λ e. is.1 (ap (λ (t : TableFault). Fault t) e)); front = front })
+
+  -- within the line of the fault of a table by path
+  pub path_fault_begun : (table : Option (List ℕ)) {old new : Option (List ℕ)} (told : TableFault)
+      → IfSome table (λ text. IsFaultByPath text told) → AppendsFront old new (table_no_text (no_of_fault told) ++ codes "\n")
+      → IfSome table (λ text. AreStretchesBegun scope index dead skip units text old new)
+  path_fault_begun None told is front = tt
+  path_fault_begun (Some text) told is front = inr (inr (inl (record { told = told; is_so = is; front = front })))
+
+  -- within the lines of stretches, by number
+  pub numbered_begun : {S : Type 0} (of_section : Remaining S → List Span → Type 0) (of_table : SpanList → List Span → Type 0)
+      (table old new : Option (List ℕ)) {differences given : Differences (Remaining S) SpanList} → given ≡ differences
+      → IfSome table (λ text. IsDiffering of_section of_table text (line_answer dead skip units) (Table differences)
+      × (Table differences ≢ Fault fault.Header))
+      → ForDifferences of_section of_table given (addresses_answered (line_answer dead skip units))
+      (λ f g. AreDifferencesBegun stretch_line scope f g old new)
+      → IfSome table (λ text. AreStretchesBegun scope index dead skip units text old new)
+  numbered_begun of_section of_table table old new {differences} {given} same d p =
+      each_known table _ _ (for_units of_section of_table differences given dead skip units table _ same d p) (λ text is. inr (inl is))
+
+  -- and by path
+  pub path_begun : {S : Type 0} (to_come : S → List Span → Type 0) (differences : DifferencesByPath S) (version : PathVersion)
+      (table old new : Option (List ℕ)) {path : ℕ → ℕ → List ℕ} {spans slice : List HeldSpan} → slice ≡ spans → path ≡ indexed_path index
+      → IfSome table (λ text. IsUnnumbered text × IsPathTableOf version text (map held_span spans))
+      → StandInOrder (map held_span spans) → HasStarted to_come index differences version dead skip units slice
+      → ForPathDifferences to_come path differences (addresses_answered (line_answer dead skip units))
+      (λ f g. AreDifferencesBegun path_stretch_line scope f g old new)
+      → IfSome table (λ text. AreStretchesBegun scope index dead skip units text old new)
+  path_begun to_come differences version table old new {path} {spans} {slice} same by is order started p =
+      each_known table _ _ (for_path_units to_come index path differences version spans slice dead skip units table _ same by is order
+      started p) (λ text told. inr (inr (inr told)))

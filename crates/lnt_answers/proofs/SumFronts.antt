@@ -1,5 +1,5 @@
 -- A writer that has gained a front of the lines of findings.
-use Rattle.std.proofs.Common.{◌≡◌, ◌∙◌, ℕ, ◌+◌, ◌-◌, ◌<◌, zero, suc, List, [], ◌++◌, append-nil, append_assoc}
+use Rattle.std.proofs.Common.{◌≡◌, ◌∙◌, ℕ, ◌+◌, ◌<◌, suc, List, [], ◌++◌, append-nil, append_assoc}
 use Rattle.std.proofs.Common.{length, get_or, take, drop}
 use Rattle.std.proofs.Common.{Option, Some, None, ap, codes, refl, sym, subst, map, arith, take-append-drop}
 use Rattle.std.specs.List.{flat_map}
@@ -17,7 +17,8 @@ use Rattle.lnt_files.specs.Paths.{path_or_empty}
 use Rattle.lnt_answers.specs.SumLines.{AreSumsBegun, AreSumsTold, IsTrueOfFile, found_status, found_text, head_text}
 use Rattle.lnt_answers.specs.SumLines.{listed_at, listed_below, listed_in, file_of, sum_line}
 use Rattle.lnt_answers.proofs.SumLaws.{true_later}
-use Rattle.lnt_answers.proofs.SumLemmas.{sum_listed, true_joined, units_more}
+use Rattle.lnt_answers.proofs.FileLemmas.{front_of_later, lists_of_more}
+use Rattle.lnt_answers.proofs.SumLemmas.{sum_listed, true_joined}
 
 -- ---- joins
 
@@ -29,21 +30,6 @@ begun_before tells index files more old new so = record {
   places = sym (append_assoc (map file_of so.findings) so.rest more) ∙ ap (λ (list : List (ℕ × ℕ)). list ++ more) so.places;
   are_true = so.are_true;
   front = so.front;
-}
-
-begun_after : (tells tells' : List ℕ → FileState → Type 0) (index : Indexed) (files more : List (ℕ × ℕ)) (a b c : Option (List ℕ))
-    (s : Status) → TellsNoMore tells tells' → AreSumsTold tells index files a b s → AreSumsBegun tells' index more b c
-    → AreSumsBegun tells index (files ++ more) a c
-begun_after tells tells' index files more a b c s later so next = record {
-  findings = so.findings ++ next.findings;
-  rest = next.rest;
-  places = ap (λ (list : List (ℕ × ℕ)). list ++ next.rest)
-      (map-append file_of so.findings next.findings ∙ ap (λ (list : List (ℕ × ℕ)). list ++ map file_of next.findings) so.places)
-      ∙ append_assoc files (map file_of next.findings) next.rest ∙ ap (λ (list : List (ℕ × ℕ)). files ++ list) next.places;
-  are_true = true_joined tells index so.findings next.findings so.are_true
-      (true_later tells tells' index next.findings later next.are_true);
-  front = front_same a c _ _ (sym (flat_map-append (sum_line index) so.findings next.findings))
-      (front_after a b c (flat_map (sum_line index) so.findings) (flat_map (sum_line index) next.findings) so.printed next.front);
 }
 
 front_of : (old new : Option (List ℕ)) (whole texts : List ℕ) → Appends old (append_known old whole) texts → AppendsFront old new whole
@@ -77,48 +63,43 @@ sum_stopped tells index unit file a b listed path shown bytes found is path_is s
       front = front_of a b text (flat_map (sum_line index) told.findings) told.printed (front_same a b bytes text same f);
     }
 
--- ---- the files of a unit
+-- ---- within the files
 
-listed_after : (index : Indexed) (unit file k : ℕ)
-    → (rest : List (ℕ × ℕ)) × (listed_below index unit (suc file) ++ rest ≡ listed_below index unit (k + suc file))
-listed_after index unit file zero =
-    let first = listed_below index unit (suc file) in
-    let same : suc file ≡ 0 + suc file = omega arith in
-    ([], subst (λ (n : ℕ). first ++ [] ≡ listed_below index unit n) same (append-nil first))
-listed_after index unit file (suc k) =
-    let first = listed_below index unit (suc file) in
-    let before = listed_after index unit file k in
-    let here = listed_at index unit (k + suc file) in
-    let next : suc (k + suc file) ≡ suc k + suc file = omega arith in (
-      before.0 ++ here,
-      subst (λ (n : ℕ). first ++ (before.0 ++ here) ≡ listed_below index unit n) next
-          (sym (append_assoc first before.0 here) ∙ ap (λ (l : List (ℕ × ℕ)). l ++ here) before.1),
-    )
+module _ {tells tells' : List ℕ → FileState → Type 0} {index : Indexed} {a b c : Option (List ℕ)} {s : Status}
+    (later : TellsNoMore tells tells') where
+  begun_after : {files more : List (ℕ × ℕ)} → AreSumsTold tells index files a b s → AreSumsBegun tells' index more b c
+      → AreSumsBegun tells index (files ++ more) a c
+  begun_after {files} {more} so next = record {
+    findings = so.findings ++ next.findings;
+    rest = next.rest;
+    places = ap (λ (list : List (ℕ × ℕ)). list ++ next.rest)
+        (map-append file_of so.findings next.findings ∙ ap (λ (list : List (ℕ × ℕ)). list ++ map file_of next.findings) so.places)
+        ∙ append_assoc files (map file_of next.findings) next.rest ∙ ap (λ (list : List (ℕ × ℕ)). files ++ list) next.places;
+    are_true = true_joined tells index so.findings next.findings so.are_true
+        (true_later tells tells' index next.findings later next.are_true);
+    front = front_same a c _ _ (sym (flat_map-append (sum_line index) so.findings next.findings))
+        (front_after a b c (flat_map (sum_line index) so.findings) (flat_map (sum_line index) next.findings) so.printed next.front);
+  }
 
-pub sums_stopped : (tells tells' : List ℕ → FileState → Type 0) (index : Indexed) (unit file count : ℕ) (a b c : Option (List ℕ))
-    (s : Status) → file < count → TellsNoMore tells tells' → AreSumsTold tells index (listed_below index unit file) a b s
-    → AreSumsBegun tells' index (listed_at index unit file) b c → AreSumsBegun tells index (listed_below index unit count) a c
-sums_stopped tells tells' index unit file count a b c s lt later so next =
-    let after = listed_after index unit file (count - suc file) in
-    let all : (count - suc file) + suc file ≡ count = omega arith in
-    let here = begun_after tells tells' index (listed_below index unit file) (listed_at index unit file) a b c s later so next in
-    let more = begun_before tells index (listed_below index unit (suc file)) after.0 a c here in
-    subst (λ (list : List (ℕ × ℕ)). AreSumsBegun tells index list a c) (after.1 ∙ ap (listed_below index unit) all) more
+  -- of a unit
+  pub sums_stopped : (unit file count : ℕ) → file < count → AreSumsTold tells index (listed_below index unit file) a b s
+      → AreSumsBegun tells' index (listed_at index unit file) b c → AreSumsBegun tells index (listed_below index unit count) a c
+  sums_stopped unit file count lt so next =
+      let after = front_of_later (listed_below index unit) (listed_at index unit) (λ n. refl) (suc file) count (omega (arith, lt)) in
+      subst (λ (list : List (ℕ × ℕ)). AreSumsBegun tells index list a c) after.1
+      (begun_before tells index (listed_below index unit (suc file)) after.0 a c (begun_after so next))
 
--- ---- the files of all units
-
-pub units_stopped : (tells tells' : List ℕ → FileState → Type 0) (index : Indexed) (units : List ℕ) (i d : ℕ)
-    (a b c : Option (List ℕ)) (s : Status) → i < length units → TellsNoMore tells tells'
-    → AreSumsTold tells index (flat_map (listed_in index) (take i units)) a b s
-    → AreSumsBegun tells' index (listed_in index (get_or units i d)) b c
-    → AreSumsBegun tells index (flat_map (listed_in index) units) a c
-units_stopped tells tells' index units i d a b c s lt later so next =
-    let front = flat_map (listed_in index) (take i units) in
-    let unit = listed_in index (get_or units i d) in
-    let rest = flat_map (listed_in index) (drop (i + 1) units) in
-    let all : (front ++ unit) ++ rest ≡ flat_map (listed_in index) units =
-    ap (λ (list : List (ℕ × ℕ)). list ++ rest) (sym (units_more index units i d lt))
-    ∙ sym (flat_map-append (listed_in index) (take (i + 1) units) (drop (i + 1) units))
-    ∙ ap (flat_map (listed_in index)) (take-append-drop (i + 1) units) in
-    subst (λ (list : List (ℕ × ℕ)). AreSumsBegun tells index list a c) all
-    (begun_before tells index (front ++ unit) rest a c (begun_after tells tells' index front unit a b c s later so next))
+  -- of all units
+  pub units_stopped : (units : List ℕ) (i d : ℕ) → i < length units
+      → AreSumsTold tells index (flat_map (listed_in index) (take i units)) a b s
+      → AreSumsBegun tells' index (listed_in index (get_or units i d)) b c → AreSumsBegun tells index (flat_map (listed_in index) units) a c
+  units_stopped units i d lt so next =
+      let front = flat_map (listed_in index) (take i units) in
+      let unit = listed_in index (get_or units i d) in
+      let rest = flat_map (listed_in index) (drop (i + 1) units) in
+      let all : (front ++ unit) ++ rest ≡ flat_map (listed_in index) units =
+      ap (λ (list : List (ℕ × ℕ)). list ++ rest) (sym (lists_of_more (listed_in index) units i d lt))
+      ∙ sym (flat_map-append (listed_in index) (take (i + 1) units) (drop (i + 1) units))
+      ∙ ap (flat_map (listed_in index)) (take-append-drop (i + 1) units) in
+      subst (λ (list : List (ℕ × ℕ)). AreSumsBegun tells index list a c) all
+      (begun_before tells index (front ++ unit) rest a c (begun_after so next))

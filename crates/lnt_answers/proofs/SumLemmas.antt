@@ -5,7 +5,7 @@ use Rattle.std.specs.List.{AllByRecursion, flat_map}
 use Rattle.std.specs.Option.{option_map_or}
 use Rattle.std.specs.Io.KnownBytes.{Appends}
 use Rattle.std.proofs.KnownBytes.{Appends-trans}
-use Rattle.std.proofs.lemmas.List.{map-append, take_all, take_more}
+use Rattle.std.proofs.lemmas.List.{map-append, take_all}
 use Rattle.std.proofs.lemmas.List.Concat.{flat_map-append}
 use Rattle.lnt_io.specs.Files.{FileState, TellsNoMore}
 use Rattle.lnt_io.specs.declared.status.Status.{Status}
@@ -15,6 +15,7 @@ use Rattle.lnt_answers.specs.declared.digest.Agreement.TheVariants.{Same, Differ
 use Rattle.lnt_text.specs.Quotes.{quoted_text}
 use Rattle.lnt_lines.specs.Indexed.{file_path_in, file_sum_in, Indexed}
 use Rattle.lnt_files.specs.Paths.{path_or_empty}
+use Rattle.lnt_answers.proofs.FileLemmas.{lists_of_more}
 use Rattle.lnt_answers.proofs.SumLaws.{true_later}
 use Rattle.lnt_answers.specs.SumLines.{AreSumsTold, Finding, IsTrueFinding, IsTrueOfFile, both, file_of, found_status, found_text}
 use Rattle.lnt_answers.specs.SumLines.{head_text, listed_at, listed_below, listed_in, sum_line, sums_status}
@@ -42,20 +43,37 @@ status_alone None = refl
 status_alone (Some Same) = refl
 status_alone (Some (Differs sum)) = refl
 
-sums_joined : (tells tells' : List ℕ → FileState → Type 0) (index : Indexed) (files more : List (ℕ × ℕ)) (a b c : Option (List ℕ))
-    (s t : Status) → TellsNoMore tells tells' → AreSumsTold tells index files a b s → AreSumsTold tells' index more b c t
-    → AreSumsTold tells index (files ++ more) a c (both s t)
-sums_joined tells tells' index files more a b c s t later so next = record {
-  findings = so.findings ++ next.findings;
-  places = map-append file_of so.findings next.findings ∙ ap (λ list. list ++ map file_of next.findings) so.places
-      ∙ ap (λ list. files ++ list) next.places;
-  are_true = true_joined tells index so.findings next.findings so.are_true
-      (true_later tells tells' index next.findings later next.are_true);
-  printed = subst (Appends a c) (sym (flat_map-append (sum_line index) so.findings next.findings))
-      (Appends-trans a b c (flat_map (sum_line index) so.findings) (flat_map (sum_line index) next.findings) so.printed next.printed);
-  status_is = ap (λ status. both status t) so.status_is ∙ ap (both (sums_status so.findings)) next.status_is
-      ∙ sym (status_joined so.findings next.findings);
-}
+module _ {tells tells' : List ℕ → FileState → Type 0} {index : Indexed} {a b c : Option (List ℕ)} {s t : Status}
+    (later : TellsNoMore tells tells') where
+  sums_joined : {files more : List (ℕ × ℕ)} → AreSumsTold tells index files a b s → AreSumsTold tells' index more b c t
+      → AreSumsTold tells index (files ++ more) a c (both s t)
+  sums_joined {files} so next = record {
+    findings = so.findings ++ next.findings;
+    places = map-append file_of so.findings next.findings ∙ ap (λ list. list ++ map file_of next.findings) so.places
+        ∙ ap (λ list. files ++ list) next.places;
+    are_true = true_joined tells index so.findings next.findings so.are_true
+        (true_later tells tells' index next.findings later next.are_true);
+    printed = subst (Appends a c) (sym (flat_map-append (sum_line index) so.findings next.findings))
+        (Appends-trans a b c (flat_map (sum_line index) so.findings) (flat_map (sum_line index) next.findings) so.printed next.printed);
+    status_is = ap (λ status. both status t) so.status_is ∙ ap (both (sums_status so.findings)) next.status_is
+        ∙ sym (status_joined so.findings next.findings);
+  }
+
+  -- with one file of a unit more
+  pub sums_more : (unit file : ℕ) → AreSumsTold tells index (listed_below index unit file) a b s
+      → AreSumsTold tells' index (listed_at index unit file) b c t
+      → AreSumsTold tells index (listed_below index unit (file + 1)) a c (both s t)
+  sums_more unit file so next =
+      let step : suc file ≡ file + 1 = omega arith in
+      subst (λ (n : ℕ). AreSumsTold tells index (listed_below index unit n) a c (both s t)) step (sums_joined so next)
+
+  -- with the files of one unit more
+  pub sums_of_more : (units : List ℕ) (i d : ℕ) → i < length units → AreSumsTold tells index (flat_map (listed_in index) (take i units)) a b s
+      → AreSumsTold tells' index (listed_in index (get_or units i d)) b c t
+      → AreSumsTold tells index (flat_map (listed_in index) (take (i + 1) units)) a c (both s t)
+  sums_of_more units i d lt so next =
+      subst (λ (files : List (ℕ × ℕ)). AreSumsTold tells index files a c (both s t)) (sym (lists_of_more (listed_in index) units i d lt))
+      (sums_joined so next)
 
 -- ---- the files of a unit
 
@@ -83,39 +101,10 @@ sum_listed tells index unit file a b listed path shown found status is path_is s
       status_is = status_is ∙ status_alone found;
     }
 
--- with one file more
-pub sums_more : (tells tells' : List ℕ → FileState → Type 0) (index : Indexed) (unit file : ℕ) (a b c : Option (List ℕ))
-    (s t : Status) → TellsNoMore tells tells' → AreSumsTold tells index (listed_below index unit file) a b s
-    → AreSumsTold tells' index (listed_at index unit file) b c t
-    → AreSumsTold tells index (listed_below index unit (file + 1)) a c (both s t)
-sums_more tells tells' index unit file a b c s t later so next =
-    let step : suc file ≡ file + 1 = omega arith in
-    subst (λ (n : ℕ). AreSumsTold tells index (listed_below index unit n) a c (both s t)) step
-    (sums_joined tells tells' index (listed_below index unit file) (listed_at index unit file) a b c s t later so next)
-
 -- ---- the files of all units
 
-pub units_more : (index : Indexed) (units : List ℕ) (i d : ℕ) → i < length units
-    → flat_map (listed_in index) (take (i + 1) units) ≡ flat_map (listed_in index) (take i units) ++ listed_in index (get_or units i d)
-units_more index units i d lt =
-    ap (flat_map (listed_in index)) (take_more units i d lt)
-    ∙ flat_map-append (listed_in index) (take i units) (get_or units i d ∷ [])
-    ∙ ap (λ list. flat_map (listed_in index) (take i units) ++ list) (append-nil (listed_in index (get_or units i d)))
-
--- with one unit more
-pub sums_of_more : (tells tells' : List ℕ → FileState → Type 0) (index : Indexed) (units : List ℕ) (i d : ℕ) (a b c : Option (List ℕ))
-    (s t : Status) → i < length units → TellsNoMore tells tells'
-    → AreSumsTold tells index (flat_map (listed_in index) (take i units)) a b s
-    → AreSumsTold tells' index (listed_in index (get_or units i d)) b c t
-    → AreSumsTold tells index (flat_map (listed_in index) (take (i + 1) units)) a c (both s t)
-sums_of_more tells tells' index units i d a b c s t lt later so next =
-    subst (λ (files : List (ℕ × ℕ)). AreSumsTold tells index files a c (both s t)) (sym (units_more index units i d lt))
-    (sums_joined tells tells' index (flat_map (listed_in index) (take i units)) (listed_in index (get_or units i d)) a b c s t later so
-    next)
-
--- with all of them
-pub sums_of_all : (tells : List ℕ → FileState → Type 0) (index : Indexed) (units : List ℕ) (i : ℕ) (a b : Option (List ℕ))
-    (s : Status) → length units ≤ i → AreSumsTold tells index (flat_map (listed_in index) (take i units)) a b s
+pub sums_of_all : {tells : List ℕ → FileState → Type 0} {index : Indexed} {a b : Option (List ℕ)} {s : Status} (units : List ℕ) (i : ℕ)
+    → length units ≤ i → AreSumsTold tells index (flat_map (listed_in index) (take i units)) a b s
     → AreSumsTold tells index (flat_map (listed_in index) units) a b s
-sums_of_all tells index units i a b s le so =
+sums_of_all {tells} {index} {a} {b} {s} units i le so =
     subst (λ (list : List ℕ). AreSumsTold tells index (flat_map (listed_in index) list) a b s) (take_all i units le) so

@@ -35,77 +35,58 @@ use Rattle.lnt_wire.specs.declared.frame.Frame.{Frame}
 use Rattle.lnt_dump.specs.declared.dump.DumpParts.{DumpParts}
 use Rattle.lnt_dump.specs.Dumps.{BeginsWithUnits, DoesNotRun, FramedUnit, IsDumpBegun, IsDumped, IsDumpedUnit, IsDumpFault}
 use Rattle.lnt_dump.specs.Dumps.{fault_line, fault_status, unit_lines}
-use Rattle.lnt_dump.specs.Stepping.{IsFaultOf, IsUnitOf, UnitBegun, UnitEnds, UnitTold}
+use Rattle.lnt_dump.specs.Stepping.{IsFaultOf, IsUnitOf, UnitBegun, UnitEnds, UnitEndsSo, UnitTold}
 use Rattle.lnt_dump.proofs.Frames.{flat_push, FramesRead, IsNextFramed, read_more, read_none}
 
 -- ---- one unit
 
--- the line of any fault
-pub faulty_told : {offset : ℕ} (shown : DumpParts) (frame : Frame) (unit : BufferedUnit) (fault : RowFault) (old new : Option (List ℕ))
-    (printed : Result Status Halt) → offset ≡ unit.offset → IsFaultOf unit shown.rows fault → IfOk printed (λ status. status ≡ No)
-    → OnOk printed (Appends old new (fault_line offset (Some fault))) → IfOk printed (UnitTold shown frame unit old new)
-faulty_told {offset} shown frame unit fault old new (Ok status) at is is_no line = record {
+abbrev faulty_so : {shown : DumpParts} {frame : Frame} {unit : BufferedUnit} {IsSo : List ℕ → Type 0} (offset : ℕ) (fault : RowFault)
+    → offset ≡ unit.offset → IsFaultOf unit shown.rows fault → IsSo (fault_line offset (Some fault)) → UnitEndsSo shown frame unit IsSo
+faulty_so offset fault at is so = record {
   fault = Some fault;
   text = fault_line offset (Some fault);
   ends = (is, ap (λ (n : ℕ). fault_line n (Some fault)) at);
-  printed = line;
-  status_is = is_no;
+  so = so;
 }
-faulty_told shown frame unit fault old new (Err halt) at is is_no line = tt
 
-pub faulty_begun : {offset : ℕ} (shown : DumpParts) (frame : Frame) (unit : BufferedUnit) (fault : RowFault) (old new : Option (List ℕ))
-    (printed : Result Status Halt) → offset ≡ unit.offset → IsFaultOf unit shown.rows fault
-    → OnErr printed (AppendsFront old new (fault_line offset (Some fault)))
-    → OnErr printed (Keeps old new ⊎ UnitBegun shown frame unit old new)
-faulty_begun shown frame unit fault old new (Ok status) at is line = tt
-faulty_begun {offset} shown frame unit fault old new (Err halt) at is line = inr (record {
-  fault = Some fault;
-  text = fault_line offset (Some fault);
-  ends = (is, ap (λ (n : ℕ). fault_line n (Some fault)) at);
-  begun = line;
-})
+module _ (shown : DumpParts) (frame : Frame) (unit : BufferedUnit) (old new : Option (List ℕ)) where
+  -- the line of any fault
+  pub faulty_told : {offset : ℕ} (fault : RowFault) (printed : Result Status Halt) → offset ≡ unit.offset → IsFaultOf unit shown.rows fault
+      → IfOk printed (λ status. status ≡ No) → OnOk printed (Appends old new (fault_line offset (Some fault)))
+      → IfOk printed (UnitTold shown frame unit old new)
+  faulty_told {offset} fault (Ok status) at is is_no line = (faulty_so offset fault at is line, is_no)
+  faulty_told fault (Err halt) at is is_no line = tt
 
--- the line of bytes that are no unit
-pub broken_told : (shown : DumpParts) (frame : Frame) (unit : BufferedUnit) (fault : Fault) (old new : Option (List ℕ))
-    (printed : Result Status Halt) → (fault.reason ≢ Memory → BrokenUnit unit.order fault unit.offset unit.bytes)
-    → OnOk printed (fault.reason ≢ Memory) → IfOk printed (λ status. status ≡ No)
-    → OnOk printed (Appends old new (malformed_text fault ++ codes "\n")) → IfOk printed (UnitTold shown frame unit old new)
-broken_told shown frame unit fault old new (Ok status) broken other is_no line =
-    faulty_told shown frame unit (Malformed fault) old new (Ok status) refl (broken other) is_no line
-broken_told shown frame unit fault old new (Err halt) broken other is_no line = tt
+  pub faulty_begun : {offset : ℕ} (fault : RowFault) (printed : Result Status Halt) → offset ≡ unit.offset → IsFaultOf unit shown.rows fault
+      → OnErr printed (AppendsFront old new (fault_line offset (Some fault)))
+      → OnErr printed (Keeps old new ⊎ UnitBegun shown frame unit old new)
+  faulty_begun fault (Ok status) at is line = tt
+  faulty_begun {offset} fault (Err halt) at is line = inr (faulty_so offset fault at is line)
 
-pub broken_begun : (shown : DumpParts) (frame : Frame) (unit : BufferedUnit) (fault : Fault) (old new : Option (List ℕ))
-    (printed : Result Status Halt) → (fault.reason ≢ Memory → BrokenUnit unit.order fault unit.offset unit.bytes)
-    → OnErr printed (Keeps old new ⊎ (fault.reason ≢ Memory)) → OnErr printed (AppendsFront old new (malformed_text fault ++ codes "\n"))
-    → OnErr printed (Keeps old new ⊎ UnitBegun shown frame unit old new)
-broken_begun shown frame unit fault old new (Ok status) broken other line = tt
-broken_begun shown frame unit fault old new (Err halt) broken (inl kept) line = inl kept
-broken_begun shown frame unit fault old new (Err halt) broken (inr other) line =
-    faulty_begun shown frame unit (Malformed fault) old new (Err halt) refl (broken other) line
+  -- the line of bytes that are no unit
+  module _ (fault : Fault) (broken : fault.reason ≢ Memory → BrokenUnit unit.order fault unit.offset unit.bytes) where
+    pub broken_told : (printed : Result Status Halt) → OnOk printed (fault.reason ≢ Memory) → IfOk printed (λ status. status ≡ No)
+        → OnOk printed (Appends old new (malformed_text fault ++ codes "\n")) → IfOk printed (UnitTold shown frame unit old new)
+    broken_told (Ok status) other is_no line = faulty_told (Malformed fault) (Ok status) refl (broken other) is_no line
+    broken_told (Err halt) other is_no line = tt
 
--- the lines of a unit
-pub valid_told : {shown : DumpParts} {frame : Frame} {old new : Option (List ℕ)} (view : View)
+    pub broken_begun : (printed : Result Status Halt) → OnErr printed (Keeps old new ⊎ (fault.reason ≢ Memory))
+        → OnErr printed (AppendsFront old new (malformed_text fault ++ codes "\n"))
+        → OnErr printed (Keeps old new ⊎ UnitBegun shown frame unit old new)
+    broken_begun (Ok status) other line = tt
+    broken_begun (Err halt) (inl kept) line = inl kept
+    broken_begun (Err halt) (inr other) line = faulty_begun (Malformed fault) (Err halt) refl (broken other) line
+
+-- of the lines of a unit
+abbrev pub valid_so : {shown : DumpParts} {frame : Frame} {IsSo : List ℕ → Type 0} (view : View)
     → (sound : (ops : List Op) × IsUnitOf view ops × (IsTrue shown.rows → Runs (with_ops view ops)))
-    → ((ops : List Op) → IsUnitOf view ops → Appends old new (unit_lines shown (frame, with_ops view ops)))
-    → UnitTold shown frame view.unit old new Done
-valid_told {shown} {frame} view (ops, is, runs) lines = record {
+    → ((ops : List Op) → IsUnitOf view ops → IsSo (unit_lines shown (frame, with_ops view ops))) → UnitEndsSo shown frame view.unit IsSo
+valid_so {shown} {frame} view (ops, is, runs) so = record {
   fault = None;
   text = unit_lines shown (frame, with_ops view ops);
   ends = (with_ops view ops, is, runs, refl);
-  printed = lines ops is;
-  status_is = refl;
+  so = so ops is;
 }
-
-pub valid_begun : (shown : DumpParts) (frame : Frame) (view : View) (old new : Option (List ℕ))
-    → (sound : (ops : List Op) × IsUnitOf view ops × (IsTrue shown.rows → Runs (with_ops view ops)))
-    → ((ops : List Op) → IsUnitOf view ops → AppendsFront old new (unit_lines shown (frame, with_ops view ops)))
-    → Keeps old new ⊎ UnitBegun shown frame view.unit old new
-valid_begun shown frame view old new (ops, is, runs) lines = inr (record {
-  fault = None;
-  text = unit_lines shown (frame, with_ops view ops);
-  ends = (with_ops view ops, is, runs, refl);
-  begun = lines ops is;
-})
 
 -- ---- the units so far
 
@@ -300,7 +281,7 @@ module _ {order : Order} {shown : DumpParts} {start mid now old then : Option (L
   -- it was printed
   pub units_more : {new : Option (List ℕ)} {status : Status} → UnitTold shown frame unit then new status → (status ≡ No → ⊥)
       → UnitsTold order shown start now old new next_order after
-  units_more {new} {status} one goes_on = by_fault one.fault one.ends one.status_is
+  units_more {new} {status} (one, status_is) goes_on = by_fault one.fault one.ends status_is
     where
       by_fault : (fault : Option RowFault) → UnitEnds shown frame unit fault one.text → status ≡ fault_status fault
           → UnitsTold order shown start now old new next_order after
@@ -311,13 +292,13 @@ module _ {order : Order} {shown : DumpParts} {start mid now old then : Option (L
         each = dumped spelled runs;
         printed = subst (Appends old new) (flat_push (unit_lines shown) told.units (frame, parts))
             (Appends-trans old then new (flat_map (unit_lines shown) told.units) (unit_lines shown (frame, parts)) told.printed
-            (subst (Appends then new) text_is one.printed));
+            (subst (Appends then new) text_is one.so));
       }
 
   -- it is faulty, and so the last one
   pub units_broken : {new : Option (List ℕ)} {status : Status} → UnitTold shown frame unit then new status → status ≡ No
       → IsDumped order shown start old new No
-  units_broken {new} {status} one is_no = by_fault one.fault one.ends one.status_is
+  units_broken {new} {status} (one, status_is) is_no = by_fault one.fault one.ends status_is
     where
       by_fault : (fault : Option RowFault) → UnitEnds shown frame unit fault one.text → status ≡ fault_status fault
           → IsDumped order shown start old new No
@@ -325,7 +306,7 @@ module _ {order : Order} {shown : DumpParts} {start mid now old then : Option (L
       by_fault (Some fault) ends is =
           ends_faulty told fault (faulty fault ends.0)
           (subst (λ (at : ℕ). Appends then new (fault_line at (Some fault))) n.next.offset_is
-          (subst (Appends then new) ends.1 one.printed))
+          (subst (Appends then new) ends.1 one.so))
 
   -- a front of it is written
   pub units_cut : {new : Option (List ℕ)} → Keeps then new ⊎ UnitBegun shown frame unit then new → IsDumpBegun order shown start old new
@@ -336,7 +317,7 @@ module _ {order : Order} {shown : DumpParts} {start mid now old then : Option (L
       by_fault (Some fault) ends =
           begun_faulty told fault (faulty fault ends.0)
           (subst (λ (at : ℕ). AppendsFront then new (fault_line at (Some fault))) n.next.offset_is
-          (front_same then new one.text (fault_line unit.offset (Some fault)) ends.1 one.begun))
+          (front_same then new one.text (fault_line unit.offset (Some fault)) ends.1 one.so))
       by_fault None (parts, spelled, runs, text_is) =
           let units = told.units ++ (frame, parts) ∷ [] in
           let before = flat_map (unit_lines shown) told.units in
@@ -351,5 +332,5 @@ module _ {order : Order} {shown : DumpParts} {start mid now old then : Option (L
                 (front_same old new (before ++ unit_lines shown (frame, parts)) lines
                 (flat_push (unit_lines shown) told.units (frame, parts))
                 (front_after old then new before (unit_lines shown (frame, parts)) told.printed
-                (front_same then new one.text (unit_lines shown (frame, parts)) text_is one.begun)));
+                (front_same then new one.text (unit_lines shown (frame, parts)) text_is one.so)));
           }

@@ -64,34 +64,32 @@ components_push pairs i d values value lt count =
     ∙ ap (flat_map component_text) (sym (zip_push front values pair value same))
     ∙ ap (λ (ps : List Pair). flat_map component_text (zip ps (values ++ value ∷ []))) (sym (take_more pairs i d lt))
 
-pub read_more : (format : Format) (pairs : List Pair) (i : ℕ) (d : Pair) (value : FormValue) (old middle new : At)
-    (before between after : Option (List ℕ)) → i < length pairs → AreReadTold format pairs i old middle before between
-    → Reads (ValueBytes format middle.order (get_or pairs i d).form) value middle new
-    → Appends between after (component_text (get_or pairs i d, value)) → AreReadTold format pairs (i + 1) old new before after
-read_more format pairs i d value old middle new before between after lt p r printed = record {
-  values = p.values ++ value ∷ [];
-  count_is = omega (arith, length-append p.values (value ∷ []), p.count_is);
-  read = laws.read_more format pairs i d p.values value old middle new lt p.read r;
-  told = subst (Appends before after) (components_push pairs i d p.values value lt p.count_is)
-      (Appends-trans before between after (flat_map component_text (zip (take i pairs) p.values))
-      (component_text (get_or pairs i d, value)) p.told printed);
-}
+module _ {format : Format} {pairs : List Pair} {i : ℕ} {old middle : At} {before between : Option (List ℕ)}
+    (p : AreReadTold format pairs i old middle before between) where
+  pub read_more : (d : Pair) (value : FormValue) (new : At) (after : Option (List ℕ)) → i < length pairs
+      → Reads (ValueBytes format middle.order (get_or pairs i d).form) value middle new
+      → Appends between after (component_text (get_or pairs i d, value)) → AreReadTold format pairs (i + 1) old new before after
+  read_more d value new after lt r printed = record {
+    values = p.values ++ value ∷ [];
+    count_is = omega (arith, length-append p.values (value ∷ []), p.count_is);
+    read = laws.read_more format pairs i d p.values value old middle new lt p.read r;
+    told = subst (Appends before after) (components_push pairs i d p.values value lt p.count_is)
+        (Appends-trans before between after (flat_map component_text (zip (take i pairs) p.values))
+        (component_text (get_or pairs i d, value)) p.told printed);
+  }
 
-pub read_all : (format : Format) (pairs : List Pair) (count : ℕ) (old new : At) (before between after : Option (List ℕ))
-    → length pairs ≤ count → AreReadTold format pairs count old new before between → Appends between after (codes "\n")
-    → PassesPrinting (entry_end pairs) format pairs old new before after
-read_all format pairs count old new before between after le p end = record {
-  entry = entry_of p.values;
-  read = laws.entry_read format pairs count p.values old new le p.read;
-  printed = Appends-trans before between after (components_text pairs (entry_of p.values)) (codes "\n")
-      (subst (λ (ps : List Pair). Appends before between (flat_map component_text (zip ps p.values))) (take_all count pairs le) p.told) end;
-}
+  pub read_all : {after : Option (List ℕ)} → length pairs ≤ i → Appends between after (codes "\n")
+      → PassesPrinting (entry_end pairs) format pairs old middle before after
+  read_all {after} le end = record {
+    entry = entry_of p.values;
+    read = laws.entry_read format pairs i p.values old middle le p.read;
+    printed = Appends-trans before between after (components_text pairs (entry_of p.values)) (codes "\n")
+        (subst (λ (ps : List Pair). Appends before between (flat_map component_text (zip ps p.values))) (take_all i pairs le) p.told) end;
+  }
 
-pub none_there : (format : Format) (pairs : List Pair) (i : ℕ) (d : Pair) (old middle : At) (before after : Option (List ℕ))
-    → i < length pairs → AreReadTold format pairs i old middle before after
-    → NoneSpelled (ValueBytes format middle.order (get_or pairs i d).form) middle.rest
-    → NoneSpelled (EntryBytes format old.order pairs) old.rest
-none_there format pairs i d old middle before after lt p none = laws.no_entry format pairs i d p.values old middle lt p.read none
+  pub none_there : (d : Pair) → i < length pairs → NoneSpelled (ValueBytes format middle.order (get_or pairs i d).form) middle.rest
+      → NoneSpelled (EntryBytes format old.order pairs) old.rest
+  none_there d lt none = laws.no_entry format pairs i d p.values old middle lt p.read none
 
 -- ---- entries
 
@@ -186,18 +184,16 @@ module _ {name : List ℕ} {table : BorrowedTable} {format : Format} {pairs : Li
       (subst (λ (f : Format). NoneSpelled (EntryBytes f at.order table.pairs) at.rest) format_is
       (subst (λ (ps : List Pair). NoneSpelled (EntryBytes format at.order ps) at.rest) pairs_are none)))
 
--- nothing more was written
-pub lines_stay : (name : List ℕ) (table : BorrowedTable) (number : ℕ) (at : At) (before page : List ℕ) (old now : Option (List ℕ))
-    → IsBefore name table number at before page old now
-    → AppendsFront old now (before ++ numbered (entry_line name table.pairs) 0 table.entries)
-lines_stay name table number at before page old now is =
-    told_front (entry_line name table.pairs) before (take number table.entries) (drop number table.entries)
-    (sym (take-append-drop number table.entries)) (paged_kept_front _ page old now is.told)
+module _ {name : List ℕ} {table : BorrowedTable} {number : ℕ} {at : At} {before page : List ℕ} {old now : Option (List ℕ)}
+    (is : IsBefore name table number at before page old now) where
+  -- nothing more was written
+  pub lines_stay : AppendsFront old now (before ++ numbered (entry_line name table.pairs) 0 table.entries)
+  lines_stay =
+      told_front (entry_line name table.pairs) before (take number table.entries) (drop number table.entries)
+      (sym (take-append-drop number table.entries)) (paged_kept_front is.told)
 
--- all lines were printed
-pub all_told : (name : List ℕ) (table : BorrowedTable) (number : ℕ) (at : At) (before page : List ℕ) (old now : Option (List ℕ))
-    → length table.entries ≤ number → IsBefore name table number at before page old now
-    → IsPaged (before ++ numbered (entry_line name table.pairs) 0 table.entries) old now page
-all_told name table number at before page old now le is =
-    subst (λ (es : List Entry). IsPaged (before ++ numbered (entry_line name table.pairs) 0 es) old now page)
-    (take_all number table.entries le) is.told
+  -- all lines were printed
+  pub all_told : length table.entries ≤ number → IsPaged (before ++ numbered (entry_line name table.pairs) 0 table.entries) old now page
+  all_told le =
+      subst (λ (es : List Entry). IsPaged (before ++ numbered (entry_line name table.pairs) 0 es) old now page)
+      (take_all number table.entries le) is.told

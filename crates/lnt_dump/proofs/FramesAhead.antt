@@ -9,7 +9,7 @@ use Rattle.std.specs.Borrow.{Bor}
 use Rattle.lnt_wire.specs.At.{At}
 use Rattle.lnt_wire.specs.Bytes.{TakenBytes}
 use Rattle.lnt_wire.specs.FrameBytes.{BeginsWithFive, FrameBytes, FramesFrom, IsFrame}
-use Rattle.lnt_wire.specs.FrameFaults.{IsCutFrame, IsFrameFault}
+use Rattle.lnt_wire.specs.FrameFaults.{IsFrameFault}
 use Rattle.lnt_wire.specs.FrameFaults.IsCutFrame.{no_length, no_wide_length, too_long}
 use Rattle.lnt_wire.specs.Frames.{EndsBy}
 use Rattle.lnt_wire.specs.InitialFaults.{IsInitialFault, IsVersionFault}
@@ -82,9 +82,8 @@ record InitialAhead (at : At) : Type 0 where
   ahead : At
   read : Reads (InitialBytes at.order) initial at ahead
 
-record NoInitial (at : At) : Type 0 where
-  reason : Reason
-  so : IsInitialFault at.order reason at.rest
+abbrev NoInitial : At → Type 0
+NoInitial at = (reason : Reason) × IsInitialFault at.order reason at.rest
 
 narrow : (at : At) → (n : NumberAhead 4 at) → n.number < 0xfffffff0 → InitialAhead at
 narrow at n low = record {
@@ -100,16 +99,9 @@ narrow at n low = record {
 }
 
 reserved : (at : At) → (n : NumberAhead 4 at) → 0xfffffff0 ≤ n.number → n.number < 0xffffffff → NoInitial at
-reserved at n low high = record {
-  reason = ReservedLength;
-  so = record {
-    n = n.number;
-    rest = (past 4 at).rest;
-    low = low;
-    high = high;
-    joined = n.read.whole ∙ ap (λ (z : List ℕ). z ++ (past 4 at).rest) n.read.spelled.spelled;
-  };
-}
+reserved at n low high =
+    let joined = n.read.whole ∙ ap (λ (z : List ℕ). z ++ (past 4 at).rest) n.read.spelled.spelled in
+    (ReservedLength, record { n = n.number; rest = (past 4 at).rest; low = low; high = high; joined = joined })
 
 wide : (at ahead new : At) (first second : ℕ) → Reads (NumberBytes at.order 4) first at ahead → 0xffffffff ≤ first
     → Reads (NumberBytes ahead.order 8) second ahead new → InitialAhead at
@@ -139,8 +131,7 @@ cut at ahead first r high short =
     let is : first ≡ 0xffffffff = omega (arith, r.spelled.fits) in
     let whole : at.rest ≡ number_bytes at.order 4 0xffffffff ++ ahead.rest =
     r.whole ∙ ap (λ (z : List ℕ). z ++ ahead.rest) (r.spelled.spelled ∙ ap (number_bytes at.order 4) is) in
-    let so : IsCutFrame at.order at.rest = no_wide_length ahead.rest whole short in
-    record { reason = Truncated; so = so }
+    (Truncated, no_wide_length ahead.rest whole short)
 
 wide_ahead : (at : At) → (n : NumberAhead 4 at) → 0xffffffff ≤ n.number → AreBytes (past 4 at).rest → InitialAhead at ⊎ NoInitial at
 wide_ahead at n high are = elim (cases_lt (length (past 4 at).rest) 8) [
@@ -160,17 +151,15 @@ long_ahead at n are = elim (cases_lt n.number 0xfffffff0) [
 
 initial_ahead : (at : At) → AreBytes at.rest → InitialAhead at ⊎ NoInitial at
 initial_ahead at are = elim (cases_lt (length at.rest) 4) [
-  | inl short ↦ let so : IsCutFrame at.order at.rest = no_length short in
-      inr (record { reason = Truncated; so = so })
+  | inl short ↦ inr (Truncated, no_length short)
   | inr le ↦ let n = number_ahead 4 at number_read_4 are le in
       long_ahead at n (bytes_after n.read.spelling (past 4 at).rest at.rest n.read.whole are)
 ]
 
 -- ---- the version
 
-record NoVersion (order : Order) (body : List ℕ) : Type 0 where
-  reason : Reason
-  so : IsVersionFault order reason body
+abbrev NoVersion : Order → List ℕ → Type 0
+NoVersion order body = (reason : Reason) × IsVersionFault order reason body
 
 version_of : (order : Order) (body : List ℕ) (version : ℕ) → NumberBytes order 2 version (take 2 body)
     → BeginsWithFive order body ⊎ NoVersion order body
@@ -185,12 +174,12 @@ version_of order body version is =
           })
       | inr other ↦
           let fits : version < 2 ^ 16 = omega (arith, is.fits) in
-          inr (record { reason = VersionNotFive version; so = (drop 2 body, fits, other, joined) })
+          inr (VersionNotFive version, (drop 2 body, fits, other, joined))
     ]
 
 version_ahead : (order : Order) (body : List ℕ) → AreBytes body → BeginsWithFive order body ⊎ NoVersion order body
 version_ahead order body are = elim (cases_lt (length body) 2) [
-  | inl short ↦ inr (record { reason = Truncated; so = short })
+  | inl short ↦ inr (Truncated, short)
   | inr le ↦
       let bytes = take 2 body in
       let n = number_in order 2 bytes in
@@ -211,18 +200,16 @@ record NoFrame (at : At) : Type 0 where
 
 -- no initial length is there
 no_initial : (at : At) → NoInitial at → NoFrame at
-no_initial at n = record {
-  fault = record { place = at.place; reason = n.reason };
-  refused = refuses_initial at (record { place = at.place; reason = n.reason }) refl n.so;
-}
+no_initial at (reason, so) =
+    let fault : Fault = record { place = at.place; reason = reason } in
+    record { fault = fault; refused = refuses_initial at fault refl so }
 
 -- it counts more bytes than are left
 long_initial : (at : At) → (i : InitialAhead at) → length i.ahead.rest < i.initial.1 → NoFrame at
 long_initial at i short =
     let whole : at.rest ≡ initial_length i.initial.0 at.order i.initial.1 ++ i.ahead.rest =
     i.read.whole ∙ ap (λ (z : List ℕ). z ++ i.ahead.rest) i.read.spelled.spelled in
-    let so : IsCutFrame at.order at.rest = too_long i.initial.0 i.initial.1 i.ahead.rest i.read.spelled.fits whole short in
-    no_initial at (record { reason = Truncated; so = so })
+    no_initial at (Truncated, too_long i.initial.0 i.initial.1 i.ahead.rest i.read.spelled.fits whole short)
 
 body_read : (at : At) (count : ℕ) → count ≤ length at.rest → Reads (TakenBytes count) (take count at.rest) at (past count at)
 body_read at count le =
@@ -247,13 +234,13 @@ whole_body at i le (inl five) =
       offset_is = refl;
       read = reads_frame at i.ahead (past count i.ahead) i.initial frame i.read (body_read i.ahead count le) refl refl five;
     })
-whole_body at i le (inr n) =
+whole_body at i le (inr (reason, so)) =
     let count = i.initial.1 in
-    let fault : Fault = record { place = i.ahead.place; reason = n.reason } in
+    let fault : Fault = record { place = i.ahead.place; reason = reason } in
     inr (record {
       fault = fault;
       refused = refuses_version at i.ahead (past count i.ahead) i.initial (take count i.ahead.rest) fault i.read
-          (body_read i.ahead count le) refl n.so;
+          (body_read i.ahead count le) refl so;
     })
 
 frame_ahead : (at : At) → AreBytes at.rest → FrameAhead at ⊎ NoFrame at

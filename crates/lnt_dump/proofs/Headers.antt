@@ -24,65 +24,58 @@ table_is name table pairs entries one two =
     ap (λ (ps : List Pair). numbered (entry_line name ps) 0 table.entries) one
     ∙ ap (λ (es : List Entry). numbered (entry_line name pairs) 0 es) two
 
--- the text of all parts
-all_parts : (frame : Frame) (header numbers : HeaderParts) (directories : BorrowedTable) (files page page1 : List ℕ)
-    → numbers ≡ without_entries header → directories.pairs ≡ header.directory_format → directories.entries ≡ header.directories
-    → files ≡ numbered (entry_line (codes "file") header.file_format) 0 header.files
-    → page1 ≡ page ++ ((codes "unit " ++ unit_line frame) ++ numbers_line numbers)
-    → (page1 ++ table_lines (codes "dir") directories) ++ files ≡ page ++ header_lines frame header
-all_parts frame header numbers directories files page page1 same dir_pairs dirs files_are added =
-    let unit = codes "unit " ++ unit_line frame in
-    let line = numbers_line header in
-    let dir_lines = numbered (entry_line (codes "dir") header.directory_format) 0 header.directories in
-    let file_lines = numbered (entry_line (codes "file") header.file_format) 0 header.files in
-    let first : page1 ≡ page ++ (unit ++ line) = added ∙ ap (λ (h : HeaderParts). page ++ (unit ++ numbers_line h)) same in
-    ap (λ (z : List ℕ). (z ++ table_lines (codes "dir") directories) ++ files) first
-    ∙ ap (λ (z : List ℕ). ((page ++ (unit ++ line)) ++ z) ++ files)
-    (table_is (codes "dir") directories header.directory_format header.directories dir_pairs dirs)
-    ∙ ap (λ (z : List ℕ). ((page ++ (unit ++ line)) ++ dir_lines) ++ z) files_are
-    ∙ append_assoc (page ++ (unit ++ line)) dir_lines file_lines ∙ append_assoc page (unit ++ line) (dir_lines ++ file_lines)
-    ∙ ap (λ (z : List ℕ). page ++ z) (append_assoc unit line (dir_lines ++ file_lines))
+-- a unit and its header's numbers, whose lines were added to the page, and the directories
+module _ (frame : Frame) (header numbers : HeaderParts) (directories : BorrowedTable) (page page1 : List ℕ)
+    (same : numbers ≡ without_entries header) (dir_pairs : directories.pairs ≡ header.directory_format)
+    (dirs : directories.entries ≡ header.directories)
+    (added : page1 ≡ page ++ ((codes "unit " ++ unit_line frame) ++ numbers_line numbers)) where
+  -- the text of all parts
+  all_parts : (files : List ℕ) → files ≡ numbered (entry_line (codes "file") header.file_format) 0 header.files
+      → (page1 ++ table_lines (codes "dir") directories) ++ files ≡ page ++ header_lines frame header
+  all_parts files files_are =
+      let unit = codes "unit " ++ unit_line frame in
+      let line = numbers_line header in
+      let dir_lines = numbered (entry_line (codes "dir") header.directory_format) 0 header.directories in
+      let file_lines = numbered (entry_line (codes "file") header.file_format) 0 header.files in
+      let first : page1 ≡ page ++ (unit ++ line) = added ∙ ap (λ (h : HeaderParts). page ++ (unit ++ numbers_line h)) same in
+      ap (λ (z : List ℕ). (z ++ table_lines (codes "dir") directories) ++ files) first
+      ∙ ap (λ (z : List ℕ). ((page ++ (unit ++ line)) ++ z) ++ files)
+      (table_is (codes "dir") directories header.directory_format header.directories dir_pairs dirs)
+      ∙ ap (λ (z : List ℕ). ((page ++ (unit ++ line)) ++ dir_lines) ++ z) files_are
+      ∙ append_assoc (page ++ (unit ++ line)) dir_lines file_lines ∙ append_assoc page (unit ++ line) (dir_lines ++ file_lines)
+      ∙ ap (λ (z : List ℕ). page ++ z) (append_assoc unit line (dir_lines ++ file_lines))
 
--- all were printed
-pub header_told : {A E : Type 0} (result : Result A E) (frame : Frame) (header numbers : HeaderParts) (directories files : BorrowedTable)
-    (page page1 page2 page3 : List ℕ) (old now new : Option (List ℕ)) → numbers ≡ without_entries header
-    → directories.pairs ≡ header.directory_format → directories.entries ≡ header.directories
-    → files.pairs ≡ header.file_format → files.entries ≡ header.files
-    → page1 ≡ page ++ ((codes "unit " ++ unit_line frame) ++ numbers_line numbers)
-    → IsPaged (page1 ++ numbered (entry_line (codes "dir") directories.pairs) 0 directories.entries) old now page2
-    → OnOk result (IsPaged (page2 ++ numbered (entry_line (codes "file") files.pairs) 0 files.entries) now new page3)
-    → OnOk result (IsPaged (page ++ header_lines frame header) old new page3)
-header_told (Err error) frame header numbers directories files page page1 page2 page3 old now new same dp ds fp fs added p q = q
-header_told (Ok done) frame header numbers directories files page page1 page2 page3 old now new same dp ds fp fs added p q =
-    let all = all_parts frame header numbers directories (table_lines (codes "file") files) page page1 same dp ds
-    (table_is (codes "file") files header.file_format header.files fp fs) added in
-    subst (λ (z : List ℕ). IsPaged z old new page3) all
-    (paged_more (page1 ++ table_lines (codes "dir") directories) (table_lines (codes "file") files) page2 page3 old now new p q)
+  -- of the lines of directories a front was written
+  pub directories_cut : {old new : Option (List ℕ)}
+      → AppendsFront old new (page1 ++ numbered (entry_line (codes "dir") directories.pairs) 0 directories.entries)
+      → AppendsFront old new (page ++ header_lines frame header)
+  directories_cut {old} {new} f =
+      let file_lines = numbered (entry_line (codes "file") header.file_format) 0 header.files in
+      front_same old new ((page1 ++ table_lines (codes "dir") directories) ++ file_lines) (page ++ header_lines frame header)
+      (all_parts file_lines refl) (front_before old new (page1 ++ table_lines (codes "dir") directories) file_lines f)
 
--- of the lines of directories a front was written
-pub directories_cut : (frame : Frame) (header numbers : HeaderParts) (directories : BorrowedTable) (page page1 : List ℕ)
-    (old new : Option (List ℕ)) → numbers ≡ without_entries header → directories.pairs ≡ header.directory_format
-    → directories.entries ≡ header.directories → page1 ≡ page ++ ((codes "unit " ++ unit_line frame) ++ numbers_line numbers)
-    → AppendsFront old new (page1 ++ numbered (entry_line (codes "dir") directories.pairs) 0 directories.entries)
-    → AppendsFront old new (page ++ header_lines frame header)
-directories_cut frame header numbers directories page page1 old new same dp ds added f =
-    let file_lines = numbered (entry_line (codes "file") header.file_format) 0 header.files in
-    front_same old new ((page1 ++ table_lines (codes "dir") directories) ++ file_lines) (page ++ header_lines frame header)
-    (all_parts frame header numbers directories file_lines page page1 same dp ds refl added)
-    (front_before old new (page1 ++ table_lines (codes "dir") directories) file_lines f)
+  -- the files after them
+  module _ (files : BorrowedTable) (page2 : List ℕ) (old now new : Option (List ℕ))
+      (file_pairs : files.pairs ≡ header.file_format) (files_are : files.entries ≡ header.files)
+      (told : IsPaged (page1 ++ numbered (entry_line (codes "dir") directories.pairs) 0 directories.entries) old now page2) where
+    with_files : (page1 ++ table_lines (codes "dir") directories) ++ table_lines (codes "file") files ≡ page ++ header_lines frame header
+    with_files =
+        all_parts (table_lines (codes "file") files)
+        (table_is (codes "file") files header.file_format header.files file_pairs files_are)
 
--- of those of files
-pub files_cut : {A E : Type 0} (result : Result A E) (frame : Frame) (header numbers : HeaderParts) (directories files : BorrowedTable)
-    (page page1 page2 : List ℕ) (old now new : Option (List ℕ)) → numbers ≡ without_entries header
-    → directories.pairs ≡ header.directory_format → directories.entries ≡ header.directories
-    → files.pairs ≡ header.file_format → files.entries ≡ header.files
-    → page1 ≡ page ++ ((codes "unit " ++ unit_line frame) ++ numbers_line numbers)
-    → IsPaged (page1 ++ numbered (entry_line (codes "dir") directories.pairs) 0 directories.entries) old now page2
-    → OnErr result (AppendsFront now new (page2 ++ numbered (entry_line (codes "file") files.pairs) 0 files.entries))
-    → OnErr result (AppendsFront old new (page ++ header_lines frame header))
-files_cut (Ok done) frame header numbers directories files page page1 page2 old now new same dp ds fp fs added p f = f
-files_cut (Err error) frame header numbers directories files page page1 page2 old now new same dp ds fp fs added p f =
-    front_same old new ((page1 ++ table_lines (codes "dir") directories) ++ table_lines (codes "file") files)
-    (page ++ header_lines frame header) (all_parts frame header numbers directories (table_lines (codes "file") files) page page1 same dp ds
-    (table_is (codes "file") files header.file_format header.files fp fs) added)
-    (paged_front (page1 ++ table_lines (codes "dir") directories) (table_lines (codes "file") files) page2 old now new p f)
+    -- all were printed
+    pub header_told : {A E : Type 0} (result : Result A E) (page3 : List ℕ)
+        → OnOk result (IsPaged (page2 ++ numbered (entry_line (codes "file") files.pairs) 0 files.entries) now new page3)
+        → OnOk result (IsPaged (page ++ header_lines frame header) old new page3)
+    header_told (Err error) page3 q = q
+    header_told (Ok done) page3 q = subst (λ (z : List ℕ). IsPaged z old new page3) with_files
+        (paged_more (table_lines (codes "file") files) told q)
+
+    -- of their lines a front was written
+    pub files_cut : {A E : Type 0} (result : Result A E)
+        → OnErr result (AppendsFront now new (page2 ++ numbered (entry_line (codes "file") files.pairs) 0 files.entries))
+        → OnErr result (AppendsFront old new (page ++ header_lines frame header))
+    files_cut (Ok done) f = f
+    files_cut (Err error) f =
+        front_same old new ((page1 ++ table_lines (codes "dir") directories) ++ table_lines (codes "file") files)
+        (page ++ header_lines frame header) with_files (paged_front (table_lines (codes "file") files) told f)

@@ -43,23 +43,24 @@ pub digits_none : (bytes : List ℕ) (out : Option (List ℕ)) → AreDigitsTold
 unfolding encode_with
 digits_none bytes out = record { front = []; joined = refl; told = Appends-nil out }
 
-pub digits_more : (bytes rest piece more : List ℕ) (count : ℕ) (old now new : Option (List ℕ)) → AreDigitsTold bytes rest old now
+pub digits_more : {bytes rest : List ℕ} {old now : Option (List ℕ)} (piece more : List ℕ) (count : ℕ) (new : Option (List ℕ))
+    → AreDigitsTold bytes rest old now
     → IsSplitAt rest count piece more → Appends now new (encode_lower piece) → AreDigitsTold bytes more old new
-digits_more bytes rest piece more count old now new is split printed = record {
+digits_more {rest = rest} {old = old} {now = now} piece more count new is split printed = record {
   front = is.front ++ piece;
   joined = is.joined ∙ ap (λ (z : List ℕ). is.front ++ z) (whole rest piece more count split) ∙ sym (append_assoc is.front piece more);
   told = subst (Appends old new) (sym (digits_join _ is.front piece))
       (Appends-trans old now new (encode_lower is.front) (encode_lower piece) is.told printed);
 }
 
-pub digits_all : {A E : Type 0} (result : Result A E) (bytes rest : List ℕ) (old now new : Option (List ℕ))
+pub digits_all : {A E : Type 0} (result : Result A E) {bytes rest : List ℕ} {old now : Option (List ℕ)} (new : Option (List ℕ))
     → AreDigitsTold bytes rest old now → OnOk result (Appends now new (encode_lower rest))
     → OnOk result (Appends old new (encode_lower bytes))
-digits_all (Ok done) bytes rest old now new is printed =
+digits_all (Ok done) {bytes} {rest} {old} {now} new is printed =
     let text : encode_lower is.front ++ encode_lower rest ≡ encode_lower bytes =
     sym (digits_join _ is.front rest) ∙ ap encode_lower (sym is.joined) in
     subst (Appends old new) text (Appends-trans old now new (encode_lower is.front) (encode_lower rest) is.told printed)
-digits_all (Err error) bytes rest old now new is printed = printed
+digits_all (Err error) new is printed = printed
 
 -- the lines of the first items begin those of all
 pub numbered_front : {X : Type 0} (line : ℕ → X → List ℕ) (first : ℕ) (xs ys : List X)

@@ -60,12 +60,12 @@ module _ {To : At → List ℕ → Type 0} {Adds : At → At → List ℕ → Li
 
   -- nothing more was written
   pub walk_stopped : {at : At} {old now : Option (List ℕ)} {page : List ℕ} → PagedTo To at old now page → IsFrontIn Is old now
-  walk_stopped {at} {old} {now} {page} p = walk_front p.made (paged_kept_front p.text page old now p.paged)
+  walk_stopped p = walk_front p.made (paged_kept_front p.paged)
 
   -- of the page a front was written
   pub walk_last_cut : {at : At} {old now then : Option (List ℕ)} {page : List ℕ} → PagedTo To at old now page
       → AppendsFront now then page → IsFrontIn Is old then
-  walk_last_cut {at} {old} {now} {then} {page} p f = walk_front p.made (paged_cut p.text page old now then p.paged f)
+  walk_last_cut p f = walk_front p.made (paged_cut p.paged f)
 
   pub walk_cut : {at next : At} {old now then : Option (List ℕ)} {page new : List ℕ} → PagedTo To at old now page
       → Adds at next page new → AppendsFront now then new → IsFrontIn Is old then
@@ -73,5 +73,4 @@ module _ {To : At → List ℕ → Type 0} {Adds : At → At → List ℕ → Li
 
   pub walk_printed : {at : At} {old now : Option (List ℕ)} {page : List ℕ} (then : Option (List ℕ)) → PagedTo To at old now page
       → length at.rest ≡ 0 → Appends now then page → IsPrintedIn Is old then
-  walk_printed {at} {old} {now} {page} then p ended w =
-      (p.text, walk.all at p.text p.made ended, paged_all p.text page old now then p.paged w)
+  walk_printed {at} then p ended w = (p.text, walk.all at p.text p.made ended, paged_all then p.paged w)

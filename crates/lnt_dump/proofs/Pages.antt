@@ -27,37 +27,35 @@ paged_turned page left old new written empty = record {
 grown : (text page more written : List ℕ) → text ≡ written ++ page → text ++ more ≡ written ++ (page ++ more)
 grown text page more written joined = ap (λ (z : List ℕ). z ++ more) joined ∙ append_assoc written page more
 
--- more text came, of which some may be written
-pub paged_more : (text more page left : List ℕ) (old now new : Option (List ℕ)) → IsPaged text old now page
-    → IsPaged (page ++ more) now new left → IsPaged (text ++ more) old new left
-paged_more text more page left old now new p q = record {
-  written = p.written ++ q.written;
-  gained = Appends-trans old now new p.written q.written p.gained q.gained;
-  joined = grown text page more p.written p.joined ∙ ap (λ (z : List ℕ). p.written ++ z) q.joined
-      ∙ sym (append_assoc p.written q.written left);
-}
+module _ {text page : List ℕ} {old now : Option (List ℕ)} where
+  -- more text came, of which some may be written
+  pub paged_more : (more : List ℕ) {left : List ℕ} {new : Option (List ℕ)} → IsPaged text old now page
+      → IsPaged (page ++ more) now new left → IsPaged (text ++ more) old new left
+  paged_more more {left} {new} p q = record {
+    written = p.written ++ q.written;
+    gained = Appends-trans old now new p.written q.written p.gained q.gained;
+    joined = grown text page more p.written p.joined ∙ ap (λ (z : List ℕ). p.written ++ z) q.joined
+        ∙ sym (append_assoc p.written q.written left);
+  }
 
--- of it a front was written
-pub paged_front : (text more page : List ℕ) (old now new : Option (List ℕ)) → IsPaged text old now page
-    → AppendsFront now new (page ++ more) → AppendsFront old new (text ++ more)
-paged_front text more page old now new p f =
-    front_same old new (p.written ++ (page ++ more)) (text ++ more) (sym (grown text page more p.written p.joined))
-    (front_after old now new p.written (page ++ more) p.gained f)
+  -- of it a front was written
+  pub paged_front : (more : List ℕ) {new : Option (List ℕ)} → IsPaged text old now page → AppendsFront now new (page ++ more)
+      → AppendsFront old new (text ++ more)
+  paged_front more {new} p f =
+      front_same old new (p.written ++ (page ++ more)) (text ++ more) (sym (grown text page more p.written p.joined))
+      (front_after old now new p.written (page ++ more) p.gained f)
 
--- what waited was written too
-pub paged_all : (text page : List ℕ) (old now new : Option (List ℕ)) → IsPaged text old now page → Appends now new page
-    → Appends old new text
-paged_all text page old now new p written =
-    subst (Appends old new) (sym p.joined) (Appends-trans old now new p.written page p.gained written)
+  -- what waited was written too
+  pub paged_all : (new : Option (List ℕ)) → IsPaged text old now page → Appends now new page → Appends old new text
+  paged_all new p written = subst (Appends old new) (sym p.joined) (Appends-trans old now new p.written page p.gained written)
 
-pub paged_cut : (text page : List ℕ) (old now new : Option (List ℕ)) → IsPaged text old now page → AppendsFront now new page
-    → AppendsFront old new text
-paged_cut text page old now new p f =
-    front_same old new (p.written ++ page) text (sym p.joined) (front_after old now new p.written page p.gained f)
+  pub paged_cut : {new : Option (List ℕ)} → IsPaged text old now page → AppendsFront now new page → AppendsFront old new text
+  paged_cut {new} p f =
+      front_same old new (p.written ++ page) text (sym p.joined) (front_after old now new p.written page p.gained f)
 
--- nothing more was written
-pub paged_kept_front : (text page : List ℕ) (old now : Option (List ℕ)) → IsPaged text old now page → AppendsFront old now text
-paged_kept_front text page old now p = record { front = p.written; rest = page; joined = sym p.joined; gained = p.gained }
+  -- nothing more was written
+  pub paged_kept_front : IsPaged text old now page → AppendsFront old now text
+  paged_kept_front p = record { front = p.written; rest = page; joined = sym p.joined; gained = p.gained }
 
 -- nothing is added
 pub paged_none : (page : List ℕ) (out : Option (List ℕ)) → IsPaged (page ++ []) out out page
@@ -83,10 +81,10 @@ module _ {X : Type 0} (line : ℕ → X → List ℕ) (before : List ℕ) where
   pub told_more : (list : List X) (x : X) {next : List X} {index : ℕ} {page left : List ℕ} {old now new : Option (List ℕ)}
       → index ≡ length list → next ≡ list ++ x ∷ [] → IsPaged (before ++ numbered line 0 list) old now page
       → IsPaged (page ++ line index x) now new left → IsPaged (before ++ numbered line 0 next) old new left
-  told_more list x {next} {index} {page} {left} {old} {now} {new} is next_is told here =
+  told_more list x {index = index} {left = left} {old = old} {new = new} is next_is told here =
       subst (λ (z : List ℕ). IsPaged z old new left)
       (pushed list index x is ∙ ap (λ (xs : List X). before ++ numbered line 0 xs) (sym next_is))
-      (paged_more (before ++ numbered line 0 list) (line index x) page left old now new told here)
+      (paged_more (line index x) told here)
 
   -- the lines of the first items begin those of all
   pub told_front : (list more : List X) {all : List X} {old new : Option (List ℕ)} → all ≡ list ++ more
@@ -103,11 +101,11 @@ module _ {X : Type 0} (line : ℕ → X → List ℕ) (before : List ℕ) where
   pub told_cut : (list more : List X) (x : X) {all : List X} {index : ℕ} {page : List ℕ} {old now new : Option (List ℕ)}
       → index ≡ length list → all ≡ (list ++ x ∷ []) ++ more → IsPaged (before ++ numbered line 0 list) old now page
       → AppendsFront now new (page ++ line index x) → AppendsFront old new (before ++ numbered line 0 all)
-  told_cut list more x {all} {index} {page} {old} {now} {new} is all_is told f =
+  told_cut list more x {index = index} {old = old} {new = new} is all_is told f =
       let first = before ++ numbered line 0 list in
       told_front (list ++ x ∷ []) more all_is
       (front_same old new (first ++ line index x) (before ++ numbered line 0 (list ++ x ∷ [])) (pushed list index x is)
-      (paged_front first (line index x) page old now new told f))
+      (paged_front (line index x) told f))
 
   taken : (xs : List X) (k : ℕ) (x : X) → k < length xs → x ≡ get_or xs k x → take (k + 1) xs ≡ take k xs ++ x ∷ []
   taken xs k x lt is = take_more xs k x lt ∙ ap (λ (y : X). take k xs ++ y ∷ []) (sym is)
@@ -128,44 +126,39 @@ module _ {X : Type 0} (line : ℕ → X → List ℕ) (before : List ℕ) where
 
 -- ---- the text of a unit in its three parts, of which the first stands on the page
 
-module _ (X : Type 0) (Is : X → Type 0) (lines : List ℕ) (first second : X → List ℕ) (old start : Option (List ℕ)) (page : List ℕ)
+module _ (X : Type 0) (Is : X → Type 0) (first second : X → List ℕ) {lines page : List ℕ} {old start : Option (List ℕ)}
     (begun : IsPaged lines old start page) where
   joined : (x : X) → (lines ++ first x) ++ second x ≡ lines ++ (first x ++ second x)
   joined x = append_assoc lines (first x) (second x)
 
-  first_more : (x : X) (now : Option (List ℕ)) (page2 : List ℕ) → IsPaged (page ++ first x) start now page2
-      → IsPaged (lines ++ first x) old now page2
-  first_more x now page2 p = paged_more lines (first x) page page2 old start now begun p
-
   -- of the second part a front was written
-  pub first_cut : (new : Option (List ℕ)) → ((x : X) → Is x → AppendsFront start new (page ++ first x))
+  pub first_cut : {new : Option (List ℕ)} → ((x : X) → Is x → AppendsFront start new (page ++ first x))
       → (x : X) → Is x → AppendsFront old new (lines ++ (first x ++ second x))
-  first_cut new f x is =
+  first_cut {new} f x is =
       front_same old new ((lines ++ first x) ++ second x) (lines ++ (first x ++ second x)) (joined x)
-      (front_before old new (lines ++ first x) (second x) (paged_front lines (first x) page old start new begun (f x is)))
+      (front_before old new (lines ++ first x) (second x) (paged_front (first x) begun (f x is)))
 
   -- of the third
-  pub second_cut : (now new : Option (List ℕ)) (page2 : List ℕ) → ((x : X) → Is x → IsPaged (page ++ first x) start now page2)
+  pub second_cut : {now new : Option (List ℕ)} {page2 : List ℕ} → ((x : X) → Is x → IsPaged (page ++ first x) start now page2)
       → ((x : X) → Is x → AppendsFront now new (page2 ++ second x)) → (x : X) → Is x → AppendsFront old new (lines ++ (first x ++ second x))
-  second_cut now new page2 p f x is =
+  second_cut {new = new} p f x is =
       front_same old new ((lines ++ first x) ++ second x) (lines ++ (first x ++ second x)) (joined x)
-      (paged_front (lines ++ first x) (second x) page2 old now new (first_more x now page2 (p x is)) (f x is))
+      (paged_front (second x) (paged_more (first x) begun (p x is)) (f x is))
 
   -- all were written, or a front
-  pub parts_whole : {A E : Type 0} (result : Result A E) (now then new : Option (List ℕ)) (page2 page3 : List ℕ)
-      → ((x : X) → Is x → IsPaged (page ++ first x) start now page2) → ((x : X) → Is x → IsPaged (page2 ++ second x) now then page3)
-      → OnOk result (Appends then new page3) → OnOk result ((x : X) → Is x → Appends old new (lines ++ (first x ++ second x)))
-  parts_whole (Err error) now then new page2 page3 p q w = w
-  parts_whole (Ok value) now then new page2 page3 p q w =
-      λ x is. subst (Appends old new) (joined x)
-      (paged_all ((lines ++ first x) ++ second x) page3 old then new
-      (paged_more (lines ++ first x) (second x) page2 page3 old now then (first_more x now page2 (p x is)) (q x is)) w)
+  module _ {now then : Option (List ℕ)} {page2 page3 : List ℕ}
+      (p : (x : X) → Is x → IsPaged (page ++ first x) start now page2) (q : (x : X) → Is x → IsPaged (page2 ++ second x) now then page3) where
+    parts : (x : X) → Is x → IsPaged ((lines ++ first x) ++ second x) old then page3
+    parts x is = paged_more (second x) (paged_more (first x) begun (p x is)) (q x is)
 
-  pub parts_cut : {A E : Type 0} (result : Result A E) (now then new : Option (List ℕ)) (page2 page3 : List ℕ)
-      → ((x : X) → Is x → IsPaged (page ++ first x) start now page2) → ((x : X) → Is x → IsPaged (page2 ++ second x) now then page3)
-      → OnErr result (AppendsFront then new page3) → OnErr result ((x : X) → Is x → AppendsFront old new (lines ++ (first x ++ second x)))
-  parts_cut (Ok value) now then new page2 page3 p q w = w
-  parts_cut (Err error) now then new page2 page3 p q w =
-      λ x is. front_same old new ((lines ++ first x) ++ second x) (lines ++ (first x ++ second x)) (joined x)
-      (paged_cut ((lines ++ first x) ++ second x) page3 old then new
-      (paged_more (lines ++ first x) (second x) page2 page3 old now then (first_more x now page2 (p x is)) (q x is)) w)
+    pub parts_whole : {A E : Type 0} (result : Result A E) (new : Option (List ℕ)) → OnOk result (Appends then new page3)
+        → OnOk result ((x : X) → Is x → Appends old new (lines ++ (first x ++ second x)))
+    parts_whole (Err error) new w = w
+    parts_whole (Ok value) new w = λ x is. subst (Appends old new) (joined x) (paged_all new (parts x is) w)
+
+    pub parts_cut : {A E : Type 0} (result : Result A E) (new : Option (List ℕ)) → OnErr result (AppendsFront then new page3)
+        → OnErr result ((x : X) → Is x → AppendsFront old new (lines ++ (first x ++ second x)))
+    parts_cut (Ok value) new w = w
+    parts_cut (Err error) new w =
+        λ x is. front_same old new ((lines ++ first x) ++ second x) (lines ++ (first x ++ second x)) (joined x)
+        (paged_cut (parts x is) w)

@@ -93,16 +93,16 @@ module _ {view : View} {ops : List Op} {walk walk' : Walk} {run : RunState} {ite
       → so_far view ops (r.k + 1) ≡ so_far view ops r.k ++ cons_option made []
   rows_next on = sym (rows_taken (unit_of view ops) r.k item next.op r.ran next.more next.is next.stands on)
 
-pub running_whole : {view : View} {ops : List Op} {walk walk' : Walk} {run : RunState} → IsRunning view ops walk run → Ends walk walk'
-    → run.is_open ≡ false → Runs (with_ops view ops)
-running_whole {view} {ops} {walk} {walk'} {run} r ends closed =
-    (same_by_numbers.runs (with_ops view ops)).0 (ran_whole (ran_all (unit_of view ops) r.k r.ran (stands_last r.at ends)) closed)
+-- all were run
+module _ {view : View} {ops : List Op} {walk walk' : Walk} {run : RunState} (r : IsRunning view ops walk run) (ends : Ends walk walk') where
+  pub running_whole : run.is_open ≡ false → Runs (with_ops view ops)
+  running_whole closed =
+      (same_by_numbers.runs (with_ops view ops)).0 (ran_whole (ran_all (unit_of view ops) r.k r.ran (stands_last r.at ends)) closed)
 
-pub running_open : {view : View} {ops : List Op} {walk walk' : Walk} {run : RunState} {fault : RunFault} → IsRunning view ops walk run
-    → Ends walk walk' → run.is_open ≡ true → fault ≡ OpenSequence → IsRunFault (with_ops view ops) fault
-running_open {view} {ops} {walk} {walk'} {run} {fault} r ends opens is =
-    subst (IsRunFault (with_ops view ops)) (sym is) ((same_by_numbers.faults (with_ops view ops) OpenSequence).0
-    (ran_open (ran_all (unit_of view ops) r.k r.ran (stands_last r.at ends)) opens))
+  pub running_open : {fault : RunFault} → run.is_open ≡ true → fault ≡ OpenSequence → IsRunFault (with_ops view ops) fault
+  running_open opens is =
+      subst (IsRunFault (with_ops view ops)) (sym is) ((same_by_numbers.faults (with_ops view ops) OpenSequence).0
+      (ran_open (ran_all (unit_of view ops) r.k r.ran (stands_last r.at ends)) opens))
 
 -- ---- the lines of rows
 
@@ -219,20 +219,20 @@ judging_first {view} {walk} {run} is header going place rest order same has coun
   running = λ all p. running_first (stands_first view all walk is p header rest going) same has count;
 }
 
-pub judging_next : {view : View} {walk walk' : Walk} {run run' : RunState} {item : OpView} {made : Option Row} → IsHeader view.header
-    → IsUnitView view → IsJudging view walk run → GivesOperation item walk walk' → RunsOn item run run' made → IsJudging view walk' run'
-judging_next {view} {walk} {walk'} {run} {run'} {item} {made} header is j step on = record {
-  ops = j.ops ++ step.gives.op ∷ [];
-  given = given_more (by_numbers view) j.ops step.gives.op item walk walk' j.given step step.gives.stands;
-  header = on.machine.header ∙ j.header ∙ sym step.header_is;
-  running = λ all p. running_next header (j.running all p) step is on;
-}
+module _ {view : View} {walk walk' : Walk} {run : RunState} (header : IsHeader view.header) (is : IsUnitView view)
+    (j : IsJudging view walk run) where
+  pub judging_next : {run' : RunState} {item : OpView} {made : Option Row} → GivesOperation item walk walk' → RunsOn item run run' made
+      → IsJudging view walk' run'
+  judging_next {item = item} step on = record {
+    ops = j.ops ++ step.gives.op ∷ [];
+    given = given_more (by_numbers view) j.ops step.gives.op item walk walk' j.given step step.gives.stands;
+    header = on.machine.header ∙ j.header ∙ sym step.header_is;
+    running = λ all p. running_next header (j.running all p) step is on;
+  }
 
--- an operation is refused, and so the bytes encode no unit
-pub judging_fails : {view : View} {walk walk' : Walk} {run : RunState} {fault : Fault} → IsHeader view.header → IsUnitView view
-    → IsJudging view walk run → Fails fault walk walk' → BrokenUnit view.unit.order fault view.unit.offset view.unit.bytes
-judging_fails {view} {walk} {walk'} {run} {fault} header is j fails =
-    given_broken_by_numbers view j.ops fault walk walk' header is j.given fails
+  -- an operation is refused, and so the bytes encode no unit
+  pub judging_fails : {fault : Fault} → Fails fault walk walk' → BrokenUnit view.unit.order fault view.unit.offset view.unit.bytes
+  judging_fails {fault} fails = given_broken_by_numbers view j.ops fault walk walk' header is j.given fails
 
 -- all were run
 module _ {view : View} {walk walk' : Walk} {run : RunState} (is : IsUnitView view) (j : IsJudging view walk run) (ends : Ends walk walk')

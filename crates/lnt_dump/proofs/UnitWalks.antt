@@ -117,24 +117,22 @@ ops_none {view} {ops} {walk} page out s = record {
   told = paged_none page out;
 }
 
-pub ops_more : {view : View} {ops : List Op} {k : ℕ} {item : OpView} {walk walk' : Walk} {before page page' : List ℕ}
-    {old now new : Option (List ℕ)} → IsHeader view.header → OpsTold view ops k walk before page old now → GivesOperation item walk walk'
-    → ((done : Op) → StandsFor item done → IsPaged (page ++ op_line k done) now new page')
-    → OpsTold view ops (k + 1) walk' before page' old new
-ops_more {view} {ops} {k} {item} {walk} {walk'} {before} {page} {page'} {old} {now} {new} header t step line =
-    let n = stands_next header t.at step in
-    record { at = n.at; told = told_next op_line before ops k n.op n.more n.is t.told (line n.op n.stands) }
+module _ {view : View} {ops : List Op} {k : ℕ} {item : OpView} {walk walk' : Walk} {before page : List ℕ} {old now new : Option (List ℕ)}
+    (header : IsHeader view.header) (t : OpsTold view ops k walk before page old now) (step : GivesOperation item walk walk') where
+  pub ops_more : {page' : List ℕ} → ((done : Op) → StandsFor item done → IsPaged (page ++ op_line k done) now new page')
+      → OpsTold view ops (k + 1) walk' before page' old new
+  ops_more line =
+      let n = stands_next header t.at step in
+      record { at = n.at; told = told_next op_line before ops k n.op n.more n.is t.told (line n.op n.stands) }
 
--- of the next line a front was written
-pub ops_cut : {view : View} {ops : List Op} {k : ℕ} {item : OpView} {walk walk' : Walk} {before page : List ℕ}
-    {old now new : Option (List ℕ)} → IsHeader view.header → OpsTold view ops k walk before page old now → GivesOperation item walk walk'
-    → ((done : Op) → StandsFor item done → AppendsFront now new (page ++ op_line k done))
-    → AppendsFront old new (before ++ numbered op_line 0 ops)
-ops_cut {view} {ops} {k} {item} {walk} {walk'} {before} {page} {old} {now} {new} header t step line =
-    let n = stands_next header t.at step in
-    told_next_cut op_line before ops k n.op n.more n.is t.told (line n.op n.stands)
+  -- of the next line a front was written
+  pub ops_cut : ((done : Op) → StandsFor item done → AppendsFront now new (page ++ op_line k done))
+      → AppendsFront old new (before ++ numbered op_line 0 ops)
+  ops_cut line =
+      let n = stands_next header t.at step in
+      told_next_cut op_line before ops k n.op n.more n.is t.told (line n.op n.stands)
 
 pub ops_all : {view : View} {ops : List Op} {k : ℕ} {walk walk' : Walk} {before page : List ℕ} {old now : Option (List ℕ)}
     → OpsTold view ops k walk before page old now → Ends walk walk' → IsPaged (before ++ numbered op_line 0 ops) old now page
-ops_all {view} {ops} {k} {walk} {walk'} {before} {page} {old} {now} t ends =
+ops_all {ops = ops} {k = k} {before = before} {page = page} {old = old} {now = now} t ends =
     subst (λ (list : List Op). IsPaged (before ++ numbered op_line 0 list) old now page) (take_all k ops (stands_last t.at ends)) t.told

@@ -87,20 +87,20 @@ UnitEnds shown frame unit None text =
     × (text ≡ unit_lines shown (frame, parts))
 UnitEnds shown frame unit (Some fault) text = IsFaultOf unit shown.rows fault × (text ≡ fault_line unit.offset (Some fault))
 
--- It was printed.
-pub record UnitTold (shown : DumpParts) (frame : Frame) (unit : BufferedUnit) (old new : Option (List ℕ)) (status : Status) : Type 0 where
+-- This is so of the text of it.
+pub record UnitEndsSo (shown : DumpParts) (frame : Frame) (unit : BufferedUnit) (IsSo : List ℕ → Type 0) : Type 0 where
   pub fault : Option RowFault
   pub text : List ℕ
   pub ends : UnitEnds shown frame unit fault text
-  pub printed : Appends old new text
-  pub status_is : status ≡ fault_status fault
+  pub so : IsSo text
+
+-- It was printed.
+abbrev pub UnitTold : DumpParts → Frame → BufferedUnit → Option (List ℕ) → Option (List ℕ) → Status → Type 0
+UnitTold shown frame unit old new status = (told : UnitEndsSo shown frame unit (Appends old new)) × (status ≡ fault_status told.fault)
 
 -- A prefix of it was printed.
-pub record UnitBegun (shown : DumpParts) (frame : Frame) (unit : BufferedUnit) (old new : Option (List ℕ)) : Type 0 where
-  pub fault : Option RowFault
-  pub text : List ℕ
-  pub ends : UnitEnds shown frame unit fault text
-  pub begun : AppendsFront old new text
+abbrev pub UnitBegun : DumpParts → Frame → BufferedUnit → Option (List ℕ) → Option (List ℕ) → Type 0
+UnitBegun shown frame unit old new = UnitEndsSo shown frame unit (AppendsFront old new)
 
 -- ---- operations
 

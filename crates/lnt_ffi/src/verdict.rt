@@ -80,6 +80,18 @@ fn numbered(number: u32, detail: u32) -> FlatVerdict
     }
 }
 
+// A number and a detail, with an offset and two numbers.
+fn placed(number: u32, detail: u32, offset: u64, index: u64, value: u64) -> FlatVerdict
+    ensures { result ≡ record (numbered number detail) { offset = offset; index = index; value = value } }
+{
+    FlatVerdict {
+        offset,
+        index,
+        value,
+        ..numbered(number, detail)
+    }
+}
+
 // Why nothing was judged.
 pub(crate) fn verdict_of_stop(stop: Stop) -> FlatVerdict
     ensures { result ≡ verdict_of_stop stop }
@@ -112,12 +124,7 @@ fn of_malformed(fault: Fault) -> FlatVerdict
         Reason::ExtendedLength => (14, 0, 0),
         Reason::Memory => (15, 0, 0),
     };
-    FlatVerdict {
-        offset: fault.place,
-        index,
-        value,
-        ..numbered(25, detail)
-    }
+    placed(25, detail, fault.place, index, value)
 }
 
 // A program that doesn't run.
@@ -129,11 +136,7 @@ fn of_run(unit: u64, fault: RunFault) -> FlatVerdict
         RunFault::OpenSequence => (23, 0),
         RunFault::Memory => (24, 0),
     };
-    FlatVerdict {
-        offset: unit,
-        index,
-        ..numbered(26, detail)
-    }
+    placed(26, detail, unit, index, 0)
 }
 
 fn which_number(which: EntryTable) -> u32
@@ -152,31 +155,11 @@ pub(crate) fn verdict_of_no(no: No) -> FlatVerdict
     match no {
         No::Malformed(fault) => of_malformed(fault),
         No::Run(unit, fault) => of_run(unit, fault),
-        No::EntryFormat(unit, which) => FlatVerdict {
-            offset: unit,
-            ..numbered(27, which_number(which))
-        },
-        No::StringOutside(unit, which, entry) => FlatVerdict {
-            offset: unit,
-            index: entry,
-            ..numbered(28, which_number(which))
-        },
-        No::DirectoryNumber(unit, file) => FlatVerdict {
-            offset: unit,
-            index: file,
-            ..numbered(29, 0)
-        },
-        No::FileNumber(unit, row, file) => FlatVerdict {
-            offset: unit,
-            index: row,
-            value: file,
-            ..numbered(30, 0)
-        },
-        No::Falls(unit, row) => FlatVerdict {
-            offset: unit,
-            index: row,
-            ..numbered(31, 0)
-        },
+        No::EntryFormat(unit, which) => placed(27, which_number(which), unit, 0, 0),
+        No::StringOutside(unit, which, entry) => placed(28, which_number(which), unit, entry, 0),
+        No::DirectoryNumber(unit, file) => placed(29, 0, unit, file, 0),
+        No::FileNumber(unit, row, file) => placed(30, 0, unit, row, file),
+        No::Falls(unit, row) => placed(31, 0, unit, row, 0),
         No::Overlap {
             first,
             second,
@@ -209,17 +192,6 @@ pub(crate) fn at(position: Position, number: u32) -> FlatVerdict
     }
 }
 
-// What is wrong with a record of a table.
-fn of_record(number: u32, entry: u64, column: u64) -> FlatVerdict
-    ensures { result ≡ record (numbered number 0) { index = entry; value = column } }
-{
-    FlatVerdict {
-        index: entry,
-        value: column,
-        ..numbered(number, 0)
-    }
-}
-
 // What a check finds.
 pub(crate) fn verdict_of_table(verdict: Verdict) -> FlatVerdict
     ensures { result ≡ verdict_of_table verdict }
@@ -231,9 +203,9 @@ pub(crate) fn verdict_of_table(verdict: Verdict) -> FlatVerdict
     match no {
         TableNo::Section(no) => verdict_of_no(no),
         TableNo::TableHeader => numbered(36, 0),
-        TableNo::TableFields(number) => of_record(37, number, 0),
-        TableNo::TableNumber(record, column) => of_record(38, record, column),
-        TableNo::TableOrder(number) => of_record(39, number, 0),
+        TableNo::TableFields(number) => placed(37, 0, 0, number, 0),
+        TableNo::TableNumber(record, column) => placed(38, 0, 0, record, column),
+        TableNo::TableOrder(number) => placed(39, 0, 0, number, 0),
         TableNo::Differs {
             position,
             by_table,

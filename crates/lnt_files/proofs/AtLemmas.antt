@@ -40,13 +40,13 @@ after_first table walk first le e =
 pub after_more : (table old new : BorrowedTable) (count : ℕ) (step : Option EntryView) → IsAfter table old count
     → count < length table.entries → EntryStep old step new → IsAfter table new (count + 1)
 after_more table old new count (Some view) b lt g =
-    record { seen = b.seen ++ g.entry ∷ []; has_seen = seen_more b.seen table old new count view b.has_seen g }
-after_more table old new count None b lt ends = absurd (some_left b.seen table old new count b.has_seen lt ends)
+    record { seen = b.seen ++ g.entry ∷ []; has_seen = seen_more b.has_seen g }
+after_more table old new count None b lt ends = absurd (some_left b.has_seen new lt ends)
 
 pub there : (table old new : BorrowedTable) (count : ℕ) (step : Option EntryView) → IsAfter table old count → count < length table.entries
     → EntryStep old step new → step ≡ None → ⊥
 there table old new count step b lt ends e =
-    some_left b.seen table old new count b.has_seen lt (subst (λ (s : Option EntryView). EntryStep old s new) e ends)
+    some_left b.has_seen new lt (subst (λ (s : Option EntryView). EntryStep old s new) e ends)
 
 -- none of this number
 pub not_there : (table : BorrowedTable) (number : ℕ) → length table.entries ≤ number → EntryAt table number None
@@ -60,12 +60,12 @@ get_after (x ∷ xs) ys y (suc n) e = get_after xs ys y n (omega arith)
 
 pub entry_is : (table old new : BorrowedTable) (number : ℕ) (step : Option EntryView) → IsAfter table old number
     → number < length table.entries → EntryStep old step new → EntryAt table number step
-entry_is table old new number None b lt ends = absurd (some_left b.seen table old new number b.has_seen lt ends)
+entry_is table old new number None b lt ends = absurd (some_left b.has_seen new lt ends)
 entry_is table old new number (Some view) b lt g = (
   g.entry,
   ap (λ (es : List Entry). slice_get es number) (b.has_seen.joined ∙ ap (λ (es : List Entry). b.seen ++ es) g.entries_are)
       ∙ get_after b.seen new.entries g.entry number b.has_seen.count_is,
-  says_in b.seen table old new number view b.has_seen g,
+  says_in b.has_seen g,
 )
 
 -- ---- what is asked of an entry

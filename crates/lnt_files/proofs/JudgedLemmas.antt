@@ -23,31 +23,27 @@ use Rattle.lnt_files.specs.Walks.{Says, EntryStep, GivesEntry}
 pub seen_none : (table : BorrowedTable) → HasSeenEntries [] table table 0
 seen_none table = record { joined = refl; count_is = refl; pairs_are = refl }
 
-pub seen_more : (seen : List Entry) (table old new : BorrowedTable) (count : ℕ) (view : EntryView) → HasSeenEntries seen table old count
-    → (g : GivesEntry old view new) → HasSeenEntries (seen ++ g.entry ∷ []) table new (count + 1)
-seen_more seen table old new count view s g = record {
-  joined = s.joined ∙ ap (λ (es : List Entry). seen ++ es) g.entries_are ∙ sym (append_assoc seen (g.entry ∷ []) new.entries);
-  count_is = omega (arith, s.count_is, length-append seen (g.entry ∷ []));
-  pairs_are = g.pairs_are ∙ s.pairs_are;
-}
+module _ {seen : List Entry} {table old : BorrowedTable} {count : ℕ} (s : HasSeenEntries seen table old count) where
+  pub seen_more : {new : BorrowedTable} {view : EntryView} → (g : GivesEntry old view new)
+      → HasSeenEntries (seen ++ g.entry ∷ []) table new (count + 1)
+  seen_more {new} g = record {
+    joined = s.joined ∙ ap (λ (es : List Entry). seen ++ es) g.entries_are ∙ sym (append_assoc seen (g.entry ∷ []) new.entries);
+    count_is = omega (arith, s.count_is, length-append seen (g.entry ∷ []));
+    pairs_are = g.pairs_are ∙ s.pairs_are;
+  }
 
--- what it says by the table's format
-pub says_in : (seen : List Entry) (table old new : BorrowedTable) (count : ℕ) (view : EntryView) → HasSeenEntries seen table old count
-    → (g : GivesEntry old view new) → Says table.pairs g.entry view
-says_in seen table old new count view s g = subst (λ (ps : List Pair). Says ps g.entry view) s.pairs_are g.says
+  -- what it says by the table's format
+  pub says_in : {new : BorrowedTable} {view : EntryView} → (g : GivesEntry old view new) → Says table.pairs g.entry view
+  says_in {view = view} g = subst (λ (ps : List Pair). Says ps g.entry view) s.pairs_are g.says
 
-pub seen_all : (seen : List Entry) (table walk : BorrowedTable) (count : ℕ) → HasSeenEntries seen table walk count
-    → length table.entries ≤ count
-    → seen ≡ table.entries
-seen_all seen table walk count s le =
-    let none : walk.entries ≡ [] =
-    nil_from_length walk.entries (omega (arith, ap length s.joined, length-append seen walk.entries, s.count_is, le)) in
-    sym (append-nil seen) ∙ ap (λ (es : List Entry). seen ++ es) (sym none) ∙ sym s.joined
+  seen_all : length table.entries ≤ count → seen ≡ table.entries
+  seen_all le =
+      let none : old.entries ≡ [] =
+      nil_from_length old.entries (omega (arith, ap length s.joined, length-append seen old.entries, s.count_is, le)) in
+      sym (append-nil seen) ∙ ap (λ (es : List Entry). seen ++ es) (sym none) ∙ sym s.joined
 
-pub some_left : (seen : List Entry) (table old new : BorrowedTable) (count : ℕ) → HasSeenEntries seen table old count
-    → count < length table.entries → EntryStep old None new → ⊥
-some_left seen table old new count s lt ends =
-    omega (arith, ap length s.joined, length-append seen old.entries, s.count_is, lt, ap length ends.0)
+  pub some_left : (new : BorrowedTable) → count < length table.entries → EntryStep old None new → ⊥
+  some_left new lt ends = omega (arith, ap length s.joined, length-append seen old.entries, s.count_is, lt, ap length ends.0)
 
 -- ---- all that were seen
 
@@ -65,42 +61,37 @@ pub all_begun : (line general : List ℕ) (table walk : BorrowedTable) → walk 
 all_begun line general table walk e =
     subst (λ (w : BorrowedTable). AllHavePaths line general table w 0) (sym e) (record { seen = []; has_seen = seen_none table; all = tt })
 
-pub never_ends : (line general : List ℕ) (table old new : BorrowedTable) (count : ℕ) → AllHavePaths line general table old count
-    → count < length table.entries → EntryStep old None new → ⊥
-never_ends line general table old new count a lt ends = some_left a.seen table old new count a.has_seen lt ends
-
 -- what a test of the next entry tells
 abbrev pub TellsPath : List ℕ → List ℕ → Bool → EntryView → Type 0
 TellsPath line general told view =
     (pairs : List Pair) (entry : Entry) → Says pairs entry view → IsTrue told ↔ HasPath line general pairs entry
 
-pub all_stepped : (line general : List ℕ) (table old new : BorrowedTable) (count : ℕ) (view : EntryView) (told : Bool)
-    → AllHavePaths line general table old count → GivesEntry old view new
-    → TellsPath line general told view → IsTrue told → AllHavePaths line general table new (count + 1)
-all_stepped line general table old new count view told a g tells is = record {
-  seen = a.seen ++ g.entry ∷ [];
-  has_seen = seen_more a.seen table old new count view a.has_seen g;
-  all = all_push (HasPath line general table.pairs) a.seen g.entry a.all
-      ((tells table.pairs g.entry (says_in a.seen table old new count view a.has_seen g)).0 is);
-}
+module _ {line general : List ℕ} {table old : BorrowedTable} {count : ℕ} (a : AllHavePaths line general table old count) where
+  pub never_ends : (new : BorrowedTable) → count < length table.entries → EntryStep old None new → ⊥
+  never_ends new lt ends = some_left a.has_seen new lt ends
 
-pub all_done : (line general : List ℕ) (table walk : BorrowedTable) (count : ℕ) → AllHavePaths line general table walk count
-    → length table.entries ≤ count → AllByRecursion (HasPath line general table.pairs) table.entries
-all_done line general table walk count a le =
-    subst (AllByRecursion (HasPath line general table.pairs)) (seen_all a.seen table walk count a.has_seen le) a.all
+  pub all_stepped : {new : BorrowedTable} {view : EntryView} (told : Bool) → GivesEntry old view new → TellsPath line general told view
+      → IsTrue told → AllHavePaths line general table new (count + 1)
+  all_stepped told g tells is = record {
+    seen = a.seen ++ g.entry ∷ [];
+    has_seen = seen_more a.has_seen g;
+    all = all_push (HasPath line general table.pairs) a.seen g.entry a.all ((tells table.pairs g.entry (says_in a.has_seen g)).0 is);
+  }
 
-pub all_but : (line general : List ℕ) (table old new : BorrowedTable) (count : ℕ) (view : EntryView) (told : Bool)
-    → AllHavePaths line general table old count → GivesEntry old view new
-    → TellsPath line general told view → (IsTrue told → ⊥) → IsFirstNot (HasPath line general table.pairs) table.entries count
-all_but line general table old new count view told a g tells other = record {
-  before = a.seen;
-  value = g.entry;
-  past = new.entries;
-  joined = a.has_seen.joined ∙ ap (λ (es : List Entry). a.seen ++ es) g.entries_are;
-  index_is = sym a.has_seen.count_is;
-  all_before = a.all;
-  not_so = λ has. other ((tells table.pairs g.entry (says_in a.seen table old new count view a.has_seen g)).1 has);
-}
+  pub all_done : length table.entries ≤ count → AllByRecursion (HasPath line general table.pairs) table.entries
+  all_done le = subst (AllByRecursion (HasPath line general table.pairs)) (seen_all a.has_seen le) a.all
+
+  pub all_but : {new : BorrowedTable} {view : EntryView} (told : Bool) → GivesEntry old view new → TellsPath line general told view
+      → (IsTrue told → ⊥) → IsFirstNot (HasPath line general table.pairs) table.entries count
+  all_but {new} told g tells other = record {
+    before = a.seen;
+    value = g.entry;
+    past = new.entries;
+    joined = a.has_seen.joined ∙ ap (λ (es : List Entry). a.seen ++ es) g.entries_are;
+    index_is = sym a.has_seen.count_is;
+    all_before = a.all;
+    not_so = λ has. other ((tells table.pairs g.entry (says_in a.has_seen g)).1 has);
+  }
 
 -- ---- formats
 
@@ -142,81 +133,58 @@ no_more P xs x k None false count tells m = here P xs x k count m (λ p. false_i
 
 -- what the first files are, up to the first of them without its directory
 pub record FilesSeen (line general : List ℕ) (directories : ℕ) (table walk : BorrowedTable) (count : ℕ) (missing : Option ℕ) : Type 0 where
-  pub seen : List Entry
-  pub has_seen : HasSeenEntries seen table walk count
-  pub paths : AllByRecursion (HasPath line general table.pairs) seen
-  pub numbers : Missing (NamesDirectoryBelow directories table.pairs) seen missing
-
-their_paths : (line general : List ℕ) (directories : ℕ) (table walk : BorrowedTable) (count : ℕ) (missing : Option ℕ)
-    → FilesSeen line general directories table walk count missing → AllHavePaths line general table walk count
-their_paths line general directories table walk count missing s = record { seen = s.seen; has_seen = s.has_seen; all = s.paths }
+  pub of_paths : AllHavePaths line general table walk count
+  pub numbers : Missing (NamesDirectoryBelow directories table.pairs) of_paths.seen missing
 
 pub files_begun : (line general : List ℕ) (directories : ℕ) (table walk : BorrowedTable) → walk ≡ table
     → FilesSeen line general directories table walk 0 None
 files_begun line general directories table walk e =
     subst (λ (w : BorrowedTable). FilesSeen line general directories table w 0 None) (sym e)
-    (record { seen = []; has_seen = seen_none table; paths = tt; numbers = tt })
+    (record { of_paths = record { seen = []; has_seen = seen_none table; all = tt }; numbers = tt })
 
 -- what a directory number of the next entry tells
 abbrev pub TellsNumber : ℕ → EntryView → Type 0
 TellsNumber number view = (pairs : List Pair) (entry : Entry) → Says pairs entry view → number ≡ directory_number pairs entry
 
-pub files_stepped : (line general : List ℕ) (directories : ℕ) (table old new : BorrowedTable) (count : ℕ) (missing : Option ℕ)
-    (view : EntryView) (told below : Bool) (number : ℕ)
-    → FilesSeen line general directories table old count missing → GivesEntry old view new → TellsPath line general told view → IsTrue told
-    → TellsNumber number view → IsTrue below ↔ (number < directories)
-    → FilesSeen line general directories table new (count + 1) (first_missing missing count below)
-files_stepped line general directories table old new count missing view told below number s g tells is names lower =
-    let says = says_in s.seen table old new count view s.has_seen g in
-    let number_is : number ≡ directory_number table.pairs g.entry = names table.pairs g.entry says in
-    record {
-      seen = s.seen ++ g.entry ∷ [];
-      has_seen = seen_more s.seen table old new count view s.has_seen g;
-      paths = all_push (HasPath line general table.pairs) s.seen g.entry s.paths ((tells table.pairs g.entry says).0 is);
-      numbers = no_more (NamesDirectoryBelow directories table.pairs) s.seen g.entry count missing below s.has_seen.count_is
-          ((λ t. omega (arith, lower.0 t, number_is)), (λ lt. lower.1 (omega (arith, lt, number_is)))) s.numbers;
-    }
+module _ {line general : List ℕ} {directories : ℕ} {table old : BorrowedTable} {count : ℕ} {missing : Option ℕ}
+    (s : FilesSeen line general directories table old count missing) where
+  pub files_stepped : {new : BorrowedTable} {view : EntryView} (told below : Bool) (number : ℕ) → GivesEntry old view new
+      → TellsPath line general told view → IsTrue told → TellsNumber number view → IsTrue below ↔ (number < directories)
+      → FilesSeen line general directories table new (count + 1) (first_missing missing count below)
+  unfolding all_stepped
+  files_stepped told below number g tells is names lower =
+      let seen = s.of_paths.has_seen in
+      let number_is : number ≡ directory_number table.pairs g.entry = names table.pairs g.entry (says_in seen g) in
+      record {
+        of_paths = all_stepped s.of_paths told g tells is;
+        numbers = no_more (NamesDirectoryBelow directories table.pairs) s.of_paths.seen g.entry count missing below seen.count_is
+            ((λ t. omega (arith, lower.0 t, number_is)), (λ lt. lower.1 (omega (arith, lt, number_is)))) s.numbers;
+      }
 
-pub files_never_end : (line general : List ℕ) (directories : ℕ) (table old new : BorrowedTable) (count : ℕ) (missing : Option ℕ)
-    → FilesSeen line general directories table old count missing → count < length table.entries
-    → EntryStep old None new → ⊥
-files_never_end line general directories table old new count missing s lt ends = some_left s.seen table old new count s.has_seen lt ends
+  pub files_never_end : (new : BorrowedTable) → count < length table.entries → EntryStep old None new → ⊥
+  files_never_end new lt ends = never_ends s.of_paths new lt ends
 
-pub files_but : (line general : List ℕ) (directories : ℕ) (table old new : BorrowedTable) (count : ℕ) (missing : Option ℕ)
-    (view : EntryView) (told : Bool) → FilesSeen line general directories table old count missing
-    → GivesEntry old view new → TellsPath line general told view → (IsTrue told → ⊥)
-    → IsFirstNot (HasPath line general table.pairs) table.entries count
-files_but line general directories table old new count missing view told s g tells other =
-    all_but line general table old new count view told (their_paths line general directories table old count missing s) g tells other
+  pub files_but : {new : BorrowedTable} {view : EntryView} (told : Bool) → GivesEntry old view new → TellsPath line general told view
+      → (IsTrue told → ⊥) → IsFirstNot (HasPath line general table.pairs) table.entries count
+  files_but told g tells other = all_but s.of_paths told g tells other
 
-numbers_done : (line general : List ℕ) (directories : ℕ) (table walk : BorrowedTable) (count : ℕ) (missing : Option ℕ)
-    → (s : FilesSeen line general directories table walk count missing) → length table.entries ≤ count
-    → Missing (NamesDirectoryBelow directories table.pairs) table.entries missing
-numbers_done line general directories table walk count missing s le =
-    subst (λ (es : List Entry). Missing (NamesDirectoryBelow directories table.pairs) es missing)
-    (seen_all s.seen table walk count s.has_seen le)
-    s.numbers
+  numbers_done : length table.entries ≤ count → Missing (NamesDirectoryBelow directories table.pairs) table.entries missing
+  numbers_done le =
+      subst (λ (es : List Entry). Missing (NamesDirectoryBelow directories table.pairs) es missing) (seen_all s.of_paths.has_seen le)
+      s.numbers
 
-pub files_sound : (line general : List ℕ) (directories : ℕ) (table walk : BorrowedTable) (count : ℕ) (missing : Option ℕ)
-    → FilesSeen line general directories table walk count missing → length table.entries ≤ count
-    → missing ≡ None → HasAll line general directories table
-files_sound line general directories table walk count missing s le e =
-    let numbers : Missing (NamesDirectoryBelow directories table.pairs) table.entries None = subst
-    (Missing (NamesDirectoryBelow directories table.pairs) table.entries) e
-    (numbers_done line general directories table walk count missing s le) in
-    record {
-      paths = all_done line general table walk count (their_paths line general directories table walk count missing s) le;
-      numbers = numbers;
-    }
+  pub files_sound : length table.entries ≤ count → missing ≡ None → HasAll line general directories table
+  files_sound le e = record {
+    paths = all_done s.of_paths le;
+    numbers = subst (Missing (NamesDirectoryBelow directories table.pairs) table.entries) e (numbers_done le);
+  }
 
-pub files_missing : (line general : List ℕ) (directories : ℕ) (table walk : BorrowedTable) (count index : ℕ) (missing : Option ℕ)
-    → FilesSeen line general directories table walk count missing → length table.entries ≤ count
-    → missing ≡ Some index → IsFilesFault line general directories table (DirectoryNumber index)
-files_missing line general directories table walk count index missing s le e =
-    let numbers : Missing (NamesDirectoryBelow directories table.pairs) table.entries (Some index) = subst
-    (Missing (NamesDirectoryBelow directories table.pairs) table.entries) e
-    (numbers_done line general directories table walk count missing s le) in
-    (all_done line general table walk count (their_paths line general directories table walk count missing s) le, numbers)
+  pub files_missing : (index : ℕ) → length table.entries ≤ count → missing ≡ Some index
+      → IsFilesFault line general directories table (DirectoryNumber index)
+  files_missing index le e =
+      let numbers : Missing (NamesDirectoryBelow directories table.pairs) table.entries (Some index) =
+      subst (Missing (NamesDirectoryBelow directories table.pairs) table.entries) e (numbers_done le) in
+      (all_done s.of_paths le, numbers)
 
 -- ---- both tables
 

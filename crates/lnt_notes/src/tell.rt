@@ -331,25 +331,19 @@ pub fn tell_table<O: Opener, N: Write>(
 ) -> io::Result<()>
     ensures { OnOk result (AddsNotes (N.contents notes.old) (N.contents notes.new)) }
 {
-    let note = match fault {
-        TableFault::Header => Note::TableHeader,
-        TableFault::Fields(record) => {
-            let line = line_again(alloc, record, table, opener);
-            Note::TableRecord(line, RecordRule::Fields)
-        }
+    let (record, rule) = match fault {
+        TableFault::Header => return print_note(Note::TableHeader, notes),
+        TableFault::Fields(record) => (record, RecordRule::Fields),
         TableFault::Number(record, column) => {
             let Some(column) = column_at(columns, column) else {
                 return Ok(());
             };
-            let line = line_again(alloc, record, table, opener);
-            Note::TableRecord(line, RecordRule::Kind(column))
+            (record, RecordRule::Kind(column))
         }
-        TableFault::Order(record) => {
-            let line = line_again(alloc, record, table, opener);
-            Note::TableRecord(line, RecordRule::Order)
-        }
+        TableFault::Order(record) => (record, RecordRule::Order),
     };
-    print_note(note, notes)
+    let line = line_again(alloc, record, table, opener);
+    print_note(Note::TableRecord(line, rule), notes)
 }
 
 fn line_again<O: Opener>(alloc: Global, record: u64, table: &str, opener: &O) -> Option<u64> {

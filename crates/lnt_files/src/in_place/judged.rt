@@ -64,7 +64,7 @@ fn first_without_path(table: &EntryTableView<'_>, ends: &StringEnds<'_>) -> Opti
 }
 
 // What is wrong with the files of a header with this many directories, if the format of the files is usable.
-#[tactic(auto, using(crate::proofs::JudgedLemmas::files_begun, crate::proofs::JudgedLemmas::files_stepped, crate::proofs::JudgedLemmas::files_never_end, crate::proofs::JudgedLemmas::files_but, crate::proofs::JudgedLemmas::files_sound, crate::proofs::JudgedLemmas::files_missing))]
+#[tactic(auto, using(crate::proofs::JudgedLemmas::files_stepped, crate::proofs::JudgedLemmas::files_never_end, crate::proofs::JudgedLemmas::files_but, crate::proofs::JudgedLemmas::files_sound, crate::proofs::JudgedLemmas::files_missing))]
 fn files_fault(
     files: &EntryTableView<'_>,
     ends: &StringEnds<'_>,

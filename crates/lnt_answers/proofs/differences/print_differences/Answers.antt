@@ -1,8 +1,5 @@
 use Rattle.std.proofs.Common.{◌∙◌, refl}
 use Rattle.lnt_io.proofs.FrontLaws.{so_stopped}
-use Rattle.lnt_spans.specs.Differing.{HasTold}
-use Rattle.lnt_spans.specs.Stretches.{stretch_of}
-use Rattle.lnt_answers.specs.DifferenceLines.{stretch_line}
 use Rattle.lnt_answers.proofs.ScopeLemmas.{all_printed, printed_more, printed_none, stopped_within}
 use Rattle.lnt_answers.proofs.StretchLemmas.{more_stretches}
 use Rattle.lnt_answers.proofs.differences.print_differences.Goals as goal
@@ -10,8 +7,7 @@ use Rattle.lnt_answers.proofs.differences.print_differences.Goals as goal
 pub loop-difference-init : goal.loop-difference-init
 loop-difference-init g c = (
   c.new-lines.ensures.scope,
-  λ f f' h. printed_none stretch_of stretch_line (HasTold g.S.SpanSource.to_come g.T.SpanSource.to_come c.args.differences f f')
-      c.args.scope (g.W.Write.contents c.args.out.now) c.new-lines.result.is_right h c.new-lines.ensures.right,
+  λ f f' h. printed_none h c.new-lines.ensures.right,
 )
 
 pub next_difference-requires : goal.next_difference-requires
@@ -25,12 +21,7 @@ loop-difference-preserved g c = (
   c.print.ensures.scope ∙ c.loop-difference.invariant.0,
   λ f f' h.
       let printed = c.loop-difference.invariant.1 f f' h in
-      printed_more stretch_of stretch_line
-      (HasTold g.S.SpanSource.to_come g.T.SpanSource.to_come c.loop-difference.differences f f')
-      (HasTold g.S.SpanSource.to_come g.T.SpanSource.to_come c.next_difference.new.self f f')
-      c.args.scope (g.W.Write.contents c.args.out.now) (g.W.Write.contents c.loop-difference.out) (g.W.Write.contents c.print.new.out)
-      c.in-Some.difference c.is_some-is_answered.result c.loop-difference.lines.is_right c.print.new.self.is_right printed
-      (c.in-Some.ensures.told f f' printed.given printed.so) c.is_some-is_answered.ensures
+      printed_more c.in-Some.difference printed (c.in-Some.ensures.told f f' printed.given printed.so) c.is_some-is_answered.ensures
       (rw c.loop-difference.invariant.0 at c.in_ok-print.ensures.line) (rw c.loop-difference.invariant.0 at c.in_ok-print.ensures.right),
 )
 
@@ -39,10 +30,7 @@ returns-in_err-print-clause-begun g c =
     so_stopped c.from_residual.result _
     (λ f f' h.
     let printed = c.loop-difference.invariant.1 f f' h in
-    stopped_within stretch_of stretch_line
-    (HasTold g.S.SpanSource.to_come g.T.SpanSource.to_come c.loop-difference.differences f f')
-    c.args.scope f f' (g.W.Write.contents c.args.out.now) (g.W.Write.contents c.loop-difference.out) (g.W.Write.contents c.print.new.out)
-    c.in-Some.difference c.is_some-is_answered.result c.loop-difference.lines.is_right printed
+    stopped_within c.in-Some.difference printed
     (more_stretches g.S.SpanSource.to_come g.T.SpanSource.to_come c.next_difference.new.self f f' _
     (c.in-Some.ensures.told f f' printed.given printed.so))
     c.is_some-is_answered.ensures (rw c.loop-difference.invariant.0 at c.in_err-print.ensures.front))
@@ -50,8 +38,5 @@ returns-in_err-print-clause-begun g c =
 pub returns-clause-lines : goal.returns-clause-lines
 returns-clause-lines g c f f' h =
     let printed = c.loop-difference.invariant.1 f f' h in
-    all_printed stretch_of stretch_line
-    (HasTold g.S.SpanSource.to_come g.T.SpanSource.to_come c.loop-difference.differences f f')
-    c.args.scope f f' (g.W.Write.contents c.args.out.now) (g.W.Write.contents c.loop-difference.out) c.loop-difference.lines.is_right
-    c.missed.result c.if_right.result printed (c.in_default.ensures.told f f' printed.given printed.so)
+    all_printed printed (c.in_default.ensures.told f f' printed.given printed.so)
     (c.missed.ensures ∙ c.in_default.ensures.missed f f' printed.given printed.so refl) c.if_right.ensures

@@ -1,9 +1,7 @@
 use Rattle.std.proofs.Common.{◌∙◌}
 use Rattle.lnt_io.proofs.FrontLaws.{so_stopped}
-use Rattle.lnt_paths.specs.PathStretches.{stretch_of, stretches_of}
-use Rattle.lnt_paths.specs.Stretching.{HasToldByPath}
+use Rattle.lnt_paths.specs.PathStretches.{stretches_of}
 use Rattle.lnt_paths.proofs.CompletionLaws.{path_stretches_on}
-use Rattle.lnt_answers.specs.DifferenceLines.{path_stretch_line}
 use Rattle.lnt_answers.proofs.PathStretchLemmas.{answered_so}
 use Rattle.lnt_answers.proofs.ScopeLemmas.{all_printed, printed_more, printed_none, stopped_between, stopped_within}
 use Rattle.lnt_answers.proofs.stretches.print_path_differences.Goals as goal
@@ -11,9 +9,7 @@ use Rattle.lnt_answers.proofs.stretches.print_path_differences.Goals as goal
 pub loop-lines-init : goal.loop-lines-init
 loop-lines-init g c = (
   c.new-lines.ensures.scope,
-  λ f f' h. printed_none stretch_of path_stretch_line
-      (λ given. HasToldByPath g.S.SpanSource.to_come (g.P.Paths.bytes_of c.args.paths.now) c.args.differences f f' (stretches_of given))
-      c.args.scope (g.W.Write.contents c.args.out.now) c.new-lines.result.is_right h c.new-lines.ensures.right,
+  λ f f' h. printed_none h c.new-lines.ensures.right,
 )
 
 pub next_difference-requires : goal.next_difference-requires
@@ -27,9 +23,7 @@ returns-in_err-difference-clause-begun g c =
     so_stopped c.from_residual.result _
     (λ f f' h.
     let printed = c.loop-lines.invariant.1 f f' h in
-    stopped_between stretch_of path_stretch_line
-    (λ given. HasToldByPath g.S.SpanSource.to_come (g.P.Paths.bytes_of c.args.paths.now) c.loop-lines.differences f f' (stretches_of given))
-    c.args.scope f f' (g.W.Write.contents c.args.out.now) (g.W.Write.contents c.loop-lines.out) c.loop-lines.lines.is_right printed
+    stopped_between printed
     (path_stretches_on g.S.SpanSource.to_come (g.P.Paths.bytes_of c.args.paths.now) c.loop-lines.differences f f'
     (stretches_of printed.given) printed.so))
 
@@ -38,14 +32,7 @@ loop-lines-preserved g c = (
   c.print-printed.ensures.scope ∙ c.loop-lines.invariant.0,
   λ f f' h.
       let printed = c.loop-lines.invariant.1 f f' h in
-      printed_more stretch_of path_stretch_line
-      (λ given. HasToldByPath g.S.SpanSource.to_come (g.P.Paths.bytes_of c.args.paths.now) c.loop-lines.differences f f'
-      (stretches_of given))
-      (λ given. HasToldByPath g.S.SpanSource.to_come (g.P.Paths.bytes_of c.args.paths.now) c.next_difference.new.self f f'
-      (stretches_of given))
-      c.args.scope (g.W.Write.contents c.args.out.now) (g.W.Write.contents c.loop-lines.out)
-      (g.W.Write.contents c.print-printed.new.out) c.in-Some.difference c.is_some-is_answered.result c.loop-lines.lines.is_right
-      c.print-printed.new.self.is_right printed (rw c.in-Some.is at c.in_ok-difference.ensures.told f f' printed.given printed.so)
+      printed_more c.in-Some.difference printed (rw c.in-Some.is at c.in_ok-difference.ensures.told f f' printed.given printed.so)
       (answered_so c.in-Some.difference c.is_some-is_answered.result c.is_some-is_answered.ensures)
       (rw c.loop-lines.invariant.0 at c.in_ok-printed.ensures.line) (rw c.loop-lines.invariant.0 at c.in_ok-printed.ensures.right),
 )
@@ -56,11 +43,7 @@ returns-in_err-printed-clause-begun g c =
     (λ f f' h.
     let printed = c.loop-lines.invariant.1 f f' h in
     let told = rw c.in-Some.is at c.in_ok-difference.ensures.told f f' printed.given printed.so in
-    stopped_within stretch_of path_stretch_line
-    (λ given. HasToldByPath g.S.SpanSource.to_come (g.P.Paths.bytes_of c.args.paths.now) c.loop-lines.differences f f'
-    (stretches_of given))
-    c.args.scope f f' (g.W.Write.contents c.args.out.now) (g.W.Write.contents c.loop-lines.out)
-    (g.W.Write.contents c.print-printed.new.out) c.in-Some.difference c.is_some-is_answered.result c.loop-lines.lines.is_right printed
+    stopped_within c.in-Some.difference printed
     (path_stretches_on g.S.SpanSource.to_come (g.P.Paths.bytes_of c.args.paths.now) c.next_difference.new.self f f' _ told)
     (answered_so c.in-Some.difference c.is_some-is_answered.result c.is_some-is_answered.ensures)
     (rw c.loop-lines.invariant.0 at c.in_err-printed.ensures.front))
@@ -68,9 +51,5 @@ returns-in_err-printed-clause-begun g c =
 pub returns-clause-lines : goal.returns-clause-lines
 returns-clause-lines g c f f' h =
     let printed = c.loop-lines.invariant.1 f f' h in
-    all_printed stretch_of path_stretch_line
-    (λ given. HasToldByPath g.S.SpanSource.to_come (g.P.Paths.bytes_of c.args.paths.now) c.loop-lines.differences f f'
-    (stretches_of given))
-    c.args.scope f f' (g.W.Write.contents c.args.out.now) (g.W.Write.contents c.loop-lines.out) c.loop-lines.lines.is_right
-    c.missed.result c.if_right.result printed (rw c.in_default.is at c.in_ok-difference.ensures.told f f' printed.given printed.so)
+    all_printed printed (rw c.in_default.is at c.in_ok-difference.ensures.told f f' printed.given printed.so)
     (c.missed.ensures ∙ c.in_ok-difference.ensures.missed f f' printed.given printed.so c.in_default.is) c.if_right.ensures

@@ -1,117 +1,76 @@
-use Rattle.std.proofs.Common.{inl, inr}
 use Rattle.lnt_io.proofs.FrontLaws.{so_stopped}
-use Rattle.lnt_table.proofs.CheckLemmas.{each_known}
+use Rattle.std.proofs.Common.{inr}
 use Rattle.lnt_answers.proofs.PathStretchLemmas.{for_path_units}
 use Rattle.lnt_answers.proofs.ScopeLemmas.{end_begun, end_told}
-use Rattle.lnt_answers.proofs.StretchLemmas.{fault_begun, for_units, path_fault_begun}
-use Rattle.lnt_answers.specs.DifferenceLines.{AreDifferencesBegun, path_stretch_line, stretch_line}
+use Rattle.lnt_answers.proofs.StretchLemmas.{fault_begun, for_units, numbered_begun, path_begun, path_fault_begun}
 use Rattle.lnt_answers.proofs.stretches.print_stretches.Goals as goal
 
 pub returns-in_ok-status-in-Ok-Numbered-Table-clause-told : goal.returns-in_ok-status-in-Ok-Numbered-Table-clause-told
 returns-in_ok-status-in-Ok-Numbered-Table-clause-told g c dead skip units is =
-    for_units _ _ c.in-Ok-Numbered-Table.differences _ dead skip units (g.T.Source.remaining c.args.table.now) _
-    c.in-Ok-Numbered-Table.differences-is
-    (rw c.in-Ok-Numbered-Table.field-0-0-is
-    at (rw c.in-Ok-Numbered-Table.field-0-is at c.in-Ok-Numbered-Table.ensures.ok dead skip units is))
-    (λ f f' h all. end_told stretch_line c.args.scope f f' (g.W.Write.contents c.args.out.now)
-    (g.W.Write.contents c.print_differences.new.out) (g.W.Write.contents c.print_end.new.out)
-    c.in_ok-missed-in-Ok-Numbered-Table.missed _ _ (c.in_ok-missed-in-Ok-Numbered-Table.ensures.lines f f' h) all
+    for_units _ _ _ _ dead skip units _ _ c.in-Ok-Numbered-Table.differences-is
+    (rw (c.in-Ok-Numbered-Table.field-0-is, c.in-Ok-Numbered-Table.field-0-0-is) at (c.in-Ok-Numbered-Table.ensures.ok dead skip units is))
+    (λ f f' h all. end_told (c.in_ok-missed-in-Ok-Numbered-Table.ensures.lines f f' h) all
     (c.in_ok-status-in-Ok-Numbered-Table.ensures.text dead skip units is) c.in_ok-status-in-Ok-Numbered-Table.ensures.status)
 
 pub returns-in_ok-status-in-Ok-ByPath-Table-clause-told : goal.returns-in_ok-status-in-Ok-ByPath-Table-clause-told
 returns-in_ok-status-in-Ok-ByPath-Table-clause-told g c dead skip units is =
-    for_path_units _ c.args.index.now _ c.differences_by_path-differences.result c.in-Ok-ByPath-Table.version
-    c.in-Ok-ByPath-Table.spans.items c.deref.result.now dead skip units (g.T.Source.remaining c.args.table.now) _ c.deref.ensures.value
-    c.of-paths.ensures
-    (rw c.in-Ok-ByPath-Table.field-0-0-is
-    at (rw c.in-Ok-ByPath-Table.field-0-is at c.in-Ok-ByPath-Table.ensures.ok dead skip units is))
-    (rw c.in-Ok-ByPath-Table.field-0-0-is at (rw c.in-Ok-ByPath-Table.field-0-is at c.in-Ok-ByPath-Table.ensures.started))
+    for_path_units _ c.args.index.now _ _ _ _ _ dead skip units _ _ c.deref.ensures.value c.of-paths.ensures
+    (rw (c.in-Ok-ByPath-Table.field-0-is, c.in-Ok-ByPath-Table.field-0-0-is) at (c.in-Ok-ByPath-Table.ensures.ok dead skip units is))
+    (rw (c.in-Ok-ByPath-Table.field-0-is, c.in-Ok-ByPath-Table.field-0-0-is) at c.in-Ok-ByPath-Table.ensures.started)
     (c.differences_by_path-differences.ensures.told dead skip units is)
-    (λ f f' h all. end_told path_stretch_line c.args.scope f f' (g.W.Write.contents c.args.out.now)
-    (g.W.Write.contents c.print_path_differences-printed.new.out) (g.W.Write.contents c.print_end-in-Ok-ByPath-Table.new.out)
-    c.in_ok-missed-in-Ok-ByPath-Table.missed _ _ (c.in_ok-missed-in-Ok-ByPath-Table.ensures.lines f f' h) all
+    (λ f f' h all. end_told (c.in_ok-missed-in-Ok-ByPath-Table.ensures.lines f f' h) all
     (c.in_ok-status-in-Ok-ByPath-Table.ensures.text dead skip units is) c.in_ok-status-in-Ok-ByPath-Table.ensures.status)
 
 pub returns-in_err-missed-in-Ok-Numbered-Table-clause-begun : goal.returns-in_err-missed-in-Ok-Numbered-Table-clause-begun
 returns-in_err-missed-in-Ok-Numbered-Table-clause-begun g c =
     so_stopped c.from_residual.result _
     (inr (λ dead skip units is.
-    each_known (g.T.Source.remaining c.args.table.now) _ _
-    (for_units _ _ c.in-Ok-Numbered-Table.differences _ dead skip units (g.T.Source.remaining c.args.table.now)
-    (λ f f'. AreDifferencesBegun stretch_line c.args.scope f f' (g.W.Write.contents c.args.out.now) (g.W.Write.contents c.print_differences.new.out))
-    c.in-Ok-Numbered-Table.differences-is
-    (rw c.in-Ok-Numbered-Table.field-0-0-is
-    at (rw c.in-Ok-Numbered-Table.field-0-is at c.in-Ok-Numbered-Table.ensures.ok dead skip units is))
-    (λ f f' h all. c.in_err-missed-in-Ok-Numbered-Table.ensures.begun f f' h))
-    (λ text is. inr (inl is))))
+    numbered_begun _ c.args.index.now dead skip units _ _ _ _ _ c.in-Ok-Numbered-Table.differences-is
+    (rw (c.in-Ok-Numbered-Table.field-0-is, c.in-Ok-Numbered-Table.field-0-0-is) at (c.in-Ok-Numbered-Table.ensures.ok dead skip units is))
+    (λ f f' h all. c.in_err-missed-in-Ok-Numbered-Table.ensures.begun f f' h)))
 
 pub returns-in_err-status-in-Ok-Numbered-Table-clause-begun : goal.returns-in_err-status-in-Ok-Numbered-Table-clause-begun
 returns-in_err-status-in-Ok-Numbered-Table-clause-begun g c =
     so_stopped c.from_residual-in_err-status-in-Ok-Numbered-Table.result _
     (inr (λ dead skip units is.
-    each_known (g.T.Source.remaining c.args.table.now) _ _
-    (for_units _ _ c.in-Ok-Numbered-Table.differences _ dead skip units (g.T.Source.remaining c.args.table.now)
-    (λ f f'. AreDifferencesBegun stretch_line c.args.scope f f' (g.W.Write.contents c.args.out.now) (g.W.Write.contents c.print_end.new.out))
-    c.in-Ok-Numbered-Table.differences-is
-    (rw c.in-Ok-Numbered-Table.field-0-0-is
-    at (rw c.in-Ok-Numbered-Table.field-0-is at c.in-Ok-Numbered-Table.ensures.ok dead skip units is))
-    (λ f f' h all. end_begun stretch_line c.args.scope f f' (g.W.Write.contents c.args.out.now)
-    (g.W.Write.contents c.print_differences.new.out) (g.W.Write.contents c.print_end.new.out)
-    c.in_ok-missed-in-Ok-Numbered-Table.missed _ (c.in_ok-missed-in-Ok-Numbered-Table.ensures.lines f f' h) all
-    (c.in_err-status-in-Ok-Numbered-Table.ensures.front dead skip units is)))
-    (λ text is. inr (inl is))))
+    numbered_begun _ c.args.index.now dead skip units _ _ _ _ _ c.in-Ok-Numbered-Table.differences-is
+    (rw (c.in-Ok-Numbered-Table.field-0-is, c.in-Ok-Numbered-Table.field-0-0-is) at (c.in-Ok-Numbered-Table.ensures.ok dead skip units is))
+    (λ f f' h all. end_begun (c.in_ok-missed-in-Ok-Numbered-Table.ensures.lines f f' h) all
+    (c.in_err-status-in-Ok-Numbered-Table.ensures.front dead skip units is))))
 
 pub returns-in_err-missed-in-Ok-ByPath-Table-clause-begun : goal.returns-in_err-missed-in-Ok-ByPath-Table-clause-begun
 returns-in_err-missed-in-Ok-ByPath-Table-clause-begun g c =
     so_stopped c.from_residual-in_err-missed-in-Ok-ByPath-Table.result _
     (inr (λ dead skip units is.
-    each_known (g.T.Source.remaining c.args.table.now) _ _
-    (for_path_units _ c.args.index.now _ c.differences_by_path-differences.result c.in-Ok-ByPath-Table.version
-    c.in-Ok-ByPath-Table.spans.items c.deref.result.now dead skip units (g.T.Source.remaining c.args.table.now)
-    (λ f f'. AreDifferencesBegun path_stretch_line c.args.scope f f' (g.W.Write.contents c.args.out.now) (g.W.Write.contents c.print_path_differences-printed.new.out))
-    c.deref.ensures.value c.of-paths.ensures
-    (rw c.in-Ok-ByPath-Table.field-0-0-is
-    at (rw c.in-Ok-ByPath-Table.field-0-is at c.in-Ok-ByPath-Table.ensures.ok dead skip units is))
-    (rw c.in-Ok-ByPath-Table.field-0-0-is at (rw c.in-Ok-ByPath-Table.field-0-is at c.in-Ok-ByPath-Table.ensures.started))
+    path_begun _ c.args.index.now dead skip units _ _ _ _ _ _ c.deref.ensures.value c.of-paths.ensures
+    (rw (c.in-Ok-ByPath-Table.field-0-is, c.in-Ok-ByPath-Table.field-0-0-is) at (c.in-Ok-ByPath-Table.ensures.ok dead skip units is))
+    (rw (c.in-Ok-ByPath-Table.field-0-is, c.in-Ok-ByPath-Table.field-0-0-is) at c.in-Ok-ByPath-Table.ensures.started)
     (c.differences_by_path-differences.ensures.told dead skip units is)
-    (λ f f' h all. c.in_err-missed-in-Ok-ByPath-Table.ensures.begun f f' h))
-    (λ text is. inr (inr (inr is)))))
+    (λ f f' h all. c.in_err-missed-in-Ok-ByPath-Table.ensures.begun f f' h)))
 
 pub returns-in_err-status-in-Ok-ByPath-Table-clause-begun : goal.returns-in_err-status-in-Ok-ByPath-Table-clause-begun
 returns-in_err-status-in-Ok-ByPath-Table-clause-begun g c =
     so_stopped c.from_residual-in_err-status-in-Ok-ByPath-Table.result _
     (inr (λ dead skip units is.
-    each_known (g.T.Source.remaining c.args.table.now) _ _
-    (for_path_units _ c.args.index.now _ c.differences_by_path-differences.result c.in-Ok-ByPath-Table.version
-    c.in-Ok-ByPath-Table.spans.items c.deref.result.now dead skip units (g.T.Source.remaining c.args.table.now)
-    (λ f f'. AreDifferencesBegun path_stretch_line c.args.scope f f' (g.W.Write.contents c.args.out.now) (g.W.Write.contents c.print_end-in-Ok-ByPath-Table.new.out))
-    c.deref.ensures.value c.of-paths.ensures
-    (rw c.in-Ok-ByPath-Table.field-0-0-is
-    at (rw c.in-Ok-ByPath-Table.field-0-is at c.in-Ok-ByPath-Table.ensures.ok dead skip units is))
-    (rw c.in-Ok-ByPath-Table.field-0-0-is at (rw c.in-Ok-ByPath-Table.field-0-is at c.in-Ok-ByPath-Table.ensures.started))
+    path_begun _ c.args.index.now dead skip units _ _ _ _ _ _ c.deref.ensures.value c.of-paths.ensures
+    (rw (c.in-Ok-ByPath-Table.field-0-is, c.in-Ok-ByPath-Table.field-0-0-is) at (c.in-Ok-ByPath-Table.ensures.ok dead skip units is))
+    (rw (c.in-Ok-ByPath-Table.field-0-is, c.in-Ok-ByPath-Table.field-0-0-is) at c.in-Ok-ByPath-Table.ensures.started)
     (c.differences_by_path-differences.ensures.told dead skip units is)
-    (λ f f' h all. end_begun path_stretch_line c.args.scope f f' (g.W.Write.contents c.args.out.now)
-    (g.W.Write.contents c.print_path_differences-printed.new.out) (g.W.Write.contents c.print_end-in-Ok-ByPath-Table.new.out)
-    c.in_ok-missed-in-Ok-ByPath-Table.missed _ (c.in_ok-missed-in-Ok-ByPath-Table.ensures.lines f f' h) all
-    (c.in_err-status-in-Ok-ByPath-Table.ensures.front dead skip units is)))
-    (λ text is. inr (inr (inr is)))))
+    (λ f f' h all. end_begun (c.in_ok-missed-in-Ok-ByPath-Table.ensures.lines f f' h) all
+    (c.in_err-status-in-Ok-ByPath-Table.ensures.front dead skip units is))))
 
 pub returns-in_err-print_fault-in-Ok-Numbered-Fault-clause-begun : goal.returns-in_err-print_fault-in-Ok-Numbered-Fault-clause-begun
 returns-in_err-print_fault-in-Ok-Numbered-Fault-clause-begun g c =
     so_stopped c.from_residual-in_err-print_fault-in-Ok-Numbered-Fault.result _
     (inr (λ dead skip units is.
-    fault_begun _ c.args.scope c.args.index.now dead skip units (g.T.Source.remaining c.args.table.now)
-    (g.W.Write.contents c.args.out.now) (g.W.Write.contents c.print_fault.new.out) c.in-Ok-Numbered-Fault.fault
-    (rw c.in-Ok-Numbered-Fault.field-0-0-is
-    at (rw c.in-Ok-Numbered-Fault.field-0-is at c.in-Ok-Numbered-Fault.ensures.ok dead skip units is))
+    fault_begun _ c.args.index.now dead skip units _ _ c.in-Ok-Numbered-Fault.fault
+    (rw (c.in-Ok-Numbered-Fault.field-0-is, c.in-Ok-Numbered-Fault.field-0-0-is) at (c.in-Ok-Numbered-Fault.ensures.ok dead skip units is))
     c.in_err-print_fault-in-Ok-Numbered-Fault.ensures.front))
 
 pub returns-in_err-print_fault-in-Ok-ByPath-Fault-clause-begun : goal.returns-in_err-print_fault-in-Ok-ByPath-Fault-clause-begun
 returns-in_err-print_fault-in-Ok-ByPath-Fault-clause-begun g c =
     so_stopped c.from_residual-in_err-print_fault-in-Ok-ByPath-Fault.result _
     (inr (λ dead skip units is.
-    path_fault_begun c.args.scope c.args.index.now dead skip units (g.T.Source.remaining c.args.table.now)
-    (g.W.Write.contents c.args.out.now) (g.W.Write.contents c.print_fault-in-Ok-ByPath-Fault.new.out) c.in-Ok-ByPath-Fault.fault
-    (rw c.in-Ok-ByPath-Fault.field-0-0-is
-    at (rw c.in-Ok-ByPath-Fault.field-0-is at c.in-Ok-ByPath-Fault.ensures.ok dead skip units is))
+    path_fault_begun _ c.args.index.now dead skip units _ c.in-Ok-ByPath-Fault.fault
+    (rw (c.in-Ok-ByPath-Fault.field-0-is, c.in-Ok-ByPath-Fault.field-0-0-is) at (c.in-Ok-ByPath-Fault.ensures.ok dead skip units is))
     c.in_err-print_fault-in-Ok-ByPath-Fault.ensures.front))

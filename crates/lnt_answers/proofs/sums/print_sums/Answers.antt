@@ -7,23 +7,18 @@ use Rattle.lnt_answers.proofs.sums.print_sums.Goals as goal
 pub loop-unit-preserved : goal.loop-unit-preserved
 loop-unit-preserved g c =
     let before = c.loop-unit.invariant in
-    let told = sums_of_more (g.O.Opener.tells c.args.opener.now) (g.O.Opener.tells c.loop-unit.opener) c.args.index.now
-    c.args.index.now.units c.loop-unit.unit-index 0 (g.W.Write.contents c.args.out.now) (g.W.Write.contents c.loop-unit.out)
-    (g.W.Write.contents c.print_unit_sums.new.out) c.loop-unit.status c.in_ok-of_unit.of_unit (search rules) before.0 before.1
-    (search rules) in (
+    let told = sums_of_more {c = g.W.Write.contents c.print_unit_sums.new.out} {t = c.in_ok-of_unit.of_unit} before.0
+    c.args.index.now.units c.loop-unit.unit-index 0 (search rules) before.1 (search rules) in (
       λ name told so. before.0 name told (c.in_ok-of_unit.ensures.later name told so),
       rw c.together-status.ensures told,
     )
 
 pub returns-clause-sums : goal.returns-clause-sums
 returns-clause-sums g c =
-    sums_of_all (g.O.Opener.tells c.args.opener.now) c.args.index.now c.args.index.now.units c.loop-unit.unit-index
-    (g.W.Write.contents c.args.out.now) (g.W.Write.contents c.loop-unit.out) c.loop-unit.status (search rules) c.loop-unit.invariant.1
+    sums_of_all c.args.index.now.units c.loop-unit.unit-index (search rules) c.loop-unit.invariant.1
 
 pub returns-in_err-of_unit-clause-begun : goal.returns-in_err-of_unit-clause-begun
 returns-in_err-of_unit-clause-begun g c =
     so_stopped c.from_residual.result _
-    (units_stopped (g.O.Opener.tells c.args.opener.now) (g.O.Opener.tells c.loop-unit.opener) c.args.index.now c.args.index.now.units
-    c.loop-unit.unit-index 0 (g.W.Write.contents c.args.out.now) (g.W.Write.contents c.loop-unit.out)
-    (g.W.Write.contents c.print_unit_sums.new.out) c.loop-unit.status (search rules) c.loop-unit.invariant.0 c.loop-unit.invariant.1
-    (search rules))
+    (units_stopped {c = g.W.Write.contents c.print_unit_sums.new.out} c.loop-unit.invariant.0 c.args.index.now.units
+    c.loop-unit.unit-index 0 (search rules) c.loop-unit.invariant.1 (search rules))

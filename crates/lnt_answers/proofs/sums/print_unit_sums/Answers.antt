@@ -8,10 +8,7 @@ use Rattle.lnt_answers.proofs.sums.print_unit_sums.Goals as goal
 pub loop-file-preserved : goal.loop-file-preserved
 loop-file-preserved g c =
     let before = c.loop-file.invariant in
-    let told = sums_more (g.O.Opener.tells c.args.opener.now) (g.O.Opener.tells c.loop-file.opener) c.args.index.now c.args.unit
-    c.loop-file.file (g.W.Write.contents c.args.out.now) (g.W.Write.contents c.loop-file.out)
-    (g.W.Write.contents c.print_sum.new.out) c.loop-file.status c.in_ok-of_file.of_file before.0 before.1
-    c.in_ok-of_file.ensures.sum in (
+    let told = sums_more before.0 c.args.unit c.loop-file.file before.1 c.in_ok-of_file.ensures.sum in (
       λ name told so. before.0 name told (c.in_ok-of_file.ensures.later name told so),
       rw c.together-status.ensures told,
     )
@@ -19,7 +16,5 @@ loop-file-preserved g c =
 pub returns-in_err-of_file-clause-begun : goal.returns-in_err-of_file-clause-begun
 returns-in_err-of_file-clause-begun g c =
     so_stopped c.from_residual.result _
-    (sums_stopped (g.O.Opener.tells c.args.opener.now) (g.O.Opener.tells c.loop-file.opener) c.args.index.now c.args.unit
-    c.loop-file.file (file_count_in c.args.index.now c.args.unit) (g.W.Write.contents c.args.out.now) (g.W.Write.contents c.loop-file.out)
-    (g.W.Write.contents c.print_sum.new.out) c.loop-file.status (omega arith) c.loop-file.invariant.0 c.loop-file.invariant.1
-    c.in_err-of_file.ensures.begun)
+    (sums_stopped c.loop-file.invariant.0 c.args.unit c.loop-file.file (file_count_in c.args.index.now c.args.unit) (omega arith)
+    c.loop-file.invariant.1 c.in_err-of_file.ensures.begun)

@@ -7,35 +7,28 @@ use Rattle.lnt_dump.proofs.convert.print_section.Goals as goal
 
 pub loop-cursor-preserved : goal.loop-cursor-preserved
 loop-cursor-preserved g c =
-    walk_turned (section_walk c.args.order c.args.bytes.now c.args.format c.args.to) c.loop-cursor.invariant c.in-Ok.ensures.ok
-    c.in_ok-turn_full.ensures.ok
+    walk_turned (section_walk _ _ _ _) c.loop-cursor.invariant c.in-Ok.ensures.ok c.in_ok-turn_full.ensures.ok
 
 pub returns-in-Memory-clause-front : goal.returns-in-Memory-clause-front
-returns-in-Memory-clause-front g c =
-    walk_stopped (section_walk c.args.order c.args.bytes.now c.args.format c.args.to) c.loop-cursor.invariant
+returns-in-Memory-clause-front g c = walk_stopped (section_walk _ _ _ _) c.loop-cursor.invariant
 
 pub returns-in_err-turn_full-clause-front : goal.returns-in_err-turn_full-clause-front
 returns-in_err-turn_full-clause-front g c =
     so_stopped c.from_residual.result _
-    (walk_cut (section_walk c.args.order c.args.bytes.now c.args.format c.args.to) c.loop-cursor.invariant c.in-Ok.ensures.ok
-    c.in_err-turn_full.ensures.front)
+    (walk_cut (section_walk _ _ _ _) c.loop-cursor.invariant c.in-Ok.ensures.ok c.in_err-turn_full.ensures.front)
 
 pub returns-in_err-hand_on-clause-front : goal.returns-in_err-hand_on-clause-front
 returns-in_err-hand_on-clause-front g c =
     so_stopped c.from_residual-in_err-hand_on.result _
-    (walk_last_cut (section_walk c.args.order c.args.bytes.now c.args.format c.args.to) c.loop-cursor.invariant
-    c.in_err-hand_on.ensures.front)
+    (walk_last_cut (section_walk _ _ _ _) c.loop-cursor.invariant c.in_err-hand_on.ensures.front)
 
 pub returns-clause-ok : goal.returns-clause-ok
 returns-clause-ok g c =
-    walk_printed (section_walk c.args.order c.args.bytes.now c.args.format c.args.to) (g.W.Write.contents c.hand_on.new.out)
-    c.loop-cursor.invariant
+    walk_printed (section_walk _ _ _ _) (g.W.Write.contents c.hand_on.new.out) c.loop-cursor.invariant
     (omega (arith, eqb-true _ _ (sym c.is_empty.ensures ∙ c.loop-cursor-test.false), ap length c.rest.ensures))
     c.in_ok-hand_on.ensures.whole
 
 pub unreachable-requires : goal.unreachable-requires
 unreachable-requires g c =
-    c.in_default.not-Memory (section_stops c.args.order c.args.bytes.now c.args.format c.args.to c.loop-cursor.cursor
-    (g.W.Write.contents c.args.out.now) (g.W.Write.contents c.loop-cursor.out) c.loop-cursor.page.items c.in-Err.stop c.requires
-    c.loop-cursor.invariant
+    c.in_default.not-Memory (section_stops _ _ _ _ c.loop-cursor.cursor _ _ _ c.in-Err.stop c.requires c.loop-cursor.invariant
     (omega (arith, eqb-false _ _ (sym c.is_empty.ensures ∙ c.loop-cursor-test.true), ap length c.rest.ensures)) c.in-Err.ensures.err)

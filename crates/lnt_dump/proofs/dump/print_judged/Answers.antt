@@ -1,26 +1,22 @@
 use Rattle.lnt_io.proofs.FrontLaws.{so_stopped}
-use Rattle.lnt_dump.proofs.Dumps.{faulty_begun, faulty_told, valid_begun, valid_told}
+use Rattle.std.proofs.Common.{inr, refl}
+use Rattle.lnt_dump.proofs.Dumps.{faulty_begun, faulty_told, valid_so}
 use Rattle.lnt_dump.proofs.dump.print_judged.Goals as goal
 
 pub returns-in_err-print_valid-in-Ok-clause-begun : goal.returns-in_err-print_valid-in-Ok-clause-begun
 returns-in_err-print_valid-in-Ok-clause-begun g c =
     so_stopped c.from_residual.result _
-    (valid_begun c.args.shown c.args.frame.now c.args.unit.now (g.W.Write.contents c.args.out.now)
-    (g.W.Write.contents c.print_valid.new.out) c.in-Ok.ensures.ok c.in_err-print_valid-in-Ok.ensures.front)
+    (inr (valid_so c.args.unit.now c.in-Ok.ensures.ok c.in_err-print_valid-in-Ok.ensures.front))
 
 pub returns-in_ok-print_valid-in-Ok-clause-told : goal.returns-in_ok-print_valid-in-Ok-clause-told
 returns-in_ok-print_valid-in-Ok-clause-told g c =
-    valid_told c.args.unit.now
-    c.in-Ok.ensures.ok c.in_ok-print_valid-in-Ok.ensures.whole
+    (valid_so c.args.unit.now c.in-Ok.ensures.ok c.in_ok-print_valid-in-Ok.ensures.whole, refl)
 
 pub returns-in-Err-clause-told : goal.returns-in-Err-clause-told
 returns-in-Err-clause-told g c =
-    faulty_told c.args.shown c.args.frame.now c.args.unit.now.unit c.in-Err.fault
-    (g.W.Write.contents c.args.out.now) (g.W.Write.contents c.print_unit_fault.new.out) c.print_unit_fault.result c.requires
-    c.in-Err.ensures.err c.print_unit_fault.ensures.no c.print_unit_fault.ensures.line
+    faulty_told _ _ _ _ _ c.in-Err.fault c.print_unit_fault.result c.requires c.in-Err.ensures.err c.print_unit_fault.ensures.no
+    c.print_unit_fault.ensures.line
 
 pub returns-in-Err-clause-begun : goal.returns-in-Err-clause-begun
 returns-in-Err-clause-begun g c =
-    faulty_begun c.args.shown c.args.frame.now c.args.unit.now.unit c.in-Err.fault
-    (g.W.Write.contents c.args.out.now) (g.W.Write.contents c.print_unit_fault.new.out) c.print_unit_fault.result c.requires
-    c.in-Err.ensures.err c.print_unit_fault.ensures.front
+    faulty_begun _ _ _ _ _ c.in-Err.fault c.print_unit_fault.result c.requires c.in-Err.ensures.err c.print_unit_fault.ensures.front

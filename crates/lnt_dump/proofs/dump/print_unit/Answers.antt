@@ -3,12 +3,9 @@ use Rattle.lnt_dump.proofs.dump.print_unit.Goals as goal
 
 pub returns-in-Err-clause-told : goal.returns-in-Err-clause-told
 returns-in-Err-clause-told g c =
-    broken_told c.args.shown c.args.frame.now c.args.buffer.now c.in-Err.fault (g.W.Write.contents c.args.out.now)
-    (g.W.Write.contents c.print_fault.new.out) c.print_fault.result c.in-Err.ensures.err c.print_fault.ensures.told
-    c.print_fault.ensures.no c.print_fault.ensures.line
+    broken_told _ _ _ _ _ c.in-Err.fault c.in-Err.ensures.err c.print_fault.result c.print_fault.ensures.told c.print_fault.ensures.no
+    c.print_fault.ensures.line
 
 pub returns-in-Err-clause-begun : goal.returns-in-Err-clause-begun
 returns-in-Err-clause-begun g c =
-    broken_begun c.args.shown c.args.frame.now c.args.buffer.now c.in-Err.fault (g.W.Write.contents c.args.out.now)
-    (g.W.Write.contents c.print_fault.new.out) c.print_fault.result c.in-Err.ensures.err c.print_fault.ensures.kept
-    c.print_fault.ensures.front
+    broken_begun _ _ _ _ _ c.in-Err.fault c.in-Err.ensures.err c.print_fault.result c.print_fault.ensures.kept c.print_fault.ensures.front

@@ -9,20 +9,19 @@ returns-in_err-begin_page-clause-front g c =
 pub returns-in_err-print_shown_ops-clause-front : goal.returns-in_err-print_shown_ops-clause-front
 returns-in_err-print_shown_ops-clause-front g c =
     so_stopped c.from_residual-in_err-print_shown_ops.result _
-    (first_cut _ _ _ _ _ _ _ _ c.in_ok-begin_page.ensures.ok _ c.in_err-print_shown_ops.ensures.front)
+    (first_cut _ _ _ _ c.in_ok-begin_page.ensures.ok c.in_err-print_shown_ops.ensures.front)
 
 pub returns-in_err-print_shown_rows-clause-front : goal.returns-in_err-print_shown_rows-clause-front
 returns-in_err-print_shown_rows-clause-front g c =
     so_stopped c.from_residual-in_err-print_shown_rows.result _
-    (second_cut _ _ _ _ _ _ _ _ c.in_ok-begin_page.ensures.ok _ _ _ c.in_ok-print_shown_ops.ensures.ok
-    c.in_err-print_shown_rows.ensures.front)
+    (second_cut _ _ _ _ c.in_ok-begin_page.ensures.ok c.in_ok-print_shown_ops.ensures.ok c.in_err-print_shown_rows.ensures.front)
 
 pub returns-clause-whole : goal.returns-clause-whole
 returns-clause-whole g c =
-    parts_whole _ _ _ _ _ _ _ _ c.in_ok-begin_page.ensures.ok c.hand_on.result _ _ _ _ _ c.in_ok-print_shown_ops.ensures.ok
-    c.in_ok-print_shown_rows.ensures.ok c.hand_on.ensures.whole
+    parts_whole _ _ _ _ c.in_ok-begin_page.ensures.ok c.in_ok-print_shown_ops.ensures.ok c.in_ok-print_shown_rows.ensures.ok
+    c.hand_on.result _ c.hand_on.ensures.whole
 
 pub returns-clause-front : goal.returns-clause-front
 returns-clause-front g c =
-    parts_cut _ _ _ _ _ _ _ _ c.in_ok-begin_page.ensures.ok c.hand_on.result _ _ _ _ _ c.in_ok-print_shown_ops.ensures.ok
-    c.in_ok-print_shown_rows.ensures.ok c.hand_on.ensures.front
+    parts_cut _ _ _ _ c.in_ok-begin_page.ensures.ok c.in_ok-print_shown_ops.ensures.ok c.in_ok-print_shown_rows.ensures.ok
+    c.hand_on.result _ c.hand_on.ensures.front

@@ -18,8 +18,7 @@ put_line-requires g c =
 pub returns-in_err-put_line-clause-front : goal.returns-in_err-put_line-clause-front
 returns-in_err-put_line-clause-front g c =
     so_stopped c.from_residual.result _
-    (lines_stay c.args.name.now c.args.table.now c.loop-index.index c.loop-index.cursor c.args.page.now.items c.loop-index.page.items
-    (g.W.Write.contents c.args.out.now) (g.W.Write.contents c.loop-index.out) c.loop-index.invariant)
+    (lines_stay c.loop-index.invariant)
 
 pub returns-in_err-turn_full-clause-front : goal.returns-in_err-turn_full-clause-front
 returns-in_err-turn_full-clause-front g c =

@@ -9,5 +9,5 @@ pub returns-in_err-print_entries-clause-front : goal.returns-in_err-print_entrie
 returns-in_err-print_entries-clause-front g c =
     so_stopped c.from_residual-in_err-print_entries.result _
     (directories_cut c.args.frame.now c.args.header.now _ c.directories.result.now c.args.page.now.items c.put_numbers.new.text.items
-    (g.W.Write.contents c.args.out.now) (g.W.Write.contents c.print_entries.new.out) c.numbers.ensures.numbers
-    c.directories.ensures.pairs c.directories.ensures.entries c.in_ok-put_numbers.ensures c.in_err-print_entries.ensures.front)
+    c.numbers.ensures.numbers c.directories.ensures.pairs c.directories.ensures.entries c.in_ok-put_numbers.ensures
+    c.in_err-print_entries.ensures.front)

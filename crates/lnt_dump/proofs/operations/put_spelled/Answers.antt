@@ -11,8 +11,7 @@ unreachable-requires c =
 
 pub loop-cursor-preserved : goal.loop-cursor-preserved
 loop-cursor-preserved c =
-    left_more c.args.bytes.now c.in-Ok.number c.loop-cursor.cursor c.uleb.new.self c.args.text.now.items c.loop-cursor.text.items
-    c.put_named.new.text.items c.loop-cursor.invariant c.in-Ok.ensures.ok c.in_ok-put_named.ensures
+    left_more c.args.bytes.now _ _ _ c.args.text.now.items _ _ c.loop-cursor.invariant c.in-Ok.ensures.ok c.in_ok-put_named.ensures
 
 pub returns : goal.returns
 returns c =

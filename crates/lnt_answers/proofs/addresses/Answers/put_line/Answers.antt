@@ -5,13 +5,10 @@ use Rattle.lnt_answers.proofs.addresses.Answers.put_line.Goals as goal
 
 pub returns-in_ok-put_lookup-in-Some-clause-told : goal.returns-in_ok-put_lookup-in-Some-clause-told
 returns-in_ok-put_lookup-in-Some-clause-told c =
-    told_one c.args.lookups.now c.args.self.now.op c.args.line.now (Some c.in-Some.position) (Some c.args.self.now.lines.items)
-    (Some c.put_lookup.new.line.items) c.args.self.now.status c.args.self.now.status (rw c.in-Some.is at c.position_in.ensures)
-    c.in_ok-put_lookup-in-Some.ensures.line refl
+    told_one (Some c.in-Some.position) (rw c.in-Some.is at c.position_in.ensures) c.in_ok-put_lookup-in-Some.ensures.line refl
 
 pub returns-in_ok-put_text-in-None-clause-told : goal.returns-in_ok-put_text-in-None-clause-told
 returns-in_ok-put_text-in-None-clause-told c =
     let bad : c.put_text.new.text.items
     ≡ c.args.self.now.lines.items ++ (codes "bad " ++ (quoted_text c.args.line.now ++ codes "\n")) = search rules in
-    told_one c.args.lookups.now c.args.self.now.op c.args.line.now None (Some c.args.self.now.lines.items)
-    (Some c.put_text.new.text.items) c.args.self.now.status _ (rw c.in-None.is at c.position_in.ensures) (λ dead skip units is. bad) refl
+    told_one None (rw c.in-None.is at c.position_in.ensures) (λ dead skip units is. bad) refl

@@ -1,4 +1,4 @@
-use Rattle.std.proofs.Common.{◌∙◌, ◌<◌, Some, arith, length, refl, rules}
+use Rattle.std.proofs.Common.{◌∙◌, ◌<◌, arith, length, refl, rules}
 use Rattle.lnt_answers.proofs.AddressLemmas.{first_more, first_none}
 use Rattle.lnt_answers.proofs.addresses.Answers.put_lines.Goals as goal
 
@@ -7,7 +7,7 @@ loop-next-init c = record {
   same = refl;
   index = refl;
   shorter = search rules;
-  told = first_none c.args.lookups.now c.args.self.now.op c.args.text.now (Some c.args.self.now.lines.items) c.args.self.now.status;
+  told = first_none _ _ _;
 }
 
 pub loop-next-preserved : goal.loop-next-preserved
@@ -19,12 +19,11 @@ loop-next-preserved c =
       same = c.in_ok-next.ensures.same ∙ before.same;
       index = c.put_next.ensures.index ∙ before.index;
       shorter = omega (arith, before.shorter, less);
-      told = first_more c.args.lookups.now c.args.self.now.op c.args.text.now c.loop-next.rest.now c.in-Some.next.now _ _ _ _ _ _
-          before.told told;
+      told = first_more before.told told;
     }
 
 pub returns-clause-told : goal.returns-clause-told
 returns-clause-told c =
     let before = c.loop-next.invariant in
     let told = rw (c.in_default.is, before.same, before.index) at c.in_ok-next.ensures.told in
-    first_more c.args.lookups.now c.args.self.now.op c.args.text.now c.loop-next.rest.now c.loop-next.rest.now _ _ _ _ _ _ before.told told
+    first_more before.told told

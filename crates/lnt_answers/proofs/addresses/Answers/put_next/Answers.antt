@@ -1,13 +1,11 @@
-use Rattle.std.proofs.Common.{◌+◌, drop, sym, subst, Some, take}
+use Rattle.std.proofs.Common.{◌+◌, sym, subst, Some, take}
 use Rattle.lnt_answers.specs.AddressBlocks.{AreFirstTold}
 use Rattle.lnt_answers.proofs.AddressLemmas.{first_found, first_line}
 use Rattle.lnt_answers.proofs.CommaLemmas.{rest_after}
 use Rattle.lnt_answers.proofs.addresses.Answers.put_next.Goals as goal
 
 pub returns-in-Some-clause-told : goal.returns-in-Some-clause-told
-returns-in-Some-clause-told c =
-    first_found c.args.lookups.now c.args.self.now.op c.args.text.now c.in-Some.rest.now c.in-Some.position c.args.self.now.lines.items
-    c.put_lookup.new.line.items c.args.self.now.status c.in-Some.ensures c.in_ok-put_lookup.ensures.line
+returns-in-Some-clause-told c = first_found c.in-Some.ensures c.in_ok-put_lookup.ensures.line
 
 pub returns-clause-told : goal.returns-clause-told
 returns-clause-told c =
@@ -16,6 +14,4 @@ returns-clause-told c =
     let at = rw c.in-Some-place_of.is at c.place_of.ensures.cut in
     subst (λ rest. AreFirstTold c.args.lookups.now c.args.self.now.op text rest (Some c.args.self.now.lines.items)
     (Some c.put_line.new.self.lines.items) c.args.self.now.status c.put_line.new.self.status) (sym (rest_after text (end + 1)))
-    (first_line c.args.lookups.now c.args.self.now.op text (take end text) (drop (end + 1) text) c.without_return.result.now
-    (Some c.args.self.now.lines.items) (Some c.put_line.new.self.lines.items) c.args.self.now.status c.put_line.new.self.status
-    at c.without_return.ensures c.in_ok-put_line.ensures.told)
+    (first_line (take end text) at c.without_return.ensures c.in_ok-put_line.ensures.told)

@@ -1,4 +1,4 @@
-use Rattle.std.proofs.Common.{◌+◌, ◌++◌, ◌∙◌, refl, sym, subst, rules, take, drop, List, ℕ}
+use Rattle.std.proofs.Common.{◌+◌, ◌++◌, ◌∙◌, refl, sym, subst, rules, take, List, ℕ}
 use Rattle.lnt_io.proofs.FrontLaws.{so_stopped}
 use Rattle.lnt_answers.specs.AddressBlocks.{AreFirstTold}
 use Rattle.lnt_answers.proofs.AddressFronts.{first_kept, first_stopped}
@@ -13,8 +13,7 @@ loop-end-init g c = record {
   none = c.requires.none;
   shorter = search rules;
   whole = c.requires.line;
-  told = first_none c.args.lookups.now c.args.self.now.answers.op (c.args.self.now.line.items ++ c.args.block.now)
-      (g.W.Write.contents c.args.out.now) c.args.self.now.answers.status;
+  told = first_none _ _ _;
 }
 
 pub overflow_add-end : goal.overflow_add-end
@@ -31,8 +30,7 @@ loop-end-preserved g c =
     let at = rw c.in-Some.is at c.place_of.ensures.cut in
     let ended = rw (before.same, before.index) at c.in_ok-end_line.ensures.told in
     let more = rw (c.in_ok-end_line.ensures.same, before.same, c.end_line.ensures.index, before.index) at c.in_ok-rest.ensures.told in
-    let made = first_joined c.args.lookups.now c.args.self.now.answers.op c.loop-end.self.line.items rest (take end rest)
-    (drop (end + 1) rest) _ c.in_ok-rest.rest.now _ _ _ _ _ _ before.whole at ended (rest_after rest (end + 1)) more in
+    let made = first_joined c.loop-end.self.line.items rest (take end rest) before.whole at ended (rest_after rest (end + 1)) more in
     let shorter = c.in_ok-rest.ensures.shorter in
     let none = c.in_ok-end_line.ensures.begun in
     record {
@@ -41,10 +39,7 @@ loop-end-preserved g c =
       none = c.in_ok-send.ensures.empty;
       shorter = search rules;
       whole = none_in 10 c.end_line.new.self.line.items none;
-      told = first_emptied _ _ _ _ c.end_line.new.self.line.items _ _ _ _
-          (first_more c.args.lookups.now c.args.self.now.answers.op _ _ c.in_ok-rest.rest.now _ _ _ _ _ _ before.told
-          (first_sent c.args.lookups.now c.args.self.now.answers.op _ _ _ _ (g.W.Write.contents c.loop-end.out)
-          (g.W.Write.contents c.send.new.out) _ _ made before.none c.in_ok-send.ensures.whole)) none;
+      told = first_emptied (first_more before.told (first_sent made before.none c.in_ok-send.ensures.whole)) none;
     }
 
 pub returns-clause-told : goal.returns-clause-told
@@ -59,11 +54,11 @@ returns-clause-line g c =
     (rw c.in_default.is at c.place_of.ensures.cut) c.in_ok-extend_from_slice.ensures.items
 
 pub returns-in_err-end_line-clause-stopped : goal.returns-in_err-end_line-clause-stopped
-returns-in_err-end_line-clause-stopped g c = so_stopped c.from_residual.result _ (first_kept _ _ _ _ _ _ _ _ c.loop-end.invariant.told)
+returns-in_err-end_line-clause-stopped g c = so_stopped c.from_residual.result _ (first_kept c.loop-end.invariant.told)
 
 pub returns-in_err-rest-clause-stopped : goal.returns-in_err-rest-clause-stopped
 returns-in_err-rest-clause-stopped g c =
-    so_stopped c.from_residual-in_err-rest.result _ (first_kept _ _ _ _ _ _ _ _ c.loop-end.invariant.told)
+    so_stopped c.from_residual-in_err-rest.result _ (first_kept c.loop-end.invariant.told)
 
 pub returns-in_err-send-clause-stopped : goal.returns-in_err-send-clause-stopped
 returns-in_err-send-clause-stopped g c =
@@ -73,12 +68,10 @@ returns-in_err-send-clause-stopped g c =
     let at = rw c.in-Some.is at c.place_of.ensures.cut in
     let ended = rw (before.same, before.index) at c.in_ok-end_line.ensures.told in
     let more = rw (c.in_ok-end_line.ensures.same, before.same, c.end_line.ensures.index, before.index) at c.in_ok-rest.ensures.told in
-    let made = first_joined c.args.lookups.now c.args.self.now.answers.op c.loop-end.self.line.items rest (take end rest)
-    (drop (end + 1) rest) _ c.in_ok-rest.rest.now _ _ _ _ _ _ before.whole at ended (rest_after rest (end + 1)) more in
+    let made = first_joined c.loop-end.self.line.items rest (take end rest) before.whole at ended (rest_after rest (end + 1)) more in
     so_stopped c.from_residual-in_err-send.result _
-    (first_stopped c.args.lookups.now c.args.self.now.answers.op _ _ c.in_ok-rest.rest.now _ _ _ _ (g.W.Write.contents c.send.new.out)
-    _ _ _ before.told made before.none c.in_err-send.ensures.front)
+    (first_stopped {new = g.W.Write.contents c.send.new.out} before.told made before.none c.in_err-send.ensures.front)
 
 pub returns-in_err-extend_from_slice-clause-stopped : goal.returns-in_err-extend_from_slice-clause-stopped
 returns-in_err-extend_from_slice-clause-stopped g c =
-    so_stopped c.from_residual-in_err-extend_from_slice.result _ (first_kept _ _ _ _ _ _ _ _ c.loop-end.invariant.told)
+    so_stopped c.from_residual-in_err-extend_from_slice.result _ (first_kept c.loop-end.invariant.told)

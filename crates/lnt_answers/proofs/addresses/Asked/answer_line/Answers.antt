@@ -6,4 +6,4 @@ use Rattle.lnt_answers.proofs.addresses.Asked.answer_line.Goals as goal
 pub returns-in_err-put_line-clause-stopped : goal.returns-in_err-put_line-clause-stopped
 returns-in_err-put_line-clause-stopped g c =
     so_stopped c.from_residual.result _
-    (begun_nothing c.args.lookups.now c.args.self.now.answers.op (c.args.self.now.line.items ∷ []) (g.W.Write.contents c.args.out.now))
+    (begun_nothing (c.args.self.now.line.items ∷ []) (g.W.Write.contents c.args.out.now))
