@@ -14,6 +14,8 @@ use Rattle.lnt_header.specs.HeaderRules.{IsEntryOf, IsEntryTable, IsHeader}
 use Rattle.lnt_header_bytes.specs.HeaderBytes.{HeaderFieldsBytes}
 use Rattle.lnt_header_bytes.specs.HeaderReading.{HasFields}
 use Rattle.lnt_header_bytes.specs.TableBytes.{ValuesBytes, EntryBytes, TableBytes}
+use Rattle.std.proofs.lemmas.Grind.{common_steps}
+use Rattle.std.proofs.Common.{arith}
 
 pub spelled_value : (format : Format) (order : Order) (v : FormValue) (x : List ℕ) → FormBytes format order v x → HasSpelling v
 spelled_value format order (Text t) x p = p.no_zero
@@ -46,12 +48,7 @@ spelled_entries format order pairs (entry ∷ entries) x p =
 
 spelled_table : (format : Format) (order : Order) (pairs : List Pair) (entries : List Entry) (x : List ℕ)
     → TableBytes format order pairs entries x → IsEntryTable pairs entries
-spelled_table format order pairs entries x p =
-    record {
-      few_pairs = p.few_pairs;
-      none_without_pairs = p.none_without_pairs;
-      of_format = spelled_entries format order pairs entries p.spelled.second.second.back p.spelled.second.second.second;
-    }
+spelled_table format order pairs entries x p = grind (arith, common_steps, spelled_entries)
 
 pub spelled_header : (h : HeaderParts) (x : List ℕ) → HeaderFieldsBytes h x → IsHeader h
 spelled_header h x p = record {

@@ -16,8 +16,8 @@ use Rattle.lnt_header.specs.declared.header.HeaderParts.{HeaderParts}
 use Rattle.lnt_header.specs.HeaderRules.{HasHeaderNumbers, IsEntryTable, IsHeader}
 use Rattle.lnt_header.specs.Joins.{Each}
 use Rattle.lnt_header_bytes.proofs.TableLaws.{entry_code}
-use Rattle.lnt_header_bytes.specs.Layouts.{entry_of}
 use Rattle.lnt_header_bytes.specs.TableBytes.{ValuesBytes, EntryBytes}
+use Rattle.std.proofs.lemmas.Grind.{common_steps}
 
 -- The values and their size, where the bytes begin with these.
 pub record AreFound (format : Format) (order : Order) (pairs : List Pair) (values : List FormValue) (x more : List ℕ) : Type 0 where
@@ -54,15 +54,7 @@ values_found format order (pair ∷ pairs) (v ∷ values) x more p =
 pub first_found : (format : Format) (order : Order) (pairs : List Pair) (count : ℕ) (entry : Entry) (x rest bytes : List ℕ)
     → EntryBytes format order pairs entry x → bytes ≡ x ++ rest
     → first_entries format order pairs (suc count) bytes ≡ entry ∷ first_entries format order pairs count rest
-first_found format order pairs count entry x rest bytes p whole =
-    let one : AreFound format order pairs entry.values x rest = values_found format order pairs entry.values x rest p in
-    let size : first_values_size format order pairs bytes ≡ length x = ap (first_values_size format order pairs) whole ∙ one.size_is in
-    let values : first_values format order pairs bytes ≡ entry.values = ap (first_values format order pairs) whole ∙ one.values_are in
-    let past : drop (first_values_size format order pairs bytes) bytes ≡ rest =
-    ap (λ (n : ℕ). drop n bytes) size ∙ ap (drop (length x)) whole ∙ drop-append_seam x rest in
-    ap (λ (vs : List FormValue). entry_of vs ∷ first_entries format order pairs count
-    (drop (first_values_size format order pairs bytes) bytes)) values
-    ∙ ap (λ (z : List ℕ). entry ∷ first_entries format order pairs count z) past
+first_found format order pairs count entry x rest bytes p whole = grind (arith, common_steps, values_found, drop-append_seam)
 
 pub entries_found : (format : Format) (order : Order) (pairs : List Pair) (entries : List Entry) (x more : List ℕ)
     → Each (EntryBytes format order pairs) entries x → first_entries format order pairs (length entries) (x ++ more) ≡ entries
@@ -83,10 +75,8 @@ others_spelled format order pairs entry entries x rest bytes each p whole =
 
 -- all of the bytes
 pub all_found : (format : Format) (order : Order) (pairs : List Pair) (count : ℕ) (entries : List Entry) (x : List ℕ)
-    → length entries ≡ count → Each (EntryBytes format order pairs) entries x
-    → first_entries format order pairs count x ≡ entries
-all_found format order pairs count entries x count_is p =
-    ap (λ (n : ℕ). first_entries format order pairs n x) (sym count_is)
+    → length entries ≡ count → Each (EntryBytes format order pairs) entries x → first_entries format order pairs count x ≡ entries
+all_found format order pairs count entries x count_is p = ap (λ (n : ℕ). first_entries format order pairs n x) (sym count_is)
     ∙ ap (first_entries format order pairs (length entries)) (sym (append-nil x)) ∙ entries_found format order pairs entries x [] p
 
 pub length_found : (format : Format) (order : Order) (pairs : List Pair) (count : ℕ) (x : List ℕ)
@@ -101,19 +91,7 @@ no_entries : (pairs : List Pair) (entries : List Entry) → IsEntryTable pairs e
 no_entries pairs entries is = record { few_pairs = is.few_pairs; none_without_pairs = λ e. refl; of_format = tt }
 
 same_numbers : (h : HeaderParts) → HasHeaderNumbers h → HasHeaderNumbers (without_entries h)
-same_numbers h n = record {
-  address_size = n.address_size;
-  line_base = n.line_base;
-  bytes = n.bytes;
-  max_ops = n.max_ops;
-  line_range = n.line_range;
-  opcode_base = n.opcode_base;
-  lengths = n.lengths;
-}
+same_numbers h n = grind (arith, common_steps)
 
 pub header_without_entries : (h : HeaderParts) → IsHeader h → IsHeader (without_entries h)
-header_without_entries h is = record {
-  numbers = same_numbers h is.numbers;
-  directories = no_entries h.directory_format h.directories is.directories;
-  files = no_entries h.file_format h.files is.files;
-}
+header_without_entries h is = grind (arith, common_steps, same_numbers, no_entries)

@@ -12,31 +12,28 @@ use Rattle.lnt_wire.specs.declared.put.EncodeFault.{EncodeFault}
 use Rattle.lnt_wire.specs.Bytes.{Exactly, Then, IsShortest, Appends}
 use Rattle.lnt_wire.specs.FormBytes.{form_of, form_code, FormBytes, IsTooLarge}
 use Rattle.lnt_wire.specs.Leb128.{UnsignedLeb}
-use Rattle.lnt_wire.specs.FrameBytes.{version_five, frame_bytes}
+use Rattle.lnt_wire.specs.FrameBytes.{frame_bytes}
 use Rattle.lnt_wire.specs.InitialLength.{initial_length, LengthFits}
-use Rattle.lnt_wire.specs.Numbers.{NumberBytes, OffsetBytes, IsLargeOffset, number_bytes, offset_size}
+use Rattle.lnt_wire.specs.Numbers.{NumberBytes, OffsetBytes, IsLargeOffset, offset_size}
 use Rattle.lnt_header.specs.declared.header.Entry.{Entry}
 use Rattle.lnt_header.specs.declared.header.HeaderParts.{HeaderParts}
 use Rattle.lnt_header_bytes.specs.HeaderBytes.{HeaderFieldsBytes, HeaderBytesIn, unit_body}
 use Rattle.lnt_header.specs.declared.header.Pair.{Pair}
 use Rattle.lnt_header.specs.Encoding.{RefusedPut}
-use Rattle.lnt_header_bytes.specs.HeaderPuts.{EntryParts, around, AddsAround}
+use Rattle.lnt_header_bytes.specs.HeaderPuts.{EntryParts, AddsAround}
 use Rattle.lnt_header.specs.HeaderRules.{IsEntryOf, IsEntryTable, IsHeader, six_bytes, single_bytes}
 use Rattle.lnt_header.specs.Joins.{Each}
 use Rattle.lnt_header_bytes.proofs.ProgramLaws.{length-initial-same, length-around, length-body}
 use Rattle.lnt_header.proofs.PutLaws.{byte_put, join_put, put_as, each_more}
 use Rattle.lnt_header_bytes.proofs.TableLaws.{parts_as}
 use Rattle.lnt_header_bytes.specs.TableBytes.{PairBytes, ValuesBytes, EntryBytes, TableOf}
+use Rattle.std.proofs.lemmas.Grind.{common_steps}
 
 -- ---- pairs
 
 pub pair_put : (pair : Pair) (code : ℕ) (old middle new : List ℕ) → Appends UnsignedLeb pair.content old middle → code ≡ form_code pair.form
     → Appends UnsignedLeb code middle new → Appends PairBytes pair old new
-pair_put pair code old middle new p is q =
-    let second : Appends UnsignedLeb (form_code pair.form) middle new = subst (λ (n : ℕ). Appends UnsignedLeb n middle new) is q in
-    put_as (λ (w : ℕ × ℕ). Then (UnsignedLeb w.0) (UnsignedLeb w.1)) PairBytes (pair.content, form_code pair.form) pair old new (λ x t. t)
-    (λ x t. t)
-    (join_put UnsignedLeb UnsignedLeb pair.content (form_code pair.form) old middle new p second)
+pair_put pair code old middle new p is q = grind (arith, common_steps, put_as, join_put)
 
 pub pairs_more : (pairs : List Pair) (i : ℕ) (d : Pair) (old middle new : List ℕ) → i < length pairs
     → Appends (Each PairBytes) (take i pairs) old middle → Appends PairBytes (get_or pairs i d) middle new
@@ -57,8 +54,7 @@ pub values_more : (format : Format) (order : Order) (values : List FormValue) (i
     → i < length values → value ≡ get_or values i value
     → Appends (Each (FormBytes format order)) (take i values) old middle → Appends (FormBytes format order) value middle new
     → Appends (Each (FormBytes format order)) (take (i + 1) values) old new
-values_more format order values i value old middle new lt is p q =
-    each_more (FormBytes format order) values i value old middle new lt p
+values_more format order values i value old middle new lt is p q = each_more (FormBytes format order) values i value old middle new lt p
     (subst (λ (v : FormValue). Appends (FormBytes format order) v middle new) is q)
 
 -- ---- entries
@@ -89,14 +85,12 @@ as_values : (format : Format) (order : Order) (pairs : List Pair) (values : List
 as_values format order [] [] x p = p
 as_values format order [] (v ∷ values) x p = absurd p
 as_values format order (pair ∷ pairs) [] x p = absurd p
-as_values format order (pair ∷ pairs) (v ∷ values) x p =
-    parts_as p.1 p.1.first (as_values format order pairs values p.1.back p.1.second)
+as_values format order (pair ∷ pairs) (v ∷ values) x p = parts_as p.1 p.1.first (as_values format order pairs values p.1.back p.1.second)
 
 entries_as : (format : Format) (order : Order) (pairs : List Pair) (entries : List Entry) (x : List ℕ)
     → AllByRecursion (IsEntryOf pairs) entries → Each (EntryParts format order) entries x → Each (EntryBytes format order pairs) entries x
 entries_as format order pairs [] x h p = p
-entries_as format order pairs (entry ∷ entries) x h p =
-    parts_as p (values_as format order pairs entry.values p.front h.0.forms p.first)
+entries_as format order pairs (entry ∷ entries) x h p = parts_as p (values_as format order pairs entry.values p.front h.0.forms p.first)
     (entries_as format order pairs entries p.back h.1 p.second)
 
 pub as_entries : (format : Format) (order : Order) (pairs : List Pair) (entries : List Entry) (x : List ℕ)
@@ -107,10 +101,7 @@ as_entries format order pairs (entry ∷ entries) x p =
 
 pub table_refused : (format : Format) (order : Order) (pairs : List Pair) (entries : List Entry) (fault : EncodeFault)
     → RefusedPut (Each (EntryParts format order)) entries fault → RefusedPut (TableOf format order) (pairs, entries) fault
-table_refused format order pairs entries fault refused = record {
-  none = λ large bytes p. refused.none large p.spelled.second.second.back
-      (as_entries format order pairs entries p.spelled.second.second.back p.spelled.second.second.second);
-}
+table_refused format order pairs entries fault refused = grind (arith, common_steps, as_entries)
 
 -- the same parts before other entries
 with_entries : {A B C D D' : List ℕ → Type 0} {x : List ℕ} → (t : Then A (Then B (Then C D)) x) → D' t.second.second.back
@@ -131,8 +122,7 @@ table_put format order pairs entries old m1 m2 m3 new is pushed p q r =
     let back = join_put UnsignedLeb (Each (EntryParts format order)) (length entries) entries m2 m3 new q r in
     let past = join_put (Each PairBytes) (λ (w : ℕ × List Entry). Then (UnsignedLeb w.0) (Each (EntryParts format order) w.1)) pairs
     (length entries, entries) m1 m2 new p back in
-    let all = join_put (λ (k : ℕ). Exactly (k ∷ []))
-    (λ (w : List Pair × (ℕ × List Entry)). Then (Each PairBytes w.0)
+    let all = join_put (λ (k : ℕ). Exactly (k ∷ [])) (λ (w : List Pair × (ℕ × List Entry)). Then (Each PairBytes w.0)
     (Then (UnsignedLeb w.1.0) (Each (EntryParts format order) w.1.1))) (length pairs) (pairs, (length entries, entries)) old m1 new
     count past in
     put_as (TableParts format order) (TableOf format order) (length pairs, (pairs, (length entries, entries))) (pairs, entries) old new
@@ -140,9 +130,7 @@ table_put format order pairs entries old m1 m2 m3 new is pushed p q r =
       few_pairs = is.few_pairs;
       none_without_pairs = is.none_without_pairs;
       spelled = with_entries t (entries_as format order pairs entries t.second.second.back is.of_format t.second.second.second);
-    })
-    (λ x t. let s = t.spelled in with_entries s (as_entries format order pairs entries s.second.second.back s.second.second.second))
-    all
+    }) (λ x t. let s = t.spelled in with_entries s (as_entries format order pairs entries s.second.second.back s.second.second.second)) all
 
 -- ---- what header_length counts
 
@@ -163,8 +151,7 @@ fields_put h o0 o1 o2 o3 o4 o5 lengths extra d_pairs f_pairs d_entries f_entries
     let f : Appends (TableOf h.format h.order) (h.file_format, h.files) o3 o4 = rw (← fp, ← fe) f_put in
     let front : o2 ≡ single_bytes h =
     second ∙ ap (λ (z : List ℕ). z ++ h.standard_lengths) (first ∙ ap (λ (z : List ℕ). z ++ six_bytes h) begun) in
-    let whole : o5 ≡ single_bytes h ++ d.spelling ++ f.spelling ++ h.extra =
-    last ∙ ap (λ (z : List ℕ). z ++ h.extra) (f.joined
+    let whole : o5 ≡ single_bytes h ++ d.spelling ++ f.spelling ++ h.extra = last ∙ ap (λ (z : List ℕ). z ++ h.extra) (f.joined
     ∙ ap (λ (z : List ℕ). z ++ f.spelling) (d.joined ∙ ap (λ (z : List ℕ). z ++ d.spelling) front)) in
     record {
       spelled = record {
@@ -188,20 +175,17 @@ fields_put h o0 o1 o2 o3 o4 o5 lengths extra d_pairs f_pairs d_entries f_entries
     }
 
 pub directories_refused : (h : HeaderParts) (pairs : List Pair) (entries : List Entry) (fault : EncodeFault) → pairs ≡ h.directory_format
-    → entries ≡ h.directories → RefusedPut (TableOf h.format h.order) (pairs, entries) fault
-    → RefusedPut HeaderFieldsBytes h fault
+    → entries ≡ h.directories → RefusedPut (TableOf h.format h.order) (pairs, entries) fault → RefusedPut HeaderFieldsBytes h fault
 directories_refused h pairs entries fault p e refused =
     record { none = λ large bytes q. refused.none large q.directories (rw (p, e) q.directory_table) }
 
 pub files_refused : (h : HeaderParts) (pairs : List Pair) (entries : List Entry) (fault : EncodeFault) → pairs ≡ h.file_format
-    → entries ≡ h.files → RefusedPut (TableOf h.format h.order) (pairs, entries) fault
-    → RefusedPut HeaderFieldsBytes h fault
+    → entries ≡ h.files → RefusedPut (TableOf h.format h.order) (pairs, entries) fault → RefusedPut HeaderFieldsBytes h fault
 files_refused h pairs entries fault p e refused = record { none = λ large bytes q. refused.none large q.files (rw (p, e) q.file_table) }
 
 -- ---- the whole unit
 
-regroup_out : (o a b c d e f g : List ℕ)
-    → ((((((o ++ a) ++ b) ++ c) ++ d) ++ e) ++ f) ++ g ≡ o ++ (a ++ (b ++ (c ++ d) ++ e ++ f ++ g))
+regroup_out : (o a b c d e f g : List ℕ) → ((((((o ++ a) ++ b) ++ c) ++ d) ++ e) ++ f) ++ g ≡ o ++ (a ++ (b ++ (c ++ d) ++ e ++ f ++ g))
 regroup_out o a b c d e f g = simp append_assoc
 
 pub around_put : (order : Order) (format : Format) (address_size : ℕ) (program fields : List ℕ) (n count : ℕ)
@@ -211,17 +195,7 @@ pub around_put : (order : Order) (format : Format) (address_size : ℕ) (program
     → o5 ≡ o4 ++ fields → o6 ≡ o5 ++ program → AddsAround order format address_size fields program o0 o6
 around_put order format address_size program fields n count o0 o1 o2 size o3 o4 o5 o6 n_is fits initial version size_put selector_put
     count_is length_put counted last =
-    let body = around order format address_size fields program in
-    let long : n ≡ length body = n_is ∙ sym (length-around order format address_size fields program) in
-    let a = initial_length format order n in
-    let v = version_five order in
-    let number = number_bytes order (offset_size format) (length fields) in
-    let number_is : length_put.spelling ≡ number =
-    length_put.spelled.spelled.spelled ∙ ap (λ (k : ℕ). number_bytes order (offset_size format) k) count_is in
-    let e6 : o6 ≡ o0 ++ (a ++ body) =
-    rw (last, counted, length_put.joined, number_is, selector_put, size_put, version.joined, version.spelled.spelled.spelled, initial)
-    (regroup_out o0 a v (address_size ∷ []) (0 ∷ []) number fields program) in
-    record { fits = subst (LengthFits format) long fits; joined = e6 ∙ ap (λ (k : ℕ). o0 ++ (initial_length format order k ++ body)) long }
+    grind (arith, common_steps, length-around, regroup_out)
 
 -- an offset within a unit whose length fits is never too large
 pub offset_fits : (format : Format) (n length_is : ℕ) → n ≤ length_is → LengthFits format length_is → IsLargeOffset format n → ⊥

@@ -1,13 +1,13 @@
 -- A fault whose law is known refuses by its place and its reason alone.
-use Rattle.std.proofs.Common.{◌≡◌, ℕ, ◌+◌, ◌≤◌, List, [], ◌++◌, length, take, drop, refl, sym, ap, subst, ◌∙◌, add-zero, arith}
+use Rattle.std.proofs.Common.{◌≡◌, ℕ, ◌+◌, ◌≤◌, List, [], ◌++◌, length, take, drop, refl, sym, subst, ◌∙◌, add-zero, arith}
 use Rattle.std.proofs.lemmas.List.{append-nil, length-take-le, take-append-drop}
 use Rattle.lnt_wire.specs.At.{At}
-use Rattle.lnt_wire.specs.Bytes.{NoneSpelled}
 use Rattle.lnt_wire.specs.Reading.{Reads, RefusesField, Refuses}
 use Rattle.lnt_wire.specs.declared.fault.Fault.{Fault}
 use Rattle.lnt_wire.specs.declared.fault.Reason.{Reason}
 use Rattle.lnt_wire.proofs.FieldFaultLaws.{IsOneFieldFault}
 use Rattle.lnt_header.proofs.FirstFaultLaws.{AreOne, IsOneFault}
+use Rattle.std.proofs.lemmas.Grind.{common_steps}
 
 -- a field
 pub field_so : {X : Type 0} {Spells : X → List ℕ → Type 0} {IsSo : Reason → List ℕ → Type 0} → IsOneFieldFault Spells IsSo → (old : At)
@@ -22,16 +22,7 @@ module _ {X : Type 0} {Spells : X → List ℕ → Type 0} {IsSo : Reason → Li
   -- a fault between these bytes
   pub so_between : (reason : Reason) (before left : List ℕ) → old.rest ≡ before ++ left → fault.place ≡ old.place + length before
       → fault.reason ≡ reason → IsSo reason before left → Refuses IsSo Spells old fault
-  so_between reason before left split place same so =
-      let here : IsSo fault.reason before left = subst (λ (c : Reason). IsSo c before left) (sym same) so in
-      record {
-        before = before;
-        left = left;
-        split = split;
-        place = place;
-        reason = here;
-        none = subst (λ (z : List ℕ). NoneSpelled Spells z) (sym split) (law.none fault.reason before left here);
-      }
+  so_between reason before left split place same so = grind (arith, common_steps)
 
   -- at the cursor
   pub so_here : (reason : Reason) → fault.place ≡ old.place → fault.reason ≡ reason → IsSo reason [] old.rest
@@ -46,8 +37,7 @@ module _ {X : Type 0} {Spells : X → List ℕ → Type 0} {IsSo : Reason → Li
   -- after so many bytes
   pub so_past : (reason : Reason) (i : ℕ) → i ≤ length old.rest → fault.place ≡ old.place + i → fault.reason ≡ reason
       → IsSo reason (take i old.rest) (drop i old.rest) → Refuses IsSo Spells old fault
-  so_past reason i le place same so =
-      so_between reason (take i old.rest) (drop i old.rest) (sym (take-append-drop i old.rest))
+  so_past reason i le place same so = so_between reason (take i old.rest) (drop i old.rest) (sym (take-append-drop i old.rest))
       (omega (arith, place, length-take-le i old.rest le)) same so
 
   -- at the end of the bytes
@@ -58,6 +48,4 @@ module _ {X : Type 0} {Spells : X → List ℕ → Type 0} {IsSo : Reason → Li
 -- Faults that a function of the bytes tells are one.
 pub one_told : (told : List ℕ → Reason × List ℕ) (IsSo : Reason → List ℕ → List ℕ → Type 0)
     → ((reason : Reason) (before left : List ℕ) → IsSo reason before left → told (before ++ left) ≡ (reason, before)) → AreOne IsSo
-one_told told IsSo tells reason other before before' left left' h k e =
-    let all : (reason, before) ≡ (other, before') = sym (tells reason before left h) ∙ ap told e ∙ tells other before' left' k in
-    (ap (λ (p : Reason × List ℕ). p.0) all, ap (λ (p : Reason × List ℕ). p.1) all)
+one_told told IsSo tells reason other before before' left left' h k e = grind (arith, common_steps)

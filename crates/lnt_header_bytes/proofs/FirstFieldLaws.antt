@@ -25,6 +25,7 @@ use Rattle.lnt_header.specs.FirstFaults.FirstOf.{first, second}
 use Rattle.lnt_header.proofs.FirstFaultLaws.{AreOne, field_fault, first_one, IsHere}
 use Rattle.lnt_header_bytes.proofs.HeaderReaders.{fields_fault}
 use Rattle.lnt_header_bytes.proofs.StartReaders.{start_fault, start_spelled}
+use Rattle.std.proofs.lemmas.Grind.{common_steps}
 
 -- ---- the body of a unit
 
@@ -37,8 +38,7 @@ data IsRestFault (format : Format) (order : Order) (reason : Reason) (fields lef
   of_start : IsStartFault format order reason fields left → IsRestFault format order reason fields left
   of_counted : (size : ℕ) (past later program : List ℕ) → IsAddressSize size → length (past ++ later) < 256 ^ offset_size format
       → fields ≡ up_to format order size (length (past ++ later)) past → left ≡ later ++ program
-      → IsHeaderFault format order reason past later
-      → IsRestFault format order reason fields left
+      → IsHeaderFault format order reason past later → IsRestFault format order reason fields left
 
 abbrev VersionBytes : Order → Unit {0} → List ℕ → Type 0
 VersionBytes order _ bytes = bytes ≡ version_five order
@@ -51,23 +51,14 @@ IsBodyFault order format = FirstOf (VersionBytes order) (IsHere (IsVersionFault 
 counted_on : (format : Format) (order : Order) (size : ℕ) (fields past left later program : List ℕ)
     → fields ≡ up_to format order size (length (past ++ later)) past → left ≡ later ++ program
     → fields ++ left ≡ size ∷ 0 ∷ (number_bytes order (offset_size format) (length (past ++ later)) ++ ((past ++ later) ++ program))
-counted_on format order size fields past left later program joined e =
-    let number = number_bytes order (offset_size format) (length (past ++ later)) in
-    let tail : (number ++ past) ++ (later ++ program) ≡ number ++ ((past ++ later) ++ program) =
-    append_assoc number past (later ++ program) ∙ ap (λ (z : List ℕ). number ++ z) (sym (append_assoc past later program)) in
-    rw (joined, e) (ap (λ (z : List ℕ). size ∷ 0 ∷ z) tail)
+counted_on format order size fields past left later program joined e = grind (arith, common_steps, append_assoc)
 
 -- a field up to header_length isn't at fault where all of them are there
 start_apart : (format : Format) (order : Order) (reason : Reason) (size : ℕ) (fields left past later program : List ℕ)
-    → IsStartFault format order reason fields left → IsAddressSize size
-    → length (past ++ later) < 256 ^ offset_size format
+    → IsStartFault format order reason fields left → IsAddressSize size → length (past ++ later) < 256 ^ offset_size format
     → fields ++ left ≡ size ∷ 0 ∷ (number_bytes order (offset_size format) (length (past ++ later)) ++ ((past ++ later) ++ program)) → ⊥
 start_apart format order reason size fields left past later program h is fits e =
-    let number = number_bytes order (offset_size format) (length (past ++ later)) in
-    let all : (size ∷ 0 ∷ (number ++ (past ++ later))) ++ program ≡ fields ++ left =
-    ap (λ (z : List ℕ). size ∷ 0 ∷ z) (append_assoc number (past ++ later) program) ∙ sym e in
-    (start_fault format order).none reason fields left h (size, (0, past ++ later)) (size ∷ 0 ∷ (number ++ (past ++ later))) program
-    (start_spelled format order size (past ++ later) is fits) all
+    grind (arith, common_steps, append_assoc, start_fault, start_spelled)
 
 counted_one_body : (format : Format) (order : Order) (reason other : Reason) (size size' : ℕ)
     (past past' later later' program program' : List ℕ) → length (past ++ later) < 256 ^ offset_size format
@@ -75,8 +66,7 @@ counted_one_body : (format : Format) (order : Order) (reason other : Reason) (si
     → IsHeaderFault format order other past' later'
     → size ∷ 0 ∷ (number_bytes order (offset_size format) (length (past ++ later)) ++ ((past ++ later) ++ program))
     ≡ size' ∷ 0 ∷ (number_bytes order (offset_size format) (length (past' ++ later')) ++ ((past' ++ later') ++ program'))
-    → (reason ≡ other) ×
-    (up_to format order size (length (past ++ later)) past ≡ up_to format order size' (length (past' ++ later')) past')
+    → (reason ≡ other) × (up_to format order size (length (past ++ later)) past ≡ up_to format order size' (length (past' ++ later')) past')
 counted_one_body format order reason other size size' past past' later later' program program' fits fits' h k e =
     let n = length (past ++ later) in
     let m = length (past' ++ later') in
@@ -86,8 +76,7 @@ counted_one_body format order reason other size size' past past' later later' pr
     let numbers =
     same_number_front order (offset_size format) (offset_width format) n m ((past ++ later) ++ program) ((past' ++ later') ++ program')
     fits fits' tails in
-    let bytes : past ++ later ≡ past' ++ later' =
-    same_front (past ++ later) (past' ++ later') program program' numbers.0 numbers.1 in
+    let bytes : past ++ later ≡ past' ++ later' = same_front (past ++ later) (past' ++ later') program program' numbers.0 numbers.1 in
     let found = (fields_fault format order).one reason other past past' later later' h k bytes in (
       found.0,
       ap (λ (s : ℕ). up_to format order s n past) sizes ∙ ap (λ (c : ℕ). up_to format order size' c past) numbers.0
@@ -111,10 +100,7 @@ rest_one format order reason other fields fields' left left' (of_counted size pa
     (found.0, joined ∙ found.1 ∙ sym joined')
 
 version_fault : (order : Order) → IsOneFieldFault (VersionBytes order) (IsVersionFault order)
-version_fault order = record {
-  none = λ reason bytes h _ x more p e. version_none order reason bytes more h (sym e ∙ ap (λ (z : List ℕ). z ++ more) p);
-  one = λ reason other bytes h k. version_one order reason other bytes h k;
-}
+version_fault order = grind (arith, common_steps, version_none, version_one)
 
 body_one : (order : Order) (format : Format) → AreOne (IsBodyFault order format)
 body_one order format =
@@ -138,8 +124,7 @@ placed_in_frame order reason before from (outside_frame h) = outside h
 placed_in_frame order reason before from (in_version format body w h) = inside format [] body w (first (refl, h))
 
 placed_in_header : (order : Order) (reason : Reason) (fields left before from : List ℕ) → (w : InHeader order fields left before from)
-    → IsHeaderFault w.format order reason fields left
-    → IsPlaced order reason before from
+    → IsHeaderFault w.format order reason fields left → IsPlaced order reason before from
 placed_in_header order reason fields left before from w h =
     let number = number_bytes order (offset_size w.format) (length (fields ++ left)) in
     let whole = sound_start order w.address_size ++ number ++ fields in

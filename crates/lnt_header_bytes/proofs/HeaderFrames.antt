@@ -32,6 +32,7 @@ use Rattle.lnt_header_bytes.proofs.StartReaders.{start_spelled}
 use Rattle.lnt_header_bytes.proofs.TableLaws.{joins}
 use Rattle.lnt_header_bytes.specs.TableBytes.{TableOf}
 use Rattle.lnt_header_bytes.proofs.Places.{at_header, at_start}
+use Rattle.std.proofs.lemmas.Grind.{common_steps}
 
 -- ---- a header and a program in a frame
 
@@ -73,10 +74,7 @@ candidate order format body fits unit x more p e =
 after_version : (order : Order) (format : Format) (a : ℕ) (fields program rest : List ℕ)
     → version_five order ++ rest ≡ around order format a fields program
     → rest ≡ (a ∷ 0 ∷ []) ++ (number_bytes order (offset_size format) (length fields) ++ (fields ++ program))
-after_version order format a fields program rest e =
-    let number = number_bytes order (offset_size format) (length fields) in
-    append_cancel_left (version_five order) rest ((a ∷ 0 ∷ []) ++ (number ++ (fields ++ program)))
-    (e ∙ regroup (version_five order) (a ∷ 0 ∷ []) number fields program)
+after_version order format a fields program rest e = grind (arith, common_steps, append_cancel_left, regroup)
 
 -- ---- the start
 
@@ -150,47 +148,11 @@ counted_by : (order : Order) (format : Format) (offset : ℕ) (body : List ℕ) 
     → Reads (StartBytes format old.order) (size, (zero_size, counted)) old new → place + length counted ≡ new.place
     → Counted order format offset body size counted new.rest place
 counted_by order format offset body size zero_size place counted old new b there placed =
-    let r : Reads (StartBytes format order) (size, (zero_size, counted)) old new =
-    subst (λ (o : Order). Reads (StartBytes format o) (size, (zero_size, counted)) old new) b.order_is there in
-    let p1 = r.spelled in
-    let p2 = p1.second in
-    let p3 = p2.second in
-    let number = number_bytes order (offset_size format) (length counted) in
-    let tail : p3.front ++ p3.back ≡ number ++ counted =
-    ap (λ (z : List ℕ). z ++ p3.back) p3.first.spelled ∙ ap (λ (z : List ℕ). number ++ z) p3.second in
-    let spelling : r.spelling ≡ size ∷ 0 ∷ (number ++ counted) =
-    p1.joined ∙ ap (λ (z : List ℕ). z ++ p1.back) p1.first.1
-    ∙ ap (λ (z : List ℕ). size ∷ z) (p2.joined
-    ∙ ap (λ (z : List ℕ). z ++ p2.back) (p2.first.1 ∙ ap (λ (n : ℕ). n ∷ []) p2.first.0))
-    ∙ ap (λ (z : List ℕ). size ∷ 0 ∷ z) (p3.joined ∙ tail) in
-    let rest : old.rest ≡ (size ∷ 0 ∷ []) ++ (number ++ (counted ++ new.rest)) =
-    r.whole ∙ ap (λ (z : List ℕ). z ++ new.rest) spelling ∙ ap (λ (z : List ℕ). size ∷ 0 ∷ z) (append_assoc number counted new.rest) in
-    let long : length number ≡ offset_size format = length-number_bytes order (offset_size format) (length counted) in
-    record {
-      address_size = p1.first.0;
-      laid_out = b.joined ∙ ap (λ (z : List ℕ). version_five order ++ z) rest
-          ∙ sym (regroup (version_five order) (size ∷ 0 ∷ []) number counted new.rest);
-      small = p3.first.fits;
-      place_is = omega (arith, placed, r.place, b.place_is, ap length spelling, length-append number counted, long);
-    }
+    grind (arith, common_steps, append_assoc, length-number_bytes, regroup, length-append)
 
 pub counted_before : (order : Order) (format : Format) (size zero_size : ℕ) (counted : List ℕ) (old new : At)
     → Reads (StartBytes format order) (size, (zero_size, counted)) old new → length counted ≤ new.place
-counted_before order format size zero_size counted old new r =
-    let p1 = r.spelled in
-    let p2 = p1.second in
-    let p3 = p2.second in
-    omega (
-      arith,
-      r.place,
-      ap length p1.joined,
-      length-append p1.front p1.back,
-      ap length p2.joined,
-      length-append p2.front p2.back,
-      ap length p3.joined,
-      length-append p3.front p3.back,
-      ap length p3.second,
-    )
+counted_before order format size zero_size counted old new r = grind (arith, common_steps, length-append)
 
 abbrev singles_of : HeaderParts → Singles
 singles_of h = record {
@@ -221,8 +183,7 @@ no_fields order format body size counted program offset place unit at none c =
       max_ops = p.numbers.max_ops;
       line_range = p.numbers.line_range;
       opcode_base = omega (arith, p.numbers.opcode_base);
-    })
-    (joins h.standard_lengths (p.directories ++ p.files) (p.numbers.opcode_base, p.numbers.lengths, refl)
+    }) (joins h.standard_lengths (p.directories ++ p.files) (p.numbers.opcode_base, p.numbers.lengths, refl)
     (joins p.directories p.files directories files)))
     (joined_fields (six_bytes h) h.standard_lengths p.directories p.files h.extra ∙ sym p.joined ∙ sym same.header)
 
@@ -287,21 +248,4 @@ pub header_found : (order : Order) (format : Format) (offset : ℕ) (body : List
     → place + length counted ≡ new.place → program ≡ new.rest
     → HasFields format order size counted h → HeaderBytesIn order (h, program) (frame_bytes order format body)
 header_found order format offset body size zero_size place counted program old new h fits b there placed program_is has =
-    let at = counted_by order format offset body size zero_size place counted old new b there placed in
-    let body_is : body ≡ unit_body h counted program =
-    at.laid_out ∙ ap (λ (z : List ℕ). around order format size counted z) (sym program_is)
-    ∙ ap (λ (o : Order). around o format size counted program) (sym has.order_is)
-    ∙ ap (λ (f : Format). around h.order f size counted program) (sym has.format_is)
-    ∙ ap (λ (n : ℕ). around h.order h.format n counted program) (sym has.size_is) in
-    record {
-      order_is = has.order_is;
-      spelled = record {
-        fields = counted;
-        counted = has.fields;
-        fits = subst (λ (f : Format). LengthFits f (length (unit_body h counted program))) (sym has.format_is)
-            (subst (λ (z : List ℕ). LengthFits format (length z)) body_is fits);
-        joined = ap (λ (z : List ℕ). frame_bytes order format z) body_is
-            ∙ ap (λ (o : Order). frame_bytes o format (unit_body h counted program)) (sym has.order_is)
-            ∙ ap (λ (f : Format). frame_bytes h.order f (unit_body h counted program)) (sym has.format_is);
-      };
-    }
+    grind (arith, common_steps, counted_by)

@@ -1,5 +1,5 @@
 -- Under one order a header and a program have one value for their bytes, and none begins another.
-use Rattle.std.proofs.Common.{◌≡◌, ℕ, ◌^◌, ◌<◌, ◌≤◌, List, [], ◌∷◌, ◌++◌, length, sym, ap, subst, ◌∙◌, append_assoc, arith}
+use Rattle.std.proofs.Common.{◌≡◌, ℕ, ◌^◌, ◌<◌, ◌≤◌, List, ◌++◌, length, sym, ap, subst, ◌∙◌, append_assoc, arith}
 use Rattle.std.specs.Prelude.{ℤ, FitsSigned}
 use Rattle.std.specs.Int.{w8, cast_unsigned, cast_signed}
 use Rattle.std.proofs.lemmas.Int.{to_z-of_z}
@@ -7,8 +7,7 @@ use Rattle.std.proofs.lemmas.List.{append_cancel_left}
 use Rattle.lnt_wire.specs.declared.format.Order.{Order}
 use Rattle.lnt_wire.specs.declared.format.Format.{Format}
 use Rattle.lnt_wire.specs.declared.format.Format.TheVariants.{D32, D64}
-use Rattle.lnt_wire.specs.Numbers.{number_bytes, offset_size}
-use Rattle.lnt_wire.specs.FrameBytes.{version_five}
+use Rattle.lnt_wire.specs.Numbers.{offset_size}
 use Rattle.lnt_wire.specs.InitialLength.{initial_length, LengthFits}
 use Rattle.lnt_wire.proofs.ValueLaws.{offset_width}
 use Rattle.lnt_wire.proofs.LengthLaws.{same_front, same_rest, same_number_front, same_length}
@@ -22,6 +21,7 @@ use Rattle.lnt_header_bytes.specs.HeaderPuts.{around}
 use Rattle.lnt_header_bytes.specs.Laws.{OneHeader}
 use Rattle.lnt_header_bytes.proofs.ProgramLaws.{length-body}
 use Rattle.lnt_header_bytes.proofs.TableLaws.{same_table}
+use Rattle.std.proofs.lemmas.Grind.{common_steps}
 
 -- ---- the body of a unit
 
@@ -36,18 +36,7 @@ pub record SameBody (a a' : ℕ) (body body' program program' : List ℕ) : Type
 pub same_around : (order : Order) (format : Format) (a a' : ℕ) (b b' p p' : List ℕ) → length b < 256 ^ offset_size format
     → length b' < 256 ^ offset_size format → around order format a b p ≡ around order format a' b' p' → SameBody a a' b b' p p'
 same_around order format a a' b b' p p' fits fits' e =
-    let n = number_bytes order (offset_size format) (length b) in
-    let n' = number_bytes order (offset_size format) (length b') in
-    let all : version_five order ++ ((a ∷ 0 ∷ []) ++ (n ++ (b ++ p))) ≡ version_five order ++ ((a' ∷ 0 ∷ []) ++ (n' ++ (b' ++ p'))) =
-    sym (regroup (version_five order) (a ∷ 0 ∷ []) n b p) ∙ e ∙ regroup (version_five order) (a' ∷ 0 ∷ []) n' b' p' in
-    let past : a ∷ 0 ∷ (n ++ (b ++ p)) ≡ a' ∷ 0 ∷ (n' ++ (b' ++ p')) =
-    append_cancel_left (version_five order) ((a ∷ 0 ∷ []) ++ (n ++ (b ++ p))) ((a' ∷ 0 ∷ []) ++ (n' ++ (b' ++ p'))) all in
-    let sizes : a ≡ a' = cc in
-    let rest : n ++ (b ++ p) ≡ n' ++ (b' ++ p') = cc in
-    let lengths =
-    same_number_front order (offset_size format) (offset_width format) (length b) (length b') (b ++ p) (b' ++ p') fits fits' rest in
-    let bodies : b ≡ b' = same_front b b' p p' lengths.0 lengths.1 in
-    record { address_size = sizes; header = bodies; past = same_rest b b' p p' bodies lengths.1 }
+    grind (arith, common_steps, regroup, append_cancel_left, same_number_front, offset_width, same_front, same_rest)
 
 -- ---- the fields that header_length counts
 
@@ -84,10 +73,8 @@ same_fields h h' x y format order address_size left right same =
     let f' = right.files in
     let numbers = left.numbers in
     let numbers' = right.numbers in
-    let directories' : TableBytes h.format h.order h'.directory_format h'.directories d' =
-    rw (format, order) right.directory_table in
-    let files' : TableBytes h.format h.order h'.file_format h'.files f' =
-    rw (format, order) right.file_table in
+    let directories' : TableBytes h.format h.order h'.directory_format h'.directories d' = rw (format, order) right.directory_table in
+    let files' : TableBytes h.format h.order h'.file_format h'.files f' = rw (format, order) right.file_table in
     let e : single_bytes h ++ d ++ f ++ h.extra ≡ single_bytes h' ++ d' ++ f' ++ h'.extra = sym left.joined ∙ same ∙ right.joined in
     let six = six_bytes h in
     let six' = six_bytes h' in
@@ -174,8 +161,7 @@ same_header h h' p p' x y r s order left right e =
     below h.format (length whole) (length body) left.fits (omega (arith, length-body h body p)) in
     let small' : length body' < 256 ^ offset_size h.format = subst (λ (f : Format). length body' < 256 ^ offset_size f) (sym format)
     (below h'.format (length whole') (length body') right.fits (omega (arith, length-body h' body' p'))) in
-    let parts = same_around h.order h.format h.address_size h'.address_size body body' p p' small small'
-    (wholes ∙ over) in
+    let parts = same_around h.order h.format h.address_size h'.address_size body body' p p' small small' (wholes ∙ over) in
     let headers : h ≡ h' = same_fields h h' body body' format order parts.address_size left.counted right.counted parts.header in
     let starts : initial_length h.format h.order (length whole) ≡ initial_length h'.format h'.order (length whole') =
     ap (λ (f : Format). initial_length f h.order (length whole)) format

@@ -23,11 +23,12 @@ use Rattle.lnt_header_bytes.specs.TableBytes.{TableOf}
 use Rattle.lnt_header_bytes.specs.TableFaults.{IsTableFault}
 use Rattle.lnt_header_bytes.specs.FieldsBytes.{FieldsBytes, AfterSingles, AfterLengths, TwoTables}
 use Rattle.lnt_header_bytes.specs.HeaderFaults.{TwoTablesFault, AfterSinglesFault, IsHeaderFault}
-use Rattle.lnt_header_bytes.specs.HeaderFaults.{SinglesBytes, AreCutSingles, IsSinglesFault, LengthsBytes, AreCutLengths, IsLengthsFault}
+use Rattle.lnt_header_bytes.specs.HeaderFaults.{SinglesBytes, IsSinglesFault, LengthsBytes, IsLengthsFault}
 use Rattle.lnt_header_bytes.specs.declared.numbers.Singles.{Singles}
 use Rattle.lnt_header_bytes.proofs.FaultLaws.{one_told, so_end, so_past}
 use Rattle.lnt_header_bytes.proofs.TableLaws.{same_table}
 use Rattle.lnt_header_bytes.proofs.TableReaders.{table_fault}
+use Rattle.std.proofs.lemmas.Grind.{common_steps}
 
 -- ---- the six fields of one byte
 
@@ -38,13 +39,11 @@ singles_none MaxOpsZero before left h s x more p e =
     let all = ap (λ (z : List ℕ). z ++ more) (sym p.spelled) ∙ e ∙ ap (λ (z : List ℕ). z ++ left) h.2 ∙ ap (λ (z : List ℕ). h.0 ∷ z) h.3 in
     omega (arith, p.max_ops, ap (λ (z : List ℕ). get_or z 1 0) all)
 singles_none LineRangeZero before left h s x more p e =
-    let all =
-    ap (λ (z : List ℕ). z ++ more) (sym p.spelled) ∙ e ∙ ap (λ (z : List ℕ). z ++ left) h.6
+    let all = ap (λ (z : List ℕ). z ++ more) (sym p.spelled) ∙ e ∙ ap (λ (z : List ℕ). z ++ left) h.6
     ∙ ap (λ (z : List ℕ). h.0 ∷ h.1 ∷ h.2 ∷ h.3 ∷ z) h.7 in
     omega (arith, p.line_range, ap (λ (z : List ℕ). get_or z 4 0) all)
 singles_none OpcodeBaseZero before left h s x more p e =
-    let all =
-    ap (λ (z : List ℕ). z ++ more) (sym p.spelled) ∙ e ∙ ap (λ (z : List ℕ). z ++ left) h.8
+    let all = ap (λ (z : List ℕ). z ++ more) (sym p.spelled) ∙ e ∙ ap (λ (z : List ℕ). z ++ left) h.8
     ∙ ap (λ (z : List ℕ). h.0 ∷ h.1 ∷ h.2 ∷ h.3 ∷ h.4 ∷ z) h.9 in
     omega (arith, p.opcode_base, ap (λ (z : List ℕ). get_or z 5 0) all)
 singles_none reason before left h s x more p e = absurd h
@@ -80,8 +79,7 @@ told_opcode_base a (suc b) c d (suc f) more some last = refl
 
 tells_singles : (reason : Reason) (before left : List ℕ) → IsSinglesFault reason before left
     → singles_told (before ++ left) ≡ (reason, before)
-tells_singles Truncated before left h =
-    ap (λ (z : List ℕ). singles_told z) (ap (λ (z : List ℕ). before ++ z) h.ends ∙ append-nil before)
+tells_singles Truncated before left h = ap (λ (z : List ℕ). singles_told z) (ap (λ (z : List ℕ). before ++ z) h.ends ∙ append-nil before)
     ∙ told_cut before h.few h.max_ops h.line_range
 tells_singles MaxOpsZero before left h = rw (h.2, h.3) refl
 tells_singles LineRangeZero before left h = rw (h.6, h.7) (told_line_range h.0 h.1 h.2 h.3 h.4 h.5)
@@ -113,28 +111,19 @@ max_ops_zero old fault lt e place reason =
     so_past singles_fault old fault MaxOpsZero 1 (omega arith) place reason (so_max_ops old.rest lt e)
 
 pub line_range_zero : (old : At) (fault : Fault) → 4 < length old.rest → get_or old.rest 1 0 ≢ 0 → get_or old.rest 4 0 ≡ 0
-    → fault.place ≡ old.place + 4 → fault.reason ≡ LineRangeZero
-    → Refuses IsSinglesFault SinglesBytes old fault
+    → fault.place ≡ old.place + 4 → fault.reason ≡ LineRangeZero → Refuses IsSinglesFault SinglesBytes old fault
 line_range_zero old fault lt n e place reason =
     so_past singles_fault old fault LineRangeZero 4 (omega arith) place reason (so_line_range old.rest lt n e)
 
 pub opcode_base_zero : (old : At) (fault : Fault) → 5 < length old.rest → get_or old.rest 1 0 ≢ 0 → get_or old.rest 4 0 ≢ 0
-    → get_or old.rest 5 0 ≡ 0 → fault.place ≡ old.place + 5 → fault.reason ≡ OpcodeBaseZero
-    → Refuses IsSinglesFault SinglesBytes old fault
+    → get_or old.rest 5 0 ≡ 0 → fault.place ≡ old.place + 5 → fault.reason ≡ OpcodeBaseZero → Refuses IsSinglesFault SinglesBytes old fault
 opcode_base_zero old fault lt n m e place reason =
     so_past singles_fault old fault OpcodeBaseZero 5 (omega arith) place reason (so_opcode_base old.rest lt n m e)
 
 pub cut_singles : (old : At) (fault : Fault) → length old.rest < 6 → (1 < length old.rest → get_or old.rest 1 0 ≢ 0)
     → (4 < length old.rest → get_or old.rest 4 0 ≢ 0) → fault.place ≡ old.place + length old.rest
     → fault.reason ≡ Truncated → Refuses IsSinglesFault SinglesBytes old fault
-cut_singles old fault lt max_ops line_range place reason =
-    let cut_there : AreCutSingles old.rest [] = record {
-      ends = refl;
-      few = lt;
-      max_ops = λ there. omega (arith, max_ops there);
-      line_range = λ there. omega (arith, line_range there);
-    } in
-    so_end singles_fault old fault Truncated place reason cut_there
+cut_singles old fault lt max_ops line_range place reason = grind (arith, common_steps, so_end, singles_fault)
 
 six_of : (bytes : List ℕ) → length bytes ≡ 6 → bytes ≡ get_or bytes 0 0 ∷ get_or bytes 1 0 ∷ get_or bytes 2 0 ∷ get_or bytes 3 0 ∷ get_or
     bytes 4 0 ∷ get_or bytes 5 0 ∷ []
@@ -147,24 +136,7 @@ pub reads_singles : (old new : At) (six : List ℕ) (s : Singles) → Reads (Tak
     → (1 < length old.rest → get_or old.rest 1 0 ≢ 0) → (4 < length old.rest → get_or old.rest 4 0 ≢ 0)
     → (5 < length old.rest → get_or old.rest 5 0 ≢ 0) → Reads SinglesBytes s old new
 reads_singles old new six s r a b c d f g max_ops line_range opcode_base =
-    let size : length six ≡ 6 = ap length r.spelled.taken_is ∙ r.spelled.count_is in
-    let whole : old.rest ≡ six ++ new.rest = r.whole ∙ ap (λ (z : List ℕ). z ++ new.rest) (sym r.spelled.taken_is) in
-    let long : length old.rest ≡ length six + length new.rest = ap length whole ∙ length-append six new.rest in
-    let at : (i : ℕ) → i < length six → get_or old.rest i 0 ≡ get_or six i 0 =
-    λ i lt. ap (λ (z : List ℕ). get_or z i 0) whole ∙ get_or_append_left six new.rest 0 i lt in
-    let heads : s.minimum_instruction_length ∷ s.max_ops ∷ s.default_is_stmt ∷ s.line_base ∷ s.line_range ∷ s.opcode_base ∷ []
-    ≡ get_or six 0 0 ∷ get_or six 1 0 ∷ get_or six 2 0 ∷ get_or six 3 0 ∷ get_or six 4 0 ∷ get_or six 5 0 ∷ [] = cc (a, b, c, d, f, g) in
-    let one : 0 < s.max_ops = omega (arith, max_ops (omega arith), at 1 (omega arith), b) in
-    let two : 0 < s.line_range = omega (arith, line_range (omega arith), at 4 (omega arith), f) in
-    let three : 0 < s.opcode_base = omega (arith, opcode_base (omega arith), at 5 (omega arith), g) in
-    record {
-      spelling = r.spelling;
-      spelled =
-          record { spelled = sym r.spelled.taken_is ∙ six_of six size ∙ sym heads; max_ops = one; line_range = two; opcode_base = three };
-      whole = r.whole;
-      place = r.place;
-      order = r.order;
-    }
+    grind (arith, common_steps, length-append, get_or_append_left, six_of)
 
 -- ---- the standard opcode lengths
 
@@ -184,11 +156,7 @@ agreed (b ∷ bytes) (k ∷ known) h =
     cc
 
 below : (j n size : ℕ) → j < last_known → j < size → (n < last_known → size ≤ n) → j < n
-below j n size lt small short = elim (cases_order n last_known) [
-  | inr (inl less) ↦ omega (arith, short less)
-  | inl same ↦ omega (arith, same)
-  | inr (inr more) ↦ omega arith
-]
+below j n size lt small short = grind (arith, common_steps, cases_order)
 
 pub are_standard : (bytes : List ℕ) (n : ℕ) → Agrees n bytes → (n < last_known → length bytes ≤ n) → AreStandardLengths bytes
 are_standard bytes n h short = agreed bytes known_lengths (λ j lt small. h.at j (below j n (length bytes) lt small short) small)
@@ -201,8 +169,7 @@ agrees_front x y bytes n e h = record {
 
 -- where lengths are standard ones, none of them is another
 standard_none : (lengths more before past : List ℕ) (given : ℕ) → AreStandardLengths lengths → length before < length lengths
-    → length before < last_known
-    → given ≢ get_or known_lengths (length before) 0 → lengths ++ more ≡ before ++ given ∷ past → ⊥
+    → length before < last_known → given ≢ get_or known_lengths (length before) 0 → lengths ++ more ≡ before ++ given ∷ past → ⊥
 standard_none lengths more before past given standard lt few other e =
     let i = length before in
     let known : get_or lengths i 0 ≡ get_or known_lengths i 0 =
@@ -263,8 +230,7 @@ pub refuses_length : (opcode_base i opcode given : ℕ) (old : At) (fault : Faul
 refuses_length opcode_base i opcode given old fault h lt small long given_is other opcode_is place reason =
     let size : length (take i old.rest) ≡ i = length-take-le i old.rest (omega arith) in
     let standard : AreStandardLengths (take i old.rest) = are_standard (take i old.rest) i
-    (agrees_front (take i old.rest) (drop i old.rest) old.rest i (sym (take-append-drop i old.rest)) h)
-    (λ lt. omega (arith, size)) in
+    (agrees_front (take i old.rest) (drop i old.rest) old.rest i (sym (take-append-drop i old.rest)) h) (λ lt. omega (arith, size)) in
     so_past (lengths_fault opcode_base) old fault (StandardLength opcode given) i (omega arith) place reason (
       drop (i + 1) old.rest,
       standard,
@@ -278,10 +244,7 @@ refuses_length opcode_base i opcode given old fault h lt small long given_is oth
 pub cut_lengths : (opcode_base n : ℕ) (old : At) (fault : Fault) → 0 < opcode_base → length old.rest < opcode_base - 1 → Agrees n old.rest
     → (n < last_known → opcode_base ≡ n + 1) → fault.place ≡ old.place + length old.rest
     → fault.reason ≡ Truncated → Refuses (IsLengthsFault opcode_base) (LengthsBytes opcode_base) old fault
-cut_lengths opcode_base n old fault some lt h all place reason =
-    let cut_there : AreCutLengths opcode_base old.rest [] =
-    record { ends = refl; few = omega (arith, lt); standard = are_standard old.rest n h (λ small. omega (arith, all small, lt)) } in
-    so_end (lengths_fault opcode_base) old fault Truncated place reason cut_there
+cut_lengths opcode_base n old fault some lt h all place reason = grind (arith, common_steps, are_standard, so_end, lengths_fault)
 
 pub reads_lengths : (opcode_base n : ℕ) (given_lengths : List ℕ) (old new : At) → 0 < opcode_base
     → Reads (TakenBytes (opcode_base - 1)) given_lengths old new → Agrees n old.rest → (n < last_known → opcode_base ≡ n + 1)
@@ -301,27 +264,11 @@ reads_lengths opcode_base n given_lengths old new some r h all =
 
 -- ---- the fields of a header
 
-abbrev singles_with : ℕ → ℕ → ℕ → ℕ → ℕ → ℕ → Singles
-singles_with a b c d f g =
-    record { minimum_instruction_length = a; max_ops = b; default_is_stmt = c; line_base = d; line_range = f; opcode_base = g }
-
 singles_code : IsCode SinglesBytes
-singles_code = record {
-  one = λ s t x y r q p p' e.
-      let same : x ≡ y = same_front x y r q (ap length p.spelled ∙ sym (ap length p'.spelled)) e in
-      let all = sym p.spelled ∙ same ∙ p'.spelled in
-      let both : singles_with s.minimum_instruction_length s.max_ops s.default_is_stmt s.line_base s.line_range s.opcode_base
-      ≡ singles_with t.minimum_instruction_length t.max_ops t.default_is_stmt t.line_base t.line_range t.opcode_base = cc in
-      (both, same);
-}
+singles_code = grind (arith, common_steps, same_front)
 
 lengths_code : (opcode_base : ℕ) → IsCode (LengthsBytes opcode_base)
-lengths_code opcode_base = record {
-  one = λ s t x y r q p p' e.
-      let size : length x ≡ length y = omega (arith, ap length p.2, ap length p'.2, p.0, p'.0) in
-      let same : x ≡ y = same_front x y r q size e in
-      (sym p.2 ∙ same ∙ p'.2, same);
-}
+lengths_code opcode_base = grind (arith, common_steps, same_front)
 
 table_code : (format : Format) (order : Order) → IsCode (TableOf format order)
 table_code format order = record {
@@ -339,8 +286,7 @@ after_singles_fault : (format : Format) (order : Order) (s : Singles)
     → IsOneFault (AfterSingles format order s) (AfterSinglesFault format order s)
 after_singles_fault format order s =
     first_of (LengthsBytes s.opcode_base) (IsLengthsFault s.opcode_base) (λ _. TwoTablesFault format order) (lengths_code s.opcode_base)
-    (AfterLengths format order) (lengths_fault s.opcode_base)
-    (λ _. tables_fault format order)
+    (AfterLengths format order) (lengths_fault s.opcode_base) (λ _. tables_fault format order)
 
 pub fields_fault : (format : Format) (order : Order) → IsOneFault (FieldsBytes format order) (IsHeaderFault format order)
 fields_fault format order =
@@ -354,13 +300,11 @@ refuses_singles format old fault r = first_refused SinglesBytes (AfterSingles fo
 module _ (format : Format) (s : Singles) (old m1 : At) (r : Reads SinglesBytes s old m1) where
   after_singles : (fault : Fault) → Refuses (AfterSinglesFault format m1.order s) (AfterSingles format m1.order s) m1 fault
       → Refuses (IsHeaderFault format old.order) (FieldsBytes format old.order) old fault
-  after_singles fault t =
-      second_refused (AfterSinglesFault format) SinglesBytes (AfterSingles format) s old m1 fault singles_code r t
+  after_singles fault t = second_refused (AfterSinglesFault format) SinglesBytes (AfterSingles format) s old m1 fault singles_code r t
 
   pub refuses_lengths : (fault : Fault) → Refuses (IsLengthsFault s.opcode_base) (LengthsBytes s.opcode_base) m1 fault
       → Refuses (IsHeaderFault format old.order) (FieldsBytes format old.order) old fault
-  refuses_lengths fault t =
-      after_singles fault (first_refused (LengthsBytes s.opcode_base) (AfterLengths format m1.order) m1 fault t)
+  refuses_lengths fault t = after_singles fault (first_refused (LengthsBytes s.opcode_base) (AfterLengths format m1.order) m1 fault t)
 
 module _ (format : Format) (s : Singles) (ls : List ℕ) (old m1 m2 : At) (r : Reads SinglesBytes s old m1)
     (t : Reads (LengthsBytes s.opcode_base) ls m1 m2) where
@@ -372,8 +316,7 @@ module _ (format : Format) (s : Singles) (ls : List ℕ) (old m1 m2 : At) (r : R
 
   pub refuses_directories : (fault : Fault) → Refuses (IsTableFault format m2.order) (TableOf format m2.order) m2 fault
       → Refuses (IsHeaderFault format old.order) (FieldsBytes format old.order) old fault
-  refuses_directories fault u =
-      after_lengths fault (first_refused (TableOf format m2.order) (λ _. TableOf format m2.order) m2 fault u)
+  refuses_directories fault u = after_lengths fault (first_refused (TableOf format m2.order) (λ _. TableOf format m2.order) m2 fault u)
 
   pub refuses_files : (directories : List Pair × List Entry) (m3 : At) (fault : Fault) → Reads (TableOf format m2.order) directories m2 m3
       → Refuses (IsTableFault format m3.order) (TableOf format m3.order) m3 fault

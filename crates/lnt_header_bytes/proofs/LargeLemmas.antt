@@ -31,8 +31,7 @@ place_of : {X : Type 0} (xs : List X) (i : ℕ) (x : X) → i < length xs → x 
 place_of xs i x lt is = subst (Contains xs) (sym is) (Contains-get_or xs i x lt)
 
 pub value_large : (format : Format) (values : List FormValue) (i : ℕ) (value : FormValue) (fault : EncodeFault) → i < length values
-    → value ≡ get_or values i value → (fault ≡ TooLarge → IsTooLarge format value)
-    → IfTooLarge (HasLargeValue format values) fault
+    → value ≡ get_or values i value → (fault ≡ TooLarge → IsTooLarge format value) → IfTooLarge (HasLargeValue format values) fault
 value_large format values i value fault lt is large = record { is_so = λ e. (value, place_of values i value lt is, large e) }
 
 pub entry_large : (format : Format) (entries : List Entry) (i : ℕ) (entry : Entry) (values : List FormValue) (fault : EncodeFault)
@@ -54,8 +53,7 @@ pub offset_large : (h : HeaderParts) (program : List ℕ) (fault : EncodeFault) 
 offset_large h program fault large = record { is_so = λ e. inl (large.is_so e) }
 
 pub unit_too_long : (h : HeaderParts) (program fields named : List ℕ) (fault : EncodeFault) → IsShortest HeaderFieldsBytes h fields
-    → named ≡ fields
-    → (fault ≡ TooLarge → LengthFits h.format (length (around h.order h.format h.address_size named program)) → ⊥)
+    → named ≡ fields → (fault ≡ TooLarge → LengthFits h.format (length (around h.order h.format h.address_size named program)) → ⊥)
     → IfTooLarge (HasLargeOffset h ⊎ IsTooLong h program) fault
 unit_too_long h program fields named fault p is long =
     record {

@@ -14,6 +14,7 @@ use Rattle.lnt_header_bytes.proofs.PassedLaws.{others_after, several_there}
 use Rattle.lnt_header_bytes.proofs.TableLaws.{entry_code}
 use Rattle.lnt_header_bytes.specs.Marks.{from_entry, BeginsAt}
 use Rattle.lnt_header_bytes.specs.TableBytes.{EntryBytes}
+use Rattle.std.proofs.lemmas.Grind.{common_steps}
 
 -- A cursor stands before the entry of this number.
 pub record StandsAt (table : BorrowedTable) (bytes : List ℕ) (number : ℕ) (at : At) : Type 0 where
@@ -32,8 +33,7 @@ stands_next table bytes number at new passed m lt p =
     m.joined ∙ ap (λ (z : List ℕ). m.front ++ z) p.read.whole ∙ sym (append_assoc m.front p.read.spelling new.rest) in
     let spelled : Each (EntryBytes table.format table.order table.pairs) p.values p.read.spelling =
     subst (λ (o : Order). Each (EntryBytes table.format o table.pairs) p.values p.read.spelling) m.order_is p.read.spelled in
-    let left : length p.values ≤ length (drop number table.entries) =
-    omega (arith, p.count_is, length-drop number table.entries, lt) in
+    let left : length p.values ≤ length (drop number table.entries) = omega (arith, p.count_is, length-drop number table.entries, lt) in
     let others : Each (EntryBytes table.format table.order table.pairs) (drop (length p.values) (drop number table.entries)) new.rest =
     others_after (EntryBytes table.format table.order table.pairs) (entry_code table.format table.order table.pairs) p.values
     (drop number table.entries) p.read.spelling new.rest at.rest left spelled m.lies p.read.whole in
@@ -50,15 +50,7 @@ stands_next table bytes number at new passed m lt p =
 -- where it begins
 pub begins_there : (table : BorrowedTable) (bytes : List ℕ) (number place : ℕ) (at : At) → StandsAt table bytes number at
     → number ≤ length table.entries → place ≡ length bytes - length at.rest → BeginsAt table bytes number place
-begins_there table bytes number place at m le place_is =
-    let at_place : place ≡ length m.front = omega (arith, place_is, ap length m.joined, length-append m.front at.rest) in
-    let rest : at.rest ≡ drop place bytes =
-    sym (ap (λ (k : ℕ). drop k bytes) at_place ∙ ap (drop (length m.front)) m.joined ∙ drop-append_seam m.front at.rest) in
-    record {
-      there = le;
-      within = omega (arith, at_place, ap length m.joined, length-append m.front at.rest);
-      lies = subst (AreEntryBytes (from_entry number table)) rest m.lies;
-    }
+begins_there table bytes number place at m le place_is = grind (arith, common_steps, length-append, drop-append_seam)
 
 -- the entry of this number is there
 pub never_refused : (table : BorrowedTable) (bytes : List ℕ) (number : ℕ) (at : At) → StandsAt table bytes number at

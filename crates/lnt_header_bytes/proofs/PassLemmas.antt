@@ -21,6 +21,7 @@ use Rattle.lnt_header_bytes.specs.TableBytes.{ValuesBytes, EntryBytes}
 use Rattle.lnt_header_bytes.specs.TableFaults.{IsEntryFault, IsEntriesFault}
 use Rattle.lnt_header_bytes.proofs.ValueLaws.{values_none, values_next}
 use Rattle.lnt_header_bytes.proofs.TableReaders.{entry_refused, refuses_values_at, refuses_entries}
+use Rattle.std.proofs.lemmas.Grind.{common_steps}
 
 -- ---- one entry
 
@@ -58,8 +59,7 @@ values_passed format pairs count old new le p =
 pub refuses_value_passed : (format : Format) (pairs : List Pair) (i : ℕ) (d : Pair) (old middle : At) (fault : Fault) → i < length pairs
     → ArePassed format pairs i old middle
     → RefusesField (IsValueFault format middle.order (get_or pairs i d).form) (ValueBytes format middle.order (get_or pairs i d).form)
-    middle fault
-    → Refuses (IsEntryFault format old.order pairs) (EntryBytes format old.order pairs) old fault
+    middle fault → Refuses (IsEntryFault format old.order pairs) (EntryBytes format old.order pairs) old fault
 refuses_value_passed format pairs i d old middle fault lt p r =
     entry_refused format pairs old fault (refuses_values_at format pairs i d p.values old middle fault lt p.read r)
 
@@ -67,13 +67,7 @@ refuses_value_passed format pairs i d old middle fault lt p r =
 
 form_at : (pairs : List Pair) (forms : List Form) (i : ℕ) (f : Form) → forms_of pairs ≡ forms → i < length forms → get_or forms i f ≡ f
     → (i < length pairs) × ((get_or pairs i (record { content = 0; form = f })).form ≡ f)
-form_at pairs forms i f e lt is =
-    let count : length pairs ≡ length forms = sym (length-map pairs (λ pair. pair.form)) ∙ ap length e in
-    let there : i < length pairs = omega (arith, count, lt) in (
-      there,
-      sym (get_or-map (λ pair. pair.form) pairs i (record { content = 0; form = f }) f there)
-          ∙ ap (λ (fs : List Form). get_or fs i f) e ∙ is,
-    )
+form_at pairs forms i f e lt is = grind (arith, common_steps, length-map, get_or-map)
 
 form_passed : (format : Format) (pairs : List Pair) (forms : List Form) (i : ℕ) (f : Form) (value : FormValue) (old middle new : At)
     → forms_of pairs ≡ forms → i < length forms → get_or forms i f ≡ f
@@ -90,8 +84,7 @@ forms_passed format pairs forms old new e p =
     values_passed format pairs (length forms) old new (omega (arith, ap length e, length-map pairs (λ pair. pair.form))) p
 
 refuses_form : (format : Format) (pairs : List Pair) (forms : List Form) (i : ℕ) (f : Form) (old middle : At) (fault : Fault)
-    → forms_of pairs ≡ forms → i < length forms → get_or forms i f ≡ f
-    → ArePassed format pairs i old middle
+    → forms_of pairs ≡ forms → i < length forms → get_or forms i f ≡ f → ArePassed format pairs i old middle
     → RefusesField (IsValueFault format middle.order f) (ValueBytes format middle.order f) middle fault
     → Refuses (IsEntryFault format old.order pairs) (EntryBytes format old.order pairs) old fault
 refuses_form format pairs forms i f old middle fault e lt is p r =
@@ -119,14 +112,12 @@ module _ (format : Format) (pairs : List Pair) (old : At) where
   pub indexed_path_passed : (u v : FormValue) (middle new : At) → forms_of pairs ≡ LineStrp ∷ Udata ∷ []
       → Reads (ValueBytes format old.order LineStrp) u old middle → Reads (ValueBytes format middle.order Udata) v middle new
       → Passes (EntryBytes format old.order pairs) old new
-  indexed_path_passed u v middle new e r s =
-      forms_passed format pairs (LineStrp ∷ Udata ∷ []) old new e (two_read [] u v middle new e r s)
+  indexed_path_passed u v middle new e r s = forms_passed format pairs (LineStrp ∷ Udata ∷ []) old new e (two_read [] u v middle new e r s)
 
   pub summed_path_passed : (u v w : FormValue) (m1 m2 new : At) → forms_of pairs ≡ LineStrp ∷ Udata ∷ Data16 ∷ []
       → Reads (ValueBytes format old.order LineStrp) u old m1 → Reads (ValueBytes format m1.order Udata) v m1 m2
       → Reads (ValueBytes format m2.order Data16) w m2 new → Passes (EntryBytes format old.order pairs) old new
-  summed_path_passed u v w m1 m2 new e r s t =
-      forms_passed format pairs (LineStrp ∷ Udata ∷ Data16 ∷ []) old new e
+  summed_path_passed u v w m1 m2 new e r s t = forms_passed format pairs (LineStrp ∷ Udata ∷ Data16 ∷ []) old new e
       (form_passed format pairs (LineStrp ∷ Udata ∷ Data16 ∷ []) 2 Data16 w old m2 new e (omega arith) refl
       (two_read (Data16 ∷ []) u v m1 m2 e r s) t)
 
@@ -162,8 +153,7 @@ pub none_passed : (format : Format) (pairs : List Pair) (at : At) → EntriesPas
 none_passed format pairs at = record { entries = []; count_is = refl; read = reads_none (EntryBytes format at.order pairs) at }
 
 pub one_more_passed : (format : Format) (pairs : List Pair) (count : ℕ) (old middle new : At) → EntriesPassed format pairs count old middle
-    → Passes (EntryBytes format middle.order pairs) middle new
-    → EntriesPassed format pairs (count + 1) old new
+    → Passes (EntryBytes format middle.order pairs) middle new → EntriesPassed format pairs (count + 1) old new
 one_more_passed format pairs count old middle new p q = record {
   entries = p.entries ++ q.value ∷ [];
   count_is = omega (arith, p.count_is, length-append p.entries (q.value ∷ []));
@@ -171,9 +161,7 @@ one_more_passed format pairs count old middle new p q = record {
 }
 
 front_is : (x y z : List ℕ) → z ≡ x ++ y → take (length z - length y) z ≡ x
-front_is x y z e =
-    let size : length z - length y ≡ length x = omega (arith, ap length e, length-append x y) in
-    ap (λ (n : ℕ). take n z) size ∙ ap (take (length x)) e ∙ take-append_seam x y
+front_is x y z e = grind (arith, common_steps, length-append, take-append_seam)
 
 pub all_passed : (format : Format) (pairs : List Pair) (count : ℕ) (bytes all left : List ℕ) (old new : At)
     → EntriesPassed format pairs count old new → all ≡ old.rest → left ≡ new.rest

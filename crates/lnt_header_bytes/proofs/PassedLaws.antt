@@ -8,8 +8,7 @@ use Rattle.lnt_header.specs.Joins.{Each, Several}
 
 -- after spellings of as many values lie the others
 pub others_after : {X : Type 0} (P : X → List ℕ → Type 0) → IsCode P → (us vs : List X) (x rest bytes : List ℕ) → length us ≤ length vs
-    → Each P us x → Each P vs bytes → bytes ≡ x ++ rest
-    → Each P (drop (length us) vs) rest
+    → Each P us x → Each P vs bytes → bytes ≡ x ++ rest → Each P (drop (length us) vs) rest
 others_after P code [] vs x rest bytes le p q e = subst (Each P vs) (e ∙ ap (λ (z : List ℕ). z ++ rest) p) q
 others_after P code (u ∷ us) [] x rest bytes le p q e = absurd (omega arith)
 others_after P code (u ∷ us) (v ∷ vs) x rest bytes le p q e =

@@ -1,16 +1,17 @@
 -- Units of one header by the lengths of their programs.
-use Rattle.std.proofs.Common.{◌≡◌, ℕ, ◌+◌, ◌≤◌, List, [], ◌∷◌, ◌++◌, length, refl, sym, ap, ◌∙◌, arith}
+use Rattle.std.proofs.Common.{◌≡◌, ℕ, ◌+◌, ◌≤◌, List, ◌++◌, length, refl, sym, ap, ◌∙◌, arith}
 use Rattle.std.proofs.lemmas.List.{length-append}
 use Rattle.lnt_wire.specs.declared.format.Format.{Format}
 use Rattle.lnt_wire.specs.declared.format.Format.TheVariants.{D32, D64}
 use Rattle.lnt_wire.specs.declared.format.Order.{Order}
-use Rattle.lnt_wire.specs.FrameBytes.{version_five, frame_bytes}
+use Rattle.lnt_wire.specs.FrameBytes.{frame_bytes}
 use Rattle.lnt_wire.specs.InitialLength.{initial_length, LengthFits}
 use Rattle.lnt_wire.proofs.LengthLaws.{length-number_bytes}
 use Rattle.lnt_wire.specs.Numbers.{number_bytes, offset_size}
 use Rattle.lnt_header.specs.declared.header.HeaderParts.{HeaderParts}
 use Rattle.lnt_header_bytes.specs.HeaderPuts.{around}
 use Rattle.lnt_header_bytes.specs.HeaderBytes.{HeaderBytesIn, unit_body}
+use Rattle.std.proofs.lemmas.Grind.{common_steps}
 
 pub length-initial-same : (format : Format) (order : Order) (m n : ℕ)
     → length (initial_length format order m) ≡ length (initial_length format order n)
@@ -29,14 +30,7 @@ length-five a b c d e = simp length-append refl
 
 pub length-around : (order : Order) (format : Format) (size : ℕ) (fields program : List ℕ)
     → length (around order format size fields program) ≡ 4 + offset_size format + length fields + length program
-length-around order format size fields program =
-    let number = number_bytes order (offset_size format) (length fields) in
-    omega (
-      arith,
-      length-five (version_five order) (size ∷ 0 ∷ []) number fields program,
-      length-number_bytes order 2 5,
-      length-number_bytes order (offset_size format) (length fields),
-    )
+length-around order format size fields program = grind (arith, common_steps, length-five, length-number_bytes)
 
 pub length-body : (h : HeaderParts) (fields program : List ℕ)
     → length (unit_body h fields program) ≡ 4 + offset_size h.format + length fields + length program

@@ -1,5 +1,5 @@
 -- Headers that are allowed have bytes, where their offsets and lengths fit their format.
-use Rattle.std.proofs.Common.{◌≡◌, ℕ, ◌^◌, ◌<◌, List, [], ◌∷◌, ◌++◌, length, refl, sym, subst, arith}
+use Rattle.std.proofs.Common.{◌≡◌, ℕ, ◌^◌, ◌<◌, List, [], ◌∷◌, ◌++◌, length, refl, arith}
 use Rattle.std.specs.List.{AllByRecursion}
 use Rattle.lnt_wire.specs.declared.format.Format.{Format}
 use Rattle.lnt_wire.specs.declared.format.Format.TheVariants.{D64}
@@ -28,6 +28,7 @@ use Rattle.lnt_header_bytes.specs.Spelled.{FitsFields, FitsTable, HasSmallOffset
 use Rattle.lnt_header_bytes.specs.TableBytes.{EntryBytes, PairBytes, TableBytes, TableOf, ValuesBytes}
 use Rattle.lnt_header_bytes.proofs.AllowedLaws.{spelled_header}
 use Rattle.lnt_header_bytes.proofs.EncodeLemmas.{fields_put, pair_put, table_put}
+use Rattle.std.proofs.lemmas.Grind.{common_steps}
 
 -- ---- what is spelled is put
 
@@ -78,8 +79,7 @@ entries_spelled law format order pairs (entry ∷ entries) is fits small =
     )
 
 table_spelled : wire.SpelledValues → (format : Format) (order : Order) (pairs : List Pair) (entries : List Entry)
-    → IsEntryTable pairs entries → FitsTable pairs entries → OffsetsFit format entries
-    → HasShortest (TableOf format order) (pairs, entries)
+    → IsEntryTable pairs entries → FitsTable pairs entries → OffsetsFit format entries → HasShortest (TableOf format order) (pairs, entries)
 table_spelled law format order pairs entries is fits small =
     let p = each_shortest PairBytes pairs (pairs_spelled law pairs fits.contents) in
     let n = law.unsigned (length entries) fits.count in
@@ -104,8 +104,7 @@ fields_spelled law h is fits small =
     let o4 : List ℕ = o3 ++ f.0 in (
       o4 ++ h.extra,
       fields_put h [] o1 o2 o3 o4 (o4 ++ h.extra) h.standard_lengths h.extra h.directory_format h.file_format h.directories h.files is refl
-          refl refl refl refl refl
-          (put_after (TableOf h.format h.order) (h.directory_format, h.directories) o2 d) refl refl
+          refl refl refl refl refl (put_after (TableOf h.format h.order) (h.directory_format, h.directories) o2 d) refl refl
           (put_after (TableOf h.format h.order) (h.file_format, h.files) o3 f) refl refl,
     )
 
@@ -145,10 +144,7 @@ entries_fit law format order pairs (entry ∷ entries) x p =
 
 table_fits : wire.SpelledValues → (format : Format) (order : Order) (pairs : List Pair) (entries : List Entry) (x : List ℕ)
     → TableBytes format order pairs entries x → FitsTable pairs entries × OffsetsFit format entries
-table_fits law format order pairs entries x p =
-    let past = p.spelled.second.second in
-    let all = entries_fit law format order pairs entries past.back past.second in
-    (record { contents = pairs_fit pairs p.spelled.second.front p.spelled.second.first; count = past.first.fits; values = all.0 }, all.1)
+table_fits law format order pairs entries x p = grind (arith, common_steps, entries_fit, pairs_fit)
 
 allowed : wire.SpelledValues → (h : HeaderParts) (program bytes : List ℕ) → HeaderBytes h program bytes
     → IsHeader h × FitsFields h × HasSmallOffsets h × LengthsFit h program
@@ -158,8 +154,7 @@ allowed law h program bytes p =
       spelled_header h p.fields p.counted,
       record { directories = d.0; files = f.0 },
       record { directories = d.1; files = f.1 },
-      λ fields s.
-          fits_less h.format (length (unit_body h fields program)) (length (unit_body h p.fields program))
+      λ fields s. fits_less h.format (length (unit_body h fields program)) (length (unit_body h p.fields program))
           (omega (arith, length-body h fields program, length-body h p.fields program, s.shortest p.fields p.counted)) p.fits,
     )
 
@@ -179,10 +174,7 @@ wide_entries [] = tt
 wide_entries (entry ∷ entries) = (wide_values entry.values, wide_entries entries)
 
 wide : (h : HeaderParts) → h.format ≡ D64 → HasSmallOffsets h
-wide h is = record {
-  directories = subst (λ (format : Format). OffsetsFit format h.directories) (sym is) (wide_entries h.directories);
-  files = subst (λ (format : Format). OffsetsFit format h.files) (sym is) (wide_entries h.files);
-}
+wide h is = grind (arith, common_steps, wide_entries)
 
 pub allowed_is_spelled : wire.SpelledValues → AllowedHeaderIsSpelled
 allowed_is_spelled law = record { fields = fields_spelled law; unit = unit_spelled law; allowed = allowed law; wide = wide }

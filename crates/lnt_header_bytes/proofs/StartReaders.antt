@@ -25,6 +25,7 @@ use Rattle.lnt_header_bytes.specs.StartFaults.{IsAddressSizeFault, IsSelectorFau
 use Rattle.lnt_header_bytes.specs.StartFaults.IsStartFault.{address_size, selector, header_length}
 use Rattle.lnt_header_bytes.proofs.FaultLaws.{field_so, so_here, so_after}
 use Rattle.lnt_header_bytes.proofs.TableLaws.{joins, parts_as}
+use Rattle.std.proofs.lemmas.Grind.{common_steps}
 
 -- ---- one byte
 
@@ -46,10 +47,7 @@ none_left : (Is : ℕ → Type 0) (bytes : List ℕ) → length bytes < 1 → No
 none_left Is bytes short n x more p e = omega (arith, short, ap length e, length-append x more, ap length p.1)
 
 none_other : (Is : ℕ → Type 0) (n : ℕ) (rest bytes : List ℕ) → (Is n → ⊥) → bytes ≡ n ∷ rest → NoneSpelled (ByteBytes Is) bytes
-none_other Is n rest bytes other is m x more p e =
-    let all : m ∷ more ≡ n ∷ rest = ap (λ (z : List ℕ). z ++ more) (sym p.1) ∙ e ∙ is in
-    let same : m ≡ n = cc in
-    other (subst Is same p.0)
+none_other Is n rest bytes other is m x more p e = grind (arith, common_steps)
 
 -- what is wrong with such bytes
 abbrev byte_told : (ℕ → Reason) → List ℕ → Reason
@@ -77,8 +75,7 @@ pub refuses_size : (old : At) (fault : Fault) → RefusesField (IsCutShort 1) (N
 refuses_size old fault r = field_so size_fault old fault Truncated r.place r.reason.reason_is r.reason.short
 
 pub refuses_other_size : (n : ℕ) (old new : At) (fault : Fault) → fault.reason ≡ AddressSize n → fault.place ≡ old.place
-    → Reads (NumberBytes old.order 1) n old new → (IsAddressSize n → ⊥)
-    → RefusesField IsAddressSizeFault AddressSizeBytes old fault
+    → Reads (NumberBytes old.order 1) n old new → (IsAddressSize n → ⊥) → RefusesField IsAddressSizeFault AddressSizeBytes old fault
 refuses_other_size n old new fault reason place r other =
     field_so size_fault old fault (AddressSize n) place reason (new.rest, other, first_is n old new r)
 
@@ -97,18 +94,14 @@ selector_told (SegmentSelector n) bytes h = sym (ap (byte_told SegmentSelector) 
 selector_told reason bytes h = absurd h
 
 selector_fault : IsOneFieldFault SelectorBytes IsSelectorFault
-selector_fault = record {
-  none = selector_none;
-  one = λ reason other bytes h k. selector_told reason bytes h ∙ sym (selector_told other bytes k);
-}
+selector_fault = grind (arith, common_steps, selector_none, selector_told)
 
 pub refuses_selector : (old : At) (fault : Fault) → RefusesField (IsCutShort 1) (NumberBytes old.order 1) old fault
     → RefusesField IsSelectorFault SelectorBytes old fault
 refuses_selector old fault r = field_so selector_fault old fault Truncated r.place r.reason.reason_is r.reason.short
 
 pub refuses_other_selector : (n : ℕ) (old new : At) (fault : Fault) → fault.reason ≡ SegmentSelector n → fault.place ≡ old.place
-    → Reads (NumberBytes old.order 1) n old new → n ≢ 0
-    → RefusesField IsSelectorFault SelectorBytes old fault
+    → Reads (NumberBytes old.order 1) n old new → n ≢ 0 → RefusesField IsSelectorFault SelectorBytes old fault
 refuses_other_selector n old new fault reason place r other =
     field_so selector_fault old fault (SegmentSelector n) place reason (new.rest, omega (arith, other), first_is n old new r)
 
@@ -120,8 +113,7 @@ reads_counted format n counted old middle new r s =
     let size : length counted ≡ n = ap length s.spelled.taken_is ∙ s.spelled.count_is in
     let both = reads_both (OffsetBytes format old.order) (λ _ _. TakenBytes n) n counted old middle new r s in
     reads_map (Both (OffsetBytes format old.order) (λ _. TakenBytes n)) (CountedBytes format old.order) (n, counted) counted old new
-    (λ x p. parts_as p (subst (λ (k : ℕ). OffsetBytes format old.order k p.front) (sym size) p.first) (sym p.second.taken_is))
-    both
+    (λ x p. parts_as p (subst (λ (k : ℕ). OffsetBytes format old.order k p.front) (sym size) p.first) (sym p.second.taken_is)) both
 
 counted_none : (format : Format) (order : Order) (reason : Reason) (bytes : List ℕ) → IsCountedFault format order reason bytes
     → NoneSpelled (CountedBytes format order) bytes
@@ -139,17 +131,14 @@ counted_none format order Truncated bytes h taken x more p e =
 counted_none format order HeaderLength bytes h taken x more p e =
     let all : p.front ++ (p.back ++ more) ≡ number_bytes order (offset_size format) h.0 ++ h.1 =
     sym (append_assoc p.front p.back more) ∙ ap (λ (z : List ℕ). z ++ more) (sym p.joined) ∙ e ∙ h.4 in
-    let found =
-    same_number_front order (offset_size format) (offset_width format) (length taken) h.0 (p.back ++ more) h.1 p.first.fits h.2
+    let found = same_number_front order (offset_size format) (offset_width format) (length taken) h.0 (p.back ++ more) h.1 p.first.fits h.2
     (ap (λ (z : List ℕ). z ++ (p.back ++ more)) (sym p.first.spelled) ∙ all) in
     omega (arith, found.0, h.3, ap length found.1, length-append p.back more, ap length p.second)
 counted_none format order reason bytes h taken x more p e = absurd h
 
 whole_number : (format : Format) (order : Order) (bytes : List ℕ) → IsCountedFault format order HeaderLength bytes
     → offset_size format ≤ length bytes
-whole_number format order bytes h =
-    let number = number_bytes order (offset_size format) h.0 in
-    omega (arith, ap length h.4, length-append number h.1, length-number_bytes order (offset_size format) h.0)
+whole_number format order bytes h = grind (arith, common_steps, length-append, length-number_bytes)
 
 counted_one : (format : Format) (order : Order) (reason other : Reason) (bytes : List ℕ) → IsCountedFault format order reason bytes
     → IsCountedFault format order other bytes → reason ≡ other
@@ -167,16 +156,12 @@ counted_fault format order = record { none = counted_none format order; one = co
 pub refuses_length : (format : Format) (old : At) (fault : Fault)
     → RefusesField (IsCutShort (offset_size format)) (OffsetBytes format old.order) old fault
     → RefusesField (IsCountedFault format old.order) (CountedBytes format old.order) old fault
-refuses_length format old fault r =
-    field_so (counted_fault format old.order) old fault Truncated r.place r.reason.reason_is r.reason.short
+refuses_length format old fault r = field_so (counted_fault format old.order) old fault Truncated r.place r.reason.reason_is r.reason.short
 
 pub refuses_counted : (format : Format) (n : ℕ) (old middle : At) (short fault : Fault) → Reads (OffsetBytes format old.order) n old middle
-    → RefusesField (IsCutShort n) (TakenBytes n) middle short
-    → fault.place ≡ old.place → fault.reason ≡ HeaderLength
+    → RefusesField (IsCutShort n) (TakenBytes n) middle short → fault.place ≡ old.place → fault.reason ≡ HeaderLength
     → RefusesField (IsCountedFault format old.order) (CountedBytes format old.order) old fault
-refuses_counted format n old middle short fault r s place reason =
-    field_so (counted_fault format old.order) old fault HeaderLength place reason
-    (n, middle.rest, r.spelled.fits, s.reason.short, r.whole ∙ ap (λ (z : List ℕ). z ++ middle.rest) r.spelled.spelled)
+refuses_counted format n old middle short fault r s place reason = grind (arith, common_steps, field_so, counted_fault)
 
 -- ---- the three
 
@@ -197,31 +182,20 @@ first_of_start format order reason before left (header_length size is joined h) 
 pub start_spelled : (format : Format) (order : Order) (size : ℕ) (fields : List ℕ) → IsAddressSize size
     → length fields < 256 ^ offset_size format
     → StartBytes format order (size, (0, fields)) (size ∷ 0 ∷ (number_bytes order (offset_size format) (length fields) ++ fields))
-start_spelled format order size fields is fits =
-    let number = number_bytes order (offset_size format) (length fields) in
-    joins (size ∷ []) (0 ∷ (number ++ fields)) (is, refl)
-    (joins (0 ∷ []) (number ++ fields) (refl, refl) (joins number fields (record { fits = fits; spelled = refl }) refl))
+start_spelled format order size fields is fits = grind (arith, common_steps, joins)
 
 after_size : (format : Format) (order : Order) (size : ℕ) → IsOneFault (AfterSize format order size) (FirstAfterSize format order)
-after_size format order size =
-    first_of SelectorBytes (IsHere IsSelectorFault) (λ _. IsHere (IsCountedFault format order)) (kind_code (λ zero_size. zero_size ≡ 0))
-    (λ _. CountedBytes format order) (field_fault SelectorBytes IsSelectorFault selector_fault)
-    (λ _. field_fault (CountedBytes format order) (IsCountedFault format order) (counted_fault format order))
+after_size format order size = grind (arith, common_steps, first_of, kind_code, field_fault, selector_fault, counted_fault)
 
 pub start_fault : (format : Format) (order : Order) → IsOneFault (StartBytes format order) (IsStartFault format order)
-start_fault format order =
-    fault_as (StartBytes format order) (FirstOfStart format order) (IsStartFault format order) (first_of_start format order)
-    (first_of AddressSizeBytes (IsHere IsAddressSizeFault) (λ _. FirstAfterSize format order) (kind_code IsAddressSize)
-    (AfterSize format order) (field_fault AddressSizeBytes IsAddressSizeFault size_fault) (after_size format order))
+start_fault format order = grind (arith, common_steps, fault_as, first_of_start, first_of, kind_code, field_fault, size_fault, after_size)
 
 pub size_refused : (format : Format) (old : At) (fault : Fault) → RefusesField IsAddressSizeFault AddressSizeBytes old fault
     → Refuses (IsStartFault format old.order) (StartBytes format old.order) old fault
-size_refused format old fault t =
-    so_here (start_fault format old.order) old fault fault.reason t.place refl (address_size refl t.reason)
+size_refused format old fault t = so_here (start_fault format old.order) old fault fault.reason t.place refl (address_size refl t.reason)
 
 pub selector_refused : (format : Format) (size : ℕ) (old m1 : At) (fault : Fault) → Reads AddressSizeBytes size old m1
-    → RefusesField IsSelectorFault SelectorBytes m1 fault
-    → Refuses (IsStartFault format old.order) (StartBytes format old.order) old fault
+    → RefusesField IsSelectorFault SelectorBytes m1 fault → Refuses (IsStartFault format old.order) (StartBytes format old.order) old fault
 selector_refused format size old m1 fault r t =
     so_after (start_fault format old.order) old fault r t.place (selector size r.spelled.0 r.spelled.1 t.reason)
 
@@ -230,8 +204,7 @@ two_bytes size zero_size x p = p.joined ∙ ap (λ (z : List ℕ). z ++ p.back) 
     ∙ ap (λ (z : List ℕ). size ∷ z) (p.second.1 ∙ ap (λ (n : ℕ). n ∷ []) p.second.0)
 
 pub counted_refused : (format : Format) (size zero_size : ℕ) (old m1 m2 : At) (fault : Fault) → Reads AddressSizeBytes size old m1
-    → Reads SelectorBytes zero_size m1 m2
-    → RefusesField (IsCountedFault format m2.order) (CountedBytes format m2.order) m2 fault
+    → Reads SelectorBytes zero_size m1 m2 → RefusesField (IsCountedFault format m2.order) (CountedBytes format m2.order) m2 fault
     → Refuses (IsStartFault format old.order) (StartBytes format old.order) old fault
 counted_refused format size zero_size old m1 m2 fault r s t =
     let both = reads_both AddressSizeBytes (λ _ _. SelectorBytes) size zero_size old m1 m2 r s in

@@ -15,6 +15,8 @@ use Rattle.lnt_header.specs.declared.header.Pair.{Pair}
 use Rattle.lnt_header.proofs.ByteLaws.{byte_code}
 use Rattle.lnt_header.proofs.ListLaws.{same_each}
 use Rattle.lnt_header_bytes.specs.TableBytes.{PairBytes, ValuesBytes, EntryBytes, TableBytes}
+use Rattle.std.proofs.lemmas.Grind.{common_steps}
+use Rattle.std.proofs.Common.{arith}
 
 -- the same bytes as parts of other kinds
 pub parts_as : {A B A' B' : List ℕ → Type 0} {x : List ℕ} → (t : Then A B x) → A' t.front → B' t.back → Then A' B' x
@@ -52,16 +54,8 @@ same_values format order (pair ∷ pairs) (u ∷ us) (v ∷ vs) x y r s p q e =
     let tails : us ≡ vs = rest.0 in
     (cc, same_join x y p.1 q.1 one.bytes rest.1)
 
-abbrev entry_with : List FormValue → Entry
-entry_with values = record { values = values }
-
 pub entry_code : (format : Format) (order : Order) (pairs : List Pair) → IsCode (EntryBytes format order pairs)
-entry_code format order pairs = record {
-  one = λ a b x y r s p q e.
-      let found = same_values format order pairs a.values b.values x y r s p q e in
-      let both : entry_with a.values ≡ entry_with b.values = ap entry_with found.0 in
-      (both, found.1);
-}
+entry_code format order pairs = grind (arith, common_steps, same_values)
 
 pub record SameTable (pairs pairs' : List Pair) (entries entries' : List Entry) (x y r s : List ℕ) : Type 0 where
   pub format : pairs ≡ pairs'

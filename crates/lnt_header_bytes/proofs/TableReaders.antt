@@ -42,6 +42,7 @@ use Rattle.lnt_header_bytes.specs.TableFaults.IsEntryFault.{no_value}
 use Rattle.lnt_header_bytes.specs.TableFaults.IsSizeFault.{no_size, empty}
 use Rattle.lnt_header_bytes.proofs.FaultLaws.{so_after, so_here}
 use Rattle.lnt_header_bytes.proofs.TableLaws.{entry_code, pair_code, parts_as}
+use Rattle.std.proofs.lemmas.Grind.{common_steps}
 
 number_at : IsOneFault UnsignedLeb IsNumberFault
 number_at = field_fault UnsignedLeb (IsLebFault IsLargeUnsigned) unsigned_fault
@@ -73,16 +74,14 @@ code_fault : IsOneFault CodeBytes IsCodeFault
 code_fault = record { none = code_none; one = code_one }
 
 pair_fault : IsOneFault PairBytes IsPairFault
-pair_fault =
-    fault_of_part (Both UnsignedLeb (λ _. CodeBytes)) PairBytes IsPairFault (λ pair. (pair.content, pair.form)) (λ pair x p. p)
+pair_fault = fault_of_part (Both UnsignedLeb (λ _. CodeBytes)) PairBytes IsPairFault (λ pair. (pair.content, pair.form)) (λ pair x p. p)
     (first_of UnsignedLeb IsNumberFault (λ _. IsCodeFault) unsigned_code (λ _. CodeBytes) number_at (λ _. code_fault))
 
 pairs_fault : (count : ℕ) → IsOneFault (Several count PairBytes) (IsPairsFault count)
 pairs_fault count = several_of PairBytes IsPairFault pair_code pair_fault count
 
 pub reads_pair : (old middle new : At) (content code : ℕ) (pair : Pair) → Reads UnsignedLeb content old middle
-    → Reads UnsignedLeb code middle new → pair.content ≡ content → form_code pair.form ≡ code
-    → Reads PairBytes pair old new
+    → Reads UnsignedLeb code middle new → pair.content ≡ content → form_code pair.form ≡ code → Reads PairBytes pair old new
 reads_pair old middle new content code pair r s content_is code_is =
     reads_map (Both UnsignedLeb (λ _. UnsignedLeb)) PairBytes (content, code) pair old new
     (λ x p. parts_as p (subst (λ (k : ℕ). UnsignedLeb k p.front) (sym content_is) p.first)
@@ -95,15 +94,13 @@ refuses_pair_content old fault r = so_here pair_fault old fault fault.reason r.p
 
 pub refuses_pair_form : (old middle : At) (content : ℕ) (fault : Fault) → Reads UnsignedLeb content old middle
     → RefusesField (IsLebFault IsLargeUnsigned) UnsignedLeb middle fault → Refuses IsPairFault PairBytes old fault
-refuses_pair_form old middle content fault r s =
-    so_after pair_fault old fault r s.place
+refuses_pair_form old middle content fault r s = so_after pair_fault old fault r s.place
     (second content r.spelling [] r.spelled (sym (append-nil r.spelling)) (no_code (refl, s.reason)))
 
 pub refuses_unknown : (old middle after : At) (content code : ℕ) (fault : Fault) → Reads UnsignedLeb content old middle
     → Reads UnsignedLeb code middle after → IsUnknownForm code
     → fault.place ≡ middle.place → fault.reason ≡ UnknownForm code → Refuses IsPairFault PairBytes old fault
-refuses_unknown old middle after content code fault r s unknown_form place reason =
-    so_after pair_fault old fault r place
+refuses_unknown old middle after content code fault r s unknown_form place reason = so_after pair_fault old fault r place
     (second content r.spelling [] r.spelled (sym (append-nil r.spelling))
     (unknown code s.spelling after.rest reason refl s.spelled s.whole unknown_form))
 
@@ -115,8 +112,7 @@ one_more P before after old middle new r s =
     rw s.added (length-append before (s.value ∷ []), reads_more P before s.value old middle new r s.read)
 
 pub refuses_pairs : (n : ℕ) (pairs : List Pair) (old middle : At) (fault : Fault) → Reads (Each PairBytes) pairs old middle
-    → length pairs < n → Refuses IsPairFault PairBytes middle fault
-    → Refuses (IsPairsFault n) (Several n PairBytes) old fault
+    → length pairs < n → Refuses IsPairFault PairBytes middle fault → Refuses (IsPairsFault n) (Several n PairBytes) old fault
 refuses_pairs n pairs old middle fault r lt s =
     several_refused (λ _. IsPairFault) (λ _. PairBytes) n pairs old middle fault pair_code r lt s
 
@@ -131,9 +127,7 @@ module _ (format : Format) (order : Order) where
       left
 
   value_code : (form : Form) → IsCode (ValueBytes format order form)
-  value_code form = record {
-    one = λ u v x y r s p q e. same_value format order u v x y r s (p.form_is ∙ sym q.form_is) p.spelled q.spelled e;
-  }
+  value_code form = grind (arith, common_steps, same_value)
 
   abbrev parted : List FormValue → FormValue × List FormValue
   parted [] = (Udata 0, [])
@@ -201,15 +195,12 @@ pub refuses_values : (format : Format) (pairs : List Pair) (pair : Pair) (past :
 refuses_values format pairs pair past values old middle fault r s =
     let so : IsValueFault format old.order pair.form fault.reason middle.rest =
     subst (λ (o : Order). IsValueFault format o pair.form fault.reason middle.rest) r.order s.reason in
-    so_after (values_fault format old.order (pairs ++ pair ∷ past)) old fault r s.place
-    (no_value pairs pair past values refl r.spelled so)
+    so_after (values_fault format old.order (pairs ++ pair ∷ past)) old fault r s.place (no_value pairs pair past values refl r.spelled so)
 
 pub refuses_values_at : (format : Format) (pairs : List Pair) (i : ℕ) (d : Pair) (values : List FormValue) (old middle : At) (fault : Fault)
-    → i < length pairs
-    → Reads (ValuesBytes format old.order (take i pairs)) values old middle
+    → i < length pairs → Reads (ValuesBytes format old.order (take i pairs)) values old middle
     → RefusesField (IsValueFault format middle.order (get_or pairs i d).form) (ValueBytes format middle.order (get_or pairs i d).form)
-    middle fault
-    → Refuses (IsEntryFault format old.order pairs) (ValuesBytes format old.order pairs) old fault
+    middle fault → Refuses (IsEntryFault format old.order pairs) (ValuesBytes format old.order pairs) old fault
 refuses_values_at format pairs i d values old middle fault lt r s =
     let whole : take i pairs ++ get_or pairs i d ∷ drop (i + 1) pairs ≡ pairs =
     ap (λ (ps : List Pair). take i pairs ++ ps) (sym (drop_more pairs i d lt)) ∙ take-append-drop i pairs in
@@ -237,34 +228,28 @@ size_one pairs reason other before before' left left' (no_size h) (empty n y res
 size_one pairs reason other before before' left left' (empty n y rest is nothing none q joined some) (no_size k) e =
     absurd (number_at.none other before' left' k n y rest q (sym (sym e ∙ ap (λ (z : List ℕ). z ++ left) nothing ∙ joined)))
 size_one pairs reason other before before' left left' (empty n y rest is nothing none q joined some)
-    (empty n' y' rest' is' nothing' none' q' joined' some') e =
-    (is ∙ sym is', nothing ∙ sym nothing')
+    (empty n' y' rest' is' nothing' none' q' joined' some') e = (is ∙ sym is', nothing ∙ sym nothing')
 
 -- without pairs no entry has a fault
 some_pairs : (format : Format) (order : Order) (pairs : List Pair) (n : ℕ) (reason : Reason) (before left : List ℕ)
     → IsEntriesFault format order pairs n reason before left → pairs ≡ [] → ⊥
-some_pairs format order pairs n reason before left (next entries front past lt each joined (no_value done pair later values is p h)) none
-    =
+some_pairs format order pairs n reason before left (next entries front past lt each joined (no_value done pair later values is p h)) none =
     omega (arith, ap length is, ap length none, length-append done (pair ∷ later))
 
 sized_one : (format : Format) (order : Order) (pairs : List Pair) → AreOne (AfterPairsFault format order pairs)
-sized_one format order pairs =
-    first_one UnsignedLeb (IsSizeFault pairs) (IsEntriesFault format order pairs) unsigned_code (size_one pairs)
+sized_one format order pairs = first_one UnsignedLeb (IsSizeFault pairs) (IsEntriesFault format order pairs) unsigned_code (size_one pairs)
     (λ reason other n before left front past left' h p k e. elim h [
       | no_size missing ↦ number_at.none reason before left missing n front (past ++ left') p (sym e)
       | empty m y rest is nothing none q joined some ↦ some_pairs format order pairs n other past left' k none
-    ])
-    (λ n. (entries_fault format order pairs n).one)
+    ]) (λ n. (entries_fault format order pairs n).one)
 
 sized_none : (format : Format) (order : Order) (pairs : List Pair) (reason : Reason) (before left : List ℕ)
-    → AfterPairsFault format order pairs reason before left
-    → NoneSpelled (SizeOn format order pairs) (before ++ left)
+    → AfterPairsFault format order pairs reason before left → NoneSpelled (SizeOn format order pairs) (before ++ left)
 sized_none format order pairs reason before left (first (no_size h)) =
     none_first UnsignedLeb (EntriesOf format order pairs) (before ++ left) (number_at.none reason before left h)
 sized_none format order pairs reason before left (first (empty n y rest is nothing none q joined some)) =
     none_second UnsignedLeb (EntriesOf format order pairs) unsigned_code n y (before ++ left) rest q
-    (ap (λ (z : List ℕ). z ++ left) nothing ∙ joined)
-    (λ entries x more p e. omega (arith, some, p.0 none))
+    (ap (λ (z : List ℕ). z ++ left) nothing ∙ joined) (λ entries x more p e. omega (arith, some, p.0 none))
 sized_none format order pairs reason before left (second n front past p joined h) =
     none_second UnsignedLeb (EntriesOf format order pairs) unsigned_code n front (before ++ left) (past ++ left) p
     (ap (λ (z : List ℕ). z ++ left) joined ∙ append_assoc front past left)
@@ -306,17 +291,7 @@ empty_list (x ∷ xs) e = absurd (omega arith)
 
 to_table : (format : Format) (order : Order) (n m : ℕ) (pairs : List Pair) (entries : List Entry) (x : List ℕ)
     → CountOn format order (n, (pairs, (m, entries))) x → TableOf format order (pairs, entries) x
-to_table format order n m pairs entries x p =
-    let p2 = p.second in
-    let p3 = p2.second in
-    let few : length pairs < 256 = omega (arith, p2.first.0, p.first.fits) in
-    let none : pairs ≡ [] → entries ≡ [] = λ e. empty_list entries (p3.second.1.0 ∙ p3.second.0 e) in
-    record {
-      few_pairs = few;
-      none_without_pairs = none;
-      spelled = parts_as p (p.first.spelled ∙ one_digit order n p.first.fits ∙ ap (λ (k : ℕ). k ∷ []) (sym p2.first.0))
-          (parts_as p2 p2.first.1 (parts_as p3 (subst (λ (k : ℕ). UnsignedLeb k p3.front) (sym p3.second.1.0) p3.first) p3.second.1.1));
-    }
+to_table format order n m pairs entries x p = grind (arith, common_steps, empty_list, parts_as, one_digit)
 
 count_at : (order : Order) → IsOneFault (NumberBytes order 1) IsCountFault
 count_at order = field_fault (NumberBytes order 1) (IsCutShort 1) (number_fault order 1)
@@ -363,8 +338,7 @@ module _ (format : Format) (n : ℕ) (pairs : List Pair) (old m1 m2 : At) (r : R
   pub refuses_rest : (size : ℕ) (m3 : At) (fault : Fault) → Reads UnsignedLeb size m2 m3
       → Refuses (IsEntriesFault format m3.order pairs size) (Several size (EntryBytes format m3.order pairs)) m3 fault
       → Refuses (IsTableFault format old.order) (TableOf format old.order) old fault
-  refuses_rest size m3 fault t u =
-      after_kinds fault
+  refuses_rest size m3 fault t u = after_kinds fault
       (second_refused (λ order. IsEntriesFault format order pairs) UnsignedLeb (λ order. EntriesOf format order pairs) size m2 m3 fault
       unsigned_code t (refuses_map (Several size (EntryBytes format m3.order pairs)) (EntriesOf format m3.order pairs size) (λ es. es) m3
       fault (λ y x p. p.1) u))
@@ -377,8 +351,7 @@ module _ (format : Format) (n : ℕ) (pairs : List Pair) (old m1 m2 : At) (r : R
       (first (empty size t.spelling m3.rest refl refl none t.spelled t.whole some)))
 
   pub reads_table : (size : ℕ) (entries : List Entry) (m3 new : At) → Reads UnsignedLeb size m2 m3 → (n ≡ 0 → size ≡ 0)
-      → Reads (Several size (EntryBytes format m3.order pairs)) entries m3 new
-      → Reads (TableOf format old.order) (pairs, entries) old new
+      → Reads (Several size (EntryBytes format m3.order pairs)) entries m3 new → Reads (TableOf format old.order) (pairs, entries) old new
   reads_table size entries m3 new t none u =
       let none_without : pairs ≡ [] → size ≡ 0 = λ e. none (sym s.spelled.0 ∙ ap length e) in
       let last = reads_map (Several size (EntryBytes format m3.order pairs)) (EntriesOf format m3.order pairs size) entries entries m3 new

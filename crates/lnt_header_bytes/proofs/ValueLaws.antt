@@ -15,6 +15,7 @@ use Rattle.lnt_header.specs.declared.header.Pair.{Pair}
 use Rattle.lnt_header.proofs.ReaderLaws.{reads_map}
 use Rattle.lnt_header_bytes.specs.Layouts.{entry_of}
 use Rattle.lnt_header_bytes.specs.TableBytes.{ValuesBytes, EntryBytes}
+use Rattle.std.proofs.lemmas.Grind.{common_steps}
 
 values_push : (format : Format) (order : Order) (pairs : List Pair) (pair : Pair) (values : List FormValue) (value : FormValue)
     (x y : List ℕ) → ValuesBytes format order pairs values x → ValueBytes format order pair.form value y
@@ -37,8 +38,7 @@ values_push format order (a ∷ pairs) pair (v ∷ values) value x y p q = (
 )
 
 pub values_more : (format : Format) (pairs : List Pair) (pair : Pair) (values : List FormValue) (value : FormValue) (old middle new : At)
-    → Reads (ValuesBytes format old.order pairs) values old middle
-    → Reads (ValueBytes format middle.order pair.form) value middle new
+    → Reads (ValuesBytes format old.order pairs) values old middle → Reads (ValueBytes format middle.order pair.form) value middle new
     → Reads (ValuesBytes format old.order (pairs ++ pair ∷ [])) (values ++ value ∷ []) old new
 values_more format pairs pair values value old middle new r s =
     let one : ValueBytes format old.order pair.form value s.spelling =
@@ -64,16 +64,14 @@ none_values format order (a ∷ pairs) pair past [] x rest bytes p whole none vs
 none_values format order (a ∷ pairs) pair past (u ∷ us) x rest bytes p whole none [] y more q e = q
 none_values format order (a ∷ pairs) pair past (u ∷ us) x rest bytes p whole none (v ∷ vs) y more q e =
     let one = peel_by v u y x more rest (λ c d s t. same_value format order v u c d s t (q.0 ∙ sym p.0)) q.1 p.1 (e ∙ whole) in
-    none_values format order pairs pair past us p.1.back rest (p.1.back ++ rest) p.1.second refl none vs q.1.back more q.1.second
-    one.past
+    none_values format order pairs pair past us p.1.back rest (p.1.back ++ rest) p.1.second refl none vs q.1.back more q.1.second one.past
 
 pub values_none : (format : Format) (at : At) → Reads (ValuesBytes format at.order []) [] at at
 values_none format at = record { spelling = []; spelled = refl; whole = refl; place = sym (add-zero at.place); order = refl }
 
 -- the same by the place in the list
 pub values_next : (format : Format) (pairs : List Pair) (i : ℕ) (d : Pair) (values : List FormValue) (value : FormValue)
-    (old middle new : At) → i < length pairs
-    → Reads (ValuesBytes format old.order (take i pairs)) values old middle
+    (old middle new : At) → i < length pairs → Reads (ValuesBytes format old.order (take i pairs)) values old middle
     → Reads (ValueBytes format middle.order (get_or pairs i d).form) value middle new
     → Reads (ValuesBytes format old.order (take (i + 1) pairs)) (values ++ value ∷ []) old new
 values_next format pairs i d values value old middle new lt r s =
@@ -99,14 +97,11 @@ read_more format pairs i d values value old middle new lt p r =
 -- all values are an entry's
 pub entry_read : (format : Format) (pairs : List Pair) (count : ℕ) (values : List FormValue) (old new : At) → length pairs ≤ count
     → AreReadTo format pairs count values old new → Reads (EntryBytes format old.order pairs) (entry_of values) old new
-entry_read format pairs count values old new le p =
-    reads_map (ValuesBytes format old.order pairs) (EntryBytes format old.order pairs) values (entry_of values) old new (λ x q. q)
-    (subst (λ (ps : List Pair). Reads (ValuesBytes format old.order ps) values old new) (take_all count pairs le) p.read)
+entry_read format pairs count values old new le p = grind (arith, common_steps, reads_map, take_all)
 
 -- there is no entry where the next of its values isn't there
 pub no_entry : (format : Format) (pairs : List Pair) (i : ℕ) (d : Pair) (values : List FormValue) (old middle : At) → i < length pairs
-    → AreReadTo format pairs i values old middle
-    → NoneSpelled (ValueBytes format middle.order (get_or pairs i d).form) middle.rest
+    → AreReadTo format pairs i values old middle → NoneSpelled (ValueBytes format middle.order (get_or pairs i d).form) middle.rest
     → NoneSpelled (EntryBytes format old.order pairs) old.rest
 no_entry format pairs i d values old middle lt p none entry x more q e =
     let whole : take i pairs ++ get_or pairs i d ∷ drop (i + 1) pairs ≡ pairs =

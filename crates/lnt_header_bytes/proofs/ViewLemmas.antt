@@ -18,7 +18,6 @@ use Rattle.lnt_header_bytes.specs.Stepping.{IsEntryTableRead, AreFieldsRead, Are
 use Rattle.lnt_header_bytes.specs.Borrowed.{IsHeaderOver}
 use Rattle.lnt_header.specs.declared.header.HeaderParts.{HeaderParts}
 use Rattle.lnt_header_bytes.specs.declared.numbers.Singles.{Singles}
-use Rattle.lnt_header_bytes.specs.FieldsBytes.{FieldsBytes}
 use Rattle.lnt_header_bytes.specs.HeaderFaults.{SinglesBytes, LengthsBytes}
 use Rattle.lnt_header_bytes.specs.HeaderReading.{HasFields, AreFields}
 use Rattle.lnt_header.specs.HeaderRules.{IsAddressSize, IsHeader}
@@ -30,12 +29,12 @@ use Rattle.lnt_header_bytes.proofs.DecodeLemmas.{fields_found}
 use Rattle.lnt_header_bytes.proofs.HeaderReaders.{reads_fields}
 use Rattle.lnt_header_bytes.proofs.PassedLaws.{several_there}
 use Rattle.lnt_header_bytes.proofs.TableReaders.{reads_table}
+use Rattle.std.proofs.lemmas.Grind.{common_steps}
 
 -- what was passed is what the bytes begin with
 found : (format : Format) (pairs : List Pair) (count : ℕ) (bytes : List ℕ) (old new : At)
     → (p : PassesAll count (EntryBytes format old.order pairs) bytes old new) → first_entries format old.order pairs count bytes ≡ p.values
-found format pairs count bytes old new p =
-    ap (first_entries format old.order pairs count) p.bytes_are
+found format pairs count bytes old new p = ap (first_entries format old.order pairs count) p.bytes_are
     ∙ all_found format old.order pairs count p.values p.read.spelling p.count_is p.read.spelled
 
 lies_here : (format : Format) (pairs : List Pair) (count : ℕ) (bytes : List ℕ) (old new : At)
@@ -46,8 +45,7 @@ lies_here format pairs count bytes old new p =
     (subst (λ (z : List ℕ). Each (EntryBytes format old.order pairs) p.values z) (sym p.bytes_are) p.read.spelled)
 
 pub table_read : (format : Format) (n size : ℕ) (table : EntryTableRead) (old m1 m2 m3 new : At) → Reads (NumberBytes old.order 1) n old m1
-    → Reads (Several n PairBytes) table.pairs.items m1 m2
-    → Reads UnsignedLeb size m2 m3 → (n ≡ 0 → size ≡ 0) → table.entries.count ≡ size
+    → Reads (Several n PairBytes) table.pairs.items m1 m2 → Reads UnsignedLeb size m2 m3 → (n ≡ 0 → size ≡ 0) → table.entries.count ≡ size
     → PassesAll size (EntryBytes format m3.order table.pairs.items) table.entries.bytes.now m3 new → IsEntryTableRead format table old new
 table_read format n size table old m1 m2 m3 new r s t none count p =
     let pairs = table.pairs.items in
@@ -74,8 +72,7 @@ table_read format n size table old m1 m2 m3 new r s t none count p =
 
 -- the entries that are read are those that lie there
 pub entries_are : (table : BorrowedTable) (entries : List Entry) (old new : At) → old.order ≡ table.order → AreEntryBytes table old.rest
-    → Reads (Several (length table.entries) (EntryBytes table.format old.order table.pairs)) entries old new
-    → entries ≡ table.entries
+    → Reads (Several (length table.entries) (EntryBytes table.format old.order table.pairs)) entries old new → entries ≡ table.entries
 entries_are table entries old new same lies r =
     let spelled : Each (EntryBytes table.format table.order table.pairs) entries r.spelling =
     subst (λ (o : Order). Each (EntryBytes table.format o table.pairs) entries r.spelling) same r.spelled.1 in
@@ -89,34 +86,14 @@ entries_are table entries old new same lies r =
 -- they are there, so that they are read
 pub entries_there : (table : BorrowedTable) (count : ℕ) (old : At) → count ≡ length table.entries → old.order ≡ table.order
     → AreEntryBytes table old.rest → NoneSpelled (Several count (EntryBytes table.format old.order table.pairs)) old.rest → ⊥
-entries_there table count old is same lies none =
-    several_there (EntryBytes table.format table.order table.pairs) count table.entries old.rest (omega (arith, is)) lies
-    (subst (λ (o : Order). NoneSpelled (Several count (EntryBytes table.format o table.pairs)) old.rest) same none)
+entries_there table count old is same lies none = grind (arith, common_steps, several_there)
 
 -- ---- headers
 
 pub fields_read : (format : Format) (s : Singles) (ls : List ℕ) (directories files : EntryTableRead) (old m1 m2 m3 new : At)
     → Reads SinglesBytes s old m1 → Reads (LengthsBytes s.opcode_base) ls m1 m2
     → IsEntryTableRead format directories m2 m3 → IsEntryTableRead format files m3 new → AreFieldsRead format s ls directories files old new
-fields_read format s ls directories files old m1 m2 m3 new r t d f =
-    let first : m2.order ≡ old.order = t.order ∙ r.order in
-    let second : m3.order ≡ old.order = d.read.order ∙ first in
-    let d_entries : (lying_table format m2.order directories).entries ≡ (lying_table format old.order directories).entries =
-    ap (λ (o : Order). (lying_table format o directories).entries) first in
-    let f_entries : (lying_table format m3.order files).entries ≡ (lying_table format old.order files).entries =
-    ap (λ (o : Order). (lying_table format o files).entries) second in
-    let all = reads_fields format s ls old m1 m2 r t (directories.pairs.items, (lying_table format m2.order directories).entries)
-    (files.pairs.items, (lying_table format m3.order files).entries) m3 new d.read f.read in
-    record {
-      directories_lie = subst (λ (o : Order). AreEntryBytes (lying_table format o directories) directories.entries.bytes.now) first d.lies;
-      files_lie = subst (λ (o : Order). AreEntryBytes (lying_table format o files) files.entries.bytes.now) second f.lies;
-      read = subst (λ (es : List Entry). Reads (FieldsBytes format old.order)
-          (s, (ls, ((directories.pairs.items, (lying_table format old.order directories).entries), (files.pairs.items, es)))) old new)
-          f_entries
-          (subst (λ (es : List Entry). Reads (FieldsBytes format old.order)
-          (s, (ls, ((directories.pairs.items, es), (files.pairs.items, (lying_table format m3.order files).entries)))) old new)
-          d_entries all);
-    }
+fields_read format s ls directories files old m1 m2 m3 new r t d f = grind (arith, common_steps, reads_fields)
 
 abbrev with_entries : HeaderParts → List Entry → List Entry → List ℕ → HeaderParts
 with_entries h directories files extra = record h { directories = directories; files = files; extra = extra }
@@ -124,9 +101,7 @@ with_entries h directories files extra = record h { directories = directories; f
 -- a header that was read without its entries has none
 plain_is : (h : HeaderParts) (dc : ℕ) (db : List ℕ) (fc : ℕ) (fb extra : List ℕ) → h.directories ≡ [] → h.files ≡ [] → h.extra ≡ []
     → h ≡ without_entries (header_over h dc db fc fb extra)
-plain_is h dc db fc fb extra b e g =
-    let none : with_entries h h.directories h.files h.extra ≡ with_entries h [] [] [] = cc (b, e, g) in
-    none
+plain_is h dc db fc fb extra b e g = grind (arith, common_steps)
 
 -- What is read of a header, and its parts.
 pub record IsViewFound (format : Format) (order : Order) (size : ℕ) (bytes : List ℕ) (h : HeaderParts) (directories files : EntryTableRead)

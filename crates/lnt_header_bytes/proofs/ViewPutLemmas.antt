@@ -31,6 +31,7 @@ use Rattle.lnt_header.specs.declared.header.HeaderParts.{HeaderParts}
 use Rattle.lnt_header.specs.declared.header.Pair.{Pair}
 use Rattle.lnt_header_bytes.proofs.EncodeLemmas.{large_value, header_added}
 use Rattle.lnt_header_bytes.proofs.LargeLemmas.{too_large_refused, unit_too_long}
+use Rattle.std.proofs.lemmas.Grind.{common_steps}
 
 -- ---- the values of an entry
 
@@ -155,9 +156,7 @@ entries_done table format order count n at old new n_is le p =
 pub next_there : (table : BorrowedTable) (format : Format) (order : Order) (count : ℕ) (at : At) (old middle : List ℕ)
     → count < length table.entries → EntriesPut table format order count at old middle
     → NoneSpelled (EntryBytes table.format at.order table.pairs) at.rest → ⊥
-next_there table format order count at old middle lt p none =
-    one_there (EntryBytes table.format table.order table.pairs) table.entries count at.rest lt p.rest
-    (subst (λ (o : Order). NoneSpelled (EntryBytes table.format o table.pairs) at.rest) p.order_is none)
+next_there table format order count at old middle lt p none = grind (arith, common_steps, one_there)
 
 pub entries_refused : (table : BorrowedTable) (format : Format) (order : Order) (count : ℕ) (at : At) (old middle : List ℕ)
     (fault : EncodeFault) → count < length table.entries → EntriesPut table format order count at old middle
@@ -175,8 +174,7 @@ entries_refused table format order count at old middle fault lt p refused =
 pub view_put : (h : HeaderParts) (format : Format) (order : Order) (size : ℕ) (program fields named old new : List ℕ)
     → IsShortest HeaderFieldsBytes (in_format h format order) fields → named ≡ fields → size ≡ h.address_size
     → AddsAround order format size named program old new → Appends (HeaderBytesIn order) (in_format h format order, program) old new
-view_put h format order size program fields named old new p is sized a =
-    header_added (in_format h format order) program fields old new p
+view_put h format order size program fields named old new p is sized a = header_added (in_format h format order) program fields old new p
     (subst (λ (n : ℕ). AddsAround order format n fields program old new) sized
     (subst (λ (z : List ℕ). AddsAround order format size z program old new) is a))
 

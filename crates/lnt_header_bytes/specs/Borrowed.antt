@@ -31,8 +31,7 @@ first_values_size format order (pair ∷ pairs) bytes =
 -- the entries that bytes begin with, as many as a count says
 abbrev pub first_entries : Format → Order → List Pair → ℕ → List ℕ → List Entry
 first_entries format order pairs zero bytes = []
-first_entries format order pairs (suc count) bytes =
-    entry_of (first_values format order pairs bytes)
+first_entries format order pairs (suc count) bytes = entry_of (first_values format order pairs bytes)
     ∷ first_entries format order pairs count (drop (first_values_size format order pairs bytes) bytes)
 
 -- ---- tables

@@ -61,14 +61,11 @@ IsAt order (AddressSize size) before from =
 IsAt order (SegmentSelector size) before from =
     (format : Format) × (address_size : ℕ) × (left : List ℕ) × IsAddressSize address_size × (0 < size)
     × InFrame order format (version_five order ++ address_size ∷ []) (size ∷ left) before from
-IsAt order HeaderLength before from =
-    (format : Format) × (address_size n : ℕ) × (left : List ℕ) × IsAddressSize address_size
+IsAt order HeaderLength before from = (format : Format) × (address_size n : ℕ) × (left : List ℕ) × IsAddressSize address_size
     × (n < 256 ^ offset_size format) × (length left < n)
     × InFrame order format (sound_start order address_size) (number_bytes order (offset_size format) n ++ left) before from
-IsAt order MaxOpsZero before from =
-    (minimum : ℕ) × (left : List ℕ) × InHeader order (minimum ∷ []) (0 ∷ left) before from
-IsAt order LineRangeZero before from =
-    (minimum max_ops default_is_stmt line_base : ℕ) × (left : List ℕ) × (0 < max_ops)
+IsAt order MaxOpsZero before from = (minimum : ℕ) × (left : List ℕ) × InHeader order (minimum ∷ []) (0 ∷ left) before from
+IsAt order LineRangeZero before from = (minimum max_ops default_is_stmt line_base : ℕ) × (left : List ℕ) × (0 < max_ops)
     × InHeader order (minimum ∷ max_ops ∷ default_is_stmt ∷ line_base ∷ []) (0 ∷ left) before from
 IsAt order OpcodeBaseZero before from =
     (minimum max_ops default_is_stmt line_base line_range : ℕ) × (left : List ℕ) × (0 < max_ops) × (0 < line_range)
@@ -78,8 +75,7 @@ IsAt order (StandardLength opcode given) before from =
     × AreStandardLengths lengths × (opcode ≡ length lengths + 1) × (opcode < opcode_base) × (opcode ≤ last_known)
     × (given ≢ slice_index known_lengths (length lengths))
     × InHeader order (minimum ∷ max_ops ∷ default_is_stmt ∷ line_base ∷ line_range ∷ opcode_base ∷ lengths) (given ∷ left) before from
-IsAt order (UnknownForm code) before from =
-    (left : List ℕ) × (spelling : List ℕ) × (rest : List ℕ) × InHeaderAt order left before from
+IsAt order (UnknownForm code) before from = (left : List ℕ) × (spelling : List ℕ) × (rest : List ℕ) × InHeaderAt order left before from
     × (left ≡ spelling ++ rest) × UnsignedLeb code spelling × IsUnknownForm code
 IsAt order EmptyFormat before from =
     (left : List ℕ) × (n : ℕ) × (spelling : List ℕ) × (rest : List ℕ) × (earlier : List ℕ) × InHeaderAt order left before from

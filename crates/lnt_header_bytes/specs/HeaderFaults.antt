@@ -34,8 +34,7 @@ pub record AreCutSingles (before left : List ℕ) : Type 0 where
 abbrev pub IsSinglesFault : Reason → List ℕ → List ℕ → Type 0
 IsSinglesFault Truncated before left = AreCutSingles before left
 IsSinglesFault MaxOpsZero before left = (minimum : ℕ) × (more : List ℕ) × (before ≡ minimum ∷ []) × (left ≡ 0 ∷ more)
-IsSinglesFault LineRangeZero before left =
-    (minimum max_ops default_is_stmt line_base : ℕ) × (more : List ℕ) × (0 < max_ops)
+IsSinglesFault LineRangeZero before left = (minimum max_ops default_is_stmt line_base : ℕ) × (more : List ℕ) × (0 < max_ops)
     × (before ≡ minimum ∷ max_ops ∷ default_is_stmt ∷ line_base ∷ []) × (left ≡ 0 ∷ more)
 IsSinglesFault OpcodeBaseZero before left =
     (minimum max_ops default_is_stmt line_base line_range : ℕ) × (more : List ℕ) × (0 < max_ops) × (0 < line_range)

@@ -10,6 +10,5 @@ kept_header numbers kept = header_in_bytes numbers kept.directories kept.files k
 
 -- it is a header, with the marks of its tables
 abbrev pub IsKeptHeader : HeaderParts → KeptEntries → Type 0
-IsKeptHeader numbers kept =
-    IsMarkedHeader numbers kept.directories kept.files kept.bytes.items kept.directory_size kept.file_size
+IsKeptHeader numbers kept = IsMarkedHeader numbers kept.directories kept.files kept.bytes.items kept.directory_size kept.file_size
     kept.directory_marks.items kept.file_marks.items

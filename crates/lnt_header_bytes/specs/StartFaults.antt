@@ -23,8 +23,7 @@ IsSelectorFault _ bytes = ⊥
 -- Why they don't begin with a header_length and the bytes that it counts: it is truncated, or counts more than are left.
 abbrev pub IsCountedFault : Format → Order → Reason → List ℕ → Type 0
 IsCountedFault format order Truncated bytes = length bytes < offset_size format
-IsCountedFault format order HeaderLength bytes =
-    (n : ℕ) × (more : List ℕ) × (n < 256 ^ offset_size format) × (length more < n)
+IsCountedFault format order HeaderLength bytes = (n : ℕ) × (more : List ℕ) × (n < 256 ^ offset_size format) × (length more < n)
     × (bytes ≡ number_bytes order (offset_size format) n ++ more)
 IsCountedFault format order _ bytes = ⊥
 

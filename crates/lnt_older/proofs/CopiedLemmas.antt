@@ -9,18 +9,11 @@ use Rattle.lnt_header_bytes.specs.HeaderBytes.{unit_body}
 use Rattle.lnt_header_bytes.proofs.TableLaws.{entry_code}
 use Rattle.lnt_older.specs.OlderBytes.{file_pairs}
 use Rattle.lnt_older.specs.Upgraded.{CopiedFields, CountedTable}
+use Rattle.std.proofs.lemmas.Grind.{common_steps}
 
 one_table : {head entries x y : List ℕ} {count : ℕ} → CountedTable head count entries x → CountedTable head count entries y
     → length x ≡ length y
-one_table p q =
-    omega (
-      arith,
-      length-append {A = ℕ},
-      ap length p.joined,
-      ap length q.joined,
-      p.counted.shortest q.size q.counted.spelled,
-      q.counted.shortest p.size p.counted.spelled,
-    )
+one_table p q = grind (arith, common_steps, length-append)
 
 pub one_length : {h : HeaderParts} {directory directories files x y : List ℕ} → CopiedFields h directory directories files x
     → CopiedFields h directory directories files y → length x ≡ length y

@@ -26,6 +26,7 @@ use Rattle.lnt_older.specs.Directories.{IsLastUnit, IsNext, IsAmong, MayFollow, 
 use Rattle.lnt_older.specs.Upgradable.{AreSoundDirectories}
 use Rattle.lnt_wire.specs.FormBytes.{HasNoZero}
 use Rattle.lnt_older.specs.declared.directories.Directory.{Directory}
+use Rattle.std.proofs.lemmas.Grind.{common_steps}
 
 -- ---- one offset among others
 
@@ -123,8 +124,7 @@ not_unit fields other e = other (ap (λ (f : Fields). get_or f 0 []) e)
 pub not_directory : (fields : Fields) → get_or fields 1 [] ≢ codes "directory" → fields ≢ directory_names
 not_directory fields other e = other (ap (λ (f : Fields). get_or f 1 []) e)
 
-pub columns_found : (named : Bool) (reader : BytesReader) (bytes : List ℕ) (fields : Fields)
-    → HasRead reader bytes (fields ∷ [])
+pub columns_found : (named : Bool) (reader : BytesReader) (bytes : List ℕ) (fields : Fields) → HasRead reader bytes (fields ∷ [])
     → MatchBool named (fields ≡ directory_names) (fields ≢ directory_names)
     → MatchBool named (HasRead reader bytes (directory_names ∷ [])) (BeginsWith bytes (directory_names ∷ []) → ⊥)
 columns_found true reader bytes fields read is = rw is at read
@@ -183,11 +183,7 @@ none_yet older = record { each = tt; rising = λ i j d lt few. absurd (omega (ar
 
 pub one_more : (older : List ℕ) (records : List Fields) (fields : Fields) (old new : List Directory) → AreRecords older records old
     → IsAdded older fields old new → AreRecords older (records ++ fields ∷ []) new
-one_more older records fields old new so a = rw a.added (record {
-  each = zip_push IsDirectoryRecord records old fields a.directory so.each a.is_record;
-  rising = a.follows.0;
-  units = zip_push (λ (f : Fields) (d : Directory). IsAmong older d.unit) records old fields a.directory so.units a.follows.1;
-})
+one_more older records fields old new so a = grind (arith, common_steps, zip_push)
 
 zip_last : {A B : Type 0} (R : A → B → Type 0) (xs : List A) (ys : List B) (x : A) (y : B) → AllZip R xs ys
     → AllZip R (xs ++ x ∷ []) (ys ++ y ∷ []) → R x y

@@ -1,5 +1,5 @@
 -- The fields that header_length counts, which are read, and the first that isn't there.
-use Rattle.std.proofs.Common.{◌≡◌, ℕ, List, [], ◌∷◌, ◌++◌, length, refl, sym, ap, ◌∙◌, append_assoc, arith}
+use Rattle.std.proofs.Common.{◌≡◌, ℕ, List, [], ◌∷◌, ◌++◌, refl, sym, ◌∙◌, append_assoc, arith}
 use Rattle.lnt_wire.specs.At.{At}
 use Rattle.lnt_wire.specs.Bytes.{IsCode}
 use Rattle.lnt_wire.specs.Reading.{Reads, Refuses}
@@ -20,30 +20,24 @@ use Rattle.lnt_older.specs.declared.numbers.OlderNumbers.{OlderNumbers}
 use Rattle.lnt_older.specs.declared.version.OlderVersion.{OlderVersion}
 use Rattle.lnt_older.proofs.ListFaultLemmas.{begins_front, ends_here, listed_code}
 use Rattle.lnt_older.proofs.NumberLemmas.{numbers_code}
+use Rattle.std.proofs.lemmas.Grind.{common_steps}
 
 -- ---- one value for its bytes
 
 pub lengths_code : (opcode_base : ℕ) → IsCode (LengthsBytes opcode_base)
-lengths_code opcode_base = record {
-  one = λ s t x y r q p p' e.
-      let same = same_front x y r q (omega (arith, ap length p.2, ap length p'.2, p.0, p'.0)) e in
-      (sym p.2 ∙ same ∙ p'.2, same);
-}
+lengths_code opcode_base = grind (arith, common_steps, same_front)
 
 -- a list that isn't empty begins with an entry
 begins_list : (format : Format) (order : Order) (pairs : List Pair) (v : Entry) (vs : List Entry) (y : List ℕ)
     → ListBytes format order pairs (v ∷ vs) y → (rest : List ℕ) → BeginsEntry (y ++ rest)
-begins_list format order pairs v vs y q rest =
-    begins_front q.first.front ((q.first.back ++ q.back) ++ rest) (y ++ rest) q.first.first.some
-    (simp (q.joined, q.first.joined, append_assoc))
+begins_list format order pairs v vs y q rest = grind (arith, common_steps, begins_front, append_assoc)
 
 end_of : (format : Format) (order : Order) (pairs : List Pair) (x : List ℕ) → ListBytes format order pairs [] x → x ≡ 0 ∷ []
 end_of format order pairs x p = rw (p.joined, p.first, p.second) refl
 
 same_list : (format : Format) (order : Order) (pairs : List Pair) (us vs : List Entry) (x y r s : List ℕ)
     → ListBytes format order pairs us x → ListBytes format order pairs vs y → x ++ r ≡ y ++ s → (us ≡ vs) × (x ≡ y)
-same_list format order pairs [] [] x y r s p q e =
-    (refl, end_of format order pairs x p ∙ sym (end_of format order pairs y q))
+same_list format order pairs [] [] x y r s p q e = (refl, end_of format order pairs x p ∙ sym (end_of format order pairs y q))
 same_list format order pairs [] (v ∷ vs) x y r s p q e =
     absurd (ends_here x r (y ++ s) (end_of format order pairs x p) e (begins_list format order pairs v vs y q s))
 same_list format order pairs (u ∷ us) [] x y r s p q e =
@@ -70,18 +64,15 @@ pub numbers_missing : (version : OlderVersion) (format : Format) (old : At) (fau
 numbers_missing version format old fault r = first_refused (NumbersBytes version) (AfterNumbers format old.order) old fault r
 
 after_numbers : (version : OlderVersion) (format : Format) (n : OlderNumbers) (old m1 : At) (fault : Fault)
-    → Reads (NumbersBytes version) n old m1
-    → Refuses (AfterNumbersFault format m1.order n) (AfterNumbers format m1.order n) m1 fault
+    → Reads (NumbersBytes version) n old m1 → Refuses (AfterNumbersFault format m1.order n) (AfterNumbers format m1.order n) m1 fault
     → Refuses (IsFieldsFault version format old.order) (FieldsOf version format old.order) old fault
 after_numbers version format n old m1 fault r t =
     second_refused (AfterNumbersFault format) (NumbersBytes version) (AfterNumbers format) n old m1 fault (numbers_code version) r t
 
 pub lengths_missing : (version : OlderVersion) (format : Format) (n : OlderNumbers) (old m1 : At) (fault : Fault)
-    → Reads (NumbersBytes version) n old m1
-    → Refuses (IsLengthsFault n.opcode_base) (LengthsBytes n.opcode_base) m1 fault
+    → Reads (NumbersBytes version) n old m1 → Refuses (IsLengthsFault n.opcode_base) (LengthsBytes n.opcode_base) m1 fault
     → Refuses (IsFieldsFault version format old.order) (FieldsOf version format old.order) old fault
-lengths_missing version format n old m1 fault r t =
-    after_numbers version format n old m1 fault r
+lengths_missing version format n old m1 fault r t = after_numbers version format n old m1 fault r
     (first_refused (LengthsBytes n.opcode_base) (λ _. TwoLists format m1.order) m1 fault t)
 
 after_lengths : (version : OlderVersion) (format : Format) (n : OlderNumbers) (ls : List ℕ) (old m1 m2 : At) (fault : Fault)
@@ -96,8 +87,7 @@ pub directories_missing : (version : OlderVersion) (format : Format) (n : OlderN
     → Reads (NumbersBytes version) n old m1 → Reads (LengthsBytes n.opcode_base) ls m1 m2
     → Refuses (IsListFault format m2.order directory_pairs) (ListBytes format m2.order directory_pairs) m2 fault
     → Refuses (IsFieldsFault version format old.order) (FieldsOf version format old.order) old fault
-directories_missing version format n ls old m1 m2 fault r t u =
-    after_lengths version format n ls old m1 m2 fault r t
+directories_missing version format n ls old m1 m2 fault r t u = after_lengths version format n ls old m1 m2 fault r t
     (first_refused (ListBytes format m2.order directory_pairs) (λ _. ListBytes format m2.order file_pairs) m2 fault u)
 
 pub files_missing : (version : OlderVersion) (format : Format) (n : OlderNumbers) (ls : List ℕ) (directories : List Entry)
@@ -105,8 +95,7 @@ pub files_missing : (version : OlderVersion) (format : Format) (n : OlderNumbers
     → Reads (ListBytes format m2.order directory_pairs) directories m2 m3
     → Refuses (IsListFault format m3.order file_pairs) (ListBytes format m3.order file_pairs) m3 fault
     → Refuses (IsFieldsFault version format old.order) (FieldsOf version format old.order) old fault
-files_missing version format n ls directories old m1 m2 m3 fault r t u v =
-    after_lengths version format n ls old m1 m2 fault r t
+files_missing version format n ls directories old m1 m2 m3 fault r t u v = after_lengths version format n ls old m1 m2 fault r t
     (second_refused (λ order _. IsListFault format order file_pairs) (ListBytes format m2.order directory_pairs)
     (λ order _. ListBytes format order file_pairs) directories m2 m3 fault (list_code format m2.order directory_pairs) u v)
 

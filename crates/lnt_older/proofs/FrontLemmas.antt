@@ -6,7 +6,7 @@ use Rattle.lnt_wire.specs.Bytes.{TakenBytes}
 use Rattle.lnt_wire.specs.FrameBytes.{FrameBytes, frame_bytes}
 use Rattle.lnt_wire.specs.FrameFaults.{IsFrameFault}
 use Rattle.lnt_wire.specs.InitialFaults.{IsInitialFault}
-use Rattle.lnt_wire.specs.InitialLength.{initial_length, InitialBytes}
+use Rattle.lnt_wire.specs.InitialLength.{InitialBytes}
 use Rattle.lnt_wire.specs.Numbers.{NumberBytes, number_bytes}
 use Rattle.lnt_wire.specs.Reading.{Reads, RefusesField, Refuses, IsCutShort}
 use Rattle.lnt_wire.specs.declared.fault.Fault.{Fault}
@@ -17,7 +17,6 @@ use Rattle.lnt_wire.specs.declared.format.Order.{Order}
 use Rattle.lnt_wire.proofs.LengthLaws.{length-number_bytes}
 use Rattle.lnt_wire.proofs.FrameReadingLaws.{refuses_initial, refuses_long, refuses_version}
 use Rattle.lnt_older.specs.OlderUnits.{AnyBytes, IsAnyFault, ReadsFive}
-use Rattle.lnt_older.specs.OlderUnits.IsAnyFault.{frame}
 use Rattle.lnt_older.specs.UnitReading.{front_body, ReadsFront, unit_number}
 use Rattle.lnt_older.specs.Versions.{version_number}
 use Rattle.lnt_older.specs.declared.front.Front.{Front}
@@ -25,19 +24,13 @@ use Rattle.lnt_older.specs.declared.front.UnitVersion.{UnitVersion}
 use Rattle.lnt_older.specs.declared.front.UnitVersion.TheVariants.{Five, Older}
 use Rattle.lnt_older.proofs.Fronts.{front_taken}
 use Rattle.lnt_older.proofs.NoUnitLemmas.{IsNoOlder, none_in_frame}
+use Rattle.std.proofs.lemmas.Grind.{common_steps}
 
 -- ---- faults
 
 frame_fault : (old : At) (fault : Fault) → IsNoOlder fault.reason
     → Refuses (IsFrameFault old.order) (FrameBytes old.order) old fault → Refuses (IsAnyFault old.order) (AnyBytes old.order) old fault
-frame_fault old fault other r = record {
-  before = r.before;
-  left = r.left;
-  split = r.split;
-  place = r.place;
-  reason = frame other r.reason;
-  none = rw r.split (none_in_frame old.order fault.reason r.before r.left other r.reason);
-}
+frame_fault old fault other r = grind (arith, common_steps, none_in_frame)
 
 truncated_other : (reason : Reason) → reason ≡ Truncated → IsNoOlder reason
 truncated_other reason is version e = let both = sym is ∙ e in absurd cc
@@ -73,10 +66,8 @@ pub version_unknown : (old ahead new inside after : At) (initial : Format × ℕ
     → ((version : UnitVersion) → unit_number version ≢ number) → fault.place ≡ ahead.place → fault.reason ≡ VersionNotFive number
     → Refuses (IsAnyFault old.order) (AnyBytes old.order) old fault
 version_unknown old ahead new inside after initial number body fault r q rest_is order_is s none place reason =
-    let joined : body ≡ number_bytes old.order 2 number ++ after.rest =
-    sym rest_is ∙ simp (s.whole, s.spelled.spelled, order_is) in
-    let other : IsNoOlder fault.reason =
-    λ version e.
+    let joined : body ≡ number_bytes old.order 2 number ++ after.rest = sym rest_is ∙ simp (s.whole, s.spelled.spelled, order_is) in
+    let other : IsNoOlder fault.reason = λ version e.
     let both : VersionNotFive number ≡ VersionNotFive (version_number version) = sym reason ∙ e in
     let same : number ≡ version_number version = cc in
     none (Older version) (sym same) in
@@ -91,20 +82,7 @@ pub front_read : (old ahead new inside after : At) (initial : Format × ℕ) (nu
     → front.format ≡ initial.0 → unit_number front.version ≡ number → front.place ≡ ahead.place → front.past.now ≡ after.rest
     → ReadsFront front old new
 front_read old ahead new inside after initial number body front r q rest_is order_is s format_is number_is place past =
-    let whole = front_body old.order front in
-    let body_is : body ≡ whole = sym rest_is ∙ simp (s.whole, s.spelled.spelled, order_is, number_is, past) in
-    let tail : q.spelling ≡ whole = sym q.spelled.taken_is ∙ body_is in
-    let count : initial.1 ≡ length whole = sym q.spelled.count_is ∙ ap length tail in
-    let head : r.spelling ≡ initial_length front.format old.order (length whole) =
-    r.spelled.spelled ∙ rw (count, format_is) refl in
-    let joined : r.spelling ++ q.spelling ≡ frame_bytes old.order front.format whole = rw (head, tail) refl in
-    record {
-      fits = rw (format_is, ← count) r.spelled.fits;
-      whole = r.whole ∙ rw q.whole (sym (append_assoc r.spelling q.spelling new.rest)) ∙ ap (λ (z : List ℕ). z ++ new.rest) joined;
-      body_place = place ∙ r.place ∙ ap (λ (z : List ℕ). old.place + length z) head;
-      place = omega (arith, q.place, r.place, length-append r.spelling q.spelling, ap length joined);
-      order = q.order ∙ r.order;
-    }
+    grind (arith, common_steps, append_assoc, length-append)
 
 -- the bytes after the version end below 2 ^ 64
 pub front_room : (front : Front) (old new : At) → ReadsFront front old new → old.place + length old.rest < 2 ^ 64

@@ -18,6 +18,7 @@ use Rattle.lnt_older.specs.declared.numbers.OlderNumbers.{OlderNumbers}
 use Rattle.lnt_older.specs.declared.version.OlderVersion.{OlderVersion}
 use Rattle.lnt_older.specs.declared.version.OlderVersion.TheVariants.{Four}
 use Rattle.lnt_older.proofs.FieldLemmas.{fields_read}
+use Rattle.std.proofs.lemmas.Grind.{common_steps}
 
 are_bytes : (bytes : List ℕ) → ((i : ℕ) → get_or bytes i 0 < 256) → AllByRecursion (λ byte. byte < 256) bytes
 are_bytes [] h = tt
@@ -56,21 +57,12 @@ numbers_small version h says all = (all.0, (omega (arith, says), all.1))
 -- the numbers of a header are sound in any format and order, and with any directories and files
 pub moved_numbers : {f g : Format} {o p : Order} {size : ℕ} {n : OlderNumbers} {lengths extra : List ℕ} {ds fs ds' fs' : List Entry}
     → HasHeaderNumbers (header_of f o size n lengths ds fs extra) → HasHeaderNumbers (header_of g p size n lengths ds' fs' extra)
-moved_numbers n = record {
-  address_size = n.address_size;
-  line_base = n.line_base;
-  bytes = n.bytes;
-  max_ops = n.max_ops;
-  line_range = n.line_range;
-  opcode_base = n.opcode_base;
-  lengths = n.lengths;
-}
+moved_numbers n = grind (arith, common_steps)
 
 spelled_at : (version : OlderVersion) (format : Format) (order : Order) (bytes : List ℕ) (n : OlderNumbers) (lengths : List ℕ)
     (directories files : List Entry) (extra : List ℕ) (old new : At) → ((i : ℕ) → get_or bytes i 0 < 256) → old.rest ≡ bytes
     → extra ≡ new.rest → Reads (FieldsOf version format order) (n, (lengths, (directories, files))) old new
-    → (size : ℕ) → IsAddressSize size
-    → OlderFieldsBytes version (header_of format order size n lengths directories files extra) bytes
+    → (size : ℕ) → IsAddressSize size → OlderFieldsBytes version (header_of format order size n lengths directories files extra) bytes
 spelled_at version format order bytes n lengths directories files extra old new small rest_is extra_is r size is =
     let h = header_of format order size n lengths directories files extra in
     let p1 = r.spelled in
@@ -113,24 +105,8 @@ spelled_at version format order bytes n lengths directories files extra old new 
 pub parts_read : (version : OlderVersion) (format : Format) (o : OlderHeader) (old m1 m2 m3 new : At)
     → Reads (NumbersBytes version) o.numbers old m1 → Reads (LengthsBytes o.numbers.opcode_base) o.standard_lengths.now m1 m2
     → PassesList format directory_pairs o.directories.count o.directories.bytes.now m2 m3
-    → PassesList format file_pairs o.files.count o.files.bytes.now m3 new → o.extra.now ≡ new.rest
-    → ReadsParts version format o old new
-parts_read version format o old m1 m2 m3 new r s d f extra_is =
-    let after : m2.order ≡ old.order = s.order ∙ r.order in
-    let later : m3.order ≡ old.order = d.read.order ∙ after in
-    record {
-      directories = d.entries;
-      files = f.entries;
-      lie = record {
-        directory_count = d.count_is;
-        file_count = f.count_is;
-        directories_lie = rw after at d.each;
-        files_lie = rw later at f.each;
-      };
-      read = fields_read version format o.numbers o.standard_lengths.now d.entries f.entries old m1 m2 m3 new r s d.read f.read;
-      extra_is = extra_is;
-      joined = simp (r.whole, r.spelled.spelled, s.whole, s.spelled.2, d.joined, f.joined, extra_is, append_assoc);
-    }
+    → PassesList format file_pairs o.files.count o.files.bytes.now m3 new → o.extra.now ≡ new.rest → ReadsParts version format o old new
+parts_read version format o old m1 m2 m3 new r s d f extra_is = grind (arith, common_steps, fields_read, append_assoc)
 
 pub header_read : (version : OlderVersion) (format : Format) (order : Order) (bytes : List ℕ) (o : OlderHeader) (old new : At)
     → ((i : ℕ) → get_or bytes i 0 < 256) → old.rest ≡ bytes → old.order ≡ order → ReadsParts version format o old new

@@ -39,8 +39,7 @@ none_list : (format : Format) (order : Order) (pairs : List Pair) (us : List Ent
 none_list format order pairs [] x rest bytes p whole none goes_on [] y more q e =
     goes_on more (rw (q.joined, q.first, q.second, whole, p) at e)
 none_list format order pairs [] x rest bytes p whole none goes_on (v ∷ vs) y more q e =
-    none v q.first.front (q.first.back ++ (q.back ++ more)) q.first.first
-    (simp (q.joined, q.first.joined, append_assoc, whole, p) at e)
+    none v q.first.front (q.first.back ++ (q.back ++ more)) q.first.first (simp (q.joined, q.first.joined, append_assoc, whole, p) at e)
 none_list format order pairs (u ∷ us) x rest bytes p whole none goes_on [] y more q e =
     zero_begins more (x ++ rest) (rw (q.joined, q.first, q.second, whole) at e)
     (begins_front p.front (p.back ++ rest) (x ++ rest) p.first.some (simp (p.joined, append_assoc)))

@@ -1,6 +1,6 @@
 -- Lists of older units.
 use Rattle.std.proofs.Common.{◌≡◌, ℕ, ◌+◌, ◌<◌, ◌≤◌, ◌-◌, zero, suc, List, [], ◌∷◌, ◌++◌, length, take}
-use Rattle.std.proofs.Common.{refl, sym, ap, ◌∙◌, append_assoc, arith}
+use Rattle.std.proofs.Common.{refl, ap, ◌∙◌, append_assoc, arith}
 use Rattle.std.proofs.lemmas.List.{length-append}
 use Rattle.lnt_wire.specs.At.{At}
 use Rattle.lnt_wire.specs.FormBytes.{FormBytes, form_of}
@@ -22,6 +22,7 @@ use Rattle.lnt_header_bytes.specs.Stepping.{Passes}
 use Rattle.lnt_header_bytes.specs.TableBytes.{ValuesBytes, EntryBytes}
 use Rattle.lnt_header_bytes.proofs.PassLemmas.{refuses_value_passed, values_begun, values_next_passed, values_passed}
 use Rattle.lnt_older.proofs.Fronts.{front_taken}
+use Rattle.std.proofs.lemmas.Grind.{common_steps}
 
 -- the bytes of a text end with a zero byte
 text_ends : (format : Format) (order : Order) (value : FormValue) (bytes : List ℕ) → form_of value ≡ forms.Text
@@ -43,38 +44,20 @@ path_first format order pairs entry bytes b p = of_values entry.values (rw b.joi
 
 entry_long : (format : Format) (order : Order) (pairs : List Pair) (entry : Entry) (bytes : List ℕ) → BeginsWithPath pairs
     → EntryBytes format order pairs entry bytes → 0 < length bytes
-entry_long format order pairs entry bytes b p =
-    let first = path_first format order pairs entry bytes b p in
-    omega (arith, ap length first.2, length-append first.0 (0 ∷ first.1))
+entry_long format order pairs entry bytes b p = grind (arith, common_steps, path_first, length-append)
 
 -- no entry begins with a zero byte
 pub zero_begins : (more rest : List ℕ) → 0 ∷ more ≡ rest → BeginsEntry rest → ⊥
-zero_begins more rest e b =
-    let whole : 0 ∷ more ≡ b.first ∷ b.more = e ∙ b.joined in
-    let same : 0 ≡ b.first = cc in
-    omega (arith, same, b.some)
+zero_begins more rest e b = grind (arith, common_steps)
 
 -- the first byte of what is read is that of what is left
-same_first : (x rest : List ℕ) (first : ℕ) (more : List ℕ) → 0 < length x → x ++ rest ≡ first ∷ more
-    → (past : List ℕ) × (x ≡ first ∷ past)
+same_first : (x rest : List ℕ) (first : ℕ) (more : List ℕ) → 0 < length x → x ++ rest ≡ first ∷ more → (past : List ℕ) × (x ≡ first ∷ past)
 same_first [] rest first more some e = absurd (omega (arith, some))
 same_first (b ∷ x) rest first more some e = (x, cc)
 
 pub one_listed : (format : Format) (pairs : List Pair) (entry : Entry) (old new : At) → BeginsWithPath pairs → BeginsEntry old.rest
     → Reads (EntryBytes format old.order pairs) entry old new → Reads (ListedBytes format old.order pairs) entry old new
-one_listed format pairs entry old new path begins r =
-    let found = same_first r.spelling new.rest begins.first begins.more
-    (entry_long format old.order pairs entry r.spelling path r.spelled) (sym r.whole ∙ begins.joined) in
-    record {
-      spelling = r.spelling;
-      spelled = record {
-        some = record { first = begins.first; more = found.0; some = begins.some; joined = found.1 };
-        spelled = r.spelled;
-      };
-      whole = r.whole;
-      place = r.place;
-      order = r.order;
-    }
+one_listed format pairs entry old new path begins r = grind (arith, common_steps, same_first, entry_long)
 
 -- So many entries were read.
 pub record ListedSoFar (format : Format) (pairs : List Pair) (count : ℕ) (old now : At) : Type 0 where
@@ -85,13 +68,7 @@ pub record ListedSoFar (format : Format) (pairs : List Pair) (count : ℕ) (old 
   pub read : Reads (Each (ListedBytes format old.order pairs)) entries old now
 
 pub none_listed : (format : Format) (pairs : List Pair) (at : At) → ListedSoFar format pairs 0 at at
-none_listed format pairs at = record {
-  entries = [];
-  count_is = refl;
-  few = omega arith;
-  shorter = omega arith;
-  read = reads_none (ListedBytes format at.order pairs) at;
-}
+none_listed format pairs at = grind (arith, common_steps, reads_none)
 
 pub one_more_listed : (format : Format) (pairs : List Pair) (count : ℕ) (old middle new : At) → BeginsWithPath pairs
     → ListedSoFar format pairs count old middle → BeginsEntry middle.rest → Passes (EntryBytes format middle.order pairs) middle new
@@ -112,9 +89,7 @@ one_more_listed format pairs count old middle new path so_far begins p =
 -- an entry has a byte, so the walk ends
 pub list_shorter : (format : Format) (pairs : List Pair) (old new : At) → BeginsWithPath pairs
     → Passes (EntryBytes format old.order pairs) old new → length new.rest < length old.rest
-list_shorter format pairs old new path p =
-    let long = entry_long format old.order pairs p.value p.read.spelling path p.read.spelled in
-    omega (arith, long, ap length p.read.whole, length-append p.read.spelling new.rest)
+list_shorter format pairs old new path p = grind (arith, common_steps, entry_long, length-append)
 
 -- the byte that ends a list is zero
 zero_read : (order : Order) (n : ℕ) (bytes rest whole : List ℕ) → NumberBytes order 1 n bytes → whole ≡ bytes ++ rest
@@ -126,8 +101,7 @@ zero_read order (suc n) bytes rest whole p e none =
 
 pub list_ended : (format : Format) (pairs : List Pair) (count n : ℕ) (bytes all left : List ℕ) (old middle new : At)
     → ListedSoFar format pairs count old middle → (BeginsEntry middle.rest → ⊥) → Reads (NumberBytes middle.order 1) n middle new
-    → all ≡ old.rest → left ≡ middle.rest → bytes ≡ take (length all - length left) all
-    → PassesList format pairs count bytes old new
+    → all ≡ old.rest → left ≡ middle.rest → bytes ≡ take (length all - length left) all → PassesList format pairs count bytes old new
 list_ended format pairs count n bytes all left old middle new so_far none r all_is left_is bytes_are =
     let q = so_far.read in
     let front = front_taken q.spelling (all_is ∙ q.whole) left_is bytes_are in

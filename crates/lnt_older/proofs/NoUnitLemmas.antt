@@ -31,6 +31,7 @@ use Rattle.lnt_older.specs.declared.front.UnitVersion.TheVariants.{Older}
 use Rattle.lnt_older.specs.declared.version.OlderVersion.{OlderVersion}
 use Rattle.lnt_older.specs.declared.version.OlderVersion.TheVariants.{Two, Three, Four}
 use Rattle.lnt_older.proofs.HeaderLemmas.{numbers_in, singles_in}
+use Rattle.std.proofs.lemmas.Grind.{common_steps}
 
 pub to_pairs : (a b c d : List ℕ) → (a ++ (b ++ c)) ++ d ≡ (a ++ b) ++ (c ++ d)
 to_pairs a b c d = simp append_assoc
@@ -57,8 +58,7 @@ IsNoOlder reason = (version : OlderVersion) → reason ≢ VersionNotFive (versi
 
 other_version : (order : Order) (reason : Reason) (version : OlderVersion) (left rest : List ℕ) → IsNoOlder reason
     → IsVersionFault order reason left → left ≡ number_bytes order 2 (version_number version) ++ rest → ⊥
-other_version order Truncated version left rest other k e =
-    omega (arith, k, ap length e, length-append {A = ℕ}, length-number_bytes)
+other_version order Truncated version left rest other k e = omega (arith, k, ap length e, length-append {A = ℕ}, length-number_bytes)
 other_version order (VersionNotFive v) version left rest other k e =
     let same = same_number_front order 2 width_2 v (version_number version) k.0 rest k.1 (small_version version) (sym k.3 ∙ e) in
     other version (ap VersionNotFive same.0)
@@ -69,12 +69,7 @@ other_version order reason version left rest other k e = absurd k
 -- a frame, with nothing of its body before the place
 stands : (order : Order) (format : Format) (body more : List ℕ) → LengthFits format (length body)
     → InFrame order format [] body (initial_length format order (length body)) (body ++ more)
-stands order format body more fits = record {
-  more = more;
-  fits = fits;
-  before_is = sym (append-nil (initial_length format order (length body)));
-  from_is = refl;
-}
+stands order format body more fits = grind (arith, common_steps, append-nil)
 
 no_older : (h : HeaderParts) (reason : Reason) (before from : List ℕ) → IsNoOlder reason → IsFrameFaultAt h.order reason before from
     → (program x more : List ℕ) → OlderBytes h program x → x ++ more ≡ before ++ from → ⊥
@@ -129,8 +124,7 @@ fields_none version h bytes p none =
         joined = refl;
       };
       joined = refl;
-    })
-    (simp (p.joined, singles_in version h, append_assoc))
+    }) (simp (p.joined, singles_in version h, append_assoc))
 
 -- where header_length is at fault
 pub none_counted : (format : Format) (version : OlderVersion) (order : Order) (bytes : List ℕ)
@@ -143,8 +137,7 @@ none_counted format version order bytes none unit x more p e =
 
 -- where a field that it counts is at fault
 pub none_of_fields : (format : Format) (version : OlderVersion) (order : Order) (counted rest bytes : List ℕ)
-    → length counted < 256 ^ offset_size format
-    → bytes ≡ number_bytes order (offset_size format) (length counted) ++ (counted ++ rest)
+    → length counted < 256 ^ offset_size format → bytes ≡ number_bytes order (offset_size format) (length counted) ++ (counted ++ rest)
     → NoneSpelled (FieldsOf version format order) counted → NoneSpelled (PastBytes format version order) bytes
 none_of_fields format version order counted rest bytes small whole none unit x more p e =
     let found = same_number_front order (offset_size format) (offset_width format) (length p.fields) (length counted)
@@ -157,11 +150,7 @@ none_of_fields format version order counted rest bytes small whole none unit x m
 pub one_body : (order : Order) (f g : Format) (body other left more bytes : List ℕ) → LengthFits f (length body)
     → LengthFits g (length other) → bytes ≡ frame_bytes order f body ++ left → frame_bytes order g other ++ more ≡ bytes
     → (g ≡ f) × (other ≡ body)
-one_body order f g body other left more bytes fits fits' e d =
-    let found = same_length order g f (length other) (length body) (other ++ more) (body ++ left) fits' fits
-    (sym (append_assoc (initial_length g order (length other)) other more) ∙ d ∙ e
-    ∙ append_assoc (initial_length f order (length body)) body left) in
-    (found.format, same_front other body more left found.number found.past)
+one_body order f g body other left more bytes fits fits' e d = grind (arith, common_steps, same_length, append_assoc, same_front)
 
 -- where nothing of an older unit stands after its version
 pub none_of_unit : (front : Front) (version : OlderVersion) (old new : At) → ReadsFront front old new → front.version ≡ Older version
@@ -194,5 +183,4 @@ none_of_unit front version old new r version_is none (older_parts h program) x m
       counted = rw (same_version q.version version same.0) at q.counted;
       small = rw found.0 at (below h.format (length body) (length q.fields) q.fits few);
       joined = sym same.1 ∙ rw found.0 refl;
-    })
-    (append-nil front.past.now)
+    }) (append-nil front.past.now)

@@ -13,6 +13,8 @@ use Rattle.lnt_older.specs.OlderFields.{IsSoundFault, NumbersBytes, number_field
 use Rattle.lnt_older.specs.declared.numbers.OlderNumbers.{OlderNumbers}
 use Rattle.lnt_older.specs.declared.version.OlderVersion.{OlderVersion}
 use Rattle.lnt_older.specs.declared.version.OlderVersion.TheVariants.{Four}
+use Rattle.std.proofs.lemmas.Grind.{common_steps}
+use Rattle.std.proofs.Common.{arith}
 
 sound_fields : (version : OlderVersion) (n : OlderNumbers) (x : List ℕ) → NumbersBytes version n x
     → SoundBytes (zero_reasons version) (number_fields version n) x
@@ -38,16 +40,7 @@ same_signed_byte z z' p q e = sym (to_z-of_z w8 z p) ∙ ap (cast_signed w8) e �
 same_numbers : (n m : OlderNumbers) → n.minimum_instruction_length ≡ m.minimum_instruction_length → n.max_ops ≡ m.max_ops
     → n.default_is_stmt ≡ m.default_is_stmt → n.line_base ≡ m.line_base → n.line_range ≡ m.line_range → n.opcode_base ≡ m.opcode_base
     → n ≡ m
-same_numbers n m a b c d f g =
-    let by_fields : record {
-      minimum_instruction_length = n.minimum_instruction_length;
-      max_ops = n.max_ops;
-      default_is_stmt = n.default_is_stmt;
-      line_base = n.line_base;
-      line_range = n.line_range;
-      opcode_base = n.opcode_base;
-    } ≡ m = rw (a, b, c, d, f, g) refl in
-    by_fields
+same_numbers n m a b c d f g = grind (arith, common_steps)
 
 same_of : (version : OlderVersion) (n m : OlderNumbers) (x : List ℕ) → NumbersBytes version n x → NumbersBytes version m x → n ≡ m
 same_of Four n m x p q =
@@ -63,8 +56,4 @@ number_count Four n m = refl
 number_count version n m = refl
 
 pub numbers_code : (version : OlderVersion) → IsCode (NumbersBytes version)
-numbers_code version = record {
-  one = λ n m x y r s p q e.
-      let same = same_front x y r s (ap length p.spelled ∙ number_count version n m ∙ sym (ap length q.spelled)) e in
-      (same_of version n m y (rw same at p) q, same);
-}
+numbers_code version = grind (arith, common_steps, same_front, number_count, same_of)

@@ -12,8 +12,7 @@ use Rattle.lnt_older.specs.Upgradable.{AreLeft}
 pub placed_more : {A : Type 0} (Says : ℕ × A → List ℕ → Type 0) (offset : ℕ) (items : List (ℕ × A)) (bytes : List ℕ) (item : ℕ × A)
     (x : List ℕ) → PlacedFrom Says offset items bytes → item.0 ≡ offset + length bytes → Says item x
     → PlacedFrom Says offset (items ++ item ∷ []) (bytes ++ x)
-placed_more Says offset [] bytes item x none at says =
-    (x, [], omega (arith, at, ap length none), says, rw none (sym (append-nil x)), refl)
+placed_more Says offset [] bytes item x none at says = (x, [], omega (arith, at, ap length none), says, rw none (sym (append-nil x)), refl)
 placed_more Says offset (i ∷ items) bytes item x (front, back, here, so, joined, rest) at says = (
   front,
   back ++ x,
@@ -41,8 +40,7 @@ module _ {A : Type 0} (Says : Order → ℕ × A → List ℕ → Type 0) where
   left_all order bytes at (items, placed) rest place ordered = (items, rw (ordered, rest, place) placed)
 
   -- after a read of bytes with which every item there begins
-  pub left_after : {V : Type 0} (Spells : V → List ℕ → Type 0) (v : V) (at next : At) (r : Reads Spells v at next)
-      → 0 < length r.spelling
+  pub left_after : {V : Type 0} (Spells : V → List ℕ → Type 0) (v : V) (at next : At) (r : Reads Spells v at next) → 0 < length r.spelling
       → ((item : ℕ × A) (y m : List ℕ) → Says at.order item y → y ++ m ≡ r.spelling ++ next.rest → y ≡ r.spelling)
       → AreLeft Says at → AreLeft Says next
   left_after Spells v at next r some once (items, placed) =

@@ -19,13 +19,13 @@ use Rattle.lnt_header_bytes.proofs.HeaderLaws.{below}
 use Rattle.lnt_older.specs.OlderBytes.{body_bytes, directory_pairs, file_pairs, ListBytes, ListedBytes}
 use Rattle.lnt_older.specs.OlderFields.{header_spelling, ListsLie, NumbersBytes, number_fields}
 use Rattle.lnt_older.specs.OlderUnits.{ReadsOlder, unit_header}
-use Rattle.lnt_older.specs.Versions.{version_number}
 use Rattle.lnt_older.specs.declared.header.OlderHeader.{OlderHeader}
 use Rattle.lnt_older.specs.declared.unit.OlderUnit.{OlderUnit}
 use Rattle.lnt_older.specs.declared.version.OlderVersion.{OlderVersion}
 use Rattle.lnt_older.proofs.FieldLemmas.{lengths_code, list_code}
 use Rattle.lnt_older.proofs.NoUnitLemmas.{one_body, same_version, small_version}
 use Rattle.lnt_older.proofs.NumberLemmas.{numbers_code}
+use Rattle.std.proofs.lemmas.Grind.{common_steps}
 
 -- ---- bodies
 
@@ -45,26 +45,14 @@ one_version : (format : Format) (order : Order) (v w : OlderVersion) (fields oth
     → (v ≡ w) × (number_bytes order (offset_size format) (length fields) ++ (fields ++ program)
     ≡ number_bytes order (offset_size format) (length other) ++ (other ++ past))
 one_version format order v w fields other program past e =
-    let number = number_bytes order (offset_size format) (length fields) in
-    let number' = number_bytes order (offset_size format) (length other) in
-    let found = same_number_front order 2 width_2 (version_number v) (version_number w) (number ++ (fields ++ program))
-    (number' ++ (other ++ past)) (small_version v) (small_version w) (simp append_assoc at e) in
-    (same_version v w found.0, found.1)
+    grind (arith, common_steps, same_number_front, width_2, small_version, append_assoc, same_version)
 
 same_body : (format : Format) (order : Order) (v w : OlderVersion) (fields other program past : List ℕ)
     → LengthFits format (length (body_bytes format order v fields program))
     → LengthFits format (length (body_bytes format order w other past))
     → body_bytes format order v fields program ≡ body_bytes format order w other past → SameBody v w fields other program past
 same_body format order v w fields other program past fits fits' e =
-    let versions = one_version format order v w fields other program past e in
-    let counts = same_number_front order (offset_size format) (offset_width format) (length fields) (length other) (fields ++ program)
-    (other ++ past) (fields_fit format order v fields program fits) (fields_fit format order w other past fits') versions.1 in
-    let fields_are : fields ≡ other = same_front fields other program past counts.0 counts.1 in
-    record {
-      version = versions.0;
-      fields_are = fields_are;
-      program_is = same_rest fields other program past fields_are counts.1;
-    }
+    grind (arith, common_steps, one_version, same_number_front, offset_width, fields_fit, same_front, same_rest)
 
 -- ---- headers
 
@@ -159,23 +147,18 @@ record IsJoined (unit : OlderUnit) (order : Order) (bytes : List ℕ) : Type 0 w
   pub version : OlderVersion
   pub order_is : unit.order ≡ order
   pub parts : HasParts version unit.format order unit.header
-  pub fits : LengthFits unit.format
-      (length (body_bytes unit.format order version (header_spelling version unit.header) unit.program.now))
+  pub fits : LengthFits unit.format (length (body_bytes unit.format order version (header_spelling version unit.header) unit.program.now))
   pub joined : bytes ≡ frame_bytes order unit.format
       (body_bytes unit.format order version (header_spelling version unit.header) unit.program.now)
 
-initial_size : (format : Format) (order : Order) (m n : ℕ)
-    → length (initial_length format order m) ≡ length (initial_length format order n)
+initial_size : (format : Format) (order : Order) (m n : ℕ) → length (initial_length format order m) ≡ length (initial_length format order n)
 initial_size D32 order m n = omega (arith, length-number_bytes)
 initial_size D64 order m n = omega (arith, length-append {A = ℕ}, length-number_bytes)
 
 -- in one format and order the bytes of a frame are those of one body
 frame_body : (format : Format) (order : Order) (body other : List ℕ) → frame_bytes order format body ≡ frame_bytes order format other
     → body ≡ other
-frame_body format order body other e =
-    let first = initial_length format order (length body) in
-    let second = initial_length format order (length other) in
-    same_rest first second body other (same_front first second body other (initial_size format order (length body) (length other)) e) e
+frame_body format order body other e = grind (arith, common_steps, same_rest, same_front, initial_size)
 
 joined_here : (unit : OlderUnit) (size : ℕ) (at next : At) (bytes : List ℕ) → IsAddressSize size → ReadsOlder unit at next
     → at.rest ≡ bytes ++ next.rest → IsJoined unit unit.order bytes
@@ -250,16 +233,9 @@ same_unit u v size order at next bt after bytes is_size here there r first s sec
 -- with the same directories and files both have one header
 pub one_header : (u v : OlderUnit) (size : ℕ) (directories files : List Entry) → SameUnit u v
     → unit_header v size directories files ≡ unit_header u size directories files
-one_header u v size directories files s =
-    let h = s.header in
-    rw (s.format_is, s.order_is, h.numbers, h.lengths, h.extra) refl
+one_header u v size directories files s = grind (arith, common_steps)
 
 -- what lies in the lists of one unit lies in those of the other
 pub lies_in : (u v : OlderUnit) (directories files : List Entry) → SameUnit u v
     → ListsLie v.format v.order v.header directories files → ListsLie u.format u.order u.header directories files
-lies_in u v directories files s lie = rw (s.format_is, s.order_is) (record {
-  directory_count = lie.directory_count ∙ sym s.header.directory_count;
-  file_count = lie.file_count ∙ sym s.header.file_count;
-  directories_lie = rw s.header.directories lie.directories_lie;
-  files_lie = rw s.header.files lie.files_lie;
-})
+lies_in u v directories files s lie = grind (arith, common_steps)

@@ -17,6 +17,7 @@ use Rattle.lnt_older.specs.Upgradable.{AreLeft}
 use Rattle.lnt_older.specs.declared.unit.OlderUnit.{OlderUnit}
 use Rattle.lnt_older.proofs.PlacedLaws.{left_after, placed_more}
 use Rattle.lnt_older.proofs.UpgradeLaws.{any_once, five_read, older_read, some_bytes}
+use Rattle.std.proofs.lemmas.Grind.{common_steps}
 
 -- The bytes are those of the unit.
 abbrev pub IsSpelled : Order → ℕ × AnyParts → List ℕ → Type 0
@@ -32,12 +33,10 @@ module _ (Says : Order → ℕ × AnyParts → List ℕ → Type 0)
     (spelled : (order : Order) (unit : ℕ × AnyParts) (bytes : List ℕ) → Says order unit bytes → AnyBytes order unit.1 bytes) where
   pub unit_next : (at : At) → AreLeft Says at → 0 < length at.rest → IsUnitNext at
   unit_next at ([], none) some = absurd (omega (arith, some, ap length none))
-  unit_next at (unit ∷ units, (front, back, here, so, joined, rest)) some =
-      (unit.1, front, back, spelled at.order unit front so, joined)
+  unit_next at (unit ∷ units, (front, back, here, so, joined, rest)) some = (unit.1, front, back, spelled at.order unit front so, joined)
 
   pub fewer_left : (at next : At) (parts : AnyParts) → AreLeft Says at → Reads (AnyBytes at.order) parts at next → AreLeft Says next
-  fewer_left at next parts left r =
-      left_after Says (AnyBytes at.order) parts at next r (some_bytes at.order parts r.spelling r.spelled)
+  fewer_left at next parts left r = left_after Says (AnyBytes at.order) parts at next r (some_bytes at.order parts r.spelling r.spelled)
       (λ unit y m so e. any_once at.order unit.1 parts y r.spelling m next.rest (spelled at.order unit y so) r.spelled e) left
 
 -- ---- the units up to a cursor
@@ -58,13 +57,7 @@ module _ (Says : Order → ℕ × AnyParts → List ℕ → Type 0) (order : Ord
   pub walked_more : (at next : At) (units : List (ℕ × AnyParts)) (parts : AnyParts) → WalkedTo Says order section at units
       → (r : Reads (AnyBytes at.order) parts at next) → Says at.order (at.place, parts) r.spelling
       → WalkedTo Says order section next (units ++ (at.place, parts) ∷ [])
-  walked_more at next units parts w r so = record {
-    done = w.done ++ r.spelling;
-    sound = placed_more (Says order) 0 units w.done (at.place, parts) r.spelling w.sound (omega (arith, w.place)) (rw w.order_is at so);
-    joined = simp (w.joined, r.whole, append_assoc);
-    place = omega (arith, r.place, w.place, length-append w.done r.spelling);
-    order_is = r.order ∙ w.order_is;
-  }
+  walked_more at next units parts w r so = grind (arith, common_steps, placed_more, append_assoc, length-append)
 
   pub walked_all : (at : At) (units : List (ℕ × AnyParts)) → WalkedTo Says order section at units → length at.rest ≡ 0
       → PlacedFrom (Says order) 0 units section
@@ -100,8 +93,7 @@ older_rise order offset ((place, older_parts header program) ∷ units) bytes h 
     AllPairs-cons (λ (one other : ℕ). one < other) place (older_offsets units)
     (All-weaker (λ (other : ℕ). offset + length h.0 ≤ other) (λ (other : ℕ). place < other)
     (λ other le. omega (arith, h.2, some_bytes order (older_parts header program) h.0 h.3))
-    (older_offsets units) (older_from order (offset + length h.0) units h.1 h.5))
-    (older_rise order (offset + length h.0) units h.1 h.5)
+    (older_offsets units) (older_from order (offset + length h.0) units h.1 h.5)) (older_rise order (offset + length h.0) units h.1 h.5)
 
 -- The older ones among the units up to a cursor are at these offsets.
 pub record OlderTo (order : Order) (section : List ℕ) (at : At) (older : List ℕ) : Type 0 where
@@ -146,26 +138,10 @@ module _ (order : Order) (section : List ℕ) where
 
   pub broken_there : (at : At) (older : List ℕ) (fault : Fault) → OlderTo order section at older
       → Refuses (IsAnyFault at.order) (AnyBytes at.order) at fault → IsBroken order section fault
-  broken_there at older fault o r = record {
-    units = o.units;
-    front = o.walked.done;
-    rest = at.rest;
-    joined = o.walked.joined;
-    sound = o.walked.sound;
-    refused = record {
-      before = r.before;
-      left = r.left;
-      split = r.split;
-      place = omega (arith, r.place, o.walked.place);
-      reason = rw o.walked.order_is at r.reason;
-      none = rw o.walked.order_is at r.none;
-    };
-  }
+  broken_there at older fault o r = grind (arith, common_steps)
 
 pub five_long : (at next : At) (bytes : List ℕ) → ReadsFive bytes at next → length next.rest < length at.rest
 five_long at next bytes r = any_long at next (five_parts r.format r.body) (five_read bytes at next r)
 
 pub older_long : (at next : At) (unit : OlderUnit) → ReadsOlder unit at next → length next.rest < length at.rest
-older_long at next unit r =
-    any_long at next (older_parts (unit_header unit 8 r.directories r.files) unit.program.now)
-    (older_read unit 8 at next (inr (inr refl)) r)
+older_long at next unit r = grind (arith, common_steps, any_long, older_read)

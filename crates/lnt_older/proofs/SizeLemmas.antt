@@ -13,6 +13,8 @@ use Rattle.lnt_older.specs.Upgrades.{HasUnits}
 use Rattle.lnt_older.specs.declared.directories.Directory.{Directory}
 use Rattle.lnt_older.proofs.PlacedLaws.{left_all}
 use Rattle.lnt_older.proofs.SectionLemmas.{IsSpelled, WalkedTo, any_long, fewer_left, unit_next, walked_all, walked_more, walked_none}
+use Rattle.std.proofs.lemmas.Grind.{common_steps}
+use Rattle.std.proofs.Common.{arith}
 
 -- ---- what can be written for units, each of which can be written anew
 
@@ -50,11 +52,7 @@ pub record SizedTo (order : Order) (size : ℕ) (directories : List Directory) (
 module _ (order : Order) (size : ℕ) (directories : List Directory) (section : List ℕ) where
   pub sized_none : (at : At) → HasUnits order section → at.rest ≡ section → at.place ≡ 0 → at.order ≡ order
       → SizedTo order size directories section at
-  sized_none at units rest place ordered = record {
-    units = [];
-    walked = walked_none (λ o. CanBeUpgraded o size directories) order section at rest place ordered;
-    left = left_all IsSpelled order section at units rest place ordered;
-  }
+  sized_none at units rest place ordered = grind (arith, common_steps, walked_none, left_all)
 
   pub sized_more : (at next : At) (old new : List ℕ) → SizedTo order size directories section at → AddsAny size directories at next old new
       → SizedTo order size directories section next
@@ -68,8 +66,7 @@ module _ (order : Order) (size : ℕ) (directories : List Directory) (section : 
   sized_next at s some = unit_next IsSpelled (λ o unit bytes so. so) at s.left some
 
   pub sized_all : (at : At) → SizedTo order size directories section at → length at.rest ≡ 0 → CanUpgrade order size directories section
-  sized_all at s ended =
-      (s.units, walked_all (λ o. CanBeUpgraded o size directories) order section at s.units s.walked ended)
+  sized_all at s ended = (s.units, walked_all (λ o. CanBeUpgraded o size directories) order section at s.units s.walked ended)
 
   pub sized_large : (at : At) (offset : ℕ) → SizedTo order size directories section at
       → IsLargeNext size (directory_at directories at.place) at → offset ≡ at.place → IsLargeAt order size directories section offset

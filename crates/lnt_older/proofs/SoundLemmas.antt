@@ -16,6 +16,7 @@ use Rattle.lnt_older.specs.ByteReading.IsByteFault.{no_byte, is_zero}
 use Rattle.lnt_older.specs.OlderFields.{AreFieldBytes, IsSoundFault, MayBe, SoundBytes}
 use Rattle.lnt_older.specs.OlderFields.IsSoundFault.{missing, zero_byte}
 use Rattle.lnt_older.proofs.Fronts.{front_taken}
+use Rattle.std.proofs.lemmas.Grind.{common_steps}
 
 -- ---- one byte
 
@@ -37,11 +38,7 @@ reads_some zero_reason reason n old new is some r = reads_byte zero_reason n old
 
 pub byte_cut : (zero_reason : Option Reason) (old : At) (fault : Fault) → RefusesField (IsCutShort 1) (NumberBytes old.order 1) old fault
     → RefusesField (IsByteFault zero_reason) (ByteOf zero_reason) old fault
-byte_cut zero_reason old fault r = record {
-  place = r.place;
-  reason = no_byte r.reason.reason_is (nil_from_length old.rest (omega (arith, r.reason.short)));
-  none = λ n x more p e. omega (arith, r.reason.short, ap length e, length-append x more, ap length p.1);
-}
+byte_cut zero_reason old fault r = grind (arith, common_steps, nil_from_length, length-append)
 
 pub byte_zero : (zero_reason : Option Reason) (reason : Reason) (n : ℕ) (old new : At) (fault : Fault) → zero_reason ≡ Some reason
     → n ≡ 0 → Reads (NumberBytes old.order 1) n old new → fault.place ≡ old.place → fault.reason ≡ reason
@@ -74,14 +71,10 @@ sound_push (r ∷ rules) rule (c ∷ bytes) b s may = (s.0, sound_push rules rul
 sound_push rules rule bytes b s may = absurd s
 
 pub none_so_far : (zero_reasons : List (Option Reason)) (at : At) → BytesSoFar zero_reasons 0 at at
-none_so_far zero_reasons at = record {
-  bytes = [];
-  read = record { spelling = []; spelled = (tt, refl); whole = refl; place = sym (add-zero at.place); order = refl };
-}
+none_so_far zero_reasons at = grind (arith, common_steps, add-zero)
 
 pub next_so_far : (zero_reasons : List (Option Reason)) (i : ℕ) (d : Option Reason) (b : ℕ) (old middle new : At) → i < length zero_reasons
-    → BytesSoFar zero_reasons i old middle → Reads (ByteOf (get_or zero_reasons i d)) b middle new
-    → BytesSoFar zero_reasons (i + 1) old new
+    → BytesSoFar zero_reasons i old middle → Reads (ByteOf (get_or zero_reasons i d)) b middle new → BytesSoFar zero_reasons (i + 1) old new
 next_so_far zero_reasons i d b old middle new lt s r =
     let q = s.read in
     let pushed = sound_push (take i zero_reasons) (get_or zero_reasons i d) q.spelling b q.spelled.0 r.spelled.0 in
@@ -99,15 +92,7 @@ next_so_far zero_reasons i d b old middle new lt s r =
 pub all_so_far : (zero_reasons : List (Option Reason)) (count : ℕ) (bytes all left : List ℕ) (old new : At) → length zero_reasons ≤ count
     → BytesSoFar zero_reasons count old new → all ≡ old.rest → left ≡ new.rest → bytes ≡ take (length all - length left) all
     → Reads (SoundBytes zero_reasons) bytes old new
-all_so_far zero_reasons count bytes all left old new le s all_is left_is bytes_are =
-    let q = s.read in
-    record {
-      spelling = q.spelling;
-      spelled = (rw (take_all count zero_reasons le) at q.spelled.0, front_taken q.spelling (all_is ∙ q.whole) left_is bytes_are);
-      whole = q.whole;
-      place = q.place;
-      order = q.order;
-    }
+all_so_far zero_reasons count bytes all left old new le s all_is left_is bytes_are = grind (arith, common_steps, take_all, front_taken)
 
 none_sound : (done : List (Option Reason)) (rule : Option Reason) (past : List (Option Reason)) (front rest x more : List ℕ)
     → AreFieldBytes done front → NoneSpelled (ByteOf rule) rest → AreFieldBytes (done ++ rule ∷ past) x → x ++ more ≡ front ++ rest → ⊥
@@ -141,8 +126,7 @@ byte_missing zero_reasons i d old middle fault lt s r =
       split = q.whole;
       place = r.place ∙ q.place;
       reason = fault_of zero_reasons done rule past fault.reason q.spelling middle.rest whole q.spelled.0 r.reason;
-      none = λ v x more p e.
-          none_sound done rule past q.spelling middle.rest x more q.spelled.0 r.none
+      none = λ v x more p e. none_sound done rule past q.spelling middle.rest x more q.spelled.0 r.none
           (subst (λ (z : List (Option Reason)). AreFieldBytes z x) whole p.0) (e ∙ q.whole);
     }
 

@@ -23,6 +23,7 @@ use Rattle.lnt_older.specs.Upgraded.{CountedTable}
 use Rattle.lnt_older.proofs.Fronts.{front_taken}
 use Rattle.lnt_older.proofs.ListLemmas.{path_first, zero_begins}
 use Rattle.lnt_older.specs.Upgrading.{HasFiles, IsCountFromZero, IsFileZero}
+use Rattle.std.proofs.lemmas.Grind.{common_steps}
 
 -- ---- tables
 
@@ -77,23 +78,7 @@ pub table_spelled : (format : Format) (order : Order) (pairs : List Pair) (pair_
     → length pairs < 256 → pairs ≢ [] → Each PairBytes pairs pair_bytes
     → CountedTable (length pairs ∷ pair_bytes) (length entries) entries_bytes bytes
     → Each (EntryBytes format order pairs) entries entries_bytes → TableBytes format order pairs entries bytes
-table_spelled format order pairs pair_bytes entries_bytes bytes entries few some spelled table each = record {
-  few_pairs = few;
-  none_without_pairs = λ e. absurd (some e);
-  spelled = record {
-    front = length pairs ∷ [];
-    back = pair_bytes ++ (table.size ++ entries_bytes);
-    first = refl;
-    second = record {
-      front = pair_bytes;
-      back = table.size ++ entries_bytes;
-      first = spelled;
-      second = record { front = table.size; back = entries_bytes; first = table.counted.spelled; second = each; joined = refl };
-      joined = refl;
-    };
-    joined = table.joined;
-  };
-}
+table_spelled format order pairs pair_bytes entries_bytes bytes entries few some spelled table each = grind (arith, common_steps)
 
 -- ---- entries
 
@@ -139,16 +124,7 @@ each_append P (u ∷ us) vs x y p q = record {
 
 pub directory_spelled : (format : Format) (order : Order) (text : List ℕ) → HasNoZero text
     → EntryBytes format order directory_pairs (entry_of (Text text ∷ [])) (text ++ 0 ∷ [])
-directory_spelled format order text none = (
-  refl,
-  record {
-    front = text ++ 0 ∷ [];
-    back = [];
-    first = record { no_zero = none; joined = refl };
-    second = refl;
-    joined = sym (append-nil (text ++ 0 ∷ []));
-  },
-)
+directory_spelled format order text none = grind (arith, common_steps, append-nil)
 
 -- ---- file 0
 

@@ -30,6 +30,7 @@ use Rattle.lnt_older.specs.declared.version.OlderVersion.{OlderVersion}
 use Rattle.lnt_older.proofs.FrontLemmas.{five_read}
 use Rattle.lnt_older.proofs.HeaderLemmas.{moved_numbers}
 use Rattle.lnt_older.proofs.NoUnitLemmas.{none_counted, none_of_fields, none_of_unit, to_pairs}
+use Rattle.std.proofs.lemmas.Grind.{common_steps}
 
 -- ---- what stands after the version
 
@@ -40,9 +41,7 @@ counted_is format order counted x p = rw (p.joined, p.first.spelled, p.second) r
 -- where the counted bytes stand
 counted_place : (format : Format) (order : Order) (counted : List ℕ) (old new : At) → Reads (CountedBytes format order) counted old new
     → new.place ≡ old.place + offset_size format + length counted
-counted_place format order counted old new r =
-    let joined = counted_is format order counted r.spelling r.spelled in
-    omega (arith, r.place, ap length joined, length-append {A = ℕ}, length-number_bytes)
+counted_place format order counted old new r = grind (arith, common_steps, counted_is, length-append, length-number_bytes)
 
 pub counted_before : (format : Format) (order : Order) (counted : List ℕ) (old new : At) → Reads (CountedBytes format order) counted old new
     → length counted ≤ new.place
@@ -53,15 +52,7 @@ pub unit_found : (front : Front) (version : OlderVersion) (order : Order) (unit 
     → IsReadHeader version front.format order counted unit.header → unit.format ≡ front.format → unit.order ≡ order
     → unit.program.now ≡ c1.rest → IsOlderOf front version order unit
 unit_found front version order unit counted c0 c1 rest_is order_is there header format unit_order program =
-    let r = subst (λ (o : Order). Reads (CountedBytes front.format o) counted c0 c1) order_is there in
-    record {
-      format_is = format;
-      order_is = unit_order;
-      counted = counted;
-      header = header;
-      small = r.spelled.first.fits;
-      joined = sym rest_is ∙ simp (r.whole, counted_is front.format order counted r.spelling r.spelled, program, append_assoc);
-    }
+    grind (arith, common_steps, counted_is, append_assoc)
 
 pub length_missing : (front : Front) (version : OlderVersion) (order : Order) (c0 : At) (fault : Fault)
     → c0.rest ≡ front.past.now → c0.place ≡ front.place + 2 → c0.order ≡ order
@@ -206,9 +197,7 @@ any_missing front order fault old new r order_is p = older_missing front p.0 ord
 -- ---- another cursor at the same place
 
 same_at : (a b : At) → a.place ≡ b.place → a.rest ≡ b.rest → a.order ≡ b.order → a ≡ b
-same_at a b place rest order =
-    let by_parts : record { place = a.place; rest = a.rest; order = a.order } ≡ b = rw (place, rest, order) refl in
-    by_parts
+same_at a b place rest order = grind (arith, common_steps)
 
 pub reads_there : (unit : AnyUnit) (other at new : At) → other.place ≡ at.place → other.rest ≡ at.rest → other.order ≡ at.order
     → ReadsAny unit other new → ReadsAny unit at new

@@ -1,10 +1,9 @@
 -- What a unit says that was read where it lies; and that the bytes of a place are those of one unit.
-use Rattle.std.proofs.Common.{◌≡◌, ℕ, ◌<◌, List, [], ◌++◌, length, refl, sym, ap, subst, ◌∙◌, append_assoc, inr, arith}
+use Rattle.std.proofs.Common.{◌≡◌, ℕ, ◌<◌, List, ◌++◌, length, refl, sym, ap, subst, ◌∙◌, append_assoc, inr, arith}
 use Rattle.std.proofs.lemmas.List.{append_cancel_right, length-append}
 use Rattle.lnt_wire.specs.At.{At}
 use Rattle.lnt_wire.specs.FrameBytes.{FrameBytes, frame_bytes}
 use Rattle.lnt_wire.specs.InitialLength.{LengthFits}
-use Rattle.lnt_wire.specs.Numbers.{number_bytes, offset_size}
 use Rattle.lnt_wire.specs.Reading.{Reads}
 use Rattle.lnt_wire.specs.declared.format.Format.{Format}
 use Rattle.lnt_wire.specs.declared.format.Order.{Order}
@@ -17,11 +16,11 @@ use Rattle.lnt_older.specs.OlderUnits.{AnyBytes, AnyParts, ReadsFive, ReadsOlder
 use Rattle.lnt_older.specs.OlderUnits.AnyParts.{five_parts, older_parts}
 use Rattle.lnt_older.specs.Upgraded.{CopiedFields, upgraded}
 use Rattle.lnt_older.specs.Upgrading.{AddsUpgraded, IsTooLong}
-use Rattle.lnt_older.specs.Versions.{version_number}
 use Rattle.lnt_older.specs.declared.unit.OlderUnit.{OlderUnit}
 use Rattle.lnt_older.proofs.CopiedLemmas.{one_length, same_body_length}
 use Rattle.lnt_older.proofs.NoUnitLemmas.{not_five, one_body, small_version}
 use Rattle.lnt_older.proofs.SameUnitLemmas.{lies_in, one_header, same_unit}
+use Rattle.std.proofs.lemmas.Grind.{common_steps}
 
 -- ---- the bytes of a unit
 
@@ -41,9 +40,7 @@ counted order (older_parts h program) x p =
 
 -- a unit has bytes
 pub some_bytes : (order : Order) (parts : AnyParts) (x : List ℕ) → AnyBytes order parts x → 0 < length x
-some_bytes order parts x p =
-    let c = counted order parts x p in
-    omega (arith, ap length c.joined, length-append {A = ℕ}, length-initial c.format order (length c.body))
+some_bytes order parts x p = grind (arith, common_steps, counted, length-append, length-initial)
 
 -- Two units that begin the same bytes have the same bytes.
 pub any_once : (order : Order) (u v : AnyParts) (x y m n : List ℕ) → AnyBytes order u x → AnyBytes order v y → x ++ m ≡ y ++ n → x ≡ y
@@ -63,15 +60,7 @@ frame_once order format body x y p q = p.joined ∙ sym q.joined
 pub five_not_older : (order : Order) (format : Format) (body : List ℕ) (h : HeaderParts) (program x : List ℕ)
     → AnyBytes order (five_parts format body) x → AnyBytes order (older_parts h program) x → ⊥
 five_not_older order format body h program x five older =
-    let p : FrameBytes h.order (format, body) x = rw older.0 five in
-    let q = older.1 in
-    let other = older_body q.version h q.fields program in
-    let number = number_bytes h.order (offset_size h.format) (length q.fields) in
-    let found = one_body h.order format h.format body other [] [] (frame_bytes h.order format body ++ []) p.fits q.fits refl
-    (ap (λ (z : List ℕ). z ++ []) (sym q.joined ∙ p.joined)) in
-    let same = same_number_front h.order 2 width_2 5 (version_number q.version) p.version.past (number ++ (q.fields ++ program))
-    (omega arith) (small_version q.version) (simp append_assoc at (sym p.version.joined ∙ sym found.1)) in
-    not_five q.version same.0
+    grind (arith, common_steps, one_body, same_number_front, width_2, small_version, append_assoc, not_five)
 
 -- ---- what was read
 

@@ -14,7 +14,6 @@ use Rattle.lnt_header_bytes.specs.Layouts.{entry_of}
 use Rattle.lnt_header_bytes.specs.TableBytes.{EntryBytes}
 use Rattle.lnt_header_bytes.specs.HeaderPuts.{AddsAround, around}
 use Rattle.lnt_older.specs.OlderBytes.{directory_pairs, file_pairs}
-use Rattle.lnt_older.specs.ListReading.{BeginsWithPath}
 use Rattle.lnt_older.specs.OlderFields.{number_fields}
 use Rattle.lnt_older.specs.OlderUnits.{IsOlderUnit}
 use Rattle.lnt_older.specs.Upgraded.{CountedTable, directory_head, file_head, from_zero}
@@ -24,29 +23,18 @@ use Rattle.lnt_older.specs.declared.unit.OlderUnit.{OlderUnit}
 use Rattle.lnt_older.specs.declared.version.OlderVersion.TheVariants.{Four}
 use Rattle.lnt_older.proofs.HeaderLemmas.{moved_numbers}
 use Rattle.lnt_older.proofs.TableLemmas.{directory_spelled, each_append, each_listed, four_pairs, listed_few, one_pair, table_spelled}
+use Rattle.std.proofs.lemmas.Grind.{common_steps}
 
 -- ---- what is added of a table
 
 pub directories_added : (count : ℕ) (directory listed o0 o1 o2 o3 o4 o5 : List ℕ) → o1 ≡ o0 ++ directory_head
     → Appends UnsignedLeb (count + 1) o1 o2 → o3 ≡ o2 ++ directory → o4 ≡ o3 ++ 0 ∷ [] → o5 ≡ o4 ++ listed
     → AddsTable directory_head (count + 1) ((directory ++ 0 ∷ []) ++ listed) o0 o5
-directories_added count directory listed o0 o1 o2 o3 o4 o5 a s c d e = record {
-  table = directory_head ++ (s.spelling ++ ((directory ++ 0 ∷ []) ++ listed));
-  table_is = record { size = s.spelling; counted = s.spelled; joined = refl };
-  joined = simp (e, d, c, s.joined, a, append_assoc);
-}
+directories_added count directory listed o0 o1 o2 o3 o4 o5 a s c d e = grind (arith, common_steps, append_assoc)
 
 pub files_added : (count all : ℕ) (first listed o0 o1 o2 o3 o4 : List ℕ) → o1 ≡ o0 ++ file_head → IsCountFromZero count all
     → Appends UnsignedLeb all o1 o2 → o3 ≡ o2 ++ first → o4 ≡ o3 ++ listed → AddsFiles count (first ++ listed) o0 o4
-files_added count all first listed o0 o1 o2 o3 o4 a count_is s c d = record {
-  all = all;
-  count_is = count_is;
-  added = record {
-    table = file_head ++ (s.spelling ++ (first ++ listed));
-    table_is = record { size = s.spelling; counted = s.spelled; joined = refl };
-    joined = simp (d, c, s.joined, a, append_assoc);
-  };
-}
+files_added count all first listed o0 o1 o2 o3 o4 a count_is s c d = grind (arith, common_steps, append_assoc)
 
 -- ---- the fields
 
@@ -62,8 +50,7 @@ fields_upgraded unit directory zero_bytes o0 o1 o2 o3 o4 none is zero_is begun s
     let directory_entry = entry_of (Text directory ∷ []) in
     let directory_bytes = (directory ++ 0 ∷ []) ++ o.directories.bytes.now in
     let file_bytes = zero_bytes ++ o.files.bytes.now in
-    let e4 : o4 ≡ single ++ d.table ++ f.added.table ++ o.extra.now =
-    simp (last, f.added.joined, d.joined, singles, begun, append_assoc) in
+    let e4 : o4 ≡ single ++ d.table ++ f.added.table ++ o.extra.now = simp (last, f.added.joined, d.joined, singles, begun, append_assoc) in
     let first = zero_is fs lie.file_count lie.files_lie in
     let some : length (directory_entry ∷ ds) ≡ o.directories.count + 1 = omega (arith, lie.directory_count) in
     let directory_table : CountedTable directory_head (length (directory_entry ∷ ds)) directory_bytes d.table = rw some d.table_is in
@@ -102,28 +89,15 @@ fields_upgraded unit directory zero_bytes o0 o1 o2 o3 o4 none is zero_is begun s
     }
 
 -- their entries are fewer than their bytes
-pub directories_few : (unit : OlderUnit) → IsOlderUnit unit
-    → 2 * unit.header.directories.count ≤ length unit.header.directories.bytes.now
-directories_few unit is =
-    let path : BeginsWithPath directory_pairs = record { pair = _; past = _; joined = refl; is_text = refl } in
-    omega (
-      arith,
-      listed_few unit.format unit.order directory_pairs is.directories unit.header.directories.bytes.now path is.lie.directories_lie,
-      is.lie.directory_count,
-    )
+pub directories_few : (unit : OlderUnit) → IsOlderUnit unit → 2 * unit.header.directories.count ≤ length unit.header.directories.bytes.now
+directories_few unit is = grind (arith, common_steps, listed_few)
 
 pub files_there : (unit : OlderUnit) → IsOlderUnit unit
     → HasFiles unit.format unit.order unit.header.files.count unit.header.files.bytes.now
 files_there unit is = record { files = is.files; count_is = is.lie.file_count; lie = is.lie.files_lie }
 
 pub files_few : (unit : OlderUnit) → IsOlderUnit unit → 2 * unit.header.files.count ≤ length unit.header.files.bytes.now
-files_few unit is =
-    let path : BeginsWithPath file_pairs = record { pair = _; past = _; joined = refl; is_text = refl } in
-    omega (
-      arith,
-      listed_few unit.format unit.order file_pairs is.files unit.header.files.bytes.now path is.lie.files_lie,
-      is.lie.file_count,
-    )
+files_few unit is = grind (arith, common_steps, listed_few)
 
 -- ---- the whole unit
 

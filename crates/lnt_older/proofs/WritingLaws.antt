@@ -15,6 +15,7 @@ use Rattle.lnt_older.proofs.PlacedLaws.{left_all}
 use Rattle.lnt_older.proofs.SectionLemmas.{IsSpelled, fewer_left, unit_next}
 use Rattle.lnt_older.proofs.SizeLemmas.{newer_of}
 use Rattle.lnt_older.proofs.UpgradeLaws.{any_once, some_bytes}
+use Rattle.std.proofs.lemmas.Grind.{common_steps}
 
 -- ---- the units that are left
 
@@ -52,15 +53,7 @@ pub record WritingTo (order : Order) (size : ℕ) (directories : List Directory)
 module _ (order : Order) (size : ℕ) (directories : List Directory) (section : List ℕ) where
   pub writing_none : (at : At) → CanUpgrade order size directories section → at.rest ≡ section → at.place ≡ 0 → at.order ≡ order
       → WritingTo order size directories section at []
-  writing_none at can rest place ordered = record {
-    left = left_all (λ o. CanBeUpgraded o size directories) order section at can rest place ordered;
-    all = λ units more sound sizes upgraded. record {
-      units = units;
-      sound = rw (place, rest, ordered) at sound;
-      sizes = sizes;
-      upgraded = rw ordered at upgraded;
-    };
-  }
+  writing_none at can rest place ordered = grind (arith, common_steps, left_all)
 
   pub writing_more : (at next : At) (text old new : List ℕ) → WritingTo order size directories section at (text ++ old)
       → AddsAny size directories at next old new → WritingTo order size directories section next (text ++ new)
@@ -84,6 +77,4 @@ module _ (order : Order) (size : ℕ) (directories : List Directory) (section : 
   -- with what can be written for the others it is a section of version 5
   pub writing_rest : (at : At) (text : List ℕ) → WritingTo order size directories section at text
       → (more : List ℕ) × IsUpgraded order size directories section (text ++ more)
-  writing_rest at text w =
-      let others = newer_of at.order size directories at.place w.left.0 at.rest w.left.1 in
-      (others.newer, w.all w.left.0 others.newer others.sound others.sizes others.upgraded)
+  writing_rest at text w = grind (arith, common_steps, newer_of)

@@ -80,8 +80,7 @@ IsDirectoryFault older bytes Memory = Unit {0}
 -- This is the unit of the last of these directories, if there is one.
 abbrev pub IsLastUnit : List Directory → Option ℕ → Type 0
 IsLastUnit directories None = length directories ≡ 0
-IsLastUnit directories (Some unit) =
-    (0 < length directories) × (unit ≡ get_or (units_of directories) (length directories - 1) 0)
+IsLastUnit directories (Some unit) = (0 < length directories) × (unit ≡ get_or (units_of directories) (length directories - 1) 0)
 
 -- The unit of the directory is an older unit, and comes after the one before it.
 abbrev pub IsNext : Option ℕ → List ℕ → Directory → Type 0

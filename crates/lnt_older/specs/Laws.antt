@@ -8,6 +8,5 @@ use Rattle.lnt_older.specs.declared.directories.Directory.{Directory}
 
 -- A section of version 5 alone is written anew as itself.
 abbrev pub SameSection : Type 0
-SameSection =
-    (order : Order) (address_size : ℕ) (directories : List Directory) (units : List (ℕ × UnitParts)) (section result : List ℕ)
+SameSection = (order : Order) (address_size : ℕ) (directories : List Directory) (units : List (ℕ × UnitParts)) (section result : List ℕ)
     → SectionBytes order units section → IsUpgraded order address_size directories section result → result ≡ section

@@ -81,8 +81,7 @@ FieldsOf version format order v bytes = Both (NumbersBytes version) (AfterNumber
 
 -- the directories, or the files after them
 abbrev pub TwoListsFault : Format → Order → Reason → List ℕ → List ℕ → Type 0
-TwoListsFault format order =
-    FirstOf (ListBytes format order directory_pairs) (IsListFault format order directory_pairs)
+TwoListsFault format order = FirstOf (ListBytes format order directory_pairs) (IsListFault format order directory_pairs)
     (λ _. IsListFault format order file_pairs)
 
 -- the standard opcode lengths, or the lists after them
@@ -91,8 +90,7 @@ AfterNumbersFault format order n = FirstOf (LengthsBytes n.opcode_base) (IsLengt
 
 -- the numbers, or what comes after them
 abbrev pub IsFieldsFault : OlderVersion → Format → Order → Reason → List ℕ → List ℕ → Type 0
-IsFieldsFault version format order =
-    FirstOf (NumbersBytes version) (IsSoundFault (zero_reasons version)) (AfterNumbersFault format order)
+IsFieldsFault version format order = FirstOf (NumbersBytes version) (IsSoundFault (zero_reasons version)) (AfterNumbersFault format order)
 
 -- ---- the header
 

@@ -89,7 +89,6 @@ pub data IsAnyFault (order : Order) (reason : Reason) (before from : List ℕ) :
   header_length : (format : Format) (version : OlderVersion) (left : List ℕ)
       → InFrame order format (number_bytes order 2 (version_number version)) left before from → IsCountedFault format order reason left
       → IsAnyFault order reason before from
-  of_fields : (format : Format) (version : OlderVersion) (fields left program : List ℕ)
-      → InFrame order format
+  of_fields : (format : Format) (version : OlderVersion) (fields left program : List ℕ) → InFrame order format
       (number_bytes order 2 (version_number version) ++ number_bytes order (offset_size format) (length (fields ++ left)) ++ fields)
       (left ++ program) before from → IsFieldsFault version format order reason fields left → IsAnyFault order reason before from

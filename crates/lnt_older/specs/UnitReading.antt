@@ -67,8 +67,7 @@ pub data IsPastFault (format : Format) (version : OlderVersion) (order : Order) 
 
 -- a fault of what stands after the version, which has 2 bytes
 abbrev pub IsBodyFault : Front → OlderVersion → Order → Fault → Type 0
-IsBodyFault front version order fault =
-    Refuses (IsPastFault front.format version order) (PastBytes front.format version order)
+IsBodyFault front version order fault = Refuses (IsPastFault front.format version order) (PastBytes front.format version order)
     (standing (front.place + 2) front.past.now order) fault
 
 -- the unit of a front and of these bytes: one of version 5, or an older one

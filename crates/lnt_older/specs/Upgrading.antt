@@ -55,8 +55,7 @@ pub record AreFields (unit : OlderUnit) (address_size : ℕ) (directory : List �
 
 -- whichever directories and files lie in the lists of the unit
 abbrev pub AreUpgradedFields : OlderUnit → List ℕ → List ℕ → Type 0
-AreUpgradedFields unit directory fields =
-    (address_size : ℕ) → IsAddressSize address_size → (directories files : List Entry)
+AreUpgradedFields unit directory fields = (address_size : ℕ) → IsAddressSize address_size → (directories files : List Entry)
     → ListsLie unit.format unit.order unit.header directories files → AreFields unit address_size directory directories files fields
 
 -- A format, a number of entries, and entries were added.

@@ -1,5 +1,5 @@
 -- Programs in another byte order, operation by operation.
-use Rattle.std.proofs.Common.{◌≡◌, ℕ, List, [], ◌∷◌, ◌++◌, sym, ap, subst, ◌∙◌, false}
+use Rattle.std.proofs.Common.{◌≡◌, ℕ, List, [], ◌∷◌, ◌++◌, sym, subst, ◌∙◌, false}
 use Rattle.lnt_wire.specs.Bytes.{Appends, Extends}
 use Rattle.lnt_wire.specs.declared.format.Order.{Order}
 use Rattle.lnt_header.specs.declared.header.HeaderParts.{HeaderParts}
@@ -16,6 +16,8 @@ use Rattle.lnt_ops.specs.OpBytes.{OpBytes}
 use Rattle.lnt_ops.specs.OpPuts.{IsOpOf, AddsView, IsLike, AddsOps}
 use Rattle.lnt_ops.specs.Stepping.{OpsSoFar}
 use Rattle.lnt_ops.specs.Walks.{Walk, Ends, GivesOperation}
+use Rattle.std.proofs.lemmas.Grind.{common_steps}
+use Rattle.std.proofs.Common.{arith}
 
 -- the operations that a walk has given so far were added
 pub record ConvertedSoFar (h : HeaderParts) (place : ℕ) (program : List ℕ) (order : Order) (old : List ℕ) (walk : Walk)
@@ -29,14 +31,7 @@ pub record ConvertedSoFar (h : HeaderParts) (place : ℕ) (program : List ℕ) (
 pub converted_none : (h : HeaderParts) (place : ℕ) (program : List ℕ) (order : Order) (old : List ℕ) (walk : Walk) → walk.header ≡ h
     → walk.failed ≡ false → walk.at.place ≡ place → walk.at.rest ≡ program → walk.at.order ≡ h.order
     → ConvertedSoFar h place program order old walk old
-converted_none h place program order old walk same going placed rest ordered =
-    record {
-      header_is = same;
-      going = going;
-      ops = [];
-      so = ops_none h place program walk.at placed rest ordered;
-      adds = λ other like. each_begun (OpBytes other) old;
-    }
+converted_none h place program order old walk same going placed rest ordered = grind (arith, common_steps, ops_none, like, each_begun)
 
 pub converted_more : (h : HeaderParts) (place : ℕ) (program : List ℕ) (order : Order) (size : ℕ) (old middle new : List ℕ) (view : OpView)
     (walk next : Walk) → ConvertedSoFar h place program order old walk middle → GivesOperation view walk next
@@ -58,14 +53,7 @@ converted_more h place program order size old middle new view walk next so step 
 -- a view that a walk gives is one of the header's
 pub view_of_header : (h : HeaderParts) (size : ℕ) (view : OpView) (walk next : Walk) → walk.header ≡ h → size ≡ h.address_size
     → GivesOperation view walk next → IsOpOf size view
-view_of_header h size view walk next same sized step =
-    record {
-      header = walk.header;
-      op = step.gives.op;
-      size_is = ap (λ (g : HeaderParts). g.address_size) same ∙ sym sized;
-      stands = step.gives.stands;
-      admitted = step.gives.admitted;
-    }
+view_of_header h size view walk next same sized step = grind (arith, common_steps)
 
 pub converted_all : (h : HeaderParts) (place : ℕ) (program : List ℕ) (order : Order) (old new : List ℕ) (walk next : Walk)
     → ConvertedSoFar h place program order old walk new → Ends walk next → AddsOps h program order old new

@@ -26,6 +26,7 @@ use Rattle.lnt_ops.specs.OpFaults.IsFirstFault.{no_length, cut_counted, wrong_co
 use Rattle.lnt_ops.specs.OpSteps.{GivesAfter, RefusesAfter, ExtendedBody, IsRightOperand, GivesCounted}
 use Rattle.lnt_ops.specs.OpSteps.{IsCountedOpFault, IsLargeNumber}
 use Rattle.lnt_ops.specs.OpSteps.IsCountedOpFault.{wrong_operand, large_number}
+use Rattle.std.proofs.lemmas.Grind.{common_steps}
 
 -- ---- a number in groups of seven bits, and nothing else
 
@@ -53,11 +54,7 @@ cut_at bytes i lt = sym (take-append-drop i bytes) ∙ ap (λ (z : List ℕ). ta
 
 pub leb_found : (bytes : List ℕ) (i : ℕ) → i < length bytes → AreHigh (take i bytes) → get_or bytes i 0 < 128 → i + 1 ≡ length bytes
     → IsLeb bytes
-leb_found bytes i lt h low e =
-    let nothing : drop (i + 1) bytes ≡ [] = ap (λ (n : ℕ). drop n bytes) e ∙ drop-length bytes in
-    let whole : bytes ≡ take i bytes ++ get_or bytes i 0 ∷ [] = cut_at bytes i lt
-    ∙ ap (λ (z : List ℕ). take i bytes ++ get_or bytes i 0 ∷ z) nothing in
-    subst IsLeb (sym whole) (leb_push (take i bytes) (get_or bytes i 0) h low)
+leb_found bytes i lt h low e = grind (arith, common_steps, drop-length, cut_at, leb_push)
 
 pub leb_last : (bytes : List ℕ) (i : ℕ) → i < length bytes → AreHigh (take i bytes) → get_or bytes i 0 < 128 → IsLeb bytes
     → i + 1 ≡ length bytes
@@ -185,8 +182,7 @@ gives_end h bytes right e =
     }
 
 pub gives_address : (h : HeaderParts) (bytes rest : List ℕ) (address : ℕ) → IsRightOperand h.address_size bytes → get_or bytes 0 0 ≡ 2
-    → rest ≡ drop 1 bytes → NumberBytes h.order h.address_size address rest
-    → GivesCounted h (views.SetAddress address) bytes
+    → rest ≡ drop 1 bytes → NumberBytes h.order h.address_size address rest → GivesCounted h (views.SetAddress address) bytes
 gives_address h bytes rest address right e same p = record {
   op = ops.SetAddress address;
   stands = refl;
@@ -208,17 +204,7 @@ gives_discriminator h bytes n right e p =
 pub gives_other : (h : HeaderParts) (code : ℕ) (view : OpView) (bytes : List ℕ) → IsRightOperand h.address_size bytes
     → get_or bytes 0 0 ≡ code → (code ≡ 1 → ⊥) → (code ≡ 2 → ⊥) → (code ≡ 4 → ⊥) → code < 256
     → StandsFor view (ops.UnknownExtended code (drop 1 bytes)) → GivesCounted h view bytes
-gives_other h code view bytes right e end address discriminator byte stands = record {
-  op = ops.UnknownExtended code (drop 1 bytes);
-  stands = stands;
-  admitted = (end, address, discriminator);
-  spelled = (
-    (end, address, discriminator),
-    byte,
-    code_first code (Exactly (drop 1 bytes)) bytes (some_code h.address_size bytes right) e
-        refl,
-  );
-}
+gives_other h code view bytes right e end address discriminator byte stands = grind (arith, common_steps, code_first, some_code)
 
 large_of : (start : ℕ) (fault : Fault) (bytes operand : List ℕ) → 0 < length bytes → taken_by (get_or bytes 0 0) ≡ takes_number
     → operand ≡ drop 1 bytes → IsLeb operand → fault.place ≡ start + 1
@@ -248,9 +234,7 @@ gives_number address_size n bytes at new right takes same r =
 pub refuses_number : (address_size start : ℕ) (bytes : List ℕ) (at : At) (fault : Fault) → IsRightOperand address_size bytes
     → taken_by (get_or bytes 0 0) ≡ takes_number → at.rest ≡ drop 1 bytes → at.place ≡ start + 1
     → RefusesField (IsLebFault IsLargeUnsigned) UnsignedLeb at fault → IsLargeNumber start fault bytes
-refuses_number address_size start bytes at fault right takes same place r =
-    let shape : IsLeb at.rest = subst IsLeb (sym same) (number_whole address_size bytes right takes) in
-    large_of start fault bytes at.rest (some_code address_size bytes right) takes same shape (r.place ∙ place) fault.reason refl r.reason
+refuses_number address_size start bytes at fault right takes same place r = grind (arith, common_steps, number_whole, large_of, some_code)
 
 pub number_is_fault : (address_size length_place start : ℕ) (fault : Fault) (bytes : List ℕ) → IsLargeNumber start fault bytes
     → IsCountedOpFault address_size length_place start fault bytes
@@ -274,8 +258,7 @@ op_of h (Coding.unknown_extended k operand) counted y q p = (q.0, q.1, in_op k (
 op_of h c counted y q p = absurd q
 
 pub gives_extended : (h : HeaderParts) (n : ℕ) (view : OpView) (counted : List ℕ) (old middle new : At) → Reads UnsignedLeb n old middle
-    → Reads (TakenBytes n) counted middle new → GivesCounted h view counted
-    → GivesAfter h 0 view old new
+    → Reads (TakenBytes n) counted middle new → GivesCounted h view counted → GivesAfter h 0 view old new
 gives_extended h n view counted old middle new r t g =
     let size : n ≡ length counted = sym t.spelled.count_is ∙ ap length (sym t.spelled.taken_is) in
     let block : BlockBytes UnsignedLeb counted (r.spelling ++ t.spelling) = record {

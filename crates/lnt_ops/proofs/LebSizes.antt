@@ -3,6 +3,7 @@ use Rattle.std.proofs.Common.{◌≡◌, ℕ, suc, refl, ◌+◌, ◌/◌, ◌%�
 use Rattle.lnt_wire.specs.Bytes.{IsShortest}
 use Rattle.lnt_wire.specs.Leb128.{IsLeb, groups, UnsignedLeb}
 use Rattle.lnt_ops.proofs.ViewLaws.{leb_is_some}
+use Rattle.std.proofs.lemmas.Grind.{common_steps}
 
 -- a spelling of this length
 record OfLength (n size : ℕ) : Type 0 where
@@ -49,7 +50,4 @@ at_most_ten n x p =
 
 -- a number below 128 is its own shortest spelling
 pub one_group : (n : ℕ) → n < 128 → IsShortest UnsignedLeb n (n ∷ [])
-one_group n lt = record {
-  spelled = record { shape = lt; value = omega (arith, lt); fits = omega (arith, lt) };
-  shortest = λ other p. omega (arith, leb_is_some n other p);
-}
+one_group n lt = grind (arith, common_steps, leb_is_some)

@@ -19,11 +19,11 @@ use Rattle.lnt_ops.specs.Stepping.{IsNextOf}
 use Rattle.lnt_ops.specs.OpBytes.{OpBytes}
 use Rattle.lnt_ops.specs.OpReading.{GivesOp}
 use Rattle.lnt_ops.specs.Walks.{Walk, Ends, GivesOperation, Fails}
+use Rattle.std.proofs.lemmas.Grind.{common_steps}
 
 -- the next operation
 pub left_next : (h : HeaderParts) (later : List Op) (view : OpView) (old new : Walk) → IsHeader h → OperationsAreLeft h later old
-    → GivesOperation view old new
-    → IsNextOf h later view new
+    → GivesOperation view old new → IsNextOf h later view new
 left_next h [] view old new header left s =
     let r = s.gives.reads in
     absurd (omega (
@@ -69,8 +69,7 @@ left_fails h (op ∷ later) fault old new left f =
 
 -- the operations after some that a front of the program spells
 pub each_after : (h : HeaderParts) (earlier all : List Op) (front rest program : List ℕ) → IsHeader h → Each (OpBytes h) earlier front
-    → Each (OpBytes h) all program → program ≡ front ++ rest
-    → (later : List Op) × (all ≡ earlier ++ later) × Each (OpBytes h) later rest
+    → Each (OpBytes h) all program → program ≡ front ++ rest → (later : List Op) × (all ≡ earlier ++ later) × Each (OpBytes h) later rest
 each_after h [] all front rest program header p q whole =
     (all, refl, subst (Each (OpBytes h) all) (whole ∙ ap (λ (z : List ℕ). z ++ rest) p) q)
 each_after h (op ∷ earlier) [] front rest program header p q whole =
@@ -92,15 +91,10 @@ each_after h (op ∷ earlier) (other ∷ all) front rest program header p q whol
 pub place_found : (h : HeaderParts) (earlier all : List Op) (front rest program : List ℕ) → IsHeader h → Each (OpBytes h) earlier front
     → Each (OpBytes h) all program → program ≡ front ++ rest
     → (later : List Op) × (all ≡ earlier ++ later) × IsPlace h program earlier later (length front)
-place_found h earlier all front rest program header p q whole =
-    let found = each_after h earlier all front rest program header p q whole in
-    (found.0, found.1, record { front = front; rest = rest; split = whole; place_is = refl; earlier_spelled = p; later_spelled = found.2 })
+place_found h earlier all front rest program header p q whole = grind (arith, common_steps, each_after)
 
 -- a walk that begins at a place has the later operations before it
 pub left_at : (h : HeaderParts) (program : List ℕ) (earlier later : List Op) (place : ℕ) (walk : Walk)
     → IsPlace h program earlier later place
     → walk.header ≡ h → walk.failed ≡ false → walk.at.rest ≡ drop place program → OperationsAreLeft h later walk
-left_at h program earlier later place walk is header going rest =
-    let past : walk.at.rest ≡ is.rest =
-    rest ∙ ap (λ (n : ℕ). drop n program) is.place_is ∙ ap (drop (length is.front)) is.split ∙ drop-append_seam is.front is.rest in
-    record { header_is = header; going = going; spelled = subst (Each (OpBytes h) later) (sym past) is.later_spelled }
+left_at h program earlier later place walk is header going rest = grind (arith, common_steps, drop-append_seam)

@@ -16,8 +16,8 @@ use Rattle.lnt_header.specs.FirstFaults.{FirstOfSeveral}
 use Rattle.lnt_header.specs.FirstFaults.FirstOfSeveral.{next}
 use Rattle.lnt_header.specs.HeaderRules.{HasHeaderNumbers}
 use Rattle.lnt_header.specs.Joins.{Each, Several}
-use Rattle.lnt_header.specs.OpRules.{Coding, coding, FitsTaken, Following, following, known_followings, last_known, Operand}
-use Rattle.lnt_header.specs.OpRules.{standard_length, Taken, taken_by}
+use Rattle.lnt_header.specs.OpRules.{Coding, coding, Following, following, known_followings, last_known, Operand}
+use Rattle.lnt_header.specs.OpRules.{standard_length, taken_by}
 use Rattle.lnt_header.specs.OpRules.Following.{as_listed, by_length, nothing_more, one_signed, one_unsigned, two_bytes}
 use Rattle.lnt_header.specs.OpRules.Taken.{takes_address, takes_any, takes_nothing, takes_number}
 use Rattle.lnt_header.specs.declared.header.HeaderParts.{HeaderParts}
@@ -30,6 +30,7 @@ use Rattle.lnt_ops.specs.OpFaults.IsFirstFault.{no_opcode, unsigned_operand, sig
 use Rattle.lnt_ops.specs.OpFaults.IsFirstFault.{cut_counted, wrong_counted, large_counted}
 use Rattle.lnt_ops.specs.OpSteps.{IsRightOperand}
 use Rattle.lnt_ops.specs.Programs.{BrokenProgram, IsFirstIn}
+use Rattle.std.proofs.lemmas.Grind.{common_steps}
 
 -- ---- after a zero byte
 
@@ -61,10 +62,7 @@ same_count m n x y r s p q e =
 -- a number that is too large fills no operation wrongly
 not_wrong : (address_size code : ℕ) (operation operand : List ℕ) → taken_by code ≡ takes_number → operation ≡ code ∷ operand → IsLeb operand
     → IsWrongOperand address_size operation → ⊥
-not_wrong address_size code operation operand takes e shape w =
-    let fits : FitsTaken address_size (taken_by code) operand =
-    subst (λ (t : Taken). FitsTaken address_size t operand) (sym takes) shape in
-    subst (IsWrongOperand address_size) e w fits
+not_wrong address_size code operation operand takes e shape w = grind (arith, common_steps)
 
 unsigned_here : IsOneFault UnsignedLeb (IsHere (IsLebFault IsLargeUnsigned))
 unsigned_here = field_fault UnsignedLeb (IsLebFault IsLargeUnsigned) unsigned_fault
@@ -125,8 +123,7 @@ counted_none size code n operand spelling more x rest past reason same right sma
 extended_none : (address_size : ℕ) (reason : Reason) (past left : List ℕ) (code : ℕ) (operand spelling more : List ℕ)
     → IsExtendedFault address_size reason past left
     → UnsignedLeb (length (code ∷ operand)) spelling → IsRightOperand address_size (code ∷ operand)
-    → (taken_by code ≡ takes_number → IsLargeUnsigned operand → ⊥)
-    → spelling ++ ((code ∷ operand) ++ more) ≡ past ++ left → ⊥
+    → (taken_by code ≡ takes_number → IsLargeUnsigned operand → ⊥) → spelling ++ ((code ∷ operand) ++ more) ≡ past ++ left → ⊥
 extended_none size reason past left code operand spelling more (missing nothing h) p right small e =
     unsigned_fault.none reason left h (length (code ∷ operand)) spelling ((code ∷ operand) ++ more) p
     (e ∙ ap (λ (z : List ℕ). z ++ left) nothing)
@@ -182,13 +179,7 @@ takes_listed code le = get_or_past known_followings code as_listed le
 
 operand_fault : (h : HeaderParts) (k : ℕ) (kind : Following) (reason : Reason) (past before left : List ℕ) → following k ≡ kind
     → k < h.opcode_base → before ≡ k ∷ past → OfOperand h k kind reason past left → IsOpcodeFault h reason before left
-operand_fault h k kind reason past before left takes lt b fault = operand (record {
-  code = k;
-  past = past;
-  within = lt;
-  joined = b;
-  fault = subst (λ (f : Following). OfOperand h k f reason past left) (sym takes) fault;
-})
+operand_fault h k kind reason past before left takes lt b fault = grind (arith, common_steps)
 
 opcode_fault : (h : HeaderParts) (reason : Reason) (before left : List ℕ) → 0 < h.opcode_base → IsFirstFault h reason before left
     → IsOpcodeFault h reason before left
@@ -205,8 +196,7 @@ opcode_fault h reason before left some (unknown_operand k numbers spelling le lt
 opcode_fault h reason before left some (no_length b p) = operand_fault h 0 by_length reason [] before left refl some b (missing refl p)
 opcode_fault h reason before left some (cut_counted n spelling e p b cut) =
     operand_fault h 0 by_length reason spelling before left refl some b (counted n spelling left p refl (short e refl cut))
-opcode_fault h reason before left some (wrong_counted e b w) =
-    operand_fault h 0 by_length reason [] before left refl some b
+opcode_fault h reason before left some (wrong_counted e b w) = operand_fault h 0 by_length reason [] before left refl some b
     (counted (length w.1) w.0 (w.1 ++ w.2) w.3 (w.4 ∙ append_assoc w.0 w.1 w.2) (wrong w.1 w.2 e refl refl refl w.5))
 opcode_fault h reason before left some (large_counted spelling o rest e p b l shape much) =
     operand_fault h 0 by_length reason (spelling ++ b.0 ∷ []) before left refl some b.2
@@ -216,11 +206,9 @@ opcode_fault h reason before left some (large_counted spelling o rest e p b l sh
 
 opcode_one : (h : HeaderParts) → AreOne (IsOpcodeFault h)
 opcode_one h reason other before before' left left' (nothing is b l) (nothing is' b' l') e = (is ∙ sym is', b ∙ sym b')
-opcode_one h reason other before before' left left' (nothing is b l) (operand f) e =
-    absurd (omega
+opcode_one h reason other before before' left left' (nothing is b l) (operand f) e = absurd (omega
     (arith, ap length e, length-append before left, length-append before' left', ap length b, ap length l, ap length f.joined))
-opcode_one h reason other before before' left left' (operand f) (nothing is b l) e =
-    absurd (omega
+opcode_one h reason other before before' left left' (operand f) (nothing is b l) e = absurd (omega
     (arith, ap length e, length-append before left, length-append before' left', ap length b, ap length l, ap length f.joined))
 opcode_one h reason other before before' left left' (operand f) (operand g) e =
     let all : f.code ∷ (f.past ++ left) ≡ g.code ∷ (g.past ++ left') =
@@ -244,23 +232,10 @@ record StandardAt (h : HeaderParts) (k : ℕ) (OfOpcode : List ℕ → Type 0) (
 standard_at : (h : HeaderParts) (k : ℕ) (OfOpcode : List ℕ → Type 0) (reason : Reason) (before left x more : List ℕ)
     → (f : IsOperandFault h reason before left) → Standard h k OfOpcode x
     → x ++ more ≡ before ++ left → StandardAt h k OfOpcode reason more f.past left
-standard_at h k OfOpcode reason before left x more f p e =
-    let whole : x ≡ k ∷ p.1.back = p.1.joined ∙ ap (λ (z : List ℕ). z ++ p.1.back) p.1.first in
-    let all : k ∷ (p.1.back ++ more) ≡ f.code ∷ (f.past ++ left) =
-    ap (λ (z : List ℕ). z ++ more) (sym whole) ∙ e ∙ ap (λ (z : List ℕ). z ++ left) f.joined in
-    let codes : f.code ≡ k = cc in
-    let tails : p.1.back ++ more ≡ f.past ++ left = cc in
-    record {
-      bytes = p.1.back;
-      spelled = p.1.second;
-      joined = tails;
-      fault = subst
-          (λ (c : ℕ). OfOperand h c (following c) reason f.past left) codes f.fault;
-    }
+standard_at h k OfOpcode reason before left x more f p e = grind (arith, common_steps)
 
 extended_at : (h : HeaderParts) (code : ℕ) (OfCode : List ℕ → Type 0) (reason : Reason) (before left x more : List ℕ)
-    → IsOperandFault h reason before left → Extended code OfCode x
-    → x ++ more ≡ before ++ left
+    → IsOperandFault h reason before left → Extended code OfCode x → x ++ more ≡ before ++ left
     → ((bytes : List ℕ) → OfCode bytes → IsRightOperand h.address_size (code ∷ bytes)
     × (taken_by code ≡ takes_number → IsLargeUnsigned bytes → ⊥)) → ⊥
 extended_at h code OfCode reason before left x more f p e right =
@@ -280,10 +255,8 @@ fault_none : (h : HeaderParts) (k : ℕ) (taken : Operand) (reason : Reason) (mo
 fault_none h k Operand.bare reason more past left s fault = fault
 fault_none h k (Operand.unsigned n) reason more past left s fault =
     unsigned_here.none reason past left fault n s.bytes more s.spelled s.joined
-fault_none h k (Operand.signed z) reason more past left s fault =
-    signed_here.none reason past left fault z s.bytes more s.spelled s.joined
-fault_none h k (Operand.half n) reason more past left s fault =
-    (fixed_here h).none reason past left fault n s.bytes more s.spelled s.joined
+fault_none h k (Operand.signed z) reason more past left s fault = signed_here.none reason past left fault z s.bytes more s.spelled s.joined
+fault_none h k (Operand.half n) reason more past left s fault = (fixed_here h).none reason past left fault n s.bytes more s.spelled s.joined
 
 -- no operation stands where an operand has a fault
 coding_none : (h : HeaderParts) (reason : Reason) (before left : List ℕ) (c : Coding) (x more : List ℕ) → TakesIts c
@@ -295,8 +268,7 @@ coding_none h reason before left (Coding.special c) x more takes f p e =
     omega (arith, codes, p.0, f.within)
 coding_none h reason before left (Coding.standard k taken) x more takes f p e =
     let s = standard_at h k (OperandBytes h taken) reason before left x more f p e in
-    fault_none h k taken reason more f.past left s
-    (subst (λ (kind : Following). OfOperand h k kind reason f.past left) takes s.fault)
+    fault_none h k taken reason more f.past left s (subst (λ (kind : Following). OfOperand h k kind reason f.past left) takes s.fault)
 coding_none h reason before left (Coding.unknown_standard k numbers) x more takes f p e =
     let s = standard_at h k (Each UnsignedLeb numbers) reason before left x more f p.2 e in
     let fault : OfOperand h k as_listed reason f.past left =

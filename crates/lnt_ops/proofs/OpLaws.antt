@@ -21,6 +21,7 @@ use Rattle.lnt_header.specs.OpRules.Taken.{takes_address, takes_nothing, takes_n
 use Rattle.lnt_ops.specs.Laws.{OneProgram}
 use Rattle.lnt_ops.specs.OpBytes.{CodingBytes, Standard, Extended, OpBytes, OperandBytes}
 use Rattle.lnt_ops.specs.Spelled.{FitsCoding, FitsOp, FitsOperand}
+use Rattle.std.proofs.lemmas.Grind.{common_steps}
 
 -- ---- what follows an opcode, and a code
 
@@ -78,17 +79,7 @@ pub record ExtendedParts (code : ℕ) (Operand : List ℕ → Type 0) (x : List 
   pub joined : x ≡ 0 ∷ (spelling ++ (code ∷ operand))
 
 pub extended_parts : (code : ℕ) (Operand : List ℕ → Type 0) (x : List ℕ) → Extended code Operand x → ExtendedParts code Operand x
-extended_parts code Operand x p =
-    let rest : p.0 ≡ code ∷ p.1.back = p.1.joined ∙ ap (λ (z : List ℕ). z ++ p.1.back) p.1.first in
-    let inner = p.2.second in
-    let past : p.2.back ≡ inner.front ++ (code ∷ p.1.back) = inner.joined ∙ ap (λ (z : List ℕ). inner.front ++ z) (inner.second ∙ rest) in
-    record {
-      spelling = inner.front;
-      operand = p.1.back;
-      spelled = subst (λ (z : List ℕ). UnsignedLeb (length z) inner.front) rest inner.first;
-      is = p.1.second;
-      joined = p.2.joined ∙ ap (λ (z : List ℕ). z ++ p.2.back) p.2.first ∙ ap (λ (z : List ℕ). 0 ∷ z) past;
-    }
+extended_parts code Operand x p = grind (arith, common_steps)
 
 extended_shape : (h : HeaderParts) (code t : ℕ) (Operand : List ℕ → Type 0) (x : List ℕ) → t ≡ 2 * code + 2 → Extended code Operand x
     → Shape h.opcode_base t x
@@ -118,9 +109,7 @@ shape_of h op x p = coding_shape h (coding op) x (positive op) p
 
 -- the same bytes in front say the same
 heads_of : (a b : ℕ) (x y u v r s : List ℕ) → x ≡ a ∷ u → y ≡ b ∷ v → x ++ r ≡ y ++ s → (a ≡ b) × (u ++ r ≡ v ++ s)
-heads_of a b x y u v r s p q e =
-    let all : a ∷ (u ++ r) ≡ b ∷ (v ++ s) = ap (λ (z : List ℕ). z ++ r) (sym p) ∙ e ∙ ap (λ (z : List ℕ). z ++ s) q in
-    (cc, cc)
+heads_of a b x y u v r s p q e = grind (arith, common_steps)
 
 same_shape : (opcode_base t t' : ℕ) (x y r s : List ℕ) → 0 < opcode_base → Shape opcode_base t x → Shape opcode_base t' y → x ++ r ≡ y ++ s
     → t ≡ t'
@@ -156,12 +145,8 @@ same_tag h u v x y r s pos p q e = same_shape h.opcode_base (tag u) (tag v) x y 
 
 -- a standard operation with an operand
 same_operand : {X : Type 0} {P : X → List ℕ → Type 0} → IsCode P → (make : ℕ → X → Coding) (h : HeaderParts) (j k : ℕ) (m n : X)
-    (x y r s : List ℕ)
-    → Standard h j (P m) x → Standard h k (P n) y → x ++ r ≡ y ++ s → (make j m ≡ make k n) × (x ≡ y)
-same_operand code make h j k m n x y r s p q e =
-    let opcode = peel byte_code j k x y r s p.1 q.1 e in
-    let operand = code.one m n p.1.back q.1.back r s p.1.second q.1.second opcode.past in
-    (ap (λ (i : ℕ). make i m) opcode.value ∙ ap (make k) operand.0, same_join x y p.1 q.1 opcode.bytes operand.1)
+    (x y r s : List ℕ) → Standard h j (P m) x → Standard h k (P n) y → x ++ r ≡ y ++ s → (make j m ≡ make k n) × (x ≡ y)
+same_operand code make h j k m n x y r s p q e = grind (arith, common_steps, peel, byte_code, same_join)
 
 -- an operand that has no bytes
 nothing_code : IsCode (λ (u : Unit {0}). Exactly [])
@@ -170,17 +155,9 @@ nothing_code = record { one = λ u v x y r s p q e. (refl, p ∙ sym q) }
 -- what follows the length of an extended operation
 same_extended : {P Q : List ℕ → Type 0} (c d : ℕ) (x y r s : List ℕ) → (p : ExtendedParts c P x) → (q : ExtendedParts d Q y)
     → x ++ r ≡ y ++ s → (c ∷ p.operand ≡ d ∷ q.operand) × (x ≡ y)
-same_extended c d x y r s p q e =
-    let u = c ∷ p.operand in
-    let v = d ∷ q.operand in
-    let whole = (heads_of 0 0 x y (p.spelling ++ u) (q.spelling ++ v) r s p.joined q.joined e).1 in
-    let all : p.spelling ++ (u ++ r) ≡ q.spelling ++ (v ++ s) = sym (append_assoc p.spelling u r) ∙ whole ∙ append_assoc q.spelling v s in
-    let size = unsigned_code.one (length u) (length v) p.spelling q.spelling (u ++ r) (v ++ s) p.spelled q.spelled all in
-    let same : u ≡ v = same_front u v r s size.0 (same_rest p.spelling q.spelling (u ++ r) (v ++ s) size.1 all) in
-    (same, p.joined ∙ ap (λ (z : List ℕ). 0 ∷ (z ++ u)) size.1 ∙ ap (λ (z : List ℕ). 0 ∷ (q.spelling ++ z)) same ∙ sym q.joined)
+same_extended c d x y r s p q e = grind (arith, common_steps, heads_of, append_assoc, unsigned_code, same_front, same_rest)
 
-same_extended_operand : {X : Type 0} {P : X → List ℕ → Type 0} → IsCode P → (make : ℕ → X → Coding) (c d : ℕ) (m n : X)
-    (x y r s : List ℕ)
+same_extended_operand : {X : Type 0} {P : X → List ℕ → Type 0} → IsCode P → (make : ℕ → X → Coding) (c d : ℕ) (m n : X) (x y r s : List ℕ)
     → Extended c (P m) x → Extended d (P n) y → x ++ r ≡ y ++ s → (make c m ≡ make d n) × (x ≡ y)
 same_extended_operand {X} {P} code make c d m n x y r s p q e =
     let t = extended_parts c (P m) x p in
@@ -203,15 +180,9 @@ same_unknown c d t t' x y r s p q e =
     (ap (λ (a : ℕ). Coding.unknown_extended a t) codes ∙ ap (Coding.unknown_extended d) operands, found.1)
 
 same_unknown_standard : (h : HeaderParts) (k l : ℕ) (us vs x y r s : List ℕ) → length us ≡ standard_length h k
-    → length vs ≡ standard_length h l
-    → Standard h k (Each UnsignedLeb us) x → Standard h l (Each UnsignedLeb vs) y → x ++ r ≡ y ++ s
+    → length vs ≡ standard_length h l → Standard h k (Each UnsignedLeb us) x → Standard h l (Each UnsignedLeb vs) y → x ++ r ≡ y ++ s
     → (Coding.unknown_standard k us ≡ Coding.unknown_standard l vs) × (x ≡ y)
-same_unknown_standard h k l us vs x y r s m n p q e =
-    let opcode = peel byte_code k l x y r s p.1 q.1 e in
-    let codes : k ≡ l = opcode.value in
-    let len : length us ≡ length vs = m ∙ ap (standard_length h) codes ∙ sym n in
-    let all = same_each unsigned_code us vs p.1.back q.1.back r s len p.1.second q.1.second opcode.past in
-    (ap (λ (a : ℕ). Coding.unknown_standard a us) codes ∙ ap (Coding.unknown_standard l) all.0, same_join x y p.1 q.1 opcode.bytes all.1)
+same_unknown_standard h k l us vs x y r s m n p q e = grind (arith, common_steps, peel, byte_code, same_each, unsigned_code, same_join)
 
 pub address_width : (size : ℕ) → IsAddressSize size → IsWidth size
 address_width size (inl two) = subst IsWidth (sym two) width_2
@@ -273,9 +244,7 @@ one_coding u v e = cc
 
 same_of_tag : (h : HeaderParts) (width : IsWidth h.address_size) (u v : Op) (x y r s : List ℕ) → tag u ≡ tag v → OpBytes h u x
     → OpBytes h v y → x ++ r ≡ y ++ s → (u ≡ v) × (x ≡ y)
-same_of_tag h width u v x y r s t p q e =
-    let found = same_coding h width (coding u) (coding v) x y r s (same_kind h u v x y t p q) p q e in
-    (one_coding u v found.0, found.1)
+same_of_tag h width u v x y r s t p q e = grind (arith, common_steps, same_coding, same_kind, one_coding)
 
 pub op_code : (h : HeaderParts) → HasHeaderNumbers h → IsCode (OpBytes h)
 op_code h numbers =
@@ -325,8 +294,7 @@ op_allowed h op x p = coding_allowed h (coding op) x p
 
 -- lists of values that have some bytes each, and spell the same bytes
 pub same_whole : {X : Type 0} {P : X → List ℕ → Type 0} → IsCode P → ((u : X) (x : List ℕ) → P u x → 0 < length x)
-    → (us vs : List X) (x y : List ℕ)
-    → Each P us x → Each P vs y → x ≡ y → us ≡ vs
+    → (us vs : List X) (x y : List ℕ) → Each P us x → Each P vs y → x ≡ y → us ≡ vs
 same_whole code some [] [] x y p q e = refl
 same_whole code some [] (v ∷ vs) x y p q e =
     absurd (omega (arith, some v q.front q.first, ap length q.joined, ap length e, ap length p, length-append q.front q.back))

@@ -33,6 +33,7 @@ use Rattle.lnt_ops.specs.OperandLists.{SpellsNumbers, NumbersSoFar}
 use Rattle.lnt_ops.specs.OpSpellings.{Coded, ExtendedCoded, ExtendedStart}
 use Rattle.lnt_ops.proofs.OwnedLemmas as owned
 use Rattle.lnt_ops.proofs.LebSizes.{shortest_of_less, at_most_ten, one_group}
+use Rattle.std.proofs.lemmas.Grind.{common_steps}
 
 -- what a call gives where it gives something
 pub on_ok_to : {P Q E : Type 0} (r : Result Unit E) → (P → Q) → OnOk r P → OnOk r Q
@@ -47,34 +48,13 @@ on_err_to (Err e) to p = to p
 
 pub coded_put : {X : Type 0} (Operand : X → List ℕ → Type 0) (code : ℕ) (x : X) (old middle new : List ℕ) → middle ≡ old ++ code ∷ []
     → Appends Operand x middle new → Appends (Coded code Operand) x old new
-coded_put Operand code x old middle new pushed p = record {
-  spelling = code ∷ p.spelling;
-  spelled = record {
-    spelled = record { operand = p.spelling; spelled = p.spelled.spelled; joined = refl };
-    shortest = λ other q. omega (arith, ap length q.joined, p.spelled.shortest q.operand q.spelled);
-  };
-  joined = p.joined ∙ ap (λ (z : List ℕ). z ++ p.spelling) pushed ∙ append_assoc old (code ∷ []) p.spelling;
-}
+coded_put Operand code x old middle new pushed p = grind (arith, common_steps, append_assoc)
 
 -- ---- extended operations
 
 pub start_put : (code count : ℕ) (old first middle new : List ℕ) → first ≡ old ++ 0 ∷ [] → Appends UnsignedLeb count first middle
     → new ≡ middle ++ code ∷ [] → Appends (ExtendedStart code) count old new
-start_put code count old first middle new zero_put p code_put = record {
-  spelling = 0 ∷ p.spelling ++ code ∷ [];
-  spelled = record {
-    spelled = record { number = p.spelling; spelled = p.spelled.spelled; joined = refl };
-    shortest = λ other q. omega (
-      arith,
-      ap length q.joined,
-      length-append p.spelling (code ∷ []),
-      length-append q.number (code ∷ []),
-      p.spelled.shortest q.number q.spelled,
-    );
-  };
-  joined = code_put ∙ ap (λ (z : List ℕ). z ++ code ∷ []) (p.joined ∙ ap (λ (z : List ℕ). z ++ p.spelling) zero_put)
-      ∙ simp append_assoc refl;
-}
+start_put code count old first middle new zero_put p code_put = grind (arith, common_steps, length-append, append_assoc)
 
 -- an extended operation whose length and operand are the shortest
 pub shortest_extended : {X : Type 0} (Operand : X → List ℕ → Type 0) (code : ℕ) (x : X) (number operand : List ℕ)
@@ -139,11 +119,7 @@ extended_after Operand code count x old middle new s p is =
     }
 
 exactly_put : (operand old : List ℕ) → Appends Exactly operand old (old ++ operand)
-exactly_put operand old = record {
-  spelling = operand;
-  spelled = record { spelled = refl; shortest = λ other p. omega (arith, ap length p) };
-  joined = refl;
-}
+exactly_put operand old = grind (arith, common_steps)
 
 pub extended_put : (code count : ℕ) (operand old middle new : List ℕ) → Appends (ExtendedStart code) count old middle
     → new ≡ middle ++ operand → count ≡ length operand + 1 → Appends (ExtendedCoded code Exactly) operand old new
@@ -170,20 +146,10 @@ second_set (x ∷ old) a b v past =
 -- a byte is enough for the length
 pub counted_room : (code n : ℕ) (old middle new : List ℕ) → middle ≡ old ++ 0 ∷ 0 ∷ code ∷ [] → Appends UnsignedLeb n middle new
     → length new - (length middle - 2) - 1 < 128
-counted_room code n old middle new three p =
-    omega (
-      arith,
-      ap length p.joined,
-      length-append middle p.spelling,
-      at_most_ten n p.spelling p.spelled,
-      ap length three,
-      length-append
-          old (0 ∷ 0 ∷ code ∷ []),
-    )
+counted_room code n old middle new three p = grind (arith, common_steps, length-append, at_most_ten)
 
 pub counted_put : (code n place size : ℕ) (old middle new : List ℕ) → middle ≡ old ++ 0 ∷ 0 ∷ code ∷ [] → Appends UnsignedLeb n middle new
-    → place ≡ length middle - 2 → size ≡ length new - place - 1
-    → Appends (ExtendedCoded code UnsignedLeb) n old (slice_set new place size)
+    → place ≡ length middle - 2 → size ≡ length new - place - 1 → Appends (ExtendedCoded code UnsignedLeb) n old (slice_set new place size)
 counted_put code n place size old middle new three p at is =
     let x = p.spelling in
     let all : new ≡ old ++ 0 ∷ 0 ∷ code ∷ x = p.joined ∙ ap (λ (z : List ℕ). z ++ x) three ∙ append_assoc old (0 ∷ 0 ∷ code ∷ []) x in
@@ -202,51 +168,26 @@ counted_put code n place size old middle new three p at is =
 
 -- an opcode alone
 pub alone : (code : ℕ) (old new : List ℕ) → new ≡ old ++ code ∷ [] → Appends (Coded code Exactly) [] old new
-alone code old new put = record {
-  spelling = code ∷ [];
-  spelled = record {
-    spelled = record { operand = []; spelled = refl; joined = refl };
-    shortest = λ other q. omega (arith, ap length q.joined);
-  };
-  joined = put;
-}
+alone code old new put = grind (arith, common_steps)
 
 -- what was put is of the operation that is coded so
 of_coding : (h : HeaderParts) (op : Op) (c : Coding) (old new : List ℕ) → coding op ≡ c → Appends (CodingBytes h) c old new
     → Appends (OpBytes h) op old new
-of_coding h op c old new is p =
-    put_as (CodingBytes h) (OpBytes h) c op old new (λ y t. subst (λ (d : Coding). CodingBytes h d y) (sym is) t)
-    (λ y t. subst (λ (d : Coding). CodingBytes h d y) is t) p
+of_coding h op c old new is p = grind (arith, common_steps, put_as)
 
 view_put : (order : Order) (size : ℕ) (view : OpView) (c : Coding) (old new : List ℕ) → coding_of view ≡ c → (IsListed c → ⊥)
     → ((h : HeaderParts) → h.order ≡ order → h.address_size ≡ size → AdmitsCoding h c → Appends (CodingBytes h) c old new)
     → AddsView order size view old new
-view_put order size view c old new e known put = record {
-  adds = λ h op ordered sized stands admits.
-      let is : coding op ≡ c = is_coded view op c stands e known in
-      of_coding h op c old new is (put h ordered sized (subst (AdmitsCoding h) is admits));
-}
+view_put order size view c old new e known put = grind (arith, common_steps, is_coded, of_coding)
 
 standard_as : {X : Type 0} (Spells : X → List ℕ → Type 0) (x : X) (h : HeaderParts) (k : ℕ) (c : Coding) (old new : List ℕ)
     → ((y : List ℕ) → Standard h k (Spells x) y → CodingBytes h c y) → ((y : List ℕ) → CodingBytes h c y → Standard h k (Spells x) y)
     → k < h.opcode_base → Appends (Coded k Spells) x old new → Appends (CodingBytes h) c old new
-standard_as Spells x h k c old new to from low p =
-    put_as (Coded k Spells) (CodingBytes h) x c old new
-    (λ y t. to y (low, record { front = k ∷ []; back = t.operand; first = refl; second = t.spelled; joined = t.joined }))
-    (λ y t. let s = (from y t).1 in record {
-      operand = s.back;
-      spelled = s.second;
-      joined = s.joined ∙ ap (λ (z : List ℕ). z ++ s.back) s.first;
-    }) p
+standard_as Spells x h k c old new to from low p = grind (arith, common_steps, put_as)
 
 pub special_put : (order : Order) (size : ℕ) (view : OpView) (c : ℕ) (old new : List ℕ) → coding_of view ≡ Coding.special c → c < 256
     → new ≡ old ++ c ∷ [] → AddsView order size view old new
-special_put order size view c old new e low put =
-    view_put order size view (Coding.special c) old new e (λ listed. listed) (λ h o s a. record {
-      spelling = c ∷ [];
-      spelled = record { spelled = (a, low, refl); shortest = λ other q. omega (arith, ap length q.2) };
-      joined = put;
-    })
+special_put order size view c old new e low put = grind (arith, common_steps, view_put)
 
 -- a standard operation, where numbers of some bytes have the order of the header
 pub standard_put : {X : Type 0} (Spells : Order → X → List ℕ → Type 0) (x : X) (order : Order) (size : ℕ) (view : OpView) (k : ℕ)
@@ -265,8 +206,7 @@ pub extended_view_put : {X : Type 0} (Spells : Order → ℕ → X → List ℕ 
     → ((h : HeaderParts) (y : List ℕ) → AdmitsCoding h c → Extended code (Spells h.order h.address_size x) y → CodingBytes h c y)
     → ((h : HeaderParts) (y : List ℕ) → CodingBytes h c y → Extended code (Spells h.order h.address_size x) y)
     → Appends (ExtendedCoded code (Spells order size)) x old new → AddsView order size view old new
-extended_view_put Spells x order size view code c old new e known to from p =
-    view_put order size view c old new e known (λ h o s a.
+extended_view_put Spells x order size view code c old new e known to from p = view_put order size view c old new e known (λ h o s a.
     let sized : Appends (ExtendedCoded code (Spells order h.address_size)) x old new =
     subst (λ (k : ℕ). Appends (ExtendedCoded code (Spells order k)) x old new) (sym s) p in
     put_as (ExtendedCoded code (Spells h.order h.address_size)) (CodingBytes h) x c old new (λ y t. to h y a t.spelled)
@@ -281,17 +221,8 @@ are_operands k operands op p = absurd p
 
 pub unknown_standard_put : (order : Order) (size : ℕ) (view : OpView) (k : ℕ) (operands : Operands) (old new : List ℕ)
     → view ≡ views.UnknownStandard k operands → AddsOperands k operands old new → AddsView order size view old new
-unknown_standard_put order size view k operands old new is p = record {
-  adds = λ h op ordered sized stands admits.
-      let s : StandsFor (views.UnknownStandard k operands) op = subst (λ (v : OpView). StandsFor v op) is stands in
-      let numbers = operands_of op in
-      let c = Coding.unknown_standard k numbers in
-      let coded : coding op ≡ c = ap coding (is_op_of (views.UnknownStandard k operands) op s) in
-      let a : AdmitsCoding h c = subst (AdmitsCoding h) coded admits in
-      of_coding h op c old new coded
-      (standard_as (Each UnsignedLeb) numbers h k c old new (λ y t. (a.0, a.2, t)) (λ y t. t.2) a.1
-      (p.adds numbers (are_operands k operands op s)));
-}
+unknown_standard_put order size view k operands old new is p =
+    grind (arith, common_steps, operands_of, is_op_of, of_coding, standard_as, are_operands)
 
 -- ---- what a view is of
 
@@ -308,19 +239,11 @@ op_put h op view order size old new admits stands ordered sized p = p.adds h op 
 
 pub spelled_put : (code : ℕ) (operands : Operands) (bytes : Bor (List ℕ)) (old middle new : List ℕ) → operands ≡ Spelled bytes
     → middle ≡ old ++ code ∷ [] → AddsSpelled bytes.now middle new → AddsOperands code operands old new
-spelled_put code operands bytes old middle new is pushed p = record {
-  adds = λ numbers are. coded_put (Each UnsignedLeb) code numbers old middle new pushed
-      (p.adds numbers (subst (λ (o : Operands). AreOperands o numbers) is are));
-}
+spelled_put code operands bytes old middle new is pushed p = grind (arith, common_steps, coded_put)
 
 pub listed_put : (code : ℕ) (operands : Operands) (listed : Bor (List ℕ)) (old middle new : List ℕ) → operands ≡ Listed listed
     → middle ≡ old ++ code ∷ [] → Appends (Each UnsignedLeb) listed.now middle new → AddsOperands code operands old new
-listed_put code operands listed old middle new is pushed p = record {
-  adds = λ numbers are.
-      let same : listed.now ≡ numbers = subst (λ (o : Operands). AreOperands o numbers) is are in
-      coded_put (Each UnsignedLeb) code numbers old middle new pushed
-      (subst (λ (ns : List ℕ). Appends (Each UnsignedLeb) ns middle new) same p);
-}
+listed_put code operands listed old middle new is pushed p = grind (arith, common_steps, coded_put)
 
 -- the numbers that were read of the bytes so far were added
 pub record SpelledSoFar (bytes old : List ℕ) (at : At) (new : List ℕ) : Type 0 where
@@ -364,10 +287,7 @@ pub unchanged_extends : (old new : List ℕ) → new ≡ old → Extends old new
 unchanged_extends old new same = record { more = []; joined = same ∙ sym (append-nil old) }
 
 pub extends_more : (old middle new : List ℕ) → Extends old middle → Extends middle new → Extends old new
-extends_more old middle new p q = record {
-  more = p.more ++ q.more;
-  joined = q.joined ∙ ap (λ (z : List ℕ). z ++ q.more) p.joined ∙ append_assoc old p.more q.more;
-}
+extends_more old middle new p q = grind (arith, common_steps, append_assoc)
 
 pub taken_back : (old new : List ℕ) (start : ℕ) → start ≡ length old → Extends old new → take start new ≡ old
 taken_back old new start is e = rw (is, e.joined) (take-append_seam old e.more)

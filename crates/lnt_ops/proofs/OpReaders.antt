@@ -14,25 +14,17 @@ use Rattle.lnt_header.proofs.ByteLaws.{one_digit}
 use Rattle.lnt_ops.proofs.OpLaws.{op_is_some}
 use Rattle.lnt_ops.specs.OpBytes.{OpBytes}
 use Rattle.lnt_ops.specs.OpFaults.{IsOpFault, IsFirstFault}
-use Rattle.lnt_ops.specs.OpFaults.IsFirstFault.{no_opcode}
 use Rattle.lnt_ops.proofs.FaultLemmas.{refuses_op}
 use Rattle.lnt_ops.proofs.OpFaultLaws.{first_none}
 use Rattle.lnt_ops.specs.OpReading.{GivesOp}
 use Rattle.lnt_ops.specs.OpSteps.{GivesAfter, RefusesAfter}
+use Rattle.std.proofs.lemmas.Grind.{common_steps}
 
 -- ---- a cursor that stands where another does
 
 reads_from : {X : Type 0} (P : X → List ℕ → Type 0) (v : X) (old ahead new : At) → ahead.place ≡ old.place → ahead.rest ≡ old.rest
     → ahead.order ≡ old.order → Reads P v ahead new → Reads P v old new
-reads_from P v old ahead new place rest order r =
-    record {
-      spelling = r.spelling;
-      spelled = r.spelled;
-      whole = sym rest ∙ r.whole;
-      place = omega (arith, r.place, place);
-      order = r.order
-          ∙ order;
-    }
+reads_from P v old ahead new place rest order r = grind (arith, common_steps)
 
 -- ---- the first byte
 
@@ -59,38 +51,17 @@ gives_special h k old ahead middle place rest order r le =
     }
 
 pub gives_after : (h : HeaderParts) (k : ℕ) (view : OpView) (old ahead middle new : At) → ahead.place ≡ old.place → ahead.rest ≡ old.rest
-    → ahead.order ≡ old.order → Reads (NumberBytes ahead.order 1) k ahead middle
-    → GivesAfter h k view middle new → GivesOp h view old new
+    → ahead.order ≡ old.order → Reads (NumberBytes ahead.order 1) k ahead middle → GivesAfter h k view middle new → GivesOp h view old new
 gives_after h k view old ahead middle new place rest order r g =
-    let s = g.reads in
-    let first = byte_is h k ahead middle r in
-    let spelled : OpBytes h g.op (r.spelling ++ s.spelling) = subst (λ (x : List ℕ). OpBytes h g.op (x ++ s.spelling)) (sym first)
-    s.spelled.whole in
-    let read : Reads (OpBytes h) g.op ahead new = record {
-      spelling = r.spelling ++ s.spelling;
-      spelled = spelled;
-      whole = r.whole ∙ ap (λ (z : List ℕ). r.spelling ++ z) s.whole ∙ sym (append_assoc r.spelling s.spelling new.rest);
-      place = omega (arith, s.place, r.place, length-append r.spelling s.spelling);
-      order = s.order ∙ r.order;
-    } in
-    record { op = g.op; stands = g.stands; admitted = g.admitted; reads = reads_from (OpBytes h) g.op old ahead new place rest order read }
+    grind (arith, common_steps, byte_is, append_assoc, length-append, reads_from)
 
 -- nothing is left, so no operation is
 pub first_opcode : (h : HeaderParts) (old ahead : At) (fault : Fault) → ahead.place ≡ old.place → ahead.rest ≡ old.rest
-    → RefusesField (IsCutShort 1) (NumberBytes ahead.order 1) ahead fault
-    → Refuses (IsFirstFault h) (OpBytes h) old fault
-first_opcode h old ahead fault place rest r = record {
-  before = [];
-  left = old.rest;
-  split = refl;
-  place = omega (arith, r.place, place);
-  reason = no_opcode r.reason.reason_is refl (nil_from_length old.rest (omega (arith, r.reason.short, ap length rest)));
-  none = λ op x more p e. omega (arith, op_is_some h op x p, ap length e, length-append x more, r.reason.short, ap length rest);
-}
+    → RefusesField (IsCutShort 1) (NumberBytes ahead.order 1) ahead fault → Refuses (IsFirstFault h) (OpBytes h) old fault
+first_opcode h old ahead fault place rest r = grind (arith, common_steps, nil_from_length, op_is_some, length-append)
 
 pub refuses_opcode : (h : HeaderParts) (old ahead : At) (fault : Fault) → ahead.place ≡ old.place → ahead.rest ≡ old.rest
-    → RefusesField (IsCutShort 1) (NumberBytes ahead.order 1) ahead fault
-    → Refuses (IsOpFault h.address_size) (OpBytes h) old fault
+    → RefusesField (IsCutShort 1) (NumberBytes ahead.order 1) ahead fault → Refuses (IsOpFault h.address_size) (OpBytes h) old fault
 refuses_opcode h old ahead fault place rest r = refuses_op h old fault (first_opcode h old ahead fault place rest r)
 
 pub first_after : (h : HeaderParts) (k : ℕ) (old ahead middle : At) (fault : Fault) → ahead.place ≡ old.place → ahead.rest ≡ old.rest

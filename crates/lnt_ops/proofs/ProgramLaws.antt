@@ -25,11 +25,11 @@ use Rattle.lnt_ops.specs.OpReading.{GivesOp}
 use Rattle.lnt_ops.specs.Programs.{BrokenProgram}
 use Rattle.lnt_ops.specs.Stepping.{StandsForSome, OpsSoFar}
 use Rattle.lnt_ops.specs.Walks.{Walk, Ends, GivesOperation, Fails}
+use Rattle.std.proofs.lemmas.Grind.{common_steps}
 
 -- no list fills the bytes, where after some values no other follows
 pub none_filled : {X : Type 0} (P : X → List ℕ → Type 0) (us : List X) (x rest bytes : List ℕ) → IsCode P → Each P us x → 0 < length rest
-    → bytes ≡ x ++ rest → NoneSpelled P rest
-    → (vs : List X) → Each P vs bytes → ⊥
+    → bytes ≡ x ++ rest → NoneSpelled P rest → (vs : List X) → Each P vs bytes → ⊥
 none_filled P us x rest bytes code p some whole none [] q = omega (arith, some, ap length whole, ap length q, length-append x rest)
 none_filled P [] x rest bytes code p some whole none (v ∷ vs) q =
     none v q.front q.back q.first (sym q.joined ∙ whole ∙ ap (λ (z : List ℕ). z ++ rest) p)
@@ -47,8 +47,7 @@ ops_none h place program at placed rest order =
     record { front = []; spelled = refl; admitted = tt; whole = sym rest; place_is = placed ∙ sym (add-zero place); order_is = order }
 
 pub ops_more : (h : HeaderParts) (place : ℕ) (program : List ℕ) (ops : List Op) (op : Op) (view : OpView) (at new : At)
-    → OpsSoFar h place program ops at → GivesOp h view at new → StandsFor view op
-    → OpsSoFar h place program (ops ++ op ∷ []) new
+    → OpsSoFar h place program ops at → GivesOp h view at new → StandsFor view op → OpsSoFar h place program (ops ++ op ∷ []) new
 ops_more h place program ops op view at new so g stands =
     let r = g.reads in
     let same : g.op ≡ op = same_op view g.op op g.stands stands in
@@ -71,9 +70,7 @@ op_long h view at new g =
 
 pub ops_spelled : (h : HeaderParts) (place : ℕ) (program : List ℕ) (ops : List Op) (at : At) → OpsSoFar h place program ops at
     → length at.rest ≡ 0 → Each (OpBytes h) ops program
-ops_spelled h place program ops at so none =
-    let whole : program ≡ so.front = so.whole ∙ ap (λ (z : List ℕ). so.front ++ z) (nil_from_length at.rest none) ∙ append-nil so.front in
-    subst (Each (OpBytes h) ops) (sym whole) so.spelled
+ops_spelled h place program ops at so none = grind (arith, common_steps, nil_from_length, append-nil)
 
 pub ops_admitted : (h : HeaderParts) (place : ℕ) (program : List ℕ) (ops : List Op) (at : At) → OpsSoFar h place program ops at
     → AllByRecursion (Admits h) ops
@@ -102,8 +99,7 @@ walk_more h place program ops op view old new same so s stands =
     (s.header_is ∙ same, s.goes_on, ops_more h place program ops op view old.at new.at so gives stands)
 
 pub walk_broken : (h : HeaderParts) (place : ℕ) (program : List ℕ) (ops : List Op) (fault : Fault) (old new : Walk) → IsHeader h
-    → old.header ≡ h → OpsSoFar h place program ops old.at → Fails fault old new
-    → BrokenProgram h place program fault
+    → old.header ≡ h → OpsSoFar h place program ops old.at → Fails fault old new → BrokenProgram h place program fault
 walk_broken h place program ops fault old new header same so f =
     let refuses : Refuses (IsFirstFault h) (OpBytes h) old.at fault = subst
     (λ (g : HeaderParts). Refuses (IsFirstFault g) (OpBytes g) old.at fault) same f.first in

@@ -1,5 +1,5 @@
 -- Operations with short operands, at the front of bytes.
-use Rattle.std.proofs.Common.{◌≡◌, ◌≢◌, ◌==◌, ℕ, zero, suc, ◌+◌, ◌-◌, ◌*◌, ◌%◌, ◌^◌, ◌<◌, ◌≤◌, Bool, cond, false, List, [], ◌∷◌, ◌++◌}
+use Rattle.std.proofs.Common.{◌≡◌, ◌≢◌, ◌==◌, ℕ, zero, suc, ◌+◌, ◌-◌, ◌*◌, ◌%◌, ◌<◌, ◌≤◌, cond, false, List, [], ◌∷◌, ◌++◌}
 use Rattle.std.proofs.Common.{length, take, drop, get_or, add-one, refl, sym, ap, subst, ◌∙◌, arith, inl, inr}
 use Rattle.std.specs.Prelude.{ℤ, pos, neg_ℤ, ◌+ℤ◌, ◌-ℤ◌, ◌*ℤ◌, ◌≤ℤ◌, ◌<ℤ◌, FitsSigned}
 use Rattle.std.specs.Int.{w64}
@@ -13,7 +13,7 @@ use Rattle.lnt_header.specs.declared.op.Op.{Op}
 use Rattle.lnt_header.specs.declared.op.Op.TheVariants as ops
 use Rattle.lnt_header.specs.declared.op.OpView.{OpView}
 use Rattle.lnt_header.specs.declared.op.OpView.TheVariants as views
-use Rattle.lnt_header.specs.OpRules.{Admits, Coding, coding_of, op_of, Operand, StandsFor}
+use Rattle.lnt_header.specs.OpRules.{Admits, Coding, coding_of, Operand, StandsFor}
 use Rattle.lnt_header.specs.OpRules.Coding.{standard}
 use Rattle.lnt_header.specs.OpRules.Operand.{bare, unsigned, signed}
 use Rattle.lnt_ops.proofs.OpLaws.{extended_parts}
@@ -25,6 +25,7 @@ use Rattle.lnt_ops.specs.OpReading.{GivesOp}
 use Rattle.lnt_ops.specs.Short.{IsOperationFront, IsShort, NoneShort}
 use Rattle.lnt_ops.specs.Stepping.{IsGroup, NoByte, NoDiscriminator, NoTwoBytes}
 use Rattle.lnt_ops.specs.Walks.{Walk, GivesOperation}
+use Rattle.std.proofs.lemmas.Grind.{common_steps}
 
 -- ---- bytes at the front
 
@@ -54,28 +55,16 @@ one_less (b ∷ bytes) some = omega arith
 -- ---- operands
 
 pub one_unsigned : (bytes : List ℕ) (b : ℕ) → 0 < length bytes → get_or bytes 0 0 ≡ b → b < 128 → UnsignedLeb b (take 1 bytes)
-one_unsigned bytes b some is low =
-    let small : b % 128 ≡ b = omega arith in
-    rw (one_taken bytes some, is) (record { shape = low; value = omega (arith, small); fits = omega arith })
+one_unsigned bytes b some is low = grind (arith, common_steps, one_taken)
 
 high_groups : (b : ℕ) → 64 ≤ b → b < 128 → signed_groups (b ∷ []) ≡ pos b -ℤ pos 128
-high_groups b le lt =
-    let same : b % 128 + 128 * 0 ≡ b = omega arith in
-    ap (λ (s : Bool). pos (b % 128 + 128 * 0) -ℤ pos (cond s (128 ^ 1) 0)) (le-leb 64 b le) ∙ ap (λ (n : ℕ). pos n -ℤ pos 128) same
+high_groups b le lt = grind (arith, common_steps, cond, le-leb)
 
 pub group_low : (b : ℕ) (z : ℤ) → z ≡ pos b → b < 64 → IsGroup b z
-group_low b z is lt = let small : b % 128 ≡ b = omega arith in record {
-  value = is ∙ sym (rw (lt-leb 64 b lt, small) (omega (arith, ints)));
-  least = rw is (omega (arith, ints));
-  most = rw is (omega (arith, ints));
-}
+group_low b z is lt = grind (arith, common_steps, lt-leb)
 
 pub group_high : (b : ℕ) (z : ℤ) → z ≡ pos b -ℤ pos 128 → 64 ≤ b → b < 128 → IsGroup b z
-group_high b z is le lt = record {
-  value = is ∙ sym (high_groups b le lt);
-  least = rw is (omega (arith, ints));
-  most = rw is (omega (arith, ints));
-}
+group_high b z is le lt = grind (arith, common_steps, high_groups)
 
 group_fits : (z : ℤ) → neg_ℤ (pos 64) ≤ℤ z → z <ℤ pos 64 → FitsSigned w64 z
 group_fits z least most = omega (arith, ints, least, most)
@@ -87,18 +76,11 @@ one_signed bytes b z some is low g =
 
 -- two groups, of which the second one has the sign
 two_groups : (a b : ℕ) → b < 128 → signed_groups (a ∷ b ∷ []) ≡ pos (a % 128) +ℤ pos 128 *ℤ signed_groups (b ∷ [])
-two_groups a b lt = elim (cases_lt b 64) [
-  | inl low ↦ rw (lt-leb 64 b low) (omega (arith, ints))
-  | inr high ↦ rw (le-leb 64 b high) (omega (arith, ints))
-]
+two_groups a b lt = grind (arith, common_steps, cases_lt, lt-leb, le-leb)
 
 pub two_signed : (bytes : List ℕ) (a b : ℕ) (s z : ℤ) → 2 ≤ length bytes → get_or bytes 0 0 ≡ a → 128 ≤ a → get_or bytes 1 0 ≡ b → b < 128
     → IsGroup b s → z ≡ pos (a % 128) +ℤ pos 128 *ℤ s → SignedLeb z (take 2 bytes)
-two_signed bytes a b s z some first high second low g is = rw (two_taken bytes some, first, second) (record {
-  shape = (high, low);
-  value = is ∙ ap (λ (x : ℤ). pos (a % 128) +ℤ pos 128 *ℤ x) g.value ∙ sym (two_groups a b low);
-  fits = rw is (omega (arith, ints, g.least, g.most));
-})
+two_signed bytes a b s z some first high second low g is = grind (arith, common_steps, two_taken, two_groups)
 
 pub discriminator_taken : (bytes : List ℕ) (n : ℕ) → 3 ≤ length bytes → get_or bytes 0 0 ≡ 2 → get_or bytes 1 0 ≡ 4 → get_or bytes 2 0 ≡ n
     → take 3 bytes ≡ 2 ∷ 4 ∷ n ∷ []
@@ -109,14 +91,7 @@ discriminator_taken bytes n some first second third = rw (three_taken bytes some
 front : (h : HeaderParts) (k : ℕ) (view : OpView) (op : Op) (n : ℕ) (bytes operand : List ℕ) → 0 < length bytes → get_or bytes 0 0 ≡ k
     → operand ≡ drop 1 bytes → n ≤ length operand
     → StandsFor view op → Admits h op → OpBytes h op (k ∷ take n operand) → IsOperationFront h view (n + 1) bytes
-front h k view op n bytes operand some is same le stands admitted spelled = record {
-  op = op;
-  stands = stands;
-  admitted = admitted;
-  within = omega (arith, le, one_less bytes some, ap length same);
-  spelled = subst (OpBytes h op) (sym
-      (after_one bytes n some ∙ ap (λ (b : ℕ). b ∷ take n (drop 1 bytes)) is ∙ ap (λ (z : List ℕ). k ∷ take n z) (sym same))) spelled;
-}
+front h k view op n bytes operand some is same le stands admitted spelled = grind (arith, common_steps, one_less, after_one)
 
 pub front_special : (h : HeaderParts) (k : ℕ) (bytes : List ℕ) → 0 < length bytes → get_or bytes 0 0 ≡ k → h.opcode_base ≤ k → k < 256
     → IsOperationFront h (views.Special k) 1 bytes
@@ -128,16 +103,13 @@ some_bytes [] e = absurd cc
 some_bytes (b ∷ bytes) e = omega arith
 
 front_known : (h : HeaderParts) (view : OpView) (k n base : ℕ) (operand : Operand) (bytes rest : List ℕ)
-    → coding_of view ≡ standard k operand → false ≡ (length bytes == 0) → get_or bytes 0 0 ≡ k → get_or bytes 0 0 < base → base ≡ h.opcode_base → rest ≡ drop 1 bytes
-    → n ≤ length rest → OperandBytes h operand (take n rest) → IsOperationFront h view (n + 1) bytes
-front_known h view k n base operand bytes rest e some is lt base_is same le p =
-    let known = known_view h view k k operand e refl (omega (arith, is, lt, base_is)) in
-    front h k view (op_of view []) n bytes rest (some_bytes bytes some) is same le known.stands known.admitted
-    (known.spelled (take n rest) p)
+    → coding_of view ≡ standard k operand → false ≡ (length bytes == 0) → get_or bytes 0 0 ≡ k → get_or bytes 0 0 < base
+    → base ≡ h.opcode_base → rest ≡ drop 1 bytes → n ≤ length rest → OperandBytes h operand (take n rest)
+    → IsOperationFront h view (n + 1) bytes
+front_known h view k n base operand bytes rest e some is lt base_is same le p = grind (arith, common_steps, known_view, front, some_bytes)
 
 pub front_bare : (h : HeaderParts) (view : OpView) (k base : ℕ) (bytes : List ℕ) → coding_of view ≡ standard k bare
-    → false ≡ (length bytes == 0) → get_or bytes 0 0 ≡ k → get_or bytes 0 0 < base → base ≡ h.opcode_base
-    → IsOperationFront h view 1 bytes
+    → false ≡ (length bytes == 0) → get_or bytes 0 0 ≡ k → get_or bytes 0 0 < base → base ≡ h.opcode_base → IsOperationFront h view 1 bytes
 front_bare h view k base bytes e some is lt base_is =
     front_known h view k 0 base bare bytes (drop 1 bytes) e some is lt base_is refl (omega arith) refl
 
@@ -193,20 +165,8 @@ front_discriminator h k n bytes operand some is e same p =
 -- ---- steps of a walk
 
 gives_front : (h : HeaderParts) (view : OpView) (size : ℕ) (old new : At) → IsOperationFront h view size old.rest
-    → new.rest ≡ drop size old.rest
-    → new.place ≡ old.place + size → new.order ≡ old.order → GivesOp h view old new
-gives_front h view size old new f rest place order = record {
-  op = f.op;
-  stands = f.stands;
-  admitted = f.admitted;
-  reads = record {
-    spelling = take size old.rest;
-    spelled = f.spelled;
-    whole = sym (take-append-drop size old.rest) ∙ ap (λ (z : List ℕ). take size old.rest ++ z) (sym rest);
-    place = omega (arith, place, length-take-le size old.rest f.within);
-    order = order;
-  };
-}
+    → new.rest ≡ drop size old.rest → new.place ≡ old.place + size → new.order ≡ old.order → GivesOp h view old new
+gives_front h view size old new f rest place order = grind (arith, common_steps, take-append-drop, length-take-le)
 
 -- a walk over a program that ends at this offset
 abbrev pub walk_at : HeaderParts → ℕ → List ℕ → Walk
@@ -215,21 +175,14 @@ walk_at h end rest = record { header = h; at = record { place = end - length res
 pub steps_short : (h : HeaderParts) (end : ℕ) (view : OpView) (size : ℕ) (rest past : List ℕ) → length rest ≤ end
     → IsOperationFront h view size rest → past ≡ drop size rest → length past + size ≡ length rest
     → GivesOperation view (walk_at h end rest) (walk_at h end past)
-steps_short h end view size rest past le f is count =
-    steps_on view (walk_at h end rest) (walk_at h end past) refl refl refl
-    (gives_front h view size (walk_at h end rest).at (walk_at h end past).at f is (omega (arith, le, count)) refl)
+steps_short h end view size rest past le f is count = grind (arith, common_steps, steps_on, gives_front)
 
 -- ---- where no such operation begins
 
 -- an opcode and its operand
 opcode_is : (h : HeaderParts) (k n : ℕ) (Operand : List ℕ → Type 0) (bytes : List ℕ) → 0 < length bytes
-    → Standard h k Operand (take (n + 1) bytes)
-    → (get_or bytes 0 0 ≡ k) × Operand (take n (drop 1 bytes))
-opcode_is h k n Operand bytes some s =
-    let t = s.1 in
-    let same : get_or bytes 0 0 ∷ take n (drop 1 bytes) ≡ k ∷ t.back = sym (after_one bytes n some) ∙ t.joined
-    ∙ ap (λ (z : List ℕ). z ++ t.back) t.first in
-    (ap (λ (z : List ℕ). get_or z 0 0) same, subst Operand (sym (ap (λ (z : List ℕ). drop 1 z) same)) t.second)
+    → Standard h k Operand (take (n + 1) bytes) → (get_or bytes 0 0 ≡ k) × Operand (take n (drop 1 bytes))
+opcode_is h k n Operand bytes some s = grind (arith, common_steps, after_one)
 
 low_byte : (operand : List ℕ) → IsLeb (take 1 operand) → NoByte operand → ⊥
 low_byte [] shape none = shape
@@ -261,8 +214,7 @@ four_bytes n [] size bytes j u z e = absurd u.shape
 four_bytes n number [] bytes j u z e = absurd z.shape
 four_bytes n (b ∷ []) (s ∷ []) bytes j u z e =
     let two : s ≡ 2 = omega (arith, z.shape, z.value) in (b, u.shape, j ∙ ap (λ (x : ℕ). 0 ∷ x ∷ 4 ∷ b ∷ []) two)
-four_bytes n (b ∷ c ∷ number) (s ∷ size) bytes j u z e =
-    absurd (omega (arith, e, ap length j, length-append size (4 ∷ b ∷ c ∷ number)))
+four_bytes n (b ∷ c ∷ number) (s ∷ size) bytes j u z e = absurd (omega (arith, e, ap length j, length-append size (4 ∷ b ∷ c ∷ number)))
 four_bytes n (b ∷ number) (s ∷ t ∷ size) bytes j u z e = absurd (omega (arith, e, ap length j, length-append size (4 ∷ b ∷ number)))
 
 -- ---- and so none does
@@ -307,8 +259,7 @@ begins h view k n size operand bytes long e count f =
 
 special_begins : (h : HeaderParts) (c : ℕ) (op : Op) (bytes : List ℕ) → 0 < length bytes → StandsFor (views.Special c) op
     → OpBytes h op (take 1 bytes) → h.opcode_base ≤ get_or bytes 0 0
-special_begins h c (ops.Special d) bytes some s b =
-    omega (arith, b.0, ap (λ (z : List ℕ). get_or z 0 0) (sym (one_taken bytes some) ∙ b.2))
+special_begins h c (ops.Special d) bytes some s b = omega (arith, b.0, ap (λ (z : List ℕ). get_or z 0 0) (sym (one_taken bytes some) ∙ b.2))
 special_begins h c _ bytes some s b = absurd s
 
 discriminator_begins : (h : HeaderParts) (n : ℕ) (op : Op) (bytes : List ℕ) → 4 ≤ length bytes → StandsFor (views.SetDiscriminator n) op

@@ -7,7 +7,7 @@ use Rattle.lnt_wire.specs.Bytes.{Exactly, IsShortest}
 use Rattle.lnt_wire.specs.Laws as wire
 use Rattle.lnt_wire.proofs.LengthLaws.{length-number_bytes}
 use Rattle.lnt_wire.specs.Leb128.{SignedLeb, UnsignedLeb}
-use Rattle.lnt_wire.specs.Numbers.{NumberBytes, number_bytes}
+use Rattle.lnt_wire.specs.Numbers.{NumberBytes}
 use Rattle.lnt_wire.specs.Spelled.{HasShortest}
 use Rattle.lnt_header.specs.declared.header.HeaderParts.{HeaderParts}
 use Rattle.lnt_header.specs.declared.op.Op.{Op}
@@ -21,6 +21,7 @@ use Rattle.lnt_ops.specs.Spelled.{FitsCoding, FitsOp, FitsOperand}
 use Rattle.lnt_ops.proofs.LebSizes.{at_most_ten}
 use Rattle.lnt_ops.proofs.OpPutLemmas.{shortest_extended}
 use Rattle.lnt_ops.proofs.OpLaws.{op_allowed}
+use Rattle.std.proofs.lemmas.Grind.{common_steps}
 
 -- ---- bytes of a kind than which none of the kind are fewer
 
@@ -39,11 +40,7 @@ least_exactly : (operand : List ℕ) → Least (Exactly operand)
 least_exactly operand = record { bytes = operand; is = refl; least = λ other p. omega (arith, ap length p) }
 
 least_number : (order : Order) (size n : ℕ) → n < 256 ^ size → Least (NumberBytes order size n)
-least_number order size n fits = record {
-  bytes = number_bytes order size n;
-  is = record { fits = fits; spelled = refl };
-  least = λ other p. omega (arith, ap length p.spelled);
-}
+least_number order size n fits = grind (arith, common_steps)
 
 least_standard : (h : HeaderParts) (k : ℕ) (Operand : List ℕ → Type 0) → k < h.opcode_base → Least Operand → Least (Standard h k Operand)
 least_standard h k Operand low o = record {
@@ -143,8 +140,4 @@ ops_allowed h (op ∷ ops) x p =
     ((one.0, rest.0), (one.1, rest.1))
 
 pub allowed_ops_are_spelled : wire.SpelledValues → AllowedOpsAreSpelled
-allowed_ops_are_spelled law = record {
-  operation = op_spelled law;
-  program = λ h ops numbers admits fits. each_shortest (OpBytes h) ops (ops_spelled law h ops numbers admits fits);
-  allowed = ops_allowed;
-}
+allowed_ops_are_spelled law = grind (arith, common_steps, op_spelled, each_shortest, ops_spelled, ops_allowed)

@@ -1,25 +1,25 @@
 -- The operands of standard operations.
-use Rattle.std.proofs.Common.{◌≡◌, ℕ, ◌<◌, List, [], ◌∷◌, refl, sym, ap, subst, ◌∙◌, add-zero, rules}
+use Rattle.std.proofs.Common.{◌≡◌, ℕ, ◌<◌, List, [], ◌∷◌, refl, sym, ap, ◌∙◌, add-zero, rules}
 use Rattle.std.specs.Prelude.{ℤ}
 use Rattle.lnt_wire.specs.At.{At}
-use Rattle.lnt_wire.specs.Bytes.{Exactly}
 use Rattle.lnt_wire.specs.declared.fault.Fault.{Fault}
-use Rattle.lnt_wire.specs.declared.format.Order.{Order}
 use Rattle.lnt_wire.specs.Leb128.{UnsignedLeb, SignedLeb, IsLargeUnsigned, IsLargeSigned, IsLebFault}
 use Rattle.lnt_wire.specs.Numbers.{NumberBytes}
 use Rattle.lnt_wire.specs.Reading.{Reads, RefusesField, IsCutShort}
 use Rattle.lnt_header.specs.declared.header.HeaderParts.{HeaderParts}
 use Rattle.lnt_header.specs.declared.op.OpView.{OpView}
 use Rattle.lnt_header.specs.declared.op.OpView.TheVariants as views
-use Rattle.lnt_header.specs.OpRules.{Admits, AdmitsCoding, Coding, coding_of, following, op_of, Operand, StandsFor}
+use Rattle.lnt_header.specs.OpRules.{Admits, coding_of, following, op_of, Operand, StandsFor}
 use Rattle.lnt_header.specs.OpRules.Coding.{standard}
 use Rattle.lnt_header.specs.OpRules.Following.{one_signed, one_unsigned, two_bytes}
 use Rattle.lnt_header.specs.OpRules.Operand.{bare, unsigned, signed, half}
 use Rattle.lnt_header.proofs.ReaderLaws.{reads_map}
-use Rattle.lnt_ops.specs.OpBytes.{CodingBytes, OpBytes, OperandBytes, Standard}
+use Rattle.lnt_ops.specs.OpBytes.{OpBytes, OperandBytes, Standard}
 use Rattle.lnt_ops.specs.OpFaults.{IsFirstFault}
 use Rattle.lnt_ops.specs.OpFaults.IsFirstFault.{unsigned_operand, signed_operand, fixed_operand}
-use Rattle.lnt_ops.specs.OpSteps.{BytesAfter, GivesAfter, RefusesAfter}
+use Rattle.lnt_ops.specs.OpSteps.{GivesAfter, RefusesAfter}
+use Rattle.std.proofs.lemmas.Grind.{common_steps}
+use Rattle.std.proofs.Common.{arith}
 
 pub after_opcode : (h : HeaderParts) (k : ℕ) (Operand : List ℕ → Type 0) (y : List ℕ) → k < h.opcode_base → Operand y
     → Standard h k Operand (k ∷ y)
@@ -40,28 +40,15 @@ stands_known view k operand e = search rules
 
 pub known_view : (h : HeaderParts) (view : OpView) (j k : ℕ) (operand : Operand) → coding_of view ≡ standard j operand → k ≡ j
     → k < h.opcode_base → KnownView h view k operand
-known_view h view j k operand e same lt =
-    let is : standard k operand ≡ coding_of view = ap (λ (i : ℕ). standard i operand) same ∙ sym e in
-    record {
-      stands = stands_known view j operand e;
-      admitted = subst (AdmitsCoding h) is lt;
-      spelled = λ y p. subst (λ (c : Coding). CodingBytes h c (k ∷ y)) is (after_opcode h k (OperandBytes h operand) y lt p);
-    }
+known_view h view j k operand e same lt = grind (arith, common_steps, stands_known, after_opcode)
 
 gives_known : {X : Type 0} (P : X → List ℕ → Type 0) (v : X) (h : HeaderParts) (view : OpView) (k : ℕ) (operand : Operand) (old new : At)
     → KnownView h view k operand → ((y : List ℕ) → P v y → OperandBytes h operand y) → Reads P v old new → GivesAfter h k view old new
-gives_known P v h view k operand old new known is r = record {
-  op = op_of view [];
-  stands = known.stands;
-  admitted = known.admitted;
-  reads = reads_map P (BytesAfter h k) v (op_of view []) old new (λ y p. record { whole = known.spelled y (is y p) }) r;
-}
+gives_known P v h view k operand old new known is r = grind (arith, common_steps, reads_map)
 
 pub gives_bare : (h : HeaderParts) (view : OpView) (j k : ℕ) (at : At) → coding_of view ≡ standard j bare → k ≡ j → k < h.opcode_base
     → GivesAfter h k view at at
-gives_bare h view j k at e same lt =
-    gives_known Exactly [] h view k bare at at (known_view h view j k bare e same lt) (λ y p. p)
-    (record { spelling = []; spelled = refl; whole = refl; place = sym (add-zero at.place); order = refl })
+gives_bare h view j k at e same lt = grind (arith, common_steps, gives_known, known_view, add-zero)
 
 pub gives_unsigned : (h : HeaderParts) (view : OpView) (j k n : ℕ) (old new : At) → coding_of view ≡ standard j (unsigned n) → k ≡ j
     → k < h.opcode_base → Reads UnsignedLeb n old new → GivesAfter h k view old new
@@ -75,9 +62,7 @@ gives_signed h view j k z old new e same lt r =
 
 pub gives_half : (h : HeaderParts) (view : OpView) (j k n : ℕ) (old new : At) → coding_of view ≡ standard j (half n) → k ≡ j
     → k < h.opcode_base → old.order ≡ h.order → Reads (NumberBytes old.order 2) n old new → GivesAfter h k view old new
-gives_half h view j k n old new e same lt order r =
-    gives_known (NumberBytes old.order 2) n h view k (half n) old new (known_view h view j k (half n) e same lt)
-    (λ y p. subst (λ (o : Order). NumberBytes o 2 n y) order p) r
+gives_half h view j k n old new e same lt order r = grind (arith, common_steps, gives_known, known_view)
 
 -- ---- operands that are refused
 

@@ -16,6 +16,7 @@ use Rattle.lnt_header.specs.OpRules.{last_known, standard_length, StandsFor}
 use Rattle.lnt_ops.proofs.StandardReaders.{after_opcode}
 use Rattle.lnt_ops.specs.OpFaults.IsFirstFault.{unknown_operand}
 use Rattle.lnt_ops.specs.OpSteps.{BytesAfter, GivesAfter, PassesOperands, RefusesAfter, RefusesOperands}
+use Rattle.std.proofs.lemmas.Grind.{common_steps}
 
 -- ---- operands one by one
 
@@ -32,14 +33,7 @@ operands_more count n old middle new p r = record {
 
 pub refuses_operands : (n count : ℕ) (old middle : At) (fault : Fault) → PassesOperands count old middle → count < n
     → RefusesField (IsLebFault IsLargeUnsigned) UnsignedLeb middle fault → RefusesOperands n old fault
-refuses_operands n count old middle fault p lt r = record {
-  operands = p.operands;
-  next = middle;
-  reads = p.reads;
-  fewer = omega (arith, p.count_is, lt);
-  place = r.place;
-  reason = r.reason;
-}
+refuses_operands n count old middle fault p lt r = grind (arith, common_steps)
 
 -- ---- the operation
 

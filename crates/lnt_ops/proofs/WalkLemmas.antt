@@ -11,6 +11,8 @@ use Rattle.lnt_ops.specs.OpBytes.{OpBytes}
 use Rattle.lnt_ops.specs.OpFaults.{IsOpFault, IsFirstFault}
 use Rattle.lnt_ops.specs.OpReading.{GivesOp}
 use Rattle.lnt_ops.specs.Walks.{Walk, Ends, GivesOperation, Fails}
+use Rattle.std.proofs.lemmas.Grind.{common_steps}
+use Rattle.std.proofs.Common.{arith}
 
 pub ends_failed : (walk : Walk) → walk.failed ≡ true → Ends walk walk
 ends_failed walk e = record { ended = inl e; unchanged = refl }
@@ -20,27 +22,12 @@ ends_empty walk e = record { ended = inr e; unchanged = refl }
 
 pub steps_on : (view : OpView) (old new : Walk) → old.failed ≡ false → new.failed ≡ false → new.header ≡ old.header
     → GivesOp old.header view old.at new.at → GivesOperation view old new
-steps_on view old new going goes_on header g = record {
-  going = going;
-  goes_on = goes_on;
-  header_is = header;
-  gives = g;
-  shorter = op_long old.header view old.at new.at g;
-}
+steps_on view old new going goes_on header g = grind (arith, common_steps, op_long)
 
 pub fails_here : (fault : Fault) (old new : Walk) → old.failed ≡ false → new.failed ≡ true → new.header ≡ old.header → new.at ≡ old.at
-    → 0 < length old.at.rest
-    → Refuses (IsOpFault old.header.address_size) (OpBytes old.header) old.at fault
+    → 0 < length old.at.rest → Refuses (IsOpFault old.header.address_size) (OpBytes old.header) old.at fault
     → Refuses (IsFirstFault old.header) (OpBytes old.header) old.at fault → Fails fault old new
-fails_here fault old new going failed header at some r t = record {
-  going = going;
-  failed = failed;
-  header_is = header;
-  at_is = at;
-  some = some;
-  refuses = r;
-  first = t;
-}
+fails_here fault old new going failed header at some r t = grind (arith, common_steps)
 
 -- an operation leaves the order of the bytes
 pub order_kept : (h : HeaderParts) (view : OpView) (old new : At) (order : Order) → GivesOp h view old new → old.order ≡ order

@@ -36,8 +36,7 @@ CodingBytes h (unknown_standard k operands) bytes =
 CodingBytes h (extended code) bytes = Extended code (Exactly []) bytes
 CodingBytes h (extended_number code n) bytes = Extended code (UnsignedLeb n) bytes
 CodingBytes h (extended_address code address) bytes = Extended code (NumberBytes h.order h.address_size address) bytes
-CodingBytes h (unknown_extended code operand) bytes =
-    IsUnknownCode code × (code < 256) × Extended code (Exactly operand) bytes
+CodingBytes h (unknown_extended code operand) bytes = IsUnknownCode code × (code < 256) × Extended code (Exactly operand) bytes
 
 -- The bytes of an operation in a unit with this header.
 abbrev pub OpBytes : HeaderParts → Op → List ℕ → Type 0

@@ -20,6 +20,7 @@ use Rattle.lnt_sequences.specs.Rules.{IsOrdered}
 use Rattle.lnt_sequences.specs.Sequences.{answer_of, last_row, position_of, row_at}
 use Rattle.lnt_sequences.proofs.MarkLemmas.{found_before, ordered_tail}
 use Rattle.lnt_sequences.proofs.RowLemmas.{none_at, rising_from_ordered}
+use Rattle.std.proofs.lemmas.Grind.{common_steps}
 
 -- ---- rows are kept one after another
 
@@ -112,7 +113,8 @@ last_taken (row ∷ rows) zero d few = refl
 last_taken (row ∷ []) (suc k) d few = absurd (omega arith)
 last_taken (row ∷ next ∷ rows) (suc k) d few = last_taken (next ∷ rows) k d (omega arith)
 
-first_dropped : (rows : List Row) (k : ℕ) (d row : Row) (more : List Row) → drop k rows ≡ row ∷ more → get_or rows k d ≡ row × (k < length rows)
+first_dropped : (rows : List Row) (k : ℕ) (d row : Row) (more : List Row) → drop k rows ≡ row ∷ more
+    → get_or rows k d ≡ row × (k < length rows)
 first_dropped [] zero d row more e = absurd cc
 first_dropped [] (suc k) d row more e = absurd cc
 first_dropped (first ∷ rows) zero d row more e = (ap (λ (list : List Row). get_or list 0 d) e, omega arith)
@@ -124,16 +126,10 @@ none_dropped (first ∷ rows) zero e = absurd cc
 none_dropped (first ∷ rows) (suc k) e = let more = none_dropped rows k e in omega (arith, more)
 
 onto_below : (base : ℕ) (p q : Position) → IsBelow p q → IsBelow (onto base p) (onto base q)
-onto_below base p q below = record {
-  address = let a = below.address in omega (arith, a);
-  op = λ e. below.op (omega (arith, e));
-}
+onto_below base p q below = grind (arith, common_steps)
 
 onto_at_most : (base : ℕ) (p q : Position) → IsAtMost p q → IsAtMost (onto base p) (onto base q)
-onto_at_most base p q below = record {
-  address = let a = below.address in omega (arith, a);
-  op = λ e. below.op (omega (arith, e));
-}
+onto_at_most base p q below = grind (arith, common_steps)
 
 -- any row
 some_brief : BriefRow
@@ -141,20 +137,17 @@ some_brief = record { address = 0; line = 0; file = 0; column = 0; discriminator
 
 row_below : (brief : BriefRows) (p place : Position) (row : Row) (one : BriefRow) → p ≡ onto brief.base place
     → IsInBrief brief.base row one → IsBelow place (place_of one) → IsBelow p (position_of row)
-row_below brief p place row one same is below =
-    subst (λ (q : Position). IsBelow q (position_of row)) (sym same)
+row_below brief p place row one same is below = subst (λ (q : Position). IsBelow q (position_of row)) (sym same)
     (subst (λ (q : Position). IsBelow (onto brief.base place) q) (sym is.position_is) (onto_below brief.base place (place_of one) below))
 
 row_at_most : (brief : BriefRows) (p place : Position) (row : Row) (one : BriefRow) → p ≡ onto brief.base place
     → IsInBrief brief.base row one → IsAtMost (place_of one) place → IsAtMost (position_of row) p
-row_at_most brief p place row one same is most =
-    subst (λ (q : Position). IsAtMost (position_of row) q) (sym same)
+row_at_most brief p place row one same is most = subst (λ (q : Position). IsAtMost (position_of row) q) (sym same)
     (subst (λ (q : Position). IsAtMost q (onto brief.base place)) (sym is.position_is) (onto_at_most brief.base (place_of one) place most))
 
 -- none of the rows after the first `count` is at or below the position
 none_after : (rows : List Row) (brief : BriefRows) (p : Position) (count : ℕ) → (are : AreInBrief rows brief) → IsReachedIn brief p count
-    → IsOrdered (drop count are.kept ++ are.others)
-    → row_at p (drop count are.kept ++ are.others) ≡ None
+    → IsOrdered (drop count are.kept ++ are.others) → row_at p (drop count are.kept ++ are.others) ≡ None
 none_after rows brief p count are is ordered = by_left (drop count are.kept) refl ordered
   where
     by_whole : (whole : Bool) → brief.is_whole ≡ whole → length are.kept ≤ count → are.others ≡ []
@@ -173,8 +166,7 @@ none_after rows brief p count are is ordered = by_left (drop count are.kept) ref
         none_at p row (left ++ are.others) (rising_from_ordered row (left ++ are.others) o)
         (row_below brief p is.place row (get_or brief.rows.items count some_brief) is.position_is
         (subst (λ (r : Row). IsInBrief brief.base r (get_or brief.rows.items count some_brief)) first.0
-        (zip_at (IsInBrief brief.base) are.kept brief.rows.items count row some_brief are.kept_are few))
-        (is.reached.next some_brief few))
+        (zip_at (IsInBrief brief.base) are.kept brief.rows.items count row some_brief are.kept_are few)) (is.reached.next some_brief few))
 
 -- what is said of the first `count` rows
 abbrev pub SaysLast : ℕ → List BriefRow → ℕ → Option Answer → Type 0

@@ -16,8 +16,9 @@ use Rattle.lnt_sequences.specs.Laws.{AreAlike, ConvertedAnswers, StandAlike}
 use Rattle.lnt_sequences.proofs.KeptLaws.{copy_by_look_back, IsBefore, rising_sequences}
 use Rattle.lnt_sequences.proofs.UnitLaws.{offsets_rise}
 use Rattle.lnt_sequences.proofs.WalkLaws.{placed_from}
-use Rattle.lnt_sequences.specs.Sequences.{answer_of, are_live, hold_alike, holds, is_copy, is_live, kept_of, kept_sequences}
+use Rattle.lnt_sequences.specs.Sequences.{answer_of, hold_alike, holds, is_copy, kept_of, kept_sequences}
 use Rattle.lnt_sequences.specs.Sequences.{live_in, live_sequences, Placed, placed_in, row_at}
+use Rattle.std.proofs.lemmas.Grind.{common_steps}
 
 -- ---- lists, element for element
 
@@ -34,8 +35,7 @@ zip_append R (x ∷ xs) (y ∷ ys) us vs z w = (z.0, zip_append R xs ys us vs z.
 zip_append R _ _ us vs z w = absurd z
 
 zip_filter : {X Y : Type 0} (R : X → Y → Type 0) (test : X → Bool) (other : Y → Bool) → ((x : X) (y : Y) → R x y → test x ≡ other y)
-    → (xs : List X) (ys : List Y) → AllZip R xs ys
-    → AllZip R (filter test xs) (filter other ys)
+    → (xs : List X) (ys : List Y) → AllZip R xs ys → AllZip R (filter test xs) (filter other ys)
 zip_filter R test other same [] [] z = tt
 zip_filter R test other same (x ∷ xs) (y ∷ ys) z = by_test (test x) (other y) (same x y z.0) (zip_filter R test other same xs ys z.1)
   where
@@ -53,8 +53,7 @@ FoundAlike R (Some x) (Some y) = R x y
 FoundAlike R _ _ = ⊥
 
 zip_find : {X Y : Type 0} (R : X → Y → Type 0) (test : X → Bool) (other : Y → Bool) → ((x : X) (y : Y) → R x y → test x ≡ other y)
-    → (xs : List X) (ys : List Y) → AllZip R xs ys
-    → FoundAlike R (find test xs) (find other ys)
+    → (xs : List X) (ys : List Y) → AllZip R xs ys → FoundAlike R (find test xs) (find other ys)
 zip_find R test other same [] [] z = tt
 zip_find R test other same (x ∷ xs) (y ∷ ys) z = by_test (test x) (other y) (same x y z.0) (zip_find R test other same xs ys z.1)
   where
@@ -79,15 +78,11 @@ twins unit other index (s ∷ ss) = (record { rows_are = refl; unit_is = refl; o
 
 unit_twins : (unit other : ℕ × UnitParts) → sequences other.1 ≡ sequences unit.1
     → AllZip (IsTwin unit.0 other.0) (placed_in unit) (placed_in other)
-unit_twins unit other same =
-    subst (λ (ss : List Sequence). AllZip (IsTwin unit.0 other.0) (placed_in unit) (placed_from other.0 0 ss)) (sym same)
-    (twins unit.0 other.0 0 (sequences unit.1))
+unit_twins unit other same = grind (arith, common_steps, placed_from, twins)
 
 live_twins : (dead : Option ℕ) (unit other : ℕ × UnitParts) → sequences other.1 ≡ sequences unit.1
     → AllZip (IsTwin unit.0 other.0) (live_in dead unit) (live_in dead other)
-live_twins dead unit other same =
-    zip_filter (IsTwin unit.0 other.0) (is_live dead) (is_live dead) (λ one two t. ap (are_live dead) t.rows_are) (placed_in unit)
-    (placed_in other) (unit_twins unit other same)
+live_twins dead unit other same = grind (arith, common_steps, zip_filter, unit_twins)
 
 -- ---- the sequences of two sections
 
@@ -107,11 +102,7 @@ later_twins unit other units others one two t =
 
 here_twins : (unit other : ℕ × UnitParts) (units others : List (ℕ × UnitParts)) (one two : Placed) → IsTwin unit.0 other.0 one two
     → AreTwins (unit ∷ units) (other ∷ others) one two
-here_twins unit other units others one two t =
-    record {
-      rows_are = t.rows_are;
-      stand = record { place = 0; within = omega arith; unit_is = λ d. t.unit_is; other_is = λ d. t.other_is };
-    }
+here_twins unit other units others one two t = grind (arith, common_steps)
 
 section_twins : SameMatrix → (dead : Option ℕ) (format : Format) (order : Order) (units others : List (ℕ × UnitParts))
     → map (λ unit. unit.1) others ≡ map (λ unit. unit_in_format unit.1 format order) units
@@ -128,8 +119,7 @@ section_twins law dead format order (unit ∷ units) (other ∷ others) e =
     (zip_to (IsTwin unit.0 other.0) (AreTwins (unit ∷ units) (other ∷ others)) (here_twins unit other units others) (live_in dead unit)
     (live_in dead other) (live_twins dead unit other same))
     (zip_to (AreTwins units others) (AreTwins (unit ∷ units) (other ∷ others)) (later_twins unit other units others)
-    (live_sequences dead units) (live_sequences dead others)
-    (section_twins law dead format order units others tails))
+    (live_sequences dead units) (live_sequences dead others) (section_twins law dead format order units others tails))
 
 -- ---- those that are kept
 
@@ -172,8 +162,7 @@ kept_twins R rows all others seen found (s ∷ ss) (t ∷ ts) are are' order ord
 kept_twins R rows all others seen found _ _ are are' order order' before z = absurd z
 
 kept_alike : (R : Placed → Placed → Type 0) → ((s t : Placed) → R s t → SameRows s t) → (skip : Bool) (ss ts : List Placed)
-    → AllPairs IsBefore ss → AllPairs IsBefore ts → AllZip R ss ts
-    → AllZip R (kept_of skip ss) (kept_of skip ts)
+    → AllPairs IsBefore ss → AllPairs IsBefore ts → AllZip R ss ts → AllZip R (kept_of skip ss) (kept_of skip ts)
 kept_alike R rows false ss ts order order' z = z
 kept_alike R rows true ss ts order order' z = kept_twins R rows ss ts [] [] ss ts refl refl order order' tt z
 
@@ -199,8 +188,7 @@ converted_answers law order section format to result c dead skip p =
     said_alike c.units c.others p (find (λ (s : Placed). holds p s.rows) (kept_sequences dead skip c.units))
     (find (λ (s : Placed). holds p s.rows) (kept_sequences dead skip c.others))
     (zip_find (AreTwins c.units c.others) (λ (s : Placed). holds p s.rows) (λ (s : Placed). holds p s.rows)
-    (λ one two t. ap (holds p) t.rows_are)
-    (kept_sequences dead skip c.units) (kept_sequences dead skip c.others)
+    (λ one two t. ap (holds p) t.rows_are) (kept_sequences dead skip c.units) (kept_sequences dead skip c.others)
     (kept_alike (AreTwins c.units c.others) (λ one two t. t.rows_are) skip (live_sequences dead c.units) (live_sequences dead c.others)
     (rising_sequences dead c.units (offsets_rise order 0 c.units section c.sound))
     (rising_sequences dead c.others (offsets_rise to 0 c.others result c.spelled))

@@ -18,6 +18,7 @@ use Rattle.lnt_sequences.specs.Sequences.{stands_before}
 use Rattle.lnt_sequences.proofs.KeptLaws.{middle, same_id}
 use Rattle.lnt_sequences.proofs.OverlapLemmas.{place_itself, place_trans, stand_far}
 use Rattle.lnt_sequences.proofs.SpansOfLemmas.{pieces_permuted}
+use Rattle.std.proofs.lemmas.Grind.{common_steps}
 
 -- ---- extents that begin and end at the same positions
 
@@ -28,31 +29,16 @@ pub record Alike (a b : Extent) : Type 0 where
   pub high_op : a.high.op ≡ b.high.op
 
 alike_is : (a b : Extent) → end_alike a b ≡ true → Alike a b
-alike_is a b t = record {
-  low_address = grind (arith, nat_tests);
-  low_op = grind (arith, nat_tests);
-  high_address = grind (arith, nat_tests);
-  high_op = grind (arith, nat_tests);
-}
+alike_is a b t = grind (arith, common_steps)
 
 alike_test : (a b : Extent) → Alike a b → end_alike a b ≡ true
 alike_test a b h = grind (arith, nat_tests)
 
 alike_back : (a b : Extent) → Alike a b → Alike b a
-alike_back a b h = record {
-  low_address = sym h.low_address;
-  low_op = sym h.low_op;
-  high_address = sym h.high_address;
-  high_op = sym h.high_op;
-}
+alike_back a b h = grind (arith, common_steps)
 
 alike_trans : (a b c : Extent) → Alike a b → Alike b c → Alike a c
-alike_trans a b c h k = record {
-  low_address = h.low_address ∙ k.low_address;
-  low_op = h.low_op ∙ k.low_op;
-  high_address = h.high_address ∙ k.high_address;
-  high_op = h.high_op ∙ k.high_op;
-}
+alike_trans a b c h k = grind (arith, common_steps)
 
 -- where the relation doesn't hold, the test says so
 not_alike : (a b : Extent) → (Alike a b → ⊥) → end_alike a b ≡ false
@@ -61,20 +47,11 @@ not_alike a b h = false_from_ne_true (end_alike a b) (λ e. h (alike_is a b e))
 -- ---- the order
 
 -- what a sort by these six numbers says of neighbours
-pub ends_no_later : (one other : Extent)
-    → is_lt (ordering_then (ordering_then
+pub ends_no_later : (one other : Extent) → is_lt (ordering_then (ordering_then
     (ordering_then (ordering_then (ordering_then (nat_cmp other.low.address one.low.address) (nat_cmp other.low.op one.low.op))
     (nat_cmp other.high.address one.high.address)) (nat_cmp other.high.op
-    one.high.op)) (nat_cmp other.id.unit one.id.unit)) (nat_cmp other.id.index one.id.index)) ≡ false
-    → EndsNoLater one other
-ends_no_later one other h = record {
-  low = record { address = grind (arith, nat_tests); op = λ e. grind (arith, nat_tests) };
-  rest = λ a o. record {
-    low = record { address = grind (arith, nat_tests); op = λ e. grind (arith, nat_tests) };
-    unit = λ e f. grind (arith, nat_tests);
-    index = λ e f g. grind (arith, nat_tests);
-  };
-}
+    one.high.op)) (nat_cmp other.id.unit one.id.unit)) (nat_cmp other.id.index one.id.index)) ≡ false → EndsNoLater one other
+ends_no_later one other h = grind (arith, common_steps)
 
 follows_itself : (a : Extent) → EndsNoLater a a
 follows_itself a = record { low = at_most_itself a.low; rest = λ _ _. place_itself a.high a.id }
@@ -87,53 +64,21 @@ record BeginAlike (a b c : Extent) : Type 0 where
   op' : b.low.op ≡ c.low.op
 
 begin_alike : (a b c : Extent) → EndsNoLater a b → EndsNoLater b c → a.low.address ≡ c.low.address → a.low.op ≡ c.low.op → BeginAlike a b c
-begin_alike a b c h k e f =
-    let x = h.low.address in
-    let y = k.low.address in
-    let same : a.low.address ≡ b.low.address = omega arith in
-    let same' : b.low.address ≡ c.low.address = omega arith in
-    let u = h.low.op same in
-    let v = k.low.op same' in
-    record { address = same; op = omega arith; address' = same'; op' = omega arith }
+begin_alike a b c h k e f = grind (arith, common_steps)
 
 follows_trans : (a b c : Extent) → EndsNoLater a b → EndsNoLater b c → EndsNoLater a c
-follows_trans a b c h k = record {
-  low = at_most_trans h.low k.low;
-  rest = λ e f. let s = begin_alike a b c h k e f in place_trans a.high b.high c.high a.id b.id c.id (h.rest s.address s.op)
-      (k.rest s.address' s.op');
-}
+follows_trans a b c h k = grind (arith, common_steps, at_most_trans, begin_alike, place_trans)
 
 -- where the outer of three are alike, so are the last two
 between : (a b c : Extent) → EndsNoLater a b → EndsNoLater b c → Alike a c → Alike b c
-between a b c h k s =
-    let begin = begin_alike a b c h k s.low_address s.low_op in
-    let x = h.rest begin.address begin.op in
-    let y = k.rest begin.address' begin.op' in
-    let e = s.high_address in
-    let f = s.high_op in
-    let m = x.low.address in
-    let n = y.low.address in
-    let same : a.high.address ≡ b.high.address = omega arith in
-    let same' : b.high.address ≡ c.high.address = omega arith in
-    let u = x.low.op same in
-    let v = y.low.op same' in
-    record { low_address = begin.address'; low_op = begin.op'; high_address = same'; high_op = omega arith }
+between a b c h k s = grind (arith, common_steps, begin_alike)
 
 -- of those that are alike, the later one doesn't stand before the earlier, and the earlier does where their ids differ
 not_before : (a b : Extent) → EndsNoLater a b → Alike a b → stands_before b.id a.id ≡ false
-not_before a b h s =
-    let rest = h.rest s.low_address s.low_op in
-    let unit = rest.unit s.high_address s.high_op in
-    let index = rest.index s.high_address s.high_op in
-    grind (arith, nat_tests)
+not_before a b h s = grind (arith, common_steps)
 
 is_before : (a b : Extent) → EndsNoLater a b → Alike a b → a.id ≢ b.id → stands_before a.id b.id ≡ true
-is_before a b h s ne =
-    let rest = h.rest s.low_address s.low_op in
-    let unit = rest.unit s.high_address s.high_op in
-    let index = rest.index s.high_address s.high_op in
-    let differ : a.id.unit ≡ b.id.unit → a.id.index ≡ b.id.index → ⊥ = λ e f. ne (same_id a.id b.id e f) in
-    grind (arith, nat_tests)
+is_before a b h s ne = grind (arith, common_steps, same_id)
 
 -- ---- neighbours in order, so all are
 
@@ -202,22 +147,18 @@ dedup_from_kept all seen last (x ∷ xs) are c stands order ids =
         let past : All (λ (e : Extent). copies x e ≡ false) xs =
         All-weaker (EndsNoLater x) (λ (e : Extent). copies x e ≡ false) (λ e h. no_copy_of_later x e h) xs
         (pairs_head EndsNoLater x xs (pairs_tail EndsNoLater last (x ∷ xs) order)) in
-        list_any_none (copies x) all
-        (subst (All (λ (e : Extent). copies x e ≡ false)) (sym are)
+        list_any_none (copies x) all (subst (All (λ (e : Extent). copies x e ≡ false)) (sym are)
         (All-append (λ (e : Extent). copies x e ≡ false) seen (x ∷ xs) before
         (All-cons (λ (e : Extent). copies x e ≡ false) x xs (no_copy_of_later x x (follows_itself x)) past)))
 
     new_stands : Stands x (seen ++ x ∷ [])
-    new_stands =
-        All-push (λ (e : Extent). (y : Extent) → EndsNoLater x y → Alike e y → Alike x y) seen x
+    new_stands = All-push (λ (e : Extent). (y : Extent) → EndsNoLater x y → Alike e y → Alike x y) seen x
         (All-weaker (λ (e : Extent). (y : Extent) → EndsNoLater last y → Alike e y → Alike last y)
         (λ (e : Extent). (y : Extent) → EndsNoLater x y → Alike e y → Alike x y)
-        (λ e s y f a. between last x y follows f (s y (follows_trans last x y follows f) a)) seen stands)
-        (λ y f a. a)
+        (λ e s y f a. between last x y follows f (s y (follows_trans last x y follows f) a)) seen stands) (λ y f a. a)
 
     still : end_alike x last ≡ true → Stands last (seen ++ x ∷ [])
-    still e =
-        All-push (λ (e : Extent). (y : Extent) → EndsNoLater last y → Alike e y → Alike last y) seen x stands
+    still e = All-push (λ (e : Extent). (y : Extent) → EndsNoLater last y → Alike e y → Alike last y) seen x stands
         (λ y f a. alike_trans last x y (alike_back x last (alike_is x last e)) a)
 
     by_test : (t : Bool) → end_alike x last ≡ t
@@ -226,8 +167,7 @@ dedup_from_kept all seen last (x ∷ xs) are c stands order ids =
         → cond t (dedup_from end_alike last xs) (last ∷ dedup_from end_alike x xs) ≡ last ∷ cond (not (is_copied all x))
         (x ∷ filter (λ (e : Extent). not (is_copied all e)) xs) (filter (λ (e : Extent). not (is_copied all e)) xs)
     by_test true e dropped new =
-        let copied : is_copied all x ≡ true =
-        copied_by all x last c (is_before last x follows (alike_back x last (alike_is x last e))
+        let copied : is_copied all x ≡ true = copied_by all x last c (is_before last x follows (alike_back x last (alike_is x last e))
         (pairs_head IdDiffers last (x ∷ xs) ids 0 x (omega arith))) e in
         dropped e ∙ ap (λ (t : Bool). last ∷ cond (not t) (x ∷ filter (λ (e : Extent). not (is_copied all e)) xs)
         (filter (λ (e : Extent). not (is_copied all e)) xs)) (sym copied)
@@ -243,8 +183,7 @@ dedup_kept [] gathered ids = refl
 dedup_kept (e ∷ es) gathered ids =
     let order : AllPairs EndsNoLater (e ∷ es) = λ i j d lt l. gathered_far (e ∷ es) gathered i j d (omega arith) l in
     let Uncopied : Extent → Type 0 = λ other. copies e other ≡ false in
-    let not_copied : is_copied (e ∷ es) e ≡ false =
-    list_any_none (copies e) (e ∷ es)
+    let not_copied : is_copied (e ∷ es) e ≡ false = list_any_none (copies e) (e ∷ es)
     (All-cons Uncopied e es (no_copy_of_later e e (follows_itself e))
     (All-weaker (EndsNoLater e) Uncopied (λ other h. no_copy_of_later e other h) es (pairs_head EndsNoLater e es order))) in
     dedup_from_kept (e ∷ es) (e ∷ []) e es refl (0, omega arith, refl)
@@ -265,23 +204,19 @@ filter_pieces {X} test (x ∷ xs) = by_test (test x) (filter_pieces test xs)
     by_test false rest = rest
 
 filter_permuted : {X : Type 0} (test : X → Bool) (xs ys : List X) → IsPermutation xs ys → IsPermutation (filter test xs) (filter test ys)
-filter_permuted {X} test xs ys h =
-    subst (λ (list : List X). IsPermutation list (filter test ys)) (filter_pieces test xs)
+filter_permuted {X} test xs ys h = subst (λ (list : List X). IsPermutation list (filter test ys)) (filter_pieces test xs)
     (subst (IsPermutation (flat_map (λ (x : X). cond (test x) (x ∷ []) []) xs)) (filter_pieces test ys)
     (pieces_permuted (λ (x : X). cond (test x) (x ∷ []) []) xs ys h))
 
 filter_same : {X : Type 0} (test other : X → Bool) → ((x : X) → test x ≡ other x) → (xs : List X) → filter test xs ≡ filter other xs
 filter_same test other same [] = refl
-filter_same {X} test other same (x ∷ xs) =
-    ap (λ (t : Bool). cond t (x ∷ filter test xs) (filter test xs)) (same x)
+filter_same {X} test other same (x ∷ xs) = ap (λ (t : Bool). cond t (x ∷ filter test xs) (filter test xs)) (same x)
     ∙ ap (λ (rest : List X). cond (other x) (x ∷ rest) rest) (filter_same test other same xs)
 
 pub kept_permuted : (xs ys : List Extent) → IsPermutation xs ys → IsPermutation (kept_extents true xs) (kept_extents true ys)
-kept_permuted xs ys h =
-    subst (IsPermutation (kept_extents true xs))
+kept_permuted xs ys h = subst (IsPermutation (kept_extents true xs))
     (filter_same (λ (e : Extent). not (is_copied xs e)) (λ (e : Extent). not (is_copied ys e))
-    (λ e. ap not (list_any-IsPermutation (copies e) xs ys h)) ys)
-    (filter_permuted (λ (e : Extent). not (is_copied xs e)) xs ys h)
+    (λ e. ap not (list_any-IsPermutation (copies e) xs ys h)) ys) (filter_permuted (λ (e : Extent). not (is_copied xs e)) xs ys h)
 
 -- what is left of extents once they were gathered, and those were taken out that are alike the one before them
 pub kept_of_gathered : (es ys zs : List Extent) → AllPairs IdDiffers es → IsPermutation es ys → AreGathered ys → zs ≡ dedup end_alike ys

@@ -6,14 +6,15 @@ use Rattle.std.proofs.lemmas.List.Concat.{flat_map-append}
 use Rattle.lnt_header.specs.declared.unit_parts.UnitParts.{UnitParts}
 use Rattle.lnt_machine.specs.declared.row.Row.{Row}
 use Rattle.lnt_machine.specs.declared.row.Sequence.{Sequence}
-use Rattle.lnt_machine.specs.Matrix.{joined_rows, rows, sequences}
+use Rattle.lnt_machine.specs.Matrix.{joined_rows, rows}
 use Rattle.lnt_machine.proofs.SequenceLaws.{joined_within}
 use Rattle.lnt_spans.specs.declared.span.Span.{Span}
 use Rattle.lnt_spans.specs.Positions.{is_below}
 use Rattle.lnt_sequences.specs.RowSpans.{row_spans, span_between, spans_after, spans_of}
-use Rattle.lnt_sequences.specs.Sequences.{is_copy, is_live, kept_of, kept_sequences, live_in, live_sequences, Placed}
-use Rattle.lnt_sequences.specs.Sequences.{placed_in, position_of}
+use Rattle.lnt_sequences.specs.Sequences.{is_copy, kept_of, kept_sequences, live_in, live_sequences, Placed}
+use Rattle.lnt_sequences.specs.Sequences.{position_of}
 use Rattle.lnt_sequences.proofs.WalkLaws.{placed_from}
+use Rattle.std.proofs.lemmas.Grind.{common_steps}
 
 -- ---- one sequence
 
@@ -79,13 +80,7 @@ abbrev pub rows_of_units : List (ℕ × UnitParts) → List Row
 rows_of_units units = flat_map (λ (unit : ℕ × UnitParts). rows unit.1) units
 
 unit_within : (dead : Option ℕ) (unit : ℕ × UnitParts) → length (spans_of (live_in dead unit)) ≤ length (rows unit.1)
-unit_within dead unit =
-    omega (
-      arith,
-      filter_within (is_live dead) (placed_in unit),
-      placed_within unit.0 0 (sequences unit.1),
-      joined_within (rows unit.1),
-    )
+unit_within dead unit = grind (arith, common_steps, filter_within, placed_within, joined_within)
 
 live_within : (dead : Option ℕ) (units : List (ℕ × UnitParts))
     → length (spans_of (live_sequences dead units)) ≤ length (rows_of_units units)

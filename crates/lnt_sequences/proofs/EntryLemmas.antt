@@ -92,8 +92,7 @@ stand sequences entry (next ∷ entries) placed (t ∷ in_turn) low apart z from
 stand sequences entry _ placed _ low apart z from = absurd z.1
 
 turns_in_order : (sequences : List Placed) (entries : List Extent) (in_turn : List Placed) → AreApartUpTo (length entries - 1) entries
-    → AllZip (IsTurn sequences) entries in_turn → AreOrdered in_turn
-    → AreInOrder (spans_of in_turn)
+    → AllZip (IsTurn sequences) entries in_turn → AreOrdered in_turn → AreInOrder (spans_of in_turn)
 turns_in_order sequences [] [] apart z o = tt
 turns_in_order sequences (e ∷ es) (s ∷ ss) apart z o =
     let all = stand sequences e es s ss e.low (λ k d few. apart k d (omega (arith, few))) z (at_most_itself e.low) in
@@ -103,8 +102,7 @@ turns_in_order sequences _ _ apart z o = absurd z
 -- ---- they answer as all do
 
 abbrev FoundAlike : List Placed → List Extent → List Placed → Position → Type 0
-FoundAlike sequences entries in_turn p =
-    (find (λ (s : Placed). holds p s.rows) in_turn ≡ find (λ (s : Placed). holds p s.rows) sequences)
+FoundAlike sequences entries in_turn p = (find (λ (s : Placed). holds p s.rows) in_turn ≡ find (λ (s : Placed). holds p s.rows) sequences)
     ⊎ (NoneHolds entries p × (find (λ (s : Placed). holds p s.rows) in_turn ≡ None))
 
 found_alike : (sequences : List Placed) (entries : List Extent) (in_turn : List Placed) (p : Position) → AreApart sequences
@@ -134,8 +132,7 @@ turns_answer sequences entries in_turn p permuted apart z = by_found (found_alik
         (λ (placed : Placed). option_map (answer_of placed.id.unit) (row_at p placed.rows)) found) same
     by_found (inr none) =
         ap (λ (found : Option Placed). option_and_then (λ (placed : Placed). option_map (answer_of placed.id.unit) (row_at p placed.rows))
-        found) none.1
-        ∙ sym (answer_none sequences entries p permuted none.0)
+        found) none.1 ∙ sym (answer_none sequences entries p permuted none.0)
 
 -- ---- each has a span
 
@@ -146,15 +143,13 @@ flat unit row (next ∷ rows) e = by_test (is_below (position_of row) (position_
   where
     by_test : (t : Bool) → is_below (position_of row) (position_of next) ≡ t
         → cond t (record { low = position_of row; high = position_of next; answer = answer_of unit row } ∷ []) [] ++ spans_after unit next
-        rows ≡ []
-        → (spans_after unit next rows ≡ [] → IsAtMost (position_of (last_after next rows)) (position_of next))
+        rows ≡ [] → (spans_after unit next rows ≡ [] → IsAtMost (position_of (last_after next rows)) (position_of next))
         → IsAtMost (position_of (last_after next rows)) (position_of row)
     by_test true h none more = absurd (omega (arith, ap length none))
     by_test false h none more = at_most_trans (more none) (at_most_from_not_below (position_of row) (position_of next) h)
 
 some_span : (entry : Extent) (placed : Placed) → IsSketch placed entry → 0 < length (row_spans placed.id.unit placed.rows)
-some_span entry placed s =
-    subst (λ (rows : List Row). 0 < length (row_spans placed.id.unit rows)) (sym s.rows_are)
+some_span entry placed s = subst (λ (rows : List Row). 0 < length (row_spans placed.id.unit rows)) (sym s.rows_are)
     (by_spans (spans_after placed.id.unit s.first s.others) refl)
   where
     by_spans : (spans : List Span) → spans_after placed.id.unit s.first s.others ≡ spans

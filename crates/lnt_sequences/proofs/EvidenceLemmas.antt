@@ -29,6 +29,7 @@ use Rattle.lnt_sequences.specs.Watching.{closed, current_of, fall_shown, falls_a
 use Rattle.lnt_sequences.specs.Watching.{HasSeenAll, is_in_live, last_after, names_no_file, next, start, RowsSoFar, walked}
 use Rattle.lnt_sequences.proofs.WalkLaws.{each_ended, first_shown-append, last_row_is, placed_from, walked-append}
 use Rattle.lnt_sequences.proofs.WalkLaws.{walked_ended, walked_open, walked-rows}
+use Rattle.std.proofs.lemmas.Grind.{common_steps}
 
 -- ---- lists cut at an element
 
@@ -89,8 +90,7 @@ record Found {A : Type 0} (show : RowsSoFar → Row → Option A) (walk : RowsSo
   none_before : first_shown show walk front ≡ None
 
 found : {A : Type 0} (show : RowsSoFar → Row → Option A) (walk : RowsSoFar) (rows : List Row) (shows : A)
-    → first_shown show walk rows ≡ Some shows
-    → Found show walk rows shows
+    → first_shown show walk rows ≡ Some shows → Found show walk rows shows
 found show walk [] shows e = absurd cc
 found {A} show walk (row ∷ rows) shows e = by_show (show walk row) refl e (λ f. found show (next walk row) rows shows f)
   where
@@ -160,8 +160,7 @@ begun_ended walk s e = ap (λ (w : RowsSoFar). w.begun) (walked_ended walk s e)
 
 begun_all : (walk : RowsSoFar) (placed : List Placed) → AreEnded placed → walk.begun ≡ [] → (walked walk (rows_of placed)).begun ≡ []
 begun_all walk [] h none = none
-begun_all walk (p ∷ placed) h none =
-    ap (λ (w : RowsSoFar). w.begun) (walked-append walk p.rows (rows_of placed))
+begun_all walk (p ∷ placed) h none = ap (λ (w : RowsSoFar). w.begun) (walked-append walk p.rows (rows_of placed))
     ∙ begun_all (walked walk p.rows) placed h.1 (begun_ended walk (record { rows = p.rows }) h.0)
 
 -- every row stands in a sequence, after those that have begun it
@@ -170,8 +169,7 @@ record Stands (placed : List Placed) (before : List Row) (row : Row) (index : �
   stands : StandsIn placed sequence before row index
 
 stands : (placed : List Placed) → AreEnded placed → (walk : RowsSoFar) → walk.begun ≡ [] → (front : List Row) (row : Row)
-    → Cut (rows_of placed) front row
-    → Stands placed (walked walk front).begun row (length front)
+    → Cut (rows_of placed) front row → Stands placed (walked walk front).begun row (length front)
 stands [] ended walk none front row cut = absurd (omega (arith, ap length cut.parts, length-append front (row ∷ cut.back)))
 stands (p ∷ placed) ended walk none front row cut =
     elim (cut_at p.rows (rows_of placed) front row cut.back cut.parts) [
@@ -203,8 +201,7 @@ stands (p ∷ placed) ended walk none front row cut =
               after = s.stands.after;
               sequences_are = ap (λ (ps : List Placed). p ∷ ps) s.stands.sequences_are;
               rows_are = s.stands.rows_are ∙ ap (λ (rows : List Row). rows ++ row ∷ s.stands.after) same;
-              index_is =
-                  ap length b.front_is ∙ length-append p.rows b.rest ∙ ap (λ (n : ℕ). length p.rows + n) s.stands.index_is
+              index_is = ap length b.front_is ∙ length-append p.rows b.rest ∙ ap (λ (n : ℕ). length p.rows + n) s.stands.index_is
                   ∙ sym (length-append p.rows (rows_of s.stands.earlier ++ (walked past b.rest).begun))
                   ∙ ap length (sym (append_assoc p.rows (rows_of s.stands.earlier) (walked past b.rest).begun))
                   ∙ ap (λ (rows : List Row). length ((p.rows ++ rows_of s.stands.earlier) ++ rows)) same;
@@ -230,15 +227,12 @@ cut_of placed ended walk none p before row index s =
       front = rows_of s.earlier ++ before;
       cut = record {
         back = s.after ++ rows_of s.later;
-        parts =
-            ap rows_of s.sequences_are
-            ∙ flat_map-append (λ (q : Placed). q.rows) s.earlier (p ∷ s.later)
+        parts = ap rows_of s.sequences_are ∙ flat_map-append (λ (q : Placed). q.rows) s.earlier (p ∷ s.later)
             ∙ ap (λ (rows : List Row). rows_of s.earlier ++ (rows ++ rows_of s.later)) s.rows_are
             ∙ ap (λ (rows : List Row). rows_of s.earlier ++ rows) (append_assoc before (row ∷ s.after) (rows_of s.later))
             ∙ sym (append_assoc (rows_of s.earlier) before (row ∷ s.after ++ rows_of s.later));
       };
-      begun =
-          ap (λ (w : RowsSoFar). w.begun) (walked-append walk (rows_of s.earlier) before)
+      begun = ap (λ (w : RowsSoFar). w.begun) (walked-append walk (rows_of s.earlier) before)
           ∙ begun_open (walked walk (rows_of s.earlier)) before (begun_all walk s.earlier front none)
           (open_before (record { rows = p.rows }) before row here (record { back = s.after; parts = s.rows_are }));
       index_is = s.index_is;
@@ -252,10 +246,7 @@ pub record Whole (ss : List Placed) (all : List Row) : Type 0 where
   pub rows_are : rows_of ss ≡ all
 
 whole : (unit : ℕ) (all : List Row) → joined_rows (sequences_of all) ≡ all → Whole (placed_rows unit all) all
-whole unit all closed = record {
-  ended = placed_ended unit 0 (sequences_of all) (each_ended all);
-  rows_are = joined_of unit 0 (sequences_of all) ∙ closed;
-}
+whole unit all closed = grind (arith, common_steps, placed_ended, each_ended, joined_of)
 
 -- the first row of the unit that shows something, by its sequence
 record FoundIn {A : Type 0} (ss : List Placed) (all : List Row) (show : RowsSoFar → Row → Option A) (shows : A) : Type 0 where
@@ -268,8 +259,7 @@ record FoundIn {A : Type 0} (ss : List Placed) (all : List Row) (show : RowsSoFa
       → (earlier : RowsSoFar) × (earlier.begun ≡ before) × (show earlier other ≡ None)
 
 found_in : {A : Type 0} (ss : List Placed) (all : List Row) (show : RowsSoFar → Row → Option A) (shows : A) → Whole ss all
-    → first_shown show start all ≡ Some shows
-    → FoundIn ss all show shows
+    → first_shown show start all ≡ Some shows → FoundIn ss all show shows
 found_in ss all show shows w e =
     let f = found show start all shows e in
     let cut : Cut (rows_of ss) f.front f.row = record { back = f.cut.back; parts = w.rows_are ∙ f.cut.parts } in
@@ -290,8 +280,7 @@ found_in ss all show shows w e =
 
 -- where none shows anything, no row of a sequence does
 none_in : {A : Type 0} (ss : List Placed) (all : List Row) (show : RowsSoFar → Row → Option A) → Whole ss all
-    → first_shown show start all ≡ None
-    → (p : Placed) (before : List Row) (row : Row) (index : ℕ) → StandsIn ss p before row index
+    → first_shown show start all ≡ None → (p : Placed) (before : List Row) (row : Row) (index : ℕ) → StandsIn ss p before row index
     → (walk : RowsSoFar) × (walk.begun ≡ before) × (show walk row ≡ None)
 none_in ss all show w e p before row index at =
     let c = cut_of ss w.ended start refl p before row index at in (
@@ -304,8 +293,7 @@ none_in ss all show w e p before row index at =
 -- what holds of each live sequence of the unit, row by row
 live_each : (P : Placed → Type 0) (dead : Option ℕ) (ss : List Placed)
     → ((p : Placed) → is_live dead p ≡ true → ((before : List Row) (row : Row) (after : List Row) → p.rows ≡ before ++ row ∷ after
-    → (index : ℕ) × StandsIn ss p before row index) → P p)
-    → AllByRecursion P (live_of dead ss)
+    → (index : ℕ) × StandsIn ss p before row index) → P p) → AllByRecursion P (live_of dead ss)
 live_each P dead ss step = along [] ss refl
   where
     along : (earlier later : List Placed) → ss ≡ earlier ++ later → AllByRecursion P (filter (is_live dead) later)
@@ -350,8 +338,7 @@ falls_from dead (first ∷ rest) row e = record {
 }
 
 falls_test : (dead : Option ℕ) (begun : List Row) (row previous : Row) → last_row begun ≡ Some previous
-    → IsBelow (position_of row) (position_of previous)
-    → falls_after (current_of dead begun) row ≡ true
+    → IsBelow (position_of row) (position_of previous) → falls_after (current_of dead begun) row ≡ true
 falls_test dead [] row previous e h = absurd cc
 falls_test dead (first ∷ rest) row previous e h =
     let same : last_after first rest ≡ previous = same_Some (last_after first rest) previous (sym (last_row_is first rest) ∙ e) in
@@ -369,13 +356,7 @@ shows_not false a e f = cc
 
 fall_shows : (dead : Option ℕ) (ss : List Placed) (walk : RowsSoFar) (index : ℕ) (f : IsFall dead ss index) → walk.begun ≡ f.before
     → fall_shown dead walk f.row ≡ None → ⊥
-fall_shows dead ss walk index f e none =
-    let live : is_in_live dead walk f.row ≡ true =
-    live_is dead walk f.row f.placed f.stands.after (f.stands.rows_are ∙ ap (λ (rows : List Row). rows ++ f.row ∷ f.stands.after) (sym e))
-    ∙ f.live in
-    let falls : falls_after (current_of dead walk.begun) f.row ≡ true = falls_test dead walk.begun f.row f.previous
-    (ap last_row e ∙ f.previous_is) f.falls in
-    shows_not (is_in_live dead walk f.row && falls_after (current_of dead walk.begun) f.row) walk.rows none (rw (live, falls) refl)
+fall_shows dead ss walk index f e none = grind (arith, common_steps, live_is, falls_test, shows_not)
 
 first_fall : (dead : Option ℕ) (ss : List Placed) (all : List Row) (index : ℕ) → Whole ss all
     → first_shown (fall_shown dead) start all ≡ Some index → IsFirstFall dead ss index
@@ -435,16 +416,13 @@ ordered_along whole none front last (row ∷ back) e o h =
 
 ordered_rows : (rows : List Row) → NoneFalls rows → IsOrdered rows
 ordered_rows [] none = λ i j d lt l. absurd (omega arith)
-ordered_rows (row ∷ rows) none =
-    ordered_along (row ∷ rows) none [] row rows refl (λ i j d lt l. absurd (omega arith))
+ordered_rows (row ∷ rows) none = ordered_along (row ∷ rows) none [] row rows refl (λ i j d lt l. absurd (omega arith))
     (All-push (λ (r : Row). IsAtMost (position_of r) (position_of row)) [] row
     (All-nil (λ (r : Row). IsAtMost (position_of r) (position_of row))) (at_most_itself (position_of row)))
 
 none_falls : (dead : Option ℕ) (ss : List Placed) (all : List Row) → Whole ss all → first_shown (fall_shown dead) start all ≡ None
     → AreOrdered (live_of dead ss)
-none_falls dead ss all w e =
-    live_each (λ (p : Placed). IsOrdered p.rows) dead ss
-    (λ p live at. ordered_rows p.rows
+none_falls dead ss all w e = live_each (λ (p : Placed). IsOrdered p.rows) dead ss (λ p live at. ordered_rows p.rows
     (λ before row after rows_are previous last. step p live before row after rows_are previous last (at before row after rows_are)))
   where
     step : (p : Placed) → is_live dead p ≡ true → (before : List Row) (row : Row) (after : List Row) → p.rows ≡ before ++ row ∷ after
@@ -466,8 +444,7 @@ none_falls dead ss all w e =
               live = live;
               previous_is = last;
               falls = below_from_test (position_of row) (position_of previous) t;
-            })
-            none.1 none.2)
+            }) none.1 none.2)
 
 pub falls_judged : (dead : Option ℕ) (unit files : ℕ) (watch : Watch) (all : List Row) → HasSeenAll dead unit files watch all
     → MatchOption watch.falls (AreOrdered (live_of dead (placed_rows unit all))) (IsFirstFall dead (placed_rows unit all))
@@ -490,15 +467,8 @@ names_test files row false e h = grind (arith, nat_tests)
 names_test files row true e h = absurd cc
 
 file_shows : (dead : Option ℕ) (files : ℕ) (ss : List Placed) (walk : RowsSoFar) (missing : MissingFile)
-    (f : IsMissingFile dead files ss missing) → walk.begun ≡ f.before
-    → file_shown dead (files) walk f.row ≡ None → ⊥
-file_shows dead files ss walk missing f e none =
-    let live : is_in_live dead walk f.row ≡ true =
-    live_is dead walk f.row f.placed f.stands.after (f.stands.rows_are ∙ ap (λ (rows : List Row). rows ++ f.row ∷ f.stands.after) (sym e))
-    ∙ f.live in
-    let outside : files ≤ f.row.file = let h = f.outside in let same = f.file_is in omega arith in
-    let names : names_no_file files f.row ≡ true = names_test files f.row f.row.end_sequence f.no_end outside in
-    shows_not (is_in_live dead walk f.row && names_no_file files f.row) (record { row = walk.rows; file = f.row.file }) none (rw live names)
+    (f : IsMissingFile dead files ss missing) → walk.begun ≡ f.before → file_shown dead (files) walk f.row ≡ None → ⊥
+file_shows dead files ss walk missing f e none = grind (arith, common_steps, live_is, names_test, shows_not)
 
 first_file : (dead : Option ℕ) (files : ℕ) (ss : List Placed) (all : List Row) (missing : MissingFile) → Whole ss all
     → first_shown (file_shown dead files) start all ≡ Some missing → IsFirstMissingFile dead files ss missing
@@ -534,16 +504,13 @@ each_row P (row ∷ rows) h =
     (h [] row rows refl, each_row P rows (λ before other after e. h (row ∷ before) other after (ap (λ (all : List Row). row ∷ all) e)))
 
 all_files : (dead : Option ℕ) (files : ℕ) (ss : List Placed) (all : List Row) → Whole ss all
-    → first_shown (file_shown dead files) start all ≡ None
-    → HaveFiles files (live_of dead ss)
-all_files dead files ss all w e =
-    live_each (λ (p : Placed). FilesExist files p.rows) dead ss
+    → first_shown (file_shown dead files) start all ≡ None → HaveFiles files (live_of dead ss)
+all_files dead files ss all w e = live_each (λ (p : Placed). FilesExist files p.rows) dead ss
     (λ p live at. each_row (λ (row : Row). row.end_sequence ≡ false → row.file < files) p.rows
     (λ before row after rows_are no_end. step p live before row no_end (at before row after rows_are)))
   where
     step : (p : Placed) → is_live dead p ≡ true → (before : List Row) (row : Row) → row.end_sequence ≡ false → (index : ℕ)
-        × StandsIn ss p before row index
-        → row.file < files
+        × StandsIn ss p before row index → row.file < files
     step p live before row no_end at = by_test (nat_le files row.file) refl
       where
         by_test : (t : Bool) → nat_le files row.file ≡ t → row.file < files
@@ -561,8 +528,7 @@ all_files dead files ss all w e =
               no_end = no_end;
               file_is = refl;
               outside = omega arith;
-            })
-            none.1 none.2)
+            }) none.1 none.2)
 
 pub files_judged : (dead : Option ℕ) (unit files : ℕ) (watch : Watch) (all : List Row) → HasSeenAll dead unit files watch all
     → MatchOption watch.missing_file (HaveFiles files (live_of dead (placed_rows unit all)))
@@ -579,21 +545,14 @@ files_judged dead unit files watch all seen = by_file watch.missing_file (sym (s
 -- what holds of the live sequences of a unit, holds of each
 live_one : (P : Placed → Type 0) (dead : Option ℕ) (earlier later : List Placed) (p : Placed) → is_live dead p ≡ true
     → AllByRecursion P (filter (is_live dead) (earlier ++ p ∷ later)) → P p
-live_one P dead earlier later p live all =
-    let here = all_back P (filter (is_live dead) earlier) (filter (is_live dead) (p ∷ later))
-    (subst (AllByRecursion P) (filter-append (is_live dead) earlier (p ∷ later)) all) in
-    let first : AllByRecursion P (p ∷ filter (is_live dead) later) =
-    subst (λ (t : Bool). AllByRecursion P (cond t (p ∷ filter (is_live dead) later) (filter (is_live dead) later))) live here in
-    first.0
+live_one P dead earlier later p live all = grind (arith, common_steps, all_back, filter-append, cond)
 
 in_turn : (before : List Row) (row : Row) (after : List Row) (previous : Row) → last_row before ≡ Some previous
-    → IsOrdered (before ++ row ∷ after)
-    → IsAtMost (position_of previous) (position_of row)
+    → IsOrdered (before ++ row ∷ after) → IsAtMost (position_of previous) (position_of row)
 in_turn [] row after previous e o = absurd cc
 in_turn (x ∷ []) row after previous e o =
     subst (λ (r : Row). IsAtMost (position_of r) (position_of row)) (same_Some x previous e) (o 0 1 x (omega arith) (omega arith))
-in_turn (x ∷ y ∷ before) row after previous e o =
-    in_turn (y ∷ before) row after previous e
+in_turn (x ∷ y ∷ before) row after previous e o = in_turn (y ∷ before) row after previous e
     (pairs_tail (λ (a : Row) (b : Row). IsAtMost (position_of a) (position_of b)) x (y ∷ before ++ row ∷ after) o)
 
 pub fall_is_not_ordered : FallIsNotOrdered
@@ -615,8 +574,7 @@ missing_file_is_not_there dead files ss missing file have =
     have in
     let here : FilesExist files file.placed.rows = live_one (λ (p : Placed). FilesExist files p.rows) dead s.earlier s.later file.placed
     file.live all in
-    let below : file.row.file < files =
-    each_at (λ (row : Row). row.end_sequence ≡ false → row.file < files) file.before file.row s.after
+    let below : file.row.file < files = each_at (λ (row : Row). row.end_sequence ≡ false → row.file < files) file.before file.row s.after
     (subst (FilesExist files) s.rows_are here) file.no_end in
     let outside = file.outside in
     let same = file.file_is in

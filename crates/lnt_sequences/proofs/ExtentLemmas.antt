@@ -24,26 +24,17 @@ use Rattle.lnt_sequences.specs.Rules.{AreApart}
 use Rattle.lnt_sequences.specs.Sequences.{first_row, holds, Holds, Placed, position_of}
 use Rattle.lnt_sequences.specs.Watching.{last_after}
 use Rattle.lnt_sequences.proofs.RowLemmas.{holds_is, rising_list, row_spans_answer}
+use Rattle.std.proofs.lemmas.Grind.{common_steps}
 
 -- ---- Holds, of a row and the rows after it
 
 pub holds_after : (row : Row) (rows : List Row) (p : Position) → IsAtMost (position_of row) p
     → IsBelow p (position_of (last_after row rows)) → Holds (row ∷ rows) p
-holds_after row rows p h k = record {
-  first = row;
-  last = last_after row rows;
-  first_is = refl;
-  last_is = last_row_is row rows;
-  from = h;
-  below = k;
-}
+holds_after row rows p h k = grind (arith, common_steps, last_row_is)
 
 pub from_holds : (row : Row) (rows : List Row) (p : Position) → Holds (row ∷ rows) p → IsAtMost (position_of row) p
     × IsBelow p (position_of (last_after row rows))
-from_holds row rows p h =
-    let first : row ≡ h.first = same_Some row h.first h.first_is in
-    let last : last_after row rows ≡ h.last = same_Some (last_after row rows) h.last (sym (last_row_is row rows) ∙ h.last_is) in
-    (subst (λ (r : Row). IsAtMost (position_of r) p) (sym first) h.from, subst (λ (r : Row). IsBelow p (position_of r)) (sym last) h.below)
+from_holds row rows p h = grind (arith, common_steps, same_Some, last_row_is)
 
 pub none_held : (p : Position) → Holds [] p → ⊥
 none_held p h = let e : None ≡ Some h.first = h.first_is in cc
@@ -108,12 +99,9 @@ pub into_all : (P : Placed → Type 0) (R : Extent → Type 0) → ((s : Placed)
 into_all P R step [] h = All-nil R
 into_all P R step (s ∷ ss) h =
     let rest = into_all P R step ss (All-tail P s ss h) in
-    ⊎_elim
-    (λ (none : IsEmpty s). subst (λ (es : List Extent). All R (es ++ extents_of ss)) (sym none.list) rest)
-    (λ (one : (e : Extent) × IsSketch s e).
-    subst (λ (es : List Extent). All R (es ++ extents_of ss)) (sym one.1.list)
-    (All-cons R one.0 (extents_of ss) (step s one.0 one.1 (All-head P s ss h)) rest))
-    (sketch s)
+    ⊎_elim (λ (none : IsEmpty s). subst (λ (es : List Extent). All R (es ++ extents_of ss)) (sym none.list) rest)
+    (λ (one : (e : Extent) × IsSketch s e). subst (λ (es : List Extent). All R (es ++ extents_of ss)) (sym one.1.list)
+    (All-cons R one.0 (extents_of ss) (step s one.0 one.1 (All-head P s ss h)) rest)) (sketch s)
 
 pub into_pairs : (Q : Placed → Placed → Type 0) (R : Extent → Extent → Type 0)
     → ((s t : Placed) (e f : Extent) → IsSketch s e → IsSketch t f → Q s t → R e f)
@@ -121,10 +109,8 @@ pub into_pairs : (Q : Placed → Placed → Type 0) (R : Extent → Extent → T
 into_pairs Q R step [] h = pairs_nil R
 into_pairs Q R step (s ∷ ss) h =
     let rest = into_pairs Q R step ss (pairs_tail Q s ss h) in
-    ⊎_elim
-    (λ (none : IsEmpty s). subst (λ (es : List Extent). AllPairs R (es ++ extents_of ss)) (sym none.list) rest)
-    (λ (one : (e : Extent) × IsSketch s e).
-    subst (λ (es : List Extent). AllPairs R (es ++ extents_of ss)) (sym one.1.list)
+    ⊎_elim (λ (none : IsEmpty s). subst (λ (es : List Extent). AllPairs R (es ++ extents_of ss)) (sym none.list) rest)
+    (λ (one : (e : Extent) × IsSketch s e). subst (λ (es : List Extent). AllPairs R (es ++ extents_of ss)) (sym one.1.list)
     (pairs_cons R one.0 (extents_of ss) (into_all (Q s) (R one.0) (λ t f k q. step s t one.0 f one.1 k q) ss (pairs_head Q s ss h)) rest))
     (sketch s)
 
@@ -149,15 +135,12 @@ pub all_back : (R : Extent → Type 0) (ss : List Placed) → All R (extents_of 
 all_back R [] h = All-nil (λ (t : Placed). (e : Extent) → IsSketch t e → R e)
 all_back R (s ∷ ss) h =
     let Q : Placed → Type 0 = λ t. (e : Extent) → IsSketch t e → R e in
-    ⊎_elim
-    (λ (none : IsEmpty s).
+    ⊎_elim (λ (none : IsEmpty s).
     All-cons Q s ss (λ e k. absurd (none.none e.low (k.back e.low (record { from = at_most_itself e.low; below = k.some }))))
-    (all_back R ss (subst (λ (es : List Extent). All R (es ++ extents_of ss)) none.list h)))
-    (λ (one : (e : Extent) × IsSketch s e).
+    (all_back R ss (subst (λ (es : List Extent). All R (es ++ extents_of ss)) none.list h))) (λ (one : (e : Extent) × IsSketch s e).
     let all : All R (one.0 ∷ extents_of ss) = subst (λ (es : List Extent). All R (es ++ extents_of ss)) one.1.list h in
     All-cons Q s ss (λ e k. subst R (same_extent s one.0 e one.1 k) (All-head R one.0 (extents_of ss) all))
-    (all_back R ss (All-tail R one.0 (extents_of ss) all)))
-    (sketch s)
+    (all_back R ss (All-tail R one.0 (extents_of ss) all))) (sketch s)
 
 -- ---- at the positions of which P holds
 
@@ -169,29 +152,20 @@ ApartWhere P one other = (p : Position) → P p → Holds one.rows p → Holds o
 
 held_apart : (P : Position → Type 0) (e : Extent) (ss : List Placed) → All (DisjointWhere P e) (extents_of ss)
     → All (λ (t : Placed). (p : Position) → P p → IsIn p e → Holds t.rows p → ⊥) ss
-held_apart P e ss h =
-    All-weaker (λ (t : Placed). (f : Extent) → IsSketch t f → DisjointWhere P e f)
-    (λ (t : Placed). (p : Position) → P p → IsIn p e → Holds t.rows p → ⊥)
-    (λ t k p at x y.
-    ⊎_elim
-    (λ (none : IsEmpty t). none.none p y)
-    (λ (one : (f : Extent) × IsSketch t f). k one.0 one.1 p at x (one.1.into p y))
-    (sketch t)) ss (all_back (DisjointWhere P e) ss h)
+held_apart P e ss h = All-weaker (λ (t : Placed). (f : Extent) → IsSketch t f → DisjointWhere P e f)
+    (λ (t : Placed). (p : Position) → P p → IsIn p e → Holds t.rows p → ⊥) (λ t k p at x y. ⊎_elim (λ (none : IsEmpty t). none.none p y)
+    (λ (one : (f : Extent) × IsSketch t f). k one.0 one.1 p at x (one.1.into p y)) (sketch t)) ss (all_back (DisjointWhere P e) ss h)
 
 pub apart_where : (P : Position → Type 0) (ss : List Placed) → AllPairs (DisjointWhere P) (extents_of ss) → AllPairs (ApartWhere P) ss
 apart_where P [] h = pairs_nil (ApartWhere P)
-apart_where P (s ∷ ss) h =
-    ⊎_elim
-    (λ (none : IsEmpty s).
-    pairs_cons (ApartWhere P) s ss (λ k d l p at x y. none.none p x)
+apart_where P (s ∷ ss) h = ⊎_elim (λ (none : IsEmpty s). pairs_cons (ApartWhere P) s ss (λ k d l p at x y. none.none p x)
     (apart_where P ss (subst (λ (es : List Extent). AllPairs (DisjointWhere P) (es ++ extents_of ss)) none.list h)))
     (λ (one : (e : Extent) × IsSketch s e).
     let all : AllPairs (DisjointWhere P) (one.0 ∷ extents_of ss) = subst
     (λ (es : List Extent). AllPairs (DisjointWhere P) (es ++ extents_of ss)) one.1.list h in
     let head = held_apart P one.0 ss (pairs_head (DisjointWhere P) one.0 (extents_of ss) all) in
     pairs_cons (ApartWhere P) s ss (λ k d l p at x y. head k d l p at (one.1.into p x) y)
-    (apart_where P ss (pairs_tail (DisjointWhere P) one.0 (extents_of ss) all)))
-    (sketch s)
+    (apart_where P ss (pairs_tail (DisjointWhere P) one.0 (extents_of ss) all))) (sketch s)
 
 pub apart_from_disjoint : (ss : List Placed) → AllPairs ExtentsDisjoint (extents_of ss) → AreApart ss
 apart_from_disjoint ss h =
@@ -211,17 +185,12 @@ here_or_later {X} y xs x h = by_place h.0 h.1 h.2
 -- an extent is that of one of the sequences
 pub of_sequence : (ss : List Placed) (e : Extent) → Contains (extents_of ss) e → (s : Placed) × Contains ss s × IsSketch s e
 of_sequence [] e h = absurd (omega (arith, h.1))
-of_sequence (s ∷ ss) e h =
-    ⊎_elim
-    (λ (none : IsEmpty s).
+of_sequence (s ∷ ss) e h = ⊎_elim (λ (none : IsEmpty s).
     let k = of_sequence ss e (subst (λ (es : List Extent). Contains (es ++ extents_of ss) e) none.list h) in
-    (k.0, Contains-past s ss k.0 k.1, k.2))
-    (λ (one : (f : Extent) × IsSketch s f).
-    ⊎_elim
+    (k.0, Contains-past s ss k.0 k.1, k.2)) (λ (one : (f : Extent) × IsSketch s f). ⊎_elim
     (λ (here : one.0 ≡ e). (s, (0, omega arith, refl), subst (IsSketch s) here one.1))
     (λ (later : Contains (extents_of ss) e). let k = of_sequence ss e later in (k.0, Contains-past s ss k.0 k.1, k.2))
-    (here_or_later one.0 (extents_of ss) e (subst (λ (es : List Extent). Contains (es ++ extents_of ss) e) one.1.list h)))
-    (sketch s)
+    (here_or_later one.0 (extents_of ss) e (subst (λ (es : List Extent). Contains (es ++ extents_of ss) e) one.1.list h))) (sketch s)
 
 -- the order of extents is that of their sequences
 abbrev begins_no_later : (s t : Placed) (e f : Extent) → IsSketch s e → IsSketch t f → ComesNoLater e f → BeginsNoLater s t
@@ -230,8 +199,7 @@ begins_no_later s t e f k l h = record {
   other_first = l.first;
   first_is = k.first_is;
   other_is = l.first_is;
-  order =
-      subst (λ (p : Position). IsNotLater p s.id (position_of l.first) t.id) k.low
+  order = subst (λ (p : Position). IsNotLater p s.id (position_of l.first) t.id) k.low
       (subst (λ (p : Position). IsNotLater e.low s.id p t.id) l.low
       (subst (λ (id : SeqId). IsNotLater e.low id f.low t.id) k.id (subst (λ (id : SeqId). IsNotLater e.low e.id f.low id) l.id h)));
 }
@@ -256,16 +224,11 @@ overlap_of_sequences ss overlap o =
           (λ i j d lt l p below x y. f.lower p (rw o.position_is at below) i j d lt l x y);
       in_turn = begins_no_later one.0 other.0 o.one o.other one.2 other.2 f.order;
       begins = o.position_is ∙ other.2.low;
-      first_two =
-          All-weaker (λ (t : Placed). (e : Extent) → IsSketch t e → IsIn o.other.low e → (e ≡ o.one) ⊎ (e ≡ o.other)
+      first_two = All-weaker (λ (t : Placed). (e : Extent) → IsSketch t e → IsIn o.other.low e → (e ≡ o.one) ⊎ (e ≡ o.other)
           ⊎ ComesNoLater o.other e)
           (λ (t : Placed). Holds t.rows overlap.position → (t.id ≡ overlap.first) ⊎ (t.id ≡ overlap.second) ⊎ BeginsNoLater other.0 t)
-          (λ t k h.
-          ⊎_elim
-          (λ (none : IsEmpty t). absurd (none.none overlap.position h))
-          (λ (some : (e : Extent) × IsSketch t e).
-          by_turn t some.0 some.1 other.0 other.2 (k some.0 some.1 (rw o.position_is at (some.1.into overlap.position h))))
-          (sketch t)) ss
+          (λ t k h. ⊎_elim (λ (none : IsEmpty t). absurd (none.none overlap.position h)) (λ (some : (e : Extent) × IsSketch t e).
+          by_turn t some.0 some.1 other.0 other.2 (k some.0 some.1 (rw o.position_is at (some.1.into overlap.position h)))) (sketch t)) ss
           (all_back (λ (e : Extent). IsIn o.other.low e → (e ≡ o.one) ⊎ (e ≡ o.other) ⊎ ComesNoLater o.other e) ss f.first_two);
     }
   where
@@ -313,7 +276,4 @@ not_held rows p h = false_from_ne_true (holds p rows) (λ e. h (holds_from_test 
 
 -- the spans of one sequence, by Holds
 pub sequence_spans : SequenceSpans
-sequence_spans unit rows p o = (
-  λ h. row_spans_answer unit rows p (rising_list rows o) ∙ rw (test_from_holds rows p h) refl,
-  λ h. row_spans_answer unit rows p (rising_list rows o) ∙ rw (not_held rows p h) refl,
-)
+sequence_spans unit rows p o = grind (arith, common_steps, row_spans_answer, rising_list, test_from_holds, not_held)

@@ -8,16 +8,14 @@ use Rattle.lnt_spans.specs.Fitting.{FitsSpan}
 use Rattle.lnt_sequences.specs.RowSpans.{spans_of}
 use Rattle.lnt_sequences.specs.Sequences.{kept_sequences}
 use Rattle.lnt_sequences.proofs.EachLaws.{Between, each_kept_span, EachIn}
+use Rattle.std.proofs.lemmas.Grind.{common_steps}
+use Rattle.std.proofs.Common.{arith}
 
 abbrev IsSmall : ℕ → Type 0
 IsSmall offset = offset < 2 ^ 64
 
 between_fits : Between IsSmall FitsRow FitsSpan
-between_fits unit row next small one other = record {
-  low = record { address = one.address; op = one.op_index };
-  high = record { address = other.address; op = other.op_index };
-  answer = record { unit = small; file = one.file; line = one.line; column = one.column; more = (one.isa, one.discriminator) };
-}
+between_fits unit row next small one other = grind (arith, common_steps)
 
 units_fit : (units : List (ℕ × UnitParts)) (programs : List KeptProgram) → AllZip (λ unit kept. KeepsProgram kept unit.1) units programs
     → AllByRecursion HasNumbers programs → AllByRecursion (λ (unit : ℕ × UnitParts). unit.0 < 2 ^ 64) units

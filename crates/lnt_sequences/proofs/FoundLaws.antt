@@ -40,8 +40,7 @@ one_of unit index (s ∷ ss) placed h =
       unit_is = ap (λ (p : Placed). p.id.unit) (sym here);
       index_is = omega (arith, ap (λ (p : Placed). p.id.index) here);
       rows_are = λ d. ap (λ (p : Placed). p.rows) (sym here);
-    })
-    (λ (later : Contains (placed_from unit (index + 1) ss) placed).
+    }) (λ (later : Contains (placed_from unit (index + 1) ss) placed).
     let one = one_of unit (index + 1) ss placed later in
     let few = one.few in
     record {
@@ -50,8 +49,7 @@ one_of unit index (s ∷ ss) placed h =
       unit_is = one.unit_is;
       index_is = omega (arith, one.index_is);
       rows_are = one.rows_are;
-    })
-    (here_or_later first (placed_from unit (index + 1) ss) placed h)
+    }) (here_or_later first (placed_from unit (index + 1) ss) placed h)
 
 pub of_filter : {X : Type 0} (test : X → Bool) (xs : List X) (x : X) → Contains (filter test xs) x → Contains xs x
 of_filter test [] x h = h
@@ -68,22 +66,14 @@ of_filter {X} test (y ∷ xs) x h = by_test (test y) h (λ k. of_filter test xs 
 
 of_append : {X : Type 0} (xs ys : List X) (x : X) → Contains (xs ++ ys) x → Contains xs x ⊎ Contains ys x
 of_append [] ys x h = inr h
-of_append {X} (y ∷ xs) ys x h =
-    ⊎_elim
-    (λ (here : y ≡ x). inl (0, omega arith, here))
-    (λ (later : Contains (xs ++ ys) x).
-    ⊎_elim
-    (λ (k : Contains xs x). inl (suc k.0, omega (arith, k.1), k.2))
-    (λ (k : Contains ys x). inr k)
-    (of_append xs ys x later))
+of_append {X} (y ∷ xs) ys x h = ⊎_elim (λ (here : y ≡ x). inl (0, omega arith, here)) (λ (later : Contains (xs ++ ys) x). ⊎_elim
+    (λ (k : Contains xs x). inl (suc k.0, omega (arith, k.1), k.2)) (λ (k : Contains ys x). inr k) (of_append xs ys x later))
     (here_or_later y (xs ++ ys) x h)
 
 pub live_placed : (dead : Option ℕ) (units : List (ℕ × UnitParts)) (placed : Placed) → Contains (live_sequences dead units) placed
     → IsSequenceOf units placed
 live_placed dead [] placed h = absurd (omega (arith, h.1))
-live_placed dead (unit ∷ units) placed h =
-    ⊎_elim
-    (λ (here : Contains (live_in dead unit) placed).
+live_placed dead (unit ∷ units) placed h = ⊎_elim (λ (here : Contains (live_in dead unit) placed).
     let one = one_of unit.0 0 (sequences unit.1) placed (of_filter (is_live dead) (placed_in unit) placed here) in
     let index : placed.id.index ≡ one.k = omega (arith, one.index_is) in
     record {
@@ -94,8 +84,7 @@ live_placed dead (unit ∷ units) placed h =
       unit_is = one.unit_is;
       few = omega (arith, index, one.few);
       rows_are = λ d. one.rows_are d ∙ ap (λ (k : ℕ). (get_or (sequences unit.1) k d).rows) (sym index);
-    })
-    (λ (later : Contains (live_sequences dead units) placed).
+    }) (λ (later : Contains (live_sequences dead units) placed).
     let one = live_placed dead units placed later in
     let within = one.within in
     record {
@@ -106,5 +95,4 @@ live_placed dead (unit ∷ units) placed h =
       unit_is = one.unit_is;
       few = one.few;
       rows_are = one.rows_are;
-    })
-    (of_append (live_in dead unit) (live_sequences dead units) placed h)
+    }) (of_append (live_in dead unit) (live_sequences dead units) placed h)

@@ -32,43 +32,33 @@ in_turn : (extents : List Extent) → AreSettled extents → (i j : ℕ) (d : Ex
 in_turn extents s i j d lt l = ends_before extents s.sorted (length extents - 1) s.apart i j d (omega arith) lt l
 
 pub bracket_below : (extents : List Extent) (p : Position) (low high middle : ℕ) → AreSettled extents → IsBracket extents p low high
-    → low ≤ middle → middle < high
-    → (d : Extent) → IsBelow p (get_or extents middle d).low → IsBracket extents p low middle
+    → low ≤ middle → middle < high → (d : Extent) → IsBelow p (get_or extents middle d).low → IsBracket extents p low middle
 bracket_below extents p low high middle o b h k e here =
     let within = b.within in
-    let side : (d : Extent)
-    → IsBelow p (get_or extents middle d).low = λ d. subst (λ (s : Extent). IsBelow p s.low)
+    let side : (d : Extent) → IsBelow p (get_or extents middle d).low = λ d. subst (λ (s : Extent). IsBelow p s.low)
     (get_or_default extents middle e d (omega arith)) here in
     record {
       upto = h;
       within = omega arith;
       before = b.before;
-      past = λ i d le l.
-          ⊎_elim
-          (λ (e : middle ≡ i). subst (λ (m : ℕ). IsBelow p (get_or extents m d).low) e (side d))
-          (λ (ne : middle ≡ i → ⊥).
-          below_at_most (side d)
+      past = λ i d le l. ⊎_elim (λ (e : middle ≡ i). subst (λ (m : ℕ). IsBelow p (get_or extents m d).low) e (side d))
+          (λ (ne : middle ≡ i → ⊥). below_at_most (side d)
           (at_most_trans (below_is_at_most (o.some middle d (omega arith))) (in_turn extents o middle i d (omega arith) l)))
           (cases_eq middle i);
     }
 
 pub bracket_above : (extents : List Extent) (p : Position) (low high middle : ℕ) → AreSettled extents → IsBracket extents p low high
-    → low ≤ middle → middle < high
-    → (d : Extent) → IsAtMost (get_or extents middle d).high p → IsBracket extents p (middle + 1) high
+    → low ≤ middle → middle < high → (d : Extent) → IsAtMost (get_or extents middle d).high p → IsBracket extents p (middle + 1) high
 bracket_above extents p low high middle o b h k e here =
     let within = b.within in
-    let side : (d : Extent)
-    → IsAtMost (get_or extents middle d).high p = λ d. subst (λ (s : Extent). IsAtMost s.high p)
+    let side : (d : Extent) → IsAtMost (get_or extents middle d).high p = λ d. subst (λ (s : Extent). IsAtMost s.high p)
     (get_or_default extents middle e d (omega arith)) here in
     record {
       upto = omega arith;
       within = b.within;
       past = b.past;
-      before = λ i d lt.
-          ⊎_elim
-          (λ (e : middle ≡ i). subst (λ (m : ℕ). IsAtMost (get_or extents m d).high p) e (side d))
-          (λ (ne : middle ≡ i → ⊥).
-          at_most_trans (in_turn extents o i middle d (omega arith) (omega arith))
+      before = λ i d lt. ⊎_elim (λ (e : middle ≡ i). subst (λ (m : ℕ). IsAtMost (get_or extents m d).high p) e (side d))
+          (λ (ne : middle ≡ i → ⊥). at_most_trans (in_turn extents o i middle d (omega arith) (omega arith))
           (at_most_trans (below_is_at_most (o.some middle d (omega arith))) (side d)))
           (cases_eq middle i);
     }
@@ -82,11 +72,8 @@ found_inside extents p middle e l from below = (
 )
 
 pub found_nowhere : (extents : List Extent) (p : Position) (low high : ℕ) → IsBracket extents p low high → high ≤ low → NoneHolds extents p
-found_nowhere extents p low high b h = λ k d l i.
-    ⊎_elim
-    (λ (lt : k < low). not_both i.below (b.before k d lt))
-    (λ (le : low ≤ k). not_both (b.past k d (omega arith) l) i.from)
-    (cases_lt k low)
+found_nowhere extents p low high b h = λ k d l i. ⊎_elim (λ (lt : k < low). not_both i.below (b.before k d lt))
+    (λ (le : low ≤ k). not_both (b.past k d (omega arith) l) i.from) (cases_lt k low)
 
 -- ---- the sequence that holds a position
 
@@ -104,11 +91,7 @@ answer_none sequences extents p permuted none =
     let before : NoneHolds (extents_of sequences) p = All-permutation (λ (e : Extent). IsIn p e → ⊥) extents (extents_of sequences)
     (IsPermutation-sym (extents_of sequences) extents permuted) none in
     let each = all_back (λ (e : Extent). IsIn p e → ⊥) sequences before in
-    let all : All (λ (s : Placed). holds p s.rows ≡ false) sequences =
-    λ k d l.
-    not_held (get_or sequences k d).rows p
-    (λ h.
-    ⊎_elim
+    let all : All (λ (s : Placed). holds p s.rows ≡ false) sequences = λ k d l. not_held (get_or sequences k d).rows p (λ h. ⊎_elim
     (λ (empty : IsEmpty (get_or sequences k d)). empty.none p h)
     (λ (one : (e : Extent) × IsSketch (get_or sequences k d) e). each k d l one.0 one.1 (one.1.into p h))
     (sketch (get_or sequences k d))) in
@@ -116,8 +99,7 @@ answer_none sequences extents p permuted none =
     (find_none (λ (s : Placed). holds p s.rows) sequences all)
 
 answer_some : (sequences : List Placed) (extents : List Extent) (p : Position) (extent : Extent)
-    → IsPermutation (extents_of sequences) extents → AreApart sequences
-    → IsHolder extents p extent → AnswersFor sequences p extent
+    → IsPermutation (extents_of sequences) extents → AreApart sequences → IsHolder extents p extent → AnswersFor sequences p extent
 answer_some sequences extents p extent permuted apart is =
     let found = of_sequence sequences extent
     (Contains-permutation extents (extents_of sequences) extent (IsPermutation-sym (extents_of sequences) extents permuted) is.contained) in

@@ -22,6 +22,7 @@ use Rattle.lnt_sequences.specs.Sequences.{live_in, live_sequences, Placed, place
 use Rattle.lnt_sequences.proofs.FoundLaws.{of_filter}
 use Rattle.lnt_sequences.proofs.UnitLaws.{all_from, all_of, IsFrom, IsOf}
 use Rattle.lnt_sequences.proofs.WalkLaws.{placed_from}
+use Rattle.std.proofs.lemmas.Grind.{common_steps}
 
 -- ---- of live sequences
 
@@ -67,8 +68,7 @@ alike_back (Some a) (Some b) (Some c) (Some d) h = positions_back (position_of a
 alike_back _ _ _ _ h = absurd cc
 
 pub hold_alike_back : (rows others : List Row) → hold_alike rows others ≡ false → hold_alike others rows ≡ false
-hold_alike_back rows others h =
-    false_from_ne_true (hold_alike others rows)
+hold_alike_back rows others h = false_from_ne_true (hold_alike others rows)
     (λ e. true≢false (sym (alike_back (first_row others) (last_row others) (first_row rows) (last_row rows) e) ∙ h))
 
 id_of : ℕ → ℕ → SeqId
@@ -80,9 +80,7 @@ same_id a b e f = ap (λ (n : ℕ). id_of n a.index) e ∙ ap (id_of b.unit) f
 
 -- of two with different ids one stands before the other
 one_before : (a b : SeqId) → (a ≡ b → ⊥) → stands_before a b ≡ false → stands_before b a ≡ true
-one_before a b ne h =
-    let differ : a.unit ≡ b.unit → a.index ≡ b.index → ⊥ = λ e f. ne (same_id a b e f) in
-    grind (arith, nat_tests)
+one_before a b ne h = grind (arith, common_steps, same_id)
 
 -- whether the one is a copy for the other's sake
 abbrev makes_copy : Placed → Placed → Bool
@@ -91,8 +89,7 @@ makes_copy placed earlier = stands_before earlier.id placed.id && hold_alike pla
 -- what stands before one that is no copy isn't like it
 unlike_before : (ss : List Placed) (s t : Placed) → Contains ss t → is_copy ss s ≡ false → stands_before t.id s.id ≡ true
     → hold_alike s.rows t.rows ≡ false
-unlike_before ss s t c none before =
-    false_from_ne_true (hold_alike s.rows t.rows) (λ e. true≢false
+unlike_before ss s t c none before = false_from_ne_true (hold_alike s.rows t.rows) (λ e. true≢false
     (sym (list_any_at (makes_copy s) ss c.0 t c.1 (ap (makes_copy s) c.2 ∙ rw (before, e) refl)) ∙ none))
 
 record IsKept (ss : List Placed) (s : Placed) : Type 0 where
@@ -140,11 +137,9 @@ rising_from : (unit index : ℕ) (ss : List Sequence) → AllPairs IsBefore (pla
 rising_from unit index [] = pairs_nil IsBefore
 rising_from unit index (s ∷ ss) =
     let first : Placed = record { id = record { unit = unit; index = index }; rows = s.rows } in
-    pairs_cons IsBefore first (placed_from unit (index + 1) ss)
-    (All-weaker (IsFrom unit (index + 1)) (IsBefore first)
+    pairs_cons IsBefore first (placed_from unit (index + 1) ss) (All-weaker (IsFrom unit (index + 1)) (IsBefore first)
     (λ placed f. let from = f.index_from in before_in first.id placed.id (sym f.unit_is) (omega arith)) (placed_from unit (index + 1) ss)
-    (all_from unit (index + 1) ss))
-    (rising_from unit (index + 1) ss)
+    (all_from unit (index + 1) ss)) (rising_from unit (index + 1) ss)
 
 all_above : (dead : Option ℕ) (unit : ℕ) (units : List (ℕ × UnitParts)) → All (λ (other : ℕ × UnitParts). unit < other.0) units
     → All (λ (placed : Placed). unit < placed.id.unit) (live_sequences dead units)
@@ -212,8 +207,6 @@ copy_by_look_back seen placed rest order =
     All-weaker (IsBefore placed) Makes (λ e b. ap (λ (t : Bool). t && hold_alike placed.rows e.rows) (not_after placed.id e.id b)) rest
     (pairs_after IsBefore seen placed rest order) in
     let itself : Makes placed = ap (λ (t : Bool). t && hold_alike placed.rows placed.rows) (not_itself placed.id) in
-    list_any-append (makes_copy placed) seen (placed ∷ rest)
-    ∙ ap (λ (t : Bool). list_any (makes_copy placed) seen || t)
+    list_any-append (makes_copy placed) seen (placed ∷ rest) ∙ ap (λ (t : Bool). list_any (makes_copy placed) seen || t)
     (list_any_none (makes_copy placed) (placed ∷ rest) (All-cons Makes placed rest itself past))
-    ∙ or_false (list_any (makes_copy placed) seen)
-    ∙ any_before placed seen (pairs_before IsBefore seen placed rest order)
+    ∙ or_false (list_any (makes_copy placed) seen) ∙ any_before placed seen (pairs_before IsBefore seen placed rest order)

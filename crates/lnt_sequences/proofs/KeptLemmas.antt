@@ -27,36 +27,23 @@ use Rattle.lnt_sequences.specs.Watching.{last_after}
 use Rattle.lnt_sequences.proofs.ExtentLemmas.{apart_from_disjoint, extents_ids, extents_some, holds_after, IsEmpty}
 use Rattle.lnt_sequences.proofs.ExtentLemmas.{IsSketch, overlap_of_sequences, sketch}
 use Rattle.lnt_sequences.proofs.OverlapLemmas.{first_overlap_permuted}
+use Rattle.std.proofs.lemmas.Grind.{common_steps}
 
 -- ---- whether two hold alike, by their first and last rows
 
-alike_rows : (row other : Row) (rows others : List Row)
-    → hold_alike (row ∷ rows) (other ∷ others)
+alike_rows : (row other : Row) (rows others : List Row) → hold_alike (row ∷ rows) (other ∷ others)
     ≡ (is_below (position_of row) (position_of (last_after row rows))
     && (is_same (position_of row) (position_of other) && is_same (position_of (last_after row rows))
     (position_of (last_after other others))))
-alike_rows row other rows others =
-    ap (λ (o : Option Row). ends_alike (Some row) o (Some other) (last_row (other ∷ others))) (last_row_is row rows)
-    ∙ ap (λ (o : Option Row). ends_alike (Some row) (Some (last_after row rows)) (Some other) o) (last_row_is other others)
+alike_rows row other rows others = grind (arith, common_steps, last_row_is)
 
 below_ends : (s : Placed) (e : Extent) → (k : IsSketch s e)
     → is_below (position_of k.first) (position_of (last_after k.first k.others)) ≡ true
-below_ends s e k =
-    subst (λ (p : Position). is_below p (position_of (last_after k.first k.others)) ≡ true) k.low
+below_ends s e k = subst (λ (p : Position). is_below p (position_of (last_after k.first k.others)) ≡ true) k.low
     (subst (λ (p : Position). is_below e.low p ≡ true) k.high (test_below e.low e.high k.some))
 
 alike_by_extents : (s t : Placed) (e f : Extent) → IsSketch s e → IsSketch t f → hold_alike s.rows t.rows ≡ end_alike e f
-alike_by_extents s t e f k l =
-    let last = position_of (last_after k.first k.others) in
-    let other_last = position_of (last_after l.first l.others) in
-    ap (λ (rows : List Row). hold_alike rows t.rows) k.rows_are
-    ∙ ap (λ (rows : List Row). hold_alike (k.first ∷ k.others) rows) l.rows_are
-    ∙ alike_rows k.first l.first k.others l.others
-    ∙ ap (λ (b : Bool). b && (is_same (position_of k.first) (position_of l.first) && is_same last other_last)) (below_ends s e k)
-    ∙ ap (λ (p : Position). is_same p (position_of l.first) && is_same last other_last) (sym k.low)
-    ∙ ap (λ (p : Position). is_same e.low p && is_same last other_last) (sym l.low)
-    ∙ ap (λ (p : Position). is_same e.low f.low && is_same p other_last) (sym k.high)
-    ∙ ap (λ (p : Position). is_same e.low f.low && is_same e.high p) (sym l.high)
+alike_by_extents s t e f k l = grind (arith, common_steps, alike_rows, below_ends)
 
 -- what is like one that holds a position holds one
 alike_some : (p q r s : Position) → is_below p q ≡ true → (is_same p r && is_same q s) ≡ true → is_below r s ≡ true
@@ -67,8 +54,7 @@ unlike_empty s t e k none = rw k.rows_are (by_rows t.rows none.none)
   where
     by_rows : (rows : List Row) → ((p : Position) → Holds rows p → ⊥) → hold_alike (k.first ∷ k.others) rows ≡ false
     by_rows [] h = ap (λ (o : Option Row). ends_alike (Some k.first) o (first_row []) (last_row [])) (last_row_is k.first k.others)
-    by_rows (row ∷ rows) h =
-        alike_rows k.first row k.others rows
+    by_rows (row ∷ rows) h = alike_rows k.first row k.others rows
         ∙ by_test (is_same (position_of k.first) (position_of row) && is_same (position_of (last_after k.first k.others))
         (position_of (last_after row rows))) refl
       where
@@ -76,8 +62,7 @@ unlike_empty s t e k none = rw k.rows_are (by_rows t.rows none.none)
         some = below_ends s e k
 
         by_test : (t : Bool) → (is_same (position_of k.first) (position_of row) && is_same (position_of (last_after k.first k.others))
-            (position_of (last_after row rows))) ≡ t
-            → (is_below (position_of k.first) (position_of (last_after k.first k.others))
+            (position_of (last_after row rows))) ≡ t → (is_below (position_of k.first) (position_of (last_after k.first k.others))
             && (is_same (position_of k.first) (position_of row) && is_same (position_of (last_after k.first k.others))
             (position_of (last_after row rows)))) ≡ false
         by_test true same =
@@ -94,8 +79,7 @@ copy_by_extents s e k [] = refl
 copy_by_extents s e k (t ∷ all) =
     let rest = copy_by_extents s e k all in
     let first : Bool = stands_before t.id s.id && hold_alike s.rows t.rows in
-    ⊎_elim
-    (λ (none : IsEmpty t).
+    ⊎_elim (λ (none : IsEmpty t).
     let no : (stands_before t.id s.id && hold_alike s.rows t.rows) ≡ false = and_right
     (stands_before t.id s.id) (hold_alike s.rows t.rows) (unlike_empty s t e k none) in
     ap (λ (b : Bool). b || is_copy all s) no ∙ rest ∙ sym (ap (λ (es : List Extent). is_copied (es ++ extents_of all) e) none.list))
@@ -105,8 +89,7 @@ copy_by_extents s e k (t ∷ all) =
     ∙ ap (λ (id : SeqId). stands_before t.id id && end_alike e one.0) (sym k.id)
     ∙ ap (λ (id : SeqId). stands_before id e.id && end_alike e one.0) (sym one.1.id) in
     ap (λ (b : Bool). b || is_copy all s) same ∙ ap (λ (b : Bool). (stands_before one.0.id e.id && end_alike e one.0) || b) rest
-    ∙ sym (ap (λ (es : List Extent). is_copied (es ++ extents_of all) e) one.1.list))
-    (sketch t)
+    ∙ sym (ap (λ (es : List Extent). is_copied (es ++ extents_of all) e) one.1.list)) (sketch t)
 
 kept_among : (all ss : List Placed)
     → extents_of (filter (λ (s : Placed). not (is_copy all s)) ss) ≡ filter (λ (e : Extent). not (is_copied (extents_of all) e))
@@ -115,12 +98,9 @@ kept_among all [] = refl
 kept_among all (s ∷ ss) =
     let Kept : List Extent = filter (λ (e : Extent). not (is_copied (extents_of all) e)) (extents_of ss) in
     let rest = kept_among all ss in
-    ⊎_elim
-    (λ (none : IsEmpty s).
-    by_empty (not (is_copy all s)) none rest
+    ⊎_elim (λ (none : IsEmpty s). by_empty (not (is_copy all s)) none rest
     ∙ sym (ap (λ (es : List Extent). filter (λ (e : Extent). not (is_copied (extents_of all) e)) (es ++ extents_of ss)) none.list))
-    (λ (one : (e : Extent) × IsSketch s e).
-    ap (λ (t : Bool). extents_of (cond (not t) (s ∷ filter (λ (s : Placed). not (is_copy all s)) ss)
+    (λ (one : (e : Extent) × IsSketch s e). ap (λ (t : Bool). extents_of (cond (not t) (s ∷ filter (λ (s : Placed). not (is_copy all s)) ss)
     (filter (λ (s : Placed). not (is_copy all s)) ss))) (copy_by_extents s one.0 one.1 all)
     ∙ by_test (not (is_copied (extents_of all) one.0)) one.0 one.1 rest
     ∙ sym (ap (λ (es : List Extent). filter (λ (e : Extent). not (is_copied (extents_of all) e)) (es ++ extents_of ss)) one.1.list))
@@ -165,9 +145,7 @@ ids_permuted xs ys h ids =
     pairs_from_each_two R ys (each_two_permutation R xs ys h (each_two_from_pairs R (λ x y ne e. ne (sym e)) xs ids))
 
 pub kept_apart : (ss : List Placed) (ys : List Extent) → IsPermutation (extents_of ss) ys → AllPairs ExtentsDisjoint ys → AreApart ss
-kept_apart ss ys h disjoint =
-    apart_from_disjoint ss
-    (pairs_from_each_two ExtentsDisjoint (extents_of ss)
+kept_apart ss ys h disjoint = apart_from_disjoint ss (pairs_from_each_two ExtentsDisjoint (extents_of ss)
     (each_two_permutation ExtentsDisjoint ys (extents_of ss) (IsPermutation-sym (extents_of ss) ys h)
     (each_two_from_pairs ExtentsDisjoint (λ a b d p x y. d p y x) ys disjoint)))
 
@@ -183,10 +161,8 @@ kept_overlap ss ys overlap h o = overlap_of_sequences ss overlap (record {
 })
 
 pub ids_kept : (skip : Bool) (ss : List Placed) (es ys : List Extent) → es ≡ extents_of ss → AreDistinct ss
-    → IsPermutation (kept_extents skip es) ys
-    → AllPairs (λ (a : Extent) (b : Extent). a.id ≢ b.id) ys
-ids_kept skip ss es ys are distinct h =
-    ids_permuted (extents_of (kept_of skip ss)) ys (kept_are skip ss es ys are h)
+    → IsPermutation (kept_extents skip es) ys → AllPairs (λ (a : Extent) (b : Extent). a.id ≢ b.id) ys
+ids_kept skip ss es ys are distinct h = ids_permuted (extents_of (kept_of skip ss)) ys (kept_are skip ss es ys are h)
     (extents_ids (kept_of skip ss) (kept_distinct skip ss distinct))
 
 -- what a vector holds whose items were put in order

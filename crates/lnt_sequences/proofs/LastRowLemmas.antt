@@ -46,17 +46,13 @@ last_found p (row ∷ rows) =
 -- ---- the sequence
 
 one_alone : (sequences : List Placed) (one other : Placed) (p : Position) → AreApart sequences → Contains sequences one
-    → Contains sequences other → Holds one.rows p → Holds other.rows p
-    → one ≡ other
+    → Contains sequences other → Holds one.rows p → Holds other.rows p → one ≡ other
 one_alone sequences one other p apart a b h k =
     let two = each_two_from_pairs Apart (λ s t f q x y. f q y x) sequences apart in
     let other_at : get_or sequences b.0 one ≡ other = get_or_default sequences b.0 one other b.1 ∙ b.2 in
-    ⊎_elim
-    (λ (e : a.0 ≡ b.0). sym a.2 ∙ ap (λ (n : ℕ). get_or sequences n one) e ∙ other_at)
-    (λ (ne : (a.0 ≡ b.0) → ⊥).
+    ⊎_elim (λ (e : a.0 ≡ b.0). sym a.2 ∙ ap (λ (n : ℕ). get_or sequences n one) e ∙ other_at) (λ (ne : (a.0 ≡ b.0) → ⊥).
     absurd (two a.0 b.0 one ne a.1 b.1 p (subst (λ (s : Placed). Holds s.rows p) (sym a.2) h)
-    (subst (λ (s : Placed). Holds s.rows p) (sym other_at) k)))
-    (cases_eq a.0 b.0)
+    (subst (λ (s : Placed). Holds s.rows p) (sym other_at) k))) (cases_eq a.0 b.0)
 
 said_by : Position → Option Placed → Option Answer
 said_by p found = option_and_then (λ (placed : Placed). option_map (answer_of placed.id.unit) (row_at p placed.rows)) found
@@ -76,8 +72,7 @@ held sequences placed p apart c h =
 none : (sequences : List Placed) (p : Position) → ((placed : Placed) → Contains sequences placed → Holds placed.rows p → ⊥)
     → answer_in sequences p ≡ None
 unfolding said_by
-none sequences p h =
-    ap (said_by p) (find_none (λ (s : Placed). holds p s.rows) sequences
+none sequences p h = ap (said_by p) (find_none (λ (s : Placed). holds p s.rows) sequences
     (λ k d l. not_held (get_or sequences k d).rows p (h (get_or sequences k d) (Contains-get_or sequences k d l))))
 
 pub answers_as_holder : AnswersAsHolder

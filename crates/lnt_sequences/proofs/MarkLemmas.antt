@@ -3,7 +3,6 @@ use Rattle.std.proofs.Common.{◌≡◌, suc, List, [], ◌∷◌, ◌++◌, con
 use Rattle.std.specs.List.{All}
 use Rattle.std.specs.Option.{option_or}
 use Rattle.std.proofs.lemmas.List.{append_assoc}
-use Rattle.std.proofs.lemmas.List.Elements.{All-append, All-cons, All-nil}
 use Rattle.lnt_machine.specs.declared.row.Row.{Row}
 use Rattle.lnt_machine.specs.Walking.{GivesFirstRow, GivesRow, SequenceWalk, WillGive}
 use Rattle.lnt_spans.specs.declared.position.Position.{Position}
@@ -16,6 +15,7 @@ use Rattle.lnt_sequences.specs.Sequences.{last_row, position_of, row_at}
 use Rattle.lnt_sequences.proofs.EvidenceLemmas.{last_row-push}
 use Rattle.lnt_sequences.proofs.RowLemmas.{none_at, rising_from_ordered, row_at_cons}
 use Rattle.lnt_sequences.proofs.WalkLaws.{last_row_is}
+use Rattle.std.proofs.lemmas.Grind.{common_steps}
 
 -- the place before all rows
 pub mark_before : (rows : List Row) (mark : Mark) → mark.last ≡ None → WillGive rows mark.after → IsMarkIn rows mark
@@ -24,10 +24,7 @@ mark_before rows mark none will = record { seen = []; left = rows; rows_are = re
 -- one more mark
 pub marks_more : (rows : List Row) (marks new : List Mark) (mark added : Mark) → All (IsMarkIn rows) marks → IsMarkIn rows mark
     → added ≡ mark → new ≡ marks ++ added ∷ [] → All (IsMarkIn rows) new
-marks_more rows marks new mark added all is same are =
-    subst (All (IsMarkIn rows)) (sym are)
-    (All-append (IsMarkIn rows) marks (added ∷ []) all
-    (All-cons (IsMarkIn rows) added [] (subst (IsMarkIn rows) (sym same) is) (All-nil (IsMarkIn rows))))
+marks_more rows marks new mark added all is same are = grind (arith, common_steps)
 
 -- the place after one more row
 pub mark_after : (rows : List Row) (old new : SequenceWalk) (last : Option Row) (row : Row)
@@ -52,26 +49,22 @@ mark_after rows old new last row is gives = by_left is.left is.rows_are (gives i
 pub found_before : (p : Position) (seen tail : List Row) → row_at p tail ≡ None → IsNotAbove (last_row seen) p
     → last_row seen ≡ row_at p (seen ++ tail)
 found_before p [] tail none at = sym none
-found_before p (row ∷ []) tail none at =
-    sym (row_at_cons p row tail
+found_before p (row ∷ []) tail none at = sym (row_at_cons p row tail
     ∙ ap (λ (o : Option Row). option_or o (cond (is_at_most (position_of row) p) (Some row) None)) none
     ∙ rw (test_at_most (position_of row) p at) refl)
 found_before p (row ∷ next ∷ more) tail none at =
     let later = found_before p (next ∷ more) tail none at in
     let some = sym (last_row_is next more) ∙ later in
-    last_row_is next more
-    ∙ sym (row_at_cons p row ((next ∷ more) ++ tail)
+    last_row_is next more ∙ sym (row_at_cons p row ((next ∷ more) ++ tail)
     ∙ ap (λ (o : Option Row). option_or o (cond (is_at_most (position_of row) p) (Some row) None)) (sym some))
 
 pub ordered_tail : (seen rows : List Row) → IsOrdered (seen ++ rows) → IsOrdered rows
 ordered_tail [] rows ordered = ordered
-ordered_tail (row ∷ seen) rows ordered =
-    ordered_tail seen rows (λ i j d l m. ordered (suc i) (suc j) d (omega arith) (omega arith))
+ordered_tail (row ∷ seen) rows ordered = ordered_tail seen rows (λ i j d l m. ordered (suc i) (suc j) d (omega arith) (omega arith))
 
 -- no row is left
 pub found_last : (p : Position) (rows : List Row) (old new : SequenceWalk) (last : Option Row)
-    → IsMarkIn rows (record { last = last; after = old }) → IsNotAbove last p
-    → GivesRow old None new → last ≡ row_at p rows
+    → IsMarkIn rows (record { last = last; after = old }) → IsNotAbove last p → GivesRow old None new → last ≡ row_at p rows
 found_last p rows old new last is at gives = by_left is.left is.rows_are (gives is.left is.to_come)
   where
     by_left : (left : List Row) → rows ≡ is.seen ++ left → GivesFirstRow left None new → last ≡ row_at p rows

@@ -1,6 +1,6 @@
 -- Where the rows of live sequences name files that are there, what a section answers does too.
-use Rattle.std.proofs.Common.{◌≡◌, ℕ, ◌+◌, ◌<◌, Bool, true, false, not, cond, List, [], ◌∷◌, ◌++◌, Option, Some, None, refl, sym, ap, ◌∙◌}
-use Rattle.std.proofs.Common.{subst, arith, length, inl, inr, ◌⊎◌, ⊎_elim}
+use Rattle.std.proofs.Common.{◌≡◌, ℕ, ◌+◌, ◌<◌, Bool, true, false, not, cond, List, [], ◌∷◌, ◌++◌, Option, Some, None, refl, sym, ap}
+use Rattle.std.proofs.Common.{subst, arith, length, inl, inr, ◌⊎◌}
 use Rattle.std.specs.Prelude.{IfSome, MatchOption}
 use Rattle.std.specs.List.{All, AllByRecursion, find}
 use Rattle.std.specs.Option.{option_and_then, option_map}
@@ -14,16 +14,16 @@ use Rattle.lnt_machine.specs.Cuts.{AreOpen, IsEnded}
 use Rattle.lnt_machine.specs.Matrix.{rows, sequences}
 use Rattle.lnt_spans.specs.declared.answer.Answer.{Answer}
 use Rattle.lnt_spans.specs.declared.position.Position.{Position}
-use Rattle.lnt_spans.specs.Positions.{IsBelow}
 use Rattle.lnt_spans.proofs.PositionLaws.{not_both}
 use Rattle.lnt_sequences.specs.Laws.{IsLastAt}
 use Rattle.lnt_sequences.specs.Rules.{FilesExist, HaveFiles}
-use Rattle.lnt_sequences.specs.Sequences.{answer_in, answer_of, holds, Holds, is_copy, is_live, kept_of, kept_sequences, last_row}
-use Rattle.lnt_sequences.specs.Sequences.{line_answer, live_in, live_sequences, Placed, placed_in, position_of, row_at}
+use Rattle.lnt_sequences.specs.Sequences.{answer_in, answer_of, holds, Holds, is_copy, is_live, kept_of, kept_sequences}
+use Rattle.lnt_sequences.specs.Sequences.{line_answer, live_in, live_sequences, Placed, placed_in, row_at}
 use Rattle.lnt_sequences.proofs.EvidenceLemmas.{each_at, last_row-push}
 use Rattle.lnt_sequences.proofs.ExtentLemmas.{holds_from_test}
 use Rattle.lnt_sequences.proofs.LastRowLemmas.{AreAbove, last_found}
 use Rattle.lnt_sequences.proofs.WalkLaws.{each_ended, placed_from}
+use Rattle.std.proofs.lemmas.Grind.{common_steps}
 
 -- ---- the row that answers isn't the end row
 
@@ -38,13 +38,7 @@ open_or_last (first ∷ before) past (other ∷ body) row last e opens =
 
 row_open : (sequence : Sequence) (p : Position) (row : Row) → IsEnded sequence → Holds sequence.rows p → IsLastAt p sequence.rows row
     → row.end_sequence ≡ false
-row_open sequence p row ended held found =
-    ⊎_elim (λ (h : row.end_sequence ≡ false). h)
-    (λ (same : row ≡ ended.last).
-    let last_is : held.last ≡ row =
-    same_Some held.last row (sym held.last_is ∙ ap last_row ended.rows_are ∙ last_row-push ended.body ended.last ∙ ap Some (sym same)) in
-    absurd (not_both (subst (λ (r : Row). IsBelow p (position_of r)) last_is held.below) found.at))
-    (open_or_last found.before found.past ended.body row ended.last (sym found.rows_are ∙ ended.rows_are) ended.body_open)
+row_open sequence p row ended held found = grind (arith, common_steps, same_Some, last_row-push, not_both, open_or_last)
 
 file_there : (files : ℕ) (sequence : Sequence) (p : Position) (row : Row) → IsEnded sequence → FilesExist files sequence.rows
     → Holds sequence.rows p → row_at p sequence.rows ≡ Some row → row.file < files
@@ -87,14 +81,11 @@ live_names : (Q : ℕ → ℕ → Type 0) (p : Position) (dead : Option ℕ) (un
     → All (Names Q p) (live_sequences dead units)
 live_names Q p dead [] all = All-nil (Names Q p)
 live_names Q p dead (unit ∷ units) all =
-    let of : AllByRecursion (IsOfUnit unit.0) (live_in dead unit) =
-    recursion_from_All (IsOfUnit unit.0) (live_in dead unit)
+    let of : AllByRecursion (IsOfUnit unit.0) (live_in dead unit) = recursion_from_All (IsOfUnit unit.0) (live_in dead unit)
     (All-filter (is_live dead) (IsOfUnit unit.0) (placed_in unit)
     (All-from_recursion (IsOfUnit unit.0) (placed_in unit) (each_of_unit unit.0 0 (sequences unit.1) (each_ended (rows unit.1))))) in
-    All-append (Names Q p) (live_in dead unit) (live_sequences dead units)
-    (All-from_recursion (Names Q p) (live_in dead unit)
-    (each_names Q p unit.0 (length unit.1.header.files) (live_in dead unit) all.0.there of all.0.have))
-    (live_names Q p dead units all.1)
+    All-append (Names Q p) (live_in dead unit) (live_sequences dead units) (All-from_recursion (Names Q p) (live_in dead unit)
+    (each_names Q p unit.0 (length unit.1.header.files) (live_in dead unit) all.0.there of all.0.have)) (live_names Q p dead units all.1)
 
 kept_names : (Q : ℕ → ℕ → Type 0) (p : Position) (skip : Bool) (ss : List Placed) → All (Names Q p) ss → All (Names Q p) (kept_of skip ss)
 kept_names Q p false ss all = all
@@ -119,8 +110,7 @@ answer_names Q p (s ∷ ss) all = by_test (holds p s.rows) refl (answer_names Q 
     by_test false e rest = rest
 
 pub line_names : (Q : ℕ → ℕ → Type 0) (dead : Option ℕ) (skip : Bool) (units : List (ℕ × UnitParts)) (p : Position)
-    → AllByRecursion (NamesFiles Q dead) units
-    → IfSome (line_answer dead skip units p) (λ (answer : Answer). Q answer.unit answer.file)
+    → AllByRecursion (NamesFiles Q dead) units → IfSome (line_answer dead skip units p) (λ (answer : Answer). Q answer.unit answer.file)
 line_names Q dead skip units p all =
     let kept = kept_sequences dead skip units in
     let named = kept_names Q p skip (live_sequences dead units) (live_names Q p dead units all) in

@@ -5,7 +5,6 @@ use Rattle.std.proofs.Common.{subst, arith, length, get_or, inl, inr, ⊎_elim, 
 use Rattle.std.specs.List.{AllPairs, All}
 use Rattle.std.specs.List.Sorted.{IsPermutation}
 use Rattle.std.specs.Ordering.{ordering_then}
-use Rattle.std.proofs.lemmas.Bool.Decides.{nat_tests}
 use Rattle.std.proofs.lemmas.List.Sorted.{IsPermutation-sym, Contains-permutation, All-permutation}
 use Rattle.std.proofs.lemmas.List.Elements.{Contains-get_or}
 use Rattle.std.proofs.lemmas.Bool.{cases_eq, cases_lt}
@@ -18,29 +17,21 @@ use Rattle.lnt_sequences.specs.declared.extent.Extent.{Extent}
 use Rattle.lnt_sequences.specs.declared.sequence.SeqId.{SeqId}
 use Rattle.lnt_sequences.specs.Extents.{AreApartUpTo, AreSorted, ComesNoLater, IsIn, IsNotLater}
 use Rattle.lnt_sequences.specs.Overlaps.{AreFirstToOverlap, ExtentsDisjoint}
+use Rattle.std.proofs.lemmas.Grind.{common_steps}
 
 -- ---- extents in order
 
 -- what a sort by these four numbers says of neighbours
 pub not_later : (one other : Extent)
     → is_lt (ordering_then (ordering_then (ordering_then (nat_cmp other.low.address one.low.address) (nat_cmp other.low.op one.low.op))
-    (nat_cmp other.id.unit one.id.unit)) (nat_cmp other.id.index one.id.index)) ≡ false
-    → ComesNoLater one other
-not_later one other h = record {
-  low = record { address = grind (arith, nat_tests); op = λ e. grind (arith, nat_tests) };
-  unit = λ e f. grind (arith, nat_tests);
-  index = λ e f g. grind (arith, nat_tests);
-}
+    (nat_cmp other.id.unit one.id.unit)) (nat_cmp other.id.index one.id.index)) ≡ false → ComesNoLater one other
+not_later one other h = grind (arith, common_steps)
 
 pub place_itself : (p : Position) (id : SeqId) → IsNotLater p id p id
 place_itself p id = record { low = at_most_itself p; unit = λ _ _. omega arith; index = λ _ _ _. omega arith }
 
 pub place_trans : (p q r : Position) (a b c : SeqId) → IsNotLater p a q b → IsNotLater q b r c → IsNotLater p a r c
-place_trans p q r a b c h k = record {
-  low = at_most_trans h.low k.low;
-  unit = λ e f. grind arith;
-  index = λ e f g. grind arith;
-}
+place_trans p q r a b c h k = grind (arith, common_steps, at_most_trans)
 
 -- what holds of all neighbours, holds of any two in order
 pub stand_far : {X : Type 0} (R : X → X → Type 0) → ((x : X) → R x x) → ((x y z : X) → R x y → R y z → R x z) → (xs : List X)
@@ -48,9 +39,7 @@ pub stand_far : {X : Type 0} (R : X → X → Type 0) → ((x : X) → R x x) �
     → R (get_or xs i d) (get_or xs j d)
 stand_far R itself passes xs s i zero d h l =
     let e : i ≡ 0 = omega arith in subst (λ (k : ℕ). R (get_or xs k d) (get_or xs 0 d)) (sym e) (itself (get_or xs 0 d))
-stand_far R itself passes xs s i (suc j) d h l =
-    ⊎_elim
-    (λ (lt : i < suc j).
+stand_far R itself passes xs s i (suc j) d h l = ⊎_elim (λ (lt : i < suc j).
     let next : R (get_or xs j d) (get_or xs (suc j) d) = rw add-one at (s j d (omega arith)) in
     passes (get_or xs i d) (get_or xs j d) (get_or xs (suc j) d) (stand_far R itself passes xs s i j d (omega arith) (omega arith)) next)
     (λ (le : suc j ≤ i).
@@ -100,23 +89,14 @@ first_overlap_is es s some ids k d l a low =
   where
     lower_of : (p : Position) → IsBelow p (get_or es (k + 1) d).low → (i j : ℕ) → i < j → j < length es → IsIn p (get_or es i d)
         → IsIn p (get_or es j d) → ⊥
-    lower_of p h i j lt lj x y =
-        ⊎_elim
-        (λ (near : j < k + 1). disjoint_up_to es s k a i j d (omega arith) lt lj p x y)
-        (λ (far : k + 1 ≤ j). not_both h (at_most_trans (sorted_far es s (k + 1) j d far lj).low y.from))
-        (cases_lt j (k + 1))
+    lower_of p h i j lt lj x y = ⊎_elim (λ (near : j < k + 1). disjoint_up_to es s k a i j d (omega arith) lt lj p x y)
+        (λ (far : k + 1 ≤ j). not_both h (at_most_trans (sorted_far es s (k + 1) j d far lj).low y.from)) (cases_lt j (k + 1))
 
     two_of : (i : ℕ) → i < length es → IsIn (get_or es (k + 1) d).low (get_or es i d)
         → (get_or es i d ≡ get_or es k d) ⊎ (get_or es i d ≡ get_or es (k + 1) d) ⊎ ComesNoLater (get_or es (k + 1) d) (get_or es i d)
-    two_of i li x =
-        ⊎_elim
-        (λ (lt : i < k). absurd (not_both x.below (ends_before es s k a i (k + 1) d lt (omega arith) l)))
-        (λ (le : k ≤ i).
-        ⊎_elim
-        (λ (e : i ≡ k). inl (ap (λ (m : ℕ). get_or es m d) e))
-        (λ (ne : i ≡ k → ⊥). inr (inr (sorted_far es s (k + 1) i d (omega arith) li)))
-        (cases_eq i k))
-        (cases_lt i k)
+    two_of i li x = ⊎_elim (λ (lt : i < k). absurd (not_both x.below (ends_before es s k a i (k + 1) d lt (omega arith) l)))
+        (λ (le : k ≤ i). ⊎_elim (λ (e : i ≡ k). inl (ap (λ (m : ℕ). get_or es m d) e))
+        (λ (ne : i ≡ k → ⊥). inr (inr (sorted_far es s (k + 1) i d (omega arith) li))) (cases_eq i k)) (cases_lt i k)
 
 -- the same of extents in another order
 pub first_overlap_permuted : (xs ys : List Extent) (one other : Extent) → IsPermutation xs ys → AreFirstToOverlap ys one other

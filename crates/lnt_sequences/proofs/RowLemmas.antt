@@ -20,6 +20,7 @@ use Rattle.lnt_sequences.specs.Rules.{AreOrdered, IsOrdered}
 use Rattle.lnt_sequences.specs.Sequences.{answer_in, answer_of, holds, Placed, position_of, row_at}
 use Rattle.lnt_sequences.specs.Watching.{last_after}
 use Rattle.lnt_sequences.proofs.WalkLaws.{last_row_is}
+use Rattle.std.proofs.lemmas.Grind.{common_steps}
 
 -- ---- one span
 
@@ -55,17 +56,14 @@ step_between unit row next spans c false e h k = between_from (position_of row) 
 pub after_between : (unit : ℕ) (row : Row) (rows : List Row) → IsRising row rows
     → AreBetween (position_of row) (spans_after unit row rows) (position_of (last_after row rows))
 after_between unit row [] h = at_most_itself (position_of row)
-after_between unit row (next ∷ rows) h =
-    step_between unit row next (spans_after unit next rows) (position_of (last_after next rows))
-    (is_below (position_of row) (position_of next)) refl h.0
-    (after_between unit next rows h.1)
+after_between unit row (next ∷ rows) h = step_between unit row next (spans_after unit next rows) (position_of (last_after next rows))
+    (is_below (position_of row) (position_of next)) refl h.0 (after_between unit next rows h.1)
 
 -- ---- the last row at or before a position
 
 pub row_at_cons : (p : Position) (row : Row) (rows : List Row)
     → row_at p (row ∷ rows) ≡ option_or (row_at p rows) (cond (is_at_most (position_of row) p) (Some row) None)
-row_at_cons p row rows =
-    ap (λ (xs : List Row). find (λ (r : Row). is_at_most (position_of r) p) xs) (reverse-append (row ∷ []) rows)
+row_at_cons p row rows = ap (λ (xs : List Row). find (λ (r : Row). is_at_most (position_of r) p) xs) (reverse-append (row ∷ []) rows)
     ∙ find-append (λ (r : Row). is_at_most (position_of r) p) (reverse rows) (row ∷ [])
 
 or_some : (o : Option Row) (row : Row) → (found : Row) × (option_or o (Some row) ≡ Some found)
@@ -80,8 +78,7 @@ some_at p row rows h =
 
 pub none_at : (p : Position) (row : Row) (rows : List Row) → IsRising row rows → IsBelow p (position_of row) → row_at p (row ∷ rows) ≡ None
 none_at p row [] h k = row_at_cons p row [] ∙ rw (test_not_at_most (position_of row) p k) refl
-none_at p row (next ∷ rows) h k =
-    row_at_cons p row (next ∷ rows)
+none_at p row (next ∷ rows) h k = row_at_cons p row (next ∷ rows)
     ∙ rw (test_not_at_most (position_of row) p k, none_at p next rows h.1 (below_at_most k h.0)) refl
 
 -- what one span more answers
@@ -102,8 +99,7 @@ pass : (unit : ℕ) (row next : Row) (p : Position) (t : Bool) → IsAtMost (pos
 pass unit row next p false h = refl
 pass unit row next p true h = rw (test_not_below p (position_of next) h) (both_none (is_at_most (position_of row) p))
   where
-    both_none : (b : Bool)
-        → option_map (λ (s : Span). s.answer)
+    both_none : (b : Bool) → option_map (λ (s : Span). s.answer)
         (cond (b && false) (Some (record { low = position_of row; high = position_of next; answer = answer_of unit row })) None) ≡ None
     both_none true = refl
     both_none false = refl
@@ -114,8 +110,7 @@ pub after_answers : (unit : ℕ) (row : Row) (rows : List Row) (p : Position) �
 after_answers unit row [] p h k = rw (test_not_below p (position_of row) k) refl
 after_answers unit row (next ∷ rows) p h k = by_next (is_at_most (position_of next) p) refl (λ at. after_answers unit next rows p h.1 at)
   where
-    by_next : (t : Bool) → is_at_most (position_of next) p ≡ t
-        → (IsAtMost (position_of next) p
+    by_next : (t : Bool) → is_at_most (position_of next) p ≡ t → (IsAtMost (position_of next) p
         → span_answer (spans_after unit next rows) p ≡ cond (is_below p (position_of (last_after next rows)))
         (option_map (answer_of unit) (row_at p (next ∷ rows))) None)
         → span_answer (spans_after unit row (next ∷ rows)) p ≡ cond (is_below p (position_of (last_after next rows)))
@@ -155,9 +150,7 @@ rising_list (row ∷ rows) o = rising_from_ordered row rows o
 
 pub holds_is : (row : Row) (rows : List Row) (p : Position)
     → holds p (row ∷ rows) ≡ (is_at_most (position_of row) p && is_below p (position_of (last_after row rows)))
-holds_is row rows p =
-    ap (λ (o : Option Row). elim o [ None ↦ false | Some last ↦ is_at_most (position_of row) p && is_below p (position_of last) ])
-    (last_row_is row rows)
+holds_is row rows p = grind (arith, common_steps, last_row_is)
 
 pub row_spans_answer : (unit : ℕ) (rows : List Row) (p : Position) → IsRisingList rows
     → span_answer (row_spans unit rows) p ≡ sequence_answer unit rows p
@@ -167,16 +160,14 @@ row_spans_answer unit (row ∷ rows) p h = by_first (is_at_most (position_of row
     by_first : (t : Bool) → is_at_most (position_of row) p ≡ t
         → span_answer (spans_after unit row rows) p ≡ sequence_answer unit (row ∷ rows) p
     by_first true e = rw (holds_is row rows p, e) (after_answers unit row rows p h (at_most_from_test (position_of row) p e))
-    by_first false e =
-        rw (holds_is row rows p, e)
+    by_first false e = rw (holds_is row rows p, e)
         (none_below (position_of row) (position_of (last_after row rows)) (spans_after unit row rows) p (after_between unit row rows h)
         (below_from_not_at_most (position_of row) p e))
 
 -- where it holds p, there is a row at or before p
 pub holds_some : (rows : List Row) (p : Position) → holds p rows ≡ true → (found : Row) × (row_at p rows ≡ Some found)
 holds_some [] p h = absurd cc
-holds_some (row ∷ rows) p h =
-    some_at p row rows (at_most_from_test (position_of row) p
+holds_some (row ∷ rows) p h = some_at p row rows (at_most_from_test (position_of row) p
     (first_true (is_at_most (position_of row) p) (is_below p (position_of (last_after row rows))) (sym (holds_is row rows p) ∙ h)))
   where
     first_true : (a b : Bool) → (a && b) ≡ true → a ≡ true
@@ -186,8 +177,7 @@ holds_some (row ∷ rows) p h =
 pub spans_answer : (sequences : List Placed) → AreOrdered sequences → (p : Position)
     → span_answer (spans_of sequences) p ≡ answer_in sequences p
 spans_answer [] o p = refl
-spans_answer (placed ∷ sequences) o p =
-    span_answer-append (row_spans placed.id.unit placed.rows) (spans_of sequences) p
+spans_answer (placed ∷ sequences) o p = span_answer-append (row_spans placed.id.unit placed.rows) (spans_of sequences) p
     ∙ rw (row_spans_answer placed.id.unit placed.rows p (rising_list placed.rows o.0), spans_answer sequences o.1 p)
     (one_more (holds p placed.rows) (find (λ (q : Placed). holds p q.rows) sequences) (λ e. holds_some placed.rows p e))
   where

@@ -41,8 +41,7 @@ after_last unit spans old new last previous row has gives some =
 
 -- a row at a higher position
 pub spans_here : (unit : ℕ) (spans : List Span) (old new : SequenceWalk) (last : Option Row) (previous row : Row)
-    → HasSpans unit spans old last → GivesRow old (Some row) new → last ≡ Some previous
-    → IsBelow (position_of previous) (position_of row)
+    → HasSpans unit spans old last → GivesRow old (Some row) new → last ≡ Some previous → IsBelow (position_of previous) (position_of row)
     → GivesSpan unit spans (Some (record { low = position_of previous; high = position_of row; answer = answer_of unit previous })) new
     (Some row)
 spans_here unit spans old new last previous row has gives some below =

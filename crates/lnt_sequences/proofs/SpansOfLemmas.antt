@@ -27,8 +27,7 @@ use Rattle.lnt_sequences.proofs.RowLemmas.{IsRising, rising_from_ordered, rising
 
 -- two pieces in front, in each other's place
 two_pieces : {A : Type 0} (xs ys zs : List A) → IsPermutation (xs ++ (ys ++ zs)) (ys ++ (xs ++ zs))
-two_pieces xs ys zs =
-    subst (λ l. IsPermutation l (ys ++ (xs ++ zs))) (append_assoc xs ys zs)
+two_pieces xs ys zs = subst (λ l. IsPermutation l (ys ++ (xs ++ zs))) (append_assoc xs ys zs)
     (subst (IsPermutation ((xs ++ ys) ++ zs)) (append_assoc ys xs zs)
     (IsPermutation-append_left zs (xs ++ ys) (ys ++ xs) (IsPermutation-append_comm xs ys)))
 
@@ -79,8 +78,7 @@ spans_by : List Placed → Extent → List Span
 spans_by sequences extent = spans_found (find (λ placed. holds extent.low placed.rows) sequences)
 
 spans_by_sketch : (sequences : List Placed) (placed : Placed) (extent : Extent) → AreApart sequences → Contains sequences placed
-    → IsSketch placed extent
-    → spans_by sequences extent ≡ row_spans placed.id.unit placed.rows
+    → IsSketch placed extent → spans_by sequences extent ≡ row_spans placed.id.unit placed.rows
 unfolding spans_by spans_found
 spans_by_sketch sequences placed extent apart c s =
     let here : IsIn extent.low extent = record { from = at_most_itself extent.low; below = s.some } in
@@ -100,13 +98,10 @@ flat_spans unit row (next ∷ rows) rising flat =
 
 empty_spans : (unit : ℕ) (rows : List Row) → IsOrdered rows → ((p : Position) → Holds rows p → ⊥) → row_spans unit rows ≡ []
 empty_spans unit [] ordered none = refl
-empty_spans unit (row ∷ rows) ordered none =
-    ⊎_elim
-    (λ (below : IsBelow (position_of row) (position_of (last_after row rows))). absurd
+empty_spans unit (row ∷ rows) ordered none = ⊎_elim (λ (below : IsBelow (position_of row) (position_of (last_after row rows))). absurd
     (none (position_of row) (holds_after row rows (position_of row) (at_most_itself (position_of row)) below)))
     (λ (flat : IsAtMost (position_of (last_after row rows)) (position_of row)). flat_spans unit row rows
-    (rising_from_ordered row rows ordered) flat)
-    (order_cases (position_of row) (position_of (last_after row rows)))
+    (rising_from_ordered row rows ordered) flat) (order_cases (position_of row) (position_of (last_after row rows)))
 
 -- ---- all of them
 
@@ -117,24 +112,20 @@ spans_by_extents : (sequences some : List Placed) → AreApart sequences → Are
 spans_by_extents sequences [] apart ordered within = refl
 spans_by_extents sequences (placed ∷ some) apart ordered within =
     let rest = spans_by_extents sequences some apart ordered.1 (λ s c. within s (Contains-past placed some s c)) in
-    ⊎_elim
-    (λ (none : IsEmpty placed).
+    ⊎_elim (λ (none : IsEmpty placed).
     ap (λ (spans : List Span). spans ++ spans_of some) (empty_spans placed.id.unit placed.rows ordered.0 none.none) ∙ rest
     ∙ sym (ap (λ (es : List Extent). flat_map (spans_by sequences) (es ++ extents_of some)) none.list))
-    (λ (one : (e : Extent) × IsSketch placed e).
-    ap (λ (spans : List Span). spans ++ spans_of some)
+    (λ (one : (e : Extent) × IsSketch placed e). ap (λ (spans : List Span). spans ++ spans_of some)
     (sym (spans_by_sketch sequences placed one.0 apart (within placed (0, omega arith, refl)) one.1))
     ∙ ap (λ (spans : List Span). spans_by sequences one.0 ++ spans) rest
-    ∙ sym (ap (λ (es : List Extent). flat_map (spans_by sequences) (es ++ extents_of some)) one.1.list))
-    (sketch placed)
+    ∙ sym (ap (λ (es : List Extent). flat_map (spans_by sequences) (es ++ extents_of some)) one.1.list)) (sketch placed)
 
 pub record IsTurnOf (sequences : List Placed) (entry : Extent) (placed : Placed) : Type 0 where
   pub contained : Contains sequences placed
   pub sketch : IsSketch placed entry
 
 spans_by_entries : (sequences : List Placed) (entries : List Extent) (in_turn : List Placed) → AreApart sequences
-    → AllZip (IsTurnOf sequences) entries in_turn
-    → spans_of in_turn ≡ flat_map (spans_by sequences) entries
+    → AllZip (IsTurnOf sequences) entries in_turn → spans_of in_turn ≡ flat_map (spans_by sequences) entries
 spans_by_entries sequences [] [] apart z = refl
 spans_by_entries sequences (e ∷ es) (s ∷ ss) apart z =
     ap (λ (spans : List Span). spans ++ spans_of ss) (sym (spans_by_sketch sequences s e apart z.0.contained z.0.sketch))
@@ -144,8 +135,7 @@ spans_by_entries sequences _ _ apart z = absurd z
 pub turns_permuted : (sequences : List Placed) (entries : List Extent) (in_turn : List Placed)
     → IsPermutation (extents_of sequences) entries → AreApart sequences → AreOrdered sequences
     → AllZip (IsTurnOf sequences) entries in_turn → IsPermutation (spans_of sequences) (spans_of in_turn)
-turns_permuted sequences entries in_turn permuted apart ordered z =
-    subst (λ (spans : List Span). IsPermutation spans (spans_of in_turn))
+turns_permuted sequences entries in_turn permuted apart ordered z = subst (λ (spans : List Span). IsPermutation spans (spans_of in_turn))
     (sym (spans_by_extents sequences sequences apart ordered (λ s c. c)))
     (subst (IsPermutation (flat_map (spans_by sequences) (extents_of sequences))) (sym (spans_by_entries sequences entries in_turn apart z))
     (pieces_permuted (spans_by sequences) (extents_of sequences) entries permuted))

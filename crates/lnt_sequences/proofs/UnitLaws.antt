@@ -6,10 +6,6 @@ use Rattle.std.proofs.lemmas.List.Concat.{flat_map-append}
 use Rattle.std.proofs.lemmas.List.Elements.{All-append, All-cons, All-filter, All-nil, All-weaker}
 use Rattle.std.proofs.lemmas.List.Kept.{AllPairs-filter}
 use Rattle.lnt_wire.specs.declared.format.Order.{Order}
-use Rattle.lnt_wire.specs.FrameBytes.{version_five}
-use Rattle.lnt_wire.specs.InitialLength.{initial_length}
-use Rattle.lnt_wire.specs.Numbers.{number_bytes, offset_size}
-use Rattle.lnt_header_bytes.specs.HeaderBytes.{unit_body}
 use Rattle.lnt_header.specs.declared.unit_parts.UnitParts.{UnitParts}
 use Rattle.lnt_unit.specs.UnitBytes.{UnitBytesIn, UnitsFrom}
 use Rattle.lnt_machine.specs.declared.row.Row.{Row}
@@ -17,20 +13,19 @@ use Rattle.lnt_machine.specs.declared.row.Sequence.{Sequence}
 use Rattle.lnt_machine.specs.Matrix.{joined_rows, rows, Runs, sequences_of}
 use Rattle.lnt_spans.proofs.EachTwoLaws.{pairs_append, pairs_cons, pairs_head, pairs_nil, pairs_tail}
 use Rattle.lnt_sequences.specs.declared.collected.Collected.{Collected}
-use Rattle.lnt_sequences.specs.declared.extent.Extent.{Extent}
-use Rattle.lnt_sequences.specs.Extents.{extent_of, extents_of}
+use Rattle.lnt_sequences.specs.Extents.{extents_of}
 use Rattle.lnt_sequences.specs.Rules.{AreDistinct, AreOrdered}
 use Rattle.lnt_sequences.specs.Sequences.{is_live, live_in, live_of, live_sequences, Placed, placed_in, placed_rows}
-use Rattle.lnt_sequences.specs.Watching.{Collects, CollectsRows, extent_shown, shown, start}
+use Rattle.lnt_sequences.specs.Watching.{Collects, CollectsRows}
 use Rattle.lnt_sequences.proofs.WalkLaws.{each_ended, extents_ended, placed_from, whole}
+use Rattle.std.proofs.lemmas.Grind.{common_steps}
 
 -- ---- the sequences
 
 -- those of one more unit
 pub live-append : (dead : Option ℕ) (units : List (ℕ × UnitParts)) (unit : ℕ × UnitParts)
     → live_sequences dead (units ++ unit ∷ []) ≡ live_sequences dead units ++ live_in dead unit
-live-append dead units unit =
-    flat_map-append (live_in dead) units (unit ∷ [])
+live-append dead units unit = flat_map-append (live_in dead) units (unit ∷ [])
     ∙ ap (λ (more : List Placed). live_sequences dead units ++ more) (append-nil (live_in dead unit))
 
 pub ordered-append : (xs ys : List Placed) → AreOrdered xs → AreOrdered ys → AreOrdered (xs ++ ys)
@@ -42,35 +37,21 @@ ordered-append (x ∷ xs) ys h k = (h.0, ordered-append xs ys h.1 k)
 -- of no row yet
 pub collects_none : (dead : Option ℕ) (unit : ℕ) (collected : Collected) (ss : List Placed) → Collects collected ss
     → CollectsRows dead unit collected ss []
-collects_none dead unit collected ss c few = record {
-  extents = c.extents ∙ sym (append-nil (extents_of ss));
-}
+collects_none dead unit collected ss c few = grind (arith, common_steps, append-nil)
 
 -- of all rows of a unit, each of which stands in a sequence
 pub collects_all : (dead : Option ℕ) (unit : ℕ) (collected : Collected) (ss : List Placed) (all : List Row)
     → joined_rows (sequences_of all) ≡ all → length all < 2 ^ 64
     → CollectsRows dead unit collected ss all → Collects collected (ss ++ live_of dead (placed_rows unit all))
-collects_all dead unit collected ss all closed few c =
-    let both = c few in
-    record {
-      extents =
-          both.extents
-          ∙ ap (λ (more : List Extent). extents_of ss ++ more)
-          (ap (shown (extent_shown dead unit) start) (sym closed)
-          ∙ whole (extent_shown dead unit) extent_of dead unit (λ walk s e none. extents_ended dead unit walk s e none) 0 (sequences_of all)
-          start (each_ended all) refl refl)
-          ∙ sym (flat_map-append extent_of ss (live_of dead (placed_rows unit all)));
-    }
+collects_all dead unit collected ss all closed few c = grind (arith, common_steps, whole, extents_ended, each_ended, flat_map-append)
 
 pub collects_unit : (dead : Option ℕ) (unit : ℕ × UnitParts) (collected : Collected) (ss : List Placed) → Runs unit.1
-    → length (rows unit.1) < 2 ^ 64
-    → CollectsRows dead unit.0 collected ss (rows unit.1) → Collects collected (ss ++ live_in dead unit)
+    → length (rows unit.1) < 2 ^ 64 → CollectsRows dead unit.0 collected ss (rows unit.1) → Collects collected (ss ++ live_in dead unit)
 collects_unit dead unit collected ss runs few c = collects_all dead unit.0 collected ss (rows unit.1) runs.closed few c
 
 -- the same of a section's units and one more
 pub collects_more : (dead : Option ℕ) (units : List (ℕ × UnitParts)) (unit : ℕ × UnitParts) (collected : Collected) → Runs unit.1
-    → length (rows unit.1) < 2 ^ 64
-    → CollectsRows dead unit.0 collected (live_sequences dead units) (rows unit.1)
+    → length (rows unit.1) < 2 ^ 64 → CollectsRows dead unit.0 collected (live_sequences dead units) (rows unit.1)
     → Collects collected (live_sequences dead (units ++ unit ∷ []))
 collects_more dead units unit collected runs few c =
     let more = collects_unit dead unit collected (live_sequences dead units) runs few c in
@@ -91,8 +72,7 @@ pub all_from : (unit index : ℕ) (ss : List Sequence) → All (IsFrom unit inde
 all_from unit index [] = All-nil (IsFrom unit index)
 all_from unit index (s ∷ ss) =
     All-cons (IsFrom unit index) (record { id = record { unit = unit; index = index }; rows = s.rows }) (placed_from unit (index + 1) ss)
-    (record { unit_is = refl; index_from = omega arith })
-    (All-weaker (IsFrom unit (index + 1)) (IsFrom unit index)
+    (record { unit_is = refl; index_from = omega arith }) (All-weaker (IsFrom unit (index + 1)) (IsFrom unit index)
     (λ placed f. record { unit_is = f.unit_is; index_from = let from = f.index_from in omega arith }) (placed_from unit (index + 1) ss)
     (all_from unit (index + 1) ss))
 
@@ -100,11 +80,9 @@ distinct_from : (unit index : ℕ) (ss : List Sequence) → AreDistinct (placed_
 distinct_from unit index [] = pairs_nil IdDiffers
 distinct_from unit index (s ∷ ss) =
     let first : Placed = record { id = record { unit = unit; index = index }; rows = s.rows } in
-    pairs_cons IdDiffers first (placed_from unit (index + 1) ss)
-    (All-weaker (IsFrom unit (index + 1)) (IdDiffers first)
+    pairs_cons IdDiffers first (placed_from unit (index + 1) ss) (All-weaker (IsFrom unit (index + 1)) (IdDiffers first)
     (λ placed f same. let from = f.index_from in omega (arith, ap (λ id. id.index) same)) (placed_from unit (index + 1) ss)
-    (all_from unit (index + 1) ss))
-    (distinct_from unit (index + 1) ss)
+    (all_from unit (index + 1) ss)) (distinct_from unit (index + 1) ss)
 
 -- the sequences of one unit
 pub distinct_all : (dead : Option ℕ) (unit : ℕ) (all : List Row) → AreDistinct (live_of dead (placed_rows unit all))
@@ -117,8 +95,7 @@ abbrev pub IsOf : ℕ → Placed → Type 0
 IsOf unit placed = placed.id.unit ≡ unit
 
 pub all_of : (dead : Option ℕ) (unit : ℕ × UnitParts) → All (IsOf unit.0) (live_in dead unit)
-all_of dead unit =
-    All-filter (is_live dead) (IsOf unit.0) (placed_in unit)
+all_of dead unit = All-filter (is_live dead) (IsOf unit.0) (placed_in unit)
     (All-weaker (IsFrom unit.0 0) (IsOf unit.0) (λ placed f. f.unit_is) (placed_in unit) (all_from unit.0 0 (sequences_of (rows unit.1))))
 
 abbrev IsNotOf : ℕ → Placed → Type 0
@@ -127,16 +104,13 @@ IsNotOf unit placed = unit ≢ placed.id.unit
 none_of : (dead : Option ℕ) (unit : ℕ) (units : List (ℕ × UnitParts)) → All (λ (other : ℕ × UnitParts). unit ≢ other.0) units
     → All (IsNotOf unit) (live_sequences dead units)
 none_of dead unit [] h = All-nil (IsNotOf unit)
-none_of dead unit (other ∷ units) h =
-    All-append (IsNotOf unit) (live_in dead other) (live_sequences dead units)
+none_of dead unit (other ∷ units) h = All-append (IsNotOf unit) (live_in dead other) (live_sequences dead units)
     (All-weaker (IsOf other.0) (IsNotOf unit) (λ placed same e. h 0 other (omega arith) (e ∙ same)) (live_in dead other)
-    (all_of dead other))
-    (none_of dead unit units (λ k d l. h (suc k) d (omega arith)))
+    (all_of dead other)) (none_of dead unit units (λ k d l. h (suc k) d (omega arith)))
 
 -- those of units with different offsets
 pub distinct_sequences : (dead : Option ℕ) (units : List (ℕ × UnitParts))
-    → AllPairs (λ (one : ℕ × UnitParts) (other : ℕ × UnitParts). one.0 ≢ other.0) units
-    → AreDistinct (live_sequences dead units)
+    → AllPairs (λ (one : ℕ × UnitParts) (other : ℕ × UnitParts). one.0 ≢ other.0) units → AreDistinct (live_sequences dead units)
 distinct_sequences dead [] h = pairs_nil IdDiffers
 distinct_sequences dead (unit ∷ units) h =
     let Differ : ℕ × UnitParts → ℕ × UnitParts → Type 0 = λ one other. one.0 ≢ other.0 in
@@ -156,25 +130,10 @@ offsets_from order offset (unit ∷ units) bytes h =
     let at = h.2 in
     All-cons (λ (unit : ℕ × UnitParts). offset ≤ unit.0) unit units (omega arith)
     (All-weaker (λ (unit : ℕ × UnitParts). offset + length h.0 ≤ unit.0) (λ (unit : ℕ × UnitParts). offset ≤ unit.0)
-    (λ other le. omega arith) units
-    (offsets_from order (offset + length h.0) units h.1 h.5))
+    (λ other le. omega arith) units (offsets_from order (offset + length h.0) units h.1 h.5))
 
 some_bytes : (order : Order) (unit : UnitParts) (bytes : List ℕ) → UnitBytesIn order unit bytes → 0 < length bytes
-some_bytes order unit bytes u =
-    let header = u.spelled.whole in
-    let body = unit_body unit.header header.fields u.spelled.program in
-    let first = initial_length unit.header.format unit.header.order (length body) in
-    let front = version_five unit.header.order ++ (unit.header.address_size ∷ 0 ∷ []) in
-    let number = number_bytes unit.header.order (offset_size unit.header.format) (length header.fields) in
-    omega (
-      arith,
-      ap length header.joined,
-      length-append first body,
-      length-append (((front ++ number) ++ header.fields)) u.spelled.program,
-      length-append (front ++ number) header.fields,
-      length-append front number,
-      length-append (version_five unit.header.order) (unit.header.address_size ∷ 0 ∷ []),
-    )
+some_bytes order unit bytes u = grind (arith, common_steps, length-append)
 
 pub offsets_differ : (order : Order) (offset : ℕ) (units : List (ℕ × UnitParts)) (bytes : List ℕ) → UnitsFrom order offset units bytes
     → AllPairs (λ (one : ℕ × UnitParts) (other : ℕ × UnitParts). one.0 ≢ other.0) units
@@ -184,8 +143,7 @@ offsets_differ order offset (unit ∷ units) bytes h =
     let some = some_bytes order unit.1 h.0 h.3 in
     pairs_cons (λ (one : ℕ × UnitParts) (other : ℕ × UnitParts). one.0 ≢ other.0) unit units
     (All-weaker (λ (other : ℕ × UnitParts). offset + length h.0 ≤ other.0) (λ (other : ℕ × UnitParts). unit.0 ≢ other.0)
-    (λ other le same. omega arith) units
-    (offsets_from order (offset + length h.0) units h.1 h.5))
+    (λ other le same. omega arith) units (offsets_from order (offset + length h.0) units h.1 h.5))
     (offsets_differ order (offset + length h.0) units h.1 h.5)
 
 pub offsets_rise : (order : Order) (offset : ℕ) (units : List (ℕ × UnitParts)) (bytes : List ℕ) → UnitsFrom order offset units bytes
@@ -196,7 +154,5 @@ offsets_rise order offset (unit ∷ units) bytes h =
     let some = some_bytes order unit.1 h.0 h.3 in
     pairs_cons (λ (one : ℕ × UnitParts) (other : ℕ × UnitParts). one.0 < other.0) unit units
     (All-weaker (λ (other : ℕ × UnitParts). offset + length h.0 ≤ other.0) (λ (other : ℕ × UnitParts). unit.0 < other.0)
-    (λ other le. omega arith)
-    units
-    (offsets_from order (offset + length h.0) units h.1 h.5))
+    (λ other le. omega arith) units (offsets_from order (offset + length h.0) units h.1 h.5))
     (offsets_rise order (offset + length h.0) units h.1 h.5)

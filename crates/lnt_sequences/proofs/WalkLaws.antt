@@ -15,6 +15,7 @@ use Rattle.lnt_sequences.specs.Extents.{extent_between, extent_of, extent_of_row
 use Rattle.lnt_sequences.specs.Sequences.{are_live, begins_live, is_live, last_row, Placed, position_of}
 use Rattle.lnt_sequences.specs.Watching.{closed, current_of, extent_from, extent_shown, first_shown, grown, is_in_live}
 use Rattle.lnt_sequences.specs.Watching.{last_after, longer, next, shown, RowsSoFar, walked}
+use Rattle.std.proofs.lemmas.Grind.{common_steps}
 
 -- ---- more rows
 
@@ -25,8 +26,7 @@ walked-append walk (row ∷ xs) ys = walked-append (next walk row) xs ys
 pub shown-append : {A : Type 0} (show : RowsSoFar → Row → List A) (walk : RowsSoFar) (xs ys : List Row)
     → shown show walk (xs ++ ys) ≡ shown show walk xs ++ shown show (walked walk xs) ys
 shown-append show walk [] ys = refl
-shown-append {A} show walk (row ∷ xs) ys =
-    ap (λ (all : List A). show walk row ++ all) (shown-append show (next walk row) xs ys)
+shown-append {A} show walk (row ∷ xs) ys = ap (λ (all : List A). show walk row ++ all) (shown-append show (next walk row) xs ys)
     ∙ sym (append_assoc (show walk row) (shown show (next walk row) xs) (shown show (walked (next walk row) xs) ys))
 
 or_assoc : {A : Type 0} (a b c : Option A) → option_or a (option_or b c) ≡ option_or (option_or a b) c
@@ -52,8 +52,7 @@ shown-push {A} show walk xs row =
 
 pub first_shown-push : {A : Type 0} (show : RowsSoFar → Row → Option A) (walk : RowsSoFar) (xs : List Row) (row : Row)
     → first_shown show walk (xs ++ row ∷ []) ≡ option_or (first_shown show walk xs) (show (walked walk xs) row)
-first_shown-push {A} show walk xs row =
-    first_shown-append show walk xs (row ∷ [])
+first_shown-push {A} show walk xs row = first_shown-append show walk xs (row ∷ [])
     ∙ ap (λ (o : Option A). option_or (first_shown show walk xs) o) (or_none (show (walked walk xs) row))
 
 pub walked-rows : (walk : RowsSoFar) (rows : List Row) → (walked walk rows).rows ≡ walk.rows + length rows
@@ -83,8 +82,7 @@ last_after-push row (next ∷ rows) more = last_after-push next rows more
 pub walked_open : (walk : RowsSoFar) (rows : List Row) → AreOpen rows
     → walked walk rows ≡ record { rows = walk.rows + length rows; ended = walk.ended; begun = walk.begun ++ rows }
 walked_open walk [] o = rw (add-zero, append-nil) refl
-walked_open walk (row ∷ rows) o =
-    ap (λ (t : Bool). walked (cond t (closed walk) (longer walk row)) rows) o.0
+walked_open walk (row ∷ rows) o = ap (λ (t : Bool). walked (cond t (closed walk) (longer walk row)) rows) o.0
     ∙ walked_open (longer walk row) rows o.1
     ∙ same (walk.rows + 1 + length rows) (walk.rows + length (row ∷ rows)) ((walk.begun ++ row ∷ []) ++ rows) (walk.begun ++ row ∷ rows)
     (omega arith) (append_assoc walk.begun (row ∷ []) rows)
@@ -96,17 +94,14 @@ walked_open walk (row ∷ rows) o =
 -- all of its rows
 pub walked_ended : (walk : RowsSoFar) (s : Sequence) → IsEnded s
     → walked walk s.rows ≡ record { rows = walk.rows + length s.rows; ended = walk.ended + 1; begun = [] }
-walked_ended walk s e =
-    ap (walked walk) e.rows_are
-    ∙ walked-append walk e.body (e.last ∷ [])
+walked_ended walk s e = ap (walked walk) e.rows_are ∙ walked-append walk e.body (e.last ∷ [])
     ∙ ap (λ (w : RowsSoFar). next w e.last) (walked_open walk e.body e.body_open)
     ∙ ap (λ (t : Bool). cond t (closed (record { rows = walk.rows + length e.body; ended = walk.ended; begun = walk.begun ++ e.body }))
     (longer (record { rows = walk.rows + length e.body; ended = walk.ended; begun = walk.begun ++ e.body }) e.last)) e.ends
     ∙ same (walk.rows + length e.body + 1) (walk.rows + length s.rows)
     (omega (arith, ap length e.rows_are, length-append e.body (e.last ∷ [])))
   where
-    same : (m n : ℕ) → m ≡ n
-        → ◌≡◌ {A = RowsSoFar} (record { rows = m; ended = walk.ended + 1; begun = [] })
+    same : (m n : ℕ) → m ≡ n → ◌≡◌ {A = RowsSoFar} (record { rows = m; ended = walk.ended + 1; begun = [] })
         (record { rows = n; ended = walk.ended + 1; begun = [] })
     same m n e = rw e refl
 
@@ -122,8 +117,7 @@ extents_quiet dead unit index true (Some current) row e =
 extents_open : (dead : Option ℕ) (unit : ℕ) (walk : RowsSoFar) (rows : List Row) → AreOpen rows
     → shown (extent_shown dead unit) walk rows ≡ []
 extents_open dead unit walk [] o = refl
-extents_open dead unit walk (row ∷ rows) o =
-    ap (λ (extents : List Extent). extents ++ shown (extent_shown dead unit) (next walk row) rows)
+extents_open dead unit walk (row ∷ rows) o = ap (λ (extents : List Extent). extents ++ shown (extent_shown dead unit) (next walk row) rows)
     (extents_quiet dead unit walk.ended (is_in_live dead walk row) (current_of dead walk.begun) row o.0)
     ∙ extents_open dead unit (next walk row) rows o.1
 
@@ -139,26 +133,14 @@ extents_last dead unit index [] row e =
     let none : extent_between (record { unit = unit; index = index }) (position_of row) (position_of row) ≡ [] =
     rw (test_not_below (position_of row) (position_of row) (at_most_itself (position_of row))) refl in
     ap (λ (extents : List Extent). cond (begins_live dead row) extents []) (sym none)
-extents_last dead unit index (first ∷ rest) row e =
-    ap (λ (t : Bool). cond (begins_live dead first)
+extents_last dead unit index (first ∷ rest) row e = ap (λ (t : Bool). cond (begins_live dead first)
     (cond t (extent_between (record { unit = unit; index = index }) (position_of first) (position_of row)) []) []) e
     ∙ ap (λ (o : Option Row). cond (begins_live dead first) (extent_of_rows (record { unit = unit; index = index }) (Some first) o) [])
     (sym (last_row_is first (rest ++ row ∷ []) ∙ ap Some (last_after-push first rest row)))
 
 pub extents_ended : (dead : Option ℕ) (unit : ℕ) (walk : RowsSoFar) (s : Sequence) → IsEnded s → walk.begun ≡ []
     → shown (extent_shown dead unit) walk s.rows ≡ live_extent dead unit walk.ended s.rows
-extents_ended dead unit walk s e none =
-    let past = walked walk e.body in
-    let there = walked_open walk e.body e.body_open in
-    let begun : past.begun ≡ e.body = ap (λ (w : RowsSoFar). w.begun) there ∙ ap (λ (rows : List Row). rows ++ e.body) none in
-    let ended : past.ended ≡ walk.ended = ap (λ (w : RowsSoFar). w.ended) there in
-    ap (shown (extent_shown dead unit) walk) e.rows_are
-    ∙ shown-push (extent_shown dead unit) walk e.body e.last
-    ∙ ap (λ (extents : List Extent). extents ++ extent_shown dead unit past e.last) (extents_open dead unit walk e.body e.body_open)
-    ∙ extents_last dead unit past.ended past.begun e.last e.ends
-    ∙ ap (λ (index : ℕ). live_extent dead unit index (past.begun ++ e.last ∷ [])) ended
-    ∙ ap (λ (rows : List Row). live_extent dead unit walk.ended (rows ++ e.last ∷ [])) begun
-    ∙ ap (live_extent dead unit walk.ended) (sym e.rows_are)
+extents_ended dead unit walk s e none = grind (arith, common_steps, walked_open, shown-push, extents_open, extents_last)
 
 -- ---- all sequences of a unit
 
@@ -171,8 +153,7 @@ placed_from unit index sequences =
 pub whole : {A : Type 0} (show : RowsSoFar → Row → List A) (of : Placed → List A) (dead : Option ℕ) (unit : ℕ)
     → ((walk : RowsSoFar) (s : Sequence) → IsEnded s → walk.begun ≡ []
     → shown show walk s.rows ≡ cond (are_live dead s.rows) (of (record { id = record { unit = unit; index = walk.ended }; rows = s.rows }))
-    [])
-    → (index : ℕ) (ss : List Sequence) (walk : RowsSoFar) → AllByRecursion IsEnded ss → walk.begun ≡ [] → walk.ended ≡ index
+    []) → (index : ℕ) (ss : List Sequence) (walk : RowsSoFar) → AllByRecursion IsEnded ss → walk.begun ≡ [] → walk.ended ≡ index
     → shown show walk (joined_rows ss) ≡ flat_map of (filter (is_live dead) (placed_from unit index ss))
 whole show of dead unit step index [] walk all none at = refl
 whole {A} show of dead unit step index (s ∷ ss) walk all none at =
@@ -182,8 +163,7 @@ whole {A} show of dead unit step index (s ∷ ss) walk all none at =
     ∙ ap (λ (k : ℕ). cond (are_live dead s.rows) (of (record { id = record { unit = unit; index = k }; rows = s.rows })) [] ++ shown show
     (walked walk s.rows) (joined_rows ss)) at
     ∙ ap (λ (rest : List A). cond (are_live dead s.rows) (of (record { id = record { unit = unit; index = index }; rows = s.rows })) [] ++
-    rest)
-    (whole show of dead unit step (index + 1) ss (walked walk s.rows) all.1 (ap (λ (w : RowsSoFar). w.begun) there)
+    rest) (whole show of dead unit step (index + 1) ss (walked walk s.rows) all.1 (ap (λ (w : RowsSoFar). w.begun) there)
     (ap (λ (w : RowsSoFar). w.ended) there ∙ ap (λ (k : ℕ). k + 1) at))
     ∙ by_live (are_live dead s.rows) (record { id = record { unit = unit; index = index }; rows = s.rows })
     (filter (is_live dead) (placed_from unit (index + 1) ss))

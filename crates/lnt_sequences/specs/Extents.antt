@@ -121,5 +121,4 @@ pub record HolderAnswers : Type 0 where
   pub none : (sequences : List Placed) (extents : List Extent) (p : Position) → IsPermutation (extents_of sequences) extents
       → NoneHolds extents p → answer_in sequences p ≡ None
   pub some : (sequences : List Placed) (extents : List Extent) (p : Position) (extent : Extent)
-      → IsPermutation (extents_of sequences) extents → AreApart sequences
-      → IsHolder extents p extent → AnswersFor sequences p extent
+      → IsPermutation (extents_of sequences) extents → AreApart sequences → IsHolder extents p extent → AnswersFor sequences p extent

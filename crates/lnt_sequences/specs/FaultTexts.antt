@@ -10,6 +10,5 @@ sequence_text sequence = hexadecimal sequence.unit ++ (codes ":" ++ decimal sequ
 
 -- two sequences, and the first position that both hold
 abbrev pub overlap_text : Overlap → List ℕ
-overlap_text overlap =
-    codes "overlap " ++ (sequence_text overlap.first ++ (codes " " ++ (sequence_text overlap.second ++ (codes " at " ++
+overlap_text overlap = codes "overlap " ++ (sequence_text overlap.first ++ (codes " " ++ (sequence_text overlap.second ++ (codes " at " ++
     (hexadecimal overlap.position.address ++ (codes "," ++ decimal overlap.position.op))))))

@@ -16,14 +16,12 @@ use Rattle.lnt_sequences.specs.Watching.{last_after}
 -- Each has rows and begins no earlier than the one before it ends, the first not below `low`, the last not beyond `high`.
 abbrev pub StandInTurn : Position → List Placed → Position → Type 0
 StandInTurn low [] high = IsAtMost low high
-StandInTurn low (placed ∷ sequences) high =
-    (row : Row) × (rows : List Row) × (placed.rows ≡ row ∷ rows) × IsAtMost low (position_of row)
+StandInTurn low (placed ∷ sequences) high = (row : Row) × (rows : List Row) × (placed.rows ≡ row ∷ rows) × IsAtMost low (position_of row)
     × StandInTurn (position_of (last_after row rows)) sequences high
 
 -- Ordered sequences one after another have spans in order.
 abbrev pub SpansInTurn : Type 0
-SpansInTurn =
-    (low high : Position) (sequences : List Placed) → StandInTurn low sequences high → AreOrdered sequences
+SpansInTurn = (low high : Position) (sequences : List Placed) → StandInTurn low sequences high → AreOrdered sequences
     → AreInOrder (spans_of sequences)
 
 -- ---- the sequences that settled extents are of, in their order
@@ -45,7 +43,5 @@ pub record HaveSpansInOrder (sequences : List Placed) (entries : List Extent) : 
 
 -- The same for ordered sequences of which no two hold the same position, and for their settled extents.
 abbrev pub EntriesInTurn : Type 0
-EntriesInTurn =
-    (sequences : List Placed) (entries : List Extent) → AreSettled entries → IsPermutation (extents_of sequences) entries
-    → AreApart sequences → AreOrdered sequences
-    → HaveSpansInOrder sequences entries
+EntriesInTurn = (sequences : List Placed) (entries : List Extent) → AreSettled entries → IsPermutation (extents_of sequences) entries
+    → AreApart sequences → AreOrdered sequences → HaveSpansInOrder sequences entries

@@ -55,8 +55,7 @@ CollectedUnit =
 
 -- The live sequences of units at different offsets have different ids.
 abbrev pub DistinctSequences : Type 0
-DistinctSequences =
-    (dead : Option ℕ) (units : List (ℕ × UnitParts)) → AllPairs (λ one other. one.0 ≢ other.0) units
+DistinctSequences = (dead : Option ℕ) (units : List (ℕ × UnitParts)) → AllPairs (λ one other. one.0 ≢ other.0) units
     → AreDistinct (live_sequences dead units)
 
 -- If copies aren't skipped, the kept sequences are the live ones. If they are, the kept ones are live, and of units at
@@ -80,11 +79,9 @@ pub record IsLastAt (p : Position) (rows : List Row) (row : Row) : Type 0 where
 -- p, there is no answer.
 pub record AnswersAsHolder : Type 0 where
   pub one_alone : (sequences : List Placed) (one other : Placed) (p : Position) → AreApart sequences → Contains sequences one
-      → Contains sequences other
-      → Holds one.rows p → Holds other.rows p → one ≡ other
+      → Contains sequences other → Holds one.rows p → Holds other.rows p → one ≡ other
   pub held : (sequences : List Placed) (placed : Placed) (p : Position) → AreApart sequences → Contains sequences placed
-      → Holds placed.rows p
-      → (row : Row) × IsLastAt p placed.rows row × (answer_in sequences p ≡ Some (answer_of placed.id.unit row))
+      → Holds placed.rows p → (row : Row) × IsLastAt p placed.rows row × (answer_in sequences p ≡ Some (answer_of placed.id.unit row))
   pub none : (sequences : List Placed) (p : Position) → ((placed : Placed) → Contains sequences placed → Holds placed.rows p → ⊥)
       → answer_in sequences p ≡ None
 

@@ -8,8 +8,7 @@ use Rattle.lnt_sequences.specs.Sequences.{position_of, answer_of, Placed}
 
 -- the span from a row up to the next, if it isn't empty
 abbrev pub span_between : ℕ → Row → Row → List Span
-span_between unit row next =
-    cond (is_below (position_of row) (position_of next))
+span_between unit row next = cond (is_below (position_of row) (position_of next))
     (record { low = position_of row; high = position_of next; answer = answer_of unit row } ∷ []) []
 
 -- the spans of a row and the rows after it

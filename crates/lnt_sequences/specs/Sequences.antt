@@ -94,8 +94,7 @@ is_same p q = p.address == q.address && p.op == q.op
 
 -- whether what begins and ends with the first two rows holds a position, and begins and ends where the other two do
 abbrev pub ends_alike : Option Row → Option Row → Option Row → Option Row → Bool
-ends_alike (Some first) (Some last) (Some other) (Some other_last) =
-    is_below (position_of first) (position_of last) &&
+ends_alike (Some first) (Some last) (Some other) (Some other_last) = is_below (position_of first) (position_of last) &&
     (is_same (position_of first) (position_of other) && is_same (position_of last) (position_of other_last))
 ends_alike _ _ _ _ = false
 
@@ -136,8 +135,7 @@ row_at p rows = find (λ row. is_at_most (position_of row) p) (reverse rows)
 
 -- What sequences answer at p: what that row says, in the first sequence that holds p; nothing if none holds it.
 abbrev pub answer_in : List Placed → Position → Option Answer
-answer_in sequences p =
-    option_and_then (λ (placed : Placed). option_map (answer_of placed.id.unit) (row_at p placed.rows))
+answer_in sequences p = option_and_then (λ (placed : Placed). option_map (answer_of placed.id.unit) (row_at p placed.rows))
     (find (λ placed. holds p placed.rows) sequences)
 
 -- What the rows of a section answer at p: those of its kept sequences.

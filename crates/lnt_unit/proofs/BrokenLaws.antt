@@ -147,8 +147,7 @@ ops_broken_in h program bytes fault offset place p ends b =
       none = λ unit x more q e.
           let found = same_header unit.header h q.spelled.program program x bytes more [] q.order_is q.spelled.whole p
           (e ∙ sym (append-nil bytes)) in
-          b.none unit.ops
-          (subst (λ (g : HeaderParts). Each (OpBytes g) unit.ops program) found.header
+          b.none unit.ops (subst (λ (g : HeaderParts). Each (OpBytes g) unit.ops program) found.header
           (subst (λ (z : List ℕ). Each (OpBytes unit.header) unit.ops z) found.program q.spelled.operations));
       before = initial ++ (head ++ b.before);
       from = b.left;
@@ -170,8 +169,7 @@ ops_broken_in h program bytes fault offset place p ends b =
 pub ops_broken : (order : Order) (h : HeaderParts) (program bytes : List ℕ) (fault : Fault) (offset place : ℕ)
     → HeaderBytesIn order (h, program) bytes → place + length program ≡ offset + length bytes
     → BrokenProgram h place program fault → BrokenUnit order fault offset bytes
-ops_broken order h program bytes fault offset place p ends b =
-    subst (λ (o : Order). BrokenUnit o fault offset bytes) p.order_is
+ops_broken order h program bytes fault offset place p ends b = subst (λ (o : Order). BrokenUnit o fault offset bytes) p.order_is
     (record {
       broken = ops_broken_in h program bytes fault offset place p.spelled ends b;
       in_header = λ none. absurd (none (h, program) bytes [] (record { order_is = refl; spelled = p.spelled }) (append-nil bytes));

@@ -18,8 +18,7 @@ use Rattle.lnt_unit.specs.Units.{IsSpelled, initial_size}
 -- what follows an initial length
 after_initial : (order : Order) (format : Format) (n : ℕ) (body : List ℕ)
     → drop (initial_size format) (initial_length format order n ++ body) ≡ body
-after_initial order D32 n body =
-    ap (λ (k : ℕ). drop k (number_bytes order 4 n ++ body)) (sym (length-number_bytes order 4 n))
+after_initial order D32 n body = ap (λ (k : ℕ). drop k (number_bytes order 4 n ++ body)) (sym (length-number_bytes order 4 n))
     ∙ drop-append_seam (number_bytes order 4 n) body
 after_initial order D64 n body =
     let head = number_bytes order 4 0xffffffff ++ number_bytes order 8 n in
@@ -42,8 +41,7 @@ whole_read order frame old new r h =
     subst (λ (z : List ℕ). FrameBytes order (frame.format, frame.body.now) z) (sym all) r.spelled.spelled
 
 pub spelled_whole : (order : Order) (frame : Frame) (old new : At) → Reads (IsFrame order) frame old new
-    → IsLeastSize order old.rest (length old.rest) → old.place + length old.rest < 2 ^ 64
-    → IsSpelled old.place order frame.format old.rest
+    → IsLeastSize order old.rest (length old.rest) → old.place + length old.rest < 2 ^ 64 → IsSpelled old.place order frame.format old.rest
 spelled_whole order frame old new r h room =
     let p = whole_read order frame old new r h in
     let body : frame.body.now ≡ drop (initial_size frame.format) old.rest =

@@ -20,6 +20,7 @@ use Rattle.lnt_unit.specs.UnitBytes.{UnitBytesIn, UnitsFrom, SectionBytes}
 use Rattle.lnt_unit.specs.declared.convert.ConvertFault.{ConvertFault}
 use Rattle.lnt_unit.specs.declared.convert.ConvertFault.TheVariants.{Malformed, TooLarge, Memory}
 use Rattle.lnt_header.specs.declared.unit_parts.UnitParts.{UnitParts}
+use Rattle.std.proofs.lemmas.Grind.{common_steps}
 
 -- the bytes of one more unit
 pub units_more : (format : Format) (to : Order) (units : List (ℕ × UnitParts)) (unit : ℕ × UnitParts) (old new : List ℕ)
@@ -58,12 +59,7 @@ converted_none order section format to at rest place ordered =
 -- added after other bytes
 past : {X : Type 0} (P : X → List ℕ → Type 0) (x : X) (done old new : List ℕ) → Appends P x old new
     → Appends P x (done ++ old) (done ++ new)
-past P x done old new p = record {
-  spelling = p.spelling;
-  spelled = p.spelled;
-  joined = ap (λ (z : List ℕ). done ++ z) p.joined
-      ∙ sym (append_assoc done old p.spelling);
-}
+past P x done old new p = grind (arith, common_steps, append_assoc)
 
 -- one more unit, after bytes that were handed on
 pub converted_more : (order : Order) (section : List ℕ) (format : Format) (to : Order) (done : List ℕ) (at next : At) (old new : List ℕ)
@@ -120,9 +116,7 @@ no_length (x ∷ xs) e = absurd (omega arith)
 
 pub converted_all : (order : Order) (section : List ℕ) (format : Format) (to : Order) (at : At) (bytes : List ℕ)
     → ConvertedTo order section format to at bytes → length at.rest ≡ 0 → IsConverted order section format to bytes
-converted_all order section format to at bytes p ended =
-    let whole : section ≡ p.front = p.whole ∙ ap (λ (z : List ℕ). p.front ++ z) (no_length at.rest ended) ∙ append-nil p.front in
-    whole_converted order section format to p.units bytes (subst (λ (z : List ℕ). SectionBytes order p.units z) (sym whole) p.sound) p.put
+converted_all order section format to at bytes p ended = grind (arith, common_steps, no_length, append-nil, whole_converted)
 
 -- ---- why a unit of a section that has a conversion isn't converted
 

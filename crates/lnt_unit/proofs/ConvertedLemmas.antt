@@ -1,5 +1,5 @@
 -- Units that are converted.
-use Rattle.std.proofs.Common.{◌≡◌, ◌≢◌, ℕ, ◌+◌, List, [], ◌++◌, length, sym, ap, subst, ◌∙◌, true, false}
+use Rattle.std.proofs.Common.{◌≡◌, ◌≢◌, ℕ, ◌+◌, List, [], ◌++◌, sym, ap, subst, ◌∙◌, true, false}
 use Rattle.lnt_wire.specs.At.{At}
 use Rattle.lnt_wire.specs.Bytes.{Appends, IsShortest}
 use Rattle.lnt_wire.specs.FrameBytes.{frame_bytes, IsFrame}
@@ -31,7 +31,9 @@ use Rattle.lnt_ops.proofs.NumberLaws.{admits_by_numbers, ops_by_numbers, broken_
 use Rattle.lnt_unit.proofs.UnitLaws.{unit_found}
 use Rattle.lnt_header.specs.declared.unit_parts.UnitParts.{UnitParts}
 use Rattle.lnt_unit.proofs.EncodeLaws.{unit_put, unit_refused}
-use Rattle.lnt_unit.proofs.ReadLaws.{StandsAt, unit_read, frame_without_unit}
+use Rattle.lnt_unit.proofs.ReadLaws.{unit_read, frame_without_unit}
+use Rattle.std.proofs.lemmas.Grind.{common_steps}
+use Rattle.std.proofs.Common.{arith}
 
 -- ---- the unit of a frame
 
@@ -107,11 +109,7 @@ frame_broken_program h numbers place program fault same b =
 pub unit_converted : (order : Order) (format : Format) (to : Order) (frame : Frame) (at next : At) (old new : List ℕ)
     → Reads (IsFrame order) frame at next
     → ConvertsBytes order format to (frame_bytes order frame.format frame.body.now) old new → ConvertsUnit order format to at next old new
-unit_converted order format to frame at next old new r p = record {
-  unit = p.unit;
-  read = unit_read order p.unit frame at next r p.spelled;
-  put = p.put;
-}
+unit_converted order format to frame at next old new r p = grind (arith, common_steps, unit_read)
 
 pub unit_large : (order : Order) (format : Format) (to : Order) (frame : Frame) (at next : At) → Reads (IsFrame order) frame at next
     → IsLarge order format to (frame_bytes order frame.format frame.body.now) → IsLargeUnit order format to at
@@ -125,61 +123,38 @@ unit_large order format to frame at next r p = record {
 pub unit_judged : (order : Order) (format : Format) (to : Order) (frame : Frame) (at next : At) (old new : List ℕ)
     → Reads (IsFrame order) frame at next
     → ConvertsBytes order format to (frame_bytes order frame.format frame.body.now) old new → JudgesUnit order format to true at next
-unit_judged order format to frame at next old new r p = record {
-  unit = p.unit;
-  read = unit_read order p.unit frame at next r p.spelled;
-  said = (p.put.spelling, p.put.spelled);
-}
+unit_judged order format to frame at next old new r p = grind (arith, common_steps, unit_read)
 
 pub unit_judged_large : (order : Order) (format : Format) (to : Order) (frame : Frame) (at next : At) → Reads (IsFrame order) frame at next
     → IsLarge order format to (frame_bytes order frame.format frame.body.now) → JudgesUnit order format to false at next
-unit_judged_large order format to frame at next r p = record {
-  unit = p.unit;
-  read = unit_read order p.unit frame at next r p.spelled;
-  said = p.none;
-}
+unit_judged_large order format to frame at next r p = grind (arith, common_steps, unit_read)
 
 -- ---- stops
 
--- the same cursor by another name
-large_at : (order : Order) (format : Format) (to : Order) (at ahead : At) → at.order ≡ order → StandsAt order at.place at.rest ahead
-    → IsLargeUnit order format to ahead → IsLargeUnit order format to at
-large_at order format to at ahead ordered stands p = record {
-  unit = p.unit;
-  next = p.next;
-  read = record {
-    spelling = p.read.spelling;
-    spelled = p.read.spelled;
-    whole = sym stands.rest_is ∙ p.read.whole;
-    place = p.read.place ∙ ap (λ (n : ℕ). n + length p.read.spelling) stands.place_is;
-    order = p.read.order ∙ stands.order_is ∙ sym ordered;
-  };
-  none = p.none;
-}
-
 pub told_stop : (order : Order) (format : Format) (to : Order) (offset : ℕ) (bytes : List ℕ) (fault : Fault) (stop : ConvertFault)
-    → (fault.reason ≢ Memory → BrokenUnit order fault offset bytes) → IsToldAs fault stop
-    → IsUnitStop order format to offset bytes stop
+    → (fault.reason ≢ Memory → BrokenUnit order fault offset bytes) → IsToldAs fault stop → IsUnitStop order format to offset bytes stop
 told_stop order format to offset bytes fault (convert.Malformed found) broken is =
     subst (λ (f : Fault). BrokenUnit order f offset bytes) (sym is.0) (broken is.1)
 told_stop order format to offset bytes fault (convert.TooLarge place) broken is = absurd is
 told_stop order format to offset bytes fault convert.Memory broken is = tt
 
 pub told_next : (order : Order) (format : Format) (to : Order) (at : At) (fault : Fault) (stop : ConvertFault)
-    → (fault.reason ≢ Memory → BrokenUnit order fault at.place at.rest) → IsToldAs fault stop
-    → IsNextStop order format to at stop
+    → (fault.reason ≢ Memory → BrokenUnit order fault at.place at.rest) → IsToldAs fault stop → IsNextStop order format to at stop
 told_next order format to at fault (convert.Malformed found) broken is =
     subst (λ (f : Fault). BrokenUnit order f at.place at.rest) (sym is.0) (broken is.1)
 told_next order format to at fault (convert.TooLarge place) broken is = absurd is
 told_next order format to at fault convert.Memory broken is = tt
 
--- the frame of a unit that isn't converted was read by another cursor, which stood at the same place
-pub frame_stop : (order : Order) (format : Format) (to : Order) (frame : Frame) (stop : ConvertFault) (at ahead next : At)
-    → at.order ≡ order → StandsAt order at.place at.rest ahead → Reads (IsFrame ahead.order) frame ahead next → frame.offset ≡ ahead.place
+-- the frame of a unit that isn't converted
+pub frame_stop : (order : Order) (format : Format) (to : Order) (frame : Frame) (stop : ConvertFault) (at next : At)
+    → Reads (IsFrame order) frame at next → frame.offset ≡ at.place
     → IsUnitStop order format to frame.offset (frame_bytes order frame.format frame.body.now) stop → IsNextStop order format to at stop
-frame_stop order format to frame (convert.Malformed fault) at ahead next ordered stands r here p =
-    frame_without_unit order at.place at.rest frame fault ahead next stands r here p
-frame_stop order format to frame (convert.TooLarge place) at ahead next ordered stands r here p =
-    let read : Reads (IsFrame order) frame ahead next = subst (λ (o : Order). Reads (IsFrame o) frame ahead next) stands.order_is r in
-    (p.0 ∙ here ∙ stands.place_is, large_at order format to at ahead ordered stands (unit_large order format to frame ahead next read p.1))
-frame_stop order format to frame convert.Memory at ahead next ordered stands r here p = tt
+frame_stop order format to frame (convert.Malformed fault) at next r here p = frame_without_unit order frame fault at next r here p
+frame_stop order format to frame (convert.TooLarge place) at next r here p = (p.0 ∙ here, unit_large order format to frame at next r p.1)
+frame_stop order format to frame convert.Memory at next r here p = tt
+
+pub frame_malformed : (order : Order) (format : Format) (to : Order) (frame : Frame) (stop : ConvertFault) (fault : Fault) (at next : At)
+    → Reads (IsFrame order) frame at next → frame.offset ≡ at.place
+    → IsUnitStop order format to frame.offset (frame_bytes order frame.format frame.body.now) stop → stop ≡ convert.Malformed fault
+    → BrokenUnit order fault at.place at.rest
+frame_malformed order format to frame stop fault at next r here p is = frame_without_unit order frame fault at next r here (rw is at p)

@@ -11,6 +11,7 @@ use Rattle.lnt_header.specs.declared.unit_parts.UnitParts.{UnitParts}
 use Rattle.lnt_unit.specs.UnitBytes.{UnitBytesIn}
 use Rattle.lnt_unit.proofs.UnitLaws.{header_of}
 use Rattle.lnt_unit.proofs.ReadLaws.{program_within}
+use Rattle.std.proofs.lemmas.Grind.{common_steps}
 
 -- each operation is spelled by a byte or more
 pub few_ops : (h : HeaderParts) (ops : List Op) (program : List ℕ) → Each (OpBytes h) ops program → length ops ≤ length program
@@ -26,9 +27,4 @@ few_ops h (op ∷ ops) program spelled =
 
 -- the operations of a unit
 pub ops_within : (order : Order) (unit : UnitParts) (bytes : List ℕ) → UnitBytesIn order unit bytes → length unit.ops ≤ length bytes
-ops_within order unit bytes p =
-    omega (
-      arith,
-      few_ops unit.header unit.ops p.spelled.program p.spelled.operations,
-      program_within order unit.header p.spelled.program bytes (header_of order unit bytes p),
-    )
+ops_within order unit bytes p = grind (arith, common_steps, few_ops, program_within, header_of)

@@ -1,5 +1,5 @@
 -- Units by their parts, written.
-use Rattle.std.proofs.Common.{◌≡◌, ap, ◌∙◌, Vec, Global, ℕ, List, [], ◌++◌, sym, subst, arith}
+use Rattle.std.proofs.Common.{◌≡◌, Vec, Global, ℕ, List, [], subst, arith}
 use Rattle.std.specs.Prelude.{Result, Ok, Err, IfOk, IfErr}
 use Rattle.lnt_wire.specs.declared.format.Order.{Order}
 use Rattle.lnt_wire.specs.declared.put.EncodeFault.{EncodeFault}
@@ -13,11 +13,11 @@ use Rattle.lnt_header_bytes.proofs.ProgramLaws.{shorter_program}
 use Rattle.lnt_ops.specs.OpBytes.{OpBytes}
 use Rattle.lnt_header.specs.declared.unit_parts.UnitParts.{UnitParts}
 use Rattle.lnt_unit.specs.UnitBytes.{UnitBytesIn}
+use Rattle.std.proofs.lemmas.Grind.{common_steps}
 
 -- the shortest program gives the shortest unit
 pub unit_put : (order : Order) (unit : UnitParts) (program bytes : List ℕ) → IsShortest (Each (OpBytes unit.header)) unit.ops program
-    → IsShortest (HeaderBytesIn order) (unit.header, program) bytes
-    → IsShortest (UnitBytesIn order) unit bytes
+    → IsShortest (HeaderBytesIn order) (unit.header, program) bytes → IsShortest (UnitBytesIn order) unit bytes
 unit_put order unit program bytes p q = record {
   spelled = record {
     order_is = q.spelled.order_is;
@@ -48,19 +48,13 @@ pub record Program (unit : UnitParts) (header : HeaderParts) (program : List ℕ
   pub put : IsShortest (Each (OpBytes unit.header)) unit.ops program
 
 pub program_put : (unit : UnitParts) (header : HeaderParts) (ops : List Op) (old new program : List ℕ) → header ≡ unit.header
-    → ops ≡ unit.ops
-    → old ≡ [] → Appends (Each (OpBytes header)) ops old new → program ≡ new → Program unit header program
-program_put unit header ops old new program same all none p is = record {
-  header_is = same;
-  put = rw (← same, ← all) (subst (IsShortest (Each (OpBytes header)) ops) (sym (is ∙ p.joined ∙ ap (λ (z : List ℕ). z ++ p.spelling) none))
-      p.spelled);
-}
+    → ops ≡ unit.ops → old ≡ [] → Appends (Each (OpBytes header)) ops old new → program ≡ new → Program unit header program
+program_put unit header ops old new program same all none p is = grind (arith, common_steps)
 
 pub unit_written : (unit : UnitParts) (header : HeaderParts) (program : List ℕ) (r : Result (Vec ℕ Global) EncodeFault)
     → Program unit header program → IfOk r (λ bytes. IsShortest (HeaderBytesIn header.order) (header, program) bytes.items)
     → IfOk r (λ bytes. IsShortest (UnitBytesIn unit.header.order) unit bytes.items)
-unit_written unit header program (Ok bytes) p q =
-    unit_put unit.header.order unit program bytes.items p.put
+unit_written unit header program (Ok bytes) p q = unit_put unit.header.order unit program bytes.items p.put
     (subst (λ (h : HeaderParts). IsShortest (HeaderBytesIn h.order) (h, program) bytes.items) p.header_is q)
 unit_written unit header program (Err fault) p q = q
 
@@ -68,6 +62,5 @@ pub unit_not_written : (unit : UnitParts) (header : HeaderParts) (program : List
     → Program unit header program → IfErr r (λ fault. RefusedPut (HeaderBytesIn header.order) (header, program) fault)
     → IfErr r (λ fault. RefusedPut (UnitBytesIn unit.header.order) unit fault)
 unit_not_written unit header program (Ok bytes) p q = q
-unit_not_written unit header program (Err fault) p q =
-    unit_refused unit.header.order unit program fault p.put
+unit_not_written unit header program (Err fault) p q = unit_refused unit.header.order unit program fault p.put
     (subst (λ (h : HeaderParts). RefusedPut (HeaderBytesIn h.order) (h, program) fault) p.header_is q)

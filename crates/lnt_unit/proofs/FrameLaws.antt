@@ -1,5 +1,5 @@
 -- The places of faults in a frame stay so, whatever bytes follow the frame.
-use Rattle.std.proofs.Common.{◌≡◌, ℕ, List, [], ◌∷◌, ◌++◌, length, refl, sym, ap, subst, ◌∙◌, append_assoc, inl, inr}
+use Rattle.std.proofs.Common.{◌≡◌, ℕ, List, [], ◌∷◌, ◌++◌, refl, sym, ap, subst, ◌∙◌, append_assoc, inl, inr}
 use Rattle.std.proofs.lemmas.List.{append-nil}
 use Rattle.lnt_wire.specs.declared.format.Format.{Format}
 use Rattle.lnt_wire.specs.declared.format.Order.{Order}
@@ -9,11 +9,10 @@ use Rattle.lnt_wire.specs.declared.fault.Reason.TheVariants.{Truncated, Reserved
 use Rattle.lnt_wire.specs.declared.fault.Reason.TheVariants.{SegmentSelector, HeaderLength, MaxOpsZero, LineRangeZero}
 use Rattle.lnt_wire.specs.declared.fault.Reason.TheVariants.{OpcodeBaseZero, StandardLength, UnknownForm, EmptyFormat}
 use Rattle.lnt_wire.specs.declared.fault.Reason.TheVariants.{LebTooLarge, ExtendedLength}
-use Rattle.lnt_wire.specs.FrameBytes.{FrameBytes, frame_bytes, version_five}
+use Rattle.lnt_wire.specs.FrameBytes.{FrameBytes}
 use Rattle.lnt_wire.specs.Bytes.{NoneSpelled}
 use Rattle.lnt_wire.specs.FrameFaults.{InFrame, IsCutFrame, IsReserved, IsFrameFault}
 use Rattle.lnt_wire.proofs.FrameLaws.{frame_code, frame_not_cut}
-use Rattle.lnt_wire.specs.Numbers.{number_bytes, offset_size}
 use Rattle.lnt_header_bytes.specs.Broken.{InHeader, UpToLimit, IsAt, IsFirstField}
 use Rattle.lnt_header_bytes.specs.Broken.IsFirstField.{frame, start, counted}
 use Rattle.lnt_header_bytes.specs.HeaderBytes.{unit_body, HeaderBytesIn}
@@ -22,19 +21,14 @@ use Rattle.lnt_header.specs.declared.header.HeaderParts.{HeaderParts}
 use Rattle.lnt_header.specs.declared.unit_parts.UnitParts.{UnitParts}
 use Rattle.lnt_unit.specs.BrokenUnits.{BeginsWithHeader, BrokenUnit}
 use Rattle.lnt_unit.specs.UnitBytes.{UnitBytesIn}
+use Rattle.std.proofs.lemmas.Grind.{common_steps}
+use Rattle.std.proofs.Common.{arith}
 
 -- ---- places
 
 in_frame : (order : Order) (format : Format) (fields left before from more : List ℕ) → InFrame order format fields left before from
     → InFrame order format fields left before (from ++ more)
-in_frame order format fields left before from more w =
-    record {
-      more = w.more ++ more;
-      fits = w.fits;
-      before_is = w.before_is;
-      from_is = ap (λ (z : List ℕ). z ++ more) w.from_is
-          ∙ append_assoc left w.more more;
-    }
+in_frame order format fields left before from more w = grind (arith, common_steps, append_assoc)
 
 in_header : (order : Order) (fields left before from more : List ℕ) → InHeader order fields left before from
     → InHeader order fields left before (from ++ more)
@@ -52,15 +46,7 @@ up_to order left before from more (inl w) = inl (w.0, w.1, in_frame order w.0 w.
 up_to order left before from more (inr w) = inr (w.0, in_header order w.0 left before from more w.1)
 
 reserved : (order : Order) (from more : List ℕ) → IsReserved order from → IsReserved order (from ++ more)
-reserved order from more h =
-    record {
-      n = h.n;
-      rest = h.rest ++ more;
-      low = h.low;
-      high = h.high;
-      joined = ap (λ (z : List ℕ). z ++ more) h.joined
-          ∙ append_assoc (number_bytes order 4 h.n) h.rest more;
-    }
+reserved order from more h = grind (arith, common_steps, append_assoc)
 
 -- what is wrong in bytes that aren't a cut frame is wrong there, whatever follows them
 at_more : (order : Order) (reason : Reason) (before from more : List ℕ) → (before ≡ [] → IsCutFrame order from → ⊥)
@@ -109,19 +95,7 @@ first_more order reason before from more whole (counted fields left w h) =
 -- the frame of a header with its program
 pub header_frame : (order : Order) (h : HeaderParts) (program x : List ℕ) → (p : HeaderBytesIn order (h, program) x)
     → FrameBytes order (h.format, unit_body h p.spelled.fields program) x
-header_frame order h program x p =
-    let whole = p.spelled in
-    let number = number_bytes h.order (offset_size h.format) (length whole.fields) in
-    let start = h.address_size ∷ 0 ∷ [] in
-    record {
-      fits = whole.fits;
-      version = record {
-        past = start ++ (number ++ (whole.fields ++ program));
-        joined = regroup (version_five h.order) start number whole.fields program
-            ∙ ap (λ (o : Order). version_five o ++ (start ++ (number ++ (whole.fields ++ program)))) p.order_is;
-      };
-      joined = subst (λ (o : Order). x ≡ frame_bytes o h.format (unit_body h whole.fields program)) p.order_is whole.joined;
-    }
+header_frame order h program x p = grind (arith, common_steps, regroup)
 
 -- the frame of a unit
 pub unit_frame : (order : Order) (unit : UnitParts) (x : List ℕ) → (p : UnitBytesIn order unit x)
@@ -139,12 +113,10 @@ header_first order offset frame_is bytes more header place program is g =
 
 -- a frame in which no unit was found, and whatever follows it
 pub broken_more : (order : Order) (fault : Fault) (offset : ℕ) (frame_is : Format × List ℕ) (bytes more : List ℕ)
-    → FrameBytes order frame_is bytes → BrokenUnit order fault offset bytes
-    → BrokenUnit order fault offset (bytes ++ more)
+    → FrameBytes order frame_is bytes → BrokenUnit order fault offset bytes → BrokenUnit order fault offset (bytes ++ more)
 broken_more order fault offset frame_is bytes more is broken =
     let b = broken.broken in
-    let whole : b.before ≡ [] → IsCutFrame order b.from → ⊥ =
-    λ nothing cut. frame_not_cut order frame_is bytes is
+    let whole : b.before ≡ [] → IsCutFrame order b.from → ⊥ = λ nothing cut. frame_not_cut order frame_is bytes is
     (subst (IsCutFrame order) (ap (λ (z : List ℕ). z ++ b.from) (sym nothing) ∙ sym b.split) cut) in
     record {
       broken = record {

@@ -13,13 +13,11 @@ use Rattle.lnt_unit.specs.Views.{View, IsUnitView, HasCount, by_numbers}
 use Rattle.lnt_unit.proofs.ViewLemmas.{CountedTo, counted_none}
 
 pub counted_none_by_numbers : (view : View) (walk : Walk) → walk.header ≡ without_entries view.header → walk.failed ≡ false
-    → walk.at.place ≡ view.place → walk.at.rest ≡ view.program → walk.at.order ≡ view.header.order
-    → CountedTo (by_numbers view) 0 walk
+    → walk.at.place ≡ view.place → walk.at.rest ≡ view.program → walk.at.order ≡ view.header.order → CountedTo (by_numbers view) 0 walk
 counted_none_by_numbers view walk same going place rest order = counted_none (by_numbers view) walk same going place rest order
 
 pub counted_all_by_numbers : (view : View) (count : ℕ) (old new : Walk) → IsUnitView view → CountedTo (by_numbers view) count old
-    → Ends old new
-    → HasCount view count
+    → Ends old new → HasCount view count
 counted_all_by_numbers view count old new is so ends = record {
   ops = so.ops;
   spelled = given_all_by_numbers view so.ops old new is so.given ends;

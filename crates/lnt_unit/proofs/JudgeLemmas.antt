@@ -1,5 +1,5 @@
 -- Sections that are judged, unit by unit, whether they have a conversion.
-use Rattle.std.proofs.Common.{◌≡◌, ℕ, ◌<◌, List, [], ◌∷◌, ◌++◌, length, refl, sym, ap, subst, ◌∙◌, append_assoc, Bool}
+use Rattle.std.proofs.Common.{◌≡◌, ℕ, ◌<◌, List, [], ◌∷◌, ◌++◌, length, refl, sym, subst, append_assoc, Bool}
 use Rattle.std.proofs.Common.{true, false, Option, Some, None}
 use Rattle.lnt_wire.specs.At.{At}
 use Rattle.lnt_wire.specs.declared.fault.Fault.{Fault}
@@ -15,6 +15,8 @@ use Rattle.lnt_unit.specs.declared.convert.ConvertFault.{ConvertFault}
 use Rattle.lnt_unit.specs.declared.convert.ConvertFault.TheVariants.{Malformed, TooLarge, Memory}
 use Rattle.lnt_header.specs.declared.unit_parts.UnitParts.{UnitParts}
 use Rattle.lnt_unit.proofs.SectionLaws as sections
+use Rattle.std.proofs.lemmas.Grind.{common_steps}
+use Rattle.std.proofs.Common.{arith}
 
 -- the units up to a cursor, of which it is told which is the first that nothing spells
 pub record JudgedTo (order : Order) (section : List ℕ) (format : Format) (to : Order) (large : Option ℕ) (at : At) : Type 0 where
@@ -24,27 +26,14 @@ pub record JudgedTo (order : Order) (section : List ℕ) (format : Format) (to :
 
 pub judged_none : (order : Order) (section : List ℕ) (format : Format) (to : Order) (at : At) → at.rest ≡ section → at.place ≡ 0
     → at.order ≡ order → JudgedTo order section format to None at
-judged_none order section format to at rest place ordered = record {
-  units = [];
-  so = sections.no_units order section at rest place ordered;
-  judged = ([], refl);
-}
+judged_none order section format to at rest place ordered = grind (arith, common_steps)
 
 still_first : (format : Format) (to : Order) (units : List (ℕ × UnitParts)) (unit : ℕ × UnitParts) (offset : ℕ)
     → IsFirstLarge format to units offset → IsFirstLarge format to (units ++ unit ∷ []) offset
-still_first format to units unit offset f = record {
-  before = f.before;
-  unit = f.unit;
-  past = f.past ++ unit ∷ [];
-  joined = ap (λ (l : List (ℕ × UnitParts)). l ++ unit ∷ []) f.joined ∙ append_assoc f.before ((offset, f.unit) ∷ f.past) (unit ∷ []);
-  front = f.front;
-  spelled = f.spelled;
-  none = f.none;
-}
+still_first format to units unit offset f = grind (arith, common_steps, append_assoc)
 
 next_judged : (format : Format) (to : Order) (units : List (ℕ × UnitParts)) (offset : ℕ) (unit : UnitParts) (large : Option ℕ)
-    (converts : Bool)
-    → IsConversionJudged format to units large → IsSaid converts format to unit
+    (converts : Bool) → IsConversionJudged format to units large → IsSaid converts format to unit
     → IsConversionJudged format to (units ++ (offset, unit) ∷ []) (first_large large converts offset)
 next_judged format to units offset unit (Some first) converts p s = still_first format to units (offset, unit) first p
 next_judged format to units offset unit None true p s =
@@ -61,8 +50,7 @@ next_judged format to units offset unit None false p s =
     }
 
 pub judged_more : (order : Order) (section : List ℕ) (format : Format) (to : Order) (large : Option ℕ) (converts : Bool) (offset : ℕ)
-    (at next : At) → JudgedTo order section format to large at
-    → JudgesUnit order format to converts at next → offset ≡ at.place
+    (at next : At) → JudgedTo order section format to large at → JudgesUnit order format to converts at next → offset ≡ at.place
     → JudgedTo order section format to (first_large large converts offset) next
 judged_more order section format to large converts offset at next p j here = record {
   units = p.units ++ (offset, j.unit) ∷ [];
@@ -76,24 +64,11 @@ judged_long order format to converts at next j = sections.unit_long order j.unit
 
 pub judged_sound : (order : Order) (section : List ℕ) (format : Format) (to : Order) (large : Option ℕ) (at : At)
     → JudgedTo order section format to large at → large ≡ None → length at.rest ≡ 0 → Converts order section format to
-judged_sound order section format to large at p is ended =
-    let nothing = no_length at.rest ended in
-    let all : IsConversionJudged format to p.units None = subst (IsConversionJudged format to p.units) is p.judged in
-    record {
-      bytes = all.0;
-      converted = whole_converted order section format to p.units all.0 (sections.all_units order section p.units at p.so nothing) all.1;
-    }
+judged_sound order section format to large at p is ended = grind (arith, common_steps, no_length, whole_converted)
 
 pub judged_large : (order : Order) (section : List ℕ) (format : Format) (to : Order) (large : Option ℕ) (offset : ℕ) (at : At)
-    → JudgedTo order section format to large at → large ≡ Some offset → length at.rest ≡ 0
-    → HasFirstLarge order section format to offset
-judged_large order section format to large offset at p is ended =
-    let nothing = no_length at.rest ended in
-    record {
-      units = p.units;
-      sound = sections.all_units order section p.units at p.so nothing;
-      first = subst (IsConversionJudged format to p.units) is p.judged;
-    }
+    → JudgedTo order section format to large at → large ≡ Some offset → length at.rest ≡ 0 → HasFirstLarge order section format to offset
+judged_large order section format to large offset at p is ended = grind (arith, common_steps, no_length)
 
 -- a unit that isn't there
 pub judged_broken : (order : Order) (section : List ℕ) (format : Format) (to : Order) (large : Option ℕ) (at : At) (fault : Fault)

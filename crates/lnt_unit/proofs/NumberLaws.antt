@@ -14,20 +14,17 @@ use Rattle.lnt_unit.proofs.UnitLaws.{unit_found}
 use Rattle.lnt_unit.specs.UnitBytes.{UnitBytesIn}
 use Rattle.lnt_unit.specs.Views.{View, IsUnitView, with_ops, by_numbers}
 use Rattle.lnt_unit.specs.Stepping.{HasGiven}
+use Rattle.std.proofs.lemmas.Grind.{common_steps}
+use Rattle.std.proofs.Common.{arith}
 
 -- all were given: the bytes are those of the unit of these operations
 pub given_all_by_numbers : (view : View) (ops : List Op) (old new : Walk) → IsUnitView view → HasGiven (by_numbers view) ops old
-    → Ends old new
-    → UnitBytesIn view.unit.order (with_ops view ops) view.unit.bytes
-given_all_by_numbers view ops old new is given ends =
-    unit_found view.unit.order (with_ops view ops) view.program view.unit.bytes is.spelled
-    (ops_by_numbers view.header ops view.program
-    (walk_done (without_entries view.header) view.place view.program ops old new given.going given.so ends))
+    → Ends old new → UnitBytesIn view.unit.order (with_ops view ops) view.unit.bytes
+given_all_by_numbers view ops old new is given ends = grind (arith, common_steps, unit_found, ops_by_numbers, walk_done)
 
 -- one was refused: the bytes are those of no unit
 pub given_broken_by_numbers : (view : View) (ops : List Op) (fault : Fault) (old new : Walk) → IsHeader view.header → IsUnitView view
-    → HasGiven (by_numbers view) ops old → Fails fault old new
-    → BrokenUnit view.unit.order fault view.unit.offset view.unit.bytes
+    → HasGiven (by_numbers view) ops old → Fails fault old new → BrokenUnit view.unit.order fault view.unit.offset view.unit.bytes
 given_broken_by_numbers view ops fault old new header is given fails =
     ops_broken view.unit.order view.header view.program view.unit.bytes fault view.unit.offset view.place is.spelled is.end
     (broken_by_numbers view.header view.place view.program fault

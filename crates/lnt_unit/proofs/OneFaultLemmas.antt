@@ -23,6 +23,7 @@ use Rattle.lnt_unit.specs.Laws.{OneTrueFault}
 use Rattle.lnt_unit.proofs.UnitLaws.{one_spelling, same_units}
 use Rattle.lnt_unit.specs.UnitBytes.{UnitBytesIn, UnitsFrom}
 use Rattle.lnt_header.specs.declared.unit_parts.UnitParts.{UnitParts}
+use Rattle.std.proofs.lemmas.Grind.{common_steps}
 
 -- ---- whether two faults are one
 
@@ -59,8 +60,7 @@ second_number _ = 0
 reason_with : ℕ → ℕ → ℕ → Reason
 reason_with kind m n =
     get_or (Truncated ∷ ReservedLength ∷ VersionNotFive m ∷ AddressSize m ∷ SegmentSelector m ∷ HeaderLength ∷ MaxOpsZero ∷ LineRangeZero ∷
-    OpcodeBaseZero ∷ StandardLength m n ∷ UnknownForm m ∷ EmptyFormat ∷ LebTooLarge
-    ∷ ExtendedLength ∷ []) kind Memory
+    OpcodeBaseZero ∷ StandardLength m n ∷ UnknownForm m ∷ EmptyFormat ∷ LebTooLarge ∷ ExtendedLength ∷ []) kind Memory
 
 reason_is : (reason : Reason) → reason_with (kind reason) (first_number reason) (second_number reason) ≡ reason
 unfolding kind first_number second_number reason_with
@@ -100,32 +100,19 @@ same_reason one other kinds firsts seconds =
 
 -- what can't be two is one
 reasons_agree : (one other : Reason) → ((one ≡ other → ⊥) → ⊥) → one ≡ other
-reasons_agree one other not_two = elim (cases_eq (kind one) (kind other)) [
-  | inr apart ↦ absurd (not_two (λ e. apart (ap kind e)))
-  | inl kinds ↦ elim (cases_eq (first_number one) (first_number other)) [
-    | inr apart ↦ absurd (not_two (λ e. apart (ap first_number e)))
-    | inl firsts ↦ elim (cases_eq (second_number one) (second_number other)) [
-      | inr apart ↦ absurd (not_two (λ e. apart (ap second_number e)))
-      | inl seconds ↦ same_reason one other kinds firsts seconds
-    ]
-  ]
-]
+reasons_agree one other not_two = grind (arith, common_steps, cases_eq, kind, first_number, second_number, same_reason)
 
 places_agree : (m n : ℕ) → ((m ≡ n → ⊥) → ⊥) → m ≡ n
 places_agree m n not_two = elim (cases_eq m n) [ inl same ↦ same | inr apart ↦ absurd (not_two apart) ]
 
 faults_agree : (fault other : Fault) → ((fault ≡ other → ⊥) → ⊥) → fault ≡ other
-faults_agree fault other not_two =
-    same_fault fault other
-    (places_agree fault.place other.place (λ apart. not_two (λ e. apart (ap (λ (f : Fault). f.place) e))))
-    (reasons_agree fault.reason other.reason (λ apart. not_two (λ e. apart (ap (λ (f : Fault). f.reason) e))))
+faults_agree fault other not_two = grind (arith, common_steps, same_fault, places_agree, reasons_agree)
 
 -- ---- where no unit begins the bytes
 
 -- a header with its program, which begins the bytes
 begins_with : (order : Order) (offset : ℕ) (header : HeaderParts) (program x more bytes : List ℕ) → HeaderBytesIn order (header, program) x
-    → x ++ more ≡ bytes
-    → (place : ℕ) × BeginsWithHeader order offset bytes header place program
+    → x ++ more ≡ bytes → (place : ℕ) × BeginsWithHeader order offset bytes header place program
 begins_with order offset header program x more bytes p e =
     let h = p.spelled in
     let head =
@@ -144,8 +131,7 @@ pub broken_one : (order : Order) (offset : ℕ) (bytes : List ℕ) (fault other 
 broken_one order offset bytes fault other f g = faults_agree fault other (λ apart.
     let none : NoneSpelled (HeaderBytesIn order) bytes = λ unit x more p e.
     let begins = begins_with order offset unit.0 unit.1 x more bytes p e in
-    let found =
-    program_one unit.0 begins.0 unit.1 fault other p.spelled.counted.numbers (f.in_program unit.0 begins.0 unit.1 begins.1)
+    let found = program_one unit.0 begins.0 unit.1 fault other p.spelled.counted.numbers (f.in_program unit.0 begins.0 unit.1 begins.1)
     (g.in_program unit.0 begins.0 unit.1 begins.1) in
     apart (same_fault fault other found.0 found.1) in
     let found =
@@ -161,15 +147,12 @@ record SameStart (x y r s : List ℕ) : Type 0 where
 
 -- the units in front of bytes that no unit begins are the same
 same_start : (order : Order) (k l : ℕ) (us vs : List (ℕ × UnitParts)) (x y r s : List ℕ) → UnitsFrom order k us x → UnitsFrom order l vs y
-    → x ++ r ≡ y ++ s → NoneSpelled (UnitBytesIn order) r
-    → NoneSpelled (UnitBytesIn order) s → SameStart x y r s
+    → x ++ r ≡ y ++ s → NoneSpelled (UnitBytesIn order) r → NoneSpelled (UnitBytesIn order) s → SameStart x y r s
 same_start order k l [] [] x y r s p q e none none' =
     record { bytes = p ∙ sym q; past = ap (λ (z : List ℕ). z ++ r) (sym p) ∙ e ∙ ap (λ (z : List ℕ). z ++ s) q }
-same_start order k l [] (v ∷ vs) x y r s p q e none none' =
-    absurd (none v.1 q.0 (q.1 ++ s) q.3
+same_start order k l [] (v ∷ vs) x y r s p q e none none' = absurd (none v.1 q.0 (q.1 ++ s) q.3
     (sym (append_assoc q.0 q.1 s) ∙ ap (λ (z : List ℕ). z ++ s) (sym q.4) ∙ sym e ∙ ap (λ (z : List ℕ). z ++ r) p))
-same_start order k l (u ∷ us) [] x y r s p q e none none' =
-    absurd (none' u.1 p.0 (p.1 ++ r) p.3
+same_start order k l (u ∷ us) [] x y r s p q e none none' = absurd (none' u.1 p.0 (p.1 ++ r) p.3
     (sym (append_assoc p.0 p.1 r) ∙ ap (λ (z : List ℕ). z ++ r) (sym p.4) ∙ e ∙ ap (λ (z : List ℕ). z ++ s) q))
 same_start order k l (u ∷ us) (v ∷ vs) x y r s p q e none none' =
     let all : p.0 ++ (p.1 ++ r) ≡ q.0 ++ (q.1 ++ s) =
@@ -183,9 +166,7 @@ same_start order k l (u ∷ us) (v ∷ vs) x y r s p q e none none' =
 -- the bytes of the units before two true faults
 same_front_of : (order : Order) (section : List ℕ) (fault other : Fault) → (f : IsTrueFault order fault section)
     → (g : IsTrueFault order other section) → SameStart f.front g.front f.rest g.rest
-same_front_of order section fault other f g =
-    same_start order 0 0 f.units g.units f.front g.front f.rest g.rest f.sound g.sound (sym f.split ∙ g.split) f.broken.broken.none
-    g.broken.broken.none
+same_front_of order section fault other f g = grind (arith, common_steps, same_start)
 
 true_faults_agree : (order : Order) (section : List ℕ) (fault other : Fault) → IsTrueFault order fault section
     → IsTrueFault order other section → fault ≡ other

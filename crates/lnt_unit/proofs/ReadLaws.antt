@@ -1,32 +1,27 @@
 -- Units as they are read.
-use Rattle.std.proofs.Common.{◌≡◌, ℕ, ◌+◌, ◌^◌, ◌<◌, ◌≤◌, List, [], ◌∷◌, ◌++◌, length, sym, ap, subst, ◌∙◌, arith}
+use Rattle.std.proofs.Common.{◌≡◌, ◌≢◌, ℕ, ◌+◌, ◌^◌, ◌<◌, ◌≤◌, List, ◌++◌, length, refl, sym, subst, ◌∙◌, arith}
 use Rattle.std.proofs.lemmas.List.{length-append}
 use Rattle.lnt_wire.specs.At.{At}
-use Rattle.lnt_wire.specs.FrameBytes.{FrameBytes, frame_bytes, version_five, IsFrame, IsPlacedFrame}
+use Rattle.lnt_wire.specs.FrameBytes.{FrameBytes, frame_bytes, IsFrame, IsPlacedFrame}
 use Rattle.lnt_wire.specs.FrameFaults.{IsFrameFault}
-use Rattle.lnt_wire.specs.InitialLength.{initial_length}
-use Rattle.lnt_wire.specs.Numbers.{number_bytes, offset_size}
 use Rattle.lnt_wire.specs.Reading.{Reads, Refuses}
 use Rattle.lnt_wire.specs.declared.fault.Fault.{Fault}
+use Rattle.lnt_wire.specs.declared.fault.Reason.TheVariants.{Memory}
 use Rattle.lnt_wire.specs.declared.format.Order.{Order}
 use Rattle.lnt_wire.specs.declared.frame.Frame.{Frame}
-use Rattle.lnt_header_bytes.specs.HeaderBytes.{unit_body, HeaderBytesIn}
+use Rattle.lnt_header_bytes.specs.HeaderBytes.{HeaderBytesIn}
 use Rattle.lnt_header.specs.declared.header.HeaderParts.{HeaderParts}
 use Rattle.lnt_unit.specs.BrokenUnits.{BrokenUnit}
 use Rattle.lnt_unit.specs.UnitBytes.{UnitBytesIn}
 use Rattle.lnt_header.specs.declared.unit_parts.UnitParts.{UnitParts}
 use Rattle.lnt_unit.proofs.FrameLaws.{broken_more}
 use Rattle.lnt_unit.proofs.BrokenLaws.{frame_broken}
+use Rattle.std.proofs.lemmas.Grind.{common_steps}
 
 -- the program lies in the frame
 pub program_within : (order : Order) (h : HeaderParts) (program bytes : List ℕ) → HeaderBytesIn order (h, program) bytes
     → length program ≤ length bytes
-program_within order h program bytes p =
-    let s = p.spelled in
-    let head = version_five h.order ++ (h.address_size ∷ 0 ∷ []) ++ number_bytes h.order (offset_size h.format) (length s.fields) ++
-    s.fields in
-    let body = unit_body h s.fields program in
-    omega (arith, ap length s.joined, length-append (initial_length h.format h.order (length body)) body, length-append head program)
+program_within order h program bytes p = grind (arith, common_steps, length-append)
 
 -- the frame that was read is one that its header can be read of
 pub frame_placed : (order : Order) (frame : Frame) (old new : At) → Reads (IsFrame order) frame old new → frame.offset ≡ old.place
@@ -48,41 +43,38 @@ frame_end order frame old new r here =
 
 -- the unit of the frame that was read
 pub unit_read : (order : Order) (unit : UnitParts) (frame : Frame) (old new : At) → Reads (IsFrame order) frame old new
-    → UnitBytesIn order unit (frame_bytes order frame.format frame.body.now)
-    → Reads (UnitBytesIn order) unit old new
-unit_read order unit frame old new r p = record {
-  spelling = r.spelling;
-  spelled = subst (UnitBytesIn order unit) (sym r.spelled.spelled.joined) p;
-  whole = r.whole;
-  place = r.place;
-  order = r.order;
-}
+    → UnitBytesIn order unit (frame_bytes order frame.format frame.body.now) → Reads (UnitBytesIn order) unit old new
+unit_read order unit frame old new r p = grind (arith, common_steps)
 
--- A cursor in front of a frame stands where another one does.
-pub record StandsAt (order : Order) (place : ℕ) (rest : List ℕ) (ahead : At) : Type 0 where
-  pub place_is : ahead.place ≡ place
-  pub rest_is : ahead.rest ≡ rest
-  pub order_is : ahead.order ≡ order
+-- ---- a cursor that stands where another one does
 
--- no frame stands there
-pub no_frame : (order : Order) (place : ℕ) (rest : List ℕ) (ahead : At) (fault : Fault) → StandsAt order place rest ahead
-    → Refuses (IsFrameFault ahead.order) (FrameBytes ahead.order) ahead fault
-    → BrokenUnit order fault place rest
-no_frame order place rest ahead fault at r =
-    let here : BrokenUnit order fault ahead.place ahead.rest =
-    frame_broken order ahead fault (subst (λ (o : Order). Refuses (IsFrameFault o) (FrameBytes o) ahead fault) at.order_is r) in
-    rw (sym at.place_is, sym at.rest_is) here
+same_at : (a b : At) → a.place ≡ b.place → a.rest ≡ b.rest → a.order ≡ b.order → a ≡ b
+same_at a b place rest order =
+    let by_parts : record { place = a.place; rest = a.rest; order = a.order } ≡ b = rw (place, rest, order) refl in by_parts
+
+pub frame_there : (order : Order) (frame : Frame) (at ahead next : At) → at.order ≡ order → ahead.place ≡ at.place → ahead.rest ≡ at.rest
+    → ahead.order ≡ order → Reads (IsFrame ahead.order) frame ahead next → Reads (IsFrame order) frame at next
+frame_there order frame at ahead next ordered place rest order_is r =
+    subst (λ (o : Order). Reads (IsFrame o) frame at next) ordered (rw (same_at ahead at place rest (order_is ∙ sym ordered)) at r)
+
+pub no_frame_there : (order : Order) (fault : Fault) (at ahead : At) → at.order ≡ order → ahead.place ≡ at.place → ahead.rest ≡ at.rest
+    → ahead.order ≡ order → Refuses (IsFrameFault ahead.order) (FrameBytes ahead.order) ahead fault
+    → BrokenUnit order fault at.place at.rest
+no_frame_there order fault at ahead ordered place rest order_is r =
+    frame_broken order at fault (subst (λ (o : Order). Refuses (IsFrameFault o) (FrameBytes o) at fault) ordered
+    (rw (same_at ahead at place rest (order_is ∙ sym ordered)) at r))
 
 -- no unit stands in the frame that was read
-pub frame_without_unit : (order : Order) (place : ℕ) (rest : List ℕ) (frame : Frame) (fault : Fault) (ahead new : At)
-    → StandsAt order place rest ahead → Reads (IsFrame ahead.order) frame ahead new
-    → frame.offset ≡ ahead.place → BrokenUnit order fault frame.offset (frame_bytes order frame.format frame.body.now)
-    → BrokenUnit order fault place rest
-frame_without_unit order place rest frame fault ahead new at there here b =
-    let r : Reads (IsFrame order) frame ahead new = subst (λ (o : Order). Reads (IsFrame o) frame ahead new) at.order_is there in
-    let frame_is : r.spelling ≡ frame_bytes order frame.format frame.body.now = r.spelled.spelled.joined in
-    let in_frame : BrokenUnit order fault place r.spelling =
-    subst (λ (n : ℕ). BrokenUnit order fault n r.spelling) (here ∙ at.place_is)
-    (subst (λ (z : List ℕ). BrokenUnit order fault frame.offset z) (sym frame_is) b) in
-    subst (λ (z : List ℕ). BrokenUnit order fault place z) (sym r.whole ∙ at.rest_is)
-    (broken_more order fault place _ r.spelling new.rest r.spelled.spelled in_frame)
+pub frame_without_unit : (order : Order) (frame : Frame) (fault : Fault) (at next : At) → Reads (IsFrame order) frame at next
+    → frame.offset ≡ at.place → BrokenUnit order fault frame.offset (frame_bytes order frame.format frame.body.now)
+    → BrokenUnit order fault at.place at.rest
+frame_without_unit order frame fault at next r here b =
+    let in_frame : BrokenUnit order fault at.place r.spelling = rw (here, ← r.spelled.spelled.joined) at b in
+    subst (λ (z : List ℕ). BrokenUnit order fault at.place z) (sym r.whole)
+    (broken_more order fault at.place _ r.spelling next.rest r.spelled.spelled in_frame)
+
+pub frame_refused : (order : Order) (frame : Frame) (fault : Fault) (at next : At) → Reads (IsFrame order) frame at next
+    → frame.offset ≡ at.place
+    → (fault.reason ≢ Memory → BrokenUnit order fault frame.offset (frame_bytes order frame.format frame.body.now))
+    → fault.reason ≢ Memory → BrokenUnit order fault at.place at.rest
+frame_refused order frame fault at next r here broken some = frame_without_unit order frame fault at next r here (broken some)

@@ -19,17 +19,13 @@ use Rattle.lnt_io.specs.declared.stop.Stop.{Stop}
 use Rattle.lnt_io.specs.declared.stop.Stop.TheVariants as source
 use Rattle.lnt_unit.specs.Stops.{IfFault, stop_of}
 use Rattle.lnt_unit.specs.Units.{SectionEndsBy}
+use Rattle.std.proofs.lemmas.Grind.{common_steps}
 
 -- ---- a fault of bytes that are not cut is one whatever follows
 
 in_frame_more : (order : Order) (format : Format) (fields left before from more : List ℕ) → InFrame order format fields left before from
     → InFrame order format fields left before (from ++ more)
-in_frame_more order format fields left before from more h = record {
-  more = h.more ++ more;
-  fits = h.fits;
-  before_is = h.before_is;
-  from_is = ap (λ (z : List ℕ). z ++ more) h.from_is ∙ append_assoc left h.more more;
-}
+in_frame_more order format fields left before from more h = grind (arith, common_steps, append_assoc)
 
 fault_more : (order : Order) (reason : Reason) (before from more : List ℕ) → (IsCutFrame order (before ++ from) → ⊥)
     → IsFrameFault order reason before from → IsFrameFault order reason before (from ++ more)
@@ -78,8 +74,7 @@ section_ends offset order false (Some x) (Some y) bytes p ended empty = p ∙ ap
 
 -- where no frame begins the bytes that came, none begins those that the source had
 pub section_refused : (offset : ℕ) (order : Order) (whole : Bool) (old new : Option (List ℕ)) (bytes : List ℕ) (fault : Fault)
-    → Pulls old new bytes
-    → MatchBool whole (IsCutFrame order bytes → ⊥) (IfSome new (λ rest. rest ≡ [])) → 0 < length bytes
+    → Pulls old new bytes → MatchBool whole (IsCutFrame order bytes → ⊥) (IfSome new (λ rest. rest ≡ [])) → 0 < length bytes
     → Refuses (IsFrameFault order) (FrameBytes order) (record { place = offset; rest = bytes; order = order }) fault
     → SectionEndsBy offset order old (Some fault)
 section_refused offset order whole None new bytes fault p end some r = tt

@@ -10,6 +10,7 @@ use Rattle.lnt_unit.proofs.UnitLaws.{unit_is_some, units_push, no_section}
 use Rattle.lnt_unit.specs.Stepping.{AddsUnit}
 use Rattle.lnt_unit.specs.UnitBytes.{UnitBytesIn, SectionBytes}
 use Rattle.lnt_header.specs.declared.unit_parts.UnitParts.{UnitParts}
+use Rattle.std.proofs.lemmas.Grind.{common_steps}
 
 -- the units that were read up to the cursor
 pub record UnitsSoFar (order : Order) (bytes : List ℕ) (units : List (ℕ × UnitParts)) (cursor : At) : Type 0 where
@@ -43,8 +44,7 @@ unit_long order unit old new r =
 -- a unit that was added is one more, and has bytes
 pub unit_added : (order : Order) (bytes : List ℕ) (before after : List (ℕ × UnitParts)) (old new : At)
     → UnitsSoFar order bytes before old → AddsUnit order before after old new → UnitsSoFar order bytes after new
-unit_added order bytes before after old new so_far s =
-    rw s.added (one_more_unit order bytes before s.unit old new so_far s.read s.here)
+unit_added order bytes before after old new so_far s = rw s.added (one_more_unit order bytes before s.unit old new so_far s.read s.here)
 
 pub unit_added_long : (order : Order) (before after : List (ℕ × UnitParts)) (old new : At) → AddsUnit order before after old new
     → length new.rest < length old.rest
@@ -53,24 +53,14 @@ unit_added_long order before after old new s = unit_long order s.unit.1 old new 
 -- nothing is left
 pub all_units : (order : Order) (bytes : List ℕ) (units : List (ℕ × UnitParts)) (cursor : At) → UnitsSoFar order bytes units cursor
     → cursor.rest ≡ [] → SectionBytes order units bytes
-all_units order bytes units cursor so_far nothing =
-    subst (λ (z : List ℕ). SectionBytes order units z)
+all_units order bytes units cursor so_far nothing = subst (λ (z : List ℕ). SectionBytes order units z)
     (sym (so_far.whole ∙ ap (λ (z : List ℕ). so_far.front ++ z) nothing ∙ append-nil so_far.front)) so_far.joined
 
 -- no unit begins what is left
 true_fault : (order : Order) (bytes : List ℕ) (units : List (ℕ × UnitParts)) (fault : Fault) (cursor : At)
-    → UnitsSoFar order bytes units cursor
-    → 0 < length cursor.rest
+    → UnitsSoFar order bytes units cursor → 0 < length cursor.rest
     → BrokenUnit order fault cursor.place cursor.rest → IsTrueFault order fault bytes
-true_fault order bytes units fault cursor so_far some b = record {
-  units = units;
-  front = so_far.front;
-  rest = cursor.rest;
-  sound = so_far.joined;
-  some = some;
-  split = so_far.whole;
-  broken = subst (λ (n : ℕ). BrokenUnit order fault n cursor.rest) so_far.place b;
-}
+true_fault order bytes units fault cursor so_far some b = grind (arith, common_steps)
 
 pub section_broken : (order : Order) (bytes : List ℕ) (units : List (ℕ × UnitParts)) (fault : Fault) (cursor : At)
     → UnitsSoFar order bytes units cursor → 0 < length cursor.rest

@@ -13,6 +13,7 @@ use Rattle.lnt_wire.specs.Reading.{Reads}
 use Rattle.lnt_wire.proofs.FrameLaws.{cut_none}
 use Rattle.lnt_wire.proofs.LengthLaws.{length-number_bytes, width_4, same_number_front, same_length, length-initial}
 use Rattle.lnt_unit.specs.Sizes.{IsLeastSize}
+use Rattle.std.proofs.lemmas.Grind.{common_steps}
 
 -- nothing was taken yet
 pub least_nothing : (order : Order) (bytes : List ℕ) → bytes ≡ [] → IsLeastSize order bytes (length bytes)
@@ -22,16 +23,7 @@ least_nothing order bytes empty = record { least = λ frame spelling past more p
 
 -- a frame has 4 bytes
 pub least_first : (old : At) (n : ℕ) → n ≤ 4 → IsLeastSize old.order old.rest n
-least_first old n le = record {
-  least = λ frame spelling past more p e.
-      omega (
-        arith,
-        le,
-        ap length p.joined,
-        length-append (initial_length frame.0 old.order (length frame.1)) frame.1,
-        length-initial frame.0 old.order (length frame.1),
-      );
-}
+least_first old n le = grind (arith, common_steps, length-append, length-initial)
 
 -- a frame that begins with 0xffffffff has 12 bytes
 twelve : (order : Order) (format : Format) (n : ℕ) (past bytes : List ℕ) → LengthFits format n
@@ -50,38 +42,17 @@ twelve order D64 n past bytes fits e =
 -- the first number is 0xffffffff
 wide_first : (old ahead : At) (first : ℕ) → Reads (NumberBytes old.order 4) first old ahead → 0xffffffff ≤ first
     → old.rest ≡ number_bytes old.order 4 0xffffffff ++ ahead.rest
-wide_first old ahead first r high =
-    let is : first ≡ 0xffffffff = omega (arith, r.spelled.fits) in
-    r.whole ∙ ap (λ (z : List ℕ). z ++ ahead.rest) (r.spelled.spelled ∙ ap (number_bytes old.order 4) is)
+wide_first old ahead first r high = grind (arith, common_steps)
 
 pub least_second : (old ahead : At) (first n : ℕ) → Reads (NumberBytes old.order 4) first old ahead → 0xffffffff ≤ first → n ≤ 12
     → IsLeastSize old.order old.rest n
-least_second old ahead first n r high le = record {
-  least = λ frame spelling past more p e.
-      let head = initial_length frame.0 old.order (length frame.1) in
-      let long = twelve old.order frame.0 (length frame.1) (frame.1 ++ past) (ahead.rest ++ more) p.fits
-      (sym (append_assoc head frame.1 past) ∙ ap (λ (z : List ℕ). z ++ past) (sym p.joined) ∙ e
-      ∙ ap (λ (z : List ℕ). z ++ more) (wide_first old ahead first r high)
-      ∙ append_assoc (number_bytes old.order 4 0xffffffff) ahead.rest more) in
-      omega (arith, le, long, ap length p.joined, length-append head frame.1);
-}
+least_second old ahead first n r high le = grind (arith, common_steps, twelve, append_assoc, wide_first, length-append)
 
 -- ---- the initial length is whole
 
 least_counted : (order : Order) (format : Format) (n size : ℕ) (past bytes : List ℕ) → LengthFits format n
-    → bytes ≡ initial_length format order n ++ past
-    → size ≤ length (initial_length format order n) + n → IsLeastSize order bytes size
-least_counted order format n size past bytes fits begins le = record {
-  least = λ frame spelling rest more p e.
-      let head = initial_length frame.0 order (length frame.1) in
-      let found = same_length order frame.0 format (length frame.1) n (frame.1 ++ rest) (past ++ more) p.fits fits
-      (sym (append_assoc head frame.1 rest) ∙ ap (λ (z : List ℕ). z ++ rest) (sym p.joined) ∙ e
-      ∙ ap (λ (z : List ℕ). z ++ more) begins ∙ append_assoc (initial_length format order n) past more) in
-      let same : head ≡ initial_length format order n =
-      ap (λ (f : Format). initial_length f order (length frame.1)) found.format
-      ∙ ap (λ (m : ℕ). initial_length format order m) found.number in
-      omega (arith, le, ap length p.joined, length-append head frame.1, ap length same, found.number);
-}
+    → bytes ≡ initial_length format order n ++ past → size ≤ length (initial_length format order n) + n → IsLeastSize order bytes size
+least_counted order format n size past bytes fits begins le = grind (arith, common_steps, same_length, append_assoc, length-append)
 
 -- the bytes of a 32-bit initial length
 short_first : (old ahead : At) (first : ℕ) → Reads (NumberBytes old.order 4) first old ahead
@@ -90,28 +61,16 @@ short_first old ahead first r = r.whole ∙ ap (λ (z : List ℕ). z ++ ahead.re
 
 -- the bytes of a 64-bit one
 wide_second : (old ahead new : At) (first n : ℕ) → Reads (NumberBytes old.order 4) first old ahead → 0xffffffff ≤ first
-    → Reads (NumberBytes ahead.order 8) n ahead new
-    → old.rest ≡ initial_length D64 old.order n ++ new.rest
-wide_second old ahead new first n r high q =
-    wide_first old ahead first r high
-    ∙ ap (λ (z : List ℕ). number_bytes old.order 4 0xffffffff ++ z)
-    (q.whole ∙ ap (λ (z : List ℕ). z ++ new.rest) (q.spelled.spelled ∙ ap (λ (o : Order). number_bytes o 8 n) r.order))
-    ∙ sym (append_assoc (number_bytes old.order 4 0xffffffff) (number_bytes old.order 8 n) new.rest)
+    → Reads (NumberBytes ahead.order 8) n ahead new → old.rest ≡ initial_length D64 old.order n ++ new.rest
+wide_second old ahead new first n r high q = grind (arith, common_steps, wide_first, append_assoc)
 
 pub least_short : (old ahead : At) (first size : ℕ) → Reads (NumberBytes old.order 4) first old ahead → first < 0xfffffff0
     → size + length ahead.rest ≤ length old.rest + first → IsLeastSize old.order old.rest size
-least_short old ahead first size r low le =
-    let begins = short_first old ahead first r in
-    least_counted old.order D32 first size ahead.rest old.rest low begins
-    (omega (arith, le, ap length begins, length-append (initial_length D32 old.order first) ahead.rest))
+least_short old ahead first size r low le = grind (arith, common_steps, short_first, least_counted, length-append)
 
 pub least_wide : (old ahead new : At) (first n size : ℕ) → Reads (NumberBytes old.order 4) first old ahead → 0xffffffff ≤ first
-    → Reads (NumberBytes ahead.order 8) n ahead new
-    → size + length new.rest ≤ length old.rest + n → IsLeastSize old.order old.rest size
-least_wide old ahead new first n size r high q le =
-    let begins = wide_second old ahead new first n r high q in
-    least_counted old.order D64 n size new.rest old.rest (omega (arith, q.spelled.fits)) begins
-    (omega (arith, le, ap length begins, length-append (initial_length D64 old.order n) new.rest))
+    → Reads (NumberBytes ahead.order 8) n ahead new → size + length new.rest ≤ length old.rest + n → IsLeastSize old.order old.rest size
+least_wide old ahead new first n size r high q le = grind (arith, common_steps, wide_second, least_counted, length-append)
 
 -- ---- the bytes are not cut
 
@@ -120,8 +79,7 @@ pub whole_short : (old ahead : At) (first : ℕ) → Reads (NumberBytes old.orde
 whole_short old ahead first r low le = cut_none old.order D32 first ahead.rest old.rest low le (sym (short_first old ahead first r))
 
 pub whole_wide : (old ahead new : At) (first n : ℕ) → Reads (NumberBytes old.order 4) first old ahead → 0xffffffff ≤ first
-    → Reads (NumberBytes ahead.order 8) n ahead new → n ≤ length new.rest
-    → IsCutFrame old.order old.rest → ⊥
+    → Reads (NumberBytes ahead.order 8) n ahead new → n ≤ length new.rest → IsCutFrame old.order old.rest → ⊥
 whole_wide old ahead new first n r high q le =
     cut_none old.order D64 n new.rest old.rest (omega (arith, q.spelled.fits)) le (sym (wide_second old ahead new first n r high q))
 
@@ -137,8 +95,7 @@ reserved_whole order n past bytes low high begins (too_long D32 m rest fits f lt
     let found = same_number_front order 4 width_4 n m past rest (omega arith) (omega arith) (sym begins ∙ f) in
     omega (arith, found.0)
 reserved_whole order n past bytes low high begins (too_long D64 m rest fits f lt) =
-    let found =
-    same_number_front order 4 width_4 n 0xffffffff past (number_bytes order 8 m ++ rest) (omega arith) (omega arith)
+    let found = same_number_front order 4 width_4 n 0xffffffff past (number_bytes order 8 m ++ rest) (omega arith) (omega arith)
     (sym begins ∙ f ∙ append_assoc (number_bytes order 4 0xffffffff) (number_bytes order 8 m) rest) in
     omega (arith, found.0)
 

@@ -12,16 +12,14 @@ use Rattle.lnt_unit.specs.UnitBytes.{UnitBytes}
 use Rattle.lnt_header.specs.UnitRules.{IsUnit}
 
 unit_spelled : header.AllowedHeaderIsSpelled → operations.AllowedOpsAreSpelled → (unit : UnitParts) → IsUnit unit → FitsUnit unit
-    → HasSmallOffsets unit.header → UnitLengthsFit unit
-    → (bytes : List ℕ) × UnitBytes unit bytes
+    → HasSmallOffsets unit.header → UnitLengthsFit unit → (bytes : List ℕ) × UnitBytes unit bytes
 unit_spelled headers ops unit is fits small short =
     let program = ops.program unit.header unit.ops is.header.numbers is.ops fits.ops in
     let whole = headers.unit unit.header program.0 is.header fits.header small (short program.0 program.1) in
     (whole.0, record { program = program.0; operations = program.1.spelled; whole = whole.1 })
 
 allowed : header.AllowedHeaderIsSpelled → operations.AllowedOpsAreSpelled → (unit : UnitParts) (bytes : List ℕ) → UnitBytes unit bytes
-    → IsUnit unit
-    × FitsUnit unit × HasSmallOffsets unit.header × UnitLengthsFit unit
+    → IsUnit unit × FitsUnit unit × HasSmallOffsets unit.header × UnitLengthsFit unit
 allowed headers ops unit bytes p =
     let h = headers.allowed unit.header p.program bytes p.whole in
     let all = ops.allowed unit.header unit.ops p.program p.operations in (

@@ -4,11 +4,10 @@ use Rattle.std.proofs.lemmas.List.{length-append, append-nil}
 use Rattle.lnt_wire.specs.declared.format.Order.{Order}
 use Rattle.lnt_wire.specs.declared.fault.Fault.{Fault}
 use Rattle.lnt_wire.specs.Bytes.{NoneSpelled}
-use Rattle.lnt_wire.specs.InitialLength.{initial_length}
 use Rattle.lnt_wire.proofs.LengthLaws.{same_rest, length-initial}
 use Rattle.lnt_header.specs.declared.header.HeaderParts.{HeaderParts}
 use Rattle.lnt_header.specs.declared.op.Op.{Op}
-use Rattle.lnt_header_bytes.specs.HeaderBytes.{unit_body, HeaderBytesIn}
+use Rattle.lnt_header_bytes.specs.HeaderBytes.{HeaderBytesIn}
 use Rattle.lnt_header.specs.Joins.{Each}
 use Rattle.lnt_header_bytes.proofs.HeaderLaws.{same_header}
 use Rattle.lnt_ops.proofs.OpLaws.{same_program}
@@ -17,16 +16,14 @@ use Rattle.lnt_header.specs.declared.unit_parts.UnitParts.{UnitParts}
 use Rattle.lnt_unit.specs.BrokenUnits.{IsTrueFault}
 use Rattle.lnt_unit.specs.Laws.{OneSpelling, OneSection}
 use Rattle.lnt_unit.specs.UnitBytes.{UnitBytesIn, UnitsFrom, SectionBytes}
+use Rattle.std.proofs.lemmas.Grind.{common_steps}
 
 -- ---- units
 
 -- a header and the operations of its program
 pub unit_found : (order : Order) (unit : UnitParts) (program bytes : List ℕ) → HeaderBytesIn order (unit.header, program) bytes
     → Each (OpBytes unit.header) unit.ops program → UnitBytesIn order unit bytes
-unit_found order unit program bytes p ops = record {
-  order_is = p.order_is;
-  spelled = record { program = program; operations = ops; whole = p.spelled };
-}
+unit_found order unit program bytes p ops = grind (arith, common_steps)
 
 -- the header of a unit with its program
 pub header_of : (order : Order) (unit : UnitParts) (x : List ℕ) → (p : UnitBytesIn order unit x)
@@ -59,17 +56,7 @@ one_spelling order = record { one = λ u v x y r s p q e. same_unit order u v x 
 
 -- a unit has some byte
 pub unit_is_some : (order : Order) (unit : UnitParts) (x : List ℕ) → UnitBytesIn order unit x → 0 < length x
-unit_is_some order unit x p =
-    let whole = p.spelled.whole in
-    let h = unit.header in
-    let body = unit_body h whole.fields p.spelled.program in
-    omega (
-      arith,
-      ap length whole.joined,
-      length-append (initial_length h.format h.order (length body)) body,
-      length-initial h.format
-          h.order (length body),
-    )
+unit_is_some order unit x p = grind (arith, common_steps, length-append, length-initial)
 
 -- ---- sections
 
@@ -120,12 +107,9 @@ same_units order offset (u ∷ us) (v ∷ vs) x p q =
 
 -- no other list goes past the units that stand before bytes that no unit begins
 none_past : (order : Order) (k l : ℕ) (units others : List (ℕ × UnitParts)) (front rest whole : List ℕ) → UnitsFrom order k units front
-    → UnitsFrom order l others whole
-    → whole ≡ front ++ rest → NoneSpelled (UnitBytesIn order) rest → 0 < length rest → ⊥
-none_past order k l [] [] front rest whole p q e none some =
-    omega (arith, ap length p, ap length q, ap length e, length-append front rest)
-none_past order k l [] (u ∷ us) front rest whole p q e none some =
-    none u.1 q.0 q.1 q.3 (sym q.4 ∙ e ∙ ap (λ (z : List ℕ). z ++ rest) p)
+    → UnitsFrom order l others whole → whole ≡ front ++ rest → NoneSpelled (UnitBytesIn order) rest → 0 < length rest → ⊥
+none_past order k l [] [] front rest whole p q e none some = omega (arith, ap length p, ap length q, ap length e, length-append front rest)
+none_past order k l [] (u ∷ us) front rest whole p q e none some = none u.1 q.0 q.1 q.3 (sym q.4 ∙ e ∙ ap (λ (z : List ℕ). z ++ rest) p)
 none_past order k l (v ∷ vs) [] front rest whole p q e none some =
     omega (arith, unit_is_some order v.1 p.0 p.3, ap length p.4, length-append p.0 p.1, ap length q, ap length e, length-append front rest)
 none_past order k l (v ∷ vs) (u ∷ us) front rest whole p q e none some =

@@ -20,8 +20,7 @@ given_none view walk same going place rest order =
     record { header_is = same; going = going; so = ops_none view.header view.place view.program walk.at place rest order }
 
 pub given_more : (view : View) (ops : List Op) (op : Op) (item : OpView) (old new : Walk) → HasGiven view ops old
-    → GivesOperation item old new
-    → StandsFor item op → HasGiven view (ops ++ op ∷ []) new
+    → GivesOperation item old new → StandsFor item op → HasGiven view (ops ++ op ∷ []) new
 given_more view ops op item old new given step stands =
     let more = walk_more view.header view.place view.program ops op item old new given.header_is given.so step stands in
     record { header_is = more.0; going = more.1; so = more.2 }
@@ -29,8 +28,7 @@ given_more view ops op item old new given step stands =
 -- all were given: the bytes are those of the unit of these operations
 pub given_all : (view : View) (ops : List Op) (old new : Walk) → IsUnitView view → HasGiven view ops old → Ends old new
     → UnitBytesIn view.unit.order (with_ops view ops) view.unit.bytes
-given_all view ops old new is given ends =
-    unit_found view.unit.order (with_ops view ops) view.program view.unit.bytes is.spelled
+given_all view ops old new is given ends = unit_found view.unit.order (with_ops view ops) view.program view.unit.bytes is.spelled
     (walk_done view.header view.place view.program ops old new given.going given.so ends)
 
 -- one was refused: the bytes are those of no unit

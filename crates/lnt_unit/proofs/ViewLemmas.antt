@@ -1,8 +1,9 @@
 -- Units in a buffer: their headers, and their operations, which are counted.
-use Rattle.std.proofs.Common.{◌≡◌, ℕ, ◌+◌, ◌^◌, ◌<◌, ◌≤◌, List, [], ◌∷◌, ◌++◌, length, refl, false, ap, arith}
+use Rattle.std.proofs.Common.{◌≡◌, ◌≢◌, ℕ, ◌+◌, ◌^◌, ◌<◌, ◌≤◌, List, [], ◌∷◌, ◌++◌, length, refl, false, ap, arith}
 use Rattle.std.proofs.lemmas.List.{length-append}
 use Rattle.lnt_wire.specs.FrameBytes.{frame_bytes}
 use Rattle.lnt_wire.specs.declared.fault.Fault.{Fault}
+use Rattle.lnt_wire.specs.declared.fault.Reason.TheVariants.{Memory}
 use Rattle.lnt_wire.specs.declared.format.Order.{Order}
 use Rattle.lnt_wire.specs.declared.frame.Frame.{Frame}
 use Rattle.lnt_header_bytes.specs.Broken.{BrokenHeader}
@@ -12,14 +13,16 @@ use Rattle.lnt_ops.specs.Walks.{Walk, Ends, GivesOperation}
 use Rattle.lnt_unit.proofs.ViewLaws.{given_none, given_more, given_all}
 use Rattle.lnt_unit.specs.Views.{View, IsUnitView, HasCount}
 use Rattle.lnt_unit.specs.Stepping.{HasGiven}
+use Rattle.std.proofs.lemmas.Grind.{common_steps}
 
 -- ---- the header
 
 -- no header with a program begins the bytes of a buffer, since none begins their frame
 pub no_header : (order other : Order) (offset : ℕ) (bytes : List ℕ) (frame : Frame) (fault : Fault) → other ≡ order → frame.offset ≡ offset
     → frame_bytes order frame.format frame.body.now ≡ bytes
-    → BrokenHeader other fault frame.offset (frame_bytes other frame.format frame.body.now) → BrokenHeader order fault offset bytes
-no_header order other offset bytes frame fault same here is b = rw (← is, ← here, ← same) b
+    → (fault.reason ≢ Memory → BrokenHeader other fault frame.offset (frame_bytes other frame.format frame.body.now))
+    → fault.reason ≢ Memory → BrokenHeader order fault offset bytes
+no_header order other offset bytes frame fault same here is broken some = rw (← is, ← here, ← same) (broken some)
 
 -- ---- operations
 
@@ -48,11 +51,7 @@ counted_more view count item old new so step =
 
 pub counted_all : (view : View) (count : ℕ) (old new : Walk) → IsUnitView view → CountedTo view count old → Ends old new
     → HasCount view count
-counted_all view count old new is so ends = record {
-  ops = so.ops;
-  spelled = given_all view so.ops old new is so.given ends;
-  count_is = so.count_is;
-}
+counted_all view count old new is so ends = grind (arith, common_steps, given_all)
 
 pub counted_room : (view : View) (count : ℕ) (item : OpView) (old new : Walk) → CountedTo view count old → GivesOperation item old new
     → length view.program < 2 ^ 64 → count + 1 < 2 ^ 64

@@ -1,12 +1,11 @@
 -- Whole walks, over the operations of a unit and over the units of a section.
-use Rattle.std.proofs.Common.{◌≡◌, ◌⊎◌, ℕ, ◌+◌, ◌<◌, ◌≤◌, List, [], ◌∷◌, ◌++◌, length, refl, sym, ap, subst}
+use Rattle.std.proofs.Common.{◌≡◌, ◌⊎◌, ℕ, ◌+◌, ◌<◌, ◌≤◌, List, [], ◌∷◌, ◌++◌, length, refl, sym, subst}
 use Rattle.std.proofs.Common.{append_assoc, append-nil, arith, inl, inr}
 use Rattle.std.specs.List.{AllZip}
 use Rattle.std.proofs.lemmas.List.{length-append}
 use Rattle.lnt_wire.specs.declared.fault.Fault.{Fault}
 use Rattle.lnt_wire.specs.declared.format.Order.{Order}
 use Rattle.lnt_wire.specs.FrameBytes.{FrameBytes}
-use Rattle.lnt_wire.specs.InitialLength.{initial_length}
 use Rattle.lnt_wire.proofs.LengthLaws.{length-initial}
 use Rattle.lnt_header.specs.HeaderNumbers.{without_entries}
 use Rattle.lnt_header.specs.OpRules.{StandsFor}
@@ -25,6 +24,7 @@ use Rattle.lnt_unit.proofs.ViewLaws.{given_all, given_broken, given_more, given_
 use Rattle.lnt_unit.specs.UnitBytes.{SectionBytes}
 use Rattle.lnt_unit.specs.Views.{View, by_numbers}
 use Rattle.lnt_unit.specs.Stepping.{HasGiven}
+use Rattle.std.proofs.lemmas.Grind.{common_steps}
 
 -- ---- operations
 
@@ -43,12 +43,7 @@ record HasWalked (view : View) (items : List OpView) (walk : Walk) : Type 0 wher
   few : length items + length walk.at.rest ≤ length view.program
 
 walked_none : (view : View) (walk : Walk) → walk.header ≡ view.header → BeginsOf view walk → HasWalked view [] walk
-walked_none view walk same b = record {
-  ops = [];
-  given = given_none view walk same b.going b.place_is b.rest_is b.order_is;
-  stand = tt;
-  few = omega (arith, ap length b.rest_is);
-}
+walked_none view walk same b = grind (arith, common_steps, given_none)
 
 walked_more : (view : View) (items : List OpView) (item : OpView) (old new : Walk) → HasWalked view items old → GivesOperation item old new
     → HasWalked view (items ++ item ∷ []) new
@@ -77,13 +72,7 @@ by_numbers_given view items ops so = record { stand = so.stand; admitted = so.ad
 
 begins_by_numbers : (view : View) (walk : Walk) → walk.header ≡ without_entries view.header → BeginsOf view walk
     → BeginsOf (by_numbers view) walk
-begins_by_numbers view walk same b = record {
-  header_is = inl same;
-  place_is = b.place_is;
-  rest_is = b.rest_is;
-  order_is = b.order_is;
-  going = b.going;
-}
+begins_by_numbers view walk same b = grind (arith, common_steps)
 
 -- by the header, or by its numbers
 from_start : (view : View) (start now : Walk) (items : List OpView) → BeginsOf view start → GivesEach items start now
@@ -124,8 +113,7 @@ whole_walk = record {
 -- ---- units
 
 broken_after : (order : Order) (units : List (ℕ × UnitParts)) (front rest : List ℕ) (fault : Fault) → SectionBytes order units front
-    → 0 < length rest → BrokenUnit order fault (length front) rest
-    → BrokenSection order fault (front ++ rest)
+    → 0 < length rest → BrokenUnit order fault (length front) rest → BrokenSection order fault (front ++ rest)
 broken_after order units front rest fault spelled some b =
     let t : IsTrueFault order fault (front ++ rest) = record {
       units = units;
@@ -140,19 +128,11 @@ broken_after order units front rest fault spelled some b =
 
 -- a whole unit has some byte
 frame_some : (unit : stream.BufferedUnit) → (is : stream.IsWholeUnit unit) → 0 < length unit.bytes
-frame_some unit is =
-    omega (
-      arith,
-      ap length is.spelled.joined,
-      length-append (initial_length is.format unit.order (length is.body)) is.body,
-      length-initial
-          is.format unit.order (length is.body),
-    )
+frame_some unit is = grind (arith, common_steps, length-append, length-initial)
 
 pub fault_of_section : FaultOfSection
 fault_of_section = record {
-  next = λ order units front rest fault spelled ends.
-      broken_after order units front rest fault spelled ends.0
+  next = λ order units front rest fault spelled ends. broken_after order units front rest fault spelled ends.0
       (frame_broken order (record { place = length front; rest = rest; order = order }) fault ends.1);
   here = λ order units front more unit fault spelled is at same b.
       let all : BrokenUnit order fault unit.offset (unit.bytes ++ more) =

@@ -59,8 +59,7 @@ pub record WholeWalk : Type 0 where
   pub given : (view : View) (start now : Walk) (items : List OpView) → BeginsOf view start → GivesEach items start now → (ops : List Op)
       × AreGiven view items ops
   pub all : (view : View) (start now end : Walk) (items : List OpView) → IsUnitView view → BeginsOf view start → GivesEach items start now
-      → Ends now end
-      → (ops : List Op) × AreGiven view items ops × UnitBytesIn view.unit.order (with_ops view ops) view.unit.bytes
+      → Ends now end → (ops : List Op) × AreGiven view items ops × UnitBytesIn view.unit.order (with_ops view ops) view.unit.bytes
   pub broken : (view : View) (start now end : Walk) (items : List OpView) (fault : Fault) → IsHeader view.header → IsUnitView view
       → BeginsOf view start → GivesEach items start now → Fails fault now end
       → BrokenUnit view.unit.order fault view.unit.offset view.unit.bytes

@@ -18,10 +18,8 @@ pub record IsStep {R : Type 0} {source : Ghosts R} (old new : SectionReader R so
   -- a unit is the next one, and the reader continues after it
   pub unit : IfOk answer (λ got. IfSome got (λ unit.
       IsNextUnit (offset_of old) (order_of old) (source.remaining (source_of old)) (source.remaining (source_of new)) unit))
-  pub goes_on : IfOk answer (λ got. IfSome got (λ unit.
-      (progress_of new ≡ Reading) × (offset_of new ≡ offset_of old + length unit.bytes)))
-  pub left : IfOk answer (λ got. IfSome got (λ unit.
-      source.left (source_of new) + length unit.bytes ≡ source.left (source_of old)))
+  pub goes_on : IfOk answer (λ got. IfSome got (λ unit. (progress_of new ≡ Reading) × (offset_of new ≡ offset_of old + length unit.bytes)))
+  pub left : IfOk answer (λ got. IfSome got (λ unit. source.left (source_of new) + length unit.bytes ≡ source.left (source_of old)))
   pub fewer : IfOk answer (λ got. IfSome got (λ unit. source.left (source_of new) < source.left (source_of old)))
   -- none comes only at the end of the section
   pub end : progress_of old ≡ Reading → IfOk answer (λ got. IfNone got

@@ -8,9 +8,10 @@ ghost use Rattle.lnt_unit.specs.ConvertedUnits.{ConvertsUnit, IsNextStop};
 ghost use Rattle.lnt_unit.specs.ConversionSteps.{ConvertsBytes, IsToldAs, IsUnitStop, JudgesUnit};
 
 use crate::convert::ConvertFault;
+use crate::decode::frame_ahead;
 use lnt_header_bytes::{HeaderInPlace, put_header_view, view_header};
 use lnt_ops::convert_ops;
-use lnt_wire::{Cursor, EncodeFault, Fault, Format, Frame, Order, Reason, take_frame};
+use lnt_wire::{Cursor, EncodeFault, Fault, Format, Frame, Order, Reason};
 use std::alloc::Global;
 
 /// Adds the bytes of the unit at the cursor in the format and in the byte order `to`, each LEB128 in its shortest
@@ -20,7 +21,7 @@ use std::alloc::Global;
 /// It refuses with `Malformed` where no unit begins the bytes that are left, with the fault of `decode_unit`; with
 /// `TooLarge` and the unit's offset if it has no encoding in the format; and else with `Memory`. Then the cursor is as
 /// it was, and `out` may end with a part of the unit.
-#[tactic(auto, using(crate::proofs::ReadLaws::frame_placed, crate::proofs::ReadLaws::frame_end, crate::proofs::ConvertedLemmas::unit_converted))]
+#[tactic(auto, using(crate::proofs::ConvertedLemmas::unit_converted, crate::proofs::ConvertedLemmas::told_next, crate::proofs::ConvertedLemmas::frame_stop))]
 pub fn convert_unit(
     alloc: Global,
     cursor: &mut Cursor<'_>,
@@ -35,9 +36,8 @@ pub fn convert_unit(
     ensures extends { OnErr result (Extends out.old.items out.new.items) }
     ensures unchanged { OnErr result (cursor.new ≡ cursor.old) }
 {
-    let mut ahead = Cursor::new(cursor.rest(), cursor.place(), order);
-    let frame = match take_frame(&mut ahead) {
-        Ok(frame) => frame,
+    let (frame, ahead) = match frame_ahead(cursor, order) {
+        Ok(found) => found,
         Err(fault) => return Err(told(fault)),
     };
     convert_frame(alloc, &frame, ahead.place(), order, format, to, out)?;
@@ -49,7 +49,7 @@ pub fn convert_unit(
 /// unit. The caller sees to it that `order` is the cursor's.
 ///
 /// It refuses as `decode_unit` does, and then leaves the cursor as it was.
-#[tactic(auto, using(crate::proofs::ReadLaws::frame_placed, crate::proofs::ReadLaws::frame_end, crate::proofs::ConvertedLemmas::unit_judged, crate::proofs::ConvertedLemmas::unit_judged_large))]
+#[tactic(auto, using(crate::proofs::ConvertedLemmas::frame_malformed, crate::proofs::ConvertedLemmas::unit_judged, crate::proofs::ConvertedLemmas::unit_judged_large))]
 pub(crate) fn judge_unit(
     alloc: Global,
     cursor: &mut Cursor<'_>,
@@ -62,8 +62,7 @@ pub(crate) fn judge_unit(
     ensures err { IfErr result (λ fault. fault.reason ≢ Reason.Memory → BrokenUnit order fault cursor.old.place cursor.old.rest) }
     ensures unchanged { OnErr result (cursor.new ≡ cursor.old) }
 {
-    let mut ahead = Cursor::new(cursor.rest(), cursor.place(), order);
-    let frame = take_frame(&mut ahead)?;
+    let (frame, ahead) = frame_ahead(cursor, order)?;
     let mut bytes = Vec::new(alloc);
     match convert_frame(alloc, &frame, ahead.place(), order, format, to, &mut bytes) {
         Ok(()) => {

@@ -1,6 +1,6 @@
 //! Units and sections, read from their bytes (DWARF 5, section 6.2.4).
 ghost use Rattle.std.specs.Prelude.{◌≡◌, ◌≢◌, ◌+◌, length, IfOk, IfErr, OnOk, OnErr};
-ghost use Rattle.lnt_wire.specs.FrameBytes.{frame_bytes, IsPlacedFrame};
+ghost use Rattle.lnt_wire.specs.FrameBytes.{frame_bytes, IsFrame, IsPlacedFrame};
 ghost use Rattle.lnt_wire.specs.Reading.{Reads};
 ghost use Rattle.lnt_unit.specs.BrokenUnits.{BrokenUnit, BrokenSection};
 ghost use Rattle.lnt_unit.specs.Stepping.{AddsUnit};
@@ -19,18 +19,35 @@ use std::alloc::Global;
 /// field at fault. It is the unit's own offset if the initial length is truncated, is reserved, or counts more bytes than
 /// remain. If the header is valid, the fault is that of the program's first operation that isn't (`read_ops`). After an
 /// error the cursor is unchanged.
-#[tactic(auto, using(crate::proofs::ReadLaws::frame_placed, crate::proofs::ReadLaws::frame_end, crate::proofs::ReadLaws::unit_read))]
+#[tactic(auto, using(crate::proofs::ReadLaws::unit_read, crate::proofs::ReadLaws::frame_refused))]
 pub fn decode_unit(alloc: Global, cursor: &mut Cursor<'_>, order: Order) -> Result<Unit, Fault>
     requires { cursor.old.order ≡ order }
     ensures ok { IfOk result (λ unit. Reads (UnitBytesIn order) unit cursor.old cursor.new) }
     ensures err { IfErr result (λ fault. fault.reason ≢ Reason.Memory → BrokenUnit order fault cursor.old.place cursor.old.rest) }
     ensures unchanged { OnErr result (cursor.new ≡ cursor.old) }
 {
-    let mut ahead = Cursor::new(cursor.rest(), cursor.place(), order);
-    let frame = take_frame(&mut ahead)?;
+    let (frame, ahead) = frame_ahead(cursor, order)?;
     let unit = unit_of(alloc, &frame, ahead.place(), order)?;
     *cursor = ahead;
     Ok(unit)
+}
+
+// The frame at the cursor, whose order `order` is, and a cursor past it.
+#[tactic(auto, using(crate::proofs::ReadLaws::frame_there, crate::proofs::ReadLaws::no_frame_there, crate::proofs::ReadLaws::frame_placed, crate::proofs::ReadLaws::frame_end))]
+pub(crate) fn frame_ahead<'a>(
+    cursor: &Cursor<'a>,
+    order: Order,
+) -> Result<(Frame<'a>, Cursor<'a>), Fault>
+    requires { cursor.now.order ≡ order }
+    ensures ok { IfOk result (λ found. Reads (IsFrame order) found.0 cursor.now found.1) }
+    ensures offset { IfOk result (λ found. found.0.offset ≡ cursor.now.place) }
+    ensures placed { IfOk result (λ found. IsPlacedFrame order found.0) }
+    ensures end { IfOk result (λ found. found.1.place ≡ found.0.offset + length (frame_bytes order found.0.format found.0.body.now)) }
+    ensures err { IfErr result (λ fault. BrokenUnit order fault cursor.now.place cursor.now.rest) }
+{
+    let mut ahead = Cursor::new(cursor.rest(), cursor.place(), order);
+    let frame = take_frame(&mut ahead)?;
+    Ok((frame, ahead))
 }
 
 // The unit of a frame. It ends before the offset `end` of the section.

@@ -19,12 +19,10 @@ loop-entry-preserved c =
     c.entry-item.is c.loop-entry.invariant put
 
 pub returns-clause-ok : goal.returns-clause-ok
-returns-clause-ok c =
-    search (rules, each_begun, entries_more, each_done, entry_large, memory_not_large)
+returns-clause-ok c = search (rules, each_begun, entries_more, each_done, entry_large, memory_not_large)
 
 pub returns-in_err-add_values-clause-large : goal.returns-in_err-add_values-clause-large
-returns-in_err-add_values-clause-large c =
-    search (rules, each_begun, entries_more, each_done, entry_large, memory_not_large)
+returns-in_err-add_values-clause-large c = search (rules, each_begun, entries_more, each_done, entry_large, memory_not_large)
 
 pub add_values-requires : goal.add_values-requires
 add_values-requires c = grind (arith, common_steps)

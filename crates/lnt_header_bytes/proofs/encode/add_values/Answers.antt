@@ -10,12 +10,10 @@ loop-value-preserved c = values_more c.args.format c.args.order c.args.values.no
     c.loop-value-test.true c.value-item.is c.loop-value.invariant c.in_ok-put_form.ensures.ok
 
 pub returns-clause-ok : goal.returns-clause-ok
-returns-clause-ok c =
-    search (rules, each_begun, values_more, each_done, value_large, memory_not_large)
+returns-clause-ok c = search (rules, each_begun, values_more, each_done, value_large, memory_not_large)
 
 pub returns-in_err-put_form-clause-large : goal.returns-in_err-put_form-clause-large
-returns-in_err-put_form-clause-large c =
-    search (rules, each_begun, values_more, each_done, value_large, memory_not_large)
+returns-in_err-put_form-clause-large c = search (rules, each_begun, values_more, each_done, value_large, memory_not_large)
 
 pub put_form-requires : goal.put_form-requires
 put_form-requires c = grind (arith, common_steps)

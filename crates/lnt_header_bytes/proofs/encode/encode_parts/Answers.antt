@@ -4,8 +4,7 @@ use Rattle.lnt_header_bytes.proofs.LargeLemmas.{offset_large, unit_too_long}
 use Rattle.lnt_header_bytes.proofs.encode.encode_parts.Goals as goal
 
 pub returns-clause-ok : goal.returns-clause-ok
-returns-clause-ok c =
-    header_put c.args.parts.now c.args.program.now c.in_ok-fields.fields.items c.deref.result.now c.new-out.result.items
+returns-clause-ok c = header_put c.args.parts.now c.args.program.now c.in_ok-fields.fields.items c.deref.result.now c.new-out.result.items
     c.add_around.new.out.items c.in_ok-fields.ensures.ok c.new-out.ensures.items c.deref.ensures.value c.in_ok-add_around.ensures.ok
 
 pub returns-in_err-fields-clause-large : goal.returns-in_err-fields-clause-large

@@ -12,8 +12,7 @@ returns-in_err-header-clause-err c =
     c.in_ok-start.ensures.ok in
     let placed : c.place.result - length c.in_ok-start.start.header.now + length c.in_ok-start.start.header.now
     ≡ c.read_start.new.cursor.place = omega (arith, c.place.ensures.value, before) in
-    rw (p.1, p.2)
-    (λ some. refuses_fields c.args.order frame.format frame.offset frame.body.now c.in_ok-start.start.address_size
+    rw (p.1, p.2) (λ some. refuses_fields c.args.order frame.format frame.offset frame.body.now c.in_ok-start.start.address_size
     c.in_ok-start.start.selector_size _ c.in_ok-start.start.header.now
     c.after_version-cursor.result c.read_start.new.cursor fault c.requires.is.spelled.fits c.after_version-cursor.ensures
     c.in_ok-start.ensures.ok placed (c.in_err-header.ensures.err some))

@@ -37,8 +37,7 @@ loop-number-preserved c =
     (λ (f : Format). PassesAll 1 (EntryBytes f at.order pairs) c.in-Ok.field-0.now at new) c.format.ensures c.in-Ok.ensures.ok in
     let next : (number - 1) + 1 ≡ number = omega (arith, c.loop-number-test.true) in
     let after : (number + 1) - 1 ≡ number = omega arith in
-    let stands : StandsAt table e.bytes.now number new =
-    subst (λ (n : ℕ). StandsAt table e.bytes.now n new) next
+    let stands : StandsAt table e.bytes.now number new = subst (λ (n : ℕ). StandsAt table e.bytes.now n new) next
     (stands_next table e.bytes.now (number - 1) at new _ c.loop-number.invariant.1 lt passed) in
     let place : length e.bytes.now - length c.rest.result.now ≡ length e.bytes.now - length new.rest =
     ap (λ (z : List ℕ). length e.bytes.now - length z) c.rest.ensures in (

@@ -8,6 +8,5 @@ returns-in_err-pass_entry-clause-err c =
     let pairs = c.args.pairs.now in
     let old = c.args.cursor.now in
     let fault = c.in_err-pass_entry.field-0.0 in
-    rw (p.1, p.2)
-    (refuses_passed c.args.format pairs c.args.count c.loop.counter old c.loop.cursor fault c.loop.invariant c.loop-test.true
+    rw (p.1, p.2) (refuses_passed c.args.format pairs c.args.count c.loop.counter old c.loop.cursor fault c.loop.invariant c.loop-test.true
     c.in_err-pass_entry.ensures.err)

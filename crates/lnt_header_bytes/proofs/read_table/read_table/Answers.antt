@@ -15,8 +15,7 @@ returns-in-Ok-clause-ok c =
     subst (λ (ps : List Pair). PassesAll size (EntryBytes c.args.format middle.order ps) c.in-Ok.bytes.now middle
     c.pass_entries.new.cursor) c.deref.ensures.value c.in-Ok.ensures.ok in
     table_read c.args.format c.in_ok-count.count size _ c.args.cursor.now c.u8.new.self c.read_pairs.new.cursor middle
-    c.pass_entries.new.cursor
-    c.in_ok-count.ensures.ok c.in_ok-pairs.ensures.ok c.in_ok-size.ensures.ok (λ none. search rules) refl passed
+    c.pass_entries.new.cursor c.in_ok-count.ensures.ok c.in_ok-pairs.ensures.ok c.in_ok-size.ensures.ok (λ none. search rules) refl passed
 
 pub returns-in-Err-clause-err : goal.returns-in-Err-clause-err
 returns-in-Err-clause-err c = search (rules, refuses_rest)

@@ -7,5 +7,4 @@ returns-in_err-values-clause-err c =
     let p = err_from_is_err_and c.from_residual.result c.from_residual.ensures.1 in
     let old = c.args.cursor.now in
     let fault = c.in_err-values.field-0.0 in
-    rw (p.1, p.2)
-    (λ some. entry_refused c.args.format c.args.pairs.now old fault (c.in_err-values.ensures.err some))
+    rw (p.1, p.2) (λ some. entry_refused c.args.format c.args.pairs.now old fault (c.in_err-values.ensures.err some))

@@ -11,8 +11,7 @@ use Rattle.lnt_header_bytes.proofs.view_encode.add_fields_view.Goals as goal
 pub returns-in_err-add_table_view-clause-err : goal.returns-in_err-add_table_view-clause-err
 returns-in_err-add_table_view-clause-err c =
     let p = err_from_is_err_and c.from_residual-in_err-add_table_view.result c.from_residual-in_err-add_table_view.ensures.1 in
-    rw (p.1, p.2)
-    (directories_refused (in_format c.args.header.now c.args.format c.args.order) _ _ c.in_err-add_table_view.field-0.0
+    rw (p.1, p.2) (directories_refused (in_format c.args.header.now c.args.format c.args.order) _ _ c.in_err-add_table_view.field-0.0
     c.directories.ensures.pairs c.directories.ensures.entries c.in_err-add_table_view.ensures.err)
 
 pub returns-in_err-add_table_view-2-clause-err : goal.returns-in_err-add_table_view-2-clause-err
@@ -26,8 +25,7 @@ returns-clause-ok c =
     let h = c.args.header.now in
     let numbers = c.numbers-numbers.ensures.numbers in
     fields_put (in_format h c.args.format c.args.order) c.args.out.now.items _ c.add_both.new.out.items
-    c.add_table_view.new.out.items c.add_table_view-2.new.out.items
-    c.extend_from_slice.new.self.items
+    c.add_table_view.new.out.items c.add_table_view-2.new.out.items c.extend_from_slice.new.self.items
     c.standard_lengths.result.now c.extra.result.now _ _ _ _
     (header_in_format h c.args.format c.args.order c.numbers-numbers.ensures.header) c.requires
     (ap (λ (z : List ℕ). c.args.out.now.items ++ z) (c.single_fields.ensures ∙ ap six_bytes (c.parts.ensures.value ∙ numbers)))

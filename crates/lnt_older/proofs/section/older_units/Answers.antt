@@ -19,6 +19,5 @@ loop-cursor-preserved c =
     (rw good at c.push.ensures.items)
 
 pub returns-clause-ok : goal.returns-clause-ok
-returns-clause-ok c =
-    older_found c.args.order c.args.bytes.now c.loop-cursor.cursor c.loop-cursor.older.items c.loop-cursor.invariant
+returns-clause-ok c = older_found c.args.order c.args.bytes.now c.loop-cursor.cursor c.loop-cursor.older.items c.loop-cursor.invariant
     (omega (arith, eqb-true _ _ (sym c.is_empty.ensures ∙ c.loop-cursor-test.false), ap length c.rest.ensures))

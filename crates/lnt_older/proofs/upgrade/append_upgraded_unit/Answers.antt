@@ -10,7 +10,6 @@ returns-in_err-add_around-clause-err c =
     c.in_err-add_around.ensures.err)
 
 pub returns-clause-ok : goal.returns-clause-ok
-returns-clause-ok c =
-    unit_added c.args.unit.now c.args.address_size c.args.directory.now c.in_ok-fields.fields.items c.deref.result.now
+returns-clause-ok c = unit_added c.args.unit.now c.args.address_size c.args.directory.now c.in_ok-fields.fields.items c.deref.result.now
     c.args.out.now.items c.add_around.new.out.items c.requires.size c.in_ok-fields.ensures c.deref.ensures.value
     c.in_ok-add_around.ensures.ok

@@ -16,14 +16,12 @@ returns-in-Special-clause-ok c =
     c.add_code.ensures.ok
 
 pub returns-in-Bare-clause-ok : goal.returns-in-Bare-clause-ok
-returns-in-Bare-clause-ok c =
-    on_ok_to c.add_code-in-Bare.result
+returns-in-Bare-clause-ok c = on_ok_to c.add_code-in-Bare.result
     (λ p. standard_put (λ _. Exactly) [] _ _ _ _ bare _ _ c.in-Bare.ensures (λ h y t. t) (λ h y t. t) (alone _ _ _ p))
     c.add_code-in-Bare.ensures.ok
 
 pub returns-in-Unsigned-clause-ok : goal.returns-in-Unsigned-clause-ok
-returns-in-Unsigned-clause-ok c =
-    on_ok_to c.add_unsigned.result
+returns-in-Unsigned-clause-ok c = on_ok_to c.add_unsigned.result
     (λ p. standard_put (λ _. UnsignedLeb) _ _ _ _ _ (unsigned _) _ _ c.in-Unsigned.ensures (λ h y t. t) (λ h y t. t) p)
     c.add_unsigned.ensures.ok
 
@@ -35,14 +33,12 @@ returns-in-Signed-clause-ok c =
     (rw (← same) c.add_signed.ensures.ok)
 
 pub returns-in-Half-clause-ok : goal.returns-in-Half-clause-ok
-returns-in-Half-clause-ok c =
-    on_ok_to c.add_number.result
+returns-in-Half-clause-ok c = on_ok_to c.add_number.result
     (λ p. standard_put (λ order. NumberBytes order 2) _ _ _ _ _ (half _) _ _ c.in-Half.ensures (λ h y t. t) (λ h y t. t) p)
     c.add_number.ensures.ok
 
 pub returns-in-UnknownStandard-clause-ok : goal.returns-in-UnknownStandard-clause-ok
-returns-in-UnknownStandard-clause-ok c =
-    on_ok_to c.add_operands.result
+returns-in-UnknownStandard-clause-ok c = on_ok_to c.add_operands.result
     (λ p. unknown_standard_put c.args.order c.args.address_size c.args.view _ _ _ _ c.in-UnknownStandard.ensures p)
     c.add_operands.ensures.ok
 

@@ -16,8 +16,7 @@ pub returns-then-is_below-clause-fewer : goal.returns-then-is_below-clause-fewer
 returns-then-is_below-clause-fewer c = let less = (c.in-Some.ensures.goes.on tt).2 in omega (arith, less, c.loop-row.invariant.0)
 
 pub returns-then-is_below-clause-gives : goal.returns-then-is_below-clause-gives
-returns-then-is_below-clause-gives c spans has =
-    rw (c.position_of-low.ensures, c.position_of-high.ensures, c.answer_of-answer.ensures)
+returns-then-is_below-clause-gives c spans has = rw (c.position_of-low.ensures, c.position_of-high.ensures, c.answer_of-answer.ensures)
     (spans_here c.args.unit spans c.loop-row.rows c.next.new.self c.loop-row.last c.in-Some-before.previous c.in-Some.row
     (c.loop-row.invariant.1 spans has) c.in-Some.ensures.steps c.in-Some-before.is
     (subst (λ (p : Position). IsBelow p (position_of c.in-Some.row)) c.position_of-low.ensures
@@ -26,8 +25,7 @@ returns-then-is_below-clause-gives c spans has =
 pub loop-row-preserved : goal.loop-row-preserved
 loop-row-preserved c = (
   let less = (c.in-Some.ensures.goes.on tt).2 in omega (arith, less, c.loop-row.invariant.0),
-  λ spans has.
-      spans_pass c.args.unit spans c.loop-row.rows c.next.new.self c.loop-row.last c.in-Some-before.previous c.in-Some.row
+  λ spans has. spans_pass c.args.unit spans c.loop-row.rows c.next.new.self c.loop-row.last c.in-Some-before.previous c.in-Some.row
       (c.loop-row.invariant.1 spans has) c.in-Some.ensures.steps c.in-Some-before.is
       (subst (λ (p : Position). IsAtMost (position_of c.in-Some.row) p) c.position_of-low.ensures
       (subst (λ (q : Position). IsAtMost q c.position_of-low.result) c.position_of-high.ensures c.if-is_below.ensures)),

@@ -27,8 +27,7 @@ pub returns-in-Ok-clause-ok : goal.returns-in-Ok-clause-ok
 returns-in-Ok-clause-ok c =
     let header = c.args.header.now in
     let put = subst (λ (h : HeaderParts). Appends (HeaderBytesIn c.args.to) (in_format h c.args.format c.args.to, c.deref.result.now)
-    c.args.out.now.items c.put_header_view.new.out.items)
-    c.view.ensures c.in-Ok.ensures.ok in
+    c.args.out.now.items c.put_header_view.new.out.items) c.view.ensures c.in-Ok.ensures.ok in
     frame_converted header.order header c.numbers.result.now c.args.program.now _ c.new-converted.result.items _
     c.deref.result.now _ _ c.args.format c.args.to
     c.requires.spelled c.numbers.ensures.numbers c.in_default.ensures.ok c.new-converted.ensures.items c.deref.ensures.value put

@@ -21,8 +21,7 @@ returns-then-is_empty-clause-end g c =
 pub returns-then-is_empty-clause-not_long : goal.returns-then-is_empty-clause-not_long
 returns-then-is_empty-clause-not_long g c =
     let none : vec_len c.take_unit_bytes.new.taken ≡ 0 = eqb-true _ _ (sym c.is_empty.ensures ∙ c.if-is_empty.true) in
-    ended_short c.args.order c.in_ok-take_unit_bytes.field-0 _ c.take_unit_bytes.new.taken.items _
-    c.in_ok-take_unit_bytes.ensures.whole
+    ended_short c.args.order c.in_ok-take_unit_bytes.field-0 _ c.take_unit_bytes.new.taken.items _ c.in_ok-take_unit_bytes.ensures.whole
     (no_bytes _ (omega (arith, none, c.take_unit_bytes.new.taken.ok.0))) c.in_ok-take_unit_bytes.ensures.ended
 
 pub returns-in_err-of-clause-fault : goal.returns-in_err-of-clause-fault

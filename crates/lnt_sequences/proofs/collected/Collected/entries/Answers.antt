@@ -12,8 +12,7 @@ use Rattle.lnt_sequences.proofs.KeptLemmas.{ids_kept, kept_apart, kept_are, kept
 use Rattle.lnt_sequences.proofs.collected.Collected.entries.Goals as goal
 
 pub kept-extents-requires : goal.kept-extents-requires
-kept-extents-requires c =
-    subst (λ (es : List Extent). AllPairs (λ (a : Extent) (b : Extent). a.id ≢ b.id) es) (sym c.requires.1.extents)
+kept-extents-requires c = subst (λ (es : List Extent). AllPairs (λ (a : Extent) (b : Extent). a.id ≢ b.id) es) (sym c.requires.1.extents)
     (extents_ids c.requires.0 c.requires.2)
 
 pub first_overlap-requires-clause-some : goal.first_overlap-requires-clause-some
@@ -30,14 +29,12 @@ first_overlap-requires-clause-ids c =
     c.kept-extents.ensures)
 
 pub returns-in-Some-clause-overlap : goal.returns-in-Some-clause-overlap
-returns-in-Some-clause-overlap c = λ ss collects.
-    kept_overlap (kept_of c.args.skip_copies ss) c.kept-extents.result.items c.in-Some.overlap
+returns-in-Some-clause-overlap c = λ ss collects. kept_overlap (kept_of c.args.skip_copies ss) c.kept-extents.result.items c.in-Some.overlap
     (kept_are c.args.skip_copies ss c.args.self.extents.items c.kept-extents.result.items collects.extents c.kept-extents.ensures)
     (subst (λ (es : List Extent). ExtentsOverlap es c.in-Some.overlap) c.deref_mut.ensures.value c.in-Some.ensures.overlap)
 
 pub returns-in-None-clause-apart : goal.returns-in-None-clause-apart
-returns-in-None-clause-apart c = λ ss collects.
-    kept_apart (kept_of c.args.skip_copies ss) c.kept-extents.result.items
+returns-in-None-clause-apart c = λ ss collects. kept_apart (kept_of c.args.skip_copies ss) c.kept-extents.result.items
     (kept_are c.args.skip_copies ss c.args.self.extents.items c.kept-extents.result.items collects.extents c.kept-extents.ensures)
     (subst (λ (es : List Extent). AllPairs ExtentsDisjoint es) c.deref_mut.ensures.value c.in-None.ensures.apart)
 

@@ -14,7 +14,8 @@ loop-init c = record {
 pub loop-preserved : goal.loop-preserved
 loop-preserved c = record {
   in_rows = λ rows is.
-      mark_after rows c.loop.after c.next.new.self c.loop.self.last c.in-Some.row (c.loop.invariant.in_rows rows is) c.in-Some.ensures.steps;
+      mark_after rows c.loop.after c.next.new.self c.loop.self.last c.in-Some.row (c.loop.invariant.in_rows rows is)
+      c.in-Some.ensures.steps;
   not_above = subst (λ (q : Position). IsAtMost q c.args.position) c.position_of.ensures c.if-is_below.ensures;
   fewer = let less = (c.in-Some.ensures.goes.on tt).2 in omega (arith, less, c.loop.invariant.fewer);
 }

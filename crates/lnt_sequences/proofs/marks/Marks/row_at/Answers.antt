@@ -6,8 +6,7 @@ use Rattle.lnt_sequences.proofs.marks.Marks.row_at.Goals as goal
 
 pub loop-position-preserved : goal.loop-position-preserved
 loop-position-preserved c = record {
-  marks = λ list will marks.
-      marks_more list c.loop-position.self.marks.items c.push.new.self.items c.go_on.new.self c.fork.result
+  marks = λ list will marks. marks_more list c.loop-position.self.marks.items c.push.new.self.items c.go_on.new.self c.fork.result
       (c.loop-position.invariant.marks list will marks)
       (c.loop-position-test.ensures.goes_on list (c.loop-position.invariant.mark list will marks)) c.fork.ensures
       c.in_ok-push.ensures.items;

@@ -1,9 +1,6 @@
-use Rattle.std.proofs.Common.{◌≢◌, arith}
-use Rattle.std.proofs.lemmas.Result.{err_from_is_err_and}
+use Rattle.std.proofs.Common.{arith}
 use Rattle.std.proofs.lemmas.Grind.{common_steps}
-use Rattle.lnt_wire.specs.declared.fault.Reason.TheVariants.{Memory}
-use Rattle.lnt_header_bytes.specs.Broken.{BrokenHeader}
-use Rattle.lnt_unit.specs.BrokenUnits.{BrokenUnit}
+use Rattle.std.proofs.lemmas.Result.{err_from_is_err_and, IfErr-weaker}
 use Rattle.lnt_unit.proofs.BrokenLaws.{header_broken}
 use Rattle.lnt_unit.proofs.ViewLemmas.{no_header}
 use Rattle.lnt_unit.proofs.in_place.UnitInPlace.over.Goals as goal
@@ -11,23 +8,14 @@ use Rattle.lnt_unit.proofs.in_place.UnitInPlace.over.Goals as goal
 pub returns-in_err-header-clause-header : goal.returns-in_err-header-clause-header
 returns-in_err-header-clause-header c =
     let p = err_from_is_err_and c.from_residual.result c.from_residual.ensures.1 in
-    let buffer = c.args.buffer.now in
-    let fault = c.in_err-header.field-0.0 in
-    let broken : fault.reason ≢ Memory → BrokenHeader buffer.order fault buffer.offset buffer.bytes =
-    λ some. no_header buffer.order _ buffer.offset buffer.bytes c.frame.result fault c.order.ensures c.frame.ensures.offset
-    c.frame.ensures.bytes (c.in_err-header.ensures.err some) in
-    rw (p.1, p.2) broken
+    rw (p.1, p.2) (no_header _ _ _ _ c.frame.result c.in_err-header.field-0.0 c.order.ensures c.frame.ensures.offset c.frame.ensures.bytes
+    c.in_err-header.ensures.err)
 
 pub returns-in_err-header-clause-err : goal.returns-in_err-header-clause-err
 returns-in_err-header-clause-err c =
-    let p = err_from_is_err_and c.from_residual.result c.from_residual.ensures.1 in
     let buffer = c.args.buffer.now in
-    let fault = c.in_err-header.field-0.0 in
-    let broken : fault.reason ≢ Memory → BrokenUnit buffer.order fault buffer.offset buffer.bytes =
-    λ some. header_broken buffer.order fault buffer.offset buffer.bytes
-    (no_header buffer.order _ buffer.offset buffer.bytes c.frame.result fault c.order.ensures c.frame.ensures.offset c.frame.ensures.bytes
-    (c.in_err-header.ensures.err some)) in
-    rw (p.1, p.2) broken
+    IfErr-weaker c.from_residual.result _ _ (λ fault broken some. header_broken buffer.order fault buffer.offset buffer.bytes (broken some))
+    (returns-in_err-header-clause-header c)
 
 pub invariant_of-result : goal.invariant_of-result
 invariant_of-result c = grind (arith, common_steps)
