@@ -17,7 +17,8 @@ use Rattle.lnt_paths.specs.declared.answer.DifferenceByPath.{DifferenceByPath}
 use Rattle.lnt_paths.specs.declared.comparison.PathComparison.{PathComparison}
 use Rattle.lnt_paths.specs.declared.record.PathRecord.{PathRecord}
 use Rattle.lnt_paths.specs.declared.version.PathVersion.{PathVersion}
-use Rattle.lnt_paths.specs.Merging.{IsMerged, JudgesByPath, path_end}
+use Rattle.lnt_spans.proofs.FoundLaws.{found_so}
+use Rattle.lnt_paths.specs.Merging.{AnswerAlike, IsMerged, JudgesByPath, path_end}
 use Rattle.lnt_paths.specs.PathAnswers.{PathAnswer}
 use Rattle.lnt_spans.specs.declared.found.Found.{Found as FoundSpec}
 use Rattle.lnt_spans.specs.Merged.{AreFound, answer_told, end_of_records}
@@ -116,12 +117,17 @@ judges_none to_come tell version comparison list merged count = record {
 
 pub found_told : {S : Type 0} (to_come : S → List Span → Type 0) (tell : PathVersion → Answer → PathAnswer) (version : PathVersion)
     (comparison : PathComparison S)
-    (bytes : List ℕ) (list : List Span) (records : List Fields) (found : FoundSpec DifferenceByPath)
+    (bytes : List ℕ) (list section : List Span) (records : List Fields) (found : FoundSpec DifferenceByPath)
     → (j : JudgesByPath to_come (tell version) version comparison list records)
-    → RecordsOf bytes records → AreFound stretch_of (answer_told (tell version) list) (path_span_answer j.table) found
-    → IsPathOutcome bytes (λ version. answer_told (tell version) list) (Found found)
-found_told to_come tell version comparison bytes list records found j all told =
-    record { version = version; table = j.table; is_table = (records, all, j.is_table); so = told }
+    → RecordsOf bytes records → AnswerAlike (tell version) list section
+    → AreFound stretch_of (answer_told (tell version) list) (path_span_answer j.table) found
+    → IsPathOutcome bytes (λ version. answer_told (tell version) section) (Found found)
+found_told to_come tell version comparison bytes list section records found j all same told = record {
+  version = version;
+  table = j.table;
+  is_table = (records, all, j.is_table);
+  so = found_so stretch_of (path_span_answer j.table) (answer_told (tell version) list) (answer_told (tell version) section) found same told;
+}
 
 -- a record was taken, or its fault is that of the bytes
 pub found_in : (version : PathVersion) (records : List Fields) (fields : Fields) (found : Option TableFault) (Taken : Type 0)

@@ -116,7 +116,7 @@ grown_holds : (last next : Span) → last.high ≡ next.low → IsBelow last.low
     → IsBelow last.low next.high
 grown_holds last next touch h k = below_at_most (subst (λ (p : Position). IsBelow last.low p) touch h) (below_is_at_most k)
 
-grown_order : (last next : Span) (rest : List Span) → last.high ≡ next.low → AreInOrder (last ∷ next ∷ rest)
+pub grown_order : (last next : Span) (rest : List Span) → last.high ≡ next.low → AreInOrder (last ∷ next ∷ rest)
     → AreInOrder (grown last next.high ∷ rest)
 grown_order last next [] touch h = grown_holds last next touch h.0 h.2
 grown_order last next (r ∷ rest) touch h = (grown_holds last next touch h.0 h.2.0, h.2.1, h.2.2)
@@ -137,7 +137,7 @@ joined_order tell last (next ∷ rest) joined h (inr j) =
 
 -- ---- with the same answers
 
-grown_answer : (tell : Answer → PathAnswer) (last next : Span) (rest : List Span) (p : Position) → IsExtendedBy tell last next
+pub grown_answer : (tell : Answer → PathAnswer) (last next : Span) (rest : List Span) (p : Position) → IsExtendedBy tell last next
     → AreInOrder (last ∷ next ∷ rest)
     → answer_told tell (grown last next.high ∷ rest) p ≡ answer_told tell (last ∷ next ∷ rest) p
 grown_answer tell last next rest p goes o =
@@ -167,7 +167,7 @@ grown_answer tell last next rest p goes o =
     ]
 
 -- prepending a span to two lists that agree at p
-same_after : (tell : Answer → PathAnswer) (last : Span) (xs ys : List Span) (p : Position) → answer_told tell xs p ≡ answer_told tell ys p
+pub same_after : (tell : Answer → PathAnswer) (last : Span) (xs ys : List Span) (p : Position) → answer_told tell xs p ≡ answer_told tell ys p
     → answer_told tell (last ∷ xs) p ≡ answer_told tell (last ∷ ys) p
 same_after tell last xs ys p e =
     let told : Option Answer → Option PathAnswer = option_map tell in
@@ -192,7 +192,7 @@ joined_same tell last (next ∷ rest) joined p h (inr j) =
 
 -- ---- none extends the one before it
 
-abbrev by_paths : (Answer → PathAnswer) → List Span → List PathSpan
+abbrev pub by_paths : (Answer → PathAnswer) → List Span → List PathSpan
 by_paths tell list = map (tell_span tell) list
 
 put_differ : (tell : Answer → PathAnswer) (last next : Span) (joined : List Span) → (IsExtendedBy tell last next → ⊥)
@@ -215,12 +215,12 @@ joined_differ tell last (next ∷ rest) joined (inr j) =
 
 -- ---- as spans by path
 
-by_paths_order : (tell : Answer → PathAnswer) (list : List Span) → AreInOrder list → StandInOrder (by_paths tell list)
+pub by_paths_order : (tell : Answer → PathAnswer) (list : List Span) → AreInOrder list → StandInOrder (by_paths tell list)
 by_paths_order tell [] h = tt
 by_paths_order tell (span ∷ []) h = h
 by_paths_order tell (span ∷ next ∷ list) h = (h.0, h.1, by_paths_order tell (next ∷ list) h.2)
 
-by_paths_answer : (tell : Answer → PathAnswer) (list : List Span) (p : Position)
+pub by_paths_answer : (tell : Answer → PathAnswer) (list : List Span) (p : Position)
     → path_span_answer (by_paths tell list) p ≡ answer_told tell list p
 by_paths_answer tell [] p = refl
 by_paths_answer tell (span ∷ list) p = by (is_in_span p span) (by_paths_answer tell list p)

@@ -1,4 +1,5 @@
 pub mod BorderLemmas
+pub mod CanonicalLemmas
 pub mod ComparisonLemmas
 pub mod CompletionLaws
 pub mod HeldLemmas

@@ -1,5 +1,5 @@
 -- A section's spans are compared with the records of a table by path, one after another.
-use Rattle.std.proofs.Common.{◌≡◌, ◌∙◌, ℕ, ◌<◌, ◌≤◌, List, [], ◌∷◌, ◌++◌, inl, inr, refl, sym, subst, None, Option, arith}
+use Rattle.std.proofs.Common.{◌≡◌, ◌∙◌, ℕ, ◌<◌, ◌≤◌, List, [], ◌∷◌, ◌++◌, inl, inr, refl, sym, subst, None, Option, ap, append-nil, arith}
 use Rattle.lnt_spans.specs.declared.answer.Answer.{Answer}
 use Rattle.lnt_spans.specs.declared.merge.Merge.{Merge}
 use Rattle.lnt_spans.specs.declared.position.Position.{Position}
@@ -7,10 +7,13 @@ use Rattle.lnt_spans.specs.declared.span.Span.{Span}
 use Rattle.lnt_spans.specs.Ahead.{IsAhead}
 use Rattle.lnt_spans.specs.Merged.{BeginFrom, HasMerged, HasOneMore, end_of_records}
 use Rattle.lnt_spans.specs.Positions.{IsBelow, IsAtMost}
-use Rattle.lnt_spans.specs.Spans.{AreInOrder}
+use Rattle.lnt_spans.specs.Comparing.{end_of}
+use Rattle.lnt_spans.specs.Spans.{AreInOrder, span_answer}
+use Rattle.std.specs.Option.{option_map}
 use Rattle.lnt_spans.proofs.MergedLemmas as any
-use Rattle.lnt_spans.proofs.PassedLaws.{begin_after}
-use Rattle.lnt_spans.proofs.PositionLaws.{at_most_trans, below_at_most, below_is_at_most, not_both, order_cases}
+use Rattle.lnt_spans.proofs.AnsweringLaws.{back_in_order, front_in_order}
+use Rattle.lnt_spans.proofs.PassedLaws.{answer_below, answer_from, begin_after}
+use Rattle.lnt_spans.proofs.PositionLaws.{at_most_trans, below_at_most, below_is_at_most, order_cases}
 use Rattle.lnt_paths.specs.declared.answer.DifferenceByPath.{DifferenceByPath}
 use Rattle.lnt_paths.specs.declared.record.PathRecord.{PathRecord}
 use Rattle.lnt_paths.specs.Merging.{IsMerged, path_end}
@@ -18,6 +21,7 @@ use Rattle.lnt_paths.specs.PathAnswers.{PathAnswer}
 use Rattle.lnt_paths.specs.PathSpans.{PathSpan, path_span_answer, whole}
 use Rattle.lnt_paths.specs.PathStretches.{stretch_of}
 use Rattle.lnt_paths.specs.Reading.{record_answer, record_span}
+use Rattle.lnt_paths.proofs.JoiningLemmas.{by_paths, by_paths_answer}
 use Rattle.lnt_paths.proofs.PathSpanLemmas.{answer_before, answer_after, answer_in}
 
 pub low_high : (said : PathRecord) → said.low < said.high → IsBelow (whole said.low) (whole said.high)
@@ -26,16 +30,29 @@ low_high said lt = record { address = omega (arith, lt); op = λ e. absurd (omeg
 pub origin_first : (p : Position) → IsAtMost (whole 0) p
 origin_first p = record { address = omega arith; op = λ e. omega arith }
 
--- none was compared yet
-pub merged_none : {S : Type 0} (to_come : S → List Span → Type 0) (tell : Answer → PathAnswer) (merge : Merge S DifferenceByPath)
-    (list : List Span) → end_of_records merge ≡ whole 0 → merge.gap ≡ None → merge.mistake ≡ None → merge.missed ≡ 0
-    → IsAhead to_come merge.spans list → AreInOrder list → IsMerged to_come tell merge list []
-merged_none to_come tell merge list at gap mistake missed ahead order = record {
-  at_is = at;
-  merged = any.merged_past to_come tell stretch_of merge list (path_span_answer []) gap mistake missed (λ p h. refl)
-      (λ p h. absurd (not_both h (subst (λ (q : Position). IsAtMost q p) (sym at) (origin_first p)))) list ahead order
-      (subst (λ (q : Position). BeginFrom q list) (sym at) (begin_after [] list order)) (λ p h. refl);
+-- where they end
+ends : (tell : Answer → PathAnswer) (passed : List Span) → path_end (by_paths tell passed) ≡ end_of passed
+ends tell [] = refl
+ends tell (span ∷ []) = refl
+ends tell (span ∷ next ∷ passed) = ends tell (next ∷ passed)
+
+-- the spans with which both sides begin were compared
+pub merged_past : {S : Type 0} (to_come : S → List Span → Type 0) (tell : Answer → PathAnswer) (merge : Merge S DifferenceByPath)
+    (passed list : List Span) → end_of_records merge ≡ end_of passed → merge.gap ≡ None → merge.mistake ≡ None → merge.missed ≡ 0
+    → IsAhead to_come merge.spans list → AreInOrder (passed ++ list) → IsMerged to_come tell merge (passed ++ list) (by_paths tell passed)
+merged_past to_come tell merge passed list at gap mistake missed ahead order = record {
+  at_is = at ∙ sym (ends tell passed);
+  merged = any.merged_past to_come tell stretch_of merge (passed ++ list) (path_span_answer (by_paths tell passed)) gap mistake missed
+      (λ p h. by_paths_answer tell passed p ∙ ap (option_map tell) (none p (subst (λ (q : Position). IsAtMost q p) at h)))
+      (λ p h. ap (option_map tell) (answer_below passed list p order (subst (λ (q : Position). IsBelow p q) at h))
+      ∙ sym (by_paths_answer tell passed p)) list ahead (back_in_order passed list order)
+      (subst (λ (q : Position). BeginFrom q list) (sym at) (begin_after passed list order))
+      (λ p h. answer_from passed list p order (subst (λ (q : Position). IsAtMost q p) at h));
 }
+  where
+    none : (p : Position) → IsAtMost (end_of passed) p → span_answer passed p ≡ None
+    none p h = ap (λ (xs : List Span). span_answer xs p) (sym (append-nil passed))
+        ∙ answer_from passed [] p (subst AreInOrder (sym (append-nil passed)) (front_in_order passed list order)) h
 
 -- a record after those that give no answer at p
 answer_push_none : (table more : List PathSpan) (p : Position) → path_span_answer table p ≡ None

@@ -17,14 +17,15 @@ use Rattle.lnt_records.specs.Table.{Fields}
 use Rattle.lnt_spans.specs.declared.answer.Answer.{Answer}
 use Rattle.lnt_spans.specs.declared.span.Span.{Span}
 use Rattle.lnt_records.proofs.LineLaws as any
-use Rattle.lnt_records.proofs.LineLaws.{IsReadBack}
+use Rattle.lnt_records.proofs.LineLaws.{IsReadBack, row_end, row_some}
 use Rattle.lnt_records.proofs.QuotingLaws.{address_text, number_text, quiet_text}
 use Rattle.lnt_paths.specs.declared.comparison.PathComparison.{PathComparison}
 use Rattle.lnt_paths.specs.declared.record.PathRecord.{PathRecord}
 use Rattle.lnt_paths.specs.declared.version.PathVersion.{PathVersion}
 use Rattle.lnt_paths.specs.declared.version.PathVersion.TheVariants.{Three, Four}
 use Rattle.lnt_paths.specs.PathLines.{IsPlainByte}
-use Rattle.lnt_paths.specs.Merging.{IsMerged}
+use Rattle.lnt_records.specs.Passing.{IsCutAfter}
+use Rattle.lnt_paths.specs.Merging.{IsMerged, JudgesByPath}
 use Rattle.lnt_paths.specs.Passing.{GoesOnAs, HasTaken, IsAfter, IsPathBefore, IsPathLine, IsPlace}
 use Rattle.lnt_paths.specs.PathAnswers.{PathAnswer}
 use Rattle.lnt_paths.specs.PathSpans.{PathSpan, whole}
@@ -171,9 +172,6 @@ zero_mark (b ∷ []) = refl
 zero_mark (b ∷ c ∷ rest) = refl
 
 -- the end of a record's text: quotes if the record is blank, and a line feed
-abbrev row_end : Fields → List ℕ
-row_end fields = (if is_blank default_writer fields then 34 ∷ 34 ∷ [] else []) ++ 10 ∷ []
-
 row_begins : (low : List ℕ) (fields : Fields) (digits : List ℕ) → low ≡ 48 ∷ 120 ∷ digits → field_text default_writer low ≡ low
     → (more : List ℕ) × (row_text default_writer (low ∷ fields) ≡ 48 ∷ more)
 row_begins low fields digits e q = (
@@ -198,14 +196,6 @@ pub line_unmarked : (version : PathVersion) (said : PathRecord) (bytes rest : Li
 line_unmarked version said bytes rest l =
     let begins = line_begins version said bytes rest l in
     ap strip_bom begins.1 ∙ zero_mark begins.0 ∙ sym begins.1
-
-row_some : (fields : Fields) → 0 < length (row_text default_writer fields)
-row_some fields =
-    omega (
-      arith,
-      length-append (row_body default_writer fields) (row_end fields),
-      length-append {A = ℕ} (if is_blank default_writer fields then 34 ∷ 34 ∷ [] else []) (10 ∷ []),
-    )
 
 pub line_shorter : (version : PathVersion) (said : PathRecord) (bytes rest : List ℕ) → IsPathLine version said bytes rest
     → length rest < length bytes
@@ -285,6 +275,24 @@ pub after_slice : (bytes : List ℕ) (at : ℕ) (records : List Fields) → IsAf
     → IsAfter bytes (take (length bytes - at) (drop at bytes)) records
 after_slice bytes at records h = subst (λ (t : List ℕ). IsAfter bytes t records) (sym (rest_whole bytes at)) h
 
+-- The text was cut out of the bytes, without the records that were passed before.
+pub after_cut : (version : PathVersion) (text bytes : List ℕ) (at : ℕ) (records passed more : List Fields)
+    → IsAfter text (drop at text) records → records ≡ path_column_names version ∷ more
+    → IsCutAfter (path_column_names version) text bytes (path_column_names version ∷ passed)
+    → IsAfter bytes (take (length text - at) (drop at text)) (path_column_names version ∷ (passed ++ more))
+after_cut version text bytes at records passed more h e cut = record {
+  after = h.after;
+  rest = h.rest;
+  goes_on = record {
+    last = h.goes_on.last;
+    reached = cut more h.after h.rest
+        (subst (λ (r : List Fields). Reached default_config st.StartRecord (strip_bom text) r h.after h.rest) e h.goes_on.reached);
+    text_reached = subst (λ (t : List ℕ). Reached default_config st.StartRecord (strip_bom t) (h.goes_on.last ∷ []) h.after h.rest)
+        (sym (rest_whole text at)) h.goes_on.text_reached;
+    narrow = h.goes_on.narrow;
+  };
+}
+
 -- ---- the loop over lines
 
 -- Lines were passed up to one index, and the last of them begins at another.
@@ -297,14 +305,26 @@ pub record Stands {S : Type 0} (to_come : S → List Span → Type 0) (tell : An
   pub within : before ≤ length table
   pub plain : All IsPlainByte last
 
+-- none was taken yet
+pub taken_none : {S : Type 0} (to_come : S → List Span → Type 0) (tell : Answer → PathAnswer) (version : PathVersion)
+    (old : PathComparison S) (table : List ℕ) → HasTaken to_come tell version old old table table (path_column_names version ∷ [])
+taken_none to_come tell version old table = record {
+  more = [];
+  records_are = refl;
+  count = omega arith;
+  few = omega arith;
+  judged = λ list passed j. subst (λ (r : List Fields). JudgesByPath to_come tell version old list (path_column_names version ∷ r))
+      (sym (append-nil passed)) j;
+}
+
 pub stands_first : {S : Type 0} (to_come : S → List Span → Type 0) (tell : Answer → PathAnswer) (version : PathVersion)
-    (old : PathComparison S) (table header last : List ℕ) → old.count ≡ 1 → header ≡ row_text default_writer (path_column_names version)
+    (old : PathComparison S) (table header last : List ℕ) → header ≡ row_text default_writer (path_column_names version)
     → table ≡ header ++ drop (length header) table → All IsPlainByte last
     → Stands to_come tell version old old table 0 (length header) last
-stands_first to_come tell version old table header last count e f plain = record {
+stands_first to_come tell version old table header last e f plain = record {
   records = path_column_names version ∷ [];
   goes_on = header_passed version table header (drop (length header) table) e f;
-  taken = record { count = count; few = omega arith; judged = λ list j. j };
+  taken = taken_none to_come tell version old table;
   few = omega (arith, ap length e, row_some (path_column_names version), ap length f, length-append header (drop (length header) table));
   within = omega arith;
   plain = plain;
@@ -323,16 +343,23 @@ pub stands_more : {S : Type 0} (to_come : S → List Span → Type 0) (tell : An
     → new.count ≡ now.count + 1 → end_of_records now.merge ≡ whole now.at → TakesRecord to_come tell now new said
     → Stands to_come tell version old new table at next said.path.now
 stands_more to_come tell version old now new table before at next last said h line plain le lt count end step =
+    let names : Fields = path_column_names version in
+    let taken = h.taken in
     let pushed : length (h.records ++ line.fields ∷ []) ≡ length h.records + 1 = length-append h.records (line.fields ∷ []) in
+    let more : length (taken.more ++ line.fields ∷ []) ≡ length taken.more + 1 = length-append taken.more (line.fields ∷ []) in
     let shorter = line_shorter version said (drop at table) (drop next table) line in
     record {
       records = h.records ++ line.fields ∷ [];
       goes_on = line_passed version said table (drop before table) (drop at table) (drop next table) h.records h.goes_on line;
       taken = record {
-        count = omega (arith, count, h.taken.count, pushed);
-        few = omega (arith, pushed, h.few);
-        judged = λ list j. record_taken to_come tell version now new list h.records line.fields said (h.taken.judged list j) line.says le lt
-            count end step;
+        more = taken.more ++ line.fields ∷ [];
+        records_are = ap (λ (r : List Fields). r ++ line.fields ∷ []) taken.records_are;
+        count = omega (arith, count, taken.count, more);
+        few = omega (arith, more, h.few, ap length taken.records_are);
+        judged = λ list passed j. subst (λ (r : List Fields). JudgesByPath to_come tell version new list (names ∷ r))
+            (append_assoc passed taken.more (line.fields ∷ []))
+            (record_taken to_come tell version now new list (names ∷ (passed ++ taken.more)) line.fields said (taken.judged list passed j)
+            line.says le lt count end step);
       };
       few = omega (arith, pushed, h.few, shorter);
       within = omega (arith, shorter, length-drop at table);

@@ -5,6 +5,8 @@ use Rattle.lnt_spans.specs.declared.answer.Answer.{Answer}
 use Rattle.lnt_spans.specs.declared.position.Position.{Position}
 use Rattle.lnt_spans.specs.declared.span.Span.{Span}
 use Rattle.lnt_spans.specs.Instructions.{IsOfInstructions}
+use Rattle.lnt_spans.specs.Merged.{answer_told}
+use Rattle.lnt_spans.specs.Spans.{AreInOrder}
 use Rattle.lnt_paths.specs.PathAnswers.{PathAnswer}
 use Rattle.lnt_paths.specs.PathSpans.{PathSpan}
 
@@ -41,6 +43,17 @@ GrowsTo tell last left joined = (rest : List Span) × left rest × JoinsTo tell 
 abbrev pub WillGive : (Answer → PathAnswer) → Option Span → (List Span → Type 0) → List Span → Type 0
 WillGive tell None left joined = joined ≡ []
 WillGive tell (Some first) left joined = GrowsTo tell first left joined
+
+-- After any spans, those of the second list are in order if those of the first are, and then answer the same by path.
+pub record AreJoinedAs (tell : Answer → PathAnswer) (list joined : List Span) : Type 0 where
+  pub order : (front : List Span) → AreInOrder (front ++ list) → AreInOrder (front ++ joined)
+  pub same : (front : List Span) → AreInOrder (front ++ list) → (p : Position)
+      → answer_told tell (front ++ joined) p ≡ answer_told tell (front ++ list) p
+
+-- No span is to come; or this one is the first of the list, joined with those after it that extend it, and the others are to come.
+abbrev pub GivesJoined : (Answer → PathAnswer) → List Span → (List Span → Type 0) → Option Span → Type 0
+GivesJoined tell list left None = (list ≡ []) × left []
+GivesJoined tell list left (Some span) = (rest : List Span) × left rest × AreJoinedAs tell list (span ∷ rest)
 
 -- ---- borders
 

@@ -6,7 +6,7 @@ use Rattle.lnt_spans.specs.declared.answer.Answer.{Answer}
 use Rattle.lnt_spans.specs.declared.merge.Merge.{Merge}
 use Rattle.lnt_spans.specs.declared.position.Position.{Position}
 use Rattle.lnt_spans.specs.declared.span.Span.{Span}
-use Rattle.lnt_spans.specs.Merged.{HasMerged, end_of_records}
+use Rattle.lnt_spans.specs.Merged.{HasMerged, answer_told, end_of_records}
 use Rattle.lnt_paths.specs.declared.answer.DifferenceByPath.{DifferenceByPath}
 use Rattle.lnt_paths.specs.declared.comparison.PathComparison.{PathComparison}
 use Rattle.lnt_paths.specs.declared.version.PathVersion.{PathVersion}
@@ -40,3 +40,7 @@ pub record JudgesByPath {S : Type 0} (to_come : S → List Span → Type 0) (tel
   pub is_table : IsPathTable version records table
   pub count : comparison.count ≡ length records
   pub merged : IsMerged to_come tell comparison.merge section table
+
+-- The spans of the two lists answer alike at every position, as a table contains it.
+abbrev pub AnswerAlike : (Answer → PathAnswer) → List Span → List Span → Type 0
+AnswerAlike tell list section = (p : Position) → answer_told tell list p ≡ answer_told tell section p

@@ -1,5 +1,5 @@
 -- A table by path that is parsed line by line, as long as nothing is in quotes. No public contract speaks of it.
-use Rattle.std.specs.Prelude.{◌≡◌, ℕ, ◌+◌, ◌≤◌, List, [], ◌∷◌, ◌++◌, Option, Some, None, length}
+use Rattle.std.specs.Prelude.{◌≡◌, ℕ, ◌+◌, ◌≤◌, List, [], ◌∷◌, ◌++◌, Option, Some, None, length, map}
 use Rattle.std.specs.List.{All}
 use Rattle.csv.specs.Reading.{Reached, default_config, strip_bom}
 use Rattle.csv.specs.Writing.{default_writer, row_text}
@@ -7,19 +7,27 @@ use Rattle.csv.specs.declared.parser.State.{State}
 use Rattle.csv.specs.declared.parser.State.TheVariants as state
 use Rattle.lnt_text.specs.Digits.{IsAddress, IsDecimal}
 use Rattle.lnt_text.specs.Delimited.{Begins}
+use Rattle.lnt_records.specs.Passing.{AreLinesIn}
 use Rattle.lnt_records.specs.Reading.{IsNarrow}
 use Rattle.lnt_records.specs.Table.{Fields}
 use Rattle.lnt_spans.specs.declared.answer.Answer.{Answer}
+use Rattle.lnt_spans.specs.declared.position.Position.{Position}
 use Rattle.lnt_spans.specs.declared.span.Span.{Span}
+use Rattle.lnt_spans.specs.Comparing.{end_of}
+use Rattle.lnt_spans.specs.Merged.{answer_told}
+use Rattle.lnt_spans.specs.Spans.{AreInOrder}
 use Rattle.lnt_paths.specs.declared.comparison.PathComparison.{PathComparison}
 use Rattle.lnt_paths.specs.declared.record.PathRecord.{PathRecord}
 use Rattle.lnt_paths.specs.declared.version.PathVersion.{PathVersion}
 use Rattle.lnt_paths.specs.declared.version.PathVersion.TheVariants.{Three, Four}
 use Rattle.lnt_paths.specs.PathLines.{IsPlainByte}
+use Rattle.lnt_paths.specs.Joining.{tell_span}
 use Rattle.lnt_paths.specs.Merging.{JudgesByPath}
 use Rattle.lnt_paths.specs.PathAnswers.{PathAnswer}
-use Rattle.lnt_paths.specs.PathTables.{SaysPath, path_column_names}
+use Rattle.lnt_paths.specs.PathSpans.{whole}
+use Rattle.lnt_paths.specs.PathTables.{SaysPath, by_path, path_column_names}
 use Rattle.lnt_paths.specs.Reading.{record_answer}
+use Rattle.lnt_paths.specs.Written.{plain_by_path}
 
 -- ---- one line
 
@@ -57,10 +65,27 @@ pub record IsAfter (bytes text : List ℕ) (records : List Fields) : Type 0 wher
   pub rest : List ℕ
   pub goes_on : GoesOnAs bytes text records after rest
 
--- From the header on, the comparison took the records up to the text: one for each line.
+-- After the text's header, the comparison took more records, one for each line, up to the rest of the text.
 pub record HasTaken {S : Type 0} (to_come : S → List Span → Type 0) (tell : Answer → PathAnswer) (version : PathVersion)
-    (old new : PathComparison S) (bytes text : List ℕ) (records : List Fields) : Type 0 where
-  pub count : new.count ≡ length records
-  pub few : length records + length text ≤ length bytes + 1
-  pub judged : (list : List Span) → JudgesByPath to_come tell version old list (path_column_names version ∷ [])
-      → JudgesByPath to_come tell version new list records
+    (old new : PathComparison S) (text rest : List ℕ) (records : List Fields) : Type 0 where
+  pub more : List Fields
+  pub records_are : records ≡ path_column_names version ∷ more
+  pub count : new.count ≡ old.count + length more
+  pub few : length more + length rest ≤ length text
+  pub judged : (list : List Span) (passed : List Fields) → JudgesByPath to_come tell version old list (path_column_names version ∷ passed)
+      → JudgesByPath to_come tell version new list (path_column_names version ∷ (passed ++ more))
+
+-- ---- lines of canonical spans
+
+-- The text is the lines of these spans, and `count` is their number with the header. The last one ends at this address.
+pub record AreLinesOf (tell : Answer → PathAnswer) (version : PathVersion) (text : List ℕ) (table : List Span) (count end : ℕ) : Type
+    0 where
+  pub lines : AreLinesIn by_path plain_by_path version text (map (tell_span tell) table) count
+  pub end_is : whole end ≡ end_of table
+
+-- The spans of the lines and then those to come are in order and answer by path as those of the list do.
+pub record LeaveOff (tell : Answer → PathAnswer) (ToCome : List Span → Type 0) (list table : List Span) : Type 0 where
+  pub rest : List Span
+  pub left : ToCome rest
+  pub order : AreInOrder (table ++ rest)
+  pub same : (p : Position) → answer_told tell (table ++ rest) p ≡ answer_told tell list p

@@ -1,19 +1,22 @@
 //! Compares a table by path with the spans of a section, record by record.
-ghost use Rattle.std.specs.Prelude.{◌≡◌, ◌+◌, ◌^◌, ◌<◌, ◌≤◌, List, [], ◌∷◌, ◌++◌, length, IfOk, MatchOption, OnOk, ℕ};
+ghost use Rattle.std.specs.Prelude.{◌≡◌, ◌+◌, ◌^◌, ◌<◌, ◌≤◌, List, [], ◌∷◌, ◌++◌, length, map, IfOk, MatchOption, OnOk, ℕ};
 ghost use Rattle.csv.specs.Records.{fields_of};
 ghost use Rattle.lnt_records.specs.Reading.{IsNarrow};
-ghost use Rattle.lnt_records.specs.Table.{Fields};
+ghost use Rattle.lnt_records.specs.Passing.{IsCutAfter};
+ghost use Rattle.lnt_records.specs.Table.{BeginsWith, Fields};
 ghost use Rattle.lnt_spans.specs.declared.answer.Answer as answer;
 ghost use Rattle.lnt_spans.specs.declared.span.Span as spec;
+ghost use Rattle.lnt_spans.specs.Comparing.{end_of};
 ghost use Rattle.lnt_spans.specs.Spans.{AreInOrder};
 ghost use Rattle.lnt_paths.specs.declared.version.PathVersion.{PathVersion};
-ghost use Rattle.lnt_paths.specs.Merging.{IsMerged, IsReady, JudgesByPath};
+ghost use Rattle.lnt_paths.specs.Joining.{tell_span};
+ghost use Rattle.lnt_paths.specs.Merging.{AnswerAlike, IsMerged, IsReady, JudgesByPath};
 ghost use Rattle.lnt_paths.specs.Passing.{IsAfter};
 ghost use Rattle.lnt_paths.specs.PathAnswers.{PathAnswer, path_answer, spans_by_path};
 ghost use Rattle.lnt_paths.specs.PathFaults.{IsFaultyRecord};
 ghost use Rattle.lnt_paths.specs.PathOutcomes.{IsPathOutcome};
 ghost use Rattle.lnt_paths.specs.PathSpans.{PathSpan, whole};
-ghost use Rattle.lnt_paths.specs.PathTables.{IsPathTable};
+ghost use Rattle.lnt_paths.specs.PathTables.{IsPathTable, path_column_names};
 ghost use Rattle.lnt_paths.specs.Reading.{record_span};
 
 use crate::answer::DifferenceByPath;
@@ -48,13 +51,34 @@ pub fn compare_by_path<S: SpanSource + Drop, P: Paths>(
     let Some(version) = header_of::<PathVersion>(alloc, table)? else {
         return Ok(Outcome::Fault(TableFault::Header));
     };
-    let Ok(mut comparison) = PathComparison::new(alloc, spans) else {
+    let Ok(comparison) = PathComparison::past(alloc, spans, 0, 1) else {
         return Err(AllocError);
     };
-    let Ok(at) = comparison.pass_lines(alloc, paths, version, table) else {
+    compare_text(alloc, table, version, comparison, paths)
+}
+
+// Compares the records of a text after its header with the spans that a section has left, line by line as long as that works. The
+// comparison may have taken others before them.
+pub(crate) fn compare_text<S: SpanSource + Drop, P: Paths>(
+    alloc: Global,
+    text: &[u8],
+    version: PathVersion,
+    mut comparison: PathComparison<S>,
+    paths: &P,
+) -> Result<Outcome<DifferenceByPath>, AllocError>
+    requires known { IsReady (P.bytes_of paths.now) comparison }
+    requires header { BeginsWith text.now (path_column_names version ∷ []) }
+    requires few { comparison.count + length text.now < 2 ^ 64 + 1 }
+    ensures { IfOk result (λ outcome. (bytes : List ℕ) (passed : List Fields) (list section : List spec.Span)
+        → IsCutAfter (path_column_names version) text.now bytes (path_column_names version ∷ passed)
+        → JudgesByPath S.to_come (path_answer version (P.bytes_of paths.now)) version comparison list (path_column_names version ∷ passed)
+        → AnswerAlike (path_answer version (P.bytes_of paths.now)) list section
+        → IsPathOutcome bytes (λ version. spans_by_path version (P.bytes_of paths.now) section) outcome) }
+{
+    let Ok(at) = comparison.pass_lines(alloc, paths, version, text) else {
         return Err(AllocError);
     };
-    compare_after(alloc, &table[at..], version, comparison, paths)
+    compare_after(alloc, &text[at..], version, comparison, paths)
 }
 
 // Compares the records of a text after its first one, as `csv` reads them, with the spans that a section has left.
@@ -68,9 +92,11 @@ fn compare_after<S: SpanSource + Drop, P: Paths>(
     requires known { IsReady (P.bytes_of paths.now) comparison }
     requires past { (bytes : List ℕ) × (records : List Fields) × IsAfter bytes text.now records }
     requires few { comparison.count + length text.now < 2 ^ 64 + 1 }
-    ensures { IfOk result (λ outcome. (bytes : List ℕ) (records : List Fields) (list : List spec.Span) → IsAfter bytes text.now records
+    ensures { IfOk result (λ outcome. (bytes : List ℕ) (records : List Fields) (list section : List spec.Span)
+        → IsAfter bytes text.now records
         → JudgesByPath S.to_come (path_answer version (P.bytes_of paths.now)) version comparison list records
-        → IsPathOutcome bytes (λ version. spans_by_path version (P.bytes_of paths.now) list) outcome) }
+        → AnswerAlike (path_answer version (P.bytes_of paths.now)) list section
+        → IsPathOutcome bytes (λ version. spans_by_path version (P.bytes_of paths.now) section) outcome) }
 {
     let taker = PathTaker {
         alloc,
@@ -135,19 +161,26 @@ pub(crate) struct PathComparison<S> {
 }
 
 impl<S: SpanSource + Drop> PathComparison<S> {
-    // The state after the header alone.
-    fn new(alloc: Global, spans: S) -> Result<PathComparison<S>, AllocError>
+    // The state after the header and the records with which both sides begin. These end at this address, and the source gives the
+    // section's spans after them; `count` is their number with the header.
+    pub(crate) fn past(
+        alloc: Global,
+        spans: S,
+        at: u64,
+        count: u64,
+    ) -> Result<PathComparison<S>, AllocError>
         ensures ready { IfOk result (λ comparison. (path : ℕ → ℕ → List ℕ) → IsReady path comparison) }
-        ensures merged { IfOk result (λ comparison. (tell : answer.Answer → PathAnswer) (list : List spec.Span) → S.to_come spans list
-            → AreInOrder list → IsMerged S.to_come tell comparison.merge list []) }
-        ensures count { IfOk result (λ comparison. comparison.count ≡ 1) }
+        ensures merged { IfOk result (λ comparison. (tell : answer.Answer → PathAnswer) (passed list : List spec.Span)
+            → S.to_come spans list → AreInOrder (passed ++ list) → whole at ≡ end_of passed
+            → IsMerged S.to_come tell comparison.merge (passed ++ list) (map (tell_span tell) passed)) }
+        ensures count { IfOk result (λ comparison. comparison.count ≡ count) }
     {
         let memory = PathMemory::new(alloc)?;
         Ok(PathComparison {
-            merge: Merge::past(spans, whole(0)),
+            merge: Merge::past(spans, whole(at)),
             memory,
-            at: 0,
-            count: 1,
+            at,
+            count,
         })
     }
 

@@ -4,15 +4,18 @@ ghost use Rattle.std.specs.Bool.{MatchBool};
 ghost use Rattle.lnt_spans.specs.declared.answer.Answer as answer;
 ghost use Rattle.lnt_spans.specs.declared.span.Span as spec;
 ghost use Rattle.lnt_spans.specs.Ahead.{count_ahead};
+ghost use Rattle.std.specs.List.{cons_option};
 ghost use Rattle.lnt_spans.specs.Coming.{GivesFirstSpan};
+ghost use Rattle.lnt_spans.specs.Remaining.{SpansAreLeft};
 ghost use Rattle.lnt_paths.specs.Compared.{AreCompared};
-ghost use Rattle.lnt_paths.specs.Joining.{AllJoinTo, IsExtendedBy, WillGive};
+ghost use Rattle.lnt_paths.specs.Joining.{AllJoinTo, GivesJoined, IsExtendedBy, WillGive};
 ghost use Rattle.lnt_paths.specs.PathAnswers.{PathAnswer, path_answer, told_column};
 
 use crate::paths::Paths;
 use crate::telling::same_place;
 use crate::told::ComparedPaths;
 use crate::version::PathVersion;
+use lnt_records::Remaining;
 use lnt_spans::{Answer, Span, SpanSource};
 use std::alloc::{AllocError, Global};
 
@@ -31,6 +34,7 @@ impl<S: SpanSource> Joined<S> {
         ensures compared { (path : ℕ → ℕ → List ℕ) → AreCompared path result.compared.slots }
         ensures gives { (tell : answer.Answer → PathAnswer) (list joined : List spec.Span) → S.to_come spans list
             → AllJoinTo tell list joined → WillGive tell result.next (S.to_come result.spans) joined }
+        ensures left { (list : List spec.Span) → S.to_come spans list → SpansAreLeft S.to_come result.next result.spans list }
     {
         let next = spans.next_span();
         Joined {
@@ -53,6 +57,8 @@ impl<S: SpanSource> Joined<S> {
             → WillGive (path_answer version (P.bytes_of paths.now)) self.old.next (S.to_come self.old.spans) joined
             → GivesFirstSpan (WillGive (path_answer version (P.bytes_of paths.now)) self.new.next
             (S.to_come self.new.spans)) joined given) }
+        ensures left { IfOk result (λ given. (list : List spec.Span) → SpansAreLeft S.to_come self.old.next self.old.spans list
+            → GivesJoined (path_answer version (P.bytes_of paths.now)) list (SpansAreLeft S.to_come self.new.next self.new.spans) given) }
         ensures fewer { IfOk result (λ given. IfSome given
             (λ _. count_ahead self.new.next (S.left self.new.spans) < count_ahead self.old.next (S.left self.old.spans))) }
     {
@@ -67,6 +73,14 @@ impl<S: SpanSource> Joined<S> {
             last.high = span.high;
         }
         Ok(Some(last))
+    }
+
+    // Perhaps one span, and after it those that are left, as the source gives them.
+    pub(crate) fn remaining(self, first: Option<Span>) -> Remaining<S>
+        ensures { (rest : List spec.Span) → SpansAreLeft S.to_come self.next self.spans rest
+            → ⟦<Remaining<S> as SpanSource>⟧.to_come result (cons_option first rest) }
+    {
+        Remaining::after(first, self.next, self.spans)
     }
 }
 

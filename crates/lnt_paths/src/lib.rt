@@ -8,6 +8,7 @@
 
 mod answer;
 mod border;
+mod canonical;
 mod comparison;
 mod field;
 mod header;
@@ -20,6 +21,7 @@ mod passing;
 mod paths;
 mod plain;
 mod record;
+mod stream;
 mod stretches;
 mod telling;
 mod told;
@@ -30,6 +32,7 @@ pub use answer::{AnswerByPath, DifferenceByPath};
 pub use comparison::compare_by_path;
 pub use held::{HeldSpan, HeldTable, hold_table};
 pub use paths::Paths;
+pub use stream::compare_lines_by_path;
 pub use stretches::DifferencesByPath;
 pub use version::{PathTable, PathVersion};
 pub use write::{write_by_path, write_instructions_by_path};

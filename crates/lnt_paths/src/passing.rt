@@ -1,5 +1,5 @@
 //! Parses the records of a table by path line by line, as long as that works, before `csv` reads the others.
-ghost use Rattle.std.specs.Prelude.{◌≡◌, ◌≤◌, List, [], ◌∷◌, drop, length, IfOk, OnOk};
+ghost use Rattle.std.specs.Prelude.{◌+◌, ◌^◌, ◌<◌, ◌≤◌, List, [], ◌∷◌, drop, length, IfOk, OnOk};
 ghost use Rattle.lnt_records.specs.Table.{BeginsWith, Fields};
 ghost use Rattle.lnt_paths.specs.Merging.{IsReady};
 ghost use Rattle.lnt_paths.specs.Passing.{HasTaken, IsAfter};
@@ -27,7 +27,7 @@ impl<S: SpanSource + Drop> PathComparison<S> {
     ) -> Result<usize, AllocError>
         requires known { IsReady (P.bytes_of paths.now) self.old }
         requires header { BeginsWith table.now (path_column_names version ∷ []) }
-        requires count { self.old.count ≡ 1 }
+        requires few { self.old.count + length table.now < 2 ^ 64 + 1 }
         ensures known { OnOk result (IsReady (P.bytes_of paths.now) self.new) }
         ensures within { IfOk result (λ at. at ≤ length table.now) }
         ensures passed { IfOk result (λ at. (records : List Fields) × IsAfter table.now (drop at table.now) records

@@ -1,5 +1,5 @@
 -- The spans of a table's records are gathered.
-use Rattle.std.proofs.Common.{◌≡◌, ◌≢◌, ◌∙◌, ℕ, List, [], ◌∷◌, ◌++◌, append-nil, append_assoc, ap, map, Option, refl, subst, sym, arith}
+use Rattle.std.proofs.Common.{◌≡◌, ◌≢◌, ◌∙◌, ℕ, List, [], ◌∷◌, ◌++◌, append-nil, append_assoc, ap, map, IfSome, Option, refl, subst, sym, arith}
 use Rattle.std.specs.List.{AllByRecursion}
 use Rattle.std.specs.Prelude.{IfOk, Result}
 use Rattle.std.proofs.lemmas.Result.{IfOk-weaker}
@@ -20,7 +20,10 @@ use Rattle.lnt_records.specs.declared.fault.TableFault.TheVariants as fault
 use Rattle.std.specs.declared.alloc.AllocError.{AllocError}
 use Rattle.lnt_records.specs.declared.gather.Gathered.{Gathered}
 use Rattle.lnt_records.specs.declared.remaining.Remaining.{Remaining}
-use Rattle.lnt_records.specs.Differing.{IsDiffering, IsStarted}
+use Rattle.lnt_records.specs.declared.stream.TableStart.{TableStart}
+use Rattle.lnt_records.specs.declared.stream.TableStart.TheVariants as start
+use Rattle.lnt_records.specs.Differing.{IsDiffering, IsHeadedDiffering, IsStarted}
+use Rattle.lnt_records.specs.Outcomes.{IsStartOf}
 use Rattle.lnt_records.specs.Progress.{IsContinuedBy, IsGathered}
 use Rattle.lnt_records.specs.declared.comparison.Comparison.{Comparison}
 use Rattle.lnt_records.specs.Passing.{IsCut, LeavesOff}
@@ -146,3 +149,10 @@ pub no_header_fault : {S : Type 0} (of_section : Remaining S → List Span → T
     → differing ≢ Fault fault.Header
 no_header_fault of_section of_table bytes version section differing begins h e =
     subst (IsDiffering of_section of_table bytes section) e h version begins
+
+-- what holds of a table that was compared
+pub headed_in : {S : Type 0} (of_section : Remaining S → List Span → Type 0) (of_table : SpanList → List Span → Type 0)
+    (section : Position → Option Answer) (table : Option (List ℕ)) (begun : TableStart (Differing S) S) (told : Differing S)
+    → begun ≡ start.Compared told → IsStartOf table (λ bytes told. IsHeadedDiffering of_section of_table bytes section told) begun
+    → IfSome table (λ bytes. IsHeadedDiffering of_section of_table bytes section told)
+headed_in of_section of_table section table begun told e h = rw e at h

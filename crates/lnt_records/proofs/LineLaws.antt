@@ -1,21 +1,23 @@
 -- Tables of any format on plain lines: `csv` reads them back, spans have one of them, and they are written block by block.
-use Rattle.std.proofs.Common.{◌≡◌, ◌∙◌, ℕ, ◌≤◌, List, [], ◌∷◌, ◌++◌, Option, Some, length, refl, sym, ap, subst, append-nil, append_assoc}
+use Rattle.std.proofs.Common.{◌≡◌, ◌∙◌, ℕ, ◌+◌, ◌<◌, ◌≤◌, List, [], ◌∷◌, ◌++◌, Option, Some, length, refl, sym, ap, subst, append-nil, append_assoc}
+use Rattle.std.proofs.Common.{arith, if◌then◌else◌, length-append}
 use Rattle.std.proofs.KnownBytes.{Appends-nil, Appends-trans}
 use Rattle.std.specs.Io.KnownBytes.{Appends}
 use Rattle.std.specs.List.{AllByRecursion, AllZip}
 use Rattle.csv.specs.Machine.{Read, next_record}
 use Rattle.csv.specs.Reading.{Reached, default_config, strip_bom}
-use Rattle.csv.specs.Writing.{default_writer, row_text}
+use Rattle.csv.specs.Writing.{default_writer, is_blank, row_body, row_text}
 use Rattle.csv.specs.declared.parser.State.{State}
 use Rattle.csv.specs.declared.parser.State.TheVariants as st
 use Rattle.csv.proofs.RoundTrip.{read-write}
 use Rattle.lnt_io.specs.Fronts.{AppendsFront}
 use Rattle.lnt_io.proofs.FrontLaws.{front_after, front_before, front_none, front_same}
-use Rattle.lnt_records.specs.Passing.{IsCutAfter}
+use Rattle.lnt_records.specs.Passing.{AreLinesIn, IsCutAfter}
 use Rattle.lnt_records.specs.Progress.{AddsLine, AddsLines, HasBegunLines, HasWrittenLines}
 use Rattle.lnt_records.specs.Table.{Fields, IsTableOfIn, TableFormat}
 use Rattle.lnt_records.specs.Written.{BeginsTableIn, IsPlainTableIn, LineFormat, lines_of}
 use Rattle.lnt_records.proofs.QuotingLaws.{none_left, same_back}
+use Rattle.lnt_records.proofs.TableLaws.{zip_push}
 
 -- ---- a line is read back
 
@@ -30,6 +32,25 @@ line_read line fields rest back =
     ap (λ (t : List ℕ). next_record default_config st.StartRecord [] [] (t ++ rest)) back.line_is
     ∙ read-write fields rest
     ∙ ap (λ (r : Fields). Some (r, st.StartRecord, rest)) (sym (same_back fields back.some))
+
+-- what follows the fields of a record in its line
+abbrev pub row_end : Fields → List ℕ
+row_end fields = (if is_blank default_writer fields then 34 ∷ 34 ∷ [] else []) ++ 10 ∷ []
+
+pub row_some : (fields : Fields) → 0 < length (row_text default_writer fields)
+row_some fields =
+    omega (
+      arith,
+      length-append (row_body default_writer fields) (row_end fields),
+      length-append {A = ℕ} (if is_blank default_writer fields then 34 ∷ 34 ∷ [] else []) (10 ∷ []),
+    )
+
+-- each record has at least one byte
+lines_long : (line : Fields → List ℕ) (records : List Fields) → AllByRecursion (IsReadBack line) records
+    → length records ≤ length (lines_of line records)
+lines_long line [] back = omega arith
+lines_long line (f ∷ records) back =
+    omega (arith, row_some f, ap length back.0.line_is, lines_long line records back.1, length-append (line f) (lines_of line records))
 
 lines_reached : (line : Fields → List ℕ) (records : List Fields) (rest : List ℕ) (more : List Fields) (after : State) (left : List ℕ)
     → AllByRecursion (IsReadBack line) records → Reached default_config st.StartRecord rest more after left
@@ -106,6 +127,15 @@ after_header format plain laws version rest more after left r =
     same_some (plain.names version, st.StartRecord, rest) unmarked.0 (sym read ∙ unmarked.1) in
     subst (λ (p : Read). Reached default_config p.1 p.2 more after left) (sym same) unmarked.3
 
+-- the lines of a table's records are read back
+pub all_back : {V X : Type 0} (format : TableFormat V X) (plain : LineFormat V X) → LineLaws format plain → (version : V)
+    (records : List Fields) (spans : List X) → AllZip (format.Says version) records spans → AllByRecursion (IsReadBack plain.line) records
+all_back format plain laws version [] [] z = tt
+all_back format plain laws version [] (s ∷ spans) z = absurd z
+all_back format plain laws version (r ∷ records) [] z = absurd z
+all_back format plain laws version (r ∷ records) (s ∷ spans) z =
+    (laws.back version r s z.0, all_back format plain laws version records spans z.1)
+
 pub cut_lines : {V X : Type 0} (format : TableFormat V X) (plain : LineFormat V X) → LineLaws format plain → (version : V)
     (records : List Fields) (rest : List ℕ) → AllByRecursion (IsReadBack plain.line) records
     → IsCutAfter (plain.names version) (plain.line (plain.names version) ++ rest)
@@ -120,17 +150,15 @@ cut_lines format plain laws version records rest back more after left r =
 abbrev pub text_of : {V X : Type 0} → LineFormat V X → V → List Fields → List ℕ
 text_of plain version records = lines_of plain.line (plain.names version ∷ records)
 
--- each record is one of the table's, and is read back
-pub records_said : {V X : Type 0} (format : TableFormat V X) (plain : LineFormat V X) → LineLaws format plain → (version : V)
+-- each record is one of the table's
+records_said : {V X : Type 0} (format : TableFormat V X) (plain : LineFormat V X) → LineLaws format plain → (version : V)
     (records : List Fields) (spans : List X) → AllZip (plain.Says version) records spans
-    → AllZip (format.Says version) records spans × AllByRecursion (IsReadBack plain.line) records
-records_said format plain laws version [] [] z = (tt, tt)
+    → AllZip (format.Says version) records spans
+records_said format plain laws version [] [] z = tt
 records_said format plain laws version [] (s ∷ spans) z = absurd z
 records_said format plain laws version (r ∷ records) [] z = absurd z
 records_said format plain laws version (r ∷ records) (s ∷ spans) z =
-    let said = laws.says version r s z.0 in
-    let rest = records_said format plain laws version records spans z.1 in
-    ((said, rest.0), (laws.back version r s said, rest.1))
+    (laws.says version r s z.0, records_said format plain laws version records spans z.1)
 
 -- A plain table of spans in order is a table of them.
 pub written_table : {V X : Type 0} (format : TableFormat V X) (plain : LineFormat V X) → LineLaws format plain → (version : V)
@@ -141,10 +169,11 @@ written_table format plain laws version bytes spans table order =
     let all : List Fields = plain.names version ∷ table.records in
     let text : strip_bom bytes ≡ lines_of plain.line all =
     ap strip_bom table.lines ∙ laws.unmarked version (lines_of plain.line table.records) in
-    let read = lines_read plain.line all (laws.names_back version, said.1) in (
+    let back = all_back format plain laws version table.records spans said in
+    let read = lines_read plain.line all (laws.names_back version, back) in (
       all,
       (st.StartRecord, [], rw text read, none_left),
-      (laws.names version, record { each = said.0; in_order = order }),
+      (laws.names version, record { each = said; in_order = order }),
     )
 
 -- ---- one table
@@ -181,12 +210,35 @@ one_plain_table plain version one_record one other spans a b = a.lines
     (one_records (plain.Says version) one_record a.records b.records spans a.each b.each)
     ∙ sym b.lines
 
--- ---- a loop that writes
+-- ---- lines that were passed
 
 pub lines_append : (line : Fields → List ℕ) (xs ys : List Fields) → lines_of line (xs ++ ys) ≡ lines_of line xs ++ lines_of line ys
 lines_append line [] ys = refl
 lines_append line (x ∷ xs) ys =
     ap (λ (t : List ℕ). line x ++ t) (lines_append line xs ys) ∙ sym (append_assoc (line x) (lines_of line xs) (lines_of line ys))
+
+pub no_lines_in : {V X : Type 0} (format : TableFormat V X) (plain : LineFormat V X) (version : V) → AreLinesIn format plain version [] [] 1
+no_lines_in format plain version = record { records = []; text_is = refl; each = tt; count_is = refl }
+
+pub lines_more : {V X : Type 0} (format : TableFormat V X) (plain : LineFormat V X) (version : V) (text : List ℕ) (spans : List X) (count : ℕ)
+    (fields : Fields) (span : X) → AreLinesIn format plain version text spans count → format.Says version fields span
+    → AreLinesIn format plain version (text ++ plain.line fields) (spans ++ span ∷ []) (count + 1)
+lines_more format plain version text spans count fields span a says = record {
+  records = a.records ++ fields ∷ [];
+  text_is =
+      ap (λ (t : List ℕ). t ++ plain.line fields) a.text_is
+      ∙ ap (λ (t : List ℕ). lines_of plain.line a.records ++ t) (sym (append-nil (plain.line fields)))
+      ∙ sym (lines_append plain.line a.records (fields ∷ []));
+  each = zip_push (format.Says version) a.records spans fields span a.each says;
+  count_is = omega (arith, a.count_is, length-append a.records (fields ∷ []));
+}
+
+pub few_records : {V X : Type 0} (format : TableFormat V X) (plain : LineFormat V X) → LineLaws format plain → (version : V) (text : List ℕ)
+    (spans : List X) (count : ℕ) → AreLinesIn format plain version text spans count → count ≤ length text + 1
+few_records format plain laws version text spans count a =
+    omega (arith, a.count_is, lines_long plain.line a.records (all_back format plain laws version a.records spans a.each), ap length a.text_is)
+
+-- ---- a loop that writes
 
 zip_join : {A B : Type 0} (R : A → B → Type 0) (xs more : List A) (ys others : List B) → AllZip R xs ys → AllZip R more others
     → AllZip R (xs ++ more) (ys ++ others)

@@ -1,10 +1,11 @@
 -- The bytes of a table are taken from a source and passed.
 use Rattle.std.proofs.Common.{◌≡◌, ◌∙◌, ℕ, ◌+◌, ◌≤◌, Bool, true, false, List, [], ◌∷◌, ◌++◌, Option, Some, None, IfSome, map, subst}
-use Rattle.std.proofs.Common.{append-nil, append_assoc, drop, length, length-append, refl, ap, sym, arith}
+use Rattle.std.proofs.Common.{append-nil, append_assoc, drop, length, length-append, not, refl, ap, sym, arith}
 use Rattle.std.proofs.lemmas.List.{drop-drop}
+use Rattle.std.proofs.lemmas.Option.{same_Some}
 use Rattle.std.specs.Bool.{MatchBool}
 use Rattle.std.specs.List.{AllByRecursion, AllZip, cons_option}
-use Rattle.std.specs.Option.{option_map}
+use Rattle.std.specs.Option.{is_some, option_map}
 use Rattle.lnt_io.specs.Pulling.{GivesMore, HasMoreThan}
 use Rattle.lnt_io.proofs.PullLaws.{more_from_start, pulls_all, pulls_append, pulls_none}
 use Rattle.lnt_spans.specs.declared.answer.Answer.{Answer}
@@ -16,6 +17,7 @@ use Rattle.lnt_spans.specs.declared.span.Span.{Span}
 use Rattle.lnt_spans.specs.Answers.{in_version}
 use Rattle.lnt_spans.specs.Comparing.{Compares, IsTold, Merging, end_of}
 use Rattle.lnt_spans.specs.Joined.{HasJoined}
+use Rattle.lnt_spans.specs.Remaining.{SpansAreLeft}
 use Rattle.lnt_spans.proofs.ComingLaws.{HasGiven, all_given, none_given, one_given}
 use Rattle.lnt_spans.proofs.ToldLaws.{told, told_answer, told_order}
 use Rattle.lnt_spans.specs.Coming.{GivesFirstSpan}
@@ -23,11 +25,10 @@ use Rattle.lnt_spans.specs.Spans.{AreInOrder, span_answer, span_in_version, vers
 use Rattle.lnt_records.specs.Lines.{IsTextLine}
 use Rattle.lnt_records.specs.Passing.{AreLines, Ends, HasPassed, LeavesOff, Passes}
 use Rattle.lnt_records.specs.Remaining.{AreLeft}
-use Rattle.lnt_records.specs.Table.{Fields, IsSpanRecord}
-use Rattle.lnt_records.specs.Written.{line_text, lines_text}
-use Rattle.lnt_records.proofs.TableLaws.{zip_push}
+use Rattle.lnt_records.specs.Table.{Fields, IsSpanRecord, by_number}
+use Rattle.lnt_records.specs.Written.{line_text, plain_by_number}
 use Rattle.lnt_records.proofs.LineLemmas.{line_some}
-use Rattle.lnt_records.proofs.LineLaws.{lines_append}
+use Rattle.lnt_records.proofs.LineLaws.{lines_more, no_lines_in}
 
 pub passes_none : (a : Option (List ℕ)) (l : ℕ) (window : List ℕ) → Passes a a l l window window []
 passes_none a l window = record { given = []; joined = append-nil window; pulls = pulls_none a; count = omega arith }
@@ -94,31 +95,6 @@ line_passed true version span text line old new e same l =
     }
 line_passed false version span text line old new e same l = e
 
-pub no_lines_passed : (version : Version) → AreLines version [] [] 1
-no_lines_passed version = record { records = []; text_is = refl; each = tt; count_is = refl }
-
-pub lines_more : (version : Version) (text : List ℕ) (table : List Span) (count : ℕ) (fields : Fields) (span : Span)
-    → AreLines version text table count → IsSpanRecord version fields span
-    → AreLines version (text ++ line_text fields) (table ++ span ∷ []) (count + 1)
-lines_more version text table count fields span a says = record {
-  records = a.records ++ fields ∷ [];
-  text_is =
-      ap (λ (t : List ℕ). t ++ line_text fields) a.text_is
-      ∙ ap (λ (t : List ℕ). lines_text a.records ++ t) (sym (append-nil (line_text fields)))
-      ∙ sym (lines_append line_text a.records (fields ∷ []));
-  each = zip_push (IsSpanRecord version) a.records table fields span a.each says;
-  count_is = omega (arith, a.count_is, length-append a.records (fields ∷ []));
-}
-
--- each record has at least one byte
-lines_long : (records : List Fields) → length records ≤ length (lines_text records)
-lines_long [] = omega arith
-lines_long (fields ∷ records) = omega (arith, line_some fields, lines_long records, length-append (line_text fields) (lines_text records))
-
-pub few_records : (version : Version) (text : List ℕ) (table : List Span) (count : ℕ) → AreLines version text table count
-    → count ≤ length text + 1
-few_records version text table count a = omega (arith, a.count_is, lines_long a.records, ap length a.text_is)
-
 pub few_passed : (a b : Option (List ℕ)) (la lb : ℕ) (w0 w1 text : List ℕ) → Passes a b la lb w0 w1 text
     → lb + (length text + length w1) ≡ la + length w0
 few_passed a b la lb w0 w1 text p = omega (arith, p.count, ap length p.joined, length-append w0 p.given, length-append text w1)
@@ -172,7 +148,7 @@ stands_first to_come first version last a la w j = record {
   text = [];
   joined = j;
   bytes = passes_none a la w;
-  lines = no_lines_passed version;
+  lines = no_lines_in by_number plain_by_number version;
   end_is = refl;
   given = λ list coming. none_given list (to_come first) coming;
 }
@@ -201,7 +177,7 @@ stands_grown to_come first now next version old new one a b la lb w0 w1 count en
   given = λ list coming. one_given list s.pushed span (to_come now) (to_come next) (s.given list coming) p.gives;
 }
 
-end_added : (table : List Span) (span : Span) → end_of (table ++ span ∷ []) ≡ span.high
+pub end_added : (table : List Span) (span : Span) → end_of (table ++ span ∷ []) ≡ span.high
 end_added [] span = refl
 end_added (r ∷ []) span = refl
 end_added (r ∷ next ∷ table) span = end_added (next ∷ table) span
@@ -221,7 +197,7 @@ stands_more to_come first now next version old new one a b c la lb lc w0 w1 w2 w
       joined = subst (λ (o : Option Span). HasJoined version (s.pushed ++ span ∷ []) (s.table ++ cons_option o []) new) some
           (p.joined s.pushed s.table s.joined);
       bytes = passes_line a c la lc w0 w2 w3 s.text (line_text line.fields) both line.joined;
-      lines = lines_more version s.text s.table count line.fields joined s.lines line.says;
+      lines = lines_more by_number plain_by_number version s.text s.table count line.fields joined s.lines line.says;
       end_is = sym (end_added s.table joined);
       given = λ list coming. one_given list s.pushed span (to_come now) (to_come next) (s.given list coming) p.gives;
     }
@@ -339,6 +315,27 @@ gives_told version old new None None (Some x) second' is_ended span e1 e2 e3 e4 
 gives_told version old new None None None (Some x) is_ended span e1 e2 e3 e4 e5 gives spans h = absurd (cc e4)
 gives_told version old new None None None None true span e1 e2 e3 e4 e5 gives spans h = absurd (cc e5)
 
+in_full : (spans : List Span) → map (span_in_version Two) spans ≡ spans
+in_full [] = refl
+in_full (span ∷ spans) = ap (λ (rest : List Span). span ∷ rest) (in_full spans)
+
+-- the next span was already taken out of the source
+pub left_after : {S : Type 0} (to_come : S → List Span → Type 0) (first next : Option Span) (spans : S) (is_ended : Bool)
+    → is_some next ≡ not is_ended → (rest : List Span) → SpansAreLeft to_come next spans rest
+    → (more : List Span) × AreLeft is_ended (to_come spans) more
+    × (cons_option first rest ≡ cons_option first (cons_option next (map (span_in_version Two) more)))
+left_after to_come first None spans true e [] left = ([], refl, refl)
+left_after to_come first None spans true e (span ∷ rest) left = absurd (cc (left.0))
+left_after to_come first None spans false e rest left = absurd (cc e)
+left_after to_come first (Some next) spans true e rest left = absurd (cc e)
+left_after to_come first (Some next) spans false e [] left = absurd (cc left)
+left_after to_come first (Some next) spans false e (span ∷ rest) left = (
+  rest,
+  left.1,
+  ap (λ (s : Span). cons_option first (s ∷ rest)) (sym (same_Some next span left.0))
+      ∙ ap (λ (xs : List Span). cons_option first (next ∷ xs)) (sym (in_full rest)),
+)
+
 -- ---- lines that are read and pushed
 
 -- Lines were passed and took the merge from one state to another, whatever came before them.
@@ -393,7 +390,7 @@ line_pushed : {S : Type 0} (to_come : S → List Span → Type 0) (old new : Mer
 line_pushed to_come old new version section text count fields span h says t = record {
   table = h.table ++ span ∷ [];
   order = t.order h.follows.spans h.table h.follows.compares;
-  lines = lines_more version text h.table count fields span h.lines says;
+  lines = lines_more by_number plain_by_number version text h.table count fields span h.lines says;
   follows = record {
     spans = h.follows.spans;
     same = h.follows.same;

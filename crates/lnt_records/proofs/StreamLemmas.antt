@@ -1,7 +1,6 @@
 -- A table of which some lines were passed, and the rest was read after its header.
 use Rattle.std.proofs.Common.{◌≡◌, ◌≢◌, ◌∙◌, ℕ, ◌+◌, ◌^◌, ◌<◌, List, [], ◌∷◌, ◌++◌, Option, Some, None, IfSome, append_assoc, length}
 use Rattle.std.proofs.Common.{length-append, refl, ap, subst, sym, arith}
-use Rattle.std.proofs.Common.{Result, Ok, Err, IfOk, IsOkAnd, MatchResult}
 use Rattle.std.specs.List.{AllByRecursion, AllZip}
 use Rattle.csv.specs.declared.parser.State.TheVariants as st
 use Rattle.lnt_spans.specs.declared.answer.Version.{Version}
@@ -15,33 +14,18 @@ use Rattle.lnt_io.specs.Pulling.{Pulls}
 use Rattle.lnt_records.specs.declared.outcome.Outcome.{Outcome}
 use Rattle.lnt_records.specs.declared.outcome.Outcome.TheVariants.{Fault}
 use Rattle.lnt_records.specs.declared.fault.TableFault.TheVariants as fault
-use Rattle.lnt_records.specs.declared.stream.TableRead.TheVariants.{Compared as Told}
-use Rattle.lnt_records.specs.Outcomes.{IsOutcome, IsTableRead}
+use Rattle.lnt_records.specs.declared.stream.TableStart.{TableStart}
+use Rattle.lnt_records.specs.declared.stream.TableStart.TheVariants as start
+use Rattle.lnt_records.specs.Outcomes.{IfCompared, IsHeadedOutcome, IsOutcome}
 use Rattle.lnt_records.proofs.BeginningLaws.{first_begins}
-use Rattle.lnt_records.specs.Passing.{AreLines, Ends, HasPassed, IsCut, LeavesOff, Passes}
+use Rattle.lnt_records.specs.Passing.{AreLines, AreLinesIn, Ends, HasPassed, IsCut, IsCutAfter, LeavesOff, Passes}
 use Rattle.lnt_records.specs.Progress.{Judges}
-use Rattle.lnt_records.specs.Table.{BeginsWith, Fields, IsSpanRecord, by_number, column_names}
-use Rattle.lnt_records.specs.Written.{line_text, lines_text, plain_by_number}
+use Rattle.lnt_records.specs.Table.{BeginsWith, Fields, TableFormat, by_number, column_names}
+use Rattle.lnt_records.specs.Written.{LineFormat, line_text, lines_of, plain_by_number}
 use Rattle.lnt_records.proofs.ComparisonLemmas.{AnswersSo}
-use Rattle.lnt_records.proofs.LineLaws as any
-use Rattle.lnt_records.proofs.LineLaws.{IsReadBack}
-use Rattle.lnt_records.proofs.LineLemmas.{line_some}
+use Rattle.lnt_records.proofs.LineLaws.{LineLaws, all_back, cut_lines, few_records, header_reached}
 use Rattle.lnt_records.proofs.WriteLemmas.{plain_numbers}
-use Rattle.lnt_records.proofs.PassingLemmas.{few_passed, few_records, passes_line}
-
--- ---- lines cut out
-
-all_back : (version : Version) (records : List Fields) (table : List Span) → AllZip (IsSpanRecord version) records table
-    → AllByRecursion (IsReadBack line_text) records
-all_back version [] [] z = tt
-all_back version [] (s ∷ table) z = absurd z
-all_back version (f ∷ records) [] z = absurd z
-all_back version (f ∷ records) (s ∷ table) z = (plain_numbers.back version f s z.0, all_back version records table z.1)
-
-cut_lines : (version : Version) (records : List Fields) (table : List Span) (rest : List ℕ) → AllZip (IsSpanRecord version) records table
-    → IsCut version (line_text (column_names version) ++ rest) (line_text (column_names version) ++ (lines_text records ++ rest)) records
-cut_lines version records table rest z =
-    any.cut_lines by_number plain_by_number plain_numbers version records rest (all_back version records table z)
+use Rattle.lnt_records.proofs.PassingLemmas.{few_passed, passes_line}
 
 -- ---- the stages
 
@@ -50,19 +34,6 @@ pub begun : (version : Version) (a b : Option (List ℕ)) (la lb : ℕ) (w0 w1 w
     → Passes a b la lb [] w2 (line_text (column_names version))
 begun version a b la lb w0 w1 w2 none p e =
     passes_line a b la lb [] w1 w2 [] (line_text (column_names version)) (subst (λ (w : List ℕ). Passes a b la lb w w1 []) none p) e
-
-pub few_lines : (version : Version) (a b c : Option (List ℕ)) (la lb lc : ℕ) (w2 w3 text : List ℕ) (table : List Span) (count : ℕ)
-    → Passes a b la lb [] w2 (line_text (column_names version)) → Passes b c lb lc w2 w3 text
-    → AreLines version text table count → la < 2 ^ 64 → length w3 + lc + count < 2 ^ 64
-few_lines version a b c la lb lc w2 w3 text table count p q lines fits =
-    omega (
-      arith,
-      fits,
-      few_passed a b la lb [] w2 (line_text (column_names version)) p,
-      few_passed b c lb lc w2 w3 text q,
-      few_records version text table count lines,
-      line_some (column_names version),
-    )
 
 pub passed_after : {S : Type 0} (to_come : S → List Span → Type 0) (P : List Span → Type 0) (merge : Merging S) (version : Version)
     (section : List Span) (text : List ℕ) (count : ℕ) (end : Position) → LeavesOff P version section text count end
@@ -93,52 +64,92 @@ judges_passed to_come merge version section text count h = record {
   compares = h.follows.compares;
 }
 
--- ---- the rest
+-- ---- the rest of a table of any format, after its header
 
--- The text of the rest: the header, the window, and what the source gave.
-record IsRest (version : Version) (window given all : List ℕ) : Type 0 where
-  joined : all ≡ line_text (column_names version) ++ (window ++ given)
+rest_is : {V X : Type 0} (plain : LineFormat V X) (version : V) (names window given all : List ℕ) → names ≡ plain.line (plain.names version)
+    → all ≡ (names ++ window) ++ given → all ≡ plain.line (plain.names version) ++ (window ++ given)
+rest_is plain version names window given all e f =
+    f ∙ append_assoc names window given ∙ ap (λ (t : List ℕ). t ++ (window ++ given)) e
 
-rest_is : (version : Version) (names window given all : List ℕ) → names ≡ line_text (column_names version)
-    → all ≡ (names ++ window) ++ given → IsRest version window given all
-rest_is version names window given all e f =
-    record { joined = f ∙ ap (λ (t : List ℕ). (t ++ window) ++ given) e ∙ append_assoc (line_text (column_names version)) window given }
+pub header_begins : {V X : Type 0} (format : TableFormat V X) (plain : LineFormat V X) → LineLaws format plain → (version : V)
+    (rest : List ℕ) → BeginsWith (plain.line (plain.names version) ++ rest) (plain.names version ∷ [])
+header_begins format plain laws version rest = (st.StartRecord, rest, header_reached format plain laws version rest)
 
-pub rest_begins : (version : Version) (d : Option (List ℕ)) (ld : ℕ) (names window all : List ℕ) → names ≡ line_text (column_names version)
-    → Ends d ld (names ++ window) all → BeginsWith all (column_names version ∷ [])
-rest_begins version d ld names window all e ends =
-    let rest = rest_is version names window ends.given all e ends.joined in
-    subst (λ (t : List ℕ). BeginsWith t (column_names version ∷ [])) (sym rest.joined)
-    (st.StartRecord, window ++ ends.given, any.header_reached by_number plain_by_number plain_numbers version (window ++ ends.given))
+pub rest_begins : {V X : Type 0} (format : TableFormat V X) (plain : LineFormat V X) → LineLaws format plain → (version : V)
+    (d : Option (List ℕ)) (ld : ℕ) (names window all : List ℕ) → names ≡ plain.line (plain.names version) → Ends d ld (names ++ window) all
+    → BeginsWith all (plain.names version ∷ [])
+rest_begins format plain laws version d ld names window all e ends =
+    subst (λ (t : List ℕ). BeginsWith t (plain.names version ∷ [])) (sym (rest_is plain version names window ends.given all e ends.joined))
+    (header_begins format plain laws version (window ++ ends.given))
 
-pub few_all : (version : Version) (a d : Option (List ℕ)) (la ld : ℕ) (names window text all : List ℕ) (table : List Span) (count : ℕ)
-    → names ≡ line_text (column_names version)
-    → Passes a d la ld [] window (line_text (column_names version) ++ text) → Ends d ld (names ++ window) all
-    → AreLines version text table count → la < 2 ^ 64 → count + length all < 2 ^ 64 + 1
-few_all version a d la ld names window text all table count e p ends lines fits =
-    let line : List ℕ = line_text (column_names version) in
-    let rest = rest_is version names window ends.given all e ends.joined in
+pub few_all : {V X : Type 0} (format : TableFormat V X) (plain : LineFormat V X) → LineLaws format plain → (version : V)
+    (a d : Option (List ℕ)) (la ld : ℕ) (names w0 w1 text all : List ℕ) (spans : List X) (count : ℕ)
+    → names ≡ plain.line (plain.names version) → Passes a d la ld w0 w1 text → Ends d ld (names ++ w1) all
+    → AreLinesIn format plain version text spans count → length (plain.line (plain.names version)) + length w0 + la < 2 ^ 64
+    → count + length all < 2 ^ 64 + 1
+few_all format plain laws version a d la ld names w0 w1 text all spans count e p ends lines fits =
     omega (
       arith,
       fits,
-      few_passed a d la ld [] window (line ++ text) p,
-      few_records version text table count lines,
+      few_passed a d la ld w0 w1 text p,
+      few_records format plain laws version text spans count lines,
       ends.few,
-      ap length rest.joined,
-      length-append line (window ++ ends.given),
-      length-append window ends.given,
-      length-append line text,
+      ap length e,
+      ap length ends.joined,
+      length-append (names ++ w1) ends.given,
+      length-append names w1,
     )
 
-whole_bytes : (a d : Option (List ℕ)) (given rest : List ℕ) → Pulls a d given → IfSome d (λ bytes. rest ≡ bytes)
-    → IfSome a (λ bytes. given ++ rest ≡ bytes)
-whole_bytes None d given rest p e = tt
-whole_bytes (Some x) None given rest p e = absurd p
-whole_bytes (Some x) (Some y) given rest p e = ap (λ (t : List ℕ). given ++ t) e ∙ sym p
+-- The rest was cut out of the bytes that have the lines after the header.
+pub rest_cut : {V X : Type 0} (format : TableFormat V X) (plain : LineFormat V X) → LineLaws format plain → (version : V)
+    (d : Option (List ℕ)) (ld : ℕ) (names window text all : List ℕ) (spans : List X) (count : ℕ) → names ≡ plain.line (plain.names version)
+    → (ends : Ends d ld (names ++ window) all) → (lines : AreLinesIn format plain version text spans count)
+    → IsCutAfter (plain.names version) all
+    (plain.line (plain.names version) ++ (lines_of plain.line lines.records ++ (window ++ ends.given)))
+    (plain.names version ∷ lines.records)
+rest_cut format plain laws version d ld names window text all spans count e ends lines =
+    let rest : List ℕ = window ++ ends.given in
+    let line : List ℕ = plain.line (plain.names version) in
+    subst (λ (t : List ℕ). IsCutAfter (plain.names version) t (line ++ (lines_of plain.line lines.records ++ rest))
+    (plain.names version ∷ lines.records)) (sym (rest_is plain version names window ends.given all e ends.joined))
+    (cut_lines format plain laws version lines.records rest (all_back format plain laws version lines.records spans lines.each))
 
-told_bytes : (a : Option (List ℕ)) (bytes : List ℕ) (P : List ℕ → Type 0) → IfSome a (λ all. bytes ≡ all) → P bytes → IfSome a P
-told_bytes None bytes P e h = tt
-told_bytes (Some all) bytes P e h = subst P e h
+-- What holds of all bytes from which the rest was cut holds of the header, the bytes that were taken then, and those of the source.
+pub whole_cut : {V X : Type 0} (format : TableFormat V X) (plain : LineFormat V X) → LineLaws format plain → (version : V)
+    (a d : Option (List ℕ)) (la ld : ℕ) (names w0 w1 text all : List ℕ) (spans : List X) (count : ℕ) (P : List ℕ → Type 0)
+    → names ≡ plain.line (plain.names version) → Passes a d la ld w0 w1 text → Ends d ld (names ++ w1) all
+    → (lines : AreLinesIn format plain version text spans count)
+    → ((bytes : List ℕ) → IsCutAfter (plain.names version) all bytes (plain.names version ∷ lines.records) → P bytes)
+    → IfSome a (λ more. P (plain.line (plain.names version) ++ (w0 ++ more)))
+whole_cut format plain laws version None d la ld names w0 w1 text all spans count P e p ends lines h = tt
+whole_cut format plain laws version (Some x) None la ld names w0 w1 text all spans count P e p ends lines h = absurd p.pulls
+whole_cut format plain laws version (Some x) (Some y) la ld names w0 w1 text all spans count P e p ends lines h =
+    let inner : lines_of plain.line lines.records ++ (w1 ++ ends.given) ≡ w0 ++ x =
+    ap (λ (t : List ℕ). t ++ (w1 ++ ends.given)) (sym lines.text_is) ∙ sym (append_assoc text w1 ends.given)
+    ∙ ap (λ (t : List ℕ). t ++ ends.given) (sym p.joined) ∙ append_assoc w0 p.given ends.given
+    ∙ ap (λ (t : List ℕ). w0 ++ (p.given ++ t)) ends.whole ∙ ap (λ (t : List ℕ). w0 ++ t) (sym p.pulls) in
+    subst P (ap (λ (t : List ℕ). plain.line (plain.names version) ++ t) inner)
+    (h _ (rest_cut format plain laws version (Some y) ld names w1 text all spans count e ends lines))
+
+-- what holds of all bytes, of which the first were taken
+pub first_taken : (a b : Option (List ℕ)) (la lb : ℕ) (window text : List ℕ) (P : List ℕ → Type 0) → Passes a b la lb [] window text
+    → IfSome b (λ more. P (text ++ (window ++ more))) → IfSome a P
+first_taken None b la lb window text P p h = tt
+first_taken (Some x) None la lb window text P p h = absurd p.pulls
+first_taken (Some x) (Some y) la lb window text P p h =
+    subst P (sym (append_assoc text window y) ∙ ap (λ (t : List ℕ). t ++ y) (sym p.joined) ∙ sym p.pulls) h
+
+-- what holds of a text that is the first bytes and the rest
+pub rest_taken : (a : Option (List ℕ)) (la : ℕ) (window all : List ℕ) (P : List ℕ → Type 0) → Ends a la window all → P all
+    → IfSome a (λ more. P (window ++ more))
+rest_taken None la window all P ends h = tt
+rest_taken (Some bytes) la window all P ends h = subst P (ends.joined ∙ ap (λ (t : List ℕ). window ++ t) ends.whole) h
+
+-- ---- what came of a table that was compared
+
+pub if_compared : {C S : Type 0} (begun : TableStart C S) (told : C) (IsSo : C → Type 0) → begun ≡ start.Compared told
+    → IfCompared begun IsSo → IsSo told
+if_compared begun told IsSo e h = rw e at h
 
 -- ---- the header's fault
 
@@ -155,75 +166,34 @@ pub cut_begins : (version : Version) (text bytes : List ℕ) (passed : List Fiel
 cut_begins version text bytes passed cut b =
     first_begins bytes (column_names version) (passed ++ []) (b.0, b.1, cut [] b.0 b.1 b.2)
 
--- the result for the rest is the result for the whole table
-pub whole_told : {S : Type 0} (to_come : S → List Span → Type 0) (merge : Merging S) (version : Version) (section : List Span)
-    (a d : Option (List ℕ)) (la ld : ℕ) (names window text all : List ℕ) (count : ℕ) (outcome : Outcome Difference)
-    → names ≡ line_text (column_names version) → Passes a d la ld [] window (line_text (column_names version) ++ text)
-    → Ends d ld (names ++ window) all → HasPassed to_come merge version section text count
+-- what holds of all bytes of a table by number from which the rest was cut
+pub whole_begun : (version : Version) (a b d : Option (List ℕ)) (la lb ld : ℕ) (names w0 w1 text all : List ℕ) (table : List Span)
+    (count : ℕ) (P : List ℕ → Type 0) → names ≡ line_text (column_names version)
+    → Passes a b la lb [] w0 (line_text (column_names version)) → Passes b d lb ld w0 w1 text → Ends d ld (names ++ w1) all
+    → (lines : AreLines version text table count) → ((bytes : List ℕ) → IsCut version all bytes lines.records → P bytes) → IfSome a P
+whole_begun version a b d la lb ld names w0 w1 text all table count P e begun p ends lines h =
+    first_taken a b la lb w0 (line_text (column_names version)) P begun
+    (whole_cut by_number plain_by_number plain_numbers version b d lb ld names w0 w1 text all table count P e p ends lines h)
+
+-- the result for the rest of a table by number is the result for the whole table
+pub compared_begun : {S : Type 0} (to_come : S → List Span → Type 0) (merge : Merging S) (version : Version) (section : List Span)
+    (a b d : Option (List ℕ)) (la lb ld : ℕ) (names w0 w1 text all : List ℕ) (count : ℕ) (outcome : Outcome Difference)
+    → names ≡ line_text (column_names version) → Passes a b la lb [] w0 (line_text (column_names version)) → Passes b d lb ld w0 w1 text
+    → Ends d ld (names ++ w1) all → HasPassed to_come merge version section text count
     → ((list section : List Span) (passed : List Fields) (bytes : List ℕ)
     → Judges to_come (record { merge = merge; version = version; count = count }) list (column_names version ∷ passed)
     → IsCut version all bytes passed → AnswersSo version list section → IsOutcome bytes section outcome)
-    → IfSome a (λ bytes. IsTableRead bytes section (Told outcome))
-whole_told to_come merge version section a d la ld names window text all count outcome e p ends h compare =
-    let line : List ℕ = line_text (column_names version) in
-    let rest : List ℕ = window ++ ends.given in
-    let records = h.lines.records in
-    let given : p.given ++ ends.given ≡ line ++ (lines_text records ++ rest) =
-    ap (λ (t : List ℕ). t ++ ends.given) p.joined ∙ append_assoc (line ++ text) window ends.given ∙ append_assoc line text rest
-    ∙ ap (λ (t : List ℕ). line ++ (t ++ rest)) h.lines.text_is in
-    let cut = cut_lines version records h.table rest h.lines.each in
-    let cut_all : IsCut version all (line ++ (lines_text records ++ rest)) records =
-    subst (λ (t : List ℕ). IsCut version t (line ++ (lines_text records ++ rest)) records)
-    (sym (rest_is version names window ends.given all e ends.joined).joined) cut in
-    let cut_both : IsCut version all (p.given ++ ends.given) records =
-    subst (λ (t : List ℕ). IsCut version all t records) (sym given) cut_all in
-    let told = compare h.follows.spans section records (p.given ++ ends.given)
-    (judges_passed to_come merge version section text count h) cut_both h.follows.same in
-    let begins = cut_begins version all (p.given ++ ends.given) records cut_both (rest_begins version d ld names window all e ends) in
-    told_bytes a (p.given ++ ends.given) (λ (bytes : List ℕ). IsTableRead bytes section (Told outcome))
-    (whole_bytes a d p.given ends.given p.pulls ends.whole)
-    (told, not_header (p.given ++ ends.given) version section outcome begins told)
+    → IfSome a (λ bytes. IsHeadedOutcome bytes section outcome)
+compared_begun to_come merge version section a b d la lb ld names w0 w1 text all count outcome e begun p ends h compare =
+    whole_begun version a b d la lb ld names w0 w1 text all h.table count (λ (bytes : List ℕ). IsHeadedOutcome bytes section outcome) e
+    begun p ends h.lines
+    (λ bytes cut.
+    let told = compare h.follows.spans section h.lines.records bytes (judges_passed to_come merge version section text count h) cut
+    h.follows.same in
+    let header = rest_begins by_number plain_by_number plain_numbers version d ld names w1 all e ends in
+    (told, not_header bytes version section outcome (cut_begins version all bytes h.lines.records cut header) told))
 
--- the bytes from which the rest was cut
-pub rest_cut : (version : Version) (a d : Option (List ℕ)) (la ld : ℕ) (names window text all : List ℕ) (table : List Span) (count : ℕ)
-    → names ≡ line_text (column_names version)
-    → (p : Passes a d la ld [] window (line_text (column_names version) ++ text)) → (ends : Ends d ld (names ++ window) all)
-    → (lines : AreLines version text table count)
-    → IsCut version all (p.given ++ ends.given) lines.records
-rest_cut version a d la ld names window text all table count e p ends lines =
-    let line : List ℕ = line_text (column_names version) in
-    let rest : List ℕ = window ++ ends.given in
-    let given : p.given ++ ends.given ≡ line ++ (lines_text lines.records ++ rest) =
-    ap (λ (t : List ℕ). t ++ ends.given) p.joined ∙ append_assoc (line ++ text) window ends.given ∙ append_assoc line text rest
-    ∙ ap (λ (t : List ℕ). line ++ (t ++ rest)) lines.text_is in
-    let cut = cut_lines version lines.records table rest lines.each in
-    let cut_all : IsCut version all (line ++ (lines_text lines.records ++ rest)) lines.records =
-    subst (λ (t : List ℕ). IsCut version t (line ++ (lines_text lines.records ++ rest)) lines.records)
-    (sym (rest_is version names window ends.given all e ends.joined).joined) cut in
-    subst (λ (t : List ℕ). IsCut version all t lines.records) (sym given) cut_all
-
--- what holds of those bytes
-pub whole_cut : (version : Version) (a d : Option (List ℕ)) (la ld : ℕ) (names window text all : List ℕ) (table : List Span) (count : ℕ)
-    (P : List ℕ → Type 0)
-    → names ≡ line_text (column_names version) → Passes a d la ld [] window (line_text (column_names version) ++ text)
-    → Ends d ld (names ++ window) all → (lines : AreLines version text table count)
-    → ((bytes : List ℕ) → IsCut version all bytes lines.records → P bytes) → IfSome a P
-whole_cut version a d la ld names window text all table count P e p ends lines h =
-    told_bytes a (p.given ++ ends.given) P (whole_bytes a d p.given ends.given p.pulls ends.whole)
-    (h (p.given ++ ends.given) (rest_cut version a d la ld names window text all table count e p ends lines))
-
--- what holds of a text that is all of the bytes
-pub all_bytes : (a b : Option (List ℕ)) (la lb : ℕ) (w0 w1 w2 all : List ℕ) (P : List ℕ → Type 0) → w0 ≡ [] → Passes a b la lb w0 w1 []
-    → w2 ≡ w1 → Ends b lb w2 all → P all → IfSome a P
-all_bytes a b la lb w0 w1 w2 all P none p same ends h =
-    let given : w1 ≡ p.given = sym p.joined ∙ ap (λ (t : List ℕ). t ++ p.given) none in
-    let whole : p.given ++ ends.given ≡ all = sym (ends.joined ∙ ap (λ (t : List ℕ). t ++ ends.given) (same ∙ given)) in
-    told_bytes a (p.given ++ ends.given) P (whole_bytes a b p.given ends.given p.pulls ends.whole) (subst P (sym whole) h)
-
--- what holds of a value that `map` made
-pub mapped : {T U E : Type 0} (found : Result T E) (made : Result U E) (Post : T → U → Type 0) (P : T → Type 0) (Q : U → Type 0)
-    → MatchResult found (λ x. IsOkAnd made (Post x)) (λ e. made ≡ Err e) → IfOk found P
-    → ((x : T) (y : U) → P x → Post x y → Q y) → IfOk made Q
-mapped (Ok x) (Ok y) Post P Q post p h = h x y p post
-mapped (Ok x) (Err e) Post P Q post p h = tt
-mapped (Err e) made Post P Q post p h = subst (λ (m : Result _ _). IfOk m Q) (sym post) tt
+-- what holds of a text that is all of the bytes, of which the first were taken before
+pub all_taken : (a b : Option (List ℕ)) (la lb : ℕ) (window all : List ℕ) (P : List ℕ → Type 0) → Passes a b la lb [] window []
+    → Ends b lb window all → P all → IfSome a P
+all_taken a b la lb window all P p ends h = first_taken a b la lb window [] P p (rest_taken b lb window all P ends h)

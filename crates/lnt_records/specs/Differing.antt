@@ -8,12 +8,10 @@ use Rattle.lnt_spans.specs.Differing.{HasTold}
 use Rattle.lnt_spans.specs.Spans.{span_answer}
 use Rattle.lnt_records.specs.declared.differing.Differing.{Differing}
 use Rattle.lnt_records.specs.declared.differing.Differing.TheVariants as differing
-use Rattle.lnt_records.specs.declared.differing.DifferingRead.{DifferingRead}
-use Rattle.lnt_records.specs.declared.differing.DifferingRead.TheVariants as read
 use Rattle.lnt_records.specs.declared.fault.TableFault.TheVariants as fault
 use Rattle.lnt_records.specs.declared.remaining.Remaining.{Remaining}
 use Rattle.lnt_records.specs.Comparisons.{IsTableWhere, in_versions}
-use Rattle.lnt_records.specs.Faults.{IsFault, IsUnnumbered}
+use Rattle.lnt_records.specs.Faults.{IsFault}
 use Rattle.lnt_records.specs.Table.{by_number}
 
 -- The bytes are a table, and `differences` is about to give the first of the stretches at which it and the section answer differently,
@@ -31,16 +29,8 @@ IsStarted of_section of_table (differing.Table differences) =
     (by_section : Position → Option Answer) × (by_table : Position → Option Answer)
     × HasTold of_section of_table differences by_section by_table []
 
--- Either the table was compared, which happens only if it begins with the header of a version, so the fault isn't the
--- header's; or the bytes begin with the header of neither version and were given back.
-abbrev pub IsDifferingRead : {S : Type 0} → (Remaining S → List Span → Type 0) → (SpanList → List Span → Type 0) → List ℕ
-    → (Position → Option Answer) → DifferingRead S → Type 0
-IsDifferingRead of_section of_table bytes section (read.Differing told) =
+-- The same of bytes that begin with the header of version 1 or 2, so the fault isn't the header's.
+abbrev pub IsHeadedDiffering : {S : Type 0} → (Remaining S → List Span → Type 0) → (SpanList → List Span → Type 0) → List ℕ
+    → (Position → Option Answer) → Differing S → Type 0
+IsHeadedDiffering of_section of_table bytes section told =
     IsDiffering of_section of_table bytes section told × (told ≢ differing.Fault fault.Header)
-IsDifferingRead of_section of_table bytes section (read.Other text) =
-    (text.items ≡ bytes) × IsUnnumbered bytes
-
--- If the table was compared, no stretch was given yet.
-abbrev pub IsStartedRead : {S : Type 0} → (Remaining S → List Span → Type 0) → (SpanList → List Span → Type 0) → DifferingRead S → Type 0
-IsStartedRead of_section of_table (read.Differing told) = IsStarted of_section of_table told
-IsStartedRead of_section of_table (read.Other text) = Unit {0}

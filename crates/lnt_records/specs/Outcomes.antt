@@ -1,5 +1,5 @@
 -- What the comparison of a table with a section comes to, by number or by path.
-use Rattle.std.specs.Prelude.{◌≡◌, ◌≢◌, ℕ, List, Option, Some, None}
+use Rattle.std.specs.Prelude.{◌≡◌, ◌≢◌, ℕ, List, [], Option, Some, None, IfSome}
 use Rattle.lnt_spans.specs.declared.difference.Difference.{Difference}
 use Rattle.lnt_spans.specs.declared.position.Position.{Position}
 use Rattle.lnt_spans.specs.declared.span.Span.{Span}
@@ -10,10 +10,11 @@ use Rattle.lnt_records.specs.declared.outcome.Compared.{Compared}
 use Rattle.lnt_records.specs.declared.outcome.Compared.TheVariants.{Same, Fault, Differs}
 use Rattle.lnt_records.specs.declared.outcome.Outcome.{Outcome}
 use Rattle.lnt_records.specs.declared.outcome.Outcome.TheVariants as outcome
-use Rattle.lnt_records.specs.declared.stream.TableRead.{TableRead}
-use Rattle.lnt_records.specs.declared.stream.TableRead.TheVariants.{Compared as Read, Other}
+use Rattle.lnt_records.specs.declared.stream.TableStart.{TableStart}
+use Rattle.lnt_records.specs.declared.stream.TableStart.TheVariants as start
 use Rattle.lnt_records.specs.Comparisons.{IsTableWhere, TableKind, in_versions, tables_by_number}
-use Rattle.lnt_records.specs.Faults.{IsFaultIn, IsUnnumbered}
+use Rattle.lnt_records.specs.Faults.{IsFaultIn}
+use Rattle.lnt_records.specs.Passing.{Passes}
 
 -- The bytes are a table, and this is what its comparison with the section's answers found; or this is their first fault.
 abbrev pub IsOutcomeOf : {V X Y D : Type 0} → TableKind V X Y D → (V → Position → Option Y) → List ℕ → Outcome D → Type 0
@@ -25,11 +26,26 @@ IsOutcomeOf kind section bytes (outcome.Found found) =
 abbrev pub IsOutcome : List ℕ → List Span → Outcome Difference → Type 0
 IsOutcome bytes section told = IsOutcomeOf tables_by_number (in_versions (span_answer section)) bytes told
 
--- Either the table was compared, which happens only if it begins with the header of a version, so the fault isn't the
--- header's; or the bytes begin with the header of neither version and were given back.
-abbrev pub IsTableRead : List ℕ → List Span → TableRead → Type 0
-IsTableRead bytes section (Read told) = IsOutcome bytes section told × (told ≢ outcome.Fault fault.Header)
-IsTableRead bytes section (Other text) = (text.items ≡ bytes) × IsUnnumbered bytes
+-- The same of bytes that begin with the header of version 1 or 2, so the fault isn't the header's.
+abbrev pub IsHeadedOutcome : List ℕ → List Span → Outcome Difference → Type 0
+IsHeadedOutcome bytes section told = IsOutcome bytes section told × (told ≢ outcome.Fault fault.Header)
+
+-- ---- the first line of a table
+
+-- A table that begins with the header of version 1 or 2 as a line was compared, and this is so of its bytes and of what it came to.
+abbrev pub IsStartOf : {C S : Type 0} → Option (List ℕ) → (List ℕ → C → Type 0) → TableStart C S → Type 0
+IsStartOf table IsSo (start.Compared told) = IfSome table (λ bytes. IsSo bytes told)
+IsStartOf table IsSo (start.Other window spans) = Unit {0}
+
+-- Or only the first bytes were taken, and the spans are as they were.
+abbrev pub HasBegun : {C S : Type 0} → Option (List ℕ) → Option (List ℕ) → ℕ → ℕ → S → TableStart C S → Type 0
+HasBegun old new may_give may_still spans (start.Compared told) = Unit {0}
+HasBegun old new may_give may_still spans (start.Other window same) = Passes old new may_give may_still [] window [] × (same ≡ spans)
+
+-- If it was compared, this is so of what it came to.
+abbrev pub IfCompared : {C S : Type 0} → TableStart C S → (C → Type 0) → Type 0
+IfCompared (start.Compared told) IsSo = IsSo told
+IfCompared (start.Other window spans) IsSo = Unit {0}
 
 -- ---- what is told of it
 

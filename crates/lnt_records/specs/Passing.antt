@@ -10,8 +10,8 @@ use Rattle.lnt_spans.specs.declared.span.Span.{Span}
 use Rattle.lnt_spans.specs.Comparing.{Compares, IsTold, Merging, end_of}
 use Rattle.lnt_spans.specs.Spans.{AreInOrder, version_answer}
 use Rattle.lnt_io.specs.Pulling.{Pulls}
-use Rattle.lnt_records.specs.Table.{Fields, IsSpanRecord, column_names}
-use Rattle.lnt_records.specs.Written.{lines_text}
+use Rattle.lnt_records.specs.Table.{Fields, TableFormat, by_number, column_names}
+use Rattle.lnt_records.specs.Written.{LineFormat, lines_of, plain_by_number}
 
 -- ---- the bytes
 
@@ -32,12 +32,17 @@ pub record Ends (old : Option (List ℕ)) (may_give : ℕ) (before all : List �
 
 -- ---- the lines
 
--- These lines are the records of the spans in `table`, and `count` is their number with the header.
-pub record AreLines (version : Version) (text : List ℕ) (table : List Span) (count : ℕ) : Type 0 where
+-- These lines are the records of these spans, and `count` is their number with the header.
+pub record AreLinesIn {V X : Type 0} (format : TableFormat V X) (plain : LineFormat V X) (version : V) (text : List ℕ) (spans : List X)
+    (count : ℕ) : Type 0 where
   pub records : List Fields
-  pub text_is : text ≡ lines_text records
-  pub each : AllZip (IsSpanRecord version) records table
+  pub text_is : text ≡ lines_of plain.line records
+  pub each : AllZip (format.Says version) records spans
   pub count_is : count ≡ length records + 1
+
+-- the same of a table by number
+abbrev pub AreLines : Version → List ℕ → List Span → ℕ → Type 0
+AreLines version text table count = AreLinesIn by_number plain_by_number version text table count
 
 -- The merge has compared spans that answer as the section does, in the fields of the version, with the records in `table`.
 pub record Follows {S : Type 0} (to_come : S → List Span → Type 0) (merge : Merging S) (version : Version)

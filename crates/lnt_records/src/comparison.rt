@@ -40,8 +40,8 @@ pub fn compare(
     Ok(compare_records(alloc, table, SpanSlice::of(spans))?.whole())
 }
 
-// Does the same with the spans of a source, and gives all that was found.
-pub(crate) fn compare_records<S: SpanSource + Drop>(
+/// Does the same with the spans of a source, and gives all that was found.
+pub fn compare_records<S: SpanSource + Drop>(
     alloc: Global,
     table: &[u8],
     spans: S,

@@ -1,13 +1,13 @@
 //! Compares a table with the spans of a section at every position.
-ghost use Rattle.std.specs.Prelude.{◌≡◌, ◌≢◌, ◌+◌, ◌-◌, ◌^◌, ◌<◌, ℕ, List, [], ◌∷◌, Option, IfOk, IfSome, IsErrOf, IsTrue};
+ghost use Rattle.std.specs.Prelude.{◌≡◌, ◌≢◌, ◌+◌, ◌-◌, ◌^◌, ◌<◌, ℕ, List, Option, IfOk, IfSome, IsErrOf, IsTrue};
 ghost use Rattle.lnt_spans.specs.declared.span.Span.{Span};
 ghost use Rattle.lnt_spans.specs.declared.answer.Answer.{Answer};
 ghost use Rattle.lnt_spans.specs.declared.position.Position.{Position as Place};
 ghost use Rattle.lnt_spans.specs.Spans.{AreInOrder, span_answer};
 ghost use Rattle.lnt_io.specs.Pulling.{HasMoreThan};
-ghost use Rattle.lnt_records.specs.Differing.{IsDiffering, IsDifferingRead, IsStarted, IsStartedRead};
+ghost use Rattle.lnt_records.specs.Differing.{IsDiffering, IsHeadedDiffering, IsStarted};
+ghost use Rattle.lnt_records.specs.Outcomes.{HasBegun, IfCompared, IsStartOf};
 ghost use Rattle.lnt_records.specs.Progress.{IsContinuedBy, IsGathered};
-ghost use Rattle.lnt_records.specs.Table.{BeginsWith, column_names};
 
 use crate::fault::{TableFault, told};
 use crate::gather::{Gathered, gather_after};
@@ -15,6 +15,8 @@ use crate::header::{TableVersion, header_of};
 use crate::lines::pass_header;
 use crate::passing::pass_spans;
 use crate::remaining::Remaining;
+use crate::stream::TableStart;
+use crate::text::ROOM;
 use crate::window::Window;
 use lnt_io::{Source, Stop};
 use lnt_spans::{Differences, MergeByNumber, Position, SpanList, SpanSlice, SpanSource, Version};
@@ -58,36 +60,30 @@ pub fn compare_all<S: SpanSource + Drop, T: Source>(
     ensures too_long { IsErrOf result Stop.TooLong → IsTrue (T.too_long table.new) }
     ensures more { IsErrOf result Stop.TooLong → HasMoreThan (T.remaining table.old) (T.left table.old) }
 {
-    match differ_or_take(alloc, table, spans)? {
-        DifferingRead::Differing(differing) => Ok(differing),
-        DifferingRead::Other(_) => Ok(Differing::Fault(TableFault::Header)),
-    }
+    let (window, spans) = match differ_lines(alloc, table, spans)? {
+        TableStart::Compared(differing) => return Ok(differing),
+        TableStart::Other(window, spans) => (window, spans),
+    };
+    let text = window.rest_after(alloc, &[], table)?;
+    told(differ_records(alloc, &text, spans))
 }
 
-/// The outcome for a table that may be of another kind.
-#[derive(Drop)]
-pub enum DifferingRead<S> {
-    /// It was compared, with this result.
-    Differing(Differing<S>),
-    /// Record 0 names the columns of neither version. These are all bytes of the table.
-    Other(Vec<u8>),
-}
-
-/// Compares a table as `compare_all` does, except one that names the columns of neither version: its bytes are given back,
-/// and nothing is said about them. So `Fault` is never the fault of a header. Stops as `compare_table` does.
-pub fn differ_or_take<S: SpanSource + Drop, T: Source>(
+/// Compares a table as `compare_all` does, if its first line is the header of version 1 or 2. Otherwise it takes only the first
+/// bytes, and nothing is said about them. Stops as `compare_table` does.
+pub fn differ_lines<S: SpanSource + Drop, T: Source>(
     alloc: Global,
     table: &mut T,
     spans: S,
-) -> Result<DifferingRead<S>, Stop>
+) -> Result<TableStart<Differing<S>, S>, Stop>
     requires failures { T.failures table.old < 2 ^ 64 - 1 }
     requires spans { (list : List Span) × S.to_come spans list × AreInOrder list }
-    ensures ok { IfOk result (λ read. (list : List Span) (section : Place → Option Answer) → S.to_come spans list → AreInOrder list
-        → ((p : Place) → span_answer list p ≡ section p)
-        → IfSome (T.remaining table.old) (λ bytes. IsDifferingRead ⟦<Remaining<S> as SpanSource>⟧.to_come ⟦<SpanList as SpanSource>⟧.to_come
-        bytes section read)) }
-    ensures started { IfOk result (λ read. IsStartedRead ⟦<Remaining<S> as SpanSource>⟧.to_come ⟦<SpanList as SpanSource>⟧.to_come
-        read) }
+    ensures ok { IfOk result (λ start. (list : List Span) (section : Place → Option Answer) → S.to_come spans list → AreInOrder list
+        → ((p : Place) → span_answer list p ≡ section p) → IsStartOf (T.remaining table.old) (λ bytes told.
+        IsHeadedDiffering ⟦<Remaining<S> as SpanSource>⟧.to_come ⟦<SpanList as SpanSource>⟧.to_come bytes section told) start) }
+    ensures started { IfOk result (λ start. IfCompared start (λ told.
+        IsStarted ⟦<Remaining<S> as SpanSource>⟧.to_come ⟦<SpanList as SpanSource>⟧.to_come told)) }
+    ensures begun { IfOk result (λ start. HasBegun (T.remaining table.old) (T.remaining table.new) (T.left table.old) (T.left table.new)
+        spans start) }
     ensures read { IsErrOf result Stop.Read → T.failures table.new ≡ T.failures table.old + 1 }
     ensures no_failure { result ≢ Err Stop.Read → T.failures table.new ≡ T.failures table.old }
     ensures too_long { IsErrOf result Stop.TooLong → IsTrue (T.too_long table.new) }
@@ -96,52 +92,34 @@ pub fn differ_or_take<S: SpanSource + Drop, T: Source>(
     // For the proofs: a table has no more records than its source may give bytes, so their number fits.
     let _may_give = table.left();
     let mut window = Window::new(alloc);
-    window.fill(alloc, table)?;
-    let Some(version) = pass_header(&mut window) else {
-        let text = window.rest_after(alloc, &[], table)?;
-        return told(differ_taken(alloc, text, spans));
+    window.fill(alloc, table, ROOM)?;
+    let Some(version) = pass_header(&mut window, Version::One, Version::Two) else {
+        return Ok(TableStart::Other(window, spans));
     };
     let passed = pass_spans::<S, T, Differing<S>>(alloc, spans, version, table, &mut window)?;
     let text = window.rest_after(alloc, version.header_line(), table)?;
     let merge = MergeByNumber::past(SpanSlice::of(&[]), version, passed.end);
     let gathered = gather_after(alloc, &text, merge, version, passed.count);
-    told(differ_after(gathered, passed.spans, version, passed.end)).map(DifferingRead::Differing)
+    let differing = told(differ_after(gathered, passed.spans, version, passed.end))?;
+    Ok(TableStart::Compared(differing))
 }
 
-// Does the same for a table whose bytes are all in memory.
-fn differ_taken<S: SpanSource + Drop>(
-    alloc: Global,
-    text: Vec<u8>,
-    spans: S,
-) -> Result<DifferingRead<S>, AllocError>
-    requires { (list : List Span) × S.to_come spans list × AreInOrder list }
-    ensures ok { IfOk result (λ read. (list : List Span) (section : Place → Option Answer) → S.to_come spans list → AreInOrder list
-        → ((p : Place) → span_answer list p ≡ section p)
-        → IsDifferingRead ⟦<Remaining<S> as SpanSource>⟧.to_come ⟦<SpanList as SpanSource>⟧.to_come text.items section read) }
-    ensures started { IfOk result (λ read. IsStartedRead ⟦<Remaining<S> as SpanSource>⟧.to_come ⟦<SpanList as SpanSource>⟧.to_come
-        read) }
-{
-    match header_of::<Version>(alloc, &text)? {
-        Some(version) => differ_text(alloc, &text, spans, version).map(DifferingRead::Differing),
-        None => Ok(DifferingRead::Other(text)),
-    }
-}
-
-// Does the same for bytes that begin with the header of this version.
-fn differ_text<S: SpanSource + Drop>(
+/// Compares the table in these bytes with the spans of a source, as `compare_all` does. Fails only if memory runs out.
+pub fn differ_records<S: SpanSource + Drop>(
     alloc: Global,
     text: &[u8],
     spans: S,
-    version: Version,
 ) -> Result<Differing<S>, AllocError>
-    requires begins { BeginsWith text.now (column_names version ∷ []) }
-    requires spans { (list : List Span) × S.to_come spans list × AreInOrder list }
+    requires { (list : List Span) × S.to_come spans list × AreInOrder list }
     ensures started { IfOk result (λ differing. IsStarted ⟦<Remaining<S> as SpanSource>⟧.to_come ⟦<SpanList as SpanSource>⟧.to_come
         differing) }
     ensures differing { IfOk result (λ differing. (list : List Span) (section : Place → Option Answer) → S.to_come spans list
         → AreInOrder list → ((p : Place) → span_answer list p ≡ section p)
         → IsDiffering ⟦<Remaining<S> as SpanSource>⟧.to_come ⟦<SpanList as SpanSource>⟧.to_come text.now section differing) }
 {
+    let Some(version) = header_of::<Version>(alloc, text)? else {
+        return Ok(Differing::Fault(TableFault::Header));
+    };
     let merge = MergeByNumber::new(SpanSlice::of(&[]), version);
     let gathered = gather_after(alloc, text, merge, version, 1);
     let all = Remaining {

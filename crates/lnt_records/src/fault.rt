@@ -71,8 +71,8 @@ impl From<AllocError> for WriteStop {
     }
 }
 
-// Turns a result for bytes in memory into one for bytes of a source.
-pub(crate) fn told<C>(found: Result<C, AllocError>) -> Result<C, Stop>
+/// Turns a result for bytes in memory into one for bytes of a source.
+pub fn told<C>(found: Result<C, AllocError>) -> Result<C, Stop>
     ensures ok { IfOk result (λ it. found ≡ Ok it) }
     ensures not_read { IsErrOf result Stop.Read → ⊥ }
     ensures not_long { IsErrOf result Stop.TooLong → ⊥ }

@@ -6,10 +6,10 @@ ghost use Rattle.lnt_spans.specs.declared.span.Span as spec;
 ghost use Rattle.lnt_spans.specs.Comparing.{Compares};
 ghost use Rattle.lnt_records.specs.Lines.{IsAnswer, IsFlagBefore, IsTextLine, IsMore, IsPosition};
 ghost use Rattle.lnt_records.specs.Passing.{HasPassed, Passes};
-ghost use Rattle.lnt_records.specs.Table.{column_names};
 ghost use Rattle.lnt_records.specs.Written.{line_text};
 
 use crate::header::TableVersion;
+use crate::text::ROOM;
 use crate::window::Window;
 use lnt_io::{Source, Stop};
 use lnt_spans::{Answer, MergeByNumber, More, Position, Span, SpanSource, Version};
@@ -38,7 +38,7 @@ pub(crate) fn push_lines<S: SpanSource + Drop, T: Source>(
     ensures not_long { IsErrOf result Stop.TooLong → ⊥ }
 {
     loop {
-        window.fill(alloc, source)?;
+        window.fill(alloc, source, ROOM)?;
         let Some((span, length)) = span_at(window.bytes(), 0, version) else {
             return Ok(());
         };
@@ -51,15 +51,15 @@ pub(crate) fn push_lines<S: SpanSource + Drop, T: Source>(
     }
 }
 
-// Moves past the header, if it is next, and gives its version.
-pub(crate) fn pass_header(window: &mut Window) -> Option<Version>
-    ensures { MatchOption result (window.new ≡ window.old) (λ version. window.old ≡ line_text (column_names version) ++ window.new) }
+/// Moves past the header of one of two versions, if it is next as a line, and gives that version.
+pub fn pass_header<V: TableVersion + Copy>(window: &mut Window, one: V, other: V) -> Option<V>
+    ensures { MatchOption result (window.new ≡ window.old) (λ version. window.old ≡ line_text (V.names version) ++ window.new) }
 {
-    if window.pass_text(Version::One.header_line()) {
-        return Some(Version::One);
+    if window.pass_text(one.header_line()) {
+        return Some(one);
     }
-    if window.pass_text(Version::Two.header_line()) {
-        return Some(Version::Two);
+    if window.pass_text(other.header_line()) {
+        return Some(other);
     }
     None
 }

@@ -58,7 +58,7 @@ pub(crate) fn pass_spans<S: SpanSource + Drop, T: Source, C>(
         let Some(joined) = joiner.push(&span) else {
             continue;
         };
-        window.fill(alloc, source)?;
+        window.fill(alloc, source, ROOM)?;
         if !pass_line(window, &mut room, &joined, version) {
             let spans = Remaining::past(joined, joiner.finish(), spans, version);
             return Ok(Passed { spans, count, end });

@@ -2,6 +2,8 @@
 ghost use Rattle.std.specs.Prelude.{◌≡◌, ◌+◌, List, [], true, false, Some, None, length, map};
 ghost use Rattle.std.specs.List.{cons_option};
 ghost use Rattle.lnt_spans.specs.declared.span.Span.{Span};
+ghost use Rattle.lnt_spans.specs.declared.span.Span as spec;
+ghost use Rattle.lnt_spans.specs.Remaining.{SpansAreLeft};
 ghost use Rattle.lnt_spans.specs.Spans.{span_in_version};
 ghost use Rattle.lnt_records.specs.Remaining.{AreLeft};
 
@@ -49,6 +51,22 @@ impl<S: SpanSource + Drop> Remaining<S> {
             spans,
             is_ended: true,
             version,
+        }
+    }
+}
+
+impl<S: SpanSource> Remaining<S> {
+    /// Perhaps one span, and after it those of a source of which the next one was taken, if it had one.
+    pub fn after(first: Option<Span>, next: Option<Span>, spans: S) -> Remaining<S>
+        ensures { (rest : List spec.Span) → SpansAreLeft S.to_come next spans rest
+            → ⟦<Remaining<S> as SpanSource>⟧.to_come result (cons_option first rest) }
+    {
+        Remaining {
+            first,
+            second: next,
+            spans,
+            is_ended: next.is_none(),
+            version: Version::Two,
         }
     }
 }

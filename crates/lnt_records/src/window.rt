@@ -4,14 +4,14 @@ ghost use Rattle.std.specs.Bool.{MatchBool};
 ghost use Rattle.lnt_io.specs.Pulling.{HasMoreThan};
 ghost use Rattle.lnt_records.specs.Passing.{Ends, Passes};
 
-use crate::text::ROOM;
 use lnt_io::{BLOCK, Source, Stop, take_block};
 use std::alloc::{AllocError, Global};
 use std::marker::Model;
 
-// The current bytes: a block from index `at` on. Contracts see them as a list.
+/// The bytes of a table that were taken from its source, but not passed yet. Contracts see them as a list.
 #[derive(Drop)]
-pub(crate) struct Window {
+pub struct Window {
+    // these bytes are those from index `at` on
     block: Vec<u8>,
     at: usize,
 }
@@ -53,9 +53,9 @@ impl Window {
         self.at += count.min(self.block.len() - self.at);
     }
 
-    // Moves past this text, if it is next; gives whether it was.
+    /// Moves past this text, if it is next; gives whether it was.
     #[inline(always)]
-    pub(crate) fn pass_text(&mut self, text: &[u8]) -> bool
+    pub fn pass_text(&mut self, text: &[u8]) -> bool
         ensures { MatchBool result (self.old ≡ text.now ++ self.new) (self.new ≡ self.old) }
     {
         let is_next = self.bytes().starts_with(text);
@@ -65,9 +65,15 @@ impl Window {
         is_next
     }
 
-    // Takes more bytes until there are `ROOM`, which contain a whole line, or the source has none left.
+    /// Takes more bytes, block by block, until there are `count`, or the source has none left. Stops with `Memory`, and with
+    /// `Read` only if the source failed.
     #[inline(always)]
-    pub(crate) fn fill<T: Source>(&mut self, alloc: Global, source: &mut T) -> Result<(), Stop>
+    pub fn fill<T: Source>(
+        &mut self,
+        alloc: Global,
+        source: &mut T,
+        count: usize,
+    ) -> Result<(), Stop>
         requires { T.failures source.old < 2 ^ 64 - 1 }
         ensures taken { OnOk result (Passes (T.remaining source.old) (T.remaining source.new) (T.left source.old) (T.left source.new)
             self.old self.new []) }
@@ -75,15 +81,15 @@ impl Window {
         ensures no_failure { result ≢ Err Stop.Read → T.failures source.new ≡ T.failures source.old }
         ensures not_long { IsErrOf result Stop.TooLong → ⊥ }
     {
-        if self.block.len() - self.at >= ROOM {
+        if self.block.len() - self.at >= count {
             return Ok(());
         }
-        self.refill(alloc, source)
+        self.refill(alloc, source, count)
     }
 
     // The slow path of `fill`, not inlined: a new block begins with the current bytes.
     #[inline(never)]
-    fn refill<T: Source>(&mut self, alloc: Global, source: &mut T) -> Result<(), Stop>
+    fn refill<T: Source>(&mut self, alloc: Global, source: &mut T, count: usize) -> Result<(), Stop>
         requires { T.failures source.old < 2 ^ 64 - 1 }
         ensures taken { OnOk result (Passes (T.remaining source.old) (T.remaining source.new) (T.left source.old) (T.left source.new)
             self.old self.new []) }
@@ -94,13 +100,14 @@ impl Window {
         let Ok(mut block) = Vec::from_slice(alloc, self.bytes()) else {
             return Err(Stop::Memory);
         };
-        fill_block(source, &mut block)?;
+        fill_block(source, &mut block, count)?;
         *self = Window { block, at: 0 };
         Ok(())
     }
 
-    // The text, the current bytes, and all that the source has left, as one.
-    pub(crate) fn rest_after<T: Source>(
+    /// The text, these bytes, and all that the source has left, as one. Stops with `Memory`; with `Read` only if the source failed;
+    /// and with `TooLong` only if it has more bytes than it may give.
+    pub fn rest_after<T: Source>(
         self,
         alloc: Global,
         text: &[u8],
@@ -130,9 +137,9 @@ fn joined(alloc: Global, first: &[u8], second: &[u8]) -> Result<Vec<u8>, AllocEr
     Ok(all)
 }
 
-// Appends bytes of a source to a block until it has `ROOM`, or no more come.
+// Appends bytes of a source to a block until it has `count`, or no more come.
 #[tactic(auto, using(crate::proofs::PassingLemmas::passes_none, crate::proofs::PassingLemmas::passes_block))]
-fn fill_block<T: Source>(source: &mut T, block: &mut Vec<u8>) -> Result<(), Stop>
+fn fill_block<T: Source>(source: &mut T, block: &mut Vec<u8>, count: usize) -> Result<(), Stop>
     requires { T.failures source.old < 2 ^ 64 - 1 }
     ensures taken { OnOk result (Passes (T.remaining source.old) (T.remaining source.new) (T.left source.old) (T.left source.new)
         block.old.items block.new.items []) }
@@ -140,7 +147,7 @@ fn fill_block<T: Source>(source: &mut T, block: &mut Vec<u8>) -> Result<(), Stop
     ensures no_failure { result ≢ Err Stop.Read → T.failures source.new ≡ T.failures source.old }
     ensures not_long { IsErrOf result Stop.TooLong → ⊥ }
 {
-    while block.len() < ROOM {
+    while block.len() < count {
         if take_block(source, block, BLOCK)? == 0 {
             return Ok(());
         }

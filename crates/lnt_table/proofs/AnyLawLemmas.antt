@@ -68,7 +68,7 @@ one_numbered verdicts flawless = record { one = by_number verdicts flawless }
 
 -- ---- a section's own table by path
 
-names_differ : (version : Version) (by_path : PathVersion) → column_names version ≡ path_column_names by_path → ⊥
+pub names_differ : (version : Version) (by_path : PathVersion) → column_names version ≡ path_column_names by_path → ⊥
 names_differ One Three e = let count = ap length e in omega (arith, count)
 names_differ One Four e = let count = ap length e in omega (arith, count)
 names_differ Two Three e = let count = ap length e in omega (arith, count)

@@ -1,5 +1,5 @@
 -- What a comparison of a table of any version with a good section says of the two.
-use Rattle.std.proofs.Common.{◌≡◌, ◌≢◌, ◌-◌, Bool, ℕ, List, Option, Some, None, IfSome, arith, inl, inr, refl, subst}
+use Rattle.std.proofs.Common.{◌≡◌, ◌≢◌, ◌∙◌, ◌-◌, ◌++◌, Bool, ℕ, List, [], Option, Some, None, IfSome, ap, append_assoc, arith, inl, inr, refl, subst, sym}
 use Rattle.std.specs.Prelude.{MatchOption}
 use Rattle.lnt_header.specs.declared.unit_parts.UnitParts.{UnitParts}
 use Rattle.lnt_spans.specs.declared.difference.Difference.{Difference}
@@ -18,11 +18,19 @@ use Rattle.lnt_records.specs.declared.outcome.Outcome.{Outcome}
 use Rattle.lnt_records.specs.declared.outcome.Outcome.TheVariants.{Fault, Found}
 use Rattle.lnt_records.specs.Comparisons.{TableKind, in_versions, tables_by_number}
 use Rattle.lnt_records.specs.Faults.{IsUnnumbered}
-use Rattle.lnt_records.specs.Outcomes.{IsOutcome, IsOutcomeOf, compared_of, part_of, whole_of}
+use Rattle.lnt_records.specs.Outcomes.{IsHeadedOutcome, IsOutcomeOf, compared_of, part_of, whole_of}
+use Rattle.lnt_records.specs.Passing.{Passes}
+use Rattle.lnt_records.specs.Table.{column_names}
+use Rattle.lnt_records.specs.Written.{line_text}
+use Rattle.lnt_records.proofs.BeginningLaws.{one_beginning}
 use Rattle.lnt_records.proofs.ComparedLaws.{compared_whole, outcome_so}
+use Rattle.lnt_records.proofs.StreamLemmas.{first_taken}
 use Rattle.lnt_paths.specs.declared.answer.DifferenceByPath.{DifferenceByPath}
+use Rattle.lnt_paths.specs.declared.version.PathVersion.{PathVersion}
 use Rattle.lnt_paths.specs.PathAnswers.{path_answer, spans_by_path}
 use Rattle.lnt_paths.specs.PathOutcomes.{IsPathOutcome, tables_by_path}
+use Rattle.lnt_paths.specs.PathTables.{path_column_names}
+use Rattle.lnt_paths.proofs.CanonicalLemmas.{header_begins}
 use Rattle.lnt_lines.specs.declared.no.No.{No as SectionNo}
 use Rattle.lnt_lines.specs.declared.options.Options.{Options}
 use Rattle.lnt_lines.specs.Drafts.{IsIndexOfSection}
@@ -44,40 +52,53 @@ use Rattle.lnt_table.specs.Headline.{told_rows}
 use Rattle.lnt_table.specs.Judged.{IsJudgedWith, covered_or, missed_in, part_check, part_checked, whole_checked, within_scope}
 use Rattle.lnt_table.specs.Verdicts.{verdict_of}
 use Rattle.lnt_table.specs.Within.{IsMistakenOf, IsOfScope, IsRightOf, IsTrueOfSectionWithin, IsTrueWithin}
+use Rattle.lnt_table.proofs.AnyLawLemmas.{names_differ}
 use Rattle.lnt_table.proofs.CheckLemmas.{both_known, compared_told, each_known, none_of_section, section_told, told_addresses, told_so}
 use Rattle.lnt_table.proofs.UnitPathLemmas.{told_by_units}
 
 -- ---- the comparison with an index
 
-pub numbered_with : (text : Option (List ℕ)) (index : Indexed) (dead : Option ℕ) (skip : Bool) (units : List (ℕ × UnitParts))
-    (spans : List Span) (outcome : Outcome Difference) → ((p : Position) → span_answer spans p ≡ line_answer dead skip units p)
-    → IfSome text (λ bytes. IsOutcome bytes spans outcome × (outcome ≢ Fault fault.Header))
-    → IfSome text (λ bytes. IsJudgedWith index dead skip units bytes (judged.Numbered outcome))
-numbered_with text index dead skip units spans outcome answers h =
-    each_known text (λ bytes. IsOutcome bytes spans outcome × (outcome ≢ Fault fault.Header))
-    (λ bytes. IsJudgedWith index dead skip units bytes (judged.Numbered outcome)) h
-    (λ bytes is. (
-      outcome_so tables_by_number bytes (in_versions (span_answer spans)) (in_versions (line_answer dead skip units)) outcome
-          (λ version. told_so version dead skip units spans answers) is.0,
-      is.1,
-    ))
+-- a table with the header of version 1 or 2
+pub numbered_with : (bytes : List ℕ) (index : Indexed) (dead : Option ℕ) (skip : Bool) (units : List (ℕ × UnitParts)) (spans : List Span)
+    (outcome : Outcome Difference) → ((p : Position) → span_answer spans p ≡ line_answer dead skip units p)
+    → IsHeadedOutcome bytes spans outcome → IsJudgedWith index dead skip units bytes (judged.Numbered outcome)
+numbered_with bytes index dead skip units spans outcome answers is = (
+  outcome_so tables_by_number bytes (in_versions (span_answer spans)) (in_versions (line_answer dead skip units)) outcome
+      (λ version. told_so version dead skip units spans answers) is.0,
+  is.1,
+)
 
-pub pathed_with : (text : Option (List ℕ)) (taken : List ℕ) (index : Indexed) (dead : Option ℕ) (skip : Bool) (units : List (ℕ × UnitParts))
-    (spans : List Span) (outcome : Outcome DifferenceByPath) → IsIndexOf dead skip units index
-    → IfSome text (λ bytes. (taken ≡ bytes) × IsUnnumbered bytes)
+-- one with neither header
+pub pathed_with : (bytes : List ℕ) (index : Indexed) (dead : Option ℕ) (skip : Bool) (units : List (ℕ × UnitParts)) (spans : List Span)
+    (outcome : Outcome DifferenceByPath) → IsIndexOf dead skip units index → IsUnnumbered bytes
     → ((p : Position) → span_answer spans p ≡ line_answer dead skip units p)
-    → IsPathOutcome taken (λ version. spans_by_path version (indexed_path index) spans) outcome
+    → IsPathOutcome bytes (λ version. spans_by_path version (indexed_path index) spans) outcome
+    → IsJudgedWith index dead skip units bytes (judged.ByPath outcome)
+pathed_with bytes index dead skip units spans outcome is other answers h = (
+  other,
+  outcome_so tables_by_path bytes (λ version. spans_by_path version (indexed_path index) spans)
+      (λ version. told_path version index dead skip units) outcome
+      (λ version. told_by_units version index dead skip units spans is answers) h,
+)
+
+-- The table's first line is a header of version 3 or 4, and this holds of its other bytes.
+pub begun_by_path : (text more : Option (List ℕ)) (may_give may_still : ℕ) (first window : List ℕ) (version : PathVersion) (index : Indexed)
+    (dead : Option ℕ) (skip : Bool) (units : List (ℕ × UnitParts)) (spans : List Span) (outcome : Outcome DifferenceByPath)
+    → IsIndexOf dead skip units index → Passes text more may_give may_still [] first [] → first ≡ line_text (path_column_names version) ++ window
+    → ((p : Position) → span_answer spans p ≡ line_answer dead skip units p)
+    → IfSome more (λ rest. IsPathOutcome (line_text (path_column_names version) ++ (window ++ rest))
+    (λ version. spans_by_path version (indexed_path index) spans) outcome)
     → IfSome text (λ bytes. IsJudgedWith index dead skip units bytes (judged.ByPath outcome))
-pathed_with text taken index dead skip units spans outcome is other answers h =
-    each_known text (λ bytes. (taken ≡ bytes) × IsUnnumbered bytes)
-    (λ bytes. IsJudgedWith index dead skip units bytes (judged.ByPath outcome)) other
-    (λ bytes o. (
-      o.1,
-      subst (λ (b : List ℕ). IsPathOutcome b (λ version. told_path version index dead skip units) outcome) o.0
-          (outcome_so tables_by_path taken (λ version. spans_by_path version (indexed_path index) spans)
-          (λ version. told_path version index dead skip units) outcome
-          (λ version. told_by_units version index dead skip units spans is answers) h),
-    ))
+begun_by_path text more may_give may_still first window version index dead skip units spans outcome is passes here answers h =
+    let line : List ℕ = line_text (path_column_names version) in
+    first_taken text more may_give may_still first [] (λ bytes. IsJudgedWith index dead skip units bytes (judged.ByPath outcome)) passes
+    (each_known more (λ rest. IsPathOutcome (line ++ (window ++ rest)) (λ version. spans_by_path version (indexed_path index) spans) outcome)
+    (λ rest. IsJudgedWith index dead skip units (first ++ rest) (judged.ByPath outcome)) h
+    (λ rest o. subst (λ (bytes : List ℕ). IsJudgedWith index dead skip units bytes (judged.ByPath outcome))
+    (sym (append_assoc line window rest) ∙ ap (λ (bytes : List ℕ). bytes ++ rest) (sym here))
+    (pathed_with (line ++ (window ++ rest)) index dead skip units spans outcome is
+    (λ v begins. names_differ v version (one_beginning (line ++ (window ++ rest)) (column_names v) (path_column_names version) begins
+    (header_begins version (window ++ rest)))) answers o)))
 
 -- the answers of the index are those of the units in the section
 own_path : (line general : List ℕ) (options : Options) (section table : List ℕ) (index : Indexed) (outcome : Outcome DifferenceByPath)

@@ -2,7 +2,6 @@ pub mod JudgedLemmas
 pub mod CheckLemmas
 mod LawLemmas
 mod PathLemmas
-mod StretchLemmas
 mod UnitPathLemmas
 mod WriteLemmas
 pub mod OneVerdictLemmas

@@ -10,9 +10,11 @@ use crate::paths::IndexPaths;
 use crate::verdict::verdict_of;
 use lnt_io::{Source, Stop};
 use lnt_lines::Index;
-use lnt_paths::{DifferenceByPath, compare_by_path};
-use lnt_records::{Outcome, TableRead, compare_or_take};
-use lnt_spans::Difference;
+use lnt_paths::{DifferenceByPath, PathVersion, compare_by_path, compare_lines_by_path};
+use lnt_records::{
+    Outcome, TableStart, compare_lines, compare_records, header_of, pass_header, told,
+};
+use lnt_spans::{Difference, Version};
 use std::alloc::{AllocError, Global};
 
 // What the comparison of a table of any version with a good section comes to.
@@ -71,14 +73,34 @@ pub(crate) fn judge_index<T: Source>(
     ensures no_failure { result ≢ Err Stop.Read → T.failures table.new ≡ T.failures table.old }
     ensures too_long { IsErrOf result Stop.TooLong → IsFoundTooLong (T.too_long table.new) (T.remaining table.old) (T.left table.old) }
 {
-    let read = compare_or_take(alloc, table, index.spans())?;
-    let text = match read {
-        TableRead::Compared(outcome) => return Ok(Judged::Numbered(outcome)),
-        TableRead::Other(text) => text,
+    // For the proofs: a table has no more bytes than its source may give, so their number fits.
+    let _may_give = table.left();
+    let (mut window, spans) = match compare_lines(alloc, table, index.spans())? {
+        TableStart::Compared(outcome) => return Ok(Judged::Numbered(outcome)),
+        TableStart::Other(window, spans) => (window, spans),
     };
-    let paths = IndexPaths { index };
-    match compare_by_path(alloc, &text, index.spans(), &paths) {
-        Ok(outcome) => Ok(Judged::ByPath(outcome)),
-        Err(AllocError) => Err(Stop::Memory),
+    if let Some(version) = pass_header(&mut window, PathVersion::Three, PathVersion::Four) {
+        let paths = IndexPaths { index };
+        let outcome = compare_lines_by_path(alloc, table, window, version, spans, &paths)?;
+        return Ok(Judged::ByPath(outcome));
+    }
+    let text = window.rest_after(alloc, &[], table)?;
+    told(judge_text(alloc, &text, index))
+}
+
+// Does the same for a table whose bytes are all in memory.
+fn judge_text(alloc: Global, text: &[u8], index: &Index<'_>) -> Result<Judged, AllocError>
+    ensures { IfOk result (λ judged. (dead : Option ℕ) (skip : Bool) (units : List (ℕ × UnitParts))
+        → IsIndexOf dead skip units index.now → IsJudgedWith index.now dead skip units text.now judged) }
+{
+    match header_of::<Version>(alloc, text)? {
+        Some(_) => {
+            let outcome = compare_records(alloc, text, index.spans())?;
+            Ok(Judged::Numbered(outcome))
+        }
+        None => {
+            let outcome = compare_by_path(alloc, text, index.spans(), &IndexPaths { index })?;
+            Ok(Judged::ByPath(outcome))
+        }
     }
 }

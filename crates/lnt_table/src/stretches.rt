@@ -17,8 +17,10 @@ ghost use Rattle.lnt_header.specs.declared.unit_parts.UnitParts.{UnitParts};
 use lnt_io::{Source, Stop};
 use lnt_lines::{Index, Spans};
 use lnt_paths::{DifferencesByPath, HeldSpan, HeldTable, PathVersion, hold_table};
-use lnt_records::{Differing, DifferingRead, Remaining, compare_all, differ_or_take};
-use lnt_spans::{SpanList, SpanSource};
+use lnt_records::{
+    Differing, Remaining, TableStart, compare_all, differ_lines, differ_records, header_of, told,
+};
+use lnt_spans::{SpanList, SpanSource, Version};
 use std::alloc::{AllocError, Global};
 
 /// Compares the address table from a source with the units that an index was made of, at every position.
@@ -82,14 +84,35 @@ pub fn differences_any<'i, T: Source>(
     ensures no_failure { result ≢ Err Stop.Read → T.failures table.new ≡ T.failures table.old }
     ensures too_long { IsErrOf result Stop.TooLong → IsFoundTooLong (T.too_long table.new) (T.remaining table.old) (T.left table.old) }
 {
-    let read = differ_or_take(alloc, table, index.spans())?;
-    let text = match read {
-        DifferingRead::Differing(differing) => return Ok(AnyDiffering::Numbered(differing)),
-        DifferingRead::Other(text) => text,
+    let window = match differ_lines(alloc, table, index.spans())? {
+        TableStart::Compared(differing) => return Ok(AnyDiffering::Numbered(differing)),
+        TableStart::Other(window, _) => window,
     };
-    match hold_table(alloc, &text) {
-        Ok(held) => Ok(AnyDiffering::ByPath(held)),
-        Err(AllocError) => Err(Stop::Memory),
+    let text = window.rest_after(alloc, &[], table)?;
+    told(differ_text(alloc, &text, index))
+}
+
+// Does the same for a table whose bytes are all in memory.
+fn differ_text<'i>(
+    alloc: Global,
+    text: &[u8],
+    index: &'i Index<'_>,
+) -> Result<AnyDiffering<Spans<'i>>, AllocError>
+    ensures any { IfOk result (λ any. (dead : Option ℕ) (skip : Bool) (units : List (ℕ × UnitParts))
+        → IsIndexOf dead skip units index.entry.now
+        → IsAnyDiffering ⟦<Remaining<Spans<'i>> as SpanSource>⟧.to_come ⟦<SpanList as SpanSource>⟧.to_come dead skip units text.now any) }
+    ensures started { IfOk result (λ any. IsStartedAny ⟦<Remaining<Spans<'i>> as SpanSource>⟧.to_come ⟦<SpanList as SpanSource>⟧.to_come
+        any) }
+{
+    match header_of::<Version>(alloc, text)? {
+        Some(_) => {
+            let differing = differ_records(alloc, text, index.spans())?;
+            Ok(AnyDiffering::Numbered(differing))
+        }
+        None => {
+            let held = hold_table(alloc, text)?;
+            Ok(AnyDiffering::ByPath(held))
+        }
     }
 }
 

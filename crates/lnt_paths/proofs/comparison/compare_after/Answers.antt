@@ -13,16 +13,16 @@ pub take_records-requires-clause-few : goal.take_records-requires-clause-few
 take_records-requires-clause-few g c = (c.args.comparison.count, (c.requires.known, refl), c.requires.few)
 
 pub returns-in-Some : goal.returns-in-Some
-returns-in-Some g c bytes records list past j =
+returns-in-Some g c bytes records list section past j same =
     rw c.in-Some.is at c.in_ok-fault.ensures past.goes_on.last list records bytes past.goes_on.narrow
     (past.after, past.rest, past.goes_on.text_reached)
     (λ more after rest r. reached_on bytes c.args.text.now records more past.goes_on.last after rest past r) j
 
 pub returns-in-Ok : goal.returns-in-Ok
-returns-in-Ok g c bytes records list past j =
+returns-in-Ok g c bytes records list section past j same =
     let now = rw c.in_default.is at c.in_ok-fault.ensures past.goes_on.last list records bytes past.goes_on.narrow
     (past.after, past.rest, past.goes_on.text_reached)
     (λ more after rest r. reached_on bytes c.args.text.now records more past.goes_on.last after rest past r) j in
     found_told g.S.SpanSource.to_come (λ version. path_answer version (g.P.Paths.bytes_of c.args.paths.now)) c.args.version
-    c.take_records.new.state bytes list (records ++ now.0) c.in-Ok.found now.2 now.1
+    c.take_records.new.state bytes list section (records ++ now.0) c.in-Ok.found now.2 now.1 same
     (c.in-Ok.ensures list (path_span_answer now.2.table) now.2.merged.merged)

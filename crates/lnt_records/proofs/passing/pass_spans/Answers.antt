@@ -3,7 +3,11 @@ use Rattle.std.specs.List.{cons_option}
 use Rattle.lnt_spans.specs.declared.answer.Version.{Version}
 use Rattle.lnt_spans.specs.declared.span.Span.{Span}
 use Rattle.lnt_spans.specs.Joined.{HasJoined}
-use Rattle.lnt_records.proofs.PassingLemmas.{Pushes, few_passed, few_records, leaves_off, leaves_off_at, stands_first, stands_grown}
+use Rattle.lnt_records.specs.Table.{by_number}
+use Rattle.lnt_records.specs.Written.{plain_by_number}
+use Rattle.lnt_records.proofs.LineLaws.{few_records}
+use Rattle.lnt_records.proofs.WriteLemmas.{plain_numbers}
+use Rattle.lnt_records.proofs.PassingLemmas.{Pushes, few_passed, leaves_off, leaves_off_at, stands_first, stands_grown}
 use Rattle.lnt_records.proofs.PassingLemmas.{stands_more}
 use Rattle.lnt_records.proofs.passing.pass_spans.Goals as goal
 
@@ -69,7 +73,7 @@ overflow_add-count g c =
     let stands = stands_more g.S.SpanSource.to_come c.args.spans old new c.args.version c.loop-span.joiner.last c.push.new.self.last one _ _
     _ _ _ _ c.args.window.now c.loop-span.window c.fill.new.self c.pass_line.new.window
     c.loop-span.count c.loop-span.end span c.in-Some-push.joined inv.stands pushes c.in-Some-push.is c.in_ok-fill.ensures.taken line in
-    omega (arith, c.requires.few, few_records _ _ _ _ stands.lines, few_passed _ _ _ _ _ _ _ stands.bytes)
+    omega (arith, c.requires.few, few_records by_number plain_by_number plain_numbers _ _ _ _ stands.lines, few_passed _ _ _ _ _ _ _ stands.bytes)
 
 pub loop-span-preserved : goal.loop-span-preserved
 loop-span-preserved g c =

@@ -1,8 +1,17 @@
-use Rattle.lnt_table.proofs.JudgedLemmas.{numbered_with, pathed_with}
+use Rattle.std.proofs.Common.{◌^◌, ◌<◌, ◌+◌, ◌++◌, ℕ, List, [], arith, ap, length, length-append}
+use Rattle.std.proofs.lemmas.Option.{IfSome_then}
+use Rattle.std.proofs.lemmas.Result.{IfOk-weaker}
+use Rattle.lnt_spans.specs.declared.span.Span.{Span}
+use Rattle.lnt_spans.specs.Spans.{AreInOrder}
+use Rattle.lnt_records.specs.Written.{line_text}
+use Rattle.lnt_records.proofs.PassingLemmas.{few_passed, longer_from_start}
+use Rattle.lnt_records.proofs.StreamLemmas.{all_taken}
+use Rattle.lnt_paths.specs.PathTables.{path_column_names}
+use Rattle.lnt_table.proofs.JudgedLemmas.{begun_by_path, numbered_with}
 use Rattle.lnt_table.proofs.judged.judge_index.Goals as goal
 
-pub compare_or_take-requires-clause-spans : goal.compare_or_take-requires-clause-spans
-compare_or_take-requires-clause-spans g c =
+pub compare_lines-requires-clause-spans : goal.compare_lines-requires-clause-spans
+compare_lines-requires-clause-spans g c =
     let known = c.spans.ensures.is_index in
     let all = c.spans.ensures.gives known.dead known.skip known.units known.index_is in
     (all.spans, all.to_come, all.in_order)
@@ -10,13 +19,54 @@ compare_or_take-requires-clause-spans g c =
 pub returns-in-Compared-clause-ok : goal.returns-in-Compared-clause-ok
 returns-in-Compared-clause-ok g c dead skip units is =
     let all = c.spans.ensures.gives dead skip units is in
-    numbered_with (g.T.Source.remaining c.args.table.now) c.args.index.now dead skip units all.spans c.in-Compared.outcome all.answers
-    (rw c.in-Compared.is at c.in_ok-read.ensures.ok all.spans all.to_come all.in_order)
+    IfSome_then (g.T.Source.remaining c.args.table.now) (rw c.in-Compared.is at c.in_ok-outcome.ensures.ok all.spans all.to_come all.in_order)
+    (λ bytes told. numbered_with bytes c.args.index.now dead skip units all.spans c.in-Compared.outcome all.answers told)
 
-pub returns-in-Ok-clause-ok : goal.returns-in-Ok-clause-ok
-returns-in-Ok-clause-ok g c dead skip units is =
-    let one = c.spans.ensures.gives dead skip units is in
-    let all = c.spans-2.ensures.gives dead skip units is in
-    pathed_with (g.T.Source.remaining c.args.table.now) c.in-Other.text.items c.args.index.now dead skip units all.spans c.in-Ok.outcome is
-    (rw c.in-Other.is at c.in_ok-read.ensures.ok one.spans one.to_come one.in_order) all.answers
-    (rw c.deref.ensures.value at c.in-Ok.ensures all.spans all.to_come all.in_order)
+pub compare_lines_by_path-requires-clause-few : goal.compare_lines_by_path-requires-clause-few
+compare_lines_by_path-requires-clause-few g c =
+    let begun = rw c.in-Other.is at c.in_ok-outcome.ensures.begun in
+    omega (
+      arith,
+      few_passed _ _ _ _ _ _ _ begun.0,
+      ap length c.in-Some.ensures,
+      length-append (line_text (path_column_names c.in-Some.version)) c.pass_header.new.window,
+      c.left-may_give.ensures,
+      c.left-may_give.type_inv,
+    )
+
+pub compare_lines_by_path-requires-clause-spans : goal.compare_lines_by_path-requires-clause-spans
+compare_lines_by_path-requires-clause-spans g c =
+    let begun = rw c.in-Other.is at c.in_ok-outcome.ensures.begun in
+    let known = c.spans.ensures.is_index in
+    let all = c.spans.ensures.gives known.dead known.skip known.units known.index_is in
+    (all.spans, rw begun.1 all.to_come, all.in_order)
+
+pub returns-in-Some-clause-ok : goal.returns-in-Some-clause-ok
+returns-in-Some-clause-ok g c dead skip units is =
+    let begun = rw c.in-Other.is at c.in_ok-outcome.ensures.begun in
+    let all = c.spans.ensures.gives dead skip units is in
+    begun_by_path _ _ _ _ c.in-Other.window c.pass_header.new.window c.in-Some.version c.args.index.now dead skip units all.spans
+    c.in_ok-outcome-2.outcome is begun.0 c.in-Some.ensures all.answers
+    (c.in_ok-outcome-2.ensures.ok all.spans (rw begun.1 all.to_come) all.in_order)
+
+pub returns-in_err-text-clause-too_long : goal.returns-in_err-text-clause-too_long
+returns-in_err-text-clause-too_long g c e =
+    let begun = rw c.in-Other.is at c.in_ok-outcome.ensures.begun in
+    grind (
+      arith,
+      c.in_err-text.ensures.too_long,
+      c.in_err-text.ensures.more,
+      c.from_residual-in_err-text.ensures,
+      longer_from_start _ _ _ _ _ _ _ begun.0,
+      e,
+    )
+
+pub returns-clause-ok : goal.returns-clause-ok
+returns-clause-ok g c =
+    let begun = rw c.in-Other.is at c.in_ok-outcome.ensures.begun in
+    let ends = rw c.in_default.ensures at c.in_ok-text.ensures.ok in
+    let found = rw c.deref.ensures.value at c.judge_text.ensures in
+    IfOk-weaker c.told.result _ _
+    (λ judged is dead skip units index.
+    all_taken _ _ _ _ c.in-Other.window c.in_ok-text.text.items _ begun.0 ends ((rw is at found) dead skip units index))
+    c.told.ensures.ok

@@ -1,28 +1,44 @@
+use Rattle.std.proofs.Common.{arith}
+use Rattle.std.proofs.lemmas.Result.{IfOk-weaker}
 use Rattle.lnt_sequences.specs.Sequences.{line_answer}
-use Rattle.lnt_table.proofs.StretchLemmas.{held_of, numbered_from_units, numbered_started}
+use Rattle.lnt_records.proofs.GatherLemmas.{headed_in}
+use Rattle.lnt_records.proofs.PassingLemmas.{longer_from_start}
+use Rattle.lnt_records.proofs.StreamLemmas.{all_taken, if_compared}
 use Rattle.lnt_table.proofs.stretches.differences_any.Goals as goal
 
-pub differ_or_take-requires-clause-spans : goal.differ_or_take-requires-clause-spans
-differ_or_take-requires-clause-spans g c =
+pub differ_lines-requires-clause-spans : goal.differ_lines-requires-clause-spans
+differ_lines-requires-clause-spans g c =
     let known = c.spans.ensures.is_index in
     let all = c.spans.ensures.gives known.dead known.skip known.units known.index_is in
     (all.spans, all.to_come, all.in_order)
 
-pub returns-in-Differing-clause-ok : goal.returns-in-Differing-clause-ok
-returns-in-Differing-clause-ok g c dead skip units is =
+pub returns-in-Compared-clause-ok : goal.returns-in-Compared-clause-ok
+returns-in-Compared-clause-ok g c dead skip units is =
     let all = c.spans.ensures.gives dead skip units is in
-    numbered_from_units _ _ (line_answer dead skip units) (g.T.Source.remaining c.args.table.now) c.in_ok-read.read c.in-Differing.differing
-    c.in-Differing.is
-    (c.in_ok-read.ensures.ok all.spans (line_answer dead skip units) all.to_come all.in_order all.answers)
+    headed_in _ _ (line_answer dead skip units) (g.T.Source.remaining c.args.table.now) c.in_ok-differing.field-0 c.in-Compared.differing
+    c.in-Compared.is
+    (c.in_ok-differing.ensures.ok all.spans (line_answer dead skip units) all.to_come all.in_order all.answers)
 
-pub returns-in-Differing-clause-started : goal.returns-in-Differing-clause-started
-returns-in-Differing-clause-started g c =
-    numbered_started _ _ c.in_ok-read.read c.in-Differing.differing c.in-Differing.is c.in_ok-read.ensures.started
+pub returns-in-Compared-clause-started : goal.returns-in-Compared-clause-started
+returns-in-Compared-clause-started g c = if_compared c.in_ok-differing.field-0 c.in-Compared.differing _ c.in-Compared.is c.in_ok-differing.ensures.started
 
-pub returns-in-Ok-clause-ok : goal.returns-in-Ok-clause-ok
-returns-in-Ok-clause-ok g c dead skip units is =
-    let all = c.spans.ensures.gives dead skip units is in
-    held_of _ _ (line_answer dead skip units) (g.T.Source.remaining c.args.table.now) c.in_ok-read.read c.in-Other.text c.in-Ok.held
-    c.in-Other.is
-    (c.in_ok-read.ensures.ok all.spans (line_answer dead skip units) all.to_come all.in_order all.answers)
-    (rw c.deref.ensures.value at c.in-Ok.ensures.held)
+pub returns-clause-ok : goal.returns-clause-ok
+returns-clause-ok g c =
+    let begun = rw c.in-Other.is at c.in_ok-differing.ensures.begun in
+    let found = rw c.deref.ensures.value at c.differ_text.ensures.any in
+    IfOk-weaker c.told.result _ _
+    (λ any is dead skip units index.
+    all_taken _ _ _ _ c.in-Other.window c.in_ok-text.text.items _ begun.0 c.in_ok-text.ensures.ok ((rw is at found) dead skip units index))
+    c.told.ensures.ok
+
+pub returns-in_err-text-clause-too_long : goal.returns-in_err-text-clause-too_long
+returns-in_err-text-clause-too_long g c e =
+    let begun = rw c.in-Other.is at c.in_ok-differing.ensures.begun in
+    grind (
+      arith,
+      c.in_err-text.ensures.too_long,
+      c.in_err-text.ensures.more,
+      c.from_residual-in_err-text.ensures,
+      longer_from_start _ _ _ _ _ _ _ begun.0,
+      e,
+    )

@@ -13,7 +13,7 @@ loop-said-init g c =
     let header = c.header_line-header.result.now in
     let begins = (starts_is Decides-eqb c.args.table.now header true c.if-not-starts_with.ensures.value).0 refl in (
       stands_first g.S.SpanSource.to_come (path_answer c.args.version (g.P.Paths.bytes_of c.args.paths.now)) c.args.version c.args.self.now
-          c.args.table.now header c.as_slice-last.result.now c.requires.count (c.header_line-header.ensures ∙ header_text c.args.version) begins
+          c.args.table.now header c.as_slice-last.result.now (c.header_line-header.ensures ∙ header_text c.args.version) begins
           (rw c.as_slice-last.ensures (All-nil IsPlainByte)),
       c.requires.known,
     )

@@ -2,18 +2,18 @@ use Rattle.std.proofs.Common.{[], map, refl}
 use Rattle.std.proofs.lemmas.Result.{IfOk-weaker}
 use Rattle.lnt_spans.specs.Spans.{span_answer, span_in_version}
 use Rattle.lnt_records.proofs.GatherLemmas.{all_to_come, gathered_is, judges_none, started}
-use Rattle.lnt_records.proofs.differing.differ_text.Goals as goal
+use Rattle.lnt_records.proofs.differing.differ_records.Goals as goal
 
 pub gather_after-gathered-requires-clause-judged : goal.gather_after-gathered-requires-clause-judged
 gather_after-gathered-requires-clause-judged g c = (
   [],
   [],
-  (judges_none _ c.new-merge.result c.args.version c.new-merge.ensures.version (c.new-merge.ensures.compares [] c.of.ensures tt)).0,
+  (judges_none _ c.new-merge.result c.in-Some.version c.new-merge.ensures.version (c.new-merge.ensures.compares [] c.of.ensures tt)).0,
 )
 
 pub returns-clause-differing : goal.returns-clause-differing
 returns-clause-differing g c =
-    let version = c.args.version in
+    let version = c.in-Some.version in
     let j = judges_none _ c.new-merge.result version c.new-merge.ensures.version (c.new-merge.ensures.compares [] c.of.ensures tt) in
     IfOk-weaker c.differ_after.result _ _
     (λ differing h list section coming order answers.
@@ -25,8 +25,8 @@ returns-clause-differing g c =
 
 pub returns-clause-started : goal.returns-clause-started
 returns-clause-started g c =
-    let version = c.args.version in
-    let known = c.requires.spans in
+    let version = c.in-Some.version in
+    let known = c.requires in
     let j = judges_none _ c.new-merge.result version c.new-merge.ensures.version (c.new-merge.ensures.compares [] c.of.ensures tt) in
     IfOk-weaker c.differ_after.result _ _
     (λ differing h.
@@ -36,3 +36,9 @@ returns-clause-started g c =
     c.gather_after-gathered.result j.0 j.1 (λ more after rest r. r) c.gather_after-gathered.ensures)
     (all_to_come version known.0 (span_answer known.0) known.2 (λ p. refl)) (known.0, known.1, refl)))
     c.differ_after.ensures
+
+pub gather_after-gathered-requires-clause-begins : goal.gather_after-gathered-requires-clause-begins
+gather_after-gathered-requires-clause-begins g c = rw c.in-Some.is at c.in_ok-version.ensures
+
+pub returns-in_default-clause-differing : goal.returns-in_default-clause-differing
+returns-in_default-clause-differing g c list section coming order answers = rw c.in_default.is at c.in_ok-version.ensures

@@ -1,0 +1,79 @@
+//! Moves past the lines of a table by path that are the lines of a section's canonical spans, without parsing them.
+ghost use Rattle.std.specs.Prelude.{◌≡◌, ◌≢◌, ◌+◌, ◌-◌, ◌^◌, ◌<◌, ◌++◌, ℕ, List, length, IfOk, IsErrOf};
+ghost use Rattle.std.specs.Bool.{MatchBool};
+ghost use Rattle.lnt_spans.specs.declared.span.Span as spec;
+ghost use Rattle.lnt_spans.specs.Instructions.{IsOfInstructions};
+ghost use Rattle.lnt_spans.specs.Spans.{AreInOrder};
+ghost use Rattle.lnt_records.specs.Passing.{Passes};
+ghost use Rattle.lnt_paths.specs.Passing.{AreLinesOf, LeaveOff};
+ghost use Rattle.lnt_paths.specs.PathAnswers.{path_answer};
+
+use crate::field::PathFields;
+use crate::joined::Joined;
+use crate::line::put_line;
+use crate::paths::Paths;
+use crate::version::PathVersion;
+use lnt_io::{Source, Stop};
+use lnt_records::{Remaining, Window, told};
+use lnt_spans::{Span, SpanSource};
+use std::alloc::Global;
+
+// The state after these lines: the spans after those of the lines, the number of records so far, including the header, and
+// the address where the last record ends, or 0.
+#[derive(Drop)]
+pub(crate) struct Passed<S> {
+    pub(crate) spans: Remaining<S>,
+    pub(crate) count: u64,
+    pub(crate) end: u64,
+}
+
+// Moves past the lines of a table that are the lines of the canonical spans, as these come, up to the first line that isn't.
+// The number of records stays below 2^64, since each has at least one byte.
+pub(crate) fn pass_spans<S: SpanSource + Drop, P: Paths, T: Source>(
+    alloc: Global,
+    spans: S,
+    paths: &P,
+    version: PathVersion,
+    source: &mut T,
+    window: &mut Window,
+) -> Result<Passed<S>, Stop>
+    requires failures { T.failures source.old < 2 ^ 64 - 1 }
+    requires few { length window.old + T.left source.old + 1 < 2 ^ 64 }
+    ensures ok { IfOk result (λ passed. (text : List ℕ) × (table : List spec.Span)
+        × Passes (T.remaining source.old) (T.remaining source.new) (T.left source.old) (T.left source.new) window.old window.new text
+        × AreLinesOf (path_answer version (P.bytes_of paths.now)) version text table passed.count passed.end
+        × ((list : List spec.Span) → S.to_come spans list → AreInOrder list → LeaveOff (path_answer version (P.bytes_of paths.now))
+        (⟦<Remaining<S> as SpanSource>⟧.to_come passed.spans) list table)) }
+    ensures read { IsErrOf result Stop.Read → T.failures source.new ≡ T.failures source.old + 1 }
+    ensures no_failure { result ≢ Err Stop.Read → T.failures source.new ≡ T.failures source.old }
+    ensures not_long { IsErrOf result Stop.TooLong → ⊥ }
+{
+    let mut joined = Joined::of(spans);
+    let mut fields = told(PathFields::new(alloc))?;
+    let mut line = Vec::new(alloc);
+    let mut count = 1;
+    let mut end = 0;
+    while let Some(span) = told(joined.next_joined(alloc, paths, version))? {
+        line.clear();
+        told(put_line(alloc, paths, version, &mut fields, &span, &mut line))?;
+        window.fill(alloc, source, line.len())?;
+        if !pass_line(window, &span, &line) {
+            let spans = joined.remaining(Some(span));
+            return Ok(Passed { spans, count, end });
+        }
+        count += 1;
+        end = span.high.address;
+    }
+    let spans = joined.remaining(None);
+    Ok(Passed { spans, count, end })
+}
+
+// Moves past the line of this span, if it is next, and the span begins and ends at whole instructions.
+fn pass_line(window: &mut Window, span: &Span, line: &[u8]) -> bool
+    ensures { MatchBool result ((window.old ≡ line.now ++ window.new) × IsOfInstructions span.now) (window.new ≡ window.old) }
+{
+    if span.low.op != 0 || span.high.op != 0 {
+        return false;
+    }
+    window.pass_text(line)
+}
