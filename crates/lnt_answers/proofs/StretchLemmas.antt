@@ -15,8 +15,8 @@ use Rattle.lnt_spans.specs.Differing.{HasTold}
 use Rattle.lnt_spans.specs.AnyStretches.{AreAllStretches}
 use Rattle.lnt_spans.specs.Stretches.{stretch_of}
 use Rattle.lnt_spans.proofs.StretchLaws.{stretches_on}
-use Rattle.lnt_records.specs.declared.differing.Differing.{Differing}
-use Rattle.lnt_records.specs.declared.differing.Differing.TheVariants.{Fault, Table}
+use Rattle.lnt_records.specs.Differing.{Differing}
+use Rattle.lnt_records.specs.declared.outcome.TableRead.TheVariants.{Fault, Table}
 use Rattle.lnt_records.specs.declared.fault.TableFault.{TableFault}
 use Rattle.lnt_records.specs.declared.fault.TableFault.TheVariants as fault
 use Rattle.lnt_records.specs.declared.remaining.Remaining.{Remaining}

@@ -21,8 +21,8 @@ use crate::differences::print_differences;
 use crate::stretch_lines::StretchLines;
 use lnt_io::{Halt, Source, Status, print_line};
 use lnt_lines::Index;
-use lnt_paths::{DifferencesByPath, HeldTable, Paths};
-use lnt_records::{Differing, TableFault};
+use lnt_paths::{DifferencesByPath, Paths};
+use lnt_records::{TableFault, TableRead};
 use lnt_spans::{SpanSource, count_all};
 use lnt_table::{
     AnyDiffering, Checked, CheckedWithin, Coverage, IndexPaths, PathDifferenceLine, Scope, TableNo,
@@ -69,16 +69,16 @@ pub fn print_stretches<T: Source, W: Write>(
     ensures begun { OnErr result (BeginsStretches scope index.now (T.remaining table.old) (W.contents out.old) (W.contents out.new)) }
 {
     match differences_any(alloc, table, index) {
-        Ok(AnyDiffering::Numbered(Differing::Table(differences))) => {
+        Ok(AnyDiffering::Numbered(TableRead::Table(differences))) => {
             let missed = print_differences(alloc, differences, scope, out)?;
             let status = print_end(alloc, scope, missed, index, out)?;
             Ok(Stretches::Told(status))
         }
-        Ok(AnyDiffering::Numbered(Differing::Fault(fault))) => {
+        Ok(AnyDiffering::Numbered(TableRead::Fault(fault))) => {
             print_fault(alloc, fault, out)?;
             Ok(Stretches::Faulty(fault))
         }
-        Ok(AnyDiffering::ByPath(HeldTable::Table(version, spans))) => {
+        Ok(AnyDiffering::ByPath(TableRead::Table((version, spans)))) => {
             let differences = differences_by_path(index, &spans, version);
             let paths = IndexPaths::of(index);
             let printed = print_path_differences(alloc, differences, &paths, scope, out);
@@ -87,7 +87,7 @@ pub fn print_stretches<T: Source, W: Write>(
             let status = print_end(alloc, scope, missed, index, out)?;
             Ok(Stretches::ToldByPath(status))
         }
-        Ok(AnyDiffering::ByPath(HeldTable::Fault(fault))) => {
+        Ok(AnyDiffering::ByPath(TableRead::Fault(fault))) => {
             print_fault(alloc, fault, out)?;
             Ok(Stretches::FaultyByPath(fault))
         }

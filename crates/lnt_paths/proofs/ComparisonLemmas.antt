@@ -6,7 +6,7 @@ use Rattle.std.proofs.lemmas.Bool.{cases_lt}
 use Rattle.lnt_text.specs.Digits.{IsAddress, IsDecimal}
 use Rattle.lnt_records.specs.declared.fault.TableFault.TheVariants as fault
 use Rattle.lnt_records.specs.declared.fault.TableFault.{TableFault}
-use Rattle.lnt_records.specs.declared.outcome.Outcome.TheVariants.{Found}
+use Rattle.lnt_records.specs.declared.outcome.TableRead.TheVariants.{Table}
 use Rattle.lnt_records.specs.Reading.{IsReadAs}
 use Rattle.lnt_records.specs.Table.{BeginsWith, Fields, RecordsOf}
 use Rattle.lnt_spans.specs.declared.answer.Answer.{Answer}
@@ -121,7 +121,7 @@ pub found_told : {S : Type 0} (to_come : S → List Span → Type 0) (tell : Pat
     → (j : JudgesByPath to_come (tell version) version comparison list records)
     → RecordsOf bytes records → AnswerAlike (tell version) list section
     → AreFound stretch_of (answer_told (tell version) list) (path_span_answer j.table) found
-    → IsPathOutcome bytes (λ version. answer_told (tell version) section) (Found found)
+    → IsPathOutcome bytes (λ version. answer_told (tell version) section) (Table found)
 found_told to_come tell version comparison bytes list section records found j all same told = record {
   version = version;
   table = j.table;

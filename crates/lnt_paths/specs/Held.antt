@@ -1,8 +1,10 @@
 -- A table by path that was read and is held.
-use Rattle.std.specs.Prelude.{ℕ, List, map}
+use Rattle.std.specs.Prelude.{ℕ, List, map, Vec}
+use Rattle.std.specs.Global.{Global}
 use Rattle.lnt_paths.specs.declared.held.HeldSpan.{HeldSpan}
-use Rattle.lnt_paths.specs.declared.held.HeldTable.{HeldTable}
-use Rattle.lnt_paths.specs.declared.held.HeldTable.TheVariants as held
+use Rattle.lnt_paths.specs.declared.version.PathVersion.{PathVersion}
+use Rattle.lnt_records.specs.declared.outcome.TableRead.{TableRead}
+use Rattle.lnt_records.specs.declared.outcome.TableRead.TheVariants as held
 use Rattle.lnt_paths.specs.PathAnswers.{told_path_answer}
 use Rattle.lnt_paths.specs.PathFaults.{IsPathFault}
 use Rattle.lnt_paths.specs.PathSpans.{PathSpan, StandInOrder, whole}
@@ -12,12 +14,16 @@ use Rattle.lnt_paths.specs.PathTables.{IsPathTableOf}
 abbrev pub held_span : HeldSpan → PathSpan
 held_span span = record { low = whole span.low; high = whole span.high; answer = told_path_answer span.answer }
 
+-- the version and the spans of a table by path, or its first fault
+abbrev pub HeldTable : Type 0
+HeldTable = TableRead (PathVersion × Vec HeldSpan Global)
+
 -- Either the bytes are a table by path of this version with these spans, or this is their first fault.
 abbrev pub IsHeld : List ℕ → HeldTable → Type 0
 IsHeld bytes (held.Fault told) = IsPathFault bytes told
-IsHeld bytes (held.Table version spans) = IsPathTableOf version bytes (map held_span spans.items)
+IsHeld bytes (held.Table (version, spans)) = IsPathTableOf version bytes (map held_span spans.items)
 
 -- The held spans are in order, and none is empty.
 abbrev pub HoldsInOrder : HeldTable → Type 0
 HoldsInOrder (held.Fault told) = Unit {0}
-HoldsInOrder (held.Table version spans) = StandInOrder (map held_span spans.items)
+HoldsInOrder (held.Table (version, spans)) = StandInOrder (map held_span spans.items)

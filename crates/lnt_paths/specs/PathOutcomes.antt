@@ -1,9 +1,8 @@
 -- What the comparison of a table by path with a section comes to.
 use Rattle.std.specs.Prelude.{ℕ, List, Option}
 use Rattle.lnt_spans.specs.declared.position.Position.{Position}
-use Rattle.lnt_records.specs.declared.outcome.Outcome.{Outcome}
+use Rattle.lnt_records.specs.Outcomes.{IsOutcomeOf, Outcome}
 use Rattle.lnt_records.specs.Comparisons.{TableKind}
-use Rattle.lnt_records.specs.Outcomes.{IsOutcomeOf}
 use Rattle.lnt_paths.specs.declared.answer.DifferenceByPath.{DifferenceByPath}
 use Rattle.lnt_paths.specs.declared.version.PathVersion.{PathVersion}
 use Rattle.lnt_paths.specs.PathAnswers.{PathAnswer}

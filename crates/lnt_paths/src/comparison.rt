@@ -25,7 +25,7 @@ use crate::record::{PathRecord, record_after};
 use crate::telling::{PathMemory, PathTelling};
 use crate::version::PathVersion;
 use csv::ByteRecord;
-use lnt_records::{Outcome, TableFault, TakesRecords, header_of, take_records};
+use lnt_records::{Outcome, TableFault, TableRead, TakesRecords, header_of, take_records};
 use lnt_spans::{Merge, Position, SpanSource};
 use std::alloc::{AllocError, Global};
 use std::marker::PhantomData;
@@ -49,7 +49,7 @@ pub fn compare_by_path<S: SpanSource + Drop, P: Paths>(
         → IsPathOutcome table.now (λ version. spans_by_path version (P.bytes_of paths.now) list) outcome) }
 {
     let Some(version) = header_of::<PathVersion>(alloc, table)? else {
-        return Ok(Outcome::Fault(TableFault::Header));
+        return Ok(TableRead::Fault(TableFault::Header));
     };
     let Ok(comparison) = PathComparison::past(alloc, spans, 0, 1) else {
         return Err(AllocError);
@@ -104,7 +104,7 @@ fn compare_after<S: SpanSource + Drop, P: Paths>(
         version,
     };
     if let Some(fault) = take_records(alloc, text, &taker, &mut comparison)? {
-        return Ok(Outcome::Fault(fault));
+        return Ok(TableRead::Fault(fault));
     }
     let telling = PathTelling {
         alloc,
@@ -113,7 +113,7 @@ fn compare_after<S: SpanSource + Drop, P: Paths>(
         held: PhantomData,
     };
     match comparison.merge.finish(&telling) {
-        Ok(found) => Ok(Outcome::Found(found)),
+        Ok(found) => Ok(TableRead::Table(found)),
         Err(_) => Err(AllocError),
     }
 }

@@ -14,7 +14,7 @@ use crate::record::record_after;
 use crate::telling::said_of;
 use crate::version::PathVersion;
 use csv::ByteRecord;
-use lnt_records::{TableFault, TakesRecords, header_of, take_records};
+use lnt_records::{TableFault, TableRead, TakesRecords, header_of, take_records};
 use std::alloc::{AllocError, Global};
 
 /// A span of a table by path, held in memory with its answer.
@@ -27,14 +27,8 @@ pub struct HeldSpan {
     pub(crate) answer: AnswerByPath,
 }
 
-/// What the bytes of a table by path are.
-#[derive(Drop)]
-pub enum HeldTable {
-    /// They aren't a table by path: this is the first fault.
-    Fault(TableFault),
-    /// They are a table of this version with these spans, in order.
-    Table(PathVersion, Vec<HeldSpan>),
-}
+/// What the bytes of a table by path are: one of this version with these spans, in order.
+pub type HeldTable = TableRead<(PathVersion, Vec<HeldSpan>)>;
 
 /// Reads the table by path in these bytes, and holds its spans with the paths of their files.
 ///
@@ -46,13 +40,13 @@ pub fn hold_table(alloc: Global, table: &[u8]) -> Result<HeldTable, AllocError>
     ensures in_order { IfOk result HoldsInOrder }
 {
     let Some(version) = header_of::<PathVersion>(alloc, table)? else {
-        return Ok(HeldTable::Fault(TableFault::Header));
+        return Ok(TableRead::Fault(TableFault::Header));
     };
     let mut spans = Vec::new(alloc);
     let holder = Holder { alloc, version };
     match take_records(alloc, table, &holder, &mut spans)? {
-        Some(fault) => Ok(HeldTable::Fault(fault)),
-        None => Ok(HeldTable::Table(version, spans)),
+        Some(fault) => Ok(TableRead::Fault(fault)),
+        None => Ok(TableRead::Table((version, spans))),
     }
 }
 

@@ -11,11 +11,10 @@ use Rattle.lnt_spans.proofs.FoundLaws.{found_so}
 use Rattle.lnt_spans.proofs.PositionLaws.{order_three}
 use Rattle.lnt_records.specs.declared.outcome.Compared.{Compared}
 use Rattle.lnt_records.specs.declared.outcome.Compared.TheVariants.{Same, Fault, Differs}
-use Rattle.lnt_records.specs.declared.outcome.Outcome.{Outcome}
-use Rattle.lnt_records.specs.declared.outcome.Outcome.TheVariants as outcome
+use Rattle.lnt_records.specs.Outcomes.{IsOutcomeOf, Outcome, compared_of, whole_of}
+use Rattle.lnt_records.specs.declared.outcome.TableRead.TheVariants as outcome
 use Rattle.lnt_records.specs.Comparisons.{IsComparisonOf, IsTableWhere, TableKind}
 use Rattle.lnt_records.specs.Laws.{OneComparison}
-use Rattle.lnt_records.specs.Outcomes.{IsOutcomeOf, compared_of, whole_of}
 use Rattle.lnt_records.proofs.TableLaws.{FormatLaws, no_fault, one_fault, one_table}
 
 -- ---- the first difference
@@ -72,7 +71,7 @@ where_both {V} {X} kind laws bytes section P Q R step h k =
 pub outcome_so : {V X Y D : Type 0} (kind : TableKind V X Y D) (bytes : List ℕ) (f g : V → Position → Option Y) (told : Outcome D)
     → ((version : V) → AnswerAlike (f version) (g version)) → IsOutcomeOf kind f bytes told → IsOutcomeOf kind g bytes told
 outcome_so kind bytes f g (outcome.Fault told) same h = h
-outcome_so kind bytes f g (outcome.Found found) same h =
+outcome_so kind bytes f g (outcome.Table found) same h =
     where_so kind f g bytes (λ by_section by_table. AreFound kind.stretch by_section by_table found)
     (λ by_section by_table. AreFound kind.stretch by_section by_table found)
     (λ version by_table is. found_so kind.stretch by_table (f version) (g version) found (same version) is) h
@@ -93,7 +92,7 @@ comparison_so kind bytes f g (Differs difference) same h =
 pub compared_whole : {V X Y D : Type 0} (kind : TableKind V X Y D) (bytes : List ℕ) (section : V → Position → Option Y)
     (told : Outcome D) → IsOutcomeOf kind section bytes told → IsComparisonOf kind section bytes (whole_of told)
 compared_whole kind bytes section (outcome.Fault told) h = h
-compared_whole {V} {X} {Y} {D} kind bytes section (outcome.Found found) h = by_first (first_of found) h.so.first
+compared_whole {V} {X} {Y} {D} kind bytes section (outcome.Table found) h = by_first (first_of found) h.so.first
   where
     by_first : (first : Option D) → MatchOption first (AnswerAlike (section h.version) (kind.answers h.table))
         (λ difference. IsFirstDifference (section h.version) (kind.answers h.table) (kind.stretch difference))

@@ -12,7 +12,7 @@ use Rattle.lnt_spans.specs.Spans.{AreInOrder, span_answer, version_answer}
 use Rattle.lnt_spans.specs.Stretches.{stretch_of}
 use Rattle.lnt_spans.proofs.FoundLaws.{found_so}
 use Rattle.lnt_records.specs.declared.comparison.Comparison.{Comparison}
-use Rattle.lnt_records.specs.declared.outcome.Outcome.TheVariants.{Found}
+use Rattle.lnt_records.specs.declared.outcome.TableRead.TheVariants.{Table}
 use Rattle.lnt_records.specs.Outcomes.{IsOutcome}
 use Rattle.lnt_records.specs.Progress.{Judges}
 use Rattle.lnt_records.specs.Table.{Fields, IsSpanRecord, RecordsOf, by_number, column_names}
@@ -59,7 +59,7 @@ pub found_told : {S : Type 0} (to_come : S → List Span → Type 0) (bytes : Li
     (records : List Fields) (found : FoundSpec Difference) → (j : Judges to_come comparison list records) → RecordsOf bytes records
     → AnswersSo comparison.version list section
     → AreFound stretch_of (version_answer comparison.merge.version list) (span_answer j.table) found
-    → IsOutcome bytes section (Found found)
+    → IsOutcome bytes section (Table found)
 found_told to_come bytes comparison list section records found j all same told =
     let own : AreFound stretch_of (version_answer comparison.version list) (span_answer j.table) found = rw j.version at told in
     record {

@@ -1,5 +1,5 @@
 -- The spans of a table's records are gathered.
-use Rattle.std.proofs.Common.{◌≡◌, ◌≢◌, ◌∙◌, ℕ, List, [], ◌∷◌, ◌++◌, append-nil, append_assoc, ap, map, IfSome, Option, refl, subst, sym, arith}
+use Rattle.std.proofs.Common.{◌≡◌, ◌≢◌, ◌∙◌, ℕ, List, [], ◌∷◌, ◌++◌, append-nil, append_assoc, ap, map, Global, IfSome, Option, Vec, refl, subst, sym, arith}
 use Rattle.std.specs.List.{AllByRecursion}
 use Rattle.std.specs.Prelude.{IfOk, Result}
 use Rattle.std.proofs.lemmas.Result.{IfOk-weaker}
@@ -14,15 +14,14 @@ use Rattle.lnt_spans.proofs.AnsweringLaws.{front_in_order}
 use Rattle.lnt_spans.proofs.ToldLaws.{told, told_answer, told_order}
 use Rattle.lnt_spans.specs.Spans.{AreInOrder, span_answer, span_in_version, version_answer}
 use Rattle.lnt_spans.specs.declared.listed.SpanList.{SpanList}
-use Rattle.lnt_records.specs.declared.differing.Differing.{Differing}
-use Rattle.lnt_records.specs.declared.differing.Differing.TheVariants.{Fault, Table}
+use Rattle.lnt_records.specs.declared.outcome.TableRead.TheVariants.{Fault, Table}
 use Rattle.lnt_records.specs.declared.fault.TableFault.TheVariants as fault
 use Rattle.std.specs.declared.alloc.AllocError.{AllocError}
-use Rattle.lnt_records.specs.declared.gather.Gathered.{Gathered}
+use Rattle.lnt_records.specs.declared.outcome.TableRead.{TableRead}
 use Rattle.lnt_records.specs.declared.remaining.Remaining.{Remaining}
 use Rattle.lnt_records.specs.declared.stream.TableStart.{TableStart}
 use Rattle.lnt_records.specs.declared.stream.TableStart.TheVariants as start
-use Rattle.lnt_records.specs.Differing.{IsDiffering, IsHeadedDiffering, IsStarted}
+use Rattle.lnt_records.specs.Differing.{Differing, IsDiffering, IsHeadedDiffering, IsStarted}
 use Rattle.lnt_records.specs.Outcomes.{IsStartOf}
 use Rattle.lnt_records.specs.Progress.{IsContinuedBy, IsGathered}
 use Rattle.lnt_records.specs.declared.comparison.Comparison.{Comparison}
@@ -111,7 +110,7 @@ order_alone table rest o = subst AreInOrder (sym (append-nil table)) (front_in_o
 
 -- the spans gathered after the records of other spans
 pub gathered_is : {S : Type 0} (to_come : S → List Span → Type 0) (comparison : Comparison S) (list table : List Span)
-    (passed : List Fields) (bytes : List ℕ) (version : Version) (text : List ℕ) (gathered : Result Gathered AllocError)
+    (passed : List Fields) (bytes : List ℕ) (version : Version) (text : List ℕ) (gathered : Result (TableRead (Vec Span Global)) AllocError)
     → (j : Judges to_come comparison list (column_names version ∷ passed)) → j.table ≡ table → IsCut version text bytes passed
     → IfOk gathered (λ it. (list : List Span) (passed : List Fields) (bytes : List ℕ)
     → (j : Judges to_come comparison list (column_names version ∷ passed)) → IsCut version text bytes passed

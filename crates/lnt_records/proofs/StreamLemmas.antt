@@ -11,12 +11,11 @@ use Rattle.lnt_spans.specs.Comparing.{Compares, IsTold, Merging, end_of}
 use Rattle.lnt_spans.proofs.AnsweringLaws.{front_in_order}
 use Rattle.lnt_spans.specs.Spans.{AreInOrder}
 use Rattle.lnt_io.specs.Pulling.{Pulls}
-use Rattle.lnt_records.specs.declared.outcome.Outcome.{Outcome}
-use Rattle.lnt_records.specs.declared.outcome.Outcome.TheVariants.{Fault}
+use Rattle.lnt_records.specs.Outcomes.{IfCompared, IsHeadedOutcome, IsOutcome, Outcome}
+use Rattle.lnt_records.specs.declared.outcome.TableRead.TheVariants.{Fault}
 use Rattle.lnt_records.specs.declared.fault.TableFault.TheVariants as fault
 use Rattle.lnt_records.specs.declared.stream.TableStart.{TableStart}
 use Rattle.lnt_records.specs.declared.stream.TableStart.TheVariants as start
-use Rattle.lnt_records.specs.Outcomes.{IfCompared, IsHeadedOutcome, IsOutcome}
 use Rattle.lnt_records.proofs.BeginningLaws.{first_begins}
 use Rattle.lnt_records.specs.Passing.{AreLines, AreLinesIn, Ends, HasPassed, IsCut, IsCutAfter, LeavesOff, Passes}
 use Rattle.lnt_records.specs.Progress.{Judges}

@@ -2,17 +2,22 @@
 use Rattle.std.specs.Prelude.{◌≡◌, ◌≢◌, ℕ, List, [], Option}
 use Rattle.lnt_spans.specs.declared.answer.Answer.{Answer}
 use Rattle.lnt_spans.specs.declared.listed.SpanList.{SpanList}
+use Rattle.lnt_spans.specs.declared.stretches.Differences.{Differences}
 use Rattle.lnt_spans.specs.declared.position.Position.{Position}
 use Rattle.lnt_spans.specs.declared.span.Span.{Span}
 use Rattle.lnt_spans.specs.Differing.{HasTold}
 use Rattle.lnt_spans.specs.Spans.{span_answer}
-use Rattle.lnt_records.specs.declared.differing.Differing.{Differing}
-use Rattle.lnt_records.specs.declared.differing.Differing.TheVariants as differing
+use Rattle.lnt_records.specs.declared.outcome.TableRead.{TableRead}
+use Rattle.lnt_records.specs.declared.outcome.TableRead.TheVariants as differing
 use Rattle.lnt_records.specs.declared.fault.TableFault.TheVariants as fault
 use Rattle.lnt_records.specs.declared.remaining.Remaining.{Remaining}
 use Rattle.lnt_records.specs.Comparisons.{IsTableWhere, in_versions}
 use Rattle.lnt_records.specs.Faults.{IsFault}
 use Rattle.lnt_records.specs.Table.{by_number}
+
+-- what gives the stretches of a table, or its first fault
+abbrev pub Differing : Type 0 → Type 0
+Differing S = TableRead (Differences (Remaining S) SpanList)
 
 -- The bytes are a table, and `differences` is about to give the first of the stretches at which it and the section answer differently,
 -- in the fields of the table's version; or this is their first fault.

@@ -1,6 +1,7 @@
 -- What the comparison of a table with a section comes to, by number or by path.
 use Rattle.std.specs.Prelude.{◌≡◌, ◌≢◌, ℕ, List, [], Option, Some, None, IfSome}
 use Rattle.lnt_spans.specs.declared.difference.Difference.{Difference}
+use Rattle.lnt_spans.specs.declared.found.Found.{Found}
 use Rattle.lnt_spans.specs.declared.position.Position.{Position}
 use Rattle.lnt_spans.specs.declared.span.Span.{Span}
 use Rattle.lnt_spans.specs.Merged.{AreFound, first_of}
@@ -8,18 +9,22 @@ use Rattle.lnt_spans.specs.Spans.{span_answer}
 use Rattle.lnt_records.specs.declared.fault.TableFault.TheVariants as fault
 use Rattle.lnt_records.specs.declared.outcome.Compared.{Compared}
 use Rattle.lnt_records.specs.declared.outcome.Compared.TheVariants.{Same, Fault, Differs}
-use Rattle.lnt_records.specs.declared.outcome.Outcome.{Outcome}
-use Rattle.lnt_records.specs.declared.outcome.Outcome.TheVariants as outcome
+use Rattle.lnt_records.specs.declared.outcome.TableRead.{TableRead}
+use Rattle.lnt_records.specs.declared.outcome.TableRead.TheVariants as outcome
 use Rattle.lnt_records.specs.declared.stream.TableStart.{TableStart}
 use Rattle.lnt_records.specs.declared.stream.TableStart.TheVariants as start
 use Rattle.lnt_records.specs.Comparisons.{IsTableWhere, TableKind, in_versions, tables_by_number}
 use Rattle.lnt_records.specs.Faults.{IsFaultIn}
 use Rattle.lnt_records.specs.Passing.{Passes}
 
+-- what a comparison found, or the first fault of a table
+abbrev pub Outcome : Type 0 → Type 0
+Outcome D = TableRead (Found D)
+
 -- The bytes are a table, and this is what its comparison with the section's answers found; or this is their first fault.
 abbrev pub IsOutcomeOf : {V X Y D : Type 0} → TableKind V X Y D → (V → Position → Option Y) → List ℕ → Outcome D → Type 0
 IsOutcomeOf kind section bytes (outcome.Fault told) = IsFaultIn kind.format bytes told
-IsOutcomeOf kind section bytes (outcome.Found found) =
+IsOutcomeOf kind section bytes (outcome.Table found) =
     IsTableWhere kind.format kind.answers section bytes (λ by_section by_table. AreFound kind.stretch by_section by_table found)
 
 -- the same of a table by number and the spans of a section
@@ -57,9 +62,9 @@ compared_of (Some difference) = Differs difference
 -- of all positions
 abbrev pub whole_of : {D : Type 0} → Outcome D → Compared D
 whole_of (outcome.Fault told) = Fault told
-whole_of (outcome.Found found) = compared_of (first_of found)
+whole_of (outcome.Table found) = compared_of (first_of found)
 
 -- of those at which the table answers
 abbrev pub part_of : {D : Type 0} → Outcome D → Compared D
 part_of (outcome.Fault told) = Fault told
-part_of (outcome.Found found) = compared_of found.mistake
+part_of (outcome.Table found) = compared_of found.mistake

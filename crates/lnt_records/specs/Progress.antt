@@ -1,5 +1,6 @@
 -- How far a table was read and compared. No public contract speaks of it.
-use Rattle.std.specs.Prelude.{◌≡◌, ◌≢◌, ℕ, ◌+◌, ◌<◌, List, [], ◌∷◌, ◌++◌, Option, length, get_or}
+use Rattle.std.specs.Prelude.{◌≡◌, ◌≢◌, ℕ, ◌+◌, ◌<◌, List, [], ◌∷◌, ◌++◌, Option, Vec, length, get_or}
+use Rattle.std.specs.Global.{Global}
 use Rattle.std.specs.Io.KnownBytes.{Appends}
 use Rattle.std.specs.List.{AllZip}
 use Rattle.std.specs.Option.{option_map}
@@ -13,8 +14,8 @@ use Rattle.lnt_spans.specs.Answers.{in_version}
 use Rattle.lnt_spans.specs.Comparing.{Compares, end_of}
 use Rattle.lnt_spans.specs.Spans.{AreInOrder, version_answer}
 use Rattle.lnt_records.specs.declared.comparison.Comparison.{Comparison}
-use Rattle.lnt_records.specs.declared.gather.Gathered.{Gathered}
-use Rattle.lnt_records.specs.declared.gather.Gathered.TheVariants as gathered
+use Rattle.lnt_records.specs.declared.outcome.TableRead.{TableRead}
+use Rattle.lnt_records.specs.declared.outcome.TableRead.TheVariants as gathered
 use Rattle.lnt_records.specs.declared.record.RecordFault.{RecordFault}
 use Rattle.lnt_records.specs.declared.record.RecordFault.TheVariants as record_fault
 use Rattle.lnt_records.specs.Faults.{IsFaultyColumn, IsFault}
@@ -101,9 +102,9 @@ pub record HasBegunLines {V X : Type 0} (plain : LineFormat V X) (version : V) (
 -- ---- differences so far
 
 -- After the records of the spans in `table`, the bytes have the records of the gathered spans, or a fault.
-abbrev pub IsGathered : List ℕ → Version → List Span → Gathered → Type 0
+abbrev pub IsGathered : List ℕ → Version → List Span → TableRead (Vec Span Global) → Type 0
 IsGathered bytes version table (gathered.Fault told) = IsFault bytes told
-IsGathered bytes version table (gathered.Spans spans) = IsTableOf version bytes (table ++ spans.items)
+IsGathered bytes version table (gathered.Table spans) = IsTableOf version bytes (table ++ spans.items)
 
 -- The spans in `table` and then `rest` are in order and answer as the section does, in the fields of the version; the ones
 -- in `table` end at `at`.

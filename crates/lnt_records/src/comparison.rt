@@ -13,7 +13,7 @@ ghost use Rattle.lnt_records.specs.Table.{BeginsWith, Fields, IsSpanRecord, IsTa
 
 use crate::fault::TableFault;
 use crate::header::header_of;
-use crate::outcome::{Compared, Outcome};
+use crate::outcome::{Compared, Outcome, TableRead};
 use crate::record::{RecordFault, span_of};
 use crate::taking::{TakesRecords, take_records};
 use csv::ByteRecord;
@@ -50,7 +50,7 @@ pub fn compare_records<S: SpanSource + Drop>(
     ensures { IfOk result (λ outcome. (list : List Span) → S.to_come spans list → AreInOrder list → IsOutcome table.now list outcome) }
 {
     let Some(version) = header_of::<Version>(alloc, table)? else {
-        return Ok(Outcome::Fault(TableFault::Header));
+        return Ok(TableRead::Fault(TableFault::Header));
     };
     compare_after(alloc, table, MergeByNumber::new(spans, version), version, 1)
 }
@@ -79,9 +79,9 @@ pub(crate) fn compare_after<S: SpanSource + Drop>(
         count,
     };
     if let Some(fault) = take_records(alloc, text, &version, &mut comparison)? {
-        return Ok(Outcome::Fault(fault));
+        return Ok(TableRead::Fault(fault));
     }
-    Ok(Outcome::Found(comparison.merge.finish()))
+    Ok(TableRead::Table(comparison.merge.finish()))
 }
 
 // The state of a comparison: the spans of a section, and the records of a table so far.

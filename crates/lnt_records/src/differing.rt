@@ -10,26 +10,24 @@ ghost use Rattle.lnt_records.specs.Outcomes.{HasBegun, IfCompared, IsStartOf};
 ghost use Rattle.lnt_records.specs.Progress.{IsContinuedBy, IsGathered};
 
 use crate::fault::{TableFault, told};
-use crate::gather::{Gathered, gather_after};
+use crate::gather::gather_after;
 use crate::header::{TableVersion, header_of};
 use crate::lines::pass_header;
+use crate::outcome::TableRead;
 use crate::passing::pass_spans;
 use crate::remaining::Remaining;
 use crate::stream::TableStart;
 use crate::text::ROOM;
 use crate::window::Window;
 use lnt_io::{Source, Stop};
-use lnt_spans::{Differences, MergeByNumber, Position, SpanList, SpanSlice, SpanSource, Version};
+use lnt_spans::{
+    Differences, MergeByNumber, Position, Span, SpanList, SpanSlice, SpanSource, Version,
+};
 use std::alloc::{AllocError, Global};
 
-/// What a comparison at every position found.
-#[derive(Drop)]
-pub enum Differing<S> {
-    /// The bytes are not a table: this is the first fault.
-    Fault(TableFault),
-    /// The bytes are a table; this gives the stretches at which it and the section answer differently, one after another.
-    Table(Differences<Remaining<S>, SpanList>),
-}
+/// What a comparison at every position comes to: this gives the stretches at which a table and the section answer differently, one
+/// after another.
+pub type Differing<S> = TableRead<Differences<Remaining<S>, SpanList>>;
 
 /// Compares the table of a source with the spans of a section, at every position.
 ///
@@ -118,7 +116,7 @@ pub fn differ_records<S: SpanSource + Drop>(
         → IsDiffering ⟦<Remaining<S> as SpanSource>⟧.to_come ⟦<SpanList as SpanSource>⟧.to_come text.now section differing) }
 {
     let Some(version) = header_of::<Version>(alloc, text)? else {
-        return Ok(Differing::Fault(TableFault::Header));
+        return Ok(TableRead::Fault(TableFault::Header));
     };
     let merge = MergeByNumber::new(SpanSlice::of(&[]), version);
     let gathered = gather_after(alloc, text, merge, version, 1);
@@ -135,7 +133,7 @@ pub fn differ_records<S: SpanSource + Drop>(
 // Starts the comparison after the spans with which both sides begin: the spans gathered from the table's other records, with
 // the section's other spans.
 fn differ_after<S: SpanSource + Drop>(
-    gathered: Result<Gathered, AllocError>,
+    gathered: Result<TableRead<Vec<Span>>, AllocError>,
     spans: Remaining<S>,
     version: Version,
     at: Position,
@@ -146,10 +144,10 @@ fn differ_after<S: SpanSource + Drop>(
         → IsDiffering ⟦<Remaining<S> as SpanSource>⟧.to_come ⟦<SpanList as SpanSource>⟧.to_come bytes section differing) }
 {
     match gathered? {
-        Gathered::Fault(fault) => Ok(Differing::Fault(fault)),
-        Gathered::Spans(records) => {
+        TableRead::Fault(fault) => Ok(TableRead::Fault(fault)),
+        TableRead::Table(records) => {
             let records = SpanList::of(records);
-            Ok(Differing::Table(Differences::past(spans, records, version, at)))
+            Ok(TableRead::Table(Differences::past(spans, records, version, at)))
         }
     }
 }

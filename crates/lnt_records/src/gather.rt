@@ -8,19 +8,11 @@ ghost use Rattle.lnt_records.specs.Table.{BeginsWith, Fields, column_names};
 
 use crate::comparison::Comparison;
 use crate::fault::TableFault;
+use crate::outcome::TableRead;
 use crate::taking::{TakesRecords, take_records};
 use csv::ByteRecord;
 use lnt_spans::{MergeByNumber, Span, SpanSource, Version};
 use std::alloc::{AllocError, Global};
-
-// What the records of a table came to.
-#[derive(Drop)]
-pub(crate) enum Gathered {
-    // One of them is faulty: this is the first fault.
-    Fault(TableFault),
-    // All are well formed, and these are their spans.
-    Spans(Vec<Span>),
-}
 
 // Gathers the spans of the rest of a table. `text` is the table's header with the records after it, without those that the
 // merge has already compared with spans; `count` is the number of these, including the header.
@@ -30,7 +22,7 @@ pub(crate) fn gather_after<S: SpanSource + Drop>(
     merge: MergeByNumber<S>,
     version: Version,
     count: u64,
-) -> Result<Gathered, AllocError>
+) -> Result<TableRead<Vec<Span>>, AllocError>
     requires begins { BeginsWith text.now (column_names version ∷ []) }
     requires few { count + length text.now < 2 ^ 64 + 1 }
     requires judged { (list : List Span) × (passed : List Fields)
@@ -49,8 +41,8 @@ pub(crate) fn gather_after<S: SpanSource + Drop>(
         spans: Vec::new(alloc),
     };
     match take_records(alloc, text, &version, &mut gathering)? {
-        Some(fault) => Ok(Gathered::Fault(fault)),
-        None => Ok(Gathered::Spans(gathering.spans)),
+        Some(fault) => Ok(TableRead::Fault(fault)),
+        None => Ok(TableRead::Table(gathering.spans)),
     }
 }
 

@@ -35,7 +35,7 @@ pub use differing::{Differing, compare_all, differ_lines, differ_records};
 pub use fault::{TableFault, WriteStop, told};
 pub use header::{TableVersion, header_of};
 pub use lines::pass_header;
-pub use outcome::{Compared, Outcome};
+pub use outcome::{Compared, Outcome, TableRead};
 pub use reading::{read_next, reader_of};
 pub use record::RecordFault;
 pub use remaining::Remaining;

@@ -5,23 +5,26 @@ ghost use Rattle.lnt_records.specs.Outcomes.{compared_of, part_of, whole_of};
 use crate::fault::TableFault;
 use lnt_spans::Found;
 
-/// What the comparison of a table with a section comes to.
+/// What reading a table comes to.
 #[derive(Drop)]
-pub enum Outcome<D> {
+pub enum TableRead<T> {
     /// The bytes are not a table: this is the first fault.
     Fault(TableFault),
-    /// The bytes are a table, and this is what its comparison with the section found.
-    Found(Found<D>),
+    /// The bytes are a table, and this is what it was read for.
+    Table(T),
 }
 
-impl<D: Drop> Outcome<D> {
+/// What the comparison of a table with a section comes to.
+pub type Outcome<D> = TableRead<Found<D>>;
+
+impl<D: Drop> TableRead<Found<D>> {
     /// The comparison at all positions.
     pub fn whole(self) -> Compared<D>
         ensures { result ≡ whole_of self }
     {
         match self {
-            Outcome::Fault(fault) => Compared::Fault(fault),
-            Outcome::Found(found) => Compared::of(found.first()),
+            TableRead::Fault(fault) => Compared::Fault(fault),
+            TableRead::Table(found) => Compared::of(found.first()),
         }
     }
 
@@ -30,8 +33,8 @@ impl<D: Drop> Outcome<D> {
         ensures { result ≡ part_of self }
     {
         match self {
-            Outcome::Fault(fault) => Compared::Fault(fault),
-            Outcome::Found(found) => Compared::of(found.mistake()),
+            TableRead::Fault(fault) => Compared::Fault(fault),
+            TableRead::Table(found) => Compared::of(found.mistake()),
         }
     }
 }

@@ -14,11 +14,10 @@ use Rattle.lnt_spans.specs.Spans.{span_answer}
 use Rattle.lnt_spans.proofs.PartialLemmas.{answered_and_missed}
 use Rattle.lnt_sequences.specs.Sequences.{line_answer}
 use Rattle.lnt_records.specs.declared.fault.TableFault.TheVariants as fault
-use Rattle.lnt_records.specs.declared.outcome.Outcome.{Outcome}
-use Rattle.lnt_records.specs.declared.outcome.Outcome.TheVariants.{Fault, Found}
+use Rattle.lnt_records.specs.Outcomes.{IsHeadedOutcome, IsOutcomeOf, Outcome, compared_of, part_of, whole_of}
+use Rattle.lnt_records.specs.declared.outcome.TableRead.TheVariants.{Fault, Table}
 use Rattle.lnt_records.specs.Comparisons.{TableKind, in_versions, tables_by_number}
 use Rattle.lnt_records.specs.Faults.{IsUnnumbered}
-use Rattle.lnt_records.specs.Outcomes.{IsHeadedOutcome, IsOutcomeOf, compared_of, part_of, whole_of}
 use Rattle.lnt_records.specs.Passing.{Passes}
 use Rattle.lnt_records.specs.Table.{column_names}
 use Rattle.lnt_records.specs.Written.{line_text}
@@ -117,7 +116,7 @@ header_found (Fault fault.Header) e = refl
 header_found (Fault (fault.Fields k)) e = cc
 header_found (Fault (fault.Number k i)) e = cc
 header_found (Fault (fault.Order k)) e = cc
-header_found (Found found) e = absurd (by_first _ e)
+header_found (Table found) e = absurd (by_first _ e)
   where
     by_first : (first : Option Difference) → verdict_of (compared_of first) ≡ No no.TableHeader → ⊥
     by_first None e = cc e
@@ -157,7 +156,7 @@ part_found : {V X Y D : Type 0} (kind : TableKind V X Y D) (section : V → Posi
     (all : ℕ) (checked : Option D → Checked) (IsSo : CheckedWithin → Type 0) → ((version : V) → all ≡ addresses_answered (section version))
     → ((coverage : Coverage) → IsRightOf kind section table coverage → IsSo (Covered coverage))
     → ((mistake : D) → IsMistakenOf kind section table mistake → IsSo (Told (checked (Some mistake))))
-    → IsOutcomeOf kind section table (Found found) → IsSo (covered_or (missed_of found) all (checked found.mistake))
+    → IsOutcomeOf kind section table (Table found) → IsSo (covered_or (missed_of found) all (checked found.mistake))
 part_found {V} {X} {Y} {D} kind section table found all checked IsSo addresses right mistaken h = by_mistake found.mistake refl
   where
     Mistakes : Option D → Type 0
@@ -189,7 +188,7 @@ within_told Answered line general options section table index (judged.Numbered (
     (record { units = i.units; good = i.good; told = h.0 }, λ e. cc e)
 within_told Answered line general options section table index (judged.Numbered (Fault (fault.Order k))) i h =
     (record { units = i.units; good = i.good; told = h.0 }, λ e. cc e)
-within_told Answered line general options section table index (judged.Numbered (Found found)) i h =
+within_told Answered line general options section table index (judged.Numbered (Table found)) i h =
     let answers = line_answer options.dead options.skip_copies i.units in
     part_found tables_by_number (told_rows options i.units) table found (addresses_answered answers)
     (λ mistake. Numbered (verdict_of (compared_of mistake))) (IsTrueWithin Answered line general options section table)
@@ -198,14 +197,14 @@ within_told Answered line general options section table index (judged.Numbered (
     (λ mistake first. record { units = i.units; good = i.good; told = first }) h.0
 within_told Answered line general options section table index (judged.ByPath (Fault told)) i h =
     (h.0, record { units = i.units; good = i.good; told = h.1 })
-within_told Answered line general options section table index (judged.ByPath (Found found)) i h =
+within_told Answered line general options section table index (judged.ByPath (Table found)) i h =
     let answers = line_answer options.dead options.skip_copies i.units in
     part_found tables_by_path (told_paths line general options i.units) table found (addresses_answered answers)
     (λ mistake. ByPath (compared_of mistake)) (IsTrueWithin Answered line general options section table)
     (λ version. told_addresses (path_answer version (path_at line general i.units)) answers)
     (λ coverage right. inr (h.0, record { units = i.units; good = i.good; told = right }))
     (λ mistake first. (h.0, record { units = i.units; good = i.good; told = first }))
-    (own_path line general options section table index (Found found) i h.1)
+    (own_path line general options section table index (Table found) i h.1)
 
 -- ---- the same for sources whose bytes are known
 

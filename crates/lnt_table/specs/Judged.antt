@@ -4,11 +4,10 @@ use Rattle.lnt_header.specs.declared.unit_parts.UnitParts.{UnitParts}
 use Rattle.lnt_spans.specs.Merged.{missed_of}
 use Rattle.lnt_sequences.specs.Sequences.{line_answer}
 use Rattle.lnt_records.specs.declared.fault.TableFault.TheVariants as fault
-use Rattle.lnt_records.specs.declared.outcome.Outcome.{Outcome}
-use Rattle.lnt_records.specs.declared.outcome.Outcome.TheVariants.{Fault, Found}
+use Rattle.lnt_records.specs.Outcomes.{IsOutcomeOf, Outcome, part_of, whole_of}
+use Rattle.lnt_records.specs.declared.outcome.TableRead.TheVariants.{Fault, Table}
 use Rattle.lnt_records.specs.Comparisons.{in_versions, tables_by_number}
 use Rattle.lnt_records.specs.Faults.{IsUnnumbered}
-use Rattle.lnt_records.specs.Outcomes.{IsOutcomeOf, part_of, whole_of}
 use Rattle.lnt_paths.specs.PathOutcomes.{tables_by_path}
 use Rattle.lnt_lines.specs.Indexed.{Indexed}
 use Rattle.lnt_table.specs.declared.by_path.Checked.{Checked}
@@ -45,7 +44,7 @@ part_checked (judged.ByPath outcome) = ByPath (part_of outcome)
 -- the number of addresses at which the section answers and the table doesn't, if the table is right wherever it answers
 abbrev pub missed_in_outcome : {D : Type 0} → Outcome D → Option ℕ
 missed_in_outcome (Fault told) = None
-missed_in_outcome (Found found) = missed_of found
+missed_in_outcome (Table found) = missed_of found
 
 abbrev pub missed_in : Judged → Option ℕ
 missed_in (judged.Numbered outcome) = missed_in_outcome outcome

@@ -4,7 +4,7 @@ use Rattle.lnt_header.specs.declared.unit_parts.UnitParts.{UnitParts}
 use Rattle.lnt_spans.specs.declared.listed.SpanList.{SpanList}
 use Rattle.lnt_spans.specs.declared.span.Span.{Span}
 use Rattle.lnt_sequences.specs.Sequences.{line_answer}
-use Rattle.lnt_records.specs.declared.differing.Differing.TheVariants.{Fault}
+use Rattle.lnt_records.specs.declared.outcome.TableRead.TheVariants.{Fault}
 use Rattle.lnt_records.specs.declared.fault.TableFault.TheVariants as fault
 use Rattle.lnt_records.specs.declared.remaining.Remaining.{Remaining}
 use Rattle.lnt_records.specs.Differing.{IsDiffering, IsStarted}

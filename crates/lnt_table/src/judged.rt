@@ -12,7 +12,7 @@ use lnt_io::{Source, Stop};
 use lnt_lines::Index;
 use lnt_paths::{DifferenceByPath, PathVersion, compare_by_path, compare_lines_by_path};
 use lnt_records::{
-    Outcome, TableStart, compare_lines, compare_records, header_of, pass_header, told,
+    Outcome, TableRead, TableStart, compare_lines, compare_records, header_of, pass_header, told,
 };
 use lnt_spans::{Difference, Version};
 use std::alloc::{AllocError, Global};
@@ -52,9 +52,9 @@ impl Judged {
         ensures { result ≡ missed_in self.now }
     {
         match self {
-            Judged::Numbered(Outcome::Found(found)) => found.missed(),
-            Judged::ByPath(Outcome::Found(found)) => found.missed(),
-            Judged::Numbered(Outcome::Fault(_)) | Judged::ByPath(Outcome::Fault(_)) => None,
+            Judged::Numbered(TableRead::Table(found)) => found.missed(),
+            Judged::ByPath(TableRead::Table(found)) => found.missed(),
+            Judged::Numbered(TableRead::Fault(_)) | Judged::ByPath(TableRead::Fault(_)) => None,
         }
     }
 }

@@ -3,10 +3,9 @@ use crate::samples::{PLAIN, TABLE, whole};
 use crate::tables::lines::{OPTIONS, STRINGS};
 use lnt_io::Counted;
 use lnt_lines::{JudgedIndex, index_section};
-use lnt_records::TableFault;
+use lnt_records::{TableFault, TableRead};
 use lnt_table::{
-    AnyDiffering, Checked, Compared, DifferenceByPath, HeldTable, Verdict, check_any,
-    differences_any,
+    AnyDiffering, Checked, Compared, DifferenceByPath, Verdict, check_any, differences_any,
 };
 use std::alloc::Global;
 
@@ -93,7 +92,7 @@ fn held_spans(alloc: Global, table: &[u8]) -> Option<usize> {
         return None;
     };
     match differences_any(alloc, &mut table, &index) {
-        Ok(AnyDiffering::ByPath(HeldTable::Table(_, spans))) => Some(spans.len()),
+        Ok(AnyDiffering::ByPath(TableRead::Table((_, spans)))) => Some(spans.len()),
         _ => None,
     }
 }

@@ -4,10 +4,9 @@ use crate::tables::lines::{OPTIONS, STRINGS, lines_of};
 use crate::tables::worked::{at, narrow};
 use lnt_io::Counted;
 use lnt_lines::{JudgedIndex, index_section};
+use lnt_records::TableRead;
 use lnt_spans::{Difference, Version};
-use lnt_table::{
-    Differing, No, Stop, TableNo, Verdict, WriteStop, check, differences, write_table,
-};
+use lnt_table::{No, Stop, TableNo, Verdict, WriteStop, check, differences, write_table};
 use std::alloc::Global;
 
 // What a check of two sources answers, of which each gives at most this many bytes.
@@ -67,7 +66,7 @@ fn first_difference(alloc: Global, table: &[u8]) -> Option<Difference> {
         return None;
     };
     match differences(alloc, &mut table, &index) {
-        Ok(Differing::Table(mut differences)) => differences.next_difference(),
+        Ok(TableRead::Table(mut differences)) => differences.next_difference(),
         _ => None,
     }
 }

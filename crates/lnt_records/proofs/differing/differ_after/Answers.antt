@@ -3,10 +3,10 @@ use Rattle.lnt_records.specs.Table.{IsTableOf}
 use Rattle.lnt_records.proofs.GatherLemmas.{version_order, version_told}
 use Rattle.lnt_records.proofs.differing.differ_after.Goals as goal
 
-pub returns-in-Spans : goal.returns-in-Spans
-returns-in-Spans g c bytes section table rest gathered goes_on coming =
-    let items = c.in-Spans.records.items in
-    let is_table : IsTableOf c.args.version bytes (table ++ items) = rw (c.in_ok-fault.was, c.in-Spans.is) at gathered in
+pub returns-in-Table : goal.returns-in-Table
+returns-in-Table g c bytes section table rest gathered goes_on coming =
+    let items = c.in-Table.records.items in
+    let is_table : IsTableOf c.args.version bytes (table ++ items) = rw (c.in_ok-fault.was, c.in-Table.is) at gathered in
     record {
       version = c.args.version;
       table = table ++ items;
