@@ -25,8 +25,8 @@ use lnt_paths::{DifferencesByPath, Paths};
 use lnt_records::{TableFault, TableRead};
 use lnt_spans::{SpanSource, count_all};
 use lnt_table::{
-    AnyDiffering, Checked, CheckedWithin, Coverage, IndexPaths, PathDifferenceLine, Scope, TableNo,
-    Verdict, differences_any, differences_by_path,
+    CheckedWithin, Coverage, IndexPaths, OfKind, PathDifferenceLine, Scope, TableNo, Verdict,
+    differences_any, differences_by_path,
 };
 use std::alloc::Global;
 use std::io::Write;
@@ -69,16 +69,16 @@ pub fn print_stretches<T: Source, W: Write>(
     ensures begun { OnErr result (BeginsStretches scope index.now (T.remaining table.old) (W.contents out.old) (W.contents out.new)) }
 {
     match differences_any(alloc, table, index) {
-        Ok(AnyDiffering::Numbered(TableRead::Table(differences))) => {
+        Ok(OfKind::Numbered(TableRead::Table(differences))) => {
             let missed = print_differences(alloc, differences, scope, out)?;
             let status = print_end(alloc, scope, missed, index, out)?;
             Ok(Stretches::Told(status))
         }
-        Ok(AnyDiffering::Numbered(TableRead::Fault(fault))) => {
+        Ok(OfKind::Numbered(TableRead::Fault(fault))) => {
             print_fault(alloc, fault, out)?;
             Ok(Stretches::Faulty(fault))
         }
-        Ok(AnyDiffering::ByPath(TableRead::Table((version, spans)))) => {
+        Ok(OfKind::ByPath(TableRead::Table((version, spans)))) => {
             let differences = differences_by_path(index, &spans, version);
             let paths = IndexPaths::of(index);
             let printed = print_path_differences(alloc, differences, &paths, scope, out);
@@ -87,7 +87,7 @@ pub fn print_stretches<T: Source, W: Write>(
             let status = print_end(alloc, scope, missed, index, out)?;
             Ok(Stretches::ToldByPath(status))
         }
-        Ok(AnyDiffering::ByPath(TableRead::Fault(fault))) => {
+        Ok(OfKind::ByPath(TableRead::Fault(fault))) => {
             print_fault(alloc, fault, out)?;
             Ok(Stretches::FaultyByPath(fault))
         }
@@ -136,7 +136,7 @@ fn answer_if_none(scope: Scope, missed: u128, index: &Index<'_>) -> CheckedWithi
         → result ≡ answer_of scope (addresses_answered (line_answer dead skip units)) missed }
 {
     match scope {
-        Scope::All => CheckedWithin::Checked(Checked::Numbered(Verdict::Yes)),
+        Scope::All => CheckedWithin::Checked(OfKind::Numbered(Verdict::Yes)),
         Scope::Answered => {
             let all = count_all(index.spans());
             CheckedWithin::Covered(Coverage {

@@ -9,7 +9,7 @@ use lnt_io::{Opener, Status};
 use lnt_lines::No;
 use lnt_notes::{Columns, Given, Hints, Seen, tell_agreed, tell_bad, tell_good, tell_table};
 use lnt_records::{Compared, TableFault};
-use lnt_table::{Checked, CheckedWithin, TableNo, Verdict};
+use lnt_table::{Checked, CheckedWithin, OfKind, TableNo, Verdict};
 use lnt_words::Judging;
 use std::io::Write;
 
@@ -62,21 +62,21 @@ impl<'t> Answered<'t> {
         ensures { result.status ≡ checked_status (CheckedWithin.Checked checked.now) }
     {
         match checked {
-            Checked::Numbered(Verdict::Yes) | Checked::ByPath(Compared::Same) => Answered {
+            OfKind::Numbered(Verdict::Yes) | OfKind::ByPath(Compared::Same) => Answered {
                 status: Status::Done,
                 occasion: Occasion::Compared(table),
             },
-            Checked::Numbered(Verdict::No(TableNo::Section(no))) => {
+            OfKind::Numbered(Verdict::No(TableNo::Section(no))) => {
                 Answered::no(Occasion::Bad(*no))
             }
-            Checked::Numbered(Verdict::No(no)) => Answered::no(match no.fault() {
+            OfKind::Numbered(Verdict::No(no)) => Answered::no(match no.fault() {
                 Some(fault) => Occasion::Faulty(table, fault, Columns::Numbered),
                 None => Occasion::Compared(table),
             }),
-            Checked::ByPath(Compared::Fault(fault)) => {
+            OfKind::ByPath(Compared::Fault(fault)) => {
                 Answered::no(Occasion::Faulty(table, *fault, Columns::ByPath))
             }
-            Checked::ByPath(Compared::Differs(_)) => Answered::no(Occasion::Compared(table)),
+            OfKind::ByPath(Compared::Differs(_)) => Answered::no(Occasion::Compared(table)),
         }
     }
 

@@ -7,15 +7,15 @@ use crate::flat::{FlatAnswer, NOTHING};
 use crate::verdict::{FlatVerdict, YES, at, verdict_of_table};
 use lnt_paths::{AnswerByPath, DifferenceByPath};
 use lnt_records::Compared;
-use lnt_table::{Checked, CheckedWithin, Coverage, TableNo, Verdict};
+use lnt_table::{CheckedWithin, Coverage, OfKind, TableNo, Verdict};
 
 // What a check finds, but for the paths.
 pub(crate) fn verdict_of_check(found: &CheckedWithin) -> FlatVerdict
     ensures { result ≡ verdict_of_check found.now }
 {
     match found {
-        CheckedWithin::Checked(Checked::Numbered(verdict)) => verdict_of_table(*verdict),
-        CheckedWithin::Checked(Checked::ByPath(compared)) => of_compared(compared),
+        CheckedWithin::Checked(OfKind::Numbered(verdict)) => verdict_of_table(*verdict),
+        CheckedWithin::Checked(OfKind::ByPath(compared)) => of_compared(compared),
         CheckedWithin::Covered(coverage) => of_coverage(coverage),
     }
 }
@@ -114,7 +114,7 @@ pub(crate) fn table_path(found: &CheckedWithin) -> &[u8]
     ensures { result.now ≡ table_path found.now }
 {
     match found {
-        CheckedWithin::Checked(Checked::ByPath(Compared::Differs(difference))) => {
+        CheckedWithin::Checked(OfKind::ByPath(Compared::Differs(difference))) => {
             path_in(&difference.by_table)
         }
         _ => &[],
@@ -126,7 +126,7 @@ pub(crate) fn section_path(found: &CheckedWithin) -> &[u8]
     ensures { result.now ≡ section_path found.now }
 {
     match found {
-        CheckedWithin::Checked(Checked::ByPath(Compared::Differs(difference))) => {
+        CheckedWithin::Checked(OfKind::ByPath(Compared::Differs(difference))) => {
             path_in(&difference.by_section)
         }
         _ => &[],

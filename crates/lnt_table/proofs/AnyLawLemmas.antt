@@ -22,8 +22,8 @@ use Rattle.lnt_paths.specs.Written.{IsCanonicalPathTable}
 use Rattle.lnt_lines.specs.declared.options.Options.{Options}
 use Rattle.lnt_lines.specs.Good.{IsGood}
 use Rattle.lnt_lines.specs.Laws.{GoodHasNoFlaw}
-use Rattle.lnt_table.specs.declared.by_path.Checked.{Checked}
-use Rattle.lnt_table.specs.declared.by_path.Checked.TheVariants.{Numbered, ByPath}
+use Rattle.lnt_table.specs.Verdicts.{Checked}
+use Rattle.lnt_table.specs.declared.kinds.OfKind.TheVariants.{Numbered, ByPath}
 use Rattle.lnt_table.specs.declared.verdict.Verdict.{Verdict}
 use Rattle.lnt_table.specs.AnyVersion.{IsTrueCheck}
 use Rattle.lnt_table.specs.ByPath.{answer_by_path}
@@ -89,7 +89,7 @@ own line general options section table units version good w = (
   },
 )
 
-none_numbered : (verdict : Verdict) → ByPath Same ≡ Numbered verdict → ⊥
+none_numbered : (verdict : Verdict) → ◌≡◌ {A = Checked} (ByPath Same) (Numbered verdict) → ⊥
 none_numbered verdict e = cc
 
 pub own_table_by_path : OneNumbered → OwnTableByPath

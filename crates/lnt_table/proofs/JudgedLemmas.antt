@@ -34,10 +34,10 @@ use Rattle.lnt_lines.specs.declared.no.No.{No as SectionNo}
 use Rattle.lnt_lines.specs.declared.options.Options.{Options}
 use Rattle.lnt_lines.specs.Drafts.{IsIndexOfSection}
 use Rattle.lnt_lines.specs.Indexed.{Indexed, IsIndexOf}
-use Rattle.lnt_table.specs.declared.by_path.Checked.{Checked}
-use Rattle.lnt_table.specs.declared.by_path.Checked.TheVariants.{Numbered, ByPath}
-use Rattle.lnt_table.specs.declared.judged.Judged.{Judged}
-use Rattle.lnt_table.specs.declared.judged.Judged.TheVariants as judged
+use Rattle.lnt_table.specs.Verdicts.{Checked}
+use Rattle.lnt_table.specs.declared.kinds.OfKind.TheVariants.{Numbered, ByPath}
+use Rattle.lnt_table.specs.Judged.{Judged}
+use Rattle.lnt_table.specs.declared.kinds.OfKind.TheVariants as judged
 use Rattle.lnt_table.specs.declared.verdict.TableNo.TheVariants as no
 use Rattle.lnt_table.specs.declared.verdict.Verdict.TheVariants.{No}
 use Rattle.lnt_table.specs.declared.within.CheckedWithin.{CheckedWithin}

@@ -4,8 +4,8 @@ use Rattle.lnt_table.specs.declared.verdict.TableNo.{TableNo}
 use Rattle.lnt_table.specs.declared.verdict.TableNo.TheVariants as no
 use Rattle.lnt_table.specs.declared.verdict.Verdict.{Verdict}
 use Rattle.lnt_table.specs.declared.verdict.Verdict.TheVariants.{Yes, No}
-use Rattle.lnt_table.specs.declared.by_path.Checked.{Checked}
-use Rattle.lnt_table.specs.declared.by_path.Checked.TheVariants.{Numbered, ByPath}
+use Rattle.lnt_table.specs.Verdicts.{Checked}
+use Rattle.lnt_table.specs.declared.kinds.OfKind.TheVariants.{Numbered, ByPath}
 use Rattle.lnt_table.specs.declared.within.CheckedWithin.{CheckedWithin}
 use Rattle.lnt_table.specs.declared.within.CheckedWithin.TheVariants.{Checked as Told, Covered}
 use Rattle.lnt_table.specs.PathTexts.{path_stretch_text}

@@ -1,6 +1,7 @@
 -- What the bodies of this crate say of a comparison of a table of any version with a good section. No public contract speaks of it.
 use Rattle.std.specs.Prelude.{◌≢◌, ℕ, ◌-◌, Bool, List, None, Option, Some}
 use Rattle.lnt_header.specs.declared.unit_parts.UnitParts.{UnitParts}
+use Rattle.lnt_spans.specs.declared.difference.Difference.{Difference}
 use Rattle.lnt_spans.specs.Merged.{missed_of}
 use Rattle.lnt_sequences.specs.Sequences.{line_answer}
 use Rattle.lnt_records.specs.declared.fault.TableFault.TheVariants as fault
@@ -8,18 +9,23 @@ use Rattle.lnt_records.specs.Outcomes.{IsOutcomeOf, Outcome, part_of, whole_of}
 use Rattle.lnt_records.specs.declared.outcome.TableRead.TheVariants.{Fault, Table}
 use Rattle.lnt_records.specs.Comparisons.{in_versions, tables_by_number}
 use Rattle.lnt_records.specs.Faults.{IsUnnumbered}
+use Rattle.lnt_paths.specs.declared.answer.DifferenceByPath.{DifferenceByPath}
 use Rattle.lnt_paths.specs.PathOutcomes.{tables_by_path}
 use Rattle.lnt_lines.specs.Indexed.{Indexed}
-use Rattle.lnt_table.specs.declared.by_path.Checked.{Checked}
-use Rattle.lnt_table.specs.declared.by_path.Checked.TheVariants.{Numbered, ByPath}
-use Rattle.lnt_table.specs.declared.judged.Judged.{Judged}
-use Rattle.lnt_table.specs.declared.judged.Judged.TheVariants as judged
+use Rattle.lnt_table.specs.Verdicts.{Checked}
+use Rattle.lnt_table.specs.declared.kinds.OfKind.TheVariants.{Numbered, ByPath}
+use Rattle.lnt_table.specs.declared.kinds.OfKind.{OfKind}
+use Rattle.lnt_table.specs.declared.kinds.OfKind.TheVariants as judged
 use Rattle.lnt_table.specs.declared.within.CheckedWithin.{CheckedWithin}
 use Rattle.lnt_table.specs.declared.within.CheckedWithin.TheVariants.{Checked as Told, Covered}
 use Rattle.lnt_table.specs.declared.within.Scope.{Scope}
 use Rattle.lnt_table.specs.declared.within.Scope.TheVariants.{All, Answered}
 use Rattle.lnt_table.specs.ByPath.{told_path}
 use Rattle.lnt_table.specs.Verdicts.{verdict_of}
+
+-- what the comparison of a table of either kind comes to
+abbrev pub Judged : Type 0
+Judged = OfKind (Outcome Difference) (Outcome DifferenceByPath)
 
 -- The outcome is true of the table and of the answers of the units' rows: by number, and the header isn't at fault; or by path, and the
 -- table begins with the header of neither version 1 nor 2.

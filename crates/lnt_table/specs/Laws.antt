@@ -13,8 +13,8 @@ use Rattle.lnt_paths.specs.declared.version.PathVersion.{PathVersion}
 use Rattle.lnt_paths.specs.PathAnswers.{PathAnswer}
 use Rattle.lnt_paths.specs.PathStretches.{stretch_of}
 use Rattle.lnt_paths.specs.Written.{IsCanonicalPathTable}
-use Rattle.lnt_table.specs.declared.by_path.Checked.{Checked}
-use Rattle.lnt_table.specs.declared.by_path.Checked.TheVariants.{Numbered, ByPath}
+use Rattle.lnt_table.specs.Verdicts.{Checked}
+use Rattle.lnt_table.specs.declared.kinds.OfKind.TheVariants.{Numbered, ByPath}
 use Rattle.lnt_table.specs.AnyVersion.{IsTrueCheck}
 use Rattle.lnt_table.specs.ByPath.{answer_by_path}
 use Rattle.lnt_table.specs.declared.verdict.Verdict.{Verdict}

@@ -7,11 +7,15 @@ use Rattle.lnt_sequences.specs.Sequences.{line_answer}
 use Rattle.lnt_records.specs.declared.outcome.TableRead.TheVariants.{Fault}
 use Rattle.lnt_records.specs.declared.fault.TableFault.TheVariants as fault
 use Rattle.lnt_records.specs.declared.remaining.Remaining.{Remaining}
-use Rattle.lnt_records.specs.Differing.{IsDiffering, IsStarted}
+use Rattle.lnt_records.specs.Differing.{Differing, IsDiffering, IsStarted}
 use Rattle.lnt_records.specs.Faults.{IsUnnumbered}
-use Rattle.lnt_paths.specs.Held.{HoldsInOrder, IsHeld}
-use Rattle.lnt_table.specs.declared.stretches.AnyDiffering.{AnyDiffering}
-use Rattle.lnt_table.specs.declared.stretches.AnyDiffering.TheVariants.{ByPath, Numbered}
+use Rattle.lnt_paths.specs.Held.{HeldTable, HoldsInOrder, IsHeld}
+use Rattle.lnt_table.specs.declared.kinds.OfKind.{OfKind}
+use Rattle.lnt_table.specs.declared.kinds.OfKind.TheVariants.{ByPath, Numbered}
+
+-- what gives the stretches of a table by number, or a table by path that is held
+abbrev pub AnyDiffering : Type 0 → Type 0
+AnyDiffering S = OfKind (Differing S) HeldTable
 
 -- For bytes with the header of version 1 or 2: the stretches at which the answers of the table and of the units' rows differ, or the first
 -- fault, which isn't the header's. Otherwise the bytes begin with neither header, and `held` is the table by path that they are, or their

@@ -4,6 +4,8 @@ use Rattle.lnt_records.specs.declared.fault.TableFault.{TableFault}
 use Rattle.lnt_records.specs.declared.fault.TableFault.TheVariants as fault
 use Rattle.lnt_records.specs.declared.outcome.Compared.{Compared}
 use Rattle.lnt_records.specs.declared.outcome.Compared.TheVariants.{Same, Fault, Differs}
+use Rattle.lnt_paths.specs.declared.answer.DifferenceByPath.{DifferenceByPath}
+use Rattle.lnt_table.specs.declared.kinds.OfKind.{OfKind}
 use Rattle.lnt_table.specs.declared.verdict.TableNo.{TableNo}
 use Rattle.lnt_table.specs.declared.verdict.TableNo.TheVariants as no
 use Rattle.lnt_table.specs.declared.verdict.Verdict.{Verdict}
@@ -21,3 +23,7 @@ abbrev pub verdict_of : Compared Difference → Verdict
 verdict_of Same = Yes
 verdict_of (Fault told) = No (no_of_fault told)
 verdict_of (Differs difference) = No (no.Differs difference.position difference.by_table difference.by_section)
+
+-- the answer of a check: a verdict, or what the comparison with a table by path found
+abbrev pub Checked : Type 0
+Checked = OfKind Verdict (Compared DifferenceByPath)

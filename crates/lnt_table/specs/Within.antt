@@ -9,8 +9,8 @@ use Rattle.lnt_records.specs.Comparisons.{IsTableWhere, TableKind, tables_by_num
 use Rattle.lnt_records.specs.Faults.{IsUnnumbered}
 use Rattle.lnt_paths.specs.PathOutcomes.{tables_by_path}
 use Rattle.lnt_lines.specs.declared.options.Options.{Options}
-use Rattle.lnt_table.specs.declared.by_path.Checked.{Checked}
-use Rattle.lnt_table.specs.declared.by_path.Checked.TheVariants.{Numbered, ByPath}
+use Rattle.lnt_table.specs.Verdicts.{Checked}
+use Rattle.lnt_table.specs.declared.kinds.OfKind.TheVariants.{Numbered, ByPath}
 use Rattle.lnt_table.specs.declared.verdict.TableNo.TheVariants as no
 use Rattle.lnt_table.specs.declared.verdict.Verdict.TheVariants.{Yes, No}
 use Rattle.lnt_table.specs.declared.within.CheckedWithin.{CheckedWithin}

@@ -7,6 +7,7 @@ ghost use Rattle.lnt_table.specs.FaultTexts.{checked_text};
 ghost use Rattle.lnt_table.specs.Headline.{IsFoundTooLong};
 
 use crate::judged::judge_index;
+use crate::kinds::OfKind;
 use crate::path_lines::PathDifferenceLine;
 use crate::verdict::{TableNo, Verdict};
 use lnt_io::{Source, Stop};
@@ -18,25 +19,22 @@ use std::alloc::Global;
 use std::fmt;
 
 /// The answer of `check_any`.
-#[derive(Drop)]
-pub enum Checked {
-    /// The section isn't good, or the table begins with the header of version 1 or 2. This is the verdict, as `check` gives it.
-    Numbered(Verdict),
-    /// The section is good, and the table begins with the header of neither version 1 nor 2. This is the outcome of its
-    /// comparison with the section in versions 3 and 4: `Fault` of the header if it begins with neither of theirs.
-    ByPath(Compared<DifferenceByPath>),
-}
+///
+/// `Numbered`: the section isn't good, or the table begins with the header of version 1 or 2. This is the verdict, as `check` gives
+/// it. `ByPath`: the section is good, and the table begins with the header of neither version 1 nor 2. This is the outcome of its
+/// comparison with the section in versions 3 and 4: `Fault` of the header if it begins with neither of theirs.
+pub type Checked = OfKind<Verdict, Compared<DifferenceByPath>>;
 
 /// The line that reports it, without its line feed.
-impl fmt::Display for Checked {
+impl fmt::Display for OfKind<Verdict, Compared<DifferenceByPath>> {
     ghost output = { λ checked. Some (checked_text checked) };
 
     fn fmt<W: fmt::Write>(&self, f: &mut fmt::Formatter<W>) -> fmt::Result {
         match self {
-            Checked::Numbered(verdict) => verdict.fmt(f),
-            Checked::ByPath(Compared::Same) => f.write_str("yes"),
-            Checked::ByPath(Compared::Fault(fault)) => TableNo::from(*fault).fmt(f),
-            Checked::ByPath(Compared::Differs(difference)) => PathDifferenceLine(difference).fmt(f),
+            OfKind::Numbered(verdict) => verdict.fmt(f),
+            OfKind::ByPath(Compared::Same) => f.write_str("yes"),
+            OfKind::ByPath(Compared::Fault(fault)) => TableNo::from(*fault).fmt(f),
+            OfKind::ByPath(Compared::Differs(difference)) => PathDifferenceLine(difference).fmt(f),
         }
     }
 }
@@ -64,7 +62,7 @@ pub fn check_any<R: Source, T: Source>(
     // What it says of the section is true whatever the table is, and if the section isn't good, the table isn't read.
     ensures of_section { IfOk result (λ checked. IfSome (R.remaining section.old) (λ bytes.
         IsTrueCheckOfSection strings.now.line.now strings.now.general.now options.now bytes checked)) }
-    ensures unread { (no : SectionNo) → result ≡ Ok (Checked.Numbered (Verdict.No (TableNo.Section no))) → table.new ≡ table.old }
+    ensures unread { (no : SectionNo) → result ≡ Ok (OfKind.Numbered (Verdict.No (TableNo.Section no))) → table.new ≡ table.old }
     ensures read { IsErrOf result Stop.Read → R.failures section.new + T.failures table.new ≡ R.failures section.old + T.failures table.old
         + 1 }
     ensures section_fine { result ≢ Err Stop.Read → R.failures section.new ≡ R.failures section.old }
@@ -74,7 +72,7 @@ pub fn check_any<R: Source, T: Source>(
 {
     let index = match index_section(alloc, section, strings, options)? {
         JudgedIndex::Good(index) => index,
-        JudgedIndex::Bad(no) => return Ok(Checked::Numbered(Verdict::No(TableNo::Section(no)))),
+        JudgedIndex::Bad(no) => return Ok(OfKind::Numbered(Verdict::No(TableNo::Section(no)))),
     };
     let judged = judge_index(alloc, table, &index)?;
     Ok(judged.whole())

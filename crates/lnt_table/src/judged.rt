@@ -6,6 +6,7 @@ ghost use Rattle.lnt_table.specs.Headline.{IsFoundTooLong};
 ghost use Rattle.lnt_table.specs.Judged.{IsJudgedWith, missed_in, part_checked, whole_checked};
 
 use crate::by_path::Checked;
+use crate::kinds::OfKind;
 use crate::paths::IndexPaths;
 use crate::verdict::verdict_of;
 use lnt_io::{Source, Stop};
@@ -18,22 +19,16 @@ use lnt_spans::{Difference, Version};
 use std::alloc::{AllocError, Global};
 
 // What the comparison of a table of any version with a good section comes to.
-#[derive(Drop)]
-pub(crate) enum Judged {
-    // The table begins with the header of version 1 or 2.
-    Numbered(Outcome<Difference>),
-    // It begins with the header of neither.
-    ByPath(Outcome<DifferenceByPath>),
-}
+pub(crate) type Judged = OfKind<Outcome<Difference>, Outcome<DifferenceByPath>>;
 
-impl Judged {
+impl OfKind<Outcome<Difference>, Outcome<DifferenceByPath>> {
     // The answer at all positions.
     pub(crate) fn whole(self) -> Checked
         ensures { result ≡ whole_checked self }
     {
         match self {
-            Judged::Numbered(outcome) => Checked::Numbered(verdict_of(outcome.whole())),
-            Judged::ByPath(outcome) => Checked::ByPath(outcome.whole()),
+            OfKind::Numbered(outcome) => OfKind::Numbered(verdict_of(outcome.whole())),
+            OfKind::ByPath(outcome) => OfKind::ByPath(outcome.whole()),
         }
     }
 
@@ -42,8 +37,8 @@ impl Judged {
         ensures { result ≡ part_checked self }
     {
         match self {
-            Judged::Numbered(outcome) => Checked::Numbered(verdict_of(outcome.part())),
-            Judged::ByPath(outcome) => Checked::ByPath(outcome.part()),
+            OfKind::Numbered(outcome) => OfKind::Numbered(verdict_of(outcome.part())),
+            OfKind::ByPath(outcome) => OfKind::ByPath(outcome.part()),
         }
     }
 
@@ -52,9 +47,9 @@ impl Judged {
         ensures { result ≡ missed_in self.now }
     {
         match self {
-            Judged::Numbered(TableRead::Table(found)) => found.missed(),
-            Judged::ByPath(TableRead::Table(found)) => found.missed(),
-            Judged::Numbered(TableRead::Fault(_)) | Judged::ByPath(TableRead::Fault(_)) => None,
+            OfKind::Numbered(TableRead::Table(found)) => found.missed(),
+            OfKind::ByPath(TableRead::Table(found)) => found.missed(),
+            OfKind::Numbered(TableRead::Fault(_)) | OfKind::ByPath(TableRead::Fault(_)) => None,
         }
     }
 }
@@ -76,13 +71,13 @@ pub(crate) fn judge_index<T: Source>(
     // For the proofs: a table has no more bytes than its source may give, so their number fits.
     let _may_give = table.left();
     let (mut window, spans) = match compare_lines(alloc, table, index.spans())? {
-        TableStart::Compared(outcome) => return Ok(Judged::Numbered(outcome)),
+        TableStart::Compared(outcome) => return Ok(OfKind::Numbered(outcome)),
         TableStart::Other(window, spans) => (window, spans),
     };
     if let Some(version) = pass_header(&mut window, PathVersion::Three, PathVersion::Four) {
         let paths = IndexPaths { index };
         let outcome = compare_lines_by_path(alloc, table, window, version, spans, &paths)?;
-        return Ok(Judged::ByPath(outcome));
+        return Ok(OfKind::ByPath(outcome));
     }
     let text = window.rest_after(alloc, &[], table)?;
     told(judge_text(alloc, &text, index))
@@ -96,11 +91,11 @@ fn judge_text(alloc: Global, text: &[u8], index: &Index<'_>) -> Result<Judged, A
     match header_of::<Version>(alloc, text)? {
         Some(_) => {
             let outcome = compare_records(alloc, text, index.spans())?;
-            Ok(Judged::Numbered(outcome))
+            Ok(OfKind::Numbered(outcome))
         }
         None => {
             let outcome = compare_by_path(alloc, text, index.spans(), &IndexPaths { index })?;
-            Ok(Judged::ByPath(outcome))
+            Ok(OfKind::ByPath(outcome))
         }
     }
 }

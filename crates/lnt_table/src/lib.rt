@@ -11,6 +11,7 @@
 mod by_path;
 mod checking;
 mod judged;
+mod kinds;
 pub mod laws;
 mod path_lines;
 mod paths;
@@ -22,6 +23,7 @@ mod write;
 // Checking.
 pub use by_path::{Checked, check_any};
 pub use checking::check;
+pub use kinds::OfKind;
 pub use lnt_lines::{No, Options, Stop};
 pub use lnt_paths::{AnswerByPath, DifferenceByPath};
 pub use lnt_records::{Compared, TableFault};

@@ -14,6 +14,7 @@ ghost use Rattle.lnt_table.specs.Headline.{IsFoundTooLong};
 ghost use Rattle.lnt_table.specs.Stretches.{IsAnyDiffering, IsStartedAny};
 ghost use Rattle.lnt_header.specs.declared.unit_parts.UnitParts.{UnitParts};
 
+use crate::kinds::OfKind;
 use lnt_io::{Source, Stop};
 use lnt_lines::{Index, Spans};
 use lnt_paths::{DifferencesByPath, HeldSpan, HeldTable, PathVersion, hold_table};
@@ -53,15 +54,11 @@ pub fn differences<'i, T: Source>(
 }
 
 /// The answer of `differences_any`.
-#[derive(Drop)]
-pub enum AnyDiffering<S> {
-    /// The table begins with the header of version 1 or 2. This has its stretches, one after another, or the first fault of
-    /// its records.
-    Numbered(Differing<S>),
-    /// The table begins with neither of these headers. This has the spans of the table by path, which `differences_by_path`
-    /// compares, or its first fault: `Fault` of the header if it begins with that of neither version 3 nor 4.
-    ByPath(HeldTable),
-}
+///
+/// `Numbered` has the stretches, one after another, or the first fault of the table's records. `ByPath` has the spans of the table by
+/// path, which `differences_by_path` compares, or its first fault: `Fault` of the header if it begins with that of neither version 3
+/// nor 4.
+pub type AnyDiffering<S> = OfKind<Differing<S>, HeldTable>;
 
 /// Compares the address table of any version from a source with the units that an index was made of, at every position.
 ///
@@ -85,7 +82,7 @@ pub fn differences_any<'i, T: Source>(
     ensures too_long { IsErrOf result Stop.TooLong → IsFoundTooLong (T.too_long table.new) (T.remaining table.old) (T.left table.old) }
 {
     let window = match differ_lines(alloc, table, index.spans())? {
-        TableStart::Compared(differing) => return Ok(AnyDiffering::Numbered(differing)),
+        TableStart::Compared(differing) => return Ok(OfKind::Numbered(differing)),
         TableStart::Other(window, _) => window,
     };
     let text = window.rest_after(alloc, &[], table)?;
@@ -107,11 +104,11 @@ fn differ_text<'i>(
     match header_of::<Version>(alloc, text)? {
         Some(_) => {
             let differing = differ_records(alloc, text, index.spans())?;
-            Ok(AnyDiffering::Numbered(differing))
+            Ok(OfKind::Numbered(differing))
         }
         None => {
             let held = hold_table(alloc, text)?;
-            Ok(AnyDiffering::ByPath(held))
+            Ok(OfKind::ByPath(held))
         }
     }
 }

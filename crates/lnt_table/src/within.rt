@@ -13,6 +13,7 @@ ghost use Rattle.lnt_table.specs.Within.{IsOfScope, IsTrueOfSectionWithin, IsTru
 
 use crate::by_path::Checked;
 use crate::judged::{Judged, judge_index};
+use crate::kinds::OfKind;
 use crate::verdict::{TableNo, Verdict};
 use lnt_io::{Source, Stop};
 use lnt_lines::{Index, JudgedIndex, Options, index_section};
@@ -103,7 +104,7 @@ pub fn check_within<R: Source, T: Source>(
     ensures of_section { IfOk result (λ checked. IfSome (R.remaining section.old) (λ bytes.
         IsTrueOfSectionWithin strings.now.line.now strings.now.general.now options.now bytes checked)) }
     ensures of_scope { IfOk result (λ checked. IsOfScope checked scope) }
-    ensures unread { (no : SectionNo) → result ≡ Ok (CheckedWithin.Checked (Checked.Numbered (Verdict.No (TableNo.Section no))))
+    ensures unread { (no : SectionNo) → result ≡ Ok (CheckedWithin.Checked (OfKind.Numbered (Verdict.No (TableNo.Section no))))
         → table.new ≡ table.old }
     ensures read { IsErrOf result Stop.Read → R.failures section.new + T.failures table.new ≡ R.failures section.old + T.failures table.old
         + 1 }
@@ -116,7 +117,7 @@ pub fn check_within<R: Source, T: Source>(
         JudgedIndex::Good(index) => index,
         JudgedIndex::Bad(no) => {
             let verdict = Verdict::No(TableNo::Section(no));
-            return Ok(CheckedWithin::Checked(Checked::Numbered(verdict)));
+            return Ok(CheckedWithin::Checked(OfKind::Numbered(verdict)));
         }
     };
     let judged = judge_index(alloc, table, &index)?;

@@ -4,9 +4,7 @@ use crate::tables::lines::{OPTIONS, STRINGS};
 use lnt_io::Counted;
 use lnt_lines::{JudgedIndex, index_section};
 use lnt_records::{TableFault, TableRead};
-use lnt_table::{
-    AnyDiffering, Checked, Compared, DifferenceByPath, Verdict, check_any, differences_any,
-};
+use lnt_table::{Checked, Compared, DifferenceByPath, OfKind, Verdict, check_any, differences_any};
 use std::alloc::Global;
 
 const COLUMNS: &[u8] = b"low,high,path,line,column
@@ -44,7 +42,7 @@ fn compared(alloc: Global, table: &[u8]) -> Option<Compared<DifferenceByPath>> {
     let mut section = Counted::new(whole(&PLAIN), 1000);
     let mut table = Counted::new(whole(table), 1000);
     match check_any(alloc, &mut section, &STRINGS, &mut table, &OPTIONS) {
-        Ok(Checked::ByPath(compared)) => Some(compared),
+        Ok(OfKind::ByPath(compared)) => Some(compared),
         _ => None,
     }
 }
@@ -92,7 +90,7 @@ fn held_spans(alloc: Global, table: &[u8]) -> Option<usize> {
         return None;
     };
     match differences_any(alloc, &mut table, &index) {
-        Ok(AnyDiffering::ByPath(TableRead::Table((_, spans)))) => Some(spans.len()),
+        Ok(OfKind::ByPath(TableRead::Table((_, spans)))) => Some(spans.len()),
         _ => None,
     }
 }
@@ -112,5 +110,5 @@ fn tables_by_number_checked(rt: HostRuntime) {
     let mut section = Counted::new(whole(&PLAIN), 1000);
     let mut table = Counted::new(whole(TABLE), 1000);
     let checked = check_any(alloc, &mut section, &STRINGS, &mut table, &OPTIONS);
-    assert!(rt; matches!(checked, Ok(Checked::Numbered(Verdict::Yes))));
+    assert!(rt; matches!(checked, Ok(OfKind::Numbered(Verdict::Yes))));
 }

@@ -2,9 +2,7 @@
 use crate::samples::{PLAIN, TABLE, whole};
 use crate::tables::lines::{OPTIONS, STRINGS};
 use lnt_io::Counted;
-use lnt_table::{
-    Checked, CheckedWithin, Compared, Coverage, Scope, TableNo, Verdict, check_within,
-};
+use lnt_table::{CheckedWithin, Compared, Coverage, OfKind, Scope, TableNo, Verdict, check_within};
 use std::alloc::Global;
 
 const NUMBERED: &[u8] = b"low,low_op,high,high_op,unit,file,line,column,is_stmt
@@ -52,7 +50,7 @@ fn is_mistaken_at(alloc: Global, table: &[u8], address: u64) -> bool {
     match checked(alloc, table, Scope::Answered) {
         Some(
             CheckedWithin::Checked(
-                Checked::Numbered(
+                OfKind::Numbered(
                     Verdict::No(
                         TableNo::Differs {
                             position,
@@ -63,7 +61,7 @@ fn is_mistaken_at(alloc: Global, table: &[u8], address: u64) -> bool {
                 ),
             ),
         ) => position.address == address && by_table.is_some(),
-        Some(CheckedWithin::Checked(Checked::ByPath(Compared::Differs(mistake)))) => {
+        Some(CheckedWithin::Checked(OfKind::ByPath(Compared::Differs(mistake)))) => {
             mistake.position.address == address && mistake.by_table.is_some()
         }
         _ => false,
@@ -93,25 +91,25 @@ fn tables_checked_at_all_positions(rt: HostRuntime) {
     assert!(rt;
         matches!(
             checked(alloc, TABLE, Scope::All),
-            Some(CheckedWithin::Checked(Checked::Numbered(Verdict::Yes)))
+            Some(CheckedWithin::Checked(OfKind::Numbered(Verdict::Yes)))
         )
     );
     assert!(rt;
         matches!(
             checked(alloc, LATE, Scope::All),
-            Some(CheckedWithin::Checked(Checked::Numbered(Verdict::No(TableNo::Differs { .. }))))
+            Some(CheckedWithin::Checked(OfKind::Numbered(Verdict::No(TableNo::Differs { .. }))))
         )
     );
     assert!(rt;
         matches!(
             checked(alloc, PATHS, Scope::All),
-            Some(CheckedWithin::Checked(Checked::ByPath(Compared::Differs(_))))
+            Some(CheckedWithin::Checked(OfKind::ByPath(Compared::Differs(_))))
         )
     );
     assert!(rt;
         matches!(
             checked(alloc, b"low\n", Scope::Answered),
-            Some(CheckedWithin::Checked(Checked::ByPath(Compared::Fault(_))))
+            Some(CheckedWithin::Checked(OfKind::ByPath(Compared::Fault(_))))
         )
     );
 }
