@@ -92,6 +92,13 @@ fn placed(number: u32, detail: u32, offset: u64, index: u64, value: u64) -> Flat
     }
 }
 
+// What is wrong with a record of a table.
+fn of_record(number: u32, entry: u64, column: u64) -> FlatVerdict
+    ensures { result ≡ record (numbered number 0) { index = entry; value = column } }
+{
+    placed(number, 0, 0, entry, column)
+}
+
 // Why nothing was judged.
 pub(crate) fn verdict_of_stop(stop: Stop) -> FlatVerdict
     ensures { result ≡ verdict_of_stop stop }
@@ -203,9 +210,9 @@ pub(crate) fn verdict_of_table(verdict: Verdict) -> FlatVerdict
     match no {
         TableNo::Section(no) => verdict_of_no(no),
         TableNo::TableHeader => numbered(36, 0),
-        TableNo::TableFields(number) => placed(37, 0, 0, number, 0),
-        TableNo::TableNumber(record, column) => placed(38, 0, 0, record, column),
-        TableNo::TableOrder(number) => placed(39, 0, 0, number, 0),
+        TableNo::TableFields(number) => of_record(37, number, 0),
+        TableNo::TableNumber(record, column) => of_record(38, record, column),
+        TableNo::TableOrder(number) => of_record(39, number, 0),
         TableNo::Differs {
             position,
             by_table,

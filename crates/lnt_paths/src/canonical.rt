@@ -12,6 +12,7 @@ use crate::field::PathFields;
 use crate::joined::Joined;
 use crate::line::put_line;
 use crate::paths::Paths;
+use crate::told::ComparedPaths;
 use crate::version::PathVersion;
 use lnt_io::{Source, Stop};
 use lnt_records::{Remaining, Window, told};
@@ -48,12 +49,13 @@ pub(crate) fn pass_spans<S: SpanSource + Drop, P: Paths, T: Source>(
     ensures no_failure { result ≢ Err Stop.Read → T.failures source.new ≡ T.failures source.old }
     ensures not_long { IsErrOf result Stop.TooLong → ⊥ }
 {
+    let mut compared = ComparedPaths::none();
     let mut joined = Joined::of(spans);
     let mut fields = told(PathFields::new(alloc))?;
     let mut line = Vec::new(alloc);
     let mut count = 1;
     let mut end = 0;
-    while let Some(span) = told(joined.next_joined(alloc, paths, version))? {
+    while let Some(span) = told(joined.next_joined(alloc, paths, version, &mut compared))? {
         line.clear();
         told(put_line(alloc, paths, version, &mut fields, &span, &mut line))?;
         window.fill(alloc, source, line.len())?;

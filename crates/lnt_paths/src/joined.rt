@@ -24,35 +24,31 @@ use std::alloc::{AllocError, Global};
 pub(crate) struct Joined<S> {
     next: Option<Span>,
     spans: S,
-    // how paths compared so far
-    compared: ComparedPaths,
 }
 
 impl<S: SpanSource> Joined<S> {
     // Takes the first span out of the source.
     pub(crate) fn of(mut spans: S) -> Joined<S>
-        ensures compared { (path : ℕ → ℕ → List ℕ) → AreCompared path result.compared.slots }
         ensures gives { (tell : answer.Answer → PathAnswer) (list joined : List spec.Span) → S.to_come spans list
             → AllJoinTo tell list joined → WillGive tell result.next (S.to_come result.spans) joined }
         ensures left { (list : List spec.Span) → S.to_come spans list → SpansAreLeft S.to_come result.next result.spans list }
     {
         let next = spans.next_span();
-        Joined {
-            next,
-            spans,
-            compared: ComparedPaths::none(),
-        }
+        Joined { next, spans }
     }
 
-    // Gives the next joined span: the next span with all those that extend it.
+    // Gives the next joined span: the next span with all those that extend it. It is inlined, and `compared` stands apart, so that the
+    // walk over the spans keeps its state in registers.
+    #[inline(always)]
     pub(crate) fn next_joined<P: Paths>(
         &mut self,
         alloc: Global,
         paths: &P,
         version: PathVersion,
+        compared: &mut ComparedPaths,
     ) -> Result<Option<Span>, AllocError>
-        requires { AreCompared (P.bytes_of paths.now) self.old.compared.slots }
-        ensures compared { OnOk result (AreCompared (P.bytes_of paths.now) self.new.compared.slots) }
+        requires { AreCompared (P.bytes_of paths.now) compared.old.slots }
+        ensures compared { OnOk result (AreCompared (P.bytes_of paths.now) compared.new.slots) }
         ensures gives { IfOk result (λ given. (joined : List spec.Span)
             → WillGive (path_answer version (P.bytes_of paths.now)) self.old.next (S.to_come self.old.spans) joined
             → GivesFirstSpan (WillGive (path_answer version (P.bytes_of paths.now)) self.new.next
@@ -66,7 +62,7 @@ impl<S: SpanSource> Joined<S> {
             return Ok(None);
         };
         while let Some(span) = self.spans.next_span() {
-            if !goes_on(alloc, paths, version, &mut self.compared, &last, &span)? {
+            if !goes_on(alloc, paths, version, compared, &last, &span)? {
                 self.next = Some(span);
                 return Ok(Some(last));
             }

@@ -14,7 +14,7 @@ loop-joined-init g c =
     let new : List Span → Type 0 = WillGive tell c.of-joined.result.next (g.S.SpanSource.to_come c.of-joined.result.spans) in (
       [],
       tt,
-      c.of-joined.ensures.compared (g.P.Paths.bytes_of c.args.paths.now),
+      c.none-compared.ensures (g.P.Paths.bytes_of c.args.paths.now),
       λ list joined come joins. none_given joined new (c.of-joined.ensures.gives tell list joined come joins),
     )
 

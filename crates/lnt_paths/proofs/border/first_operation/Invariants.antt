@@ -11,7 +11,7 @@ use Rattle.lnt_paths.proofs.border.first_operation.Given as goal
 
 abbrev pub invariant-loop-joined : goal.invariant-loop-joined
 invariant-loop-joined g l = (given : List Span) × AllByRecursion IsOfInstructions given
-    × AreCompared (g.P.Paths.bytes_of l.paths) l.joined.compared.slots
+    × AreCompared (g.P.Paths.bytes_of l.paths) l.compared.slots
     × ((list joined : List Span) → g.S.SpanSource.to_come l.fn.spans list
     → AllJoinTo (path_answer l.version (g.P.Paths.bytes_of l.paths)) list joined
     → HasGiven joined given (WillGive (path_answer l.version (g.P.Paths.bytes_of l.paths)) l.joined.next

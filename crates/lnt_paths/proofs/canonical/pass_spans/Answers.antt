@@ -14,7 +14,7 @@ loop-line-init g c =
     record {
       failures = refl;
       fields = rw c.in_ok-fields.ensures.ok at c.new.ensures (g.P.Paths.bytes_of c.args.paths.now);
-      compared = c.of-joined.ensures.compared (g.P.Paths.bytes_of c.args.paths.now);
+      compared = c.none-compared.ensures (g.P.Paths.bytes_of c.args.paths.now);
       stands = stands_first g.S.SpanSource.to_come c.args.spans tell c.args.version c.of-joined.result.next c.of-joined.result.spans
           (g.T.Source.remaining c.args.source.now) (g.T.Source.left c.args.source.now) c.args.window.now c.of-joined.ensures.left;
     }

@@ -10,7 +10,7 @@ abbrev pub invariant-loop-line : goal.invariant-loop-line
 invariant-loop-line g l = record {
   failures : g.T.Source.failures l.source ≡ g.T.Source.failures l.initial.source;
   fields : AreFieldsOf (g.P.Paths.bytes_of l.paths) l.fields.slots.items;
-  compared : AreCompared (g.P.Paths.bytes_of l.paths) l.joined.compared.slots;
+  compared : AreCompared (g.P.Paths.bytes_of l.paths) l.compared.slots;
   stands : Stands g.S.SpanSource.to_come l.fn.spans (path_answer l.version (g.P.Paths.bytes_of l.paths)) l.version l.joined.next
       l.joined.spans (g.T.Source.remaining l.initial.source) (g.T.Source.remaining l.source) (g.T.Source.left l.initial.source)
       (g.T.Source.left l.source) l.initial.window l.window l.count l.end;

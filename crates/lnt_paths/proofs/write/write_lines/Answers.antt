@@ -22,7 +22,7 @@ loop-block-init g c =
       no_lines (plain_told tell) c.args.version _ _ (c.in_ok-put_header.ensures
           ∙ ap (λ (t : List ℕ). t ++ line_text (path_column_names c.args.version)) c.new-block.ensures.items ∙ header_text c.args.version),
       c.in_ok-fields.ensures (g.P.Paths.bytes_of c.args.paths.now),
-      c.of-joined.ensures.compared (g.P.Paths.bytes_of c.args.paths.now),
+      c.none-compared.ensures (g.P.Paths.bytes_of c.args.paths.now),
       λ list joined come joins. none_given joined new (c.of-joined.ensures.gives tell list joined come joins),
     )
 

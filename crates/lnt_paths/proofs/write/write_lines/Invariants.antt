@@ -13,7 +13,7 @@ abbrev pub invariant-loop-block : goal.invariant-loop-block
 invariant-loop-block g l = (given : List Span) × Lines (plain_told (path_answer l.version (g.P.Paths.bytes_of l.paths))) l.version
     (g.W.Write.contents l.fn.out) (g.W.Write.contents l.out) l.block.items given
     × AreFieldsOf (g.P.Paths.bytes_of l.paths) l.fields.slots.items
-    × AreCompared (g.P.Paths.bytes_of l.paths) l.joined.compared.slots
+    × AreCompared (g.P.Paths.bytes_of l.paths) l.compared.slots
     × ((list joined : List Span) → g.S.SpanSource.to_come l.fn.spans list
     → AllJoinTo (path_answer l.version (g.P.Paths.bytes_of l.paths)) list joined
     → HasGiven joined given (WillGive (path_answer l.version (g.P.Paths.bytes_of l.paths)) l.joined.next

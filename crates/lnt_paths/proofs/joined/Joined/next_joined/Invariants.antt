@@ -9,7 +9,7 @@ use Rattle.lnt_paths.proofs.joined.Joined.next_joined.Given as goal
 
 abbrev pub invariant-loop-span : goal.invariant-loop-span
 invariant-loop-span g l = (l.self.next ≡ None) × (g.S.SpanSource.left l.self.spans ≤ g.S.SpanSource.left l.fn.self.spans)
-    × AreCompared (g.P.Paths.bytes_of l.paths) l.self.compared.slots
+    × AreCompared (g.P.Paths.bytes_of l.paths) l.compared.slots
     × ((joined : List Span) → WillGive (path_answer l.version (g.P.Paths.bytes_of l.paths)) l.fn.self.next
     (g.S.SpanSource.to_come l.fn.self.spans) joined
     → GrowsTo (path_answer l.version (g.P.Paths.bytes_of l.paths)) l.last (g.S.SpanSource.to_come l.self.spans) joined)
