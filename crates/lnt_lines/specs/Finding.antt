@@ -4,6 +4,7 @@ use Rattle.std.specs.List.{All}
 use Rattle.std.specs.Option.{option_map}
 use Rattle.lnt_header.specs.declared.unit_parts.UnitParts.{UnitParts}
 use Rattle.lnt_machine.specs.declared.row.Row.{Row}
+use Rattle.lnt_spans.specs.declared.answer.Answer.{Answer}
 use Rattle.lnt_spans.specs.declared.position.Position.{Position}
 use Rattle.lnt_sequences.specs.declared.sequence.SeqId.{SeqId}
 use Rattle.lnt_sequences.specs.Briefs.{IsCacheOf}
@@ -28,3 +29,8 @@ IsCachedOf index cached = (rows : List Row) → IsSequenceIn index.units index.p
 -- so is all of this
 abbrev pub AreKnownOf : Indexed → Known → Type 0
 AreKnownOf index known = All (IsCachedOf index) known.sequences.items
+
+-- This is the answer at a position of the sequence with this id, if it is ordered and what is kept is known.
+abbrev pub TellsAt : Indexed → Known → SeqId → Position → Option Answer → Type 0
+TellsAt index known id position answer = (rows : List Row) → AreKnownOf index known
+    → IsSequenceIn index.units index.programs id rows → IsOrdered rows → answer ≡ option_map (answer_of id.unit) (row_at position rows)
