@@ -7,7 +7,7 @@
  * that of ""); each points to as many elements as its length says; what a call writes overlaps nothing else that it is
  * given; a bool is 0 or 1. What the bytes of sections and tables are is no matter.
  *
- * What a call puts into a room stands at its front, and what is behind it stays as it was. A room that is too short stays as it
+ * What a call puts into a room stands at its beginning, and what is behind it stays as it was. A room that is too short stays as it
  * was too, but for that of linetab_verify. */
 #ifndef LINETAB_H
 #define LINETAB_H
@@ -102,7 +102,7 @@ struct linetab_verdict {
     struct linetab_answer by_table, by_section;
 };
 
-/* Judges the section, and puts the spans of a good one into the front of spans, in order, where len is enough for all of
+/* Judges the section, and puts the spans of a good one into the first places of spans, in order, where len is enough for all of
  * them. It answers how many they are. Where len is less, what spans then holds isn't said: ask again with more room. Where
  * the section isn't good or memory ran out, it answers 0, and the verdict says why. */
 size_t linetab_verify(const struct linetab_section *section, struct linetab_span *spans, size_t len,
@@ -127,19 +127,19 @@ void linetab_index(const struct linetab_span *spans, size_t len, uint32_t *index
 bool linetab_lookup_indexed(const struct linetab_span *spans, size_t len, const uint32_t *index, size_t index_len,
                             uint64_t address, uint64_t op, struct linetab_answer *answer);
 
-/* Judges the section, and puts its units into the front of units, where len is enough for all of them. It answers how many
+/* Judges the section, and puts its units into the first places of units, where len is enough for all of them. It answers how many
  * they are. */
 size_t linetab_units(const struct linetab_section *section, struct linetab_unit *units, size_t len,
                      struct linetab_verdict *verdict);
 
 /* Judges the section, and answers whether the unit at this offset has the file: where it answers false and the verdict is
- * yes, there is no such unit or file. Its path of *count bytes is put into the front of path, where len is enough for all of
+ * yes, there is no such unit or file. Its path of *count bytes is put into the first bytes of path, where len is enough for all of
  * them. No zero byte stands after it. The bytes of one unit, up to the offset of the next one, are a section too, which is
  * judged sooner than all of them: the unit stands at 0 there. */
 bool linetab_path(const struct linetab_section *section, uint64_t unit, uint64_t file, uint8_t *path, size_t len,
                   size_t *count, struct linetab_verdict *verdict);
 
-/* Judges the section, and puts its address table into the front of room, where len is enough for all of it, in version 2
+/* Judges the section, and puts its address table into the first bytes of room, where len is enough for all of it, in version 2
  * where is_wide is true, else in version 1. It answers how many bytes the table has. */
 size_t linetab_table(const struct linetab_section *section, bool is_wide, uint8_t *room, size_t len,
                      struct linetab_verdict *verdict);
@@ -148,8 +148,8 @@ size_t linetab_table(const struct linetab_section *section, bool is_wide, uint8_
 void linetab_check(const struct linetab_section *section, const uint8_t *table, size_t len,
                    struct linetab_verdict *verdict);
 
-/* The same verdict, and where path_version isn't 0, the paths of the two answers: that of the table is put into the front of
- * by_table, where by_table_len is enough for all of its verdict->index bytes, and that of the section into the front of
+/* The same verdict, and where path_version isn't 0, the paths of the two answers: that of the table is put into the first bytes of
+ * by_table, where by_table_len is enough for all of its verdict->index bytes, and that of the section into the first bytes of
  * by_section, where by_section_len is enough for all of its verdict->value bytes. No zero byte stands after them. A room that is
  * too short stays as it was: ask again with more, or go without. */
 void linetab_check_paths(const struct linetab_section *section, const uint8_t *table, size_t len, uint8_t *by_table,

@@ -117,8 +117,8 @@ def are_lines_answered(picked, section, sequences, name):
     mixed, mixed_lines = lines_of(picked, sequences, name, count, True)
     last = answer(sequences, 0x1000, 0, name)
     # A line of which the first block has all bytes but the last ones.
-    front = b"0x1000\n" * (BLOCK // 7)
-    cut = [front + b"0" * (BLOCK - len(front) - size) + b"0x1001\n0x1002\n" for size in range(1, 8) if len(name) < 100]
+    prefix = b"0x1000\n" * (BLOCK // 7)
+    cut = [prefix + b"0" * (BLOCK - len(prefix) - size) + b"0x1001\n0x1002\n" for size in range(1, 8) if len(name) < 100]
     texts = {
         "good lines": (good, good_lines, 0),
         "good and bad lines": (mixed, mixed_lines, 1),
@@ -129,7 +129,7 @@ def are_lines_answered(picked, section, sequences, name):
         "a long line alone": (b"0x" + b"1" * (2 * BLOCK), ['bad "0x%s"\n' % ("1" * (2 * BLOCK))], 1),
     }
     for size, text in enumerate(cut, 1):
-        zeros = "0" * (BLOCK - len(front) - size)
+        zeros = "0" * (BLOCK - len(prefix) - size)
         texts["a line cut after %d bytes" % size] = (
             text, [last] * (BLOCK // 7) + ['bad "%s0x1001"\n' % zeros if zeros else answer(sequences, 0x1001, 0, name)]
             + [answer(sequences, 0x1002, 0, name)], 1 if zeros else 0)

@@ -30,7 +30,7 @@ with() { # UNIT PLACE BYTES
 }
 
 # The first bytes of the unit.
-front() { # UNIT COUNT
+prefix() { # UNIT COUNT
   printf '%s' "${1:0:2 * $2}"
 }
 
@@ -235,7 +235,7 @@ sections() {
   converts 'two wide units, narrowed' "$wide$wide" "$plain$plain" 32 little --big
   prints 'a byte after a unit' 1 "${plain}00" $'0x0 32 67\nno 25 malformed at 0x47: truncated\n' units
   prints 'a byte after a header' 1 "${plain}00" "unit 0x0 32 67"$'\n'"$fields$tables"$'no 25 malformed at 0x47: truncated\n' dump
-  bytes "$plain$(front "$plain" 70)" >"$work/unit"
+  bytes "$plain$(prefix "$plain" 70)" >"$work/unit"
   expect 'a cut unit is not converted' 1 $'no 25 malformed at 0x47: truncated\n' '' "$program" convert "$work/unit" --format 64 --order little
   bytes "$plain$(with "$plain" 69 00)" >"$work/unit"
   expect 'a fault of the second unit is told after the first' 1 \
@@ -272,7 +272,7 @@ faults_of_frames() {
   prints 'a short wide unit' 0 "$narrow" $'0x0 64 3\n' units --big
   frames 'a reserved length after two units' "${two}f0ffffff" $'0x0 32 4\n0x8 32 2\nno 25 malformed at 0xe: reserved length'
   frames 'a byte after two units' "${two}f0" $'0x0 32 4\n0x8 32 2\nno 25 malformed at 0xe: truncated'
-  frames 'a second unit that is cut' "$(front "$two" 13)" $'0x0 32 4\nno 25 malformed at 0x8: truncated'
+  frames 'a second unit that is cut' "$(prefix "$two" 13)" $'0x0 32 4\nno 25 malformed at 0x8: truncated'
   frames 'a reserved length' f0ffffff 'no 25 malformed at 0x0: reserved length'
   frames 'the greatest reserved length' feffffff 'no 25 malformed at 0x0: reserved length'
   frames 'a reserved length after the plain unit' "${plain}f0ffffff" $'0x0 32 67\nno 25 malformed at 0x47: reserved length'
@@ -498,7 +498,7 @@ runs() {
 cut_inside() {
   local k cut
   for ((k = 4; k < 71; k++)); do
-    cut=$(with "$(front "$plain" "$k")" 0 "$(printf %02x $((k - 4)))")
+    cut=$(with "$(prefix "$plain" "$k")" 0 "$(printf %02x $((k - 4)))")
     text=$'no 25 malformed at 0x'
     case $k in
       4 | 5) text+=$'4: truncated\n' ;;

@@ -107,12 +107,12 @@ module _ {index : Indexed} {op : ℕ} where
   -- Their lines were made in an empty buffer, and are then written.
   told_sent : {texts : List (List ℕ)} {none made : List ℕ} {old new : Option (List ℕ)} {s t : Status}
       → AreLinesTold index op texts (Some none) (Some made) s t → none ≡ [] → Appends old new made → AreLinesTold index op texts old new s t
-  told_sent {none = none} {made = made} {old = old} {new = new} all empty gained = record {
+  told_sent {none = none} {made = made} {old = old} {new = new} all empty appended = record {
     told = all.told;
     lines_are = all.lines_are;
     so = all.so;
     printed = λ dead skip units is. subst (Appends old new) (text_in_room none made made
-        (flat_map (told_line index dead skip units) all.told) empty (all.printed dead skip units is) refl) gained;
+        (flat_map (told_line index dead skip units) all.told) empty (all.printed dead skip units is) refl) appended;
     status_is = all.status_is;
   }
 
@@ -147,7 +147,7 @@ module _ {index : Indexed} {op : ℕ} where
   pub first_sent : {text rest none made : List ℕ} {old new : Option (List ℕ)} {s t : Status}
       → AreFirstTold index op text rest (Some none) (Some made) s t → none ≡ [] → Appends old new made
       → AreFirstTold index op text rest old new s t
-  first_sent first empty gained = record { texts = first.texts; told = told_sent first.told empty gained; cut = first.cut }
+  first_sent first empty appended = record { texts = first.texts; told = told_sent first.told empty appended; cut = first.cut }
 
   -- the first one, in which a position was found
   pub first_found : {text rest : List ℕ} {place : Position} {old new : List ℕ} {s : Status} → BeginsWithLine op text place rest
@@ -157,15 +157,15 @@ module _ {index : Indexed} {op : ℕ} where
   first_found {place = place} begins printed = first_line begins.line begins.cut refl (told_one (Some place) begins.tells printed refl)
 
   -- A line that began before this text ends in it, and others follow.
-  pub first_joined : {back next rest : List ℕ} {old now new : Option (List ℕ)} {s t u : Status} (line text front : List ℕ)
-      → HasNo 10 line → IsCut 10 text front back → AreLinesTold index op (strip_carriage_return (line ++ front) ∷ []) old now s t → next ≡ back
+  pub first_joined : {back next rest : List ℕ} {old now new : Option (List ℕ)} {s t u : Status} (line text prefix : List ℕ)
+      → HasNo 10 line → IsCut 10 text prefix back → AreLinesTold index op (strip_carriage_return (line ++ prefix) ∷ []) old now s t → next ≡ back
       → AreFirstTold index op next rest now new t u → AreFirstTold index op (line ++ text) rest old new s u
-  first_joined {back} {next} {rest} {old} {now} {new} {s} {t} {u} line text front whole at told next_is more =
-      let joined : IsCut 10 (line ++ text) (line ++ front) back = (
-        ap (λ (z : List ℕ). line ++ z) at.0 ∙ sym (append_assoc line front (10 ∷ back)),
-        All-append (λ other. (other == 10) ≡ false) line front whole at.1,
+  first_joined {back} {next} {rest} {old} {now} {new} {s} {t} {u} line text prefix whole at told next_is more =
+      let joined : IsCut 10 (line ++ text) (line ++ prefix) back = (
+        ap (λ (z : List ℕ). line ++ z) at.0 ∙ sym (append_assoc line prefix (10 ∷ back)),
+        All-append (λ other. (other == 10) ≡ false) line prefix whole at.1,
       ) in
-      first_more (first_line (line ++ front) joined refl told)
+      first_more (first_line (line ++ prefix) joined refl told)
       (subst (λ (z : List ℕ). AreFirstTold index op z rest now new t u) next_is more)
 
   -- the rest after a line that is empty
@@ -232,10 +232,10 @@ cut_ended (Some text) (Some rest) texts line ended c e short =
 -- ---- a writer that was flushed
 
 appends_kept : (a b c : Option (List ℕ)) (text : List ℕ) → Appends a b text → Keeps b c → Appends a c text
-appends_kept None b c text gained kept = tt
-appends_kept (Some x) None c text gained kept = absurd gained
-appends_kept (Some x) (Some y) None text gained kept = absurd kept
-appends_kept (Some x) (Some y) (Some z) text gained kept = kept ∙ gained
+appends_kept None b c text appended kept = tt
+appends_kept (Some x) None c text appended kept = absurd appended
+appends_kept (Some x) (Some y) None text appended kept = absurd kept
+appends_kept (Some x) (Some y) (Some z) text appended kept = kept ∙ appended
 
 told_lines : {index : Indexed} {op : ℕ} {old new : Option (List ℕ)} {status : Status} (start : Option (List ℕ)) (texts all : List (List ℕ))
     → IfSome start (λ text. lines text ≡ all) → texts ≡ all → AreLinesTold index op texts old new Done status
@@ -305,7 +305,7 @@ module _ {index : Indexed} {op : ℕ} {start old : Option (List ℕ)} where
       (cut_ended start now before.texts (b ∷ line) ended before.cut at short)
       (ap (λ (z : List (List ℕ)). before.texts ++ z) (sym (line_last b line before.whole))) (told_append before.told told)
 
--- ---- numbers and fronts, in the code's terms
+-- ---- numbers and prefixes, in the code's terms
 
 pub not_empty : (n : ℕ) (line : List ℕ) → n ≡ length line → (n == 0) ≡ false → 0 < length line
 not_empty n line same other = let some = is_some n other in omega (arith, same, some)
@@ -317,11 +317,11 @@ pub is_empty : (n : ℕ) (line : List ℕ) → n ≡ length line → (n == 0) �
 is_empty n [] same zero_is = refl
 is_empty n (b ∷ line) same zero_is = absurd (omega (arith, eqb-true n 0 zero_is, same))
 
-front_of : (n : ℕ) (front rest : List ℕ) → n ≡ length front → take n (front ++ rest) ≡ front
-front_of n front rest same = grind (arith, common_steps)
+prefix_of : (n : ℕ) (prefix rest : List ℕ) → n ≡ length prefix → take n (prefix ++ rest) ≡ prefix
+prefix_of n prefix rest same = grind (arith, common_steps)
 
 -- what was pulled into a room, of which the block is all
-pub pulls_front : (old new : Option (List ℕ)) (k n : ℕ) (room rest block : List ℕ) → n ≡ length room → block ≡ take n (room ++ rest)
+pub pulls_prefix : (old new : Option (List ℕ)) (k n : ℕ) (room rest block : List ℕ) → n ≡ length room → block ≡ take n (room ++ rest)
     → Pulls old new (take k room) → Pulls old new (take k block)
-pulls_front old new k n room rest block whole same pulls =
-    subst (λ (z : List ℕ). Pulls old new (take k z)) (sym (same ∙ front_of n room rest whole)) pulls
+pulls_prefix old new k n room rest block whole same pulls =
+    subst (λ (z : List ℕ). Pulls old new (take k z)) (sym (same ∙ prefix_of n room rest whole)) pulls

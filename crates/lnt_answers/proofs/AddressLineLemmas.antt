@@ -42,7 +42,7 @@ at_place op line comma place e tells = subst (λ (o : Option ℕ). TellsPosition
 pub address_line : (op : ℕ) (text rest : List ℕ) (place : Position) → Begins IsAddress text place.address 10 rest → place.op ≡ op
     → BeginsWithLine op text place rest
 address_line op text rest place begins op_is =
-    let line = begins.front in
+    let line = begins.prefix in
     let from = address_from_zero line place.address begins.spells in
     let whole = kept_whole line (no_byte 13 (omega arith) line from) in
     record {
@@ -60,34 +60,34 @@ address_line op text rest place begins op_is =
 pub comma_line : (op : ℕ) (text mid rest : List ℕ) (place : Position) → Begins IsAddress text place.address 44 mid
     → Begins IsDecimal mid place.op 10 rest → BeginsWithLine op text place rest
 comma_line op text mid rest place first second =
-    let front = first.front in
-    let back = second.front in
-    let line = front ++ 44 ∷ back in
-    let front_from = address_from_zero front place.address first.spells in
+    let prefix = first.prefix in
+    let back = second.prefix in
+    let line = prefix ++ 44 ∷ back in
+    let prefix_from = address_from_zero prefix place.address first.spells in
     let back_from = decimal_from_zero back place.op second.spells in
     let no : (byte : ℕ) → byte < 44 → HasNo byte line =
-    λ byte below. All-append (λ other. (other == byte) ≡ false) front (44 ∷ back) (no_byte byte (omega (arith, below)) front front_from)
+    λ byte below. All-append (λ other. (other == byte) ≡ false) prefix (44 ∷ back) (no_byte byte (omega (arith, below)) prefix prefix_from)
     (All-cons (λ other. (other == byte) ≡ false) 44 back (other_than byte 44 below) (no_byte byte (omega (arith, below)) back back_from)) in
     record {
       line = line;
       cut = (
-        first.joined ∙ ap (λ (z : List ℕ). front ++ 44 ∷ z) second.joined ∙ sym (append_assoc front (44 ∷ back) (10 ∷ rest)),
+        first.joined ∙ ap (λ (z : List ℕ). prefix ++ 44 ∷ z) second.joined ∙ sym (append_assoc prefix (44 ∷ back) (10 ∷ rest)),
         no 10 (omega arith),
       );
       tells = subst (λ (l : List ℕ). TellsPosition op l place) (kept_whole line (no 13 (omega arith)))
-          (at_place op line (Some (length front)) place (comma_at front back front_from) (
-            subst (λ (l : List ℕ). IsAddress l place.address) (sym (take-append_seam front (44 ∷ back))) first.spells,
-            subst (λ (l : List ℕ). IsDecimal l place.op) (sym (drop-append-add front (44 ∷ back) 1)) second.spells,
+          (at_place op line (Some (length prefix)) place (comma_at prefix back prefix_from) (
+            subst (λ (l : List ℕ). IsAddress l place.address) (sym (take-append_seam prefix (44 ∷ back))) first.spells,
+            subst (λ (l : List ℕ). IsDecimal l place.op) (sym (drop-append-add prefix (44 ∷ back) 1)) second.spells,
           ));
     }
   where
-    comma_at : (front back : List ℕ) → AllByRecursion FromZero front
-        → Some (length front) ≡ position (λ byte. byte == 44) (front ++ 44 ∷ back)
-    comma_at front back from =
-        let line = front ++ 44 ∷ back in
-        let none = no_byte 44 (omega arith) front from in
-        let size = length-append front (44 ∷ back) in
-        let at : get_or line (length front + 0) 0 ≡ 44 = get_or-append-add front (44 ∷ back) 0 0 in
-        place_found 44 line (length front) (omega (arith, size))
-        (λ j few. subst (λ (c : ℕ). (c == 44) ≡ false) (sym (get_or_append_left front (44 ∷ back) 0 j few)) (none j 0 few))
+    comma_at : (prefix back : List ℕ) → AllByRecursion FromZero prefix
+        → Some (length prefix) ≡ position (λ byte. byte == 44) (prefix ++ 44 ∷ back)
+    comma_at prefix back from =
+        let line = prefix ++ 44 ∷ back in
+        let none = no_byte 44 (omega arith) prefix from in
+        let size = length-append prefix (44 ∷ back) in
+        let at : get_or line (length prefix + 0) 0 ≡ 44 = get_or-append-add prefix (44 ∷ back) 0 0 in
+        place_found 44 line (length prefix) (omega (arith, size))
+        (λ j few. subst (λ (c : ℕ). (c == 44) ≡ false) (sym (get_or_append_left prefix (44 ∷ back) 0 j few)) (none j 0 few))
         (subst (λ (k : ℕ). get_or line k 0 ≡ 44) (omega arith) at)

@@ -54,7 +54,7 @@ answer_put old new text numbers position answer numbers_are text_is here =
 pub position_of : (t0 t1 t2 t3 : List ℕ) (position : Position) (address : List ℕ) → t1 ≡ decimal position.op ++ t0 → t2 ≡ codes "," ++ t1
     → IsPlainAddress address position.address → t3 ≡ address ++ t2 → t3 ≡ position_text position ++ t0
 position_of t0 t1 t2 t3 position address e1 e2 is e3 =
-    e3 ∙ ap (λ front. front ++ t2) (address_text position.address address is)
+    e3 ∙ ap (λ prefix. prefix ++ t2) (address_text position.address address is)
     ∙ ap (λ (z : List ℕ). hexadecimal position.address ++ z) (e2 ∙ ap (λ (z : List ℕ). codes "," ++ z) e1)
     ∙ sym (append_assoc (hexadecimal position.address ++ codes ",") (decimal position.op) t0
     ∙ append_assoc (hexadecimal position.address) (codes ",") (decimal position.op ++ t0))

@@ -6,8 +6,8 @@ use Rattle.std.specs.Io.KnownBytes.{Appends}
 use Rattle.std.proofs.KnownBytes.{Appends-nil, Appends-trans}
 use Rattle.std.proofs.lemmas.List.{take_all, take_more}
 use Rattle.std.proofs.lemmas.List.Concat.{flat_map-append}
-use Rattle.lnt_io.specs.Fronts.{AppendsFront}
-use Rattle.lnt_io.proofs.FrontLaws.{front_after, front_before, front_same}
+use Rattle.lnt_io.specs.Prefixes.{AppendsPrefix}
+use Rattle.lnt_io.proofs.PrefixLaws.{prefix_after, prefix_before, prefix_same}
 use Rattle.lnt_lines.specs.Indexed.{Indexed}
 use Rattle.lnt_answers.specs.FileLines.{file_record, records_below}
 
@@ -18,10 +18,10 @@ lists_of_more f items i d lt =
     ap (flat_map f) (take_more items i d lt) ∙ flat_map-append f (take i items) (get_or items i d ∷ [])
     ∙ ap (λ list. flat_map f (take i items) ++ list) (append-nil (f (get_or items i d)))
 
--- Where each list is the one before it with more at its end, it is a front of each later one.
-pub front_of_later : {A : Type 0} (below at : ℕ → List A) → ((n : ℕ) → below (suc n) ≡ below n ++ at n) → (n count : ℕ) → n ≤ count
+-- Where each list is the one before it with more at its end, it is a prefix of each later one.
+pub prefix_of_later : {A : Type 0} (below at : ℕ → List A) → ((n : ℕ) → below (suc n) ≡ below n ++ at n) → (n count : ℕ) → n ≤ count
     → (rest : List A) × (below n ++ rest ≡ below count)
-front_of_later {A} below at step n count le =
+prefix_of_later {A} below at step n count le =
     let all : (count - n) + n ≡ count = omega (arith, le) in
     subst (λ (m : ℕ). (rest : List A) × (below n ++ rest ≡ below m)) all (by_more (count - n))
   where
@@ -35,20 +35,20 @@ front_of_later {A} below at step n count le =
               ∙ sym (step (k + n)) ∙ ap below next,
         )
 
--- a writer that has gained a head and the texts of some items gains the text of one more
-pub gained_more : {X : Type 0} (f : X → List ℕ) (head : List ℕ) (items : List X) (i : ℕ) (d : X) (a b c : Option (List ℕ))
+-- a writer that has appended a head and the texts of some items gains the text of one more
+pub appended_more : {X : Type 0} (f : X → List ℕ) (head : List ℕ) (items : List X) (i : ℕ) (d : X) (a b c : Option (List ℕ))
     → i < length items
     → Appends a b (head ++ flat_map f (take i items)) → Appends b c (f (get_or items i d))
     → Appends a c (head ++ flat_map f (take (i + 1) items))
-gained_more f head items i d a b c lt before here =
+appended_more f head items i d a b c lt before here =
     subst (Appends a c) (append_assoc head (flat_map f (take i items)) (f (get_or items i d))
     ∙ ap (λ text. head ++ text) (sym (lists_of_more f items i d lt)))
     (Appends-trans a b c (head ++ flat_map f (take i items)) (f (get_or items i d)) before here)
 
 -- all items
-pub gained_all : {X : Type 0} (f : X → List ℕ) (head : List ℕ) (items : List X) (i : ℕ) (a b : Option (List ℕ)) → length items ≤ i
+pub appended_all : {X : Type 0} (f : X → List ℕ) (head : List ℕ) (items : List X) (i : ℕ) (a b : Option (List ℕ)) → length items ≤ i
     → Appends a b (head ++ flat_map f (take i items)) → Appends a b (head ++ flat_map f items)
-gained_all f head items i a b le gained = subst (λ all. Appends a b (head ++ flat_map f all)) (take_all i items le) gained
+appended_all f head items i a b le appended = subst (λ all. Appends a b (head ++ flat_map f all)) (take_all i items le) appended
 
 -- ---- the records of a unit's files
 
@@ -65,10 +65,10 @@ records_more index unit file a b c before here =
 
 -- a writer that was stopped within a record
 pub records_stopped : (index : Indexed) (unit file count : ℕ) (a b c : Option (List ℕ)) → file < count
-    → Appends a b (records_below index unit file) → AppendsFront b c (file_record index unit file)
-    → AppendsFront a c (records_below index unit count)
+    → Appends a b (records_below index unit file) → AppendsPrefix b c (file_record index unit file)
+    → AppendsPrefix a c (records_below index unit count)
 records_stopped index unit file count a b c lt before here =
-    let after = front_of_later (records_below index unit) (file_record index unit) (λ n. refl) (suc file) count (omega (arith, lt)) in
-    front_same a c (records_below index unit (suc file) ++ after.0) _ after.1
-    (front_before a c (records_below index unit (suc file)) after.0
-    (front_after a b c (records_below index unit file) (file_record index unit file) before here))
+    let after = prefix_of_later (records_below index unit) (file_record index unit) (λ n. refl) (suc file) count (omega (arith, lt)) in
+    prefix_same a c (records_below index unit (suc file) ++ after.0) _ after.1
+    (prefix_before a c (records_below index unit (suc file)) after.0
+    (prefix_after a b c (records_below index unit file) (file_record index unit file) before here))

@@ -1,4 +1,4 @@
-pub mod AddressFronts
+pub mod AddressPrefixes
 pub mod AddressLemmas
 pub mod AddressLineLemmas
 pub mod AddressWholes
@@ -11,6 +11,6 @@ pub mod PathTableLemmas
 pub mod RoomLaws
 pub mod ScopeLemmas
 pub mod StretchLemmas
-pub mod SumFronts
+pub mod SumPrefixes
 pub mod SumLaws
 pub mod SumLemmas

@@ -1,7 +1,7 @@
 -- Tables by path whose printing was stopped.
 use Rattle.std.proofs.Common.{ℕ, List, Option, inl, inr}
-use Rattle.lnt_io.specs.Fronts.{AppendsFront}
-use Rattle.lnt_io.proofs.FrontLaws.{appends_known, front_none, front_since}
+use Rattle.lnt_io.specs.Prefixes.{AppendsPrefix}
+use Rattle.lnt_io.proofs.PrefixLaws.{appends_known, prefix_none, prefix_since}
 use Rattle.lnt_io.specs.declared.status.Status.TheVariants.{Done, No}
 use Rattle.lnt_spans.specs.declared.position.Position.{Position}
 use Rattle.lnt_paths.specs.declared.version.PathVersion.{PathVersion}
@@ -10,25 +10,25 @@ use Rattle.lnt_paths.specs.Written.{HasOperationIndex}
 use Rattle.lnt_table.specs.Written.{BeginsPaths}
 use Rattle.lnt_answers.specs.PathTables.{BeginsPrintedTable, operation_line}
 
--- a front of the line that there can't be a table by path
+-- a prefix of the line that there can't be a table by path
 pub line_begun : (version : PathVersion) (answers : Position → Option PathAnswer) (position : Position) (old new : Option (List ℕ))
-    → HasOperationIndex answers position → AppendsFront old new (operation_line position) → BeginsPrintedTable version answers old new
-line_begun version answers position old new none front = record {
+    → HasOperationIndex answers position → AppendsPrefix old new (operation_line position) → BeginsPrintedTable version answers old new
+line_begun version answers position old new none prefix = record {
   whole = operation_line position;
   ending = No;
   is_end = (position, appends_known old (operation_line position), none);
-  front = front;
+  prefix = prefix;
 }
 
--- a front of a table; or nothing, where there can't be one
+-- a prefix of a table; or nothing, where there can't be one
 pub table_begun : (version : PathVersion) (answers : Position → Option PathAnswer) (old new : Option (List ℕ))
     → BeginsPaths version answers old new → BeginsPrintedTable version answers old new
 table_begun version answers old new (inl table) = record {
   whole = table.whole;
   ending = Done;
   is_end = (table.whole, appends_known old table.whole, table.is_table);
-  front = table.front;
+  prefix = table.prefix;
 }
 table_begun version answers old new (inr none) =
     line_begun version answers none.0 old new none.1.1
-    (front_since old new new (operation_line none.0) none.1.0 (front_none new (operation_line none.0)))
+    (prefix_since old new new (operation_line none.0) none.1.0 (prefix_none new (operation_line none.0)))

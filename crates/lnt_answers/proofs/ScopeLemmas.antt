@@ -6,8 +6,8 @@ use Rattle.std.specs.Io.KnownBytes.{Appends}
 use Rattle.std.proofs.KnownBytes.{Appends-nil, Appends-trans}
 use Rattle.std.proofs.lemmas.List.{map-append}
 use Rattle.std.proofs.lemmas.List.Concat.{flat_map-append}
-use Rattle.lnt_io.specs.Fronts.{AppendsFront}
-use Rattle.lnt_io.proofs.FrontLaws.{front_after, front_all, front_before, front_same}
+use Rattle.lnt_io.specs.Prefixes.{AppendsPrefix}
+use Rattle.lnt_io.proofs.PrefixLaws.{prefix_after, prefix_all, prefix_before, prefix_same}
 use Rattle.lnt_io.specs.declared.status.Status.{Status}
 use Rattle.lnt_spans.specs.declared.position.Position.{Position}
 use Rattle.lnt_spans.specs.AnyStretches.{AreAllStretches, Stretch}
@@ -133,11 +133,11 @@ more_lines : {D X : Type 0} (of : D → Stretch X) (line : Stretch X → List �
     → flat_map line (told_in scope (map of given)) ++ cond (counts_in scope is_answered) (line (of d)) []
     ≡ flat_map line (told_in scope (map of (given ++ d ∷ [])))
 more_lines {D} {X} of line scope given d is_answered same =
-    let front = told_in scope (map of given) in
+    let prefix = told_in scope (map of given) in
     let counts = counts_in scope (is_some (of d).by_table) in
-    ap (λ (answered : Bool). flat_map line front ++ cond (counts_in scope answered) (line (of d)) []) same
-    ∙ ap (λ (text : List ℕ). flat_map line front ++ text) (one_line line (of d) counts)
-    ∙ sym (flat_map-append line front (cond counts (of d ∷ []) [])) ∙ ap (flat_map line) (in_more of scope given d)
+    ap (λ (answered : Bool). flat_map line prefix ++ cond (counts_in scope answered) (line (of d)) []) same
+    ∙ ap (λ (text : List ℕ). flat_map line prefix ++ text) (one_line line (of d) counts)
+    ∙ sym (flat_map-append line prefix (cond counts (of d ∷ []) [])) ∙ ap (flat_map line) (in_more of scope given d)
 
 module _ {D X : Type 0} {of : D → Stretch X} {line : Stretch X → List ℕ} {AreGiven : List D → Type 0} {scope : Scope}
     {old : Option (List ℕ)} {is_right : Bool} where
@@ -181,27 +181,27 @@ module _ {D X : Type 0} {of : D → Stretch X} {line : Stretch X → List ℕ} {
 
 -- ---- a writer that was stopped
 
-front_of_all : {X : Type 0} (line : Stretch X → List ℕ) (none : List ℕ) (told more : List (Stretch X)) (old new : Option (List ℕ))
-    → AppendsFront old new (flat_map line told) → AppendsFront old new (lines_or line none (told ++ more))
-front_of_all line none [] more old new front = front_before old new [] (lines_or line none more) front
-front_of_all line none (first ∷ told) more old new front =
-    front_same old new _ _ (sym (flat_map-append line (first ∷ told) more))
-    (front_before old new (flat_map line (first ∷ told)) (flat_map line more) front)
+prefix_of_all : {X : Type 0} (line : Stretch X → List ℕ) (none : List ℕ) (told more : List (Stretch X)) (old new : Option (List ℕ))
+    → AppendsPrefix old new (flat_map line told) → AppendsPrefix old new (lines_or line none (told ++ more))
+prefix_of_all line none [] more old new prefix = prefix_before old new [] (lines_or line none more) prefix
+prefix_of_all line none (first ∷ told) more old new prefix =
+    prefix_same old new _ _ (sym (flat_map-append line (first ∷ told) more))
+    (prefix_before old new (flat_map line (first ∷ told)) (flat_map line more) prefix)
 
 -- Others may follow those that were given.
 abbrev pub HasMore : {D X : Type 0} → (D → Stretch X) → (Position → Option X) → (Position → Option X) → List D → Type 0
 HasMore {D} {X} of f g given = (more : List (Stretch X)) × AreAllStretches f g (map of given ++ more)
 
-front_begun : {D X : Type 0} {line : Stretch X → List ℕ} {scope : Scope} {f g : Position → Option X} {old new : Option (List ℕ)}
-    (of : D → Stretch X) (given : List D) → HasMore of f g given → AppendsFront old new (flat_map line (told_in scope (map of given)))
+prefix_begun : {D X : Type 0} {line : Stretch X → List ℕ} {scope : Scope} {f g : Position → Option X} {old new : Option (List ℕ)}
+    (of : D → Stretch X) (given : List D) → HasMore of f g given → AppendsPrefix old new (flat_map line (told_in scope (map of given)))
     → AreDifferencesBegun line scope f g old new
-front_begun {X = X} {line = line} {scope = scope} {f = f} {g = g} {old = old} {new = new} of given later front = record {
+prefix_begun {X = X} {line = line} {scope = scope} {f = f} {g = g} {old = old} {new = new} of given later prefix = record {
   stretches = told_in scope (map of given ++ later.0);
   are_all = all_in scope f g (map of given ++ later.0) later.1;
-  front =
-      subst (λ (list : List (Stretch X)). AppendsFront old new (lines_or line (checked_line (answer_if_none scope f g)) list))
+  prefix =
+      subst (λ (list : List (Stretch X)). AppendsPrefix old new (lines_or line (checked_line (answer_if_none scope f g)) list))
       (sym (in_append scope (map of given) later.0))
-      (front_of_all line (checked_line (answer_if_none scope f g)) (told_in scope (map of given)) (told_in scope later.0) old new front);
+      (prefix_of_all line (checked_line (answer_if_none scope f g)) (told_in scope (map of given)) (told_in scope later.0) old new prefix);
 }
 
 module _ {D X : Type 0} {of : D → Stretch X} {line : Stretch X → List ℕ} {scope : Scope} {f g : Position → Option X}
@@ -209,17 +209,17 @@ module _ {D X : Type 0} {of : D → Stretch X} {line : Stretch X → List ℕ} {
   -- before the next stretch was found
   pub stopped_between : {AreGiven : List D → Type 0} {is_right : Bool} → (h : HasPrinted of line AreGiven scope old new is_right)
       → HasMore of f g h.given → AreDifferencesBegun line scope f g old new
-  stopped_between h later = front_begun of h.given later (front_all old new _ h.text)
+  stopped_between h later = prefix_begun of h.given later (prefix_all old new _ h.text)
 
   -- within the line of a stretch
   pub stopped_within : {AreGiven : List D → Type 0} {now : Option (List ℕ)} {is_answered is_right : Bool} (d : D)
       → (h : HasPrinted of line AreGiven scope old now is_right) → HasMore of f g (h.given ++ d ∷ []) → is_answered ≡ is_some (of d).by_table
-      → AppendsFront now new (cond (counts_in scope is_answered) (line (of d)) []) → AreDifferencesBegun line scope f g old new
-  stopped_within {now = now} {is_answered = is_answered} d h later same front =
-      front_begun of (h.given ++ d ∷ []) later
-      (front_same old new _ _ (more_lines of line scope h.given d is_answered same)
-      (front_after old now new (flat_map line (told_in scope (map of h.given))) (cond (counts_in scope is_answered) (line (of d)) [])
-      h.text front))
+      → AppendsPrefix now new (cond (counts_in scope is_answered) (line (of d)) []) → AreDifferencesBegun line scope f g old new
+  stopped_within {now = now} {is_answered = is_answered} d h later same prefix =
+      prefix_begun of (h.given ++ d ∷ []) later
+      (prefix_same old new _ _ (more_lines of line scope h.given d is_answered same)
+      (prefix_after old now new (flat_map line (told_in scope (map of h.given))) (cond (counts_in scope is_answered) (line (of d)) [])
+      h.text prefix))
 
 -- ---- the end
 
@@ -262,14 +262,14 @@ end_told {X} {line} {scope} {f} {g} {old} {now} {new} {all = all} h section text
 
 pub end_begun : {X : Type 0} {line : Stretch X → List ℕ} {scope : Scope} {f g : Position → Option X} {old now new : Option (List ℕ)}
     {missed : Option ℕ} {all : ℕ} → ArePrinted line scope f g old now missed → all ≡ addresses_answered f
-    → AppendsFront now new (end_text scope all missed) → AreDifferencesBegun line scope f g old new
-end_begun {X} {line} {scope} {f} {g} {old} {now} {new} {all = all} h section front =
+    → AppendsPrefix now new (end_text scope all missed) → AreDifferencesBegun line scope f g old new
+end_begun {X} {line} {scope} {f} {g} {old} {now} {new} {all = all} h section prefix =
     let number = addresses_answered (where_missed g f) in
     record {
       stretches = h.stretches;
       are_all = h.are_all;
-      front =
-          front_same old new _ _ (whole_text line scope f g h.stretches all section)
-          (front_after old now new (flat_map line h.stretches) (end_text scope all (if_none h.stretches number)) h.text
-          (subst (λ (m : Option ℕ). AppendsFront now new (end_text scope all m)) h.missed_is front));
+      prefix =
+          prefix_same old new _ _ (whole_text line scope f g h.stretches all section)
+          (prefix_after old now new (flat_map line h.stretches) (end_text scope all (if_none h.stretches number)) h.text
+          (subst (λ (m : Option ℕ). AppendsPrefix now new (end_text scope all m)) h.missed_is prefix));
     }

@@ -1,7 +1,7 @@
 -- The lines of the stretches at which a table answers otherwise than the rows of units.
 use Rattle.std.proofs.Common.{◌≡◌, ◌≢◌, Bool, ℕ, List, [], ◌++◌, inl, inr, Option, Some, None, IfSome, ap, codes, map, subst}
 use Rattle.std.proofs.lemmas.List.{map-append}
-use Rattle.lnt_io.specs.Fronts.{AppendsFront}
+use Rattle.lnt_io.specs.Prefixes.{AppendsPrefix}
 use Rattle.lnt_header.specs.declared.unit_parts.UnitParts.{UnitParts}
 use Rattle.lnt_spans.specs.declared.answer.Answer.{Answer}
 use Rattle.lnt_spans.specs.declared.difference.Difference.{Difference}
@@ -83,18 +83,18 @@ module _ (scope : Scope) (index : Indexed) (dead : Option ℕ) (skip : Bool) (un
   -- within the line of the fault of a table of version 1 or 2
   pub fault_begun : (S : Type 0) (table : Option (List ℕ)) {old new : Option (List ℕ)} (told : TableFault)
       → IfSome table (λ text. IsFault text told × IsNoHeader {S = S} (Fault told))
-      → AppendsFront old new (table_no_text (no_of_fault told) ++ codes "\n")
+      → AppendsPrefix old new (table_no_text (no_of_fault told) ++ codes "\n")
       → IfSome table (λ text. AreStretchesBegun scope index dead skip units text old new)
-  fault_begun S None told is front = tt
-  fault_begun S (Some text) told is front =
-      inl (record { told = told; is_so = (is.0, λ e. is.1 (ap (λ (t : TableFault). Fault t) e)); front = front })
+  fault_begun S None told is prefix = tt
+  fault_begun S (Some text) told is prefix =
+      inl (record { told = told; is_so = (is.0, λ e. is.1 (ap (λ (t : TableFault). Fault t) e)); prefix = prefix })
 
   -- within the line of the fault of a table by path
   pub path_fault_begun : (table : Option (List ℕ)) {old new : Option (List ℕ)} (told : TableFault)
-      → IfSome table (λ text. IsFaultByPath text told) → AppendsFront old new (table_no_text (no_of_fault told) ++ codes "\n")
+      → IfSome table (λ text. IsFaultByPath text told) → AppendsPrefix old new (table_no_text (no_of_fault told) ++ codes "\n")
       → IfSome table (λ text. AreStretchesBegun scope index dead skip units text old new)
-  path_fault_begun None told is front = tt
-  path_fault_begun (Some text) told is front = inr (inr (inl (record { told = told; is_so = is; front = front })))
+  path_fault_begun None told is prefix = tt
+  path_fault_begun (Some text) told is prefix = inr (inr (inl (record { told = told; is_so = is; prefix = prefix })))
 
   -- within the lines of stretches, by number
   pub numbered_begun : {S : Type 0} (of_section : Remaining S → List Span → Type 0) (of_table : SpanList → List Span → Type 0)

@@ -55,5 +55,5 @@ begun_later tells tells' index files old new later so = record {
   rest = so.rest;
   places = so.places;
   are_true = true_later tells tells' index so.findings later so.are_true;
-  front = so.front;
+  prefix = so.prefix;
 }

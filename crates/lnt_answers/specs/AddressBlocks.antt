@@ -14,7 +14,7 @@ HasNo byte text = All (λ other. (other == byte) ≡ false) text
 
 -- The first such byte of the text is between these two parts of it.
 abbrev pub IsCut : ℕ → List ℕ → List ℕ → List ℕ → Type 0
-IsCut byte text front back = (text ≡ front ++ byte ∷ back) × HasNo byte front
+IsCut byte text prefix back = (text ≡ prefix ++ byte ∷ back) × HasNo byte prefix
 
 -- The first line of the text contains this position, and ends with a line feed before the rest of the text.
 pub record BeginsWithLine (op : ℕ) (text : List ℕ) (position : Position) (rest : List ℕ) : Type 0 where

@@ -3,7 +3,7 @@ use Rattle.std.specs.Prelude.{◌≡◌, Bool, ℕ, List, [], ◌∷◌, ◌++�
 use Rattle.std.specs.List.{AllByRecursion, flat_map}
 use Rattle.std.specs.Io.KnownBytes.{Appends}
 use Rattle.std.specs.Str.Lines.{lines}
-use Rattle.lnt_io.specs.Fronts.{AppendsFront}
+use Rattle.lnt_io.specs.Prefixes.{AppendsPrefix}
 use Rattle.lnt_io.specs.declared.status.Status.{Status}
 use Rattle.lnt_io.specs.declared.status.Status.TheVariants.{Done, No}
 use Rattle.lnt_spans.specs.declared.position.Position.{Position}
@@ -56,8 +56,8 @@ pub record AreLinesBegun (index : Indexed) (op : ℕ) (texts : List (List ℕ)) 
   pub told : List (List ℕ × Option Position)
   pub lines_are : map (λ line. line.0) told ≡ texts
   pub so : AllByRecursion (Tells op) told
-  pub front : (dead : Option ℕ) (skip : Bool) (units : List (ℕ × UnitParts)) → IsIndexOf dead skip units index
-      → AppendsFront old new (flat_map (told_line index dead skip units) told)
+  pub prefix : (dead : Option ℕ) (skip : Bool) (units : List (ℕ × UnitParts)) → IsIndexOf dead skip units index
+      → AppendsPrefix old new (flat_map (told_line index dead skip units) told)
 
 -- If the source's bytes are known (text), this holds for all the text's lines, including those that weren't read yet. Their
 -- positions are a function of the lines (`laws::one_answer`): so a text has one whole answer, of which this is a prefix.

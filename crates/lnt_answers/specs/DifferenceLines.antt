@@ -2,7 +2,7 @@
 use Rattle.std.specs.Prelude.{◌≡◌, ℕ, List, [], ◌∷◌, ◌++◌, Option, codes}
 use Rattle.std.specs.List.{flat_map}
 use Rattle.std.specs.Io.KnownBytes.{Appends}
-use Rattle.lnt_io.specs.Fronts.{AppendsFront}
+use Rattle.lnt_io.specs.Prefixes.{AppendsPrefix}
 use Rattle.lnt_io.specs.declared.status.Status.{Status}
 use Rattle.lnt_io.specs.declared.status.Status.TheVariants.{Done, No}
 use Rattle.lnt_spans.specs.declared.answer.Answer.{Answer}
@@ -82,4 +82,4 @@ pub record AreDifferencesBegun {X : Type 0} (line : Stretch X → List ℕ) (sco
     (old new : Option (List ℕ)) : Type 0 where
   pub stretches : List (Stretch X)
   pub are_all : AreAllIn scope by_section by_table stretches
-  pub front : AppendsFront old new (lines_or line (checked_line (answer_if_none scope by_section by_table)) stretches)
+  pub prefix : AppendsPrefix old new (lines_or line (checked_line (answer_if_none scope by_section by_table)) stretches)

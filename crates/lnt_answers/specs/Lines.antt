@@ -8,7 +8,7 @@ use Rattle.lnt_lines.specs.declared.no.No.{No}
 use Rattle.lnt_lines.specs.declared.section.JudgedIndex.{JudgedIndex}
 use Rattle.lnt_lines.specs.declared.section.JudgedIndex.TheVariants.{Good, Bad}
 use Rattle.lnt_header.specs.declared.unit_parts.UnitParts.{UnitParts}
-use Rattle.lnt_io.specs.Fronts.{AppendsFront}
+use Rattle.lnt_io.specs.Prefixes.{AppendsPrefix}
 use Rattle.lnt_sequences.specs.Sequences.{line_answer}
 use Rattle.lnt_lines.specs.Indexed.{file_path_in, Indexed}
 use Rattle.lnt_text.specs.Digits.{IsAddress, IsDecimal}
@@ -33,7 +33,7 @@ IsReasonTold (Bad reason) old new = Appends old new (no_text reason ++ codes "\n
 pub record HasBegunLine (IsSo : JudgedIndex → Type 0) (old new : Option (List ℕ)) : Type 0 where
   pub reason : No
   pub is_so : IsSo (Bad reason)
-  pub front : AppendsFront old new (no_text reason ++ codes "\n")
+  pub prefix : AppendsPrefix old new (no_text reason ++ codes "\n")
 
 -- the line of a position without an answer
 abbrev pub none_text : Position → List ℕ

@@ -1,7 +1,7 @@
 -- What `table` prints for a table by path.
 use Rattle.std.specs.Prelude.{ℕ, List, ◌++◌, Option, codes}
 use Rattle.std.specs.Io.KnownBytes.{Appends}
-use Rattle.lnt_io.specs.Fronts.{HasBegun}
+use Rattle.lnt_io.specs.Prefixes.{HasBegun}
 use Rattle.lnt_io.specs.declared.status.Status.{Status}
 use Rattle.lnt_io.specs.declared.status.Status.TheVariants.{Done, No}
 use Rattle.lnt_paths.specs.declared.version.PathVersion.{PathVersion}

@@ -1,7 +1,7 @@
 -- What is printed if all positions in a scope are reported at which a table and a good section answer differently.
 use Rattle.std.specs.Prelude.{◌≢◌, ◌++◌, ◌⊎◌, Bool, ℕ, List, IfSome, Option, codes}
 use Rattle.std.specs.Io.KnownBytes.{Appends, Keeps}
-use Rattle.lnt_io.specs.Fronts.{AppendsFront}
+use Rattle.lnt_io.specs.Prefixes.{AppendsPrefix}
 use Rattle.lnt_header.specs.declared.unit_parts.UnitParts.{UnitParts}
 use Rattle.lnt_spans.specs.declared.answer.Answer.{Answer}
 use Rattle.lnt_spans.specs.declared.position.Position.{Position}
@@ -81,7 +81,7 @@ told_status (ToldByPath status) = status
 pub record IsFaultBegun (IsSo : TableFault → Type 0) (old new : Option (List ℕ)) : Type 0 where
   pub told : TableFault
   pub is_so : IsSo told
-  pub front : AppendsFront old new (table_no_text (no_of_fault told) ++ codes "\n")
+  pub prefix : AppendsPrefix old new (table_no_text (no_of_fault told) ++ codes "\n")
 
 -- What was written is a prefix of what is reported of the table, by its version: of the line of its first fault, or of the lines of
 -- the stretches.

@@ -6,7 +6,7 @@ use Rattle.std.specs.List.{AllByRecursion, flat_map}
 use Rattle.std.specs.Option.{option_map_or}
 use Rattle.std.specs.Io.KnownBytes.{Appends}
 use Rattle.lnt_io.specs.Files.{FileState, Readable, Unreadable}
-use Rattle.lnt_io.specs.Fronts.{AppendsFront}
+use Rattle.lnt_io.specs.Prefixes.{AppendsPrefix}
 use Rattle.hex.specs.Hex.{encode_lower}
 use Rattle.md5.specs.Md5.{md5}
 use Rattle.lnt_io.specs.declared.status.Status.{Status}
@@ -112,4 +112,4 @@ pub record AreSumsBegun (tells : List ℕ → FileState → Type 0) (index : Ind
   pub rest : List (ℕ × ℕ)
   pub places : map file_of findings ++ rest ≡ files
   pub are_true : AllByRecursion (IsTrueFinding tells index) findings
-  pub front : AppendsFront old new (flat_map (sum_line index) findings)
+  pub prefix : AppendsPrefix old new (flat_map (sum_line index) findings)

@@ -2,7 +2,7 @@
 ghost use Rattle.std.specs.Prelude.{◌≡◌, ◌<◌, IfErr, IfOk, OnErr, OnOk, Some, false, string_bytes};
 ghost use Rattle.std.specs.Io.KnownBytes.{Appends};
 ghost use Rattle.csv.specs.Writing as csv;
-ghost use Rattle.lnt_io.specs.Fronts.{AppendsFront};
+ghost use Rattle.lnt_io.specs.Prefixes.{AppendsPrefix};
 ghost use Rattle.lnt_io.specs.declared.status.Status.TheVariants.{Done};
 ghost use Rattle.lnt_io.specs.Halts.{IsPrinting};
 ghost use Rattle.lnt_lines.specs.Indexed.{file_count_in, file_path_in, file_sum_in};
@@ -25,7 +25,7 @@ pub fn print_files<W: Write>(alloc: Global, index: &Index<'_>, out: &mut W) -> R
     ensures done { IfOk result (λ status. status ≡ Done) }
     ensures err { IfErr result IsPrinting }
     ensures files { OnOk result (Appends (W.contents out.old) (W.contents out.new) (files_text index.now)) }
-    ensures front { OnErr result (AppendsFront (W.contents out.old) (W.contents out.new) (files_text index.now)) }
+    ensures prefix { OnErr result (AppendsPrefix (W.contents out.old) (W.contents out.new) (files_text index.now)) }
 {
     write_whole(out, b"unit,file,path,md5\n")?;
     for unit in index.units() {
@@ -44,7 +44,7 @@ fn print_unit_files<W: Write>(
 ) -> Result<(), Halt>
     ensures err { IfErr result IsPrinting }
     ensures records { OnOk result (Appends (W.contents out.old) (W.contents out.new) (unit_records index.now unit)) }
-    ensures front { OnErr result (AppendsFront (W.contents out.old) (W.contents out.new) (unit_records index.now unit)) }
+    ensures prefix { OnErr result (AppendsPrefix (W.contents out.old) (W.contents out.new) (unit_records index.now unit)) }
 {
     for file in 0..index.file_count(unit) {
         print_file(alloc, index, unit, file, out)?;
@@ -63,7 +63,7 @@ fn print_file<W: Write>(
     requires { file < file_count_in index.now unit }
     ensures err { IfErr result IsPrinting }
     ensures record { OnOk result (Appends (W.contents out.old) (W.contents out.new) (file_record index.now unit file)) }
-    ensures front { OnErr result (AppendsFront (W.contents out.old) (W.contents out.new) (file_record index.now unit file)) }
+    ensures prefix { OnErr result (AppendsPrefix (W.contents out.old) (W.contents out.new) (file_record index.now unit file)) }
 {
     let bytes = record_of(alloc, index, unit, file)?;
     write_whole(out, &bytes)?;

@@ -4,7 +4,7 @@ ghost use Rattle.std.specs.Io.KnownBytes.{Appends};
 ghost use Rattle.lnt_io.specs.declared.status.Status.TheVariants.{Done};
 ghost use Rattle.lnt_header.specs.declared.unit_parts.UnitParts.{UnitParts};
 ghost use Rattle.lnt_lines.specs.Indexed.{IsIndexOf};
-ghost use Rattle.lnt_io.specs.Fronts.{AppendsFront};
+ghost use Rattle.lnt_io.specs.Prefixes.{AppendsPrefix};
 ghost use Rattle.lnt_io.specs.Halts.{IsPrinting};
 ghost use Rattle.std.specs.List.{flat_map};
 ghost use Rattle.lnt_answers.specs.Lines.{lookup_line};
@@ -81,7 +81,7 @@ pub(crate) fn put_lookup(
 pub(crate) fn send<W: Write>(lines: &mut Vec<u8>, out: &mut W) -> Result<(), Halt>
     ensures whole { OnOk result (Appends (W.contents out.old) (W.contents out.new) lines.old.items) }
     ensures empty { OnOk result (lines.new.items ≡ []) }
-    ensures front { OnErr result (AppendsFront (W.contents out.old) (W.contents out.new) lines.old.items) }
+    ensures prefix { OnErr result (AppendsPrefix (W.contents out.old) (W.contents out.new) lines.old.items) }
     ensures err { IfErr result IsPrinting }
 {
     write_whole(out, lines.as_slice())?;
@@ -104,8 +104,8 @@ pub fn print_lookups<W: Write>(
     ensures err { IfErr result (λ halt. IsPrinting halt) }
     ensures lines { (dead : Option ℕ) (skip : Bool) (units : List (ℕ × UnitParts)) → IsIndexOf dead skip units index.now
         → OnOk result (Appends (W.contents out.old) (W.contents out.new) (flat_map (lookup_line index.now dead skip units) positions.now)) }
-    ensures front { (dead : Option ℕ) (skip : Bool) (units : List (ℕ × UnitParts)) → IsIndexOf dead skip units index.now
-        → OnErr result (AppendsFront (W.contents out.old) (W.contents out.new)
+    ensures prefix { (dead : Option ℕ) (skip : Bool) (units : List (ℕ × UnitParts)) → IsIndexOf dead skip units index.now
+        → OnErr result (AppendsPrefix (W.contents out.old) (W.contents out.new)
         (flat_map (lookup_line index.now dead skip units) positions.now)) }
 {
     let mut lookups = CachedLookups::new(alloc, index, KeepsFrom::Second)?;

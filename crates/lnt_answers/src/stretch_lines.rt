@@ -2,7 +2,7 @@
 ghost use Rattle.std.specs.Prelude.{◌≡◌, [], true, false, cond, Some, None, IfErr, IfSome, OnErr, OnOk};
 ghost use Rattle.std.specs.Io.KnownBytes.{Appends};
 ghost use Rattle.lnt_answers.specs.Stepping.{counts_in};
-ghost use Rattle.lnt_io.specs.Fronts.{AppendsFront};
+ghost use Rattle.lnt_io.specs.Prefixes.{AppendsPrefix};
 ghost use Rattle.lnt_io.specs.Halts.{IsPrinting};
 
 use crate::display::put_text;
@@ -45,7 +45,7 @@ impl StretchLines {
         ensures err { IfErr result IsPrinting }
         ensures line { IfSome (T.output line.now) (λ text. OnOk result (Appends (W.contents out.old) (W.contents out.new)
             (cond (counts_in self.old.scope is_answered) text []))) }
-        ensures front { IfSome (T.output line.now) (λ text. OnErr result (AppendsFront (W.contents out.old) (W.contents out.new)
+        ensures prefix { IfSome (T.output line.now) (λ text. OnErr result (AppendsPrefix (W.contents out.old) (W.contents out.new)
             (cond (counts_in self.old.scope is_answered) text []))) }
         ensures scope { self.new.scope ≡ self.old.scope }
         ensures right { OnOk result (self.new.is_right ≡ cond (counts_in self.old.scope is_answered) false self.old.is_right) }

@@ -9,7 +9,7 @@ ghost use Rattle.lnt_table.specs.FaultTexts.{table_no_text};
 ghost use Rattle.lnt_lines.specs.Indexed.{IsIndexOf};
 ghost use Rattle.lnt_paths.specs.PathAnswers.{PathAnswer};
 ghost use Rattle.lnt_paths.specs.Stretching.{HasToldByPath};
-ghost use Rattle.lnt_io.specs.Fronts.{AppendsFront};
+ghost use Rattle.lnt_io.specs.Prefixes.{AppendsPrefix};
 ghost use Rattle.lnt_io.specs.Halts.{IsPrinting};
 ghost use Rattle.lnt_sequences.specs.Sequences.{line_answer};
 ghost use Rattle.lnt_spans.specs.Counts.{addresses_answered};
@@ -99,7 +99,7 @@ pub fn print_stretches<T: Source, W: Write>(
 fn print_fault<W: Write>(alloc: Global, fault: TableFault, out: &mut W) -> Result<(), Halt>
     ensures err { IfErr result IsPrinting }
     ensures line { OnOk result (Appends (W.contents out.old) (W.contents out.new) (table_no_text (no_of_fault fault) ++ codes "\n")) }
-    ensures front { OnErr result (AppendsFront (W.contents out.old) (W.contents out.new)
+    ensures prefix { OnErr result (AppendsPrefix (W.contents out.old) (W.contents out.new)
         (table_no_text (no_of_fault fault) ++ codes "\n")) }
 {
     print_line(alloc, &TableNo::from(fault), out)
@@ -119,8 +119,8 @@ fn print_end<W: Write>(
     ensures text { (dead : Option ℕ) (skip : Bool) (units : List (ℕ × UnitParts)) → IsIndexOf dead skip units index.now
         → OnOk result (Appends (W.contents out.old) (W.contents out.new)
         (end_text scope (addresses_answered (line_answer dead skip units)) missed)) }
-    ensures front { (dead : Option ℕ) (skip : Bool) (units : List (ℕ × UnitParts)) → IsIndexOf dead skip units index.now
-        → OnErr result (AppendsFront (W.contents out.old) (W.contents out.new)
+    ensures prefix { (dead : Option ℕ) (skip : Bool) (units : List (ℕ × UnitParts)) → IsIndexOf dead skip units index.now
+        → OnErr result (AppendsPrefix (W.contents out.old) (W.contents out.new)
         (end_text scope (addresses_answered (line_answer dead skip units)) missed)) }
 {
     let Some(missed) = missed else {

@@ -2,7 +2,7 @@
 ghost use Rattle.std.specs.Prelude.{◌≡◌, Bool, ℕ, List, Option, IfErr, IfOk, OnErr, OnOk};
 ghost use Rattle.std.specs.Io.KnownBytes.{Appends};
 ghost use Rattle.lnt_lines.specs.Indexed.{IsIndexOf};
-ghost use Rattle.lnt_io.specs.Fronts.{AppendsFront};
+ghost use Rattle.lnt_io.specs.Prefixes.{AppendsPrefix};
 ghost use Rattle.lnt_io.specs.Halts.{IsPrinting};
 ghost use Rattle.lnt_io.specs.declared.status.Status.TheVariants.{Done};
 ghost use Rattle.lnt_table.specs.ByPath.{told_path};
@@ -77,7 +77,7 @@ pub fn print_path_table<W: Write>(
 fn print_operation<W: Write>(alloc: Global, position: Position, out: &mut W) -> Result<(), Halt>
     ensures err { IfErr result IsPrinting }
     ensures line { OnOk result (Appends (W.contents out.old) (W.contents out.new) (operation_line position)) }
-    ensures front { OnErr result (AppendsFront (W.contents out.old) (W.contents out.new) (operation_line position)) }
+    ensures prefix { OnErr result (AppendsPrefix (W.contents out.old) (W.contents out.new) (operation_line position)) }
 {
     print_line(alloc, &OperationLine(position), out)
 }

@@ -1,7 +1,7 @@
 //! The line of a check's answer.
 ghost use Rattle.std.specs.Prelude.{IfErr, OnErr, OnOk};
 ghost use Rattle.std.specs.Io.KnownBytes.{Appends};
-ghost use Rattle.lnt_io.specs.Fronts.{AppendsFront};
+ghost use Rattle.lnt_io.specs.Prefixes.{AppendsPrefix};
 ghost use Rattle.lnt_io.specs.Halts.{IsPrinting};
 ghost use Rattle.lnt_answers.specs.Verdicts.{checked_line};
 
@@ -22,7 +22,7 @@ pub fn print_checked<W: Write>(
 ) -> Result<(), Halt>
     ensures err { IfErr result IsPrinting }
     ensures line { OnOk result (Appends (W.contents out.old) (W.contents out.new) (checked_line checked.now)) }
-    ensures front { OnErr result (AppendsFront (W.contents out.old) (W.contents out.new) (checked_line checked.now)) }
+    ensures prefix { OnErr result (AppendsPrefix (W.contents out.old) (W.contents out.new) (checked_line checked.now)) }
 {
     print_line(alloc, checked, out)
 }

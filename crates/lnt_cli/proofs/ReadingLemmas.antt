@@ -2,7 +2,7 @@
 use Rattle.std.proofs.Common.{◌≡◌, ℕ, Bool, List, ◌⊎◌, Option, Some, None, IfSome, Result, Ok, Err, IfOk, OnErr, inl, inr, refl}
 use Rattle.std.specs.Io.KnownBytes.{Keeps}
 use Rattle.lnt_io.specs.Files.{FileState, Readable}
-use Rattle.lnt_io.specs.Fronts.{HasBegun}
+use Rattle.lnt_io.specs.Prefixes.{HasBegun}
 use Rattle.lnt_wire.specs.declared.format.Format.{Format}
 use Rattle.lnt_wire.specs.declared.format.Order.{Order}
 use Rattle.lnt_io.specs.declared.halt.Halt.{Halt}
@@ -46,7 +46,7 @@ conversion_told order format to section old new (Err halt) if_done if_no = tt
 
 -- ---- readings that were stopped
 
--- A front of the list of a section's units is a front of the answer for its bytes, where these are known.
+-- A prefix of the list of a section's units is a prefix of the answer for its bytes, where these are known.
 pub units_stopped : (order : Order) (section old new : Option (List ℕ)) (printed : Result Status Halt)
     → OnErr printed (IfSome section AreBytes → HasBegun (AreUnitsTold order section old) old new)
     → OnErr printed (IfSome section (λ bytes. Keeps old new ⊎ BeginsReading order Units bytes old new))
@@ -61,7 +61,7 @@ dump_stopped order ops rows section old new (Ok status) begun = tt
 dump_stopped order ops rows None old new (Err halt) begun = tt
 dump_stopped order ops rows (Some bytes) old new (Err halt) begun = inr begun
 
--- a front of the answer for the section's bytes is one for the named file
+-- a prefix of the answer for the section's bytes is one for the named file
 begun_read : (tells : List ℕ → FileState → Type 0) (name : List ℕ) (order : Order) (reading : Reading)
     (section old new : Option (List ℕ)) → tells name (Readable section)
     → IfSome section (λ bytes. Keeps old new ⊎ BeginsReading order reading bytes old new)

@@ -3,8 +3,8 @@ use Rattle.std.proofs.Common.{ℕ, List, ◌⊎◌, Option, IsErr, Result, Ok, E
 use Rattle.std.proofs.Common.{Bool, ◌++◌, codes}
 use Rattle.std.proofs.lemmas.Bool.{false≢true}
 use Rattle.std.specs.Io.KnownBytes.{Appends, Keeps, append_known}
-use Rattle.lnt_io.specs.Fronts.{AppendsFront, HasBegun}
-use Rattle.lnt_io.proofs.FrontLaws.{appends_known}
+use Rattle.lnt_io.specs.Prefixes.{AppendsPrefix, HasBegun}
+use Rattle.lnt_io.proofs.PrefixLaws.{appends_known}
 use Rattle.lnt_io.specs.Files.{FileState, Readable, TellsNoMore}
 use Rattle.lnt_lines.specs.declared.no.No.{No}
 use Rattle.lnt_lines.specs.declared.options.Options.{Options}
@@ -29,13 +29,13 @@ use Rattle.lnt_cli.specs.declared.inputs.Texts.{Texts}
 use Rattle.lnt_cli.specs.declared.question.FileQuestion.TheVariants.{Places}
 use Rattle.lnt_cli.proofs.QuestionLemmas.{told_of_file, told_of_section}
 
--- a front of what is printed of a check's result, which is the answer once it is printed
+-- a prefix of what is printed of a check's result, which is the answer once it is printed
 check_begun : (tells : List ℕ → FileState → Type 0) (from : Judging) (table : List ℕ) (scope : Scope) (checked : CheckedWithin)
     (old new : Option (List ℕ))
     → ((before after : Option (List ℕ)) → Appends before after (checked_line checked)
     → IsChecked tells from table scope before after checked)
-    → AppendsFront old new (checked_line checked) → HasBegun (AnswersCheck tells from table scope old) old new
-check_begun tells from table scope checked old new so front = record {
+    → AppendsPrefix old new (checked_line checked) → HasBegun (AnswersCheck tells from table scope old) old new
+check_begun tells from table scope checked old new so prefix = record {
   whole = checked_line checked;
   ending = checked_status checked;
   is_end = record {
@@ -43,7 +43,7 @@ check_begun tells from table scope checked old new so front = record {
     so = so old (append_known old (checked_line checked)) (appends_known old (checked_line checked));
     status_is = refl;
   };
-  front = front;
+  prefix = prefix;
 }
 
 -- the same where the printing stopped the run
@@ -51,29 +51,29 @@ pub check_stopped : {R T S E : Type 0} (tells : List ℕ → FileState → Type 
     (checked : CheckedWithin) (old new : Option (List ℕ)) (printed : Result R E) (ended : Result T S)
     → ((before after : Option (List ℕ)) → Appends before after (checked_line checked)
     → IsChecked tells from table scope before after checked)
-    → OnErr ended (IsErr printed) → OnErr printed (AppendsFront old new (checked_line checked))
+    → OnErr ended (IsErr printed) → OnErr printed (AppendsPrefix old new (checked_line checked))
     → OnErr ended (Keeps old new ⊎ HasBegun (AnswersCheck tells from table scope old) old new)
-check_stopped tells from table scope checked old new printed (Ok status) so is front = tt
-check_stopped tells from table scope checked old new (Ok value) (Err stop) so is front = absurd (false≢true is)
-check_stopped tells from table scope checked old new (Err halt) (Err stop) so is front =
-    inr (check_begun tells from table scope checked old new so front)
+check_stopped tells from table scope checked old new printed (Ok status) so is prefix = tt
+check_stopped tells from table scope checked old new (Ok value) (Err stop) so is prefix = absurd (false≢true is)
+check_stopped tells from table scope checked old new (Err halt) (Err stop) so is prefix =
+    inr (check_begun tells from table scope checked old new so prefix)
 
 -- ---- sections that are judged
 
--- a front of the line of a section that isn't good
+-- a prefix of the line of a section that isn't good
 pub begins_bad : {T E : Type 0} (texts : Texts) (from : Judging) (section : Option (List ℕ)) (HasBegunOf : JudgedIndex → Type 0)
     (old new : Option (List ℕ)) (ended : Result T E)
-    → ((reason : No) → AppendsFront old new (no_text reason ++ codes "\n") → HasBegunOf (Bad reason))
+    → ((reason : No) → AppendsPrefix old new (no_text reason ++ codes "\n") → HasBegunOf (Bad reason))
     → Keeps old new ⊎ HasBegunLine (IsTrueOf texts from section) old new
     → OnErr ended (Keeps old new ⊎ IsJudgedSo texts from section HasBegunOf)
 begins_bad texts from section HasBegunOf old new (Ok answered) of_bad begun = tt
 begins_bad texts from section HasBegunOf old new (Err stop) of_bad (inl kept) = inl kept
 begins_bad texts from section HasBegunOf old new (Err stop) of_bad (inr line) =
-    inr (Bad line.reason, line.is_so, of_bad line.reason line.front)
+    inr (Bad line.reason, line.is_so, of_bad line.reason line.prefix)
 
 -- ---- questions
 
--- a front of an answer stays true where more may be told of the files
+-- a prefix of an answer stays true where more may be told of the files
 good_begun_later : (tells tells' : List ℕ → FileState → Type 0) (options : Options) (question : Question) (index : Indexed)
     (old new : Option (List ℕ)) → TellsNoMore tells tells' → BeginsGood tells' options question index old new
     → BeginsGood tells options question index old new
@@ -93,7 +93,7 @@ judged_begun_later tells tells' options question old new (Good index) later begu
     good_begun_later tells tells' options question index old new later begun
 judged_begun_later tells tells' options question old new (Bad reason) later begun = begun
 
--- A front of an answer for a judged section, from a time when less might be told of the files, is one to the question.
+-- A prefix of an answer for a judged section, from a time when less might be told of the files, is one to the question.
 pub question_stopped : {T E : Type 0} (tells tells' : List ℕ → FileState → Type 0) (from : Judging) (question : Question)
     (old new : Option (List ℕ)) (texts : Texts) (section : Option (List ℕ)) (ended : Result T E)
     → AreTextsOf tells from texts.line.items texts.general.items → tells from.section.now (Readable section)

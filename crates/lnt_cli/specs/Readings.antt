@@ -1,6 +1,6 @@
 -- The answer if a section is read and its lines aren't judged.
 use Rattle.std.specs.Prelude.{ℕ, List, Option, Some}
-use Rattle.lnt_io.specs.Fronts.{HasBegun}
+use Rattle.lnt_io.specs.Prefixes.{HasBegun}
 use Rattle.lnt_io.specs.declared.status.Status.{Status}
 use Rattle.lnt_wire.specs.declared.format.Order.{Order}
 use Rattle.lnt_words.specs.declared.request.Reading.{Reading}

@@ -5,7 +5,7 @@ use Rattle.std.specs.Prelude.{ℕ, List, ◌++◌, ◌⊎◌, Option, IfSome, tr
 use Rattle.std.specs.List.{flat_map}
 use Rattle.std.specs.Option.{option_copied}
 use Rattle.std.specs.Io.KnownBytes.{Keeps}
-use Rattle.lnt_io.specs.Fronts.{AppendsFront, HasBegun}
+use Rattle.lnt_io.specs.Prefixes.{AppendsPrefix, HasBegun}
 use Rattle.lnt_wire.specs.declared.format.Order.{Order}
 use Rattle.lnt_lines.specs.declared.options.Options.{Options}
 use Rattle.lnt_lines.specs.declared.section.JudgedIndex.{JudgedIndex}
@@ -48,11 +48,11 @@ BeginsPathTableText version options index old new =
 
 -- A prefix of the answer for a good section with this index.
 abbrev pub BeginsGood : (List ℕ → FileState → Type 0) → Options → Question → Indexed → Option (List ℕ) → Option (List ℕ) → Type 0
-BeginsGood tells options Verify index old new = AppendsFront old new (codes "yes\n")
+BeginsGood tells options Verify index old new = AppendsPrefix old new (codes "yes\n")
 BeginsGood tells options (Lookup positions) index old new =
     ForUnitsOf options index
-    (λ units. AppendsFront old new (flat_map (lookup_line index options.dead options.skip_copies units) positions.items))
-BeginsGood tells options Files index old new = AppendsFront old new (files_text index)
+    (λ units. AppendsPrefix old new (flat_map (lookup_line index options.dead options.skip_copies units) positions.items))
+BeginsGood tells options Files index old new = AppendsPrefix old new (files_text index)
 BeginsGood tells options Md5 index old new = AreSumsBegun tells index (listed_files index) old new
 BeginsGood tells options (Table version) index old new =
     ForUnitsOf options index (λ units. BeginsTableOfUnits version options.dead options.skip_copies units old new)
@@ -70,7 +70,7 @@ BeginsGoodFile (Places scope) options bytes index old new = ForUnitsOf options i
 abbrev pub BeginsJudged : (Indexed → Option (List ℕ) → Option (List ℕ) → Type 0) → Option (List ℕ) → Option (List ℕ) → JudgedIndex
     → Type 0
 BeginsJudged BeginsOfGood old new (Good index) = BeginsOfGood index old new
-BeginsJudged BeginsOfGood old new (Bad reason) = AppendsFront old new (no_text reason ++ codes "\n")
+BeginsJudged BeginsOfGood old new (Bad reason) = AppendsPrefix old new (no_text reason ++ codes "\n")
 
 -- The judgement of the section in the named file is true, and a prefix of the answer to the question was written.
 abbrev pub BeginsQuestion : (List ℕ → FileState → Type 0) → Judging → Question → Option (List ℕ) → Option (List ℕ) → Type 0
@@ -102,7 +102,7 @@ pub record StopsUpgrade (tells : List ℕ → FileState → Type 0) (from : Upgr
 
 -- What was written if the answer to this request was stopped.
 abbrev pub IsStopped : (List ℕ → FileState → Type 0) → Request → Option (List ℕ) → Option (List ℕ) → Type 0
-IsStopped tells (Help text) old new = AppendsFront old new (string_bytes text)
+IsStopped tells (Help text) old new = AppendsPrefix old new (string_bytes text)
 IsStopped tells (Read section order reading) old new = Keeps old new ⊎ StopsRead tells section.now order reading old new
 IsStopped tells (Upgrade from) old new = Keeps old new ⊎ StopsUpgrade tells from old new
 IsStopped tells (Judge from question) old new = Keeps old new ⊎ BeginsQuestion tells from question old new

@@ -1,7 +1,7 @@
 //! The subcommand `check`.
 ghost use Rattle.std.specs.Prelude.{◌≡◌, ◌<◌, ◌⊎◌, ℕ, List, Option, IfErr, IfOk, IfSome, IsTrue, OnErr};
 ghost use Rattle.std.specs.Io.KnownBytes.{Appends, Keeps};
-ghost use Rattle.lnt_io.specs.Fronts.{HasBegun};
+ghost use Rattle.lnt_io.specs.Prefixes.{HasBegun};
 ghost use Rattle.lnt_cli.specs.Answered.{AnswersCheck, IsChecked, options_in};
 ghost use Rattle.lnt_cli.specs.Stepping.{IsOfCause};
 ghost use Rattle.lnt_cli.specs.Stops.{IsFileOfBoth, NamesOneOf, StopsIfRefused};

@@ -6,8 +6,8 @@ use Rattle.std.specs.List.{AllByRecursion, flat_map}
 use Rattle.std.specs.Io.KnownBytes.{Appends, Keeps}
 use Rattle.std.proofs.KnownBytes.{Appends-nil, Appends-trans}
 use Rattle.std.proofs.lemmas.List.{length-append, map-append}
-use Rattle.lnt_io.specs.Fronts.{AppendsFront}
-use Rattle.lnt_io.proofs.FrontLaws.{front_after, front_before, front_none, front_same, front_since}
+use Rattle.lnt_io.specs.Prefixes.{AppendsPrefix}
+use Rattle.lnt_io.proofs.PrefixLaws.{prefix_after, prefix_before, prefix_none, prefix_same, prefix_since}
 use Rattle.lnt_io.specs.Pulling.{Pulls}
 use Rattle.lnt_header.specs.declared.op.Op.{Op}
 use Rattle.lnt_header.specs.declared.unit_parts.UnitParts.{UnitParts}
@@ -58,7 +58,7 @@ module _ (shown : DumpParts) (frame : Frame) (unit : BufferedUnit) (old new : Op
   faulty_told fault (Err halt) at is is_no line = tt
 
   pub faulty_begun : {offset : ℕ} (fault : RowFault) (printed : Result Status Halt) → offset ≡ unit.offset → IsFaultOf unit shown.rows fault
-      → OnErr printed (AppendsFront old new (fault_line offset (Some fault)))
+      → OnErr printed (AppendsPrefix old new (fault_line offset (Some fault)))
       → OnErr printed (Keeps old new ⊎ UnitBegun shown frame unit old new)
   faulty_begun fault (Ok status) at is line = tt
   faulty_begun {offset} fault (Err halt) at is line = inr (faulty_so offset fault at is line)
@@ -71,7 +71,7 @@ module _ (shown : DumpParts) (frame : Frame) (unit : BufferedUnit) (old new : Op
     broken_told (Err halt) other is_no line = tt
 
     pub broken_begun : (printed : Result Status Halt) → OnErr printed (Keeps old new ⊎ (fault.reason ≢ Memory))
-        → OnErr printed (AppendsFront old new (malformed_text fault ++ codes "\n"))
+        → OnErr printed (AppendsPrefix old new (malformed_text fault ++ codes "\n"))
         → OnErr printed (Keeps old new ⊎ UnitBegun shown frame unit old new)
     broken_begun (Ok status) other line = tt
     broken_begun (Err halt) (inl kept) line = inl kept
@@ -113,8 +113,8 @@ begins order shown (Some bytes) None units of_reader offset Ends read each ends 
 begins order shown (Some bytes) (Some rest) units of_reader offset Ends read each ends = (
   rest,
   record {
-    front = read.so_far.front;
-    whole = read.pulls ∙ ap (λ (z : List ℕ). z ++ rest) (read.so_far.whole ∙ append-nil read.so_far.front);
+    prefix = read.so_far.prefix;
+    whole = read.pulls ∙ ap (λ (z : List ℕ). z ++ rest) (read.so_far.whole ∙ append-nil read.so_far.prefix);
     offset_is = read.so_far.place;
     frames = read.so_far.joined;
     each = each;
@@ -195,13 +195,13 @@ module _ {order : Order} {shown : DumpParts} {start now old then : Option (List 
   }
 
   begun_faulty : {new : Option (List ℕ)} (fault : RowFault) → IfSome now (λ rest. IsDumpFault order shown offset rest fault)
-      → AppendsFront then new (fault_line offset (Some fault)) → IsDumpBegun order shown start old new
+      → AppendsPrefix then new (fault_line offset (Some fault)) → IsDumpBegun order shown start old new
   begun_faulty {new} fault is line = record {
     units = told.units;
     offset = offset;
     fault = Some fault;
     so = begins_so (λ rest. IsDumpFault order shown offset rest fault) is;
-    begun = front_after old then new (flat_map (unit_lines shown) told.units) (fault_line offset (Some fault)) told.printed line;
+    begun = prefix_after old then new (flat_map (unit_lines shown) told.units) (fault_line offset (Some fault)) told.printed line;
   }
 
   pub units_faulty : (new : Option (List ℕ)) (fault : Fault) (printed : Result Status Halt)
@@ -213,7 +213,7 @@ module _ {order : Order} {shown : DumpParts} {start now old then : Option (List 
   units_faulty new fault (Err halt) ends is_no line = tt
 
   pub units_fault_cut : (new : Option (List ℕ)) (fault : Fault) (printed : Result Status Halt)
-      → SectionEndsBy offset of_reader now (Some fault) → OnErr printed (AppendsFront then new (malformed_text fault ++ codes "\n"))
+      → SectionEndsBy offset of_reader now (Some fault) → OnErr printed (AppendsPrefix then new (malformed_text fault ++ codes "\n"))
       → OnErr printed (IsDumpBegun order shown start old new)
   units_fault_cut new fault (Ok status) ends line = tt
   units_fault_cut new fault (Err halt) ends line = begun_faulty (Malformed fault) (no_frame shown now fault told.read ends) line
@@ -225,8 +225,8 @@ module _ {order : Order} {shown : DumpParts} {start now old then : Option (List 
     offset = offset;
     fault = None;
     so = begins_so (λ rest. Unit {0}) (any_rest now);
-    begun = front_after old then new (flat_map (unit_lines shown) told.units) [] told.printed
-        (front_since then new new [] kept (front_none new []));
+    begun = prefix_after old then new (flat_map (unit_lines shown) told.units) [] told.printed
+        (prefix_since then new new [] kept (prefix_none new []));
   }
 
   pub units_stay : IsDumpBegun order shown start old then
@@ -308,7 +308,7 @@ module _ {order : Order} {shown : DumpParts} {start mid now old then : Option (L
           (subst (λ (at : ℕ). Appends then new (fault_line at (Some fault))) n.next.offset_is
           (subst (Appends then new) ends.1 one.so))
 
-  -- a front of it is written
+  -- a prefix of it is written
   pub units_cut : {new : Option (List ℕ)} → Keeps then new ⊎ UnitBegun shown frame unit then new → IsDumpBegun order shown start old new
   units_cut (inl kept) = units_stopped told kept
   units_cut {new} (inr one) = by_fault one.fault one.ends
@@ -316,8 +316,8 @@ module _ {order : Order} {shown : DumpParts} {start mid now old then : Option (L
       by_fault : (fault : Option RowFault) → UnitEnds shown frame unit fault one.text → IsDumpBegun order shown start old new
       by_fault (Some fault) ends =
           begun_faulty told fault (faulty fault ends.0)
-          (subst (λ (at : ℕ). AppendsFront then new (fault_line at (Some fault))) n.next.offset_is
-          (front_same then new one.text (fault_line unit.offset (Some fault)) ends.1 one.so))
+          (subst (λ (at : ℕ). AppendsPrefix then new (fault_line at (Some fault))) n.next.offset_is
+          (prefix_same then new one.text (fault_line unit.offset (Some fault)) ends.1 one.so))
       by_fault None (parts, spelled, runs, text_is) =
           let units = told.units ++ (frame, parts) ∷ [] in
           let before = flat_map (unit_lines shown) told.units in
@@ -328,9 +328,9 @@ module _ {order : Order} {shown : DumpParts} {start mid now old then : Option (L
             fault = None;
             so = begins order shown start now units next_order after (λ rest. Unit {0})
                 (read_unit told.units ordered told.read n parts) (dumped spelled runs) (any_rest now);
-            begun = front_before old new lines []
-                (front_same old new (before ++ unit_lines shown (frame, parts)) lines
+            begun = prefix_before old new lines []
+                (prefix_same old new (before ++ unit_lines shown (frame, parts)) lines
                 (flat_push (unit_lines shown) told.units (frame, parts))
-                (front_after old then new before (unit_lines shown (frame, parts)) told.printed
-                (front_same then new one.text (unit_lines shown (frame, parts)) text_is one.so)));
+                (prefix_after old then new before (unit_lines shown (frame, parts)) told.printed
+                (prefix_same then new one.text (unit_lines shown (frame, parts)) text_is one.so)));
           }

@@ -28,9 +28,9 @@ use Rattle.lnt_wire.specs.Bytes.{IsCode}
 use Rattle.lnt_dump.specs.Headers.{component_text, components_text, entry_end, entry_line}
 use Rattle.lnt_dump.specs.Numbered.{numbered}
 use Rattle.lnt_dump.specs.Stepping.{IsPaged, PassesPrinting}
-use Rattle.lnt_io.specs.Fronts.{AppendsFront}
-use Rattle.lnt_io.proofs.FrontLaws.{front_same}
-use Rattle.lnt_dump.proofs.Pages.{paged_kept_front, paged_none, told_front, told_next, told_next_cut}
+use Rattle.lnt_io.specs.Prefixes.{AppendsPrefix}
+use Rattle.lnt_io.proofs.PrefixLaws.{prefix_same}
+use Rattle.lnt_dump.proofs.Pages.{paged_kept_prefix, paged_none, told_prefix, told_next, told_next_cut}
 
 -- ---- values
 
@@ -56,12 +56,12 @@ components_push : (pairs : List Pair) (i : ℕ) (d : Pair) (values : List FormVa
     ≡ flat_map component_text (zip (take (i + 1) pairs) (values ++ value ∷ []))
 components_push pairs i d values value lt count =
     let pair = get_or pairs i d in
-    let front = take i pairs in
-    let same : length front ≡ length values = length-take-le i pairs (omega (arith, lt)) ∙ sym count in
-    let text = flat_map component_text (zip front values) in
+    let prefix = take i pairs in
+    let same : length prefix ≡ length values = length-take-le i pairs (omega (arith, lt)) ∙ sym count in
+    let text = flat_map component_text (zip prefix values) in
     ap (λ (z : List ℕ). text ++ z) (sym (append-nil (component_text (pair, value))))
-    ∙ sym (flat_map-append component_text (zip front values) ((pair, value) ∷ []))
-    ∙ ap (flat_map component_text) (sym (zip_push front values pair value same))
+    ∙ sym (flat_map-append component_text (zip prefix values) ((pair, value) ∷ []))
+    ∙ ap (flat_map component_text) (sym (zip_push prefix values pair value same))
     ∙ ap (λ (ps : List Pair). flat_map component_text (zip ps (values ++ value ∷ []))) (sym (take_more pairs i d lt))
 
 module _ {format : Format} {pairs : List Pair} {i : ℕ} {old middle : At} {before between : Option (List ℕ)}
@@ -113,7 +113,7 @@ first_is : {X : Type 0} (P : X → List ℕ → Type 0) → IsCode P → (vs : L
     → P u x → Each P (drop n vs) bytes → bytes ≡ x ++ rest → u ≡ get_or vs n d
 first_is P code vs n d u x rest bytes lt p q e =
     let each = subst (λ ws. Each P ws bytes) (drop_more vs n d lt) q in
-    (code.one u (get_or vs n d) x each.front rest each.back p each.first (sym e ∙ each.joined)).0
+    (code.one u (get_or vs n d) x each.prefix rest each.back p each.first (sym e ∙ each.joined)).0
 
 -- the line of an entry, in its two parts
 pub line_read : {A E : Type 0} (result : Result A E) (name : List ℕ) (index : ℕ) (format : Format) (pairs : List Pair) (at new : At)
@@ -167,15 +167,15 @@ module _ {name : List ℕ} {table : BorrowedTable} {format : Format} {pairs : Li
             (subst (λ (z : List ℕ). IsPaged z now then left) l.line turned);
       }
 
-  -- of the page a front was written
+  -- of the page a prefix was written
   pub line_cut : {new : At} {added : List ℕ} {then : Option (List ℕ)}
-      → PassesPrinting (entry_line name pairs number) format pairs at new (Some page) (Some added) → AppendsFront now then added
-      → AppendsFront old then (before ++ numbered (entry_line name table.pairs) 0 table.entries)
+      → PassesPrinting (entry_line name pairs number) format pairs at new (Some page) (Some added) → AppendsPrefix now then added
+      → AppendsPrefix old then (before ++ numbered (entry_line name table.pairs) 0 table.entries)
   line_cut {added = added} {then = then} p f =
       let l = next_line p in
       let line = entry_line name table.pairs in
       told_next_cut line before table.entries number l.entry lt l.is is.told
-      (front_same now then added (page ++ line number l.entry) l.line f)
+      (prefix_same now then added (page ++ line number l.entry) l.line f)
 
   pub is_there : NoneSpelled (EntryBytes format at.order pairs) at.rest → ⊥
   is_there none =
@@ -187,10 +187,10 @@ module _ {name : List ℕ} {table : BorrowedTable} {format : Format} {pairs : Li
 module _ {name : List ℕ} {table : BorrowedTable} {number : ℕ} {at : At} {before page : List ℕ} {old now : Option (List ℕ)}
     (is : IsBefore name table number at before page old now) where
   -- nothing more was written
-  pub lines_stay : AppendsFront old now (before ++ numbered (entry_line name table.pairs) 0 table.entries)
+  pub lines_stay : AppendsPrefix old now (before ++ numbered (entry_line name table.pairs) 0 table.entries)
   lines_stay =
-      told_front (entry_line name table.pairs) before (take number table.entries) (drop number table.entries)
-      (sym (take-append-drop number table.entries)) (paged_kept_front is.told)
+      told_prefix (entry_line name table.pairs) before (take number table.entries) (drop number table.entries)
+      (sym (take-append-drop number table.entries)) (paged_kept_prefix is.told)
 
   -- all lines were printed
   pub all_told : length table.entries ≤ number → IsPaged (before ++ numbered (entry_line name table.pairs) 0 table.entries) old now page

@@ -25,9 +25,9 @@ use Rattle.lnt_dump.specs.Units.{AreUnitsTold, end_line, end_status, unit_line}
 
 -- The source gave the bytes of these frames, and the next byte stands at the offset.
 pub record FramesRead (order : Order) (start now : Option (List ℕ)) (frames : List Frame) (of_reader : Order) (offset : ℕ) : Type 0 where
-  pub front : List ℕ
-  pub so_far : FramesSoFar order front frames (record { place = offset; rest = []; order = of_reader })
-  pub pulls : Pulls start now front
+  pub prefix : List ℕ
+  pub so_far : FramesSoFar order prefix frames (record { place = offset; rest = []; order = of_reader })
+  pub pulls : Pulls start now prefix
 
 -- It gave those of some frames, and the frames' lines were printed.
 pub record FramesTold (order : Order) (start now old new : Option (List ℕ)) (of_reader : Order) (offset : ℕ) : Type 0 where
@@ -38,7 +38,7 @@ pub record FramesTold (order : Order) (start now old new : Option (List ℕ)) (o
 pub read_none : {order : Order} {start now : Option (List ℕ)} {of_reader : Order} {offset : ℕ} → of_reader ≡ order → offset ≡ 0
     → now ≡ start → FramesRead order start now [] of_reader offset
 read_none {order} {start} {now} {of_reader} {offset} ordered at same = record {
-  front = [];
+  prefix = [];
   so_far = no_frames order [] (record { place = offset; rest = []; order = of_reader }) refl at ordered;
   pulls = subst (λ (o : Option (List ℕ)). Pulls start o []) (sym same) (pulls_none start);
 }
@@ -48,17 +48,17 @@ pub frames_none : {order : Order} {start now old : Option (List ℕ)} {of_reader
 frames_none {old = old} ordered at same = record { frames = []; read = read_none ordered at same; printed = Appends-nil old }
 
 -- the frames of the bytes with one frame more
-frames_push : {order : Order} {frames : List Frame} {frame : Frame} {front more : List ℕ} {of_reader : Order} {offset after : ℕ}
-    → FramesSoFar order front frames (record { place = offset; rest = []; order = of_reader }) → frame.offset ≡ offset
+frames_push : {order : Order} {frames : List Frame} {frame : Frame} {prefix more : List ℕ} {of_reader : Order} {offset after : ℕ}
+    → FramesSoFar order prefix frames (record { place = offset; rest = []; order = of_reader }) → frame.offset ≡ offset
     → IsFrame of_reader frame more → after ≡ offset + length more
-    → FramesSoFar order (front ++ more) (frames ++ frame ∷ []) (record { place = after; rest = []; order = of_reader })
-frames_push {order} {frames} {frame} {front} {more} {of_reader} {offset} {after} so_far here is at =
+    → FramesSoFar order (prefix ++ more) (frames ++ frame ∷ []) (record { place = after; rest = []; order = of_reader })
+frames_push {order} {frames} {frame} {prefix} {more} {of_reader} {offset} {after} so_far here is at =
     let old : At = record { place = offset; rest = more; order = of_reader } in
     let new : At = record { place = after; rest = []; order = of_reader } in
-    let whole : front ≡ so_far.front = so_far.whole ∙ append-nil so_far.front in
-    one_more_frame order (front ++ more) frames frame old new
+    let whole : prefix ≡ so_far.prefix = so_far.whole ∙ append-nil so_far.prefix in
+    one_more_frame order (prefix ++ more) frames frame old new
     (record {
-      front = so_far.front;
+      prefix = so_far.prefix;
       whole = ap (λ (z : List ℕ). z ++ more) whole;
       joined = so_far.joined;
       place = so_far.place;
@@ -96,9 +96,9 @@ read_more {order} {start} {mid} {now} {frames} {of_reader} {next_order} {offset}
     let is : IsFrame of_reader frame unit.bytes = subst (λ (o : Order). IsFrame o frame unit.bytes) n.next.order_is
     (subst (λ (z : List ℕ). IsFrame unit.order frame z) n.bytes_are n.placed.is) in
     subst (λ (o : Order). FramesRead order start now (frames ++ frame ∷ []) o after) (sym ordered) (record {
-      front = read.front ++ unit.bytes;
+      prefix = read.prefix ++ unit.bytes;
       so_far = frames_push read.so_far (n.offset_is ∙ n.next.offset_is) is n.after_is;
-      pulls = pulls_append start mid now read.front unit.bytes read.pulls n.next.pulls;
+      pulls = pulls_append start mid now read.prefix unit.bytes read.pulls n.next.pulls;
     })
 
 -- and its line was printed
@@ -121,12 +121,12 @@ frames_end (Some bytes) None fault read ends = absurd read.pulls
 frames_end {of_reader = of_reader} (Some bytes) (Some rest) fault read ends =
     let so_far = read.so_far in
     record {
-      front = so_far.front;
+      prefix = so_far.prefix;
       rest = rest;
-      whole = read.pulls ∙ ap (λ (z : List ℕ). z ++ rest) (so_far.whole ∙ append-nil so_far.front);
+      whole = read.pulls ∙ ap (λ (z : List ℕ). z ++ rest) (so_far.whole ∙ append-nil so_far.prefix);
       joined = so_far.joined;
       ends =
-          subst (λ (o : Order). EndsBy (record { place = length so_far.front; rest = rest; order = o }) fault) so_far.order_is
+          subst (λ (o : Order). EndsBy (record { place = length so_far.prefix; rest = rest; order = o }) fault) so_far.order_is
           (subst (λ (n : ℕ). EndsBy (record { place = n; rest = rest; order = of_reader }) fault) so_far.place ends);
     }
 

@@ -39,10 +39,10 @@ first_items : (count : ℕ) (bytes : List ℕ) → AreBytes bytes → AreItems (
 first_items count bytes are = items (take count bytes) (All-take (λ (x : ℕ). x < 256) count bytes are)
 
 -- the bytes after others
-pub bytes_after : (front rest bytes : List ℕ) → bytes ≡ front ++ rest → AreBytes bytes → AreBytes rest
+pub bytes_after : (prefix rest bytes : List ℕ) → bytes ≡ prefix ++ rest → AreBytes bytes → AreBytes rest
 bytes_after [] rest bytes same are = subst AreBytes same are
-bytes_after (b ∷ front) rest bytes same are =
-    bytes_after front rest (front ++ rest) refl (All-tail (λ (x : ℕ). x < 256) b (front ++ rest) (subst AreBytes same are))
+bytes_after (b ∷ prefix) rest bytes same are =
+    bytes_after prefix rest (prefix ++ rest) refl (All-tail (λ (x : ℕ). x < 256) b (prefix ++ rest) (subst AreBytes same are))
 
 -- ---- reads
 
@@ -50,10 +50,10 @@ bytes_after (b ∷ front) rest bytes same are =
 past : ℕ → At → At
 past count at = record { place = at.place + count; rest = drop count at.rest; order = at.order }
 
-reads_front : {X : Type 0} (Spells : X → List ℕ → Type 0) (v : X) (count : ℕ) (at : At) → count ≤ length at.rest
+reads_prefix : {X : Type 0} (Spells : X → List ℕ → Type 0) (v : X) (count : ℕ) (at : At) → count ≤ length at.rest
     → Spells v (take count at.rest) → Reads Spells v at (past count at)
 unfolding past
-reads_front Spells v count at le spelled = record {
+reads_prefix Spells v count at le spelled = record {
   spelling = take count at.rest;
   spelled = spelled;
   whole = sym (take-append-drop count at.rest);
@@ -73,7 +73,7 @@ number_ahead size at spells are le =
     let bytes = take size at.rest in
     let n = number_in at.order size bytes in
     let spelled = spells at.order n bytes (length-take-le size at.rest le) (first_items size at.rest are) refl in
-    record { number = n; read = reads_front (NumberBytes at.order size) n size at le spelled }
+    record { number = n; read = reads_prefix (NumberBytes at.order size) n size at le spelled }
 
 -- ---- the initial length
 
@@ -213,7 +213,7 @@ long_initial at i short =
 
 body_read : (at : At) (count : ℕ) → count ≤ length at.rest → Reads (TakenBytes count) (take count at.rest) at (past count at)
 body_read at count le =
-    reads_front (TakenBytes count) (take count at.rest) count at le
+    reads_prefix (TakenBytes count) (take count at.rest) count at le
     (record { count_is = length-take-le count at.rest le; taken_is = refl })
 
 frame_of : ℕ → Format × ℕ → List ℕ → Frame
@@ -261,14 +261,14 @@ frame_ahead at are = elim (initial_ahead at are) [
 pub record FramesAhead (at : At) : Type 0 where
   pub frames : List Frame
   pub fault : Option Fault
-  pub front : List ℕ
+  pub prefix : List ℕ
   pub rest : List ℕ
-  pub whole : at.rest ≡ front ++ rest
-  pub joined : FramesFrom at.order at.place frames front
-  pub ends : EndsBy (record { place = at.place + length front; rest = rest; order = at.order }) fault
+  pub whole : at.rest ≡ prefix ++ rest
+  pub joined : FramesFrom at.order at.place frames prefix
+  pub ends : EndsBy (record { place = at.place + length prefix; rest = rest; order = at.order }) fault
 
 none_ahead : (at : At) → at.rest ≡ [] → FramesAhead at
-none_ahead at empty = record { frames = []; fault = None; front = []; rest = at.rest; whole = refl; joined = refl; ends = empty }
+none_ahead at empty = record { frames = []; fault = None; prefix = []; rest = at.rest; whole = refl; joined = refl; ends = empty }
 
 fault_ahead : (at : At) → 0 < length at.rest → NoFrame at → FramesAhead at
 fault_ahead at some n =
@@ -276,7 +276,7 @@ fault_ahead at some n =
     record {
       frames = [];
       fault = Some n.fault;
-      front = [];
+      prefix = [];
       rest = at.rest;
       whole = refl;
       joined = refl;
@@ -286,21 +286,21 @@ fault_ahead at some n =
 one_ahead : (at : At) → (f : FrameAhead at) → FramesAhead f.next → FramesAhead at
 one_ahead at f later =
     let r = f.read in
-    let IsJoined : Order → ℕ → Type 0 = λ (o : Order) (p : ℕ). FramesFrom o p later.frames later.front in
+    let IsJoined : Order → ℕ → Type 0 = λ (o : Order) (p : ℕ). FramesFrom o p later.frames later.prefix in
     let Ends : Order → ℕ → Type 0 = λ (o : Order) (p : ℕ). EndsBy (record { place = p; rest = later.rest; order = o }) later.fault in
-    let place : f.next.place + length later.front ≡ at.place + length (r.spelling ++ later.front) =
-    omega (arith, r.place, length-append r.spelling later.front) in
+    let place : f.next.place + length later.prefix ≡ at.place + length (r.spelling ++ later.prefix) =
+    omega (arith, r.place, length-append r.spelling later.prefix) in
     let joined : IsJoined at.order (at.place + length r.spelling) =
     subst (λ (o : Order). IsJoined o (at.place + length r.spelling)) r.order
     (subst (λ (p : ℕ). IsJoined f.next.order p) r.place later.joined) in
     record {
       frames = f.frame ∷ later.frames;
       fault = later.fault;
-      front = r.spelling ++ later.front;
+      prefix = r.spelling ++ later.prefix;
       rest = later.rest;
-      whole = r.whole ∙ ap (λ (z : List ℕ). r.spelling ++ z) later.whole ∙ sym (append_assoc r.spelling later.front later.rest);
-      joined = (r.spelling, later.front, refl, f.offset_is, r.spelled, joined);
-      ends = subst (λ (o : Order). Ends o (at.place + length (r.spelling ++ later.front))) r.order
+      whole = r.whole ∙ ap (λ (z : List ℕ). r.spelling ++ z) later.whole ∙ sym (append_assoc r.spelling later.prefix later.rest);
+      joined = (r.spelling, later.prefix, refl, f.offset_is, r.spelled, joined);
+      ends = subst (λ (o : Order). Ends o (at.place + length (r.spelling ++ later.prefix))) r.order
           (subst (λ (p : ℕ). Ends f.next.order p) place later.ends);
     }
 
@@ -321,14 +321,14 @@ pub frames_ahead : (at : At) → AreBytes at.rest → FramesAhead at
 frames_ahead at are = frames_within (length at.rest) at (omega arith) are
 
 -- frames, and frames after them
-pub frames_join : (order : Order) (offset : ℕ) (frames more : List Frame) (front back : List ℕ) → FramesFrom order offset frames front
-    → FramesFrom order (offset + length front) more back → FramesFrom order offset (frames ++ more) (front ++ back)
-frames_join order offset [] more front back p q =
-    let none : offset + length front ≡ offset = omega (arith, ap length p) in
+pub frames_join : (order : Order) (offset : ℕ) (frames more : List Frame) (prefix back : List ℕ) → FramesFrom order offset frames prefix
+    → FramesFrom order (offset + length prefix) more back → FramesFrom order offset (frames ++ more) (prefix ++ back)
+frames_join order offset [] more prefix back p q =
+    let none : offset + length prefix ≡ offset = omega (arith, ap length p) in
     subst (λ (z : List ℕ). FramesFrom order offset more z) (sym (ap (λ (z : List ℕ). z ++ back) p))
     (subst (λ (n : ℕ). FramesFrom order n more back) none q)
-frames_join order offset (frame ∷ frames) more front back (a, b, whole, at, spelled, later) q =
-    let size : offset + length front ≡ (offset + length a) + length b = omega (arith, ap length whole, length-append a b) in (
+frames_join order offset (frame ∷ frames) more prefix back (a, b, whole, at, spelled, later) q =
+    let size : offset + length prefix ≡ (offset + length a) + length b = omega (arith, ap length whole, length-append a b) in (
       a,
       b ++ back,
       ap (λ (z : List ℕ). z ++ back) whole ∙ append_assoc a b back,

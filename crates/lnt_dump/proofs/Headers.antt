@@ -1,7 +1,7 @@
 -- The lines of a header: those of its numbers, of its directories and of its files.
 use Rattle.std.proofs.Common.{◌≡◌, ◌∙◌, ℕ, List, ◌++◌, Option, Result, Ok, Err, OnOk, OnErr, refl, ap, subst, append_assoc, codes}
-use Rattle.lnt_io.specs.Fronts.{AppendsFront}
-use Rattle.lnt_io.proofs.FrontLaws.{front_before, front_same}
+use Rattle.lnt_io.specs.Prefixes.{AppendsPrefix}
+use Rattle.lnt_io.proofs.PrefixLaws.{prefix_before, prefix_same}
 use Rattle.lnt_header.specs.HeaderNumbers.{without_entries}
 use Rattle.lnt_header.specs.declared.header.Entry.{Entry}
 use Rattle.lnt_header.specs.declared.header.HeaderParts.{HeaderParts}
@@ -12,7 +12,7 @@ use Rattle.lnt_dump.specs.Headers.{entry_line, header_lines, numbers_line}
 use Rattle.lnt_dump.specs.Numbered.{numbered}
 use Rattle.lnt_dump.specs.Stepping.{IsPaged}
 use Rattle.lnt_dump.specs.Units.{unit_line}
-use Rattle.lnt_dump.proofs.Pages.{paged_front, paged_more}
+use Rattle.lnt_dump.proofs.Pages.{paged_prefix, paged_more}
 
 -- the lines of a table
 abbrev table_lines : List ℕ → BorrowedTable → List ℕ
@@ -45,14 +45,14 @@ module _ (frame : Frame) (header numbers : HeaderParts) (directories : BorrowedT
       ∙ append_assoc (page ++ (unit ++ line)) dir_lines file_lines ∙ append_assoc page (unit ++ line) (dir_lines ++ file_lines)
       ∙ ap (λ (z : List ℕ). page ++ z) (append_assoc unit line (dir_lines ++ file_lines))
 
-  -- of the lines of directories a front was written
+  -- of the lines of directories a prefix was written
   pub directories_cut : {old new : Option (List ℕ)}
-      → AppendsFront old new (page1 ++ numbered (entry_line (codes "dir") directories.pairs) 0 directories.entries)
-      → AppendsFront old new (page ++ header_lines frame header)
+      → AppendsPrefix old new (page1 ++ numbered (entry_line (codes "dir") directories.pairs) 0 directories.entries)
+      → AppendsPrefix old new (page ++ header_lines frame header)
   directories_cut {old} {new} f =
       let file_lines = numbered (entry_line (codes "file") header.file_format) 0 header.files in
-      front_same old new ((page1 ++ table_lines (codes "dir") directories) ++ file_lines) (page ++ header_lines frame header)
-      (all_parts file_lines refl) (front_before old new (page1 ++ table_lines (codes "dir") directories) file_lines f)
+      prefix_same old new ((page1 ++ table_lines (codes "dir") directories) ++ file_lines) (page ++ header_lines frame header)
+      (all_parts file_lines refl) (prefix_before old new (page1 ++ table_lines (codes "dir") directories) file_lines f)
 
   -- the files after them
   module _ (files : BorrowedTable) (page2 : List ℕ) (old now new : Option (List ℕ))
@@ -71,11 +71,11 @@ module _ (frame : Frame) (header numbers : HeaderParts) (directories : BorrowedT
     header_told (Ok done) page3 q = subst (λ (z : List ℕ). IsPaged z old new page3) with_files
         (paged_more (table_lines (codes "file") files) told q)
 
-    -- of their lines a front was written
+    -- of their lines a prefix was written
     pub files_cut : {A E : Type 0} (result : Result A E)
-        → OnErr result (AppendsFront now new (page2 ++ numbered (entry_line (codes "file") files.pairs) 0 files.entries))
-        → OnErr result (AppendsFront old new (page ++ header_lines frame header))
+        → OnErr result (AppendsPrefix now new (page2 ++ numbered (entry_line (codes "file") files.pairs) 0 files.entries))
+        → OnErr result (AppendsPrefix old new (page ++ header_lines frame header))
     files_cut (Ok done) f = f
     files_cut (Err error) f =
-        front_same old new ((page1 ++ table_lines (codes "dir") directories) ++ table_lines (codes "file") files)
-        (page ++ header_lines frame header) with_files (paged_front (table_lines (codes "file") files) told f)
+        prefix_same old new ((page1 ++ table_lines (codes "dir") directories) ++ table_lines (codes "file") files)
+        (page ++ header_lines frame header) with_files (paged_prefix (table_lines (codes "file") files) told f)

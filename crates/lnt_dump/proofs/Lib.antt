@@ -2,7 +2,7 @@ pub mod Anew
 pub mod Digits
 pub mod Dumps
 pub mod Entries
-pub mod FrameFronts
+pub mod FramePrefixes
 pub mod Frames
 pub mod FramesAhead
 pub mod Headers
@@ -12,6 +12,6 @@ pub mod PagedWalks
 pub mod Pages
 pub mod RowLemmas
 pub mod RunWalks
-pub mod SectionFronts
+pub mod SectionPrefixes
 pub mod Sections
 pub mod UnitWalks

@@ -24,10 +24,10 @@ unfolding encode_with
 digits_join table [] ys = refl
 digits_join table (x ∷ xs) ys = let rest = digits_join table xs ys in cc rest
 
-whole : (bytes front rest : List ℕ) (count : ℕ) → IsSplitAt bytes count front rest → bytes ≡ front ++ rest
-whole bytes front rest count split =
+whole : (bytes prefix rest : List ℕ) (count : ℕ) → IsSplitAt bytes count prefix rest → bytes ≡ prefix ++ rest
+whole bytes prefix rest count split =
     sym (take-append-drop count bytes) ∙ ap (λ (z : List ℕ). z ++ drop count bytes) (sym split.1)
-    ∙ ap (λ (z : List ℕ). front ++ z) (sym split.2)
+    ∙ ap (λ (z : List ℕ). prefix ++ z) (sym split.2)
 
 -- fewer are left
 pub digits_fewer : (rest piece more : List ℕ) (count : ℕ) → 0 < count → IsSplitAt rest count piece more → length more < length rest
@@ -35,46 +35,46 @@ digits_fewer rest piece more count some split = omega (arith, some, split.4)
 
 -- The digits of the bytes before these were printed.
 pub record AreDigitsTold (bytes rest : List ℕ) (old new : Option (List ℕ)) : Type 0 where
-  pub front : List ℕ
-  pub joined : bytes ≡ front ++ rest
-  pub told : Appends old new (encode_lower front)
+  pub prefix : List ℕ
+  pub joined : bytes ≡ prefix ++ rest
+  pub told : Appends old new (encode_lower prefix)
 
 pub digits_none : (bytes : List ℕ) (out : Option (List ℕ)) → AreDigitsTold bytes bytes out out
 unfolding encode_with
-digits_none bytes out = record { front = []; joined = refl; told = Appends-nil out }
+digits_none bytes out = record { prefix = []; joined = refl; told = Appends-nil out }
 
 pub digits_more : {bytes rest : List ℕ} {old now : Option (List ℕ)} (piece more : List ℕ) (count : ℕ) (new : Option (List ℕ))
     → AreDigitsTold bytes rest old now
     → IsSplitAt rest count piece more → Appends now new (encode_lower piece) → AreDigitsTold bytes more old new
 digits_more {rest = rest} {old = old} {now = now} piece more count new is split printed = record {
-  front = is.front ++ piece;
-  joined = is.joined ∙ ap (λ (z : List ℕ). is.front ++ z) (whole rest piece more count split) ∙ sym (append_assoc is.front piece more);
-  told = subst (Appends old new) (sym (digits_join _ is.front piece))
-      (Appends-trans old now new (encode_lower is.front) (encode_lower piece) is.told printed);
+  prefix = is.prefix ++ piece;
+  joined = is.joined ∙ ap (λ (z : List ℕ). is.prefix ++ z) (whole rest piece more count split) ∙ sym (append_assoc is.prefix piece more);
+  told = subst (Appends old new) (sym (digits_join _ is.prefix piece))
+      (Appends-trans old now new (encode_lower is.prefix) (encode_lower piece) is.told printed);
 }
 
 pub digits_all : {A E : Type 0} (result : Result A E) {bytes rest : List ℕ} {old now : Option (List ℕ)} (new : Option (List ℕ))
     → AreDigitsTold bytes rest old now → OnOk result (Appends now new (encode_lower rest))
     → OnOk result (Appends old new (encode_lower bytes))
 digits_all (Ok done) {bytes} {rest} {old} {now} new is printed =
-    let text : encode_lower is.front ++ encode_lower rest ≡ encode_lower bytes =
-    sym (digits_join _ is.front rest) ∙ ap encode_lower (sym is.joined) in
-    subst (Appends old new) text (Appends-trans old now new (encode_lower is.front) (encode_lower rest) is.told printed)
+    let text : encode_lower is.prefix ++ encode_lower rest ≡ encode_lower bytes =
+    sym (digits_join _ is.prefix rest) ∙ ap encode_lower (sym is.joined) in
+    subst (Appends old new) text (Appends-trans old now new (encode_lower is.prefix) (encode_lower rest) is.told printed)
 digits_all (Err error) new is printed = printed
 
 -- the lines of the first items begin those of all
-pub numbered_front : {X : Type 0} (line : ℕ → X → List ℕ) (first : ℕ) (xs ys : List X)
+pub numbered_prefix : {X : Type 0} (line : ℕ → X → List ℕ) (first : ℕ) (xs ys : List X)
     → (more : List ℕ) × (numbered line first (xs ++ ys) ≡ numbered line first xs ++ more)
-numbered_front line first [] ys = (numbered line first ys, refl)
-numbered_front line first (x ∷ xs) ys =
-    let front = numbered_front line (first + 1) xs ys in (
-      front.0,
-      ap (λ (z : List ℕ). line first x ++ z) front.1 ∙ sym (append_assoc (line first x) (numbered line (first + 1) xs) front.0),
+numbered_prefix line first [] ys = (numbered line first ys, refl)
+numbered_prefix line first (x ∷ xs) ys =
+    let prefix = numbered_prefix line (first + 1) xs ys in (
+      prefix.0,
+      ap (λ (z : List ℕ). line first x ++ z) prefix.1 ∙ sym (append_assoc (line first x) (numbered line (first + 1) xs) prefix.0),
     )
 
 -- the text that a call added, after that of others before it
-pub text_more : {A E : Type 0} (result : Result A E) (old mid new front back : List ℕ) → mid ≡ old ++ front
-    → OnOk result (new ≡ mid ++ back) → OnOk result (new ≡ old ++ (front ++ back))
-text_more (Ok done) old mid new front back before here =
-    here ∙ ap (λ (z : List ℕ). z ++ back) before ∙ append_assoc old front back
-text_more (Err error) old mid new front back before here = here
+pub text_more : {A E : Type 0} (result : Result A E) (old mid new prefix back : List ℕ) → mid ≡ old ++ prefix
+    → OnOk result (new ≡ mid ++ back) → OnOk result (new ≡ old ++ (prefix ++ back))
+text_more (Ok done) old mid new prefix back before here =
+    here ∙ ap (λ (z : List ℕ). z ++ back) before ∙ append_assoc old prefix back
+text_more (Err error) old mid new prefix back before here = here

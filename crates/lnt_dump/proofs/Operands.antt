@@ -42,7 +42,7 @@ left_none bytes rest text same numbers spelled = (numbers, subst (Each UnsignedL
 
 one_there : (bytes left : List ℕ) → 0 < length bytes → Each UnsignedLeb left bytes → NoneSpelled UnsignedLeb bytes → ⊥
 one_there bytes [] some none refused = omega (arith, some, ap length none)
-one_there bytes (n ∷ numbers) some spelled refused = refused n spelled.front spelled.back spelled.first (sym spelled.joined)
+one_there bytes (n ∷ numbers) some spelled refused = refused n spelled.prefix spelled.back spelled.first (sym spelled.joined)
 
 -- where bytes are left, a number begins them
 pub left_there : (bytes rest old text : List ℕ) → AreLeft bytes rest old text → ((numbers : List ℕ) × Each UnsignedLeb numbers bytes)
@@ -63,9 +63,9 @@ one_less n at new [] old text text' numbers none read here same =
     ))
 one_less n at new (m ∷ others) old text text' numbers spelled read here same =
     let both = sym spelled.joined ∙ read.whole in
-    let found = unsigned_code.one m n spelled.front read.spelling spelled.back new.rest spelled.first read.spelled both in (
+    let found = unsigned_code.one m n spelled.prefix read.spelling spelled.back new.rest spelled.first read.spelled both in (
       others,
-      subst (Each UnsignedLeb others) (same_rest spelled.front read.spelling spelled.back new.rest found.1 both) spelled.second,
+      subst (Each UnsignedLeb others) (same_rest spelled.prefix read.spelling spelled.back new.rest found.1 both) spelled.second,
       same ∙ ap (λ (k : ℕ). text ++ (operand_text k ++ flat_map operand_text others)) found.0
           ∙ sym (append_assoc text (operand_text n) (flat_map operand_text others))
           ∙ ap (λ (z : List ℕ). z ++ flat_map operand_text others) (sym here),
@@ -90,8 +90,8 @@ none_left (n ∷ left) rest old text numbers empty spelled same =
       arith,
       empty,
       ap length spelled.joined,
-      length-append spelled.front spelled.back,
-      leb_is_some n spelled.front spelled.first,
+      length-append spelled.prefix spelled.back,
+      leb_is_some n spelled.prefix spelled.first,
     ))
 
 -- all were added
@@ -123,10 +123,10 @@ pub listed_told : {A E : Type 0} (result : Result A E) (listed : List ℕ) (opco
     → OnOk result ((numbers : List ℕ) → listed ≡ numbers
     → new ≡ old ++ ((codes "unknown_standard " ++ decimal opcode) ++ flat_map operand_text numbers))
 listed_told (Ok value) listed opcode old middle new before here =
-    let front = codes "unknown_standard " ++ decimal opcode in
+    let prefix = codes "unknown_standard " ++ decimal opcode in
     λ numbers same. here ∙ ap (λ (z : List ℕ). z ++ flat_map operand_text listed) before
-    ∙ append_assoc old front (flat_map operand_text listed)
-    ∙ ap (λ (list : List ℕ). old ++ (front ++ flat_map operand_text list)) same
+    ∙ append_assoc old prefix (flat_map operand_text listed)
+    ∙ ap (λ (list : List ℕ). old ++ (prefix ++ flat_map operand_text list)) same
 listed_told (Err error) listed opcode old middle new before here = here
 
 pub spelled_told : {A E : Type 0} (result : Result A E) (bytes : List ℕ) (opcode : ℕ) (old middle new : List ℕ)
@@ -135,23 +135,23 @@ pub spelled_told : {A E : Type 0} (result : Result A E) (bytes : List ℕ) (opco
     → OnOk result ((numbers : List ℕ) → Each UnsignedLeb numbers bytes
     → new ≡ old ++ ((codes "unknown_standard " ++ decimal opcode) ++ flat_map operand_text numbers))
 spelled_told (Ok value) bytes opcode old middle new before here =
-    let front = codes "unknown_standard " ++ decimal opcode in
+    let prefix = codes "unknown_standard " ++ decimal opcode in
     λ numbers spelled. here numbers spelled ∙ ap (λ (z : List ℕ). z ++ flat_map operand_text numbers) before
-    ∙ append_assoc old front (flat_map operand_text numbers)
+    ∙ append_assoc old prefix (flat_map operand_text numbers)
 spelled_told (Err error) bytes opcode old middle new before here = here
 
 -- the bytes of an unknown extended one
-pub no_bytes_told : (bytes front old new : List ℕ) → length bytes ≡ 0 → new ≡ old ++ front → new ≡ old ++ (front ++ bytes_text bytes)
-no_bytes_told [] front old new empty here = here ∙ ap (λ (z : List ℕ). old ++ z) (sym (append-nil front))
-no_bytes_told (byte ∷ bytes) front old new empty here = absurd (omega (arith, empty))
+pub no_bytes_told : (bytes prefix old new : List ℕ) → length bytes ≡ 0 → new ≡ old ++ prefix → new ≡ old ++ (prefix ++ bytes_text bytes)
+no_bytes_told [] prefix old new empty here = here ∙ ap (λ (z : List ℕ). old ++ z) (sym (append-nil prefix))
+no_bytes_told (byte ∷ bytes) prefix old new empty here = absurd (omega (arith, empty))
 
-pub bytes_told : (bytes front old middle spaced new : List ℕ) → 0 < length bytes → middle ≡ old ++ front → spaced ≡ middle ++ (32 ∷ [])
-    → new ≡ spaced ++ encode_lower bytes → new ≡ old ++ (front ++ bytes_text bytes)
-bytes_told [] front old middle spaced new some before space here = absurd (omega (arith, some))
-bytes_told (byte ∷ bytes) front old middle spaced new some before space here =
+pub bytes_told : (bytes prefix old middle spaced new : List ℕ) → 0 < length bytes → middle ≡ old ++ prefix → spaced ≡ middle ++ (32 ∷ [])
+    → new ≡ spaced ++ encode_lower bytes → new ≡ old ++ (prefix ++ bytes_text bytes)
+bytes_told [] prefix old middle spaced new some before space here = absurd (omega (arith, some))
+bytes_told (byte ∷ bytes) prefix old middle spaced new some before space here =
     here ∙ ap (λ (z : List ℕ). z ++ encode_lower (byte ∷ bytes)) (space ∙ ap (λ (z : List ℕ). z ++ (32 ∷ [])) before)
-    ∙ append_assoc (old ++ front) (32 ∷ []) (encode_lower (byte ∷ bytes))
-    ∙ append_assoc old front (32 ∷ encode_lower (byte ∷ bytes))
+    ∙ append_assoc (old ++ prefix) (32 ∷ []) (encode_lower (byte ∷ bytes))
+    ∙ append_assoc old prefix (32 ∷ encode_lower (byte ∷ bytes))
 
 -- what holds where a call has no error
 pub not_err : {A E : Type 0} (result : Result A E) (IsSo : Type 0) → is_err result ≡ false → OnOk result IsSo → IsSo

@@ -2,15 +2,15 @@
 use Rattle.std.proofs.Common.{◌≡◌, ◌∙◌, ℕ, List, [], ◌++◌, length, Option, refl, sym, ap, subst, append_assoc}
 use Rattle.std.proofs.KnownBytes.{Appends-nil, Appends-trans}
 use Rattle.std.specs.Io.KnownBytes.{Appends}
-use Rattle.lnt_io.specs.Fronts.{AppendsFront}
-use Rattle.lnt_io.proofs.FrontLaws.{front_before}
+use Rattle.lnt_io.specs.Prefixes.{AppendsPrefix}
+use Rattle.lnt_io.proofs.PrefixLaws.{prefix_before}
 use Rattle.lnt_wire.specs.At.{At}
 use Rattle.lnt_dump.specs.Printed.{IsPrintedIn}
-use Rattle.lnt_dump.specs.Stepping.{IsFrontIn, IsPaged}
-use Rattle.lnt_dump.proofs.Pages.{paged_all, paged_cut, paged_kept_front}
+use Rattle.lnt_dump.specs.Stepping.{IsPrefixIn, IsPaged}
+use Rattle.lnt_dump.proofs.Pages.{paged_all, paged_cut, paged_kept_prefix}
 
 -- The steps up to a cursor make a text (To), a step adds to it (Adds), and at the end it is so (Is), of which each text on the way is a
--- front.
+-- prefix.
 pub record IsWalk (To : At → List ℕ → Type 0) (Adds : At → At → List ℕ → List ℕ → Type 0) (Is : List ℕ → Type 0) : Type 0 where
   pub more : (at next : At) (text old new : List ℕ) → To at (text ++ old) → Adds at next old new → To next (text ++ new)
   pub all : (at : At) (text : List ℕ) → To at text → length at.rest ≡ 0 → Is text
@@ -25,7 +25,7 @@ pub record PagedTo (To : At → List ℕ → Type 0) (at : At) (old now : Option
 pub walk_begun : (To : At → List ℕ → Type 0) (at : At) (old : Option (List ℕ)) (page : List ℕ) → To at [] → page ≡ []
     → PagedTo To at old old page
 walk_begun To at old page none empty =
-    record { text = []; paged = record { written = []; gained = Appends-nil old; joined = sym empty }; made = none }
+    record { text = []; paged = record { written = []; appended = Appends-nil old; joined = sym empty }; made = none }
 
 module _ {To : At → List ℕ → Type 0} {Adds : At → At → List ℕ → List ℕ → Type 0} {Is : List ℕ → Type 0} (walk : IsWalk To Adds Is) where
   -- a step added to the page
@@ -33,7 +33,7 @@ module _ {To : At → List ℕ → Type 0} {Adds : At → At → List ℕ → Li
       → PagedTo To next old now new
   walk_more {at} {next} {old} {now} {page} {new} p a = record {
     text = p.paged.written ++ new;
-    paged = record { written = p.paged.written; gained = p.paged.gained; joined = refl };
+    paged = record { written = p.paged.written; appended = p.paged.appended; joined = refl };
     made = walk.more at next p.paged.written page new (subst (To at) p.paged.joined p.made) a;
   }
 
@@ -46,29 +46,29 @@ module _ {To : At → List ℕ → Type 0} {Adds : At → At → List ℕ → Li
         text = m.text;
         paged = record {
           written = m.paged.written ++ q.written;
-          gained = Appends-trans old now then m.paged.written q.written m.paged.gained q.gained;
+          appended = Appends-trans old now then m.paged.written q.written m.paged.appended q.appended;
           joined = m.paged.joined ∙ (ap (λ (z : List ℕ). m.paged.written ++ z) q.joined
               ∙ sym (append_assoc m.paged.written q.written left));
         };
         made = m.made;
       }
 
-  walk_front : {at : At} {old now : Option (List ℕ)} {text : List ℕ} → To at text → AppendsFront old now text → IsFrontIn Is old now
-  walk_front {at} {old} {now} {text} made f =
+  walk_prefix : {at : At} {old now : Option (List ℕ)} {text : List ℕ} → To at text → AppendsPrefix old now text → IsPrefixIn Is old now
+  walk_prefix {at} {old} {now} {text} made f =
       let rest = walk.rest at text made in
-      (text ++ rest.0, rest.1, front_before old now text rest.0 f)
+      (text ++ rest.0, rest.1, prefix_before old now text rest.0 f)
 
   -- nothing more was written
-  pub walk_stopped : {at : At} {old now : Option (List ℕ)} {page : List ℕ} → PagedTo To at old now page → IsFrontIn Is old now
-  walk_stopped p = walk_front p.made (paged_kept_front p.paged)
+  pub walk_stopped : {at : At} {old now : Option (List ℕ)} {page : List ℕ} → PagedTo To at old now page → IsPrefixIn Is old now
+  walk_stopped p = walk_prefix p.made (paged_kept_prefix p.paged)
 
-  -- of the page a front was written
+  -- of the page a prefix was written
   pub walk_last_cut : {at : At} {old now then : Option (List ℕ)} {page : List ℕ} → PagedTo To at old now page
-      → AppendsFront now then page → IsFrontIn Is old then
-  walk_last_cut p f = walk_front p.made (paged_cut p.paged f)
+      → AppendsPrefix now then page → IsPrefixIn Is old then
+  walk_last_cut p f = walk_prefix p.made (paged_cut p.paged f)
 
   pub walk_cut : {at next : At} {old now then : Option (List ℕ)} {page new : List ℕ} → PagedTo To at old now page
-      → Adds at next page new → AppendsFront now then new → IsFrontIn Is old then
+      → Adds at next page new → AppendsPrefix now then new → IsPrefixIn Is old then
   walk_cut p a f = walk_last_cut (walk_more p a) f
 
   pub walk_printed : {at : At} {old now : Option (List ℕ)} {page : List ℕ} (then : Option (List ℕ)) → PagedTo To at old now page

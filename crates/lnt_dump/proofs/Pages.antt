@@ -5,21 +5,21 @@ use Rattle.std.proofs.lemmas.List.{length-take-le, take_more}
 use Rattle.std.proofs.lemmas.Bool.{true≢false}
 use Rattle.std.proofs.KnownBytes.{Appends-nil, Appends-trans}
 use Rattle.std.specs.Io.KnownBytes.{Appends}
-use Rattle.lnt_io.specs.Fronts.{AppendsFront}
-use Rattle.lnt_io.proofs.FrontLaws.{front_after, front_before, front_same}
+use Rattle.lnt_io.specs.Prefixes.{AppendsPrefix}
+use Rattle.lnt_io.proofs.PrefixLaws.{prefix_after, prefix_before, prefix_same}
 use Rattle.lnt_dump.specs.Numbered.{numbered}
 use Rattle.lnt_dump.specs.Stepping.{IsPaged}
-use Rattle.lnt_dump.proofs.Lines.{numbered_front, numbered_push}
+use Rattle.lnt_dump.proofs.Lines.{numbered_prefix, numbered_push}
 
 -- nothing was written
 pub paged_kept : (page : List ℕ) (out : Option (List ℕ)) → IsPaged page out out page
-paged_kept page out = record { written = []; gained = Appends-nil out; joined = refl }
+paged_kept page out = record { written = []; appended = Appends-nil out; joined = refl }
 
 -- the page was written
 pub paged_turned : (page left : List ℕ) (old new : Option (List ℕ)) → Appends old new page → left ≡ [] → IsPaged page old new left
 paged_turned page left old new written empty = record {
   written = page;
-  gained = written;
+  appended = written;
   joined = sym (append-nil page) ∙ ap (λ (z : List ℕ). page ++ z) (sym empty);
 }
 
@@ -33,33 +33,33 @@ module _ {text page : List ℕ} {old now : Option (List ℕ)} where
       → IsPaged (page ++ more) now new left → IsPaged (text ++ more) old new left
   paged_more more {left} {new} p q = record {
     written = p.written ++ q.written;
-    gained = Appends-trans old now new p.written q.written p.gained q.gained;
+    appended = Appends-trans old now new p.written q.written p.appended q.appended;
     joined = grown text page more p.written p.joined ∙ ap (λ (z : List ℕ). p.written ++ z) q.joined
         ∙ sym (append_assoc p.written q.written left);
   }
 
-  -- of it a front was written
-  pub paged_front : (more : List ℕ) {new : Option (List ℕ)} → IsPaged text old now page → AppendsFront now new (page ++ more)
-      → AppendsFront old new (text ++ more)
-  paged_front more {new} p f =
-      front_same old new (p.written ++ (page ++ more)) (text ++ more) (sym (grown text page more p.written p.joined))
-      (front_after old now new p.written (page ++ more) p.gained f)
+  -- of it a prefix was written
+  pub paged_prefix : (more : List ℕ) {new : Option (List ℕ)} → IsPaged text old now page → AppendsPrefix now new (page ++ more)
+      → AppendsPrefix old new (text ++ more)
+  paged_prefix more {new} p f =
+      prefix_same old new (p.written ++ (page ++ more)) (text ++ more) (sym (grown text page more p.written p.joined))
+      (prefix_after old now new p.written (page ++ more) p.appended f)
 
   -- what waited was written too
   pub paged_all : (new : Option (List ℕ)) → IsPaged text old now page → Appends now new page → Appends old new text
-  paged_all new p written = subst (Appends old new) (sym p.joined) (Appends-trans old now new p.written page p.gained written)
+  paged_all new p written = subst (Appends old new) (sym p.joined) (Appends-trans old now new p.written page p.appended written)
 
-  pub paged_cut : {new : Option (List ℕ)} → IsPaged text old now page → AppendsFront now new page → AppendsFront old new text
+  pub paged_cut : {new : Option (List ℕ)} → IsPaged text old now page → AppendsPrefix now new page → AppendsPrefix old new text
   paged_cut {new} p f =
-      front_same old new (p.written ++ page) text (sym p.joined) (front_after old now new p.written page p.gained f)
+      prefix_same old new (p.written ++ page) text (sym p.joined) (prefix_after old now new p.written page p.appended f)
 
   -- nothing more was written
-  pub paged_kept_front : IsPaged text old now page → AppendsFront old now text
-  paged_kept_front p = record { front = p.written; rest = page; joined = sym p.joined; gained = p.gained }
+  pub paged_kept_prefix : IsPaged text old now page → AppendsPrefix old now text
+  paged_kept_prefix p = record { prefix = p.written; rest = page; joined = sym p.joined; appended = p.appended }
 
 -- nothing is added
 pub paged_none : (page : List ℕ) (out : Option (List ℕ)) → IsPaged (page ++ []) out out page
-paged_none page out = record { written = []; gained = Appends-nil out; joined = append-nil page }
+paged_none page out = record { written = []; appended = Appends-nil out; joined = append-nil page }
 
 -- no more text was asked for
 pub paged_unshown : (shows : Bool) (text page : List ℕ) (out : Option (List ℕ)) → shows ≡ false
@@ -87,25 +87,25 @@ module _ {X : Type 0} (line : ℕ → X → List ℕ) (before : List ℕ) where
       (paged_more (line index x) told here)
 
   -- the lines of the first items begin those of all
-  pub told_front : (list more : List X) {all : List X} {old new : Option (List ℕ)} → all ≡ list ++ more
-      → AppendsFront old new (before ++ numbered line 0 list) → AppendsFront old new (before ++ numbered line 0 all)
-  told_front list more {all} {old} {new} is f =
-      let front = numbered_front line 0 list more in
+  pub told_prefix : (list more : List X) {all : List X} {old new : Option (List ℕ)} → all ≡ list ++ more
+      → AppendsPrefix old new (before ++ numbered line 0 list) → AppendsPrefix old new (before ++ numbered line 0 all)
+  told_prefix list more {all} {old} {new} is f =
+      let prefix = numbered_prefix line 0 list more in
       let first = before ++ numbered line 0 list in
-      front_same old new (first ++ front.0) (before ++ numbered line 0 all)
-      (append_assoc before (numbered line 0 list) front.0
-      ∙ ap (λ (z : List ℕ). before ++ z) (sym front.1 ∙ ap (numbered line 0) (sym is)))
-      (front_before old new first front.0 f)
+      prefix_same old new (first ++ prefix.0) (before ++ numbered line 0 all)
+      (append_assoc before (numbered line 0 list) prefix.0
+      ∙ ap (λ (z : List ℕ). before ++ z) (sym prefix.1 ∙ ap (numbered line 0) (sym is)))
+      (prefix_before old new first prefix.0 f)
 
-  -- of one line more a front was written
+  -- of one line more a prefix was written
   pub told_cut : (list more : List X) (x : X) {all : List X} {index : ℕ} {page : List ℕ} {old now new : Option (List ℕ)}
       → index ≡ length list → all ≡ (list ++ x ∷ []) ++ more → IsPaged (before ++ numbered line 0 list) old now page
-      → AppendsFront now new (page ++ line index x) → AppendsFront old new (before ++ numbered line 0 all)
+      → AppendsPrefix now new (page ++ line index x) → AppendsPrefix old new (before ++ numbered line 0 all)
   told_cut list more x {index = index} {old = old} {new = new} is all_is told f =
       let first = before ++ numbered line 0 list in
-      told_front (list ++ x ∷ []) more all_is
-      (front_same old new (first ++ line index x) (before ++ numbered line 0 (list ++ x ∷ [])) (pushed list index x is)
-      (paged_front (line index x) told f))
+      told_prefix (list ++ x ∷ []) more all_is
+      (prefix_same old new (first ++ line index x) (before ++ numbered line 0 (list ++ x ∷ [])) (pushed list index x is)
+      (paged_prefix (line index x) told f))
 
   taken : (xs : List X) (k : ℕ) (x : X) → k < length xs → x ≡ get_or xs k x → take (k + 1) xs ≡ take k xs ++ x ∷ []
   taken xs k x lt is = take_more xs k x lt ∙ ap (λ (y : X). take k xs ++ y ∷ []) (sym is)
@@ -118,8 +118,8 @@ module _ {X : Type 0} (line : ℕ → X → List ℕ) (before : List ℕ) where
       told_more (take k xs) x (sym (length-take-le k xs (omega (arith, lt)))) (taken xs k x lt is) told here
 
   pub told_next_cut : (xs : List X) (k : ℕ) (x : X) {page : List ℕ} {old now new : Option (List ℕ)} → k < length xs → x ≡ get_or xs k x
-      → IsPaged (before ++ numbered line 0 (take k xs)) old now page → AppendsFront now new (page ++ line k x)
-      → AppendsFront old new (before ++ numbered line 0 xs)
+      → IsPaged (before ++ numbered line 0 (take k xs)) old now page → AppendsPrefix now new (page ++ line k x)
+      → AppendsPrefix old new (before ++ numbered line 0 xs)
   told_next_cut xs k x lt is told f =
       told_cut (take k xs) (drop (k + 1) xs) x (sym (length-take-le k xs (omega (arith, lt))))
       (sym (take-append-drop (k + 1) xs) ∙ ap (λ (z : List X). z ++ drop (k + 1) xs) (taken xs k x lt is)) told f
@@ -131,21 +131,21 @@ module _ (X : Type 0) (Is : X → Type 0) (first second : X → List ℕ) {lines
   joined : (x : X) → (lines ++ first x) ++ second x ≡ lines ++ (first x ++ second x)
   joined x = append_assoc lines (first x) (second x)
 
-  -- of the second part a front was written
-  pub first_cut : {new : Option (List ℕ)} → ((x : X) → Is x → AppendsFront start new (page ++ first x))
-      → (x : X) → Is x → AppendsFront old new (lines ++ (first x ++ second x))
+  -- of the second part a prefix was written
+  pub first_cut : {new : Option (List ℕ)} → ((x : X) → Is x → AppendsPrefix start new (page ++ first x))
+      → (x : X) → Is x → AppendsPrefix old new (lines ++ (first x ++ second x))
   first_cut {new} f x is =
-      front_same old new ((lines ++ first x) ++ second x) (lines ++ (first x ++ second x)) (joined x)
-      (front_before old new (lines ++ first x) (second x) (paged_front (first x) begun (f x is)))
+      prefix_same old new ((lines ++ first x) ++ second x) (lines ++ (first x ++ second x)) (joined x)
+      (prefix_before old new (lines ++ first x) (second x) (paged_prefix (first x) begun (f x is)))
 
   -- of the third
   pub second_cut : {now new : Option (List ℕ)} {page2 : List ℕ} → ((x : X) → Is x → IsPaged (page ++ first x) start now page2)
-      → ((x : X) → Is x → AppendsFront now new (page2 ++ second x)) → (x : X) → Is x → AppendsFront old new (lines ++ (first x ++ second x))
+      → ((x : X) → Is x → AppendsPrefix now new (page2 ++ second x)) → (x : X) → Is x → AppendsPrefix old new (lines ++ (first x ++ second x))
   second_cut {new = new} p f x is =
-      front_same old new ((lines ++ first x) ++ second x) (lines ++ (first x ++ second x)) (joined x)
-      (paged_front (second x) (paged_more (first x) begun (p x is)) (f x is))
+      prefix_same old new ((lines ++ first x) ++ second x) (lines ++ (first x ++ second x)) (joined x)
+      (paged_prefix (second x) (paged_more (first x) begun (p x is)) (f x is))
 
-  -- all were written, or a front
+  -- all were written, or a prefix
   module _ {now then : Option (List ℕ)} {page2 page3 : List ℕ}
       (p : (x : X) → Is x → IsPaged (page ++ first x) start now page2) (q : (x : X) → Is x → IsPaged (page2 ++ second x) now then page3) where
     parts : (x : X) → Is x → IsPaged ((lines ++ first x) ++ second x) old then page3
@@ -156,9 +156,9 @@ module _ (X : Type 0) (Is : X → Type 0) (first second : X → List ℕ) {lines
     parts_whole (Err error) new w = w
     parts_whole (Ok value) new w = λ x is. subst (Appends old new) (joined x) (paged_all new (parts x is) w)
 
-    pub parts_cut : {A E : Type 0} (result : Result A E) (new : Option (List ℕ)) → OnErr result (AppendsFront then new page3)
-        → OnErr result ((x : X) → Is x → AppendsFront old new (lines ++ (first x ++ second x)))
+    pub parts_cut : {A E : Type 0} (result : Result A E) (new : Option (List ℕ)) → OnErr result (AppendsPrefix then new page3)
+        → OnErr result ((x : X) → Is x → AppendsPrefix old new (lines ++ (first x ++ second x)))
     parts_cut (Ok value) new w = w
     parts_cut (Err error) new w =
-        λ x is. front_same old new ((lines ++ first x) ++ second x) (lines ++ (first x ++ second x)) (joined x)
+        λ x is. prefix_same old new ((lines ++ first x) ++ second x) (lines ++ (first x ++ second x)) (joined x)
         (paged_cut (parts x is) w)

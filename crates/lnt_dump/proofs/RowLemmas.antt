@@ -24,7 +24,7 @@ digits_before room new start end number after some fits le digits_are same =
     let digits = drop start (take (end - 1) new) in
     text_before (slice_set room (end - 1) after) new start (end - 1) le same
     ∙ ap (λ rest. digits ++ rest) (byte_before room end after some fits)
-    ∙ ap (λ front. front ++ (after ∷ drop end room)) (decimal_text number digits digits_are)
+    ∙ ap (λ prefix. prefix ++ (after ∷ drop end room)) (decimal_text number digits digits_are)
 
 -- ---- the line
 
@@ -53,7 +53,7 @@ line_of {t10 = t10} number row address stmt e0 e1 e2 e3 e4 e5 stmt_is e6 e7 e8 e
     let s8 = e8 ∙ ap (λ rest. decimal row.file ++ (32 ∷ rest)) s7 in
     let s9 = e9 ∙ ap (λ rest. decimal row.op_index ++ (32 ∷ rest)) s8 in
     let s10 = e10 ∙ ap (λ rest. 32 ∷ rest) s9 in
-    let s11 = e11 ∙ ap (λ front. front ++ t10) (address_text row.address address address_is)
+    let s11 = e11 ∙ ap (λ prefix. prefix ++ t10) (address_text row.address address address_is)
     ∙ ap (λ rest. hexadecimal row.address ++ rest) s10 in
     let s12 = e12 ∙ ap (λ rest. decimal number ++ (32 ∷ rest)) s11 in
     let s13 = e13 ∙ ap (λ rest. 32 ∷ rest) s12 in

@@ -5,7 +5,7 @@ use Rattle.std.specs.Prelude.{Option, Some}
 use Rattle.lnt_wire.specs.declared.fault.Fault.{Fault}
 use Rattle.std.specs.List.{cons_option}
 use Rattle.std.proofs.lemmas.List.{length-append, length-take-le}
-use Rattle.lnt_io.specs.Fronts.{AppendsFront}
+use Rattle.lnt_io.specs.Prefixes.{AppendsPrefix}
 use Rattle.lnt_header.specs.HeaderNumbers.{without_entries}
 use Rattle.lnt_header.specs.HeaderRules.{IsHeader}
 use Rattle.lnt_header.specs.OpRules.{Admits, StandsFor}
@@ -124,12 +124,12 @@ rows_none {view} {ops} {walk} {run} page out s header has count = record {
 }
 
 -- the rows of the first operations begin those of all
-rows_front : (h : HeaderParts) (back xs ys : List Op) → (more : List Row) × (rows_after h back (xs ++ ys) ≡ rows_after h back xs ++ more)
-rows_front h back [] ys = (rows_after h back ys, refl)
-rows_front h back (op ∷ xs) ys =
-    let front = rows_front h (op ∷ back) xs ys in
+rows_prefix : (h : HeaderParts) (back xs ys : List Op) → (more : List Row) × (rows_after h back (xs ++ ys) ≡ rows_after h back xs ++ more)
+rows_prefix h back [] ys = (rows_after h back ys, refl)
+rows_prefix h back (op ∷ xs) ys =
+    let prefix = rows_prefix h (op ∷ back) xs ys in
     let made = row_made h back op in
-    (front.0, ap (cons_option made) front.1 ∙ cons_option-append made (rows_after h (op ∷ back) xs) front.0)
+    (prefix.0, ap (cons_option made) prefix.1 ∙ cons_option-append made (rows_after h (op ∷ back) xs) prefix.0)
 
 module _ {view : View} {ops : List Op} {index : ℕ} {walk walk' : Walk} {run run' : RunState} {item : OpView} {made : Option Row}
     {before page : List ℕ} {old now : Option (List ℕ)} (header : IsHeader view.header) (is : IsUnitView view)
@@ -177,14 +177,14 @@ module _ {view : View} {ops : List Op} {index : ℕ} {walk walk' : Walk} {run ru
         stands_room is t.running.at step,
       )
 
-  -- of the line of its row a front was written
-  pub rows_cut : {row : Row} {new : Option (List ℕ)} → made ≡ Some row → AppendsFront now new (page ++ row_line index row)
-      → AppendsFront old new (before ++ numbered row_line 0 (rows (with_ops view ops)))
+  -- of the line of its row a prefix was written
+  pub rows_cut : {row : Row} {new : Option (List ℕ)} → made ≡ Some row → AppendsPrefix now new (page ++ row_line index row)
+      → AppendsPrefix old new (before ++ numbered row_line 0 (rows (with_ops view ops)))
   rows_cut {row} some line =
       let k = t.running.k in
       let h = without_entries view.header in
       let list = so_far view ops k in
-      let later = rows_front h [] (take (k + 1) ops) (drop (k + 1) ops) in
+      let later = rows_prefix h [] (take (k + 1) ops) (drop (k + 1) ops) in
       let all : rows (with_ops view ops) ≡ (list ++ row ∷ []) ++ later.0 =
       sym (same_by_numbers.same_rows (with_ops view ops)) ∙ ap (rows_after h []) (sym (take-append-drop (k + 1) ops)) ∙ later.1
       ∙ ap (λ (z : List Row). z ++ later.0) (row_next some) in

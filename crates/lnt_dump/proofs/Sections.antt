@@ -35,13 +35,13 @@ module _ (order : Order) (section : List ℕ) (format : Format) (to : Order) whe
       → Each (IsShortest (UnitBytesIn to)) (units_in_format units format to) newer
       → PlacedFrom (CanBeConverted order format to) offset units bytes
   can_convert offset [] bytes newer none all = none
-  can_convert offset (unit ∷ units) bytes newer (front, back, here, so, joined, rest) all = (
-    front,
+  can_convert offset (unit ∷ units) bytes newer (prefix, back, here, so, joined, rest) all = (
+    prefix,
     back,
     here,
-    record { spelled = so; newer = all.front; put = all.first },
+    record { spelled = so; newer = all.prefix; put = all.first },
     joined,
-    can_convert (offset + length front) units back all.back rest all.second,
+    can_convert (offset + length prefix) units back all.back rest all.second,
   )
 
   -- with what the units are converted to that are left, the text is the section converted
@@ -52,11 +52,11 @@ module _ (order : Order) (section : List ℕ) (format : Format) (to : Order) whe
     [],
     subst (IsConverted order section format to) (sym (append-nil text)) (converted_all order section format to at text p (ap length none)),
   )
-  rest_converted (unit ∷ units) at text p (front, back, here, so, joined, rest) =
-      let next : At = record { place = at.place + length front; rest = back; order = at.order } in
+  rest_converted (unit ∷ units) at text p (prefix, back, here, so, joined, rest) =
+      let next : At = record { place = at.place + length prefix; rest = back; order = at.order } in
       let one : ConvertsUnit order format to at next [] so.newer = record {
         unit = unit.1;
-        read = record { spelling = front; spelled = so.spelled; whole = joined; place = refl; order = refl };
+        read = record { spelling = prefix; spelled = so.spelled; whole = joined; place = refl; order = refl };
         put = record { spelling = so.newer; spelled = so.put; joined = refl };
       } in
       let before : ConvertedTo order section format to at (text ++ []) =

@@ -3,7 +3,7 @@ use Rattle.std.proofs.Common.{◌≡◌, ◌∙◌, ℕ, ◌+◌, ◌^◌, ◌<�
 use Rattle.std.proofs.Common.{arith, false, take_all}
 use Rattle.std.specs.Prelude.{Option}
 use Rattle.std.proofs.lemmas.List.{drop_more, length-drop}
-use Rattle.lnt_io.specs.Fronts.{AppendsFront}
+use Rattle.lnt_io.specs.Prefixes.{AppendsPrefix}
 use Rattle.lnt_header.specs.HeaderNumbers.{without_entries}
 use Rattle.lnt_header.specs.HeaderRules.{IsHeader}
 use Rattle.lnt_header.specs.Joins.{Each}
@@ -125,9 +125,9 @@ module _ {view : View} {ops : List Op} {k : ℕ} {item : OpView} {walk walk' : W
       let n = stands_next header t.at step in
       record { at = n.at; told = told_next op_line before ops k n.op n.more n.is t.told (line n.op n.stands) }
 
-  -- of the next line a front was written
-  pub ops_cut : ((done : Op) → StandsFor item done → AppendsFront now new (page ++ op_line k done))
-      → AppendsFront old new (before ++ numbered op_line 0 ops)
+  -- of the next line a prefix was written
+  pub ops_cut : ((done : Op) → StandsFor item done → AppendsPrefix now new (page ++ op_line k done))
+      → AppendsPrefix old new (before ++ numbered op_line 0 ops)
   ops_cut line =
       let n = stands_next header t.at step in
       told_next_cut op_line before ops k n.op n.more n.is t.told (line n.op n.stands)

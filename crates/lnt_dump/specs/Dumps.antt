@@ -2,7 +2,7 @@
 use Rattle.std.specs.Prelude.{◌≡◌, ◌<◌, ℕ, List, [], ◌++◌, cond, length, map, Option, Some, None, IfSome, IsTrue, codes}
 use Rattle.std.specs.List.{AllByRecursion, flat_map}
 use Rattle.std.specs.Io.KnownBytes.{Appends}
-use Rattle.lnt_io.specs.Fronts.{AppendsFront}
+use Rattle.lnt_io.specs.Prefixes.{AppendsPrefix}
 use Rattle.lnt_wire.specs.declared.frame.Frame.{Frame}
 use Rattle.lnt_wire.specs.declared.format.Order.{Order}
 use Rattle.lnt_wire.specs.FrameBytes.{FramesFrom, frame_bytes}
@@ -68,15 +68,15 @@ pub record DoesNotRun (order : Order) (bytes : List ℕ) (fault : RunFault) : Ty
 abbrev pub IsDumpFault : Order → DumpParts → ℕ → List ℕ → RowFault → Type 0
 IsDumpFault order shown offset bytes (Malformed fault) = (0 < length bytes) × BrokenUnit order fault offset bytes
 IsDumpFault order shown offset bytes (Run fault) =
-    IsTrue shown.rows × (front : List ℕ) × (back : List ℕ) × (bytes ≡ front ++ back) × DoesNotRun order front fault
+    IsTrue shown.rows × (prefix : List ℕ) × (back : List ℕ) × (bytes ≡ prefix ++ back) × DoesNotRun order prefix fault
 
 -- The section begins with these units. The offset is that of the bytes after them (rest).
 pub record BeginsWithUnits (order : Order) (shown : DumpParts) (section : List ℕ) (units : List FramedUnit) (offset : ℕ)
     (rest : List ℕ) : Type 0 where
-  pub front : List ℕ
-  pub whole : section ≡ front ++ rest
-  pub offset_is : offset ≡ length front
-  pub frames : FramesFrom order 0 (map (λ unit. unit.0) units) front
+  pub prefix : List ℕ
+  pub whole : section ≡ prefix ++ rest
+  pub offset_is : offset ≡ length prefix
+  pub frames : FramesFrom order 0 (map (λ unit. unit.0) units) prefix
   pub each : AllByRecursion (IsDumpedUnit order shown) units
 
 -- what follows the last unit: nothing, or the bytes that the fault rejects
@@ -105,4 +105,4 @@ pub record IsDumpBegun (order : Order) (shown : DumpParts) (section old new : Op
   pub fault : Option RowFault
   pub so : IfSome section (λ bytes. (rest : List ℕ) × BeginsWithUnits order shown bytes units offset rest
       × IfSome fault (IsDumpFault order shown offset rest))
-  pub begun : AppendsFront old new (dump_text shown units offset fault)
+  pub begun : AppendsPrefix old new (dump_text shown units offset fault)

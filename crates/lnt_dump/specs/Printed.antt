@@ -1,7 +1,7 @@
 -- What was written if a section was converted, or wasn't, or if that stopped.
 use Rattle.std.specs.Prelude.{◌≢◌, ◌⊎◌, ℕ, List, [], ◌++◌, Option, codes}
 use Rattle.std.specs.Io.KnownBytes.{Appends, Keeps}
-use Rattle.lnt_io.specs.Fronts.{HasBegun}
+use Rattle.lnt_io.specs.Prefixes.{HasBegun}
 use Rattle.lnt_io.specs.declared.status.Status.{Status}
 use Rattle.lnt_io.specs.declared.status.Status.TheVariants.{Done, No}
 use Rattle.lnt_wire.specs.declared.format.Format.{Format}

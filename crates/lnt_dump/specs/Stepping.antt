@@ -13,7 +13,7 @@ use Rattle.lnt_header.specs.declared.op.OpView.TheVariants.{UnknownStandard}
 use Rattle.lnt_header.specs.OpRules.{AreOperands}
 use Rattle.lnt_header.specs.declared.unit_parts.UnitParts.{UnitParts}
 use Rattle.lnt_header_bytes.specs.TableBytes.{EntryBytes}
-use Rattle.lnt_io.specs.Fronts.{AppendsFront}
+use Rattle.lnt_io.specs.Prefixes.{AppendsPrefix}
 use Rattle.lnt_machine.specs.declared.fault.RowFault.{RowFault}
 use Rattle.lnt_machine.specs.declared.fault.RowFault.TheVariants.{Malformed, Run}
 use Rattle.lnt_machine.specs.Matrix.{Runs}
@@ -45,8 +45,8 @@ IsNext offset after order old new End = SectionEndsBy offset order old None
 -- ---- what was written if printing stopped
 
 -- what was appended to a writer that held these bytes is a prefix of such a text (Is), and nothing else
-abbrev pub IsFrontIn : (List ℕ → Type 0) → Option (List ℕ) → Option (List ℕ) → Type 0
-IsFrontIn Is old new = (text : List ℕ) × Is text × AppendsFront old new text
+abbrev pub IsPrefixIn : (List ℕ → Type 0) → Option (List ℕ) → Option (List ℕ) → Type 0
+IsPrefixIn Is old new = (text : List ℕ) × Is text × AppendsPrefix old new text
 
 -- ---- entries
 
@@ -62,7 +62,7 @@ pub record PassesPrinting (text : Entry → List ℕ) (format : Format) (pairs :
 -- The text was written, but for what waits in the page.
 pub record IsPaged (text : List ℕ) (old new : Option (List ℕ)) (page : List ℕ) : Type 0 where
   pub written : List ℕ
-  pub gained : Appends old new written
+  pub appended : Appends old new written
   pub joined : text ≡ written ++ page
 
 -- ---- units
@@ -100,7 +100,7 @@ UnitTold shown frame unit old new status = (told : UnitEndsSo shown frame unit (
 
 -- A prefix of it was printed.
 abbrev pub UnitBegun : DumpParts → Frame → BufferedUnit → Option (List ℕ) → Option (List ℕ) → Type 0
-UnitBegun shown frame unit old new = UnitEndsSo shown frame unit (AppendsFront old new)
+UnitBegun shown frame unit old new = UnitEndsSo shown frame unit (AppendsPrefix old new)
 
 -- ---- operations
 

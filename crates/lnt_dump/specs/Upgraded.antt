@@ -1,7 +1,7 @@
 -- What was written if a section was written anew, or wasn't, or if that stopped.
 use Rattle.std.specs.Prelude.{◌≢◌, ◌⊎◌, ℕ, List, [], ◌++◌, Option, codes, decimal}
 use Rattle.std.specs.Io.KnownBytes.{Appends, Keeps}
-use Rattle.lnt_io.specs.Fronts.{HasBegun}
+use Rattle.lnt_io.specs.Prefixes.{HasBegun}
 use Rattle.lnt_io.specs.declared.status.Status.{Status}
 use Rattle.lnt_io.specs.declared.status.Status.TheVariants.{Done, No}
 use Rattle.lnt_text.specs.Texts.{malformed_text}

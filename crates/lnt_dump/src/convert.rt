@@ -1,13 +1,13 @@
 //! The subcommand `convert`.
 ghost use Rattle.std.specs.Prelude.{◌≡◌, ◌≢◌, ◌+◌, ◌-◌, ◌^◌, ◌<◌, IfErr, IfOk, IfSome, IsErrOf, IsTrue, OnErr, OnOk};
 ghost use Rattle.std.specs.Io.KnownBytes.{Appends};
-ghost use Rattle.lnt_io.specs.Fronts.{AppendsFront};
+ghost use Rattle.lnt_io.specs.Prefixes.{AppendsPrefix};
 ghost use Rattle.lnt_io.specs.Halts.{IsPrinting};
 ghost use Rattle.lnt_io.specs.declared.status.Status.TheVariants.{Done, No};
 ghost use Rattle.lnt_unit.specs.ConvertedUnits.{Converts};
 ghost use Rattle.lnt_unit.specs.Converting.{IsConverted};
 ghost use Rattle.lnt_dump.specs.Printed.{IsConversionBegun, IsConversionTold, IsPrintedIn, IsRefusalTold, refusal_text};
-ghost use Rattle.lnt_dump.specs.Stepping.{IsFrontIn};
+ghost use Rattle.lnt_dump.specs.Stepping.{IsPrefixIn};
 
 use crate::faults::print_fault;
 use crate::page::{hand_on, turn_full};
@@ -50,7 +50,7 @@ pub fn print_converted<R: Source, W: Write>(
 }
 
 // Prints the section in the format and in the byte order `to`, or the line that says why there is no such section.
-#[tactic(auto, using(crate::proofs::SectionFronts::refusal_begun))]
+#[tactic(auto, using(crate::proofs::SectionPrefixes::refusal_begun))]
 fn print_conversion<W: Write>(
     alloc: Global,
     bytes: &[u8],
@@ -84,7 +84,7 @@ fn print_section<W: Write>(
 ) -> Result<(), Halt>
     requires { Converts order bytes.now format to }
     ensures ok { OnOk result (IsPrintedIn (IsConverted order bytes.now format to) (W.contents out.old) (W.contents out.new)) }
-    ensures front { OnErr result (IsFrontIn (IsConverted order bytes.now format to) (W.contents out.old) (W.contents out.new)) }
+    ensures prefix { OnErr result (IsPrefixIn (IsConverted order bytes.now format to) (W.contents out.old) (W.contents out.new)) }
     ensures err { IfErr result IsPrinting }
 {
     let mut page = Vec::new(alloc);
@@ -114,7 +114,7 @@ pub(crate) fn print_refusal<W: Write>(
     ensures told { OnOk result (fault ≢ ConvertFault.Memory) }
     ensures err { IfErr result IsPrinting }
     ensures line { OnOk result (Appends (W.contents out.old) (W.contents out.new) (refusal_text fault)) }
-    ensures front { OnErr result (AppendsFront (W.contents out.old) (W.contents out.new) (refusal_text fault)) }
+    ensures prefix { OnErr result (AppendsPrefix (W.contents out.old) (W.contents out.new) (refusal_text fault)) }
 {
     match fault {
         ConvertFault::Malformed(fault) => print_fault(alloc, fault, out),

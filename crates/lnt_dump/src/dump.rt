@@ -1,7 +1,7 @@
 //! The subcommand `dump`.
 ghost use Rattle.std.specs.Prelude.{◌≡◌, ◌++◌, ◌-◌, ◌^◌, ◌<◌, ◌⊎◌, [], List, cond, IfOk, OnErr, OnOk};
 ghost use Rattle.std.specs.Io.KnownBytes.{Appends, Keeps};
-ghost use Rattle.lnt_io.specs.Fronts.{AppendsFront};
+ghost use Rattle.lnt_io.specs.Prefixes.{AppendsPrefix};
 ghost use Rattle.lnt_header.specs.declared.op.Op.{Op};
 ghost use Rattle.lnt_machine.specs.Matrix.{Runs, rows};
 ghost use Rattle.lnt_unit.specs.Views.{with_ops};
@@ -127,8 +127,8 @@ fn print_valid<W: Write>(
     requires { IsSound unit.now shown.rows }
     ensures whole { OnOk result ((ops : List Op) → IsUnitOf unit.now ops
         → Appends (W.contents out.old) (W.contents out.new) (unit_lines shown (frame.now, with_ops unit.now ops))) }
-    ensures front { OnErr result ((ops : List Op) → IsUnitOf unit.now ops
-        → AppendsFront (W.contents out.old) (W.contents out.new) (unit_lines shown (frame.now, with_ops unit.now ops))) }
+    ensures prefix { OnErr result ((ops : List Op) → IsUnitOf unit.now ops
+        → AppendsPrefix (W.contents out.old) (W.contents out.new) (unit_lines shown (frame.now, with_ops unit.now ops))) }
 {
     begin_page(alloc, unit, frame, page, out)?;
     print_shown_ops(alloc, unit, shown, page, out)?;
@@ -145,7 +145,7 @@ fn begin_page<W: Write>(
     out: &mut W,
 ) -> Result<(), Halt>
     ensures ok { OnOk result (IsPaged (header_lines frame.now unit.now.header) (W.contents out.old) (W.contents out.new) page.new.items) }
-    ensures front { OnErr result (AppendsFront (W.contents out.old) (W.contents out.new) (header_lines frame.now unit.now.header)) }
+    ensures prefix { OnErr result (AppendsPrefix (W.contents out.old) (W.contents out.new) (header_lines frame.now unit.now.header)) }
 {
     page.clear();
     print_header(alloc, frame, &unit.header(), page, out)
@@ -163,8 +163,8 @@ fn print_shown_ops<W: Write>(
     ensures ok { OnOk result ((ops : List Op) → IsUnitOf unit.now ops
         → IsPaged (page.old.items ++ cond shown.ops (numbered op_line 0 ops) [])
         (W.contents out.old) (W.contents out.new) page.new.items) }
-    ensures front { OnErr result ((ops : List Op) → IsUnitOf unit.now ops
-        → AppendsFront (W.contents out.old) (W.contents out.new) (page.old.items ++ cond shown.ops (numbered op_line 0 ops) [])) }
+    ensures prefix { OnErr result ((ops : List Op) → IsUnitOf unit.now ops
+        → AppendsPrefix (W.contents out.old) (W.contents out.new) (page.old.items ++ cond shown.ops (numbered op_line 0 ops) [])) }
 {
     if shown.ops {
         return print_ops(alloc, unit, page, out);
@@ -183,8 +183,8 @@ fn print_shown_rows<W: Write>(
     ensures ok { OnOk result ((ops : List Op) → IsUnitOf unit.now ops
         → IsPaged (page.old.items ++ cond shown.rows (numbered row_line 0 (rows (with_ops unit.now ops))) [])
         (W.contents out.old) (W.contents out.new) page.new.items) }
-    ensures front { OnErr result ((ops : List Op) → IsUnitOf unit.now ops
-        → AppendsFront (W.contents out.old) (W.contents out.new)
+    ensures prefix { OnErr result ((ops : List Op) → IsUnitOf unit.now ops
+        → AppendsPrefix (W.contents out.old) (W.contents out.new)
         (page.old.items ++ cond shown.rows (numbered row_line 0 (rows (with_ops unit.now ops))) [])) }
 {
     if shown.rows {

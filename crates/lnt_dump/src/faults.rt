@@ -1,7 +1,7 @@
 //! How faults end the printing.
 ghost use Rattle.std.specs.Prelude.{◌≡◌, ◌≢◌, ◌⊎◌, ◌++◌, IfErr, IfOk, OnErr, OnOk, Some, codes};
 ghost use Rattle.std.specs.Io.KnownBytes.{Appends, Keeps};
-ghost use Rattle.lnt_io.specs.Fronts.{AppendsFront};
+ghost use Rattle.lnt_io.specs.Prefixes.{AppendsPrefix};
 ghost use Rattle.lnt_io.specs.Halts.{IsPrinting};
 ghost use Rattle.lnt_io.specs.declared.status.Status.TheVariants.{No};
 ghost use Rattle.lnt_text.specs.Texts.{malformed_text};
@@ -23,7 +23,7 @@ pub(crate) fn print_fault<W: Write>(
     ensures no { IfOk result (λ status. status ≡ No) }
     ensures err { IfErr result IsPrinting }
     ensures line { OnOk result (Appends (W.contents out.old) (W.contents out.new) (malformed_text fault ++ codes "\n")) }
-    ensures front { OnErr result (AppendsFront (W.contents out.old) (W.contents out.new) (malformed_text fault ++ codes "\n")) }
+    ensures prefix { OnErr result (AppendsPrefix (W.contents out.old) (W.contents out.new) (malformed_text fault ++ codes "\n")) }
     ensures told { OnOk result (fault.reason ≢ Reason.Memory) }
     ensures kept { OnErr result (Keeps (W.contents out.old) (W.contents out.new) ⊎ (fault.reason ≢ Reason.Memory)) }
 {
@@ -43,7 +43,7 @@ pub(crate) fn print_unit_fault<W: Write>(
 ) -> Result<Status, Halt>
     ensures no { IfOk result (λ status. status ≡ No) }
     ensures line { OnOk result (Appends (W.contents out.old) (W.contents out.new) (fault_line offset (Some fault))) }
-    ensures front { OnErr result (AppendsFront (W.contents out.old) (W.contents out.new) (fault_line offset (Some fault))) }
+    ensures prefix { OnErr result (AppendsPrefix (W.contents out.old) (W.contents out.new) (fault_line offset (Some fault))) }
 {
     match fault {
         RowFault::Malformed(fault) => print_fault(alloc, fault, out),

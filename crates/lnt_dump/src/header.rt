@@ -1,7 +1,7 @@
 //! How headers are printed, with their entries read one by one in place.
 ghost use Rattle.std.specs.Prelude.{◌≡◌, ◌++◌, OnErr, OnOk, Some, codes, decimal};
 ghost use Rattle.std.specs.Io.KnownBytes.{Appends};
-ghost use Rattle.lnt_io.specs.Fronts.{AppendsFront};
+ghost use Rattle.lnt_io.specs.Prefixes.{AppendsPrefix};
 ghost use Rattle.hex.specs.Hex.{encode_lower};
 ghost use Rattle.lnt_wire.specs.Borrowed.{value_of};
 ghost use Rattle.lnt_wire.specs.Bytes.{NoneSpelled};
@@ -37,7 +37,7 @@ pub(crate) fn print_header<W: Write>(
 ) -> Result<(), Halt>
     ensures ok { OnOk result (IsPaged (page.old.items ++ header_lines frame.now header.now)
         (W.contents out.old) (W.contents out.new) page.new.items) }
-    ensures front { OnErr result (AppendsFront (W.contents out.old) (W.contents out.new)
+    ensures prefix { OnErr result (AppendsPrefix (W.contents out.old) (W.contents out.new)
         (page.old.items ++ header_lines frame.now header.now)) }
 {
     put_numbers(frame, header.numbers(), page)?;
@@ -101,7 +101,7 @@ fn print_entries<W: Write>(
 ) -> Result<(), Halt>
     ensures ok { OnOk result (IsPaged (page.old.items ++ numbered (entry_line name.now table.now.pairs) 0 table.now.entries)
         (W.contents out.old) (W.contents out.new) page.new.items) }
-    ensures front { OnErr result (AppendsFront (W.contents out.old) (W.contents out.new)
+    ensures prefix { OnErr result (AppendsPrefix (W.contents out.old) (W.contents out.new)
         (page.old.items ++ numbered (entry_line name.now table.now.pairs) 0 table.now.entries)) }
 {
     let (format, pairs) = (table.format(), table.pairs());

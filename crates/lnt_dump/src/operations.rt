@@ -2,7 +2,7 @@
 ghost use Rattle.std.specs.Prelude.{◌≡◌, ℕ, ◌∷◌, ◌++◌, List, OnErr, OnOk, [], codes, decimal};
 ghost use Rattle.std.specs.Fmt.{signed_decimal};
 ghost use Rattle.std.specs.List.{flat_map};
-ghost use Rattle.lnt_io.specs.Fronts.{AppendsFront};
+ghost use Rattle.lnt_io.specs.Prefixes.{AppendsPrefix};
 ghost use Rattle.lnt_wire.specs.FaultTexts.{hexadecimal};
 ghost use Rattle.lnt_wire.specs.Leb128.{UnsignedLeb};
 ghost use Rattle.lnt_header.specs.Joins.{Each};
@@ -32,8 +32,8 @@ pub(crate) fn print_ops<W: Write>(
     requires { (ops : List Op) × IsUnitOf unit.now ops }
     ensures ok { OnOk result ((ops : List Op) → IsUnitOf unit.now ops
         → IsPaged (page.old.items ++ numbered op_line 0 ops) (W.contents out.old) (W.contents out.new) page.new.items) }
-    ensures front { OnErr result ((ops : List Op) → IsUnitOf unit.now ops
-        → AppendsFront (W.contents out.old) (W.contents out.new) (page.old.items ++ numbered op_line 0 ops)) }
+    ensures prefix { OnErr result ((ops : List Op) → IsUnitOf unit.now ops
+        → AppendsPrefix (W.contents out.old) (W.contents out.new) (page.old.items ++ numbered op_line 0 ops)) }
 {
     let mut index: u64 = 0;
     for op in unit.ops() {
@@ -56,8 +56,8 @@ fn print_op<W: Write>(
     requires { (done : Op) × StandsFor op.now done }
     ensures ok { OnOk result ((done : Op) → StandsFor op.now done
         → IsPaged (page.old.items ++ op_line index done) (W.contents out.old) (W.contents out.new) page.new.items) }
-    ensures front { OnErr result ((done : Op) → StandsFor op.now done
-        → AppendsFront (W.contents out.old) (W.contents out.new) (page.old.items ++ op_line index done)) }
+    ensures prefix { OnErr result ((done : Op) → StandsFor op.now done
+        → AppendsPrefix (W.contents out.old) (W.contents out.new) (page.old.items ++ op_line index done)) }
 {
     put_op_line(alloc, page, index, op)?;
     turn_full(page, out)

@@ -1,7 +1,7 @@
 //! The text on its way to the writer.
 ghost use Rattle.std.specs.Prelude.{◌≡◌, [], IfErr, OnErr, OnOk};
 ghost use Rattle.std.specs.Io.KnownBytes.{Appends};
-ghost use Rattle.lnt_io.specs.Fronts.{AppendsFront};
+ghost use Rattle.lnt_io.specs.Prefixes.{AppendsPrefix};
 ghost use Rattle.lnt_io.specs.Halts.{IsPrinting};
 ghost use Rattle.lnt_dump.specs.Stepping.{IsPaged};
 
@@ -16,7 +16,7 @@ const PAGE: usize = 1 << 16;
 #[inline(always)]
 pub(crate) fn turn_full<W: Write>(page: &mut Vec<u8>, out: &mut W) -> Result<(), Halt>
     ensures ok { OnOk result (IsPaged page.old.items (W.contents out.old) (W.contents out.new) page.new.items) }
-    ensures front { OnErr result (AppendsFront (W.contents out.old) (W.contents out.new) page.old.items) }
+    ensures prefix { OnErr result (AppendsPrefix (W.contents out.old) (W.contents out.new) page.old.items) }
     ensures err { IfErr result IsPrinting }
 {
     if page.len() >= PAGE {
@@ -29,7 +29,7 @@ pub(crate) fn turn_full<W: Write>(page: &mut Vec<u8>, out: &mut W) -> Result<(),
 pub(crate) fn hand_on<W: Write>(page: &mut Vec<u8>, out: &mut W) -> Result<(), Halt>
     ensures whole { OnOk result (Appends (W.contents out.old) (W.contents out.new) page.old.items) }
     ensures empty { OnOk result (page.new.items ≡ []) }
-    ensures front { OnErr result (AppendsFront (W.contents out.old) (W.contents out.new) page.old.items) }
+    ensures prefix { OnErr result (AppendsPrefix (W.contents out.old) (W.contents out.new) page.old.items) }
     ensures err { IfErr result IsPrinting }
 {
     write_whole(out, page)?;

@@ -1,6 +1,6 @@
 //! How rows are printed.
 ghost use Rattle.std.specs.Prelude.{◌++◌, List, OnErr, OnOk};
-ghost use Rattle.lnt_io.specs.Fronts.{AppendsFront};
+ghost use Rattle.lnt_io.specs.Prefixes.{AppendsPrefix};
 ghost use Rattle.lnt_header.specs.declared.op.Op.{Op};
 ghost use Rattle.lnt_machine.specs.Matrix.{Runs, rows};
 ghost use Rattle.lnt_unit.specs.Views.{with_ops};
@@ -25,8 +25,8 @@ pub(crate) fn print_rows<W: Write>(
     ensures ok { OnOk result ((ops : List Op) → IsUnitOf unit.now ops
         → IsPaged (page.old.items ++ numbered line_of_row 0 (rows (with_ops unit.now ops)))
         (W.contents out.old) (W.contents out.new) page.new.items) }
-    ensures front { OnErr result ((ops : List Op) → IsUnitOf unit.now ops
-        → AppendsFront (W.contents out.old) (W.contents out.new)
+    ensures prefix { OnErr result ((ops : List Op) → IsUnitOf unit.now ops
+        → AppendsPrefix (W.contents out.old) (W.contents out.new)
         (page.old.items ++ numbered line_of_row 0 (rows (with_ops unit.now ops)))) }
 {
     let mut room = [0; MOST];
@@ -56,7 +56,7 @@ fn print_row<W: Write>(
 ) -> Result<(), Halt>
     ensures ok { OnOk result (IsPaged (page.old.items ++ line_of_row index row.now)
         (W.contents out.old) (W.contents out.new) page.new.items) }
-    ensures front { OnErr result (AppendsFront (W.contents out.old) (W.contents out.new)
+    ensures prefix { OnErr result (AppendsPrefix (W.contents out.old) (W.contents out.new)
         (page.old.items ++ line_of_row index row.now)) }
 {
     let start = row_line(room, index, row);

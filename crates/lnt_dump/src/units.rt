@@ -1,7 +1,7 @@
 //! The subcommand `units`.
 ghost use Rattle.std.specs.Prelude.{◌≡◌, ◌-◌, ◌^◌, ◌<◌, IfOk, IfSome, OnErr, OnOk};
 ghost use Rattle.std.specs.Io.KnownBytes.{Appends};
-ghost use Rattle.lnt_io.specs.Fronts.{AppendsFront, HasBegun};
+ghost use Rattle.lnt_io.specs.Prefixes.{AppendsPrefix, HasBegun};
 ghost use Rattle.lnt_unit.specs.declared.reader.Progress.TheVariants.{Reading};
 ghost use Rattle.lnt_unit.specs.Readers.{offset_of, order_of, progress_of, source_of};
 ghost use Rattle.lnt_dump.specs.Stepping.{IsNext, GivesUnit};
@@ -86,7 +86,7 @@ pub(crate) fn next_of<R: Source>(
 // Prints the line of a unit, or a prefix of it. The line is put together in the room.
 fn print_frame<W: Write>(frame: &Frame<'_>, room: &mut Vec<u8>, out: &mut W) -> Result<(), Halt>
     ensures whole { OnOk result (Appends (W.contents out.old) (W.contents out.new) (unit_line frame.now)) }
-    ensures front { OnErr result (AppendsFront (W.contents out.old) (W.contents out.new) (unit_line frame.now)) }
+    ensures prefix { OnErr result (AppendsPrefix (W.contents out.old) (W.contents out.new) (unit_line frame.now)) }
 {
     let (offset, width, length) = (frame.offset, width_of(frame.format), frame.length);
     room.clear();

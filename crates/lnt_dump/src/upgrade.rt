@@ -2,14 +2,14 @@
 ghost use Rattle.std.specs.Prelude.{◌≡◌, ◌≢◌, ◌++◌, IfErr, IfOk, OnErr, OnOk, codes, decimal};
 ghost use Rattle.std.specs.Option.{option_copied};
 ghost use Rattle.std.specs.Io.KnownBytes.{Appends};
-ghost use Rattle.lnt_io.specs.Fronts.{AppendsFront};
+ghost use Rattle.lnt_io.specs.Prefixes.{AppendsPrefix};
 ghost use Rattle.lnt_header.specs.HeaderRules.{IsAddressSize};
 ghost use Rattle.lnt_io.specs.Halts.{IsPrinting};
 ghost use Rattle.lnt_io.specs.declared.status.Status.TheVariants.{No};
 ghost use Rattle.lnt_older.specs.Sections.{IsUpgraded};
 ghost use Rattle.lnt_older.specs.Upgradable.{AreSoundDirectories, CanUpgrade};
 ghost use Rattle.lnt_dump.specs.Printed.{IsPrintedIn};
-ghost use Rattle.lnt_dump.specs.Stepping.{IsFrontIn};
+ghost use Rattle.lnt_dump.specs.Stepping.{IsPrefixIn};
 ghost use Rattle.lnt_dump.specs.Upgraded.{IsUpgradeBegun, IsUpgradeTold, upgrade_refusal};
 
 use crate::convert::print_refusal;
@@ -69,7 +69,7 @@ fn print_anew<W: Write>(
     requires can { CanUpgrade order address_size directories.now bytes.now }
     ensures whole { OnOk result (IsPrintedIn (IsUpgraded order address_size directories.now bytes.now)
         (W.contents out.old) (W.contents out.new)) }
-    ensures front { OnErr result (IsFrontIn (IsUpgraded order address_size directories.now bytes.now)
+    ensures prefix { OnErr result (IsPrefixIn (IsUpgraded order address_size directories.now bytes.now)
         (W.contents out.old) (W.contents out.new)) }
     ensures err { IfErr result IsPrinting }
 {
@@ -89,7 +89,7 @@ fn print_reason<W: Write>(alloc: Global, fault: UpgradeFault, out: &mut W) -> Re
     ensures told { OnOk result (fault ≢ UpgradeFault.Memory) }
     ensures err { IfErr result IsPrinting }
     ensures line { OnOk result (Appends (W.contents out.old) (W.contents out.new) (upgrade_refusal fault)) }
-    ensures front { OnErr result (AppendsFront (W.contents out.old) (W.contents out.new) (upgrade_refusal fault)) }
+    ensures prefix { OnErr result (AppendsPrefix (W.contents out.old) (W.contents out.new) (upgrade_refusal fault)) }
 {
     match fault {
         UpgradeFault::Malformed(fault) => print_fault(alloc, fault, out),

@@ -89,8 +89,8 @@ first_is spans some = sym (ap (λ found. option_map_or (λ (span : FlatSpan). sp
 
 -- ---- those below a bucket, and the others
 
-in_front : (spans : List FlatSpan) (shift number k : ℕ) → k < spans_below spans shift number → bucket_at spans shift k < number
-in_front spans shift number k lt =
+in_prefix : (spans : List FlatSpan) (shift number k : ℕ) → k < spans_below spans shift number → bucket_at spans shift k < number
+in_prefix spans shift number k lt =
     ltb-true (bucket_at spans shift k) number (prefix_len_passes (begins_below (first_low spans) shift number) spans k unseen lt)
 
 past : (spans : List FlatSpan) (shift number k : ℕ) → AreInOrder (map span_of spans) → spans_below spans shift number ≤ k
@@ -120,9 +120,9 @@ bracketed spans shift number low high p o upto within below at_most above no_mor
       upto = upto;
       within = omega (arith, count, within);
       before = λ k d lt.
-          let front = in_front spans shift number (k + 1) (omega (arith, lt, below)) in
+          let prefix = in_prefix spans shift number (k + 1) (omega (arith, lt, below)) in
           let less = below_by_parts (low_of spans (k + 1) - first_low spans) (p.address - first_low spans)
-          (2 ^ shift) (pow_pos shift) (omega (arith, front, at_most)) in
+          (2 ^ shift) (pow_pos shift) (omega (arith, prefix, at_most)) in
           let ends = ends_by_next spans k (k + 1) o (omega arith) (omega (arith, lt, below, all)) in
           subst (λ (s : Span). IsAtMost s.high p) (at spans k unseen d (omega (arith, lt, upto, within)))
           (record { address = omega (arith, less, ends); op = λ e. absurd (omega (arith, less, ends, e)) });

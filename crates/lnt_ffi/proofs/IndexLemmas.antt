@@ -9,7 +9,7 @@ use Rattle.lnt_ffi.specs.declared.flat.FlatSpan.{FlatSpan}
 use Rattle.lnt_ffi.specs.Flat.{nothing}
 use Rattle.lnt_ffi.specs.Index.{begins_below, bucket, first_low, spans_below}
 
--- ---- those in front that pass a test
+-- ---- the first ones, which pass a test
 
 pub one_more_passes : {X : Type 0} (p : X → Bool) (xs : List X) (k : ℕ) (d : X) → k ≤ prefix_len p xs → k < length xs
     → p (get_or xs k d) ≡ true

@@ -1,4 +1,4 @@
--- Spans that are put into the front of a room as they come.
+-- Spans that are put into the first places of a room as they come.
 use Rattle.std.proofs.Common.{◌≡◌, ◌∙◌, ℕ, ◌+◌, ◌<◌, ◌≤◌, List, [], ◌∷◌, ◌++◌, Some, length, map, set, take, sym, ap, subst}
 use Rattle.std.proofs.Common.{arith}
 use Rattle.std.proofs.lemmas.List.{length-append, map-append, take_more_set}
@@ -8,7 +8,7 @@ use Rattle.lnt_spans.proofs.ComingLaws.{HasGiven, one_given}
 use Rattle.lnt_ffi.specs.declared.flat.FlatSpan.{FlatSpan}
 use Rattle.lnt_ffi.specs.Flat.{span_of}
 
--- So many of the spans that were to come were given, and they are the front of the room, if it is long enough.
+-- So many of the spans that were to come were given, and they are the first places of the room, if it is long enough.
 pub record HasPut (list : List Span) (count : ℕ) (room : List FlatSpan) (AreLeft : List Span → Type 0) : Type 0 where
   pub given : List Span
   pub has_given : HasGiven list given AreLeft
@@ -49,5 +49,5 @@ one_put list count count' room room' span AreLeft AreLeft' h gives same there ne
       has_given = one_given list h.given span AreLeft AreLeft' h.has_given gives;
       count_is = one_more h.given span count h.count_is;
       there =
-          λ fits. there (omega (arith, fits, same)) ∙ ap (λ (front : List Span). front ++ span ∷ []) (h.there (omega (arith, fits, same)));
+          λ fits. there (omega (arith, fits, same)) ∙ ap (λ (prefix : List Span). prefix ++ span ∷ []) (h.there (omega (arith, fits, same)));
     })

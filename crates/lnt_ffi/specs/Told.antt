@@ -32,8 +32,8 @@ abbrev pub memory : FlatVerdict
 memory = numbered 33 0
 
 -- the room with the list at its beginning if there is room for all of it, and otherwise the room as it is
-abbrev pub with_front : {A : Type 0} → List A → List A → List A
-with_front list room = if nat_le (length list) (length room) then list ++ drop (length list) room else room
+abbrev pub with_prefix : {A : Type 0} → List A → List A → List A
+with_prefix list room = if nat_le (length list) (length room) then list ++ drop (length list) room else room
 
 -- ---- a section that isn't good, or that wasn't judged
 
@@ -84,7 +84,7 @@ pub data IsToldOfTable (section : FlatSection) (text : List ℕ) (told : FlatVer
 pub data IsToldOfPaths (scope : Scope) (section : FlatSection) (text old_table new_table old_section new_section : List ℕ)
     (told : FlatVerdict) : Type 0 where
   judged : (found : CheckedWithin) → IsFound scope section text found → told ≡ verdict_of_check found
-      → new_table ≡ with_front (table_path found) old_table → new_section ≡ with_front (section_path found) old_section
+      → new_table ≡ with_prefix (table_path found) old_table → new_section ≡ with_prefix (section_path found) old_section
       → IsToldOfPaths scope section text old_table new_table old_section new_section told
   stopped : told ≡ memory → new_table ≡ old_table → new_section ≡ old_section
       → IsToldOfPaths scope section text old_table new_table old_section new_section told
@@ -93,7 +93,7 @@ abbrev pub version_of : Bool → Version
 version_of is_wide = if is_wide then Two else One
 
 pub data IsToldOfWriting (section : FlatSection) (is_wide : Bool) (count : ℕ) (old new : List ℕ) (told : FlatVerdict) : Type 0 where
-  good : (bytes : List ℕ) → IsTableOfFlat section (version_of is_wide) bytes → count ≡ length bytes → new ≡ with_front bytes old
+  good : (bytes : List ℕ) → IsTableOfFlat section (version_of is_wide) bytes → count ≡ length bytes → new ≡ with_prefix bytes old
       → told ≡ yes → IsToldOfWriting section is_wide count old new told
   refused : IsRefused section told → count ≡ 0 → new ≡ old → IsToldOfWriting section is_wide count old new told
 
@@ -105,14 +105,14 @@ unit_in index offset = record { offset = offset; files = file_count_in index off
 
 pub data IsToldOfUnits (section : FlatSection) (count : ℕ) (old new : List FlatUnit) (told : FlatVerdict) : Type 0 where
   good : (index : Indexed) → IsIndexOfFlat section index → count ≡ length index.units
-      → new ≡ with_front (map (unit_in index) index.units) old
+      → new ≡ with_prefix (map (unit_in index) index.units) old
       → told ≡ yes → IsToldOfUnits section count old new told
   refused : IsRefused section told → count ≡ 0 → new ≡ old → IsToldOfUnits section count old new told
 
 pub data IsToldOfPath (section : FlatSection) (unit file : ℕ) (is_there : Bool) (count : ℕ) (old new : List ℕ) (told : FlatVerdict) : Type
     0 where
   found : (index : Indexed) → IsIndexOfFlat section index → (path : List ℕ) → file_path_in index unit file ≡ Some path
-      → is_there ≡ true → count ≡ length path → new ≡ with_front path old → told ≡ yes
+      → is_there ≡ true → count ≡ length path → new ≡ with_prefix path old → told ≡ yes
       → IsToldOfPath section unit file is_there count old new told
   nowhere : (index : Indexed) → IsIndexOfFlat section index → file_path_in index unit file ≡ None
       → is_there ≡ false → count ≡ 0 → new ≡ old → told ≡ yes → IsToldOfPath section unit file is_there count old new told

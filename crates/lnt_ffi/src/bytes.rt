@@ -34,8 +34,8 @@ impl Source for Bytes<'_> {
 
     fn pull(&mut self, buf: &mut [u8]) -> Result<usize, ReadFault> {
         let count = buf.len().min(self.rest.len());
-        let (front, rest) = self.rest.split_at(count);
-        buf[..count].copy_from_slice(front);
+        let (prefix, rest) = self.rest.split_at(count);
+        buf[..count].copy_from_slice(prefix);
         self.rest = rest;
         Ok(count)
     }

@@ -1,7 +1,7 @@
 //! Sections checked against address tables.
 ghost use Rattle.std.specs.Prelude.{◌≡◌, length};
 ghost use Rattle.lnt_ffi.specs.ByPath.{section_path, table_path, verdict_of_check};
-ghost use Rattle.lnt_ffi.specs.Told.{IsToldOfPaths, IsToldOfTable, with_front};
+ghost use Rattle.lnt_ffi.specs.Told.{IsToldOfPaths, IsToldOfTable, with_prefix};
 ghost use Rattle.lnt_table.specs.Within.{scope_in};
 ghost use Rattle.lnt_table.specs.declared.within.Scope.TheVariants as Scope;
 
@@ -104,8 +104,8 @@ fn put_found(found: &CheckedWithin, by_table: &mut [u8], by_section: &mut [u8]) 
     ensures verdict { result ≡ verdict_of_check found.now }
     ensures table_room { length by_table.new ≡ length by_table.old }
     ensures section_room { length by_section.new ≡ length by_section.old }
-    ensures by_table { by_table.new ≡ with_front (table_path found.now) by_table.old }
-    ensures by_section { by_section.new ≡ with_front (section_path found.now) by_section.old }
+    ensures by_table { by_table.new ≡ with_prefix (table_path found.now) by_table.old }
+    ensures by_section { by_section.new ≡ with_prefix (section_path found.now) by_section.old }
 {
     put_bytes(table_path(found), by_table);
     put_bytes(section_path(found), by_section);

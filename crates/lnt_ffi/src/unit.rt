@@ -1,7 +1,7 @@
 //! The units of a section, and the paths of their files.
 ghost use Rattle.std.specs.Prelude.{◌≡◌, length, map};
 ghost use Rattle.lnt_lines.specs.Indexed.{file_path_in};
-ghost use Rattle.lnt_ffi.specs.Told.{IsToldOfPath, IsToldOfUnits, unit_in, with_front};
+ghost use Rattle.lnt_ffi.specs.Told.{IsToldOfPath, IsToldOfUnits, unit_in, with_prefix};
 
 use crate::judging::index_of;
 use crate::room::put_bytes;
@@ -53,7 +53,7 @@ pub extern "C" fn linetab_units(
 fn put_units(index: &Index<'_>, room: &mut [FlatUnit]) -> usize
     ensures count { result ≡ length index.now.units }
     ensures length { length room.new ≡ length room.old }
-    ensures there { room.new ≡ with_front (map (unit_in index.now) index.now.units) room.old }
+    ensures there { room.new ≡ with_prefix (map (unit_in index.now) index.now.units) room.old }
 {
     let offsets = index.units();
     let count = offsets.len();

@@ -101,7 +101,7 @@ walk_goes_on table usual places left view at new some is r =
 never : (count : ℕ) (table : BorrowedTable) (bytes : List ℕ) → NoneSpelled (EntryBytes table.format table.order table.pairs) bytes
     → Each (EntryBytes table.format table.order table.pairs) (first_entries table.format table.order table.pairs (suc count) bytes) bytes
     → ⊥
-never count table bytes none each = none _ each.front each.back each.first (sym each.joined)
+never count table bytes none each = none _ each.prefix each.back each.first (sym each.joined)
 
 pub walk_never_stops : (table : BorrowedTable) (usual : Usual) (places : Places) (left : ℕ) (at : At) → left ≢ 0
     → IsWalk table usual places left at

@@ -134,8 +134,8 @@ fn path_at<'f>(paths: &'f [u8], kept: &[PathEnd], file: u64) -> Option<&'f [u8]>
 {
     let end = kept_at(kept, file)?.end;
     let start = start_of(kept, file as usize);
-    let (front, _) = paths.split_at(end);
-    let (_, path) = front.split_at(start);
+    let (prefix, _) = paths.split_at(end);
+    let (_, path) = prefix.split_at(start);
     Some(path)
 }
 

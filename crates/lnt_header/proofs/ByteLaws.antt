@@ -4,13 +4,13 @@ use Rattle.lnt_wire.specs.declared.format.Order.{Order}
 use Rattle.lnt_wire.specs.declared.format.Order.TheVariants.{Little, Big}
 use Rattle.lnt_wire.specs.Bytes.{Exactly, IsCode}
 use Rattle.lnt_wire.specs.Numbers.{number_bytes}
-use Rattle.lnt_wire.proofs.LengthLaws.{same_front}
+use Rattle.lnt_wire.proofs.LengthLaws.{same_prefix}
 
 -- one byte
 pub byte_code : IsCode (λ (k : ℕ). Exactly (k ∷ []))
 byte_code = record {
   one = λ m n x y r s p q e.
-      let same : x ≡ y = same_front x y r s (ap length p ∙ ap length (sym q)) e in
+      let same : x ≡ y = same_prefix x y r s (ap length p ∙ ap length (sym q)) e in
       let spelled : m ∷ [] ≡ n ∷ [] = sym p ∙ same ∙ q in
       (cc, same);
 }

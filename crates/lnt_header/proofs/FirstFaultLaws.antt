@@ -61,29 +61,29 @@ module _ {X : Type 0} (P : X → List ℕ → Type 0) (OfFirst : Reason → List
   -- a fault of the first where the first is there, and the second has a fault
   abbrev pub AreApart : Type 0
   AreApart =
-      (reason other : Reason) (x : X) (before left front past left' : List ℕ) → OfFirst reason before left → P x front
+      (reason other : Reason) (x : X) (before left prefix past left' : List ℕ) → OfFirst reason before left → P x prefix
       → OfSecond x other past left'
-      → before ++ left ≡ front ++ (past ++ left') → ⊥
+      → before ++ left ≡ prefix ++ (past ++ left') → ⊥
 
-  after_first : (before front past left : List ℕ) → before ≡ front ++ past → before ++ left ≡ front ++ (past ++ left)
-  after_first before front past left e = ap (λ (z : List ℕ). z ++ left) e ∙ append_assoc front past left
+  after_first : (before prefix past left : List ℕ) → before ≡ prefix ++ past → before ++ left ≡ prefix ++ (past ++ left)
+  after_first before prefix past left e = ap (λ (z : List ℕ). z ++ left) e ∙ append_assoc prefix past left
 
   -- the first fault is one
   pub first_one : AreOne OfFirst → AreApart → ((x : X) → AreOne (OfSecond x)) → AreOne (FirstOf P OfFirst OfSecond)
   first_one firsts apart seconds reason other before before' left left' (first h) (first k) e =
       firsts reason other before before' left left' h k e
-  first_one firsts apart seconds reason other before before' left left' (first h) (second x front past p joined k) e =
-      absurd (apart reason other x before left front past left' h p k (e ∙ after_first before' front past left' joined))
-  first_one firsts apart seconds reason other before before' left left' (second x front past p joined h) (first k) e =
-      absurd (apart other reason x before' left' front past left k p h (sym e ∙ after_first before front past left joined))
-  first_one firsts apart seconds reason other before before' left left' (second x front past p joined h)
-      (second y front' past' q joined' k) e =
-      let all : front ++ (past ++ left) ≡ front' ++ (past' ++ left') =
-      sym (after_first before front past left joined) ∙ e ∙ after_first before' front' past' left' joined' in
-      let found = code.one x y front front' (past ++ left) (past' ++ left') p q all in
-      let rest = same_rest front front' (past ++ left) (past' ++ left') found.1 all in
+  first_one firsts apart seconds reason other before before' left left' (first h) (second x prefix past p joined k) e =
+      absurd (apart reason other x before left prefix past left' h p k (e ∙ after_first before' prefix past left' joined))
+  first_one firsts apart seconds reason other before before' left left' (second x prefix past p joined h) (first k) e =
+      absurd (apart other reason x before' left' prefix past left k p h (sym e ∙ after_first before prefix past left joined))
+  first_one firsts apart seconds reason other before before' left left' (second x prefix past p joined h)
+      (second y prefix' past' q joined' k) e =
+      let all : prefix ++ (past ++ left) ≡ prefix' ++ (past' ++ left') =
+      sym (after_first before prefix past left joined) ∙ e ∙ after_first before' prefix' past' left' joined' in
+      let found = code.one x y prefix prefix' (past ++ left) (past' ++ left') p q all in
+      let rest = same_rest prefix prefix' (past ++ left) (past' ++ left') found.1 all in
       let same = seconds y reason other past past' left left' (subst (λ (z : X). OfSecond z reason past left) found.0 h) k rest in
-      (same.0, joined ∙ ap (λ (z : List ℕ). z ++ past) found.1 ∙ ap (λ (z : List ℕ). front' ++ z) same.1 ∙ sym joined')
+      (same.0, joined ∙ ap (λ (z : List ℕ). z ++ past) found.1 ∙ ap (λ (z : List ℕ). prefix' ++ z) same.1 ∙ sym joined')
 
   -- where the first part's faults leave none of it spelled
   pub first_of : {Y : Type 0} (Q : X → Y → List ℕ → Type 0) → IsOneFault P OfFirst → ((x : X) → IsOneFault (Q x) (OfSecond x))
@@ -91,12 +91,12 @@ module _ {X : Type 0} (P : X → List ℕ → Type 0) (OfFirst : Reason → List
   first_of Q one_first one_second = record {
     none = λ reason before left h. elim h [
       | first k ↦ none_first P Q (before ++ left) (one_first.none reason before left k)
-      | second x front past p joined k ↦
-          none_second P Q code x front (before ++ left) (past ++ left) p (after_first before front past left joined)
+      | second x prefix past p joined k ↦
+          none_second P Q code x prefix (before ++ left) (past ++ left) p (after_first before prefix past left joined)
           ((one_second x).none reason past left k)
     ];
     one = first_one one_first.one
-        (λ reason other x before left front past left' h p k e. one_first.none reason before left h x front (past ++ left') p (sym e))
+        (λ reason other x before left prefix past left' h p k e. one_first.none reason before left h x prefix (past ++ left') p (sym e))
         (λ x. (one_second x).one);
   }
 
@@ -104,49 +104,49 @@ module _ {X : Type 0} (P : X → List ℕ → Type 0) (OfFirst : Reason → List
 
 module _ {X : Type 0} (P : X → List ℕ → Type 0) (IsSo : Reason → List ℕ → List ℕ → Type 0) (code : IsCode P) (one : IsOneFault P IsSo) where
   -- no value stands where there is a fault of one
-  none_here : (y : X) (ys : List X) (front rest before left : List ℕ) (reason : Reason) → IsSo reason before left → Each P (y ∷ ys) front
-      → before ++ left ≡ front ++ rest → ⊥
-  none_here y ys front rest before left reason h q e =
-      one.none reason before left h y q.front (q.back ++ rest) q.first
-      (sym (append_assoc q.front q.back rest) ∙ ap (λ (z : List ℕ). z ++ rest) (sym q.joined) ∙ sym e)
+  none_here : (y : X) (ys : List X) (prefix rest before left : List ℕ) (reason : Reason) → IsSo reason before left → Each P (y ∷ ys) prefix
+      → before ++ left ≡ prefix ++ rest → ⊥
+  none_here y ys prefix rest before left reason h q e =
+      one.none reason before left h y q.prefix (q.back ++ rest) q.first
+      (sym (append_assoc q.prefix q.back rest) ∙ ap (λ (z : List ℕ). z ++ rest) (sym q.joined) ∙ sym e)
 
   -- after values that are there the fault of the next is one
-  pub each_one : (xs ys : List X) (reason other : Reason) (front front' past past' left left' : List ℕ) → Each P xs front
-      → Each P ys front' → IsSo reason past left → IsSo other past' left'
-      → front ++ (past ++ left) ≡ front' ++ (past' ++ left') → (reason ≡ other) × (front ++ past ≡ front' ++ past')
-  each_one [] [] reason other front front' past past' left left' p q h k e =
+  pub each_one : (xs ys : List X) (reason other : Reason) (prefix prefix' past past' left left' : List ℕ) → Each P xs prefix
+      → Each P ys prefix' → IsSo reason past left → IsSo other past' left'
+      → prefix ++ (past ++ left) ≡ prefix' ++ (past' ++ left') → (reason ≡ other) × (prefix ++ past ≡ prefix' ++ past')
+  each_one [] [] reason other prefix prefix' past past' left left' p q h k e =
       let found =
       one.one reason other past past' left left' h k
       (ap (λ (z : List ℕ). z ++ (past ++ left)) (sym p) ∙ e ∙ ap (λ (z : List ℕ). z ++ (past' ++ left')) q) in
       (found.0, ap (λ (z : List ℕ). z ++ past) p ∙ found.1 ∙ ap (λ (z : List ℕ). z ++ past') (sym q))
-  each_one [] (y ∷ ys) reason other front front' past past' left left' p q h k e =
-      absurd (none_here y ys front' (past' ++ left') past left reason h q (ap (λ (z : List ℕ). z ++ (past ++ left)) (sym p) ∙ e))
-  each_one (x ∷ xs) [] reason other front front' past past' left left' p q h k e =
-      absurd (none_here x xs front (past ++ left) past' left' other k p (ap (λ (z : List ℕ). z ++ (past' ++ left')) (sym q) ∙ sym e))
-  each_one (x ∷ xs) (y ∷ ys) reason other front front' past past' left left' p q h k e =
-      let head = peel code x y front front' (past ++ left) (past' ++ left') p q e in
+  each_one [] (y ∷ ys) reason other prefix prefix' past past' left left' p q h k e =
+      absurd (none_here y ys prefix' (past' ++ left') past left reason h q (ap (λ (z : List ℕ). z ++ (past ++ left)) (sym p) ∙ e))
+  each_one (x ∷ xs) [] reason other prefix prefix' past past' left left' p q h k e =
+      absurd (none_here x xs prefix (past ++ left) past' left' other k p (ap (λ (z : List ℕ). z ++ (past' ++ left')) (sym q) ∙ sym e))
+  each_one (x ∷ xs) (y ∷ ys) reason other prefix prefix' past past' left left' p q h k e =
+      let head = peel code x y prefix prefix' (past ++ left) (past' ++ left') p q e in
       let rest = each_one xs ys reason other p.back q.back past past' left left' p.second q.second h k head.past in
-      let before : front ++ past ≡ p.front ++ (p.back ++ past) =
-      ap (λ (z : List ℕ). z ++ past) p.joined ∙ append_assoc p.front p.back past in
-      let before' : front' ++ past' ≡ q.front ++ (q.back ++ past') =
-      ap (λ (z : List ℕ). z ++ past') q.joined ∙ append_assoc q.front q.back past' in
-      (rest.0, before ∙ ap (λ (z : List ℕ). z ++ (p.back ++ past)) head.bytes ∙ ap (λ (z : List ℕ). q.front ++ z) rest.1 ∙ sym before')
+      let before : prefix ++ past ≡ p.prefix ++ (p.back ++ past) =
+      ap (λ (z : List ℕ). z ++ past) p.joined ∙ append_assoc p.prefix p.back past in
+      let before' : prefix' ++ past' ≡ q.prefix ++ (q.back ++ past') =
+      ap (λ (z : List ℕ). z ++ past') q.joined ∙ append_assoc q.prefix q.back past' in
+      (rest.0, before ∙ ap (λ (z : List ℕ). z ++ (p.back ++ past)) head.bytes ∙ ap (λ (z : List ℕ). q.prefix ++ z) rest.1 ∙ sym before')
 
   -- the same of as many values as a count says
   several_one : (n : ℕ) → AreOne (FirstOfSeveral n P IsSo)
-  several_one n reason other before before' left left' (next xs front past lt each joined h) (next ys front' past' lt' each' joined' k)
+  several_one n reason other before before' left left' (next xs prefix past lt each joined h) (next ys prefix' past' lt' each' joined' k)
       e =
-      let found = each_one xs ys reason other front front' past past' left left' each each' h k
-      (sym (ap (λ (z : List ℕ). z ++ left) joined ∙ append_assoc front past left) ∙ e ∙ ap (λ (z : List ℕ). z ++ left') joined'
-      ∙ append_assoc front' past' left') in
+      let found = each_one xs ys reason other prefix prefix' past past' left left' each each' h k
+      (sym (ap (λ (z : List ℕ). z ++ left) joined ∙ append_assoc prefix past left) ∙ e ∙ ap (λ (z : List ℕ). z ++ left') joined'
+      ∙ append_assoc prefix' past' left') in
       (found.0, joined ∙ found.1 ∙ sym joined')
 
   pub several_of : (n : ℕ) → IsOneFault (Several n P) (FirstOfSeveral n P IsSo)
   several_of n = record {
     none = λ reason before left h. elim h [
-      | next xs front past lt each joined k ↦
-          none_several P n xs front (past ++ left) (before ++ left) code each lt
-          (ap (λ (z : List ℕ). z ++ left) joined ∙ append_assoc front past left) (one.none reason past left k)
+      | next xs prefix past lt each joined k ↦
+          none_several P n xs prefix (past ++ left) (before ++ left) code each lt
+          (ap (λ (z : List ℕ). z ++ left) joined ∙ append_assoc prefix past left) (one.none reason past left k)
     ];
     one = several_one n;
   }

@@ -15,13 +15,13 @@ use Rattle.lnt_header.proofs.ReaderLaws.{each_push}
 pub join_shortest : {X Y : Type 0} (P : X → List ℕ → Type 0) (Q : Y → List ℕ → Type 0) (u : X) (v : Y) (x y : List ℕ) → IsShortest P u x
     → IsShortest Q v y → IsShortest (λ (w : X × Y). Then (P w.0) (Q w.1)) (u, v) (x ++ y)
 join_shortest P Q u v x y p q = record {
-  spelled = record { front = x; back = y; first = p.spelled; second = q.spelled; joined = refl };
+  spelled = record { prefix = x; back = y; first = p.spelled; second = q.spelled; joined = refl };
   shortest = λ other t. omega (
     arith,
     length-append x y,
     ap length t.joined,
-    length-append t.front t.back,
-    p.shortest t.front t.first,
+    length-append t.prefix t.back,
+    p.shortest t.prefix t.first,
     q.shortest t.back t.second,
   );
 }
@@ -63,30 +63,30 @@ each_begun P old = record {
 
 -- a spelling of a list with one more value, in two
 pub record Parted {X : Type 0} (P : X → List ℕ → Type 0) (us : List X) (u : X) (bytes : List ℕ) : Type 0 where
-  pub front : List ℕ
+  pub prefix : List ℕ
   pub back : List ℕ
-  pub first : Each P us front
+  pub first : Each P us prefix
   pub last : P u back
-  pub joined : bytes ≡ front ++ back
+  pub joined : bytes ≡ prefix ++ back
 
 pub each_part : {X : Type 0} (P : X → List ℕ → Type 0) (us : List X) (u : X) (bytes : List ℕ) → Each P (us ++ u ∷ []) bytes
     → Parted P us u bytes
 each_part P [] u bytes p = record {
-  front = [];
-  back = p.front;
+  prefix = [];
+  back = p.prefix;
   first = refl;
   last = p.first;
-  joined = p.joined ∙ ap (λ (z : List ℕ). p.front ++ z) p.second
-      ∙ append-nil p.front;
+  joined = p.joined ∙ ap (λ (z : List ℕ). p.prefix ++ z) p.second
+      ∙ append-nil p.prefix;
 }
 each_part P (v ∷ us) u bytes p =
     let rest = each_part P us u p.back p.second in
     record {
-      front = p.front ++ rest.front;
+      prefix = p.prefix ++ rest.prefix;
       back = rest.back;
-      first = record { front = p.front; back = rest.front; first = p.first; second = rest.first; joined = refl };
+      first = record { prefix = p.prefix; back = rest.prefix; first = p.first; second = rest.first; joined = refl };
       last = rest.last;
-      joined = p.joined ∙ ap (λ (z : List ℕ). p.front ++ z) rest.joined ∙ sym (append_assoc p.front rest.front rest.back);
+      joined = p.joined ∙ ap (λ (z : List ℕ). p.prefix ++ z) rest.joined ∙ sym (append_assoc p.prefix rest.prefix rest.back);
     }
 
 -- one more value after those that were put
@@ -102,9 +102,9 @@ each_put P us u old middle new p q = record {
           arith,
           length-append p.spelling q.spelling,
           ap length parts.joined,
-          length-append parts.front parts.back,
+          length-append parts.prefix parts.back,
           p.spelled.shortest
-              parts.front parts.first,
+              parts.prefix parts.first,
           q.spelled.shortest parts.back parts.last,
         );
   };
@@ -132,7 +132,7 @@ each_done P xs n old new le p = subst (λ (ys : List _). Appends (Each P) ys old
 pub each_at : {X : Type 0} (P : X → List ℕ → Type 0) (xs : List X) (i : ℕ) (d : X) (bytes : List ℕ) → i < length xs → Each P xs bytes
     → (x : List ℕ) × P (get_or xs i d) x
 each_at P [] i d bytes lt p = absurd (omega arith)
-each_at P (x ∷ xs) zero d bytes lt p = (p.front, p.first)
+each_at P (x ∷ xs) zero d bytes lt p = (p.prefix, p.first)
 each_at P (x ∷ xs) (suc i) d bytes lt p = each_at P xs i d p.back (omega arith) p.second
 
 pub each_refused : {X : Type 0} (P : X → List ℕ → Type 0) (xs : List X) (i : ℕ) (d : X) (fault : EncodeFault) → i < length xs

@@ -20,33 +20,33 @@ use Rattle.lnt_header.specs.Joins.{Each, Both, Several}
 pub none_first : {X Y : Type 0} (P : X → List ℕ → Type 0) (Q : X → Y → List ℕ → Type 0) (bytes : List ℕ) → NoneSpelled P bytes
     → NoneSpelled (Both P Q) bytes
 none_first P Q bytes none v spelling more t e =
-    none v.0 t.front (t.back ++ more) t.first (sym (append_assoc t.front t.back more) ∙ ap (λ (z : List ℕ). z ++ more) (sym t.joined) ∙ e)
+    none v.0 t.prefix (t.back ++ more) t.first (sym (append_assoc t.prefix t.back more) ∙ ap (λ (z : List ℕ). z ++ more) (sym t.joined) ∙ e)
 
 -- the first is there, and the second isn't
 pub none_second : {X Y : Type 0} (P : X → List ℕ → Type 0) (Q : X → Y → List ℕ → Type 0) → IsCode P → (u : X) (x bytes middle : List ℕ)
     → P u x → bytes ≡ x ++ middle → NoneSpelled (Q u) middle → NoneSpelled (Both P Q) bytes
 none_second P Q code u x bytes middle p whole none v spelling more t e =
-    let all : t.front ++ (t.back ++ more) ≡ x ++ middle = sym (append_assoc t.front t.back more)
+    let all : t.prefix ++ (t.back ++ more) ≡ x ++ middle = sym (append_assoc t.prefix t.back more)
     ∙ ap (λ (z : List ℕ). z ++ more) (sym t.joined) ∙ e ∙ whole in
-    let found = code.one v.0 u t.front x (t.back ++ more) middle t.first p all in
-    let past : t.back ++ more ≡ middle = same_rest t.front x (t.back ++ more) middle found.1 all in
+    let found = code.one v.0 u t.prefix x (t.back ++ more) middle t.first p all in
+    let past : t.back ++ more ≡ middle = same_rest t.prefix x (t.back ++ more) middle found.1 all in
     none v.1 t.back more (subst (λ w. Q w v.1 t.back) found.0 t.second) past
 
 -- ---- readers of a cursor
 
 -- Reasons that hold whatever stands before them.
 pub record IsLocal (IsSo : Reason → List ℕ → List ℕ → Type 0) : Type 0 where
-  pub later : (reason : Reason) (front before left : List ℕ) → IsSo reason before left → IsSo reason (front ++ before) left
+  pub later : (reason : Reason) (prefix before left : List ℕ) → IsSo reason before left → IsSo reason (prefix ++ before) left
 
 -- a cut field, whatever stands before it
-pub cut_later : (front before left : List ℕ) → IsCutField before left → IsCutField (front ++ before) left
-cut_later front before left (number size small short) = number size small short
-cut_later front before left (text h) = text h
-cut_later front before left (leb h) = leb h
-cut_later front before left (block n spelling rest p e lt) = block n spelling rest p e lt
-cut_later front before left (sized_block order size n spelling rest small p e lt) = sized_block order size n spelling rest small p e lt
-cut_later front before left (operation n earlier spelling p e lt) =
-    operation n (front ++ earlier) spelling p (ap (λ (z : List ℕ). front ++ z) e ∙ sym (append_assoc front earlier (0 ∷ spelling))) lt
+pub cut_later : (prefix before left : List ℕ) → IsCutField before left → IsCutField (prefix ++ before) left
+cut_later prefix before left (number size small short) = number size small short
+cut_later prefix before left (text h) = text h
+cut_later prefix before left (leb h) = leb h
+cut_later prefix before left (block n spelling rest p e lt) = block n spelling rest p e lt
+cut_later prefix before left (sized_block order size n spelling rest small p e lt) = sized_block order size n spelling rest small p e lt
+cut_later prefix before left (operation n earlier spelling p e lt) =
+    operation n (prefix ++ earlier) spelling p (ap (λ (z : List ℕ). prefix ++ z) e ∙ sym (append_assoc prefix earlier (0 ∷ spelling))) lt
 
 -- reasons of which nothing is asked
 pub any : Reason → List ℕ → List ℕ → Type 0
@@ -54,7 +54,7 @@ any reason before left = Unit {0}
 
 pub any_local : IsLocal any
 unfolding any
-any_local = record { later = λ reason front before left h. tt }
+any_local = record { later = λ reason prefix before left h. tt }
 
 -- a fault at the cursor's own place
 pub refuses_here : {X : Type 0} {IsSo : Reason → List ℕ → List ℕ → Type 0} {Spells : X → List ℕ → Type 0} (old : At) (fault : Fault)
@@ -129,7 +129,7 @@ reads_both P Q u v old middle new r s =
     let second : Q old.order u v s.spelling = subst (λ (o : Order). Q o u v s.spelling) r.order s.spelled in
     record {
       spelling = r.spelling ++ s.spelling;
-      spelled = record { front = r.spelling; back = s.spelling; first = r.spelled; second = second; joined = refl };
+      spelled = record { prefix = r.spelling; back = s.spelling; first = r.spelled; second = second; joined = refl };
       whole = r.whole ∙ ap (λ (z : List ℕ). r.spelling ++ z) s.whole ∙ sym (append_assoc r.spelling s.spelling new.rest);
       place = omega (arith, s.place, r.place, length-append r.spelling s.spelling);
       order = s.order ∙ r.order;
@@ -193,18 +193,18 @@ second_refused OfSecond P Q u old middle fault code r s =
 pub each_push : {X : Type 0} (P : X → List ℕ → Type 0) (us : List X) (u : X) (x y : List ℕ) → Each P us x → P u y
     → Each P (us ++ u ∷ []) (x ++ y)
 each_push P [] u x y p q = record {
-  front = y;
+  prefix = y;
   back = [];
   first = q;
   second = refl;
   joined = ap (λ (z : List ℕ). z ++ y) p ∙ sym (append-nil y);
 }
 each_push P (v ∷ us) u x y p q = record {
-  front = p.front;
+  prefix = p.prefix;
   back = p.back ++ y;
   first = p.first;
   second = each_push P us u p.back y p.second q;
-  joined = ap (λ (z : List ℕ). z ++ y) p.joined ∙ append_assoc p.front p.back y;
+  joined = ap (λ (z : List ℕ). z ++ y) p.joined ∙ append_assoc p.prefix p.back y;
 }
 
 pub reads_none : {X : Type 0} (P : X → List ℕ → Type 0) (at : At) → Reads (Each P) [] at at
@@ -227,8 +227,8 @@ pub none_several : {X : Type 0} (P : X → List ℕ → Type 0) (n : ℕ) (us : 
     → length us < n → bytes ≡ x ++ rest → NoneSpelled P rest → NoneSpelled (Several n P) bytes
 none_several P n [] x rest bytes code p lt whole none [] y more q e = omega (arith, q.0)
 none_several P n [] x rest bytes code p lt whole none (v ∷ vs) y more q e =
-    none v q.1.front (q.1.back ++ more) q.1.first
-    (sym (append_assoc q.1.front q.1.back more) ∙ ap (λ (z : List ℕ). z ++ more) (sym q.1.joined) ∙ e ∙ whole
+    none v q.1.prefix (q.1.back ++ more) q.1.first
+    (sym (append_assoc q.1.prefix q.1.back more) ∙ ap (λ (z : List ℕ). z ++ more) (sym q.1.joined) ∙ e ∙ whole
     ∙ ap (λ (z : List ℕ). z ++ rest) p)
 none_several P n (u ∷ us) x rest bytes code p lt whole none [] y more q e = omega (arith, q.0)
 none_several P zero (u ∷ us) x rest bytes code p lt whole none (v ∷ vs) y more q e = omega arith

@@ -13,14 +13,14 @@ each_shortest Spells (x ∷ xs) all =
     let rest = each_shortest Spells xs all.1 in (
       one.0 ++ rest.0,
       record {
-        spelled = record { front = one.0; back = rest.0; first = one.1.spelled; second = rest.1.spelled; joined = refl };
+        spelled = record { prefix = one.0; back = rest.0; first = one.1.spelled; second = rest.1.spelled; joined = refl };
         shortest = λ other p. omega (
           arith,
           length-append one.0 rest.0,
           ap length p.joined,
-          length-append p.front p.back,
+          length-append p.prefix p.back,
           one.1.shortest
-              p.front p.first,
+              p.prefix p.first,
           rest.1.shortest p.back p.second,
         );
       },

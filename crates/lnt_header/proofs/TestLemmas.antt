@@ -31,8 +31,8 @@ taken_capped (x ∷ xs) (suc k) =
     let least : min (length (x ∷ xs)) (suc k) ≡ suc (min (length xs) k) = omega arith in
     rw least (ap (λ (z : List ℕ). x ∷ z) (taken_capped xs k))
 
-front_is : (xs : List ℕ) (m : ℕ) → m ≡ min (length xs) last_known → take m xs ≡ take last_known xs
-front_is xs m e = ap (λ (n : ℕ). take n xs) e ∙ taken_capped xs last_known
+prefix_is : (xs : List ℕ) (m : ℕ) → m ≡ min (length xs) last_known → take m xs ≡ take last_known xs
+prefix_is xs m e = ap (λ (n : ℕ). take n xs) e ∙ taken_capped xs last_known
 
 known_is : (xs : List ℕ) (m : ℕ) → m ≡ min (length xs) last_known → take m known_lengths ≡ take (length xs) known_lengths
 known_is xs m e =
@@ -43,8 +43,8 @@ known_is xs m e =
 pub standard_lengths : (xs : List ℕ) (m : ℕ) (r : Bool) → m ≡ min (length xs) last_known
     → MatchBool r (take m xs ≡ take m known_lengths) (take m xs ≢ take m known_lengths)
     → (IsTrue r → AreStandardLengths xs) × (AreStandardLengths xs → IsTrue r)
-standard_lengths xs m true e same = ((λ t. sym (front_is xs m e) ∙ same ∙ known_is xs m e), (λ are. refl))
-standard_lengths xs m false e other = ((λ t. absurd cc), (λ are. absurd (other (front_is xs m e ∙ are ∙ sym (known_is xs m e)))))
+standard_lengths xs m true e same = ((λ t. sym (prefix_is xs m e) ∙ same ∙ known_is xs m e), (λ are. refl))
+standard_lengths xs m false e other = ((λ t. absurd cc), (λ are. absurd (other (prefix_is xs m e ∙ are ∙ sym (known_is xs m e)))))
 
 -- ---- pairs and values side by side
 

@@ -10,11 +10,11 @@ use Rattle.lnt_header.specs.Joins.{Each}
 pub data FirstOf {X : Type 0} (First : X → List ℕ → Type 0) (OfFirst : Reason → List ℕ → List ℕ → Type 0)
     (OfSecond : X → Reason → List ℕ → List ℕ → Type 0) (reason : Reason) (before left : List ℕ) : Type 0 where
   first : OfFirst reason before left → FirstOf First OfFirst OfSecond reason before left
-  second : (x : X) (front past : List ℕ) → First x front → before ≡ front ++ past → OfSecond x reason past left
+  second : (x : X) (prefix past : List ℕ) → First x prefix → before ≡ prefix ++ past → OfSecond x reason past left
       → FirstOf First OfFirst OfSecond reason before left
 
 -- the first fault of n values, one after another
 pub data FirstOfSeveral {X : Type 0} (n : ℕ) (Spells : X → List ℕ → Type 0) (OfOne : Reason → List ℕ → List ℕ → Type 0) (reason : Reason)
     (before left : List ℕ) : Type 0 where
-  next : (xs : List X) (front past : List ℕ) → length xs < n → Each Spells xs front → before ≡ front ++ past → OfOne reason past left
+  next : (xs : List X) (prefix past : List ℕ) → length xs < n → Each Spells xs prefix → before ≡ prefix ++ past → OfOne reason past left
       → FirstOfSeveral n Spells OfOne reason before left

@@ -20,8 +20,8 @@ Both First Second v bytes = Then (First v.0) (Second v.0 v.1) bytes
 abbrev pub PlacedFrom : {A : Type 0} → (ℕ × A → List ℕ → Type 0) → ℕ → List (ℕ × A) → List ℕ → Type 0
 PlacedFrom Says offset [] bytes = bytes ≡ []
 PlacedFrom Says offset (item ∷ items) bytes =
-    (front : List ℕ) × (back : List ℕ) × (item.0 ≡ offset) × Says item front × (bytes ≡ front ++ back)
-    × PlacedFrom Says (offset + length front) items back
+    (prefix : List ℕ) × (back : List ℕ) × (item.0 ≡ offset) × Says item prefix × (bytes ≡ prefix ++ back)
+    × PlacedFrom Says (offset + length prefix) items back
 
 -- each offset is greater than all before it
 abbrev pub AreRising : List ℕ → Type 0

@@ -37,13 +37,13 @@ spelled_values format order (pair ∷ pairs) (v ∷ values) x p =
     let rest = spelled_values format order pairs values p.1.back p.1.second in
     let head : form_of v ≡ pair.form = p.0 in
     let tails = rest.forms in
-    record { forms = cc; spelled = (spelled_value format order v p.1.front p.1.first, rest.spelled) }
+    record { forms = cc; spelled = (spelled_value format order v p.1.prefix p.1.first, rest.spelled) }
 
 spelled_entries : (format : Format) (order : Order) (pairs : List Pair) (entries : List Entry) (x : List ℕ)
     → Each (EntryBytes format order pairs) entries x → AllByRecursion (IsEntryOf pairs) entries
 spelled_entries format order pairs [] x p = tt
 spelled_entries format order pairs (entry ∷ entries) x p =
-    let first = spelled_values format order pairs entry.values p.front p.first in
+    let first = spelled_values format order pairs entry.values p.prefix p.first in
     (record { forms = first.forms; spelled = first.spelled }, spelled_entries format order pairs entries p.back p.second)
 
 spelled_table : (format : Format) (order : Order) (pairs : List Pair) (entries : List Entry) (x : List ℕ)

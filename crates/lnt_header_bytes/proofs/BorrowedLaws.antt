@@ -30,15 +30,15 @@ values_found format order [] [] x more p = record { values_are = refl; size_is =
 values_found format order [] (v ∷ values) x more p = absurd p
 values_found format order (pair ∷ pairs) [] x more p = absurd p
 values_found format order (pair ∷ pairs) (v ∷ values) x more p =
-    let whole : x ++ more ≡ p.1.front ++ (p.1.back ++ more) =
-    ap (λ (z : List ℕ). z ++ more) p.1.joined ∙ append_assoc p.1.front p.1.back more in
-    let one : IsFound format order pair.form v p.1.front (p.1.back ++ more) =
-    value_found format order pair.form v p.1.front (p.1.back ++ more) (record { form_is = p.0; spelled = p.1.first }) in
-    let size : first_size format order pair.form (x ++ more) ≡ length p.1.front =
+    let whole : x ++ more ≡ p.1.prefix ++ (p.1.back ++ more) =
+    ap (λ (z : List ℕ). z ++ more) p.1.joined ∙ append_assoc p.1.prefix p.1.back more in
+    let one : IsFound format order pair.form v p.1.prefix (p.1.back ++ more) =
+    value_found format order pair.form v p.1.prefix (p.1.back ++ more) (record { form_is = p.0; spelled = p.1.first }) in
+    let size : first_size format order pair.form (x ++ more) ≡ length p.1.prefix =
     ap (first_size format order pair.form) whole ∙ one.size_is in
     let value : first_value format order pair.form (x ++ more) ≡ v = ap (first_value format order pair.form) whole ∙ one.value_is in
     let past : drop (first_size format order pair.form (x ++ more)) (x ++ more) ≡ p.1.back ++ more =
-    ap (λ (n : ℕ). drop n (x ++ more)) size ∙ ap (drop (length p.1.front)) whole ∙ drop-append_seam p.1.front (p.1.back ++ more) in
+    ap (λ (n : ℕ). drop n (x ++ more)) size ∙ ap (drop (length p.1.prefix)) whole ∙ drop-append_seam p.1.prefix (p.1.back ++ more) in
     let rest = values_found format order pairs values p.1.back more p.1.second in
     let others : first_values format order pairs (drop (first_size format order pair.form (x ++ more)) (x ++ more)) ≡ values =
     ap (first_values format order pairs) past ∙ rest.values_are in
@@ -47,7 +47,7 @@ values_found format order (pair ∷ pairs) (v ∷ values) x more p =
     record {
       values_are = ap (λ (w : FormValue). w ∷ first_values format order pairs
           (drop (first_size format order pair.form (x ++ more)) (x ++ more))) value ∙ ap (λ (ws : List FormValue). v ∷ ws) others;
-      size_is = omega (arith, size, other_size, ap length p.1.joined, length-append p.1.front p.1.back);
+      size_is = omega (arith, size, other_size, ap length p.1.joined, length-append p.1.prefix p.1.back);
     }
 
 -- the first of several, by the bytes that spell it
@@ -60,8 +60,8 @@ pub entries_found : (format : Format) (order : Order) (pairs : List Pair) (entri
     → Each (EntryBytes format order pairs) entries x → first_entries format order pairs (length entries) (x ++ more) ≡ entries
 entries_found format order pairs [] x more p = refl
 entries_found format order pairs (entry ∷ entries) x more p =
-    first_found format order pairs (length entries) entry p.front (p.back ++ more) (x ++ more) p.first
-    (ap (λ (z : List ℕ). z ++ more) p.joined ∙ append_assoc p.front p.back more)
+    first_found format order pairs (length entries) entry p.prefix (p.back ++ more) (x ++ more) p.first
+    (ap (λ (z : List ℕ). z ++ more) p.joined ∙ append_assoc p.prefix p.back more)
     ∙ ap (λ (es : List Entry). entry ∷ es) (entries_found format order pairs entries p.back more p.second)
 
 -- the others, after it
@@ -69,9 +69,9 @@ pub others_spelled : (format : Format) (order : Order) (pairs : List Pair) (entr
     → Each (EntryBytes format order pairs) (entry ∷ entries) bytes
     → EntryBytes format order pairs entry x → bytes ≡ x ++ rest → Each (EntryBytes format order pairs) entries rest
 others_spelled format order pairs entry entries x rest bytes each p whole =
-    let e : each.front ++ each.back ≡ x ++ rest = sym each.joined ∙ whole in
-    let same = (entry_code format order pairs).one entry entry each.front x each.back rest each.first p e in
-    subst (Each (EntryBytes format order pairs) entries) (same_rest each.front x each.back rest same.1 e) each.second
+    let e : each.prefix ++ each.back ≡ x ++ rest = sym each.joined ∙ whole in
+    let same = (entry_code format order pairs).one entry entry each.prefix x each.back rest each.first p e in
+    subst (Each (EntryBytes format order pairs) entries) (same_rest each.prefix x each.back rest same.1 e) each.second
 
 -- all of the bytes
 pub all_found : (format : Format) (order : Order) (pairs : List Pair) (count : ℕ) (entries : List Entry) (x : List ℕ)

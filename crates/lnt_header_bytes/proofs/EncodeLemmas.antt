@@ -90,14 +90,14 @@ as_values format order (pair ∷ pairs) (v ∷ values) x p = parts_as p.1 p.1.fi
 entries_as : (format : Format) (order : Order) (pairs : List Pair) (entries : List Entry) (x : List ℕ)
     → AllByRecursion (IsEntryOf pairs) entries → Each (EntryParts format order) entries x → Each (EntryBytes format order pairs) entries x
 entries_as format order pairs [] x h p = p
-entries_as format order pairs (entry ∷ entries) x h p = parts_as p (values_as format order pairs entry.values p.front h.0.forms p.first)
+entries_as format order pairs (entry ∷ entries) x h p = parts_as p (values_as format order pairs entry.values p.prefix h.0.forms p.first)
     (entries_as format order pairs entries p.back h.1 p.second)
 
 pub as_entries : (format : Format) (order : Order) (pairs : List Pair) (entries : List Entry) (x : List ℕ)
     → Each (EntryBytes format order pairs) entries x → Each (EntryParts format order) entries x
 as_entries format order pairs [] x p = p
 as_entries format order pairs (entry ∷ entries) x p =
-    parts_as p (as_values format order pairs entry.values p.front p.first) (as_entries format order pairs entries p.back p.second)
+    parts_as p (as_values format order pairs entry.values p.prefix p.first) (as_entries format order pairs entries p.back p.second)
 
 pub table_refused : (format : Format) (order : Order) (pairs : List Pair) (entries : List Entry) (fault : EncodeFault)
     → RefusedPut (Each (EntryParts format order)) entries fault → RefusedPut (TableOf format order) (pairs, entries) fault
@@ -149,10 +149,10 @@ fields_put h o0 o1 o2 o3 o4 o5 lengths extra d_pairs f_pairs d_entries f_entries
     let last : o5 ≡ o4 ++ h.extra = last_put ∙ ap (λ (z : List ℕ). o4 ++ z) extra_is in
     let d : Appends (TableOf h.format h.order) (h.directory_format, h.directories) o2 o3 = rw (← dp, ← de) d_put in
     let f : Appends (TableOf h.format h.order) (h.file_format, h.files) o3 o4 = rw (← fp, ← fe) f_put in
-    let front : o2 ≡ single_bytes h =
+    let prefix : o2 ≡ single_bytes h =
     second ∙ ap (λ (z : List ℕ). z ++ h.standard_lengths) (first ∙ ap (λ (z : List ℕ). z ++ six_bytes h) begun) in
     let whole : o5 ≡ single_bytes h ++ d.spelling ++ f.spelling ++ h.extra = last ∙ ap (λ (z : List ℕ). z ++ h.extra) (f.joined
-    ∙ ap (λ (z : List ℕ). z ++ f.spelling) (d.joined ∙ ap (λ (z : List ℕ). z ++ d.spelling) front)) in
+    ∙ ap (λ (z : List ℕ). z ++ f.spelling) (d.joined ∙ ap (λ (z : List ℕ). z ++ d.spelling) prefix)) in
     record {
       spelled = record {
         directories = d.spelling;

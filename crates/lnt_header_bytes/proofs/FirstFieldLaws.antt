@@ -12,7 +12,7 @@ use Rattle.lnt_wire.proofs.FrameFaultLaws.{frame_fault_at, IsFrameFaultAt, IsOut
 use Rattle.lnt_wire.proofs.FrameFaultLaws.{version_none, version_one}
 use Rattle.lnt_wire.proofs.FrameFaultLaws.IsFrameFaultAt.{outside_frame, in_version}
 use Rattle.lnt_wire.proofs.FieldFaultLaws.{IsOneFieldFault}
-use Rattle.lnt_wire.proofs.LengthLaws.{same_front, same_number_front}
+use Rattle.lnt_wire.proofs.LengthLaws.{same_prefix, same_number_prefix}
 use Rattle.lnt_wire.proofs.ValueLaws.{offset_width}
 use Rattle.lnt_header_bytes.specs.Broken.{InHeader, IsFirstField, sound_start}
 use Rattle.lnt_header_bytes.specs.Broken.IsFirstField.{frame, start, counted}
@@ -74,9 +74,9 @@ counted_one_body format order reason other size size' past past' later later' pr
     let tails : number_bytes order (offset_size format) n ++ ((past ++ later) ++ program) ≡ number_bytes order (offset_size format) m ++
     ((past' ++ later') ++ program') = cc in
     let numbers =
-    same_number_front order (offset_size format) (offset_width format) n m ((past ++ later) ++ program) ((past' ++ later') ++ program')
+    same_number_prefix order (offset_size format) (offset_width format) n m ((past ++ later) ++ program) ((past' ++ later') ++ program')
     fits fits' tails in
-    let bytes : past ++ later ≡ past' ++ later' = same_front (past ++ later) (past' ++ later') program program' numbers.0 numbers.1 in
+    let bytes : past ++ later ≡ past' ++ later' = same_prefix (past ++ later) (past' ++ later') program program' numbers.0 numbers.1 in
     let found = (fields_fault format order).one reason other past past' later later' h k bytes in (
       found.0,
       ap (λ (s : ℕ). up_to format order s n past) sizes ∙ ap (λ (c : ℕ). up_to format order size' c past) numbers.0
@@ -107,7 +107,7 @@ body_one order format =
     let version = field_fault (VersionBytes order) (IsVersionFault order) (version_fault order) in
     first_one (VersionBytes order) (IsHere (IsVersionFault order)) (λ _. IsRestFault format order)
     (record { one = λ u v x y r s p q e. (refl, p ∙ sym q) }) version.one
-    (λ reason other u before left front past left' h p k e. version.none reason before left h u front (past ++ left') p (sym e))
+    (λ reason other u before left prefix past left' h p k e. version.none reason before left h u prefix (past ++ left') p (sym e))
     (λ _. rest_one format order)
 
 -- ---- the first field

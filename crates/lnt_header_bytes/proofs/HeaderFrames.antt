@@ -7,7 +7,7 @@ use Rattle.lnt_wire.specs.Bytes.{NoneSpelled}
 use Rattle.lnt_wire.specs.FrameBytes.{version_five, frame_bytes}
 use Rattle.lnt_wire.specs.FrameFaults.{InFrame}
 use Rattle.lnt_wire.specs.InitialLength.{initial_length, LengthFits}
-use Rattle.lnt_wire.proofs.LengthLaws.{same_front, same_length, length-number_bytes}
+use Rattle.lnt_wire.proofs.LengthLaws.{same_prefix, same_length, length-number_bytes}
 use Rattle.lnt_wire.specs.Numbers.{number_bytes, offset_size}
 use Rattle.lnt_wire.specs.Reading.{Reads, Refuses}
 use Rattle.lnt_wire.specs.declared.fault.Fault.{Fault}
@@ -55,7 +55,7 @@ candidate order format body fits unit x more p e =
     ap (λ (o : Order). initial_length h.format o (length whole) ++ (whole ++ more)) (sym p.order_is)
     ∙ sym (append_assoc (initial_length h.format h.order (length whole)) whole more) ∙ ap (λ (z : List ℕ). z ++ more) (sym s.joined) ∙ e in
     let lengths = same_length order h.format format (length whole) (length body) (whole ++ more) body s.fits fits spread in
-    let wholes : whole ≡ body = same_front whole body more [] lengths.number (lengths.past ∙ sym (append-nil body)) in
+    let wholes : whole ≡ body = same_prefix whole body more [] lengths.number (lengths.past ∙ sym (append-nil body)) in
     let over : whole ≡ around order format h.address_size s.fields unit.1 =
     ap (λ (o : Order). around o h.format h.address_size s.fields unit.1) p.order_is
     ∙ ap (λ (f : Format). around order f h.address_size s.fields unit.1) lengths.format in

@@ -10,7 +10,7 @@ use Rattle.lnt_wire.specs.declared.format.Format.TheVariants.{D32, D64}
 use Rattle.lnt_wire.specs.Numbers.{offset_size}
 use Rattle.lnt_wire.specs.InitialLength.{initial_length, LengthFits}
 use Rattle.lnt_wire.proofs.ValueLaws.{offset_width}
-use Rattle.lnt_wire.proofs.LengthLaws.{same_front, same_rest, same_number_front, same_length}
+use Rattle.lnt_wire.proofs.LengthLaws.{same_prefix, same_rest, same_number_prefix, same_length}
 use Rattle.lnt_header.specs.declared.header.Entry.{Entry}
 use Rattle.lnt_header.specs.declared.header.HeaderParts.{HeaderParts}
 use Rattle.lnt_header.specs.declared.header.Pair.{Pair}
@@ -36,7 +36,7 @@ pub record SameBody (a a' : ℕ) (body body' program program' : List ℕ) : Type
 pub same_around : (order : Order) (format : Format) (a a' : ℕ) (b b' p p' : List ℕ) → length b < 256 ^ offset_size format
     → length b' < 256 ^ offset_size format → around order format a b p ≡ around order format a' b' p' → SameBody a a' b b' p p'
 same_around order format a a' b b' p p' fits fits' e =
-    grind (arith, common_steps, regroup, append_cancel_left, same_number_front, offset_width, same_front, same_rest)
+    grind (arith, common_steps, regroup, append_cancel_left, same_number_prefix, offset_width, same_prefix, same_rest)
 
 -- ---- the fields that header_length counts
 
@@ -92,7 +92,7 @@ same_fields h h' x y format order address_size left right same =
     let count : length h.standard_lengths ≡ length h'.standard_lengths =
     omega (arith, numbers.opcode_base, numbers'.opcode_base, opcode_base) in
     let lengths : h.standard_lengths ≡ h'.standard_lengths =
-    same_front h.standard_lengths h'.standard_lengths (d ++ (f ++ h.extra)) (d' ++ (f' ++ h'.extra)) count rest in
+    same_prefix h.standard_lengths h'.standard_lengths (d ++ (f ++ h.extra)) (d' ++ (f' ++ h'.extra)) count rest in
     let tables : d ++ (f ++ h.extra) ≡ d' ++ (f' ++ h'.extra) =
     same_rest h.standard_lengths h'.standard_lengths (d ++ (f ++ h.extra)) (d' ++ (f' ++ h'.extra)) lengths rest in
     let first = same_table h.format h.order h.directory_format h'.directory_format h.directories h'.directories d d' (f ++ h.extra)
@@ -153,7 +153,7 @@ same_header h h' p p' x y r s order left right e =
     let lengths = same_length h.order h.format h'.format (length whole) (length whole') (whole ++ r) (whole' ++ s) left.fits right.fits
     (sym first ∙ e ∙ second) in
     let format : h.format ≡ h'.format = lengths.format in
-    let wholes : whole ≡ whole' = same_front whole whole' r s lengths.number lengths.past in
+    let wholes : whole ≡ whole' = same_prefix whole whole' r s lengths.number lengths.past in
     let over : around h'.order h'.format h'.address_size body' p' ≡ around h.order h.format h'.address_size body' p' =
     ap (λ (o : Order). around o h'.format h'.address_size body' p') (sym order)
     ∙ ap (λ (f : Format). around h.order f h'.address_size body' p') (sym format) in

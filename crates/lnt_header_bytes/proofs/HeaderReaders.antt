@@ -12,7 +12,7 @@ use Rattle.lnt_wire.specs.declared.fault.Reason.{Reason}
 use Rattle.lnt_wire.specs.declared.fault.Reason.TheVariants.{Truncated, MaxOpsZero, LineRangeZero, OpcodeBaseZero, StandardLength}
 use Rattle.lnt_wire.specs.declared.format.Format.{Format}
 use Rattle.lnt_wire.specs.declared.format.Order.{Order}
-use Rattle.lnt_wire.proofs.LengthLaws.{same_front, same_rest}
+use Rattle.lnt_wire.proofs.LengthLaws.{same_prefix, same_rest}
 use Rattle.lnt_header.proofs.FirstFaultLaws.{AreOne, first_of, IsOneFault}
 use Rattle.lnt_header.proofs.ReaderLaws.{first_refused, second_refused, reads_both}
 use Rattle.lnt_header.specs.declared.header.Entry.{Entry}
@@ -161,8 +161,8 @@ below j n size lt small short = grind (arith, common_steps, cases_order)
 pub are_standard : (bytes : List ℕ) (n : ℕ) → Agrees n bytes → (n < last_known → length bytes ≤ n) → AreStandardLengths bytes
 are_standard bytes n h short = agreed bytes known_lengths (λ j lt small. h.at j (below j n (length bytes) lt small short) small)
 
-agrees_front : (x y bytes : List ℕ) (n : ℕ) → bytes ≡ x ++ y → Agrees n bytes → Agrees n x
-agrees_front x y bytes n e h = record {
+agrees_prefix : (x y bytes : List ℕ) (n : ℕ) → bytes ≡ x ++ y → Agrees n bytes → Agrees n x
+agrees_prefix x y bytes n e h = record {
   at = λ j lt small. sym (get_or_append_left x y 0 j small) ∙ ap (λ (z : List ℕ). get_or z j 0) (sym e)
       ∙ h.at j lt (omega (arith, ap length e, length-append x y));
 }
@@ -209,11 +209,11 @@ lengths_one opcode_base (StandardLength opcode given) (StandardLength opcode' gi
       | inr (inl lt) ↦ absurd
           (standard_none before' left' before h.0 given k.1 lt (omega (arith, h.2, h.4)) h.5 (sym e ∙ ap (λ (z : List ℕ). before ++ z) h.6))
       | inl same ↦
-          let fronts : before ≡ before' = same_front before before' left left' same e in
-          let rest : given ∷ h.0 ≡ given' ∷ k.0 = sym h.6 ∙ same_rest before before' left left' fronts e ∙ k.6 in
+          let prefixes : before ≡ before' = same_prefix before before' left left' same e in
+          let rest : given ∷ h.0 ≡ given' ∷ k.0 = sym h.6 ∙ same_rest before before' left left' prefixes e ∙ k.6 in
           let givens : given ≡ given' = cc in
           let opcodes : opcode ≡ opcode' = omega (arith, h.2, k.2, same) in
-          (ap (λ (n : ℕ). StandardLength n given) opcodes ∙ ap (StandardLength opcode') givens, fronts)
+          (ap (λ (n : ℕ). StandardLength n given) opcodes ∙ ap (StandardLength opcode') givens, prefixes)
       | inr (inr gt) ↦ absurd
           (standard_none before left before' k.0 given' h.1 gt (omega (arith, k.2, k.4)) k.5 (e ∙ ap (λ (z : List ℕ). before' ++ z) k.6))
     ]
@@ -230,7 +230,7 @@ pub refuses_length : (opcode_base i opcode given : ℕ) (old : At) (fault : Faul
 refuses_length opcode_base i opcode given old fault h lt small long given_is other opcode_is place reason =
     let size : length (take i old.rest) ≡ i = length-take-le i old.rest (omega arith) in
     let standard : AreStandardLengths (take i old.rest) = are_standard (take i old.rest) i
-    (agrees_front (take i old.rest) (drop i old.rest) old.rest i (sym (take-append-drop i old.rest)) h) (λ lt. omega (arith, size)) in
+    (agrees_prefix (take i old.rest) (drop i old.rest) old.rest i (sym (take-append-drop i old.rest)) h) (λ lt. omega (arith, size)) in
     so_past (lengths_fault opcode_base) old fault (StandardLength opcode given) i (omega arith) place reason (
       drop (i + 1) old.rest,
       standard,
@@ -253,7 +253,7 @@ reads_lengths opcode_base n given_lengths old new some r h all =
     let whole : old.rest ≡ given_lengths ++ new.rest = r.whole ∙ ap (λ (z : List ℕ). z ++ new.rest) (sym r.spelled.taken_is) in
     let size : length given_lengths ≡ opcode_base - 1 = ap length r.spelled.taken_is ∙ r.spelled.count_is in
     let standard : AreStandardLengths given_lengths =
-    are_standard given_lengths n (agrees_front given_lengths new.rest old.rest n whole h) (λ lt. omega (arith, all lt, size)) in
+    are_standard given_lengths n (agrees_prefix given_lengths new.rest old.rest n whole h) (λ lt. omega (arith, all lt, size)) in
     record {
       spelling = r.spelling;
       spelled = (omega (arith, size, some), standard, sym r.spelled.taken_is);
@@ -265,10 +265,10 @@ reads_lengths opcode_base n given_lengths old new some r h all =
 -- ---- the fields of a header
 
 singles_code : IsCode SinglesBytes
-singles_code = grind (arith, common_steps, same_front)
+singles_code = grind (arith, common_steps, same_prefix)
 
 lengths_code : (opcode_base : ℕ) → IsCode (LengthsBytes opcode_base)
-lengths_code opcode_base = grind (arith, common_steps, same_front)
+lengths_code opcode_base = grind (arith, common_steps, same_prefix)
 
 table_code : (format : Format) (order : Order) → IsCode (TableOf format order)
 table_code format order = record {

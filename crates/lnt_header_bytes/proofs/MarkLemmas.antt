@@ -19,8 +19,8 @@ use Rattle.std.proofs.lemmas.Grind.{common_steps}
 -- A cursor stands before the entry of this number.
 pub record StandsAt (table : BorrowedTable) (bytes : List ℕ) (number : ℕ) (at : At) : Type 0 where
   pub order_is : at.order ≡ table.order
-  pub front : List ℕ
-  pub joined : bytes ≡ front ++ at.rest
+  pub prefix : List ℕ
+  pub joined : bytes ≡ prefix ++ at.rest
   pub lies : AreEntryBytes (from_entry number table) at.rest
 
 -- the next one, once one was passed
@@ -28,9 +28,9 @@ pub stands_next : (table : BorrowedTable) (bytes : List ℕ) (number : ℕ) (at 
     → StandsAt table bytes number at → number < length table.entries
     → PassesAll 1 (EntryBytes table.format at.order table.pairs) passed at new → StandsAt table bytes (number + 1) new
 stands_next table bytes number at new passed m lt p =
-    let past = m.front ++ p.read.spelling in
+    let past = m.prefix ++ p.read.spelling in
     let whole : bytes ≡ past ++ new.rest =
-    m.joined ∙ ap (λ (z : List ℕ). m.front ++ z) p.read.whole ∙ sym (append_assoc m.front p.read.spelling new.rest) in
+    m.joined ∙ ap (λ (z : List ℕ). m.prefix ++ z) p.read.whole ∙ sym (append_assoc m.prefix p.read.spelling new.rest) in
     let spelled : Each (EntryBytes table.format table.order table.pairs) p.values p.read.spelling =
     subst (λ (o : Order). Each (EntryBytes table.format o table.pairs) p.values p.read.spelling) m.order_is p.read.spelled in
     let left : length p.values ≤ length (drop number table.entries) = omega (arith, p.count_is, length-drop number table.entries, lt) in
@@ -42,7 +42,7 @@ stands_next table bytes number at new passed m lt p =
     drop-drop (length p.values) number table.entries ∙ ap (λ (k : ℕ). drop k table.entries) next in
     record {
       order_is = p.read.order ∙ m.order_is;
-      front = past;
+      prefix = past;
       joined = whole;
       lies = subst (λ (es : List Entry). Each (EntryBytes table.format table.order table.pairs) es new.rest) entries others;
     }

@@ -160,8 +160,8 @@ one_more_passed format pairs count old middle new p q = record {
   read = reads_more (λ order. EntryBytes format order pairs) p.entries q.value old middle new p.read q.read;
 }
 
-front_is : (x y z : List ℕ) → z ≡ x ++ y → take (length z - length y) z ≡ x
-front_is x y z e = grind (arith, common_steps, length-append, take-append_seam)
+prefix_is : (x y z : List ℕ) → z ≡ x ++ y → take (length z - length y) z ≡ x
+prefix_is x y z e = grind (arith, common_steps, length-append, take-append_seam)
 
 pub all_passed : (format : Format) (pairs : List Pair) (count : ℕ) (bytes all left : List ℕ) (old new : At)
     → EntriesPassed format pairs count old new → all ≡ old.rest → left ≡ new.rest
@@ -171,7 +171,7 @@ all_passed format pairs count bytes all left old new p all_is left_is bytes_are 
   count_is = p.count_is;
   read = p.read;
   bytes_are = bytes_are ∙ ap (λ (z : List ℕ). take (length z - length left) z) all_is
-      ∙ ap (λ (z : List ℕ). take (length old.rest - length z) old.rest) left_is ∙ front_is p.read.spelling new.rest old.rest p.read.whole;
+      ∙ ap (λ (z : List ℕ). take (length old.rest - length z) old.rest) left_is ∙ prefix_is p.read.spelling new.rest old.rest p.read.whole;
 }
 
 pub refuses_passed : (format : Format) (pairs : List Pair) (n count : ℕ) (old middle : At) (fault : Fault)

@@ -16,30 +16,30 @@ others_after P code (u ∷ us) (v ∷ vs) x rest bytes le p q e =
     others_after P code us vs p.back rest q.back (omega arith) p.second q.second (sym (append-nil q.back) ∙ sym one.past)
 
 -- Some bytes begin with spellings of these values.
-record HasFront {X : Type 0} (P : X → List ℕ → Type 0) (xs : List X) (bytes : List ℕ) : Type 0 where
-  front : List ℕ
+record HasPrefix {X : Type 0} (P : X → List ℕ → Type 0) (xs : List X) (bytes : List ℕ) : Type 0 where
+  prefix : List ℕ
   back : List ℕ
-  spelled : Each P xs front
-  joined : bytes ≡ front ++ back
+  spelled : Each P xs prefix
+  joined : bytes ≡ prefix ++ back
 
-front_of : {X : Type 0} (P : X → List ℕ → Type 0) (n : ℕ) (vs : List X) (bytes : List ℕ) → Each P vs bytes → HasFront P (take n vs) bytes
-front_of P zero vs bytes q = record { front = []; back = bytes; spelled = refl; joined = refl }
-front_of P (suc n) [] bytes q = record { front = []; back = bytes; spelled = refl; joined = refl }
-front_of P (suc n) (v ∷ vs) bytes q =
-    let r = front_of P n vs q.back q.second in
+prefix_of : {X : Type 0} (P : X → List ℕ → Type 0) (n : ℕ) (vs : List X) (bytes : List ℕ) → Each P vs bytes → HasPrefix P (take n vs) bytes
+prefix_of P zero vs bytes q = record { prefix = []; back = bytes; spelled = refl; joined = refl }
+prefix_of P (suc n) [] bytes q = record { prefix = []; back = bytes; spelled = refl; joined = refl }
+prefix_of P (suc n) (v ∷ vs) bytes q =
+    let r = prefix_of P n vs q.back q.second in
     record {
-      front = q.front ++ r.front;
+      prefix = q.prefix ++ r.prefix;
       back = r.back;
-      spelled = record { front = q.front; back = r.front; first = q.first; second = r.spelled; joined = refl };
-      joined = q.joined ∙ ap (λ (z : List ℕ). q.front ++ z) r.joined ∙ sym (append_assoc q.front r.front r.back);
+      spelled = record { prefix = q.prefix; back = r.prefix; first = q.first; second = r.spelled; joined = refl };
+      joined = q.joined ∙ ap (λ (z : List ℕ). q.prefix ++ z) r.joined ∙ sym (append_assoc q.prefix r.prefix r.back);
     }
 
 -- so many are there
 pub several_there : {X : Type 0} (P : X → List ℕ → Type 0) (n : ℕ) (vs : List X) (bytes : List ℕ) → n ≤ length vs → Each P vs bytes
     → NoneSpelled (Several n P) bytes → ⊥
 several_there P n vs bytes le q none =
-    let r = front_of P n vs bytes q in
-    none (take n vs) r.front r.back (length-take-le n vs le, r.spelled) (sym r.joined)
+    let r = prefix_of P n vs bytes q in
+    none (take n vs) r.prefix r.back (length-take-le n vs le, r.spelled) (sym r.joined)
 
 -- the value that stands at a place, and those after it
 pub one_at : {X : Type 0} (P : X → List ℕ → Type 0) (vs : List X) (n : ℕ) (d : X) (bytes : List ℕ) → n < length vs
@@ -50,7 +50,7 @@ one_at {X = X} P vs n d bytes lt q = subst (λ (ws : List X). Each P ws bytes) (
 pub one_after : {X : Type 0} (P : X → List ℕ → Type 0) → IsCode P → (vs : List X) (n : ℕ) (u : X) (x rest bytes : List ℕ) → n < length vs
     → P u x → Each P (drop n vs) bytes → bytes ≡ x ++ rest → Each P (drop (n + 1) vs) rest
 one_after {X = X} P code vs n u x rest bytes lt p q e =
-    let one : Each P (u ∷ []) x = record { front = x; back = []; first = p; second = refl; joined = sym (append-nil x) } in
+    let one : Each P (u ∷ []) x = record { prefix = x; back = []; first = p; second = refl; joined = sym (append-nil x) } in
     subst (λ (ws : List X). Each P ws rest) (drop-drop 1 n vs)
     (others_after P code (u ∷ []) (drop n vs) x rest bytes (omega (arith, length-drop n vs)) one q e)
 
@@ -60,4 +60,4 @@ one_there {X = X} P vs n bytes lt q none = of_some (drop n vs) (omega (arith, le
   where
     of_some : (ws : List X) → 0 < length ws → Each P ws bytes → ⊥
     of_some [] some each = absurd (omega arith)
-    of_some (w ∷ ws) some each = none w each.front each.back each.first (sym each.joined)
+    of_some (w ∷ ws) some each = none w each.prefix each.back each.first (sym each.joined)

@@ -80,8 +80,8 @@ at_table order reason head b l from w some h = absurd h
 wrong_tables : (format : Format) (order : Order) (reason : Reason) (before left : List ℕ) → TwoTablesFault format order reason before left
     → IsWrongTable reason before left
 wrong_tables format order reason before left (first h) = wrong_table format order reason before left h
-wrong_tables format order reason before left (second directories front past p e h) =
-    wrong_after reason front past before left e (wrong_table format order reason past left h)
+wrong_tables format order reason before left (second directories prefix past p e h) =
+    wrong_after reason prefix past before left e (wrong_table format order reason past left h)
 
 pub at_header : (order : Order) (format : Format) (reason : Reason) (head b l from : List ℕ) → InHeader order b l (head ++ b) from
     → 0 < length (head ++ b) → IsHeaderFault format order reason b l → IsAt order reason (head ++ b) from

@@ -129,7 +129,7 @@ values_fit law format order [] [] x p = (tt, tt)
 values_fit law format order [] (value ∷ values) x p = absurd p
 values_fit law format order (pair ∷ pairs) [] x p = absurd p
 values_fit law format order (pair ∷ pairs) (value ∷ values) x p =
-    let one = law.allowed format order value p.1.front p.1.first in
+    let one = law.allowed format order value p.1.prefix p.1.first in
     let rest = values_fit law format order pairs values p.1.back p.1.second in
     ((one.1, rest.0), (one.2, rest.1))
 
@@ -138,7 +138,7 @@ entries_fit : wire.SpelledValues → (format : Format) (order : Order) (pairs : 
     → AllByRecursion (λ (entry : Entry). AllByRecursion FitsForm entry.values) entries × OffsetsFit format entries
 entries_fit law format order pairs [] x p = (tt, tt)
 entries_fit law format order pairs (entry ∷ entries) x p =
-    let one = values_fit law format order pairs entry.values p.front p.first in
+    let one = values_fit law format order pairs entry.values p.prefix p.first in
     let rest = entries_fit law format order pairs entries p.back p.second in
     ((one.0, rest.0), (one.1, rest.1))
 

@@ -11,7 +11,7 @@ use Rattle.lnt_wire.specs.declared.fault.Fault.{Fault}
 use Rattle.lnt_wire.specs.declared.fault.Reason.{Reason}
 use Rattle.lnt_wire.specs.declared.fault.Reason.TheVariants.{AddressSize, HeaderLength, SegmentSelector, Truncated}
 use Rattle.lnt_wire.proofs.FieldFaultLaws.{IsOneFieldFault}
-use Rattle.lnt_wire.proofs.LengthLaws.{length-number_bytes, same_number_front}
+use Rattle.lnt_wire.proofs.LengthLaws.{length-number_bytes, same_number_prefix}
 use Rattle.lnt_wire.proofs.ValueLaws.{offset_width}
 use Rattle.lnt_header.specs.FirstFaults.{FirstOf}
 use Rattle.lnt_header.specs.FirstFaults.FirstOf.{first, second}
@@ -113,7 +113,7 @@ reads_counted format n counted old middle new r s =
     let size : length counted ≡ n = ap length s.spelled.taken_is ∙ s.spelled.count_is in
     let both = reads_both (OffsetBytes format old.order) (λ _ _. TakenBytes n) n counted old middle new r s in
     reads_map (Both (OffsetBytes format old.order) (λ _. TakenBytes n)) (CountedBytes format old.order) (n, counted) counted old new
-    (λ x p. parts_as p (subst (λ (k : ℕ). OffsetBytes format old.order k p.front) (sym size) p.first) (sym p.second.taken_is)) both
+    (λ x p. parts_as p (subst (λ (k : ℕ). OffsetBytes format old.order k p.prefix) (sym size) p.first) (sym p.second.taken_is)) both
 
 counted_none : (format : Format) (order : Order) (reason : Reason) (bytes : List ℕ) → IsCountedFault format order reason bytes
     → NoneSpelled (CountedBytes format order) bytes
@@ -124,14 +124,14 @@ counted_none format order Truncated bytes h taken x more p e =
       ap length e,
       length-append x more,
       ap length p.joined,
-      length-append p.front p.back,
+      length-append p.prefix p.back,
       ap length p.first.spelled,
       length-number_bytes order (offset_size format) (length taken),
     )
 counted_none format order HeaderLength bytes h taken x more p e =
-    let all : p.front ++ (p.back ++ more) ≡ number_bytes order (offset_size format) h.0 ++ h.1 =
-    sym (append_assoc p.front p.back more) ∙ ap (λ (z : List ℕ). z ++ more) (sym p.joined) ∙ e ∙ h.4 in
-    let found = same_number_front order (offset_size format) (offset_width format) (length taken) h.0 (p.back ++ more) h.1 p.first.fits h.2
+    let all : p.prefix ++ (p.back ++ more) ≡ number_bytes order (offset_size format) h.0 ++ h.1 =
+    sym (append_assoc p.prefix p.back more) ∙ ap (λ (z : List ℕ). z ++ more) (sym p.joined) ∙ e ∙ h.4 in
+    let found = same_number_prefix order (offset_size format) (offset_width format) (length taken) h.0 (p.back ++ more) h.1 p.first.fits h.2
     (ap (λ (z : List ℕ). z ++ (p.back ++ more)) (sym p.first.spelled) ∙ all) in
     omega (arith, found.0, h.3, ap length found.1, length-append p.back more, ap length p.second)
 counted_none format order reason bytes h taken x more p e = absurd h

@@ -19,11 +19,11 @@ use Rattle.std.proofs.lemmas.Grind.{common_steps}
 use Rattle.std.proofs.Common.{arith}
 
 -- the same bytes as parts of other kinds
-pub parts_as : {A B A' B' : List ℕ → Type 0} {x : List ℕ} → (t : Then A B x) → A' t.front → B' t.back → Then A' B' x
-parts_as t a b = record { front = t.front; back = t.back; first = a; second = b; joined = t.joined }
+pub parts_as : {A B A' B' : List ℕ → Type 0} {x : List ℕ} → (t : Then A B x) → A' t.prefix → B' t.back → Then A' B' x
+parts_as t a b = record { prefix = t.prefix; back = t.back; first = a; second = b; joined = t.joined }
 
 pub joins : {A B : List ℕ → Type 0} (x y : List ℕ) → A x → B y → Then A B (x ++ y)
-joins x y a b = record { front = x; back = y; first = a; second = b; joined = refl }
+joins x y a b = record { prefix = x; back = y; first = a; second = b; joined = refl }
 
 abbrev pair_of : ℕ → Form → Pair
 pair_of content form = record { content = content; form = form }

@@ -84,7 +84,7 @@ pub reads_pair : (old middle new : At) (content code : ℕ) (pair : Pair) → Re
     → Reads UnsignedLeb code middle new → pair.content ≡ content → form_code pair.form ≡ code → Reads PairBytes pair old new
 reads_pair old middle new content code pair r s content_is code_is =
     reads_map (Both UnsignedLeb (λ _. UnsignedLeb)) PairBytes (content, code) pair old new
-    (λ x p. parts_as p (subst (λ (k : ℕ). UnsignedLeb k p.front) (sym content_is) p.first)
+    (λ x p. parts_as p (subst (λ (k : ℕ). UnsignedLeb k p.prefix) (sym content_is) p.first)
     (subst (λ (k : ℕ). UnsignedLeb k p.back) (sym code_is) p.second))
     (reads_both UnsignedLeb (λ _ _. UnsignedLeb) content code old middle new r s)
 
@@ -156,7 +156,7 @@ module _ (format : Format) (order : Order) where
   chain_of [] pair past (v ∷ vs) reason before left p h = absurd p
   chain_of (d ∷ done) pair past [] reason before left p h = absurd p
   chain_of (d ∷ done) pair past (v ∷ vs) reason before left p h =
-      second v p.1.front p.1.back (record { form_is = p.0; spelled = p.1.first }) p.1.joined
+      second v p.1.prefix p.1.back (record { form_is = p.0; spelled = p.1.first }) p.1.joined
       (chain_of done pair past vs reason p.1.back left p.1.second h)
 
   entry_chain : (pairs : List Pair) (reason : Reason) (before left : List ℕ) → IsEntryFault format order pairs reason before left
@@ -233,13 +233,13 @@ size_one pairs reason other before before' left left' (empty n y rest is nothing
 -- without pairs no entry has a fault
 some_pairs : (format : Format) (order : Order) (pairs : List Pair) (n : ℕ) (reason : Reason) (before left : List ℕ)
     → IsEntriesFault format order pairs n reason before left → pairs ≡ [] → ⊥
-some_pairs format order pairs n reason before left (next entries front past lt each joined (no_value done pair later values is p h)) none =
+some_pairs format order pairs n reason before left (next entries prefix past lt each joined (no_value done pair later values is p h)) none =
     omega (arith, ap length is, ap length none, length-append done (pair ∷ later))
 
 sized_one : (format : Format) (order : Order) (pairs : List Pair) → AreOne (AfterPairsFault format order pairs)
 sized_one format order pairs = first_one UnsignedLeb (IsSizeFault pairs) (IsEntriesFault format order pairs) unsigned_code (size_one pairs)
-    (λ reason other n before left front past left' h p k e. elim h [
-      | no_size missing ↦ number_at.none reason before left missing n front (past ++ left') p (sym e)
+    (λ reason other n before left prefix past left' h p k e. elim h [
+      | no_size missing ↦ number_at.none reason before left missing n prefix (past ++ left') p (sym e)
       | empty m y rest is nothing none q joined some ↦ some_pairs format order pairs n other past left' k none
     ]) (λ n. (entries_fault format order pairs n).one)
 
@@ -250,9 +250,9 @@ sized_none format order pairs reason before left (first (no_size h)) =
 sized_none format order pairs reason before left (first (empty n y rest is nothing none q joined some)) =
     none_second UnsignedLeb (EntriesOf format order pairs) unsigned_code n y (before ++ left) rest q
     (ap (λ (z : List ℕ). z ++ left) nothing ∙ joined) (λ entries x more p e. omega (arith, some, p.0 none))
-sized_none format order pairs reason before left (second n front past p joined h) =
-    none_second UnsignedLeb (EntriesOf format order pairs) unsigned_code n front (before ++ left) (past ++ left) p
-    (ap (λ (z : List ℕ). z ++ left) joined ∙ append_assoc front past left)
+sized_none format order pairs reason before left (second n prefix past p joined h) =
+    none_second UnsignedLeb (EntriesOf format order pairs) unsigned_code n prefix (before ++ left) (past ++ left) p
+    (ap (λ (z : List ℕ). z ++ left) joined ∙ append_assoc prefix past left)
     (λ entries x more q e. (entries_fault format order pairs n).none reason past left h entries x more q.1 e)
 
 sized_fault : (format : Format) (order : Order) (pairs : List Pair)

@@ -22,18 +22,18 @@ values_push : (format : Format) (order : Order) (pairs : List Pair) (pair : Pair
     → ValuesBytes format order (pairs ++ pair ∷ []) (values ++ value ∷ []) (x ++ y)
 values_push format order [] pair [] value x y p q = (
   q.form_is,
-  record { front = y; back = []; first = q.spelled; second = refl; joined = ap (λ (z : List ℕ). z ++ y) p ∙ sym (append-nil y) },
+  record { prefix = y; back = []; first = q.spelled; second = refl; joined = ap (λ (z : List ℕ). z ++ y) p ∙ sym (append-nil y) },
 )
 values_push format order [] pair (v ∷ values) value x y p q = absurd p
 values_push format order (a ∷ pairs) pair [] value x y p q = absurd p
 values_push format order (a ∷ pairs) pair (v ∷ values) value x y p q = (
   p.0,
   record {
-    front = p.1.front;
+    prefix = p.1.prefix;
     back = p.1.back ++ y;
     first = p.1.first;
     second = values_push format order pairs pair values value p.1.back y p.1.second q;
-    joined = ap (λ (z : List ℕ). z ++ y) p.1.joined ∙ append_assoc p.1.front p.1.back y;
+    joined = ap (λ (z : List ℕ). z ++ y) p.1.joined ∙ append_assoc p.1.prefix p.1.back y;
   },
 )
 
@@ -56,8 +56,8 @@ pub none_values : (format : Format) (order : Order) (pairs : List Pair) (pair : 
     → NoneSpelled (ValueBytes format order pair.form) rest → NoneSpelled (ValuesBytes format order (pairs ++ pair ∷ past)) bytes
 none_values format order [] pair past [] x rest bytes p whole none [] y more q e = q
 none_values format order [] pair past [] x rest bytes p whole none (v ∷ vs) y more q e =
-    none v q.1.front (q.1.back ++ more) (record { form_is = q.0; spelled = q.1.first })
-    (sym (append_assoc q.1.front q.1.back more) ∙ ap (λ (z : List ℕ). z ++ more) (sym q.1.joined) ∙ e ∙ whole
+    none v q.1.prefix (q.1.back ++ more) (record { form_is = q.0; spelled = q.1.first })
+    (sym (append_assoc q.1.prefix q.1.back more) ∙ ap (λ (z : List ℕ). z ++ more) (sym q.1.joined) ∙ e ∙ whole
     ∙ ap (λ (z : List ℕ). z ++ rest) p)
 none_values format order [] pair past (u ∷ us) x rest bytes p whole none vs y more q e = p
 none_values format order (a ∷ pairs) pair past [] x rest bytes p whole none vs y more q e = p

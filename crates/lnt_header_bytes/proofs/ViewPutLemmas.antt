@@ -88,7 +88,7 @@ values_begin format order (suc n) (pair ∷ pairs) (u ∷ us) (v ∷ vs) x y r s
 -- each of several values has a spelling, if all have
 each_within : {X : Type 0} (P : X → List ℕ → Type 0) (us : List X) (v : X) (ws : List X) (bytes : List ℕ)
     → Each P ((us ++ v ∷ []) ++ ws) bytes → (x : List ℕ) × P v x
-each_within P [] v ws bytes p = (p.front, p.first)
+each_within P [] v ws bytes p = (p.prefix, p.first)
 each_within P (u ∷ us) v ws bytes p = each_within P us v ws p.back p.second
 
 pub entry_refused : (from : Format) (pairs : List Pair) (format : Format) (order : Order) (i : ℕ) (d : Pair) (value : FormValue)
@@ -135,12 +135,12 @@ entries_more table format order count at next old middle new lt p a =
     let r : Reads Spells a.entry at next =
     subst (λ (o : Order). Reads (EntryBytes table.format o table.pairs) a.entry at next) p.order_is a.read in
     let here = one_at Spells table.entries count a.entry at.rest lt p.rest in
-    let whole : here.front ++ here.back ≡ r.spelling ++ next.rest = sym here.joined ∙ r.whole in
-    let found = (entry_code table.format table.order table.pairs).one (get_or table.entries count a.entry) a.entry here.front r.spelling
+    let whole : here.prefix ++ here.back ≡ r.spelling ++ next.rest = sym here.joined ∙ r.whole in
+    let found = (entry_code table.format table.order table.pairs).one (get_or table.entries count a.entry) a.entry here.prefix r.spelling
     here.back next.rest here.first r.spelled whole in
     record {
       order_is = a.read.order ∙ p.order_is;
-      rest = subst (Each Spells (drop (count + 1) table.entries)) (same_rest here.front r.spelling here.back next.rest found.1 whole)
+      rest = subst (Each Spells (drop (count + 1) table.entries)) (same_rest here.prefix r.spelling here.back next.rest found.1 whole)
           here.second;
       put = each_more (EntryParts format order) table.entries count a.entry old middle new lt p.put
           (subst (λ (e : Entry). Appends (EntryParts format order) e middle new) (sym found.0) a.put);
@@ -164,10 +164,10 @@ pub entries_refused : (table : BorrowedTable) (format : Format) (order : Order) 
 entries_refused table format order count at old middle fault lt p refused =
     let d : Entry = entry_of [] in
     let here = one_at (EntryBytes table.format table.order table.pairs) table.entries count d at.rest lt p.rest in
-    let first : EntryBytes table.format at.order table.pairs (get_or table.entries count d) here.front =
-    subst (λ (o : Order). EntryBytes table.format o table.pairs (get_or table.entries count d) here.front) (sym p.order_is) here.first in
+    let first : EntryBytes table.format at.order table.pairs (get_or table.entries count d) here.prefix =
+    subst (λ (o : Order). EntryBytes table.format o table.pairs (get_or table.entries count d) here.prefix) (sym p.order_is) here.first in
     each_refused (EntryParts format order) table.entries count d fault lt
-    (record { none = λ large. refused.none large (get_or table.entries count d) here.front here.back first here.joined })
+    (record { none = λ large. refused.none large (get_or table.entries count d) here.prefix here.back first here.joined })
 
 -- ---- the whole unit
 

@@ -46,13 +46,13 @@ IsWrongTable (UnknownForm code) before left = IsUnknownCode code left
 IsWrongTable EmptyFormat before left = IsEmptyFormat before left
 IsWrongTable _ before left = ⊥
 
-later : (reason : Reason) (front before left : List ℕ) → IsWrongTable reason before left → IsWrongTable reason (front ++ before) left
-later Truncated front before left h = cut_later front before left h
-later LebTooLarge front before left h = h
-later (UnknownForm code) front before left h = h
-later EmptyFormat front before left h =
-    (h.0, h.1, h.2, front ++ h.3, h.4, h.5, h.6, ap (λ (z : List ℕ). front ++ z) h.7 ∙ sym (append_assoc front h.3 (0 ∷ [])))
-later reason front before left h = absurd h
+later : (reason : Reason) (prefix before left : List ℕ) → IsWrongTable reason before left → IsWrongTable reason (prefix ++ before) left
+later Truncated prefix before left h = cut_later prefix before left h
+later LebTooLarge prefix before left h = h
+later (UnknownForm code) prefix before left h = h
+later EmptyFormat prefix before left h =
+    (h.0, h.1, h.2, prefix ++ h.3, h.4, h.5, h.6, ap (λ (z : List ℕ). prefix ++ z) h.7 ∙ sym (append_assoc prefix h.3 (0 ∷ [])))
+later reason prefix before left h = absurd h
 
 short_so : (n : ℕ) (reason : Reason) (bytes : List ℕ) → n ≤ 16 → IsCutShort n reason bytes → IsWrongTable reason [] bytes
 short_so n reason bytes small h = subst (λ (c : Reason). IsWrongTable c [] bytes) (sym h.reason_is) (number n small h.short)
@@ -98,9 +98,9 @@ value_so format order forms.Block2 reason bytes h = sized_so order 2 reason byte
 value_so format order forms.Block4 reason bytes h = sized_so order 4 reason bytes (omega arith) h
 
 -- after bytes of which nothing is asked
-pub wrong_after : (reason : Reason) (front past before left : List ℕ) → before ≡ front ++ past → IsWrongTable reason past left
+pub wrong_after : (reason : Reason) (prefix past before left : List ℕ) → before ≡ prefix ++ past → IsWrongTable reason past left
     → IsWrongTable reason before left
-wrong_after reason front past before left e h = subst (λ (z : List ℕ). IsWrongTable reason z left) (sym e) (later reason front past left h)
+wrong_after reason prefix past before left e h = subst (λ (z : List ℕ). IsWrongTable reason z left) (sym e) (later reason prefix past left h)
 
 wrong_here : (reason : Reason) (before left : List ℕ) → before ≡ [] → IsWrongTable reason [] left → IsWrongTable reason before left
 wrong_here reason before left e h = subst (λ (z : List ℕ). IsWrongTable reason z left) (sym e) h
@@ -115,8 +115,8 @@ wrong_code reason before left (unknown code spelling rest e nothing p joined u) 
 
 wrong_pair : (reason : Reason) (before left : List ℕ) → IsPairFault reason before left → IsWrongTable reason before left
 wrong_pair reason before left (first h) = wrong_number reason before left h
-wrong_pair reason before left (second content front past p e h) =
-    wrong_after reason front past before left e (wrong_code reason past left h)
+wrong_pair reason before left (second content prefix past p e h) =
+    wrong_after reason prefix past before left e (wrong_code reason past left h)
 
 wrong_entry : (format : Format) (order : Order) (pairs : List Pair) (reason : Reason) (before left : List ℕ)
     → IsEntryFault format order pairs reason before left → IsWrongTable reason before left
@@ -147,8 +147,8 @@ wrong_after_pairs format order n pairs count kinds past left reason p q
 pub wrong_table : (format : Format) (order : Order) (reason : Reason) (before left : List ℕ) → IsTableFault format order reason before left
     → IsWrongTable reason before left
 wrong_table format order reason before left (first h) = wrong_here reason before left h.0 (short_so 1 reason left (omega arith) h.1)
-wrong_table format order reason before left (second n front past p e (first (next pairs done more lt each e2 h))) =
-    wrong_after reason front past before left e (wrong_after reason done more past left e2 (wrong_pair reason more left h))
-wrong_table format order reason before left (second n front past p e (second pairs kinds more q e2 h)) =
-    let all : before ≡ front ++ (kinds ++ more) = e ∙ ap (λ (z : List ℕ). front ++ z) e2 in
-    subst (λ (z : List ℕ). IsWrongTable reason z left) (sym all) (wrong_after_pairs format order n pairs front kinds more left reason p q h)
+wrong_table format order reason before left (second n prefix past p e (first (next pairs done more lt each e2 h))) =
+    wrong_after reason prefix past before left e (wrong_after reason done more past left e2 (wrong_pair reason more left h))
+wrong_table format order reason before left (second n prefix past p e (second pairs kinds more q e2 h)) =
+    let all : before ≡ prefix ++ (kinds ++ more) = e ∙ ap (λ (z : List ℕ). prefix ++ z) e2 in
+    subst (λ (z : List ℕ). IsWrongTable reason z left) (sym all) (wrong_after_pairs format order n pairs prefix kinds more left reason p q h)

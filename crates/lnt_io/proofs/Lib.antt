@@ -1,3 +1,3 @@
-pub mod FrontLaws
+pub mod PrefixLaws
 pub mod PullLaws
 pub mod WholeLemmas

@@ -35,10 +35,10 @@ more_from_start None b given before after p same more = tt
 more_from_start (Some x) None given before after p same more = absurd p
 more_from_start (Some x) (Some y) given before after p same more = omega (arith, same, more, ap length p, length-append given y)
 
--- the front of the room, where one more pull wrote after the front that was filled
-front_filled : (at count : ℕ) (room put post : List ℕ) → at ≤ length room → count ≤ length put
+-- the prefix of the room, where one more pull wrote after the prefix that was filled
+prefix_filled : (at count : ℕ) (room put post : List ℕ) → at ≤ length room → count ≤ length put
     → take (at + count) (take at room ++ (put ++ post)) ≡ take at room ++ take count put
-front_filled at count room put post le fits =
+prefix_filled at count room put post le fits =
     ap (λ (n : ℕ). take (n + count) (take at room ++ (put ++ post))) (sym (length-take-le at room le))
     ∙ take-append-add (take at room) (put ++ post) count
     ∙ ap (λ (z : List ℕ). take at room ++ z) (take-append-le count put post fits)
@@ -47,7 +47,7 @@ pub pulls_filled : (a b c : Option (List ℕ)) (at count : ℕ) (room put post :
     → Pulls b c (take count put) → at ≤ length room → count ≤ length put
     → Pulls a c (take (at + count) (take at room ++ (put ++ post)))
 pulls_filled a b c at count room put post p q le fits =
-    subst (λ (z : List ℕ). Pulls a c z) (sym (front_filled at count room put post le fits))
+    subst (λ (z : List ℕ). Pulls a c z) (sym (prefix_filled at count room put post le fits))
     (pulls_append a b c (take at room) (take count put) p q)
 
 -- what was written after the bytes taken before, cut where it ends
@@ -71,9 +71,9 @@ gives_written old new k n start taken lent put post tail more pulls at same le r
 }
 
 -- the bytes before the room that was made are those taken before
-pub front_kept : (start more : ℕ) (taken lent room : List ℕ) → start ≡ length taken → lent ≡ take (start + more) taken ++ room
+pub prefix_kept : (start more : ℕ) (taken lent room : List ℕ) → start ≡ length taken → lent ≡ take (start + more) taken ++ room
     → take start lent ≡ taken
-front_kept start more taken lent room at whole =
+prefix_kept start more taken lent room at whole =
     ap (take start) (whole ∙ ap (λ (z : List ℕ). z ++ room) (take_all (start + more) taken (omega (arith, at))))
     ∙ rw at (take-append_seam taken room)
 

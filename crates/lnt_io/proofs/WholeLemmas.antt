@@ -7,9 +7,9 @@ use Rattle.std.proofs.KnownBytes.{Appends-trans}
 
 -- All of the bytes but `rest` were written.
 pub record HasWritten (old now : Option (List ℕ)) (bytes rest : List ℕ) : Type 0 where
-  pub front : List ℕ
-  pub joined : front ++ rest ≡ bytes
-  pub gained : Appends old now front
+  pub prefix : List ℕ
+  pub joined : prefix ++ rest ≡ bytes
+  pub appended : Appends old now prefix
 
 -- the part of a slice from an index on
 pub left_from : (rest : List ℕ) (count : ℕ) → drop count rest ≡ take (length rest - count) (drop count rest)
@@ -18,10 +18,10 @@ left_from rest count = sym (take_all (length rest - count) (drop count rest) (om
 pub more_written : (old now new : Option (List ℕ)) (bytes rest : List ℕ) (count : ℕ) → HasWritten old now bytes rest
     → Appends now new (take count rest) → HasWritten old new bytes (drop count rest)
 more_written old now new bytes rest count w a = record {
-  front = w.front ++ take count rest;
-  joined = append_assoc w.front (take count rest) (drop count rest) ∙ ap (λ (l : List ℕ). w.front ++ l) (take-append-drop count rest)
+  prefix = w.prefix ++ take count rest;
+  joined = append_assoc w.prefix (take count rest) (drop count rest) ∙ ap (λ (l : List ℕ). w.prefix ++ l) (take-append-drop count rest)
       ∙ w.joined;
-  gained = Appends-trans old now new w.front (take count rest) w.gained a;
+  appended = Appends-trans old now new w.prefix (take count rest) w.appended a;
 }
 
 Appends_kept : (old now new : Option (List ℕ)) (bytes : List ℕ) → Appends old now bytes → Keeps now new → Appends old new bytes
@@ -33,4 +33,4 @@ Appends_kept (Some xs) (Some ys) (Some zs) bytes a k = k ∙ a
 pub kept_written : (old now new : Option (List ℕ)) (bytes rest : List ℕ) → HasWritten old now bytes rest → Keeps now new
     → HasWritten old new bytes rest
 kept_written old now new bytes rest w k =
-    record { front = w.front; joined = w.joined; gained = Appends_kept old now new w.front w.gained k }
+    record { prefix = w.prefix; joined = w.joined; appended = Appends_kept old now new w.prefix w.appended k }

@@ -1,7 +1,7 @@
 pub mod CountedSources
 pub mod FaultTexts
 pub mod Files
-pub mod Fronts
+pub mod Prefixes
 pub mod HaltTexts
 pub mod Halts
 pub mod Pulling

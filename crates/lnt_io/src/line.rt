@@ -1,7 +1,7 @@
 //! Prints the lines of values.
 ghost use Rattle.std.specs.Prelude.{◌≡◌, ◌++◌, ◌∷◌, [], IfErr, IfOk, IfSome, OnErr, OnOk, string_bytes};
 ghost use Rattle.std.specs.Io.KnownBytes.{Appends};
-ghost use Rattle.lnt_io.specs.Fronts.{AppendsFront};
+ghost use Rattle.lnt_io.specs.Prefixes.{AppendsPrefix};
 ghost use Rattle.lnt_io.specs.Halts.{IsPrinting};
 
 use crate::halt::Halt;
@@ -21,8 +21,8 @@ pub fn print_line<T: fmt::Display, W: Write>(
 ) -> Result<(), Halt>
     ensures line { IfSome (T.output value.now)
         (λ text. OnOk result (Appends (W.contents out.old) (W.contents out.new) (text ++ 10 ∷ []))) }
-    ensures front { IfSome (T.output value.now)
-        (λ text. OnErr result (AppendsFront (W.contents out.old) (W.contents out.new) (text ++ 10 ∷ []))) }
+    ensures prefix { IfSome (T.output value.now)
+        (λ text. OnErr result (AppendsPrefix (W.contents out.old) (W.contents out.new) (text ++ 10 ∷ []))) }
     ensures err { IfErr result IsPrinting }
 {
     let line = line_of(alloc, value)?;

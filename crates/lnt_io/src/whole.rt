@@ -1,7 +1,7 @@
 //! Writes bytes whole, or a prefix of them.
 ghost use Rattle.std.specs.Prelude.{OnErr, OnOk};
 ghost use Rattle.std.specs.Io.KnownBytes.{Appends};
-ghost use Rattle.lnt_io.specs.Fronts.{AppendsFront};
+ghost use Rattle.lnt_io.specs.Prefixes.{AppendsPrefix};
 
 use std::io::{self, ErrorKind, Write};
 
@@ -11,7 +11,7 @@ use std::io::{self, ErrorKind, Write};
 /// or was interrupted in each of 2^64 - 1 writes; until then an interrupted write is retried.
 pub fn write_whole<W: Write>(out: &mut W, bytes: &[u8]) -> io::Result<()>
     ensures whole { OnOk result (Appends (W.contents out.old) (W.contents out.new) bytes.now) }
-    ensures front { OnErr result (AppendsFront (W.contents out.old) (W.contents out.new) bytes.now) }
+    ensures prefix { OnErr result (AppendsPrefix (W.contents out.old) (W.contents out.new) bytes.now) }
 {
     let mut rest = bytes;
     for _ in 0..u64::MAX {

@@ -55,30 +55,30 @@ added text general dead buffer old new offset kept judged at offsets programs = 
 offsets_at_least : (order : Order) (k : ℕ) (units : List (ℕ × UnitParts)) (bytes : List ℕ) → UnitsFrom order k units bytes
     → All (λ (n : ℕ). k ≤ n) (map (λ (u : ℕ × UnitParts). u.0) units)
 offsets_at_least order k [] bytes u = All-nil (λ (n : ℕ). k ≤ n)
-offsets_at_least order k (unit ∷ units) bytes (front, back, at, spelled, whole, rest) =
+offsets_at_least order k (unit ∷ units) bytes (prefix, back, at, spelled, whole, rest) =
     let offsets : List ℕ = map (λ (u : ℕ × UnitParts). u.0) units in
     All-cons (λ (n : ℕ). k ≤ n) unit.0 offsets (omega (arith, at))
-    (All-weaker (λ (n : ℕ). k + length front ≤ n) (λ (n : ℕ). k ≤ n) (λ n le. omega (arith, le)) offsets
-    (offsets_at_least order (k + length front) units back rest))
+    (All-weaker (λ (n : ℕ). k + length prefix ≤ n) (λ (n : ℕ). k ≤ n) (λ n le. omega (arith, le)) offsets
+    (offsets_at_least order (k + length prefix) units back rest))
 
 -- the offsets of units rise
 pub rising_from : (order : Order) (k : ℕ) (units : List (ℕ × UnitParts)) (bytes : List ℕ) → UnitsFrom order k units bytes
     → AreRising (map (λ (u : ℕ × UnitParts). u.0) units)
 rising_from order k [] bytes u = pairs_nil (λ (one other : ℕ). one < other)
-rising_from order k (unit ∷ units) bytes (front, back, at, spelled, whole, rest) =
+rising_from order k (unit ∷ units) bytes (prefix, back, at, spelled, whole, rest) =
     let offsets : List ℕ = map (λ (u : ℕ × UnitParts). u.0) units in
     pairs_cons (λ (one other : ℕ). one < other) unit.0 offsets
-    (All-weaker (λ (n : ℕ). k + length front ≤ n) (λ (n : ℕ). unit.0 < n)
-    (λ n le. omega (arith, le, at, unit_is_some order unit.1 front spelled)) offsets
-    (offsets_at_least order (k + length front) units back rest))
-    (rising_from order (k + length front) units back rest)
+    (All-weaker (λ (n : ℕ). k + length prefix ≤ n) (λ (n : ℕ). unit.0 < n)
+    (λ n le. omega (arith, le, at, unit_is_some order unit.1 prefix spelled)) offsets
+    (offsets_at_least order (k + length prefix) units back rest))
+    (rising_from order (k + length prefix) units back rest)
 
 -- the numbers of headers that bytes spell can be read
 pub numbers_from : (order : Order) (k : ℕ) (units : List (ℕ × UnitParts)) (bytes : List ℕ) → UnitsFrom order k units bytes
     → AllByRecursion (λ (unit : ℕ × UnitParts). HasHeaderNumbers unit.1.header) units
 numbers_from order k [] bytes u = tt
-numbers_from order k (unit ∷ units) bytes (front, back, at, spelled, whole, rest) =
-    (spelled.spelled.whole.counted.numbers, numbers_from order (k + length front) units back rest)
+numbers_from order k (unit ∷ units) bytes (prefix, back, at, spelled, whole, rest) =
+    (spelled.spelled.whole.counted.numbers, numbers_from order (k + length prefix) units back rest)
 
 pub distinct : (order : Order) (dead : Option ℕ) (units : List (ℕ × UnitParts)) (bytes : List ℕ) → UnitsFrom order 0 units bytes
     → AreDistinct (live_sequences dead units)

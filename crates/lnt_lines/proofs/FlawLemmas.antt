@@ -57,16 +57,16 @@ sound_well falls missing text general dead unit (no.FileNumber offset row file) 
 sound_well falls missing text general dead unit (no.Falls offset row) s f = falls dead (placed_in unit) row f.3.fall s.ordered
 sound_well falls missing text general dead unit (no.Overlap first second position) s f = f
 
--- ---- its units begin with those of each front
+-- ---- its units begin with those of each prefix
 
 pub same_pair : (u v : ℕ × UnitParts) → u.0 ≡ v.0 → u.1 ≡ v.1 → u ≡ v
 same_pair (m, x) (n, y) places parts = cc (places, parts)
 
-pub units_begin : (order : Order) (offset : ℕ) (us vs : List (ℕ × UnitParts)) (front rest whole : List ℕ) → UnitsFrom order offset us front
-    → UnitsFrom order offset vs whole → whole ≡ front ++ rest
+pub units_begin : (order : Order) (offset : ℕ) (us vs : List (ℕ × UnitParts)) (prefix rest whole : List ℕ) → UnitsFrom order offset us prefix
+    → UnitsFrom order offset vs whole → whole ≡ prefix ++ rest
     → (ws : List (ℕ × UnitParts)) × (vs ≡ us ++ ws)
-units_begin order offset [] vs front rest whole p q e = (vs, refl)
-units_begin order offset (u ∷ us) [] front rest whole p q e =
+units_begin order offset [] vs prefix rest whole p q e = (vs, refl)
+units_begin order offset (u ∷ us) [] prefix rest whole p q e =
     absurd (omega (
       arith,
       unit_is_some order u.1 p.0 p.3,
@@ -74,9 +74,9 @@ units_begin order offset (u ∷ us) [] front rest whole p q e =
       length-append p.0 p.1,
       ap length q,
       ap length e,
-      length-append front rest,
+      length-append prefix rest,
     ))
-units_begin order offset (u ∷ us) (v ∷ vs) front rest whole p q e =
+units_begin order offset (u ∷ us) (v ∷ vs) prefix rest whole p q e =
     let all : p.0 ++ (p.1 ++ rest) ≡ q.0 ++ q.1 =
     sym (append_assoc p.0 p.1 rest) ∙ ap (λ (z : List ℕ). z ++ rest) (sym p.4) ∙ sym e ∙ q.4 in
     let one = (one_spelling order).one u.1 v.1 p.0 q.0 (p.1 ++ rest) q.1 p.3 q.3 all in
@@ -95,7 +95,7 @@ no_first_flaw : FallIsNotOrdered → MissingFileIsNotThere
     → (text general : List ℕ) (options : Options) (section : List ℕ) (units : List (ℕ × UnitParts)) (reason : No)
     → IsGood text general options section units → IsFirstFlaw text general options section reason → ⊥
 no_first_flaw falls missing text general options section units reason good f =
-    let more = units_begin options.order 0 (f.units ++ f.unit ∷ []) units f.front f.rest section f.spelled good.spelled f.split in
+    let more = units_begin options.order 0 (f.units ++ f.unit ∷ []) units f.prefix f.rest section f.spelled good.spelled f.split in
     sound_well falls missing text general options.dead f.unit reason
     (all_at (IsSoundUnit text general options.dead) f.units more.0 f.unit
     (subst (AllByRecursion (IsSoundUnit text general options.dead)) more.1 good.sound)) f.flaw

@@ -107,7 +107,7 @@ flaw_and_overlap : FallIsNotOrdered → MissingFileIsNotThere
     → IsFirstFlaw text general options section reason
     → IsOverlap text general options section overlap → ⊥
 flaw_and_overlap falls missing text general options section reason overlap f o =
-    let more = units_begin options.order 0 (f.units ++ f.unit ∷ []) o.units f.front f.rest section f.spelled o.spelled f.split in
+    let more = units_begin options.order 0 (f.units ++ f.unit ∷ []) o.units f.prefix f.rest section f.spelled o.spelled f.split in
     sound_well falls missing text general options.dead f.unit reason
     (all_at (IsSoundUnit text general options.dead) f.units more.0 f.unit
     (subst (AllByRecursion (IsSoundUnit text general options.dead)) more.1 o.sound)) f.flaw
@@ -118,7 +118,7 @@ flaw_and_malformed : FallIsNotOrdered → MissingFileIsNotThere
     → IsMalformed text general options section fault → ⊥
 flaw_and_malformed falls missing text general options section reason fault f m =
     let t = m.broken.true_fault in
-    none_flawed falls missing text general options.dead options.order 0 t.units f.units f.unit t.front f.front t.rest f.rest reason t.sound
+    none_flawed falls missing text general options.dead options.order 0 t.units f.units f.unit t.prefix f.prefix t.rest f.rest reason t.sound
     f.spelled (sym t.split ∙ f.split) t.broken.broken.none m.sound f.flaw
 
 two_overlaps : (text general : List ℕ) (options : Options) (section : List ℕ) (a b : Overlap) → IsOverlap text general options section a
@@ -134,8 +134,8 @@ two_flaws : FallIsNotOrdered → MissingFileIsNotThere → (text general : List 
     → IsFirstFlaw text general options section r
     → IsFirstFlaw text general options section s → r ≡ s
 two_flaws falls missing text general options section r s f g =
-    let same : f.unit ≡ g.unit = same_flawed falls missing text general options.dead options.order 0 f.units g.units f.unit g.unit f.front
-    g.front f.rest g.rest r s f.spelled g.spelled (sym f.split ∙ g.split) f.sound g.sound f.flaw g.flaw in
+    let same : f.unit ≡ g.unit = same_flawed falls missing text general options.dead options.order 0 f.units g.units f.unit g.unit f.prefix
+    g.prefix f.rest g.rest r s f.spelled g.spelled (sym f.split ∙ g.split) f.sound g.sound f.flaw g.flaw in
     one_flaw missing text general options.dead g.unit r s
     (subst (λ (unit : ℕ × UnitParts). IsFlaw text general options.dead unit r) same f.flaw) g.flaw
 

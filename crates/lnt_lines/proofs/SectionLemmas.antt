@@ -42,13 +42,13 @@ use Rattle.lnt_lines.proofs.DraftLemmas.{distinct, numbers_from, rising_from}
 
 -- ---- units judged one after another
 
--- what was judged so far: of the bytes that the source had to give, old, the front was taken, and now the others are left
+-- what was judged so far: of the bytes that the source had to give, old, the prefix was taken, and now the others are left
 pub record JudgedSoFar (text general : List ℕ) (options : Options) (old now : Option (List ℕ)) (offset : ℕ) (draft : Draft) : Type 0 where
   pub units : List (ℕ × UnitParts)
-  pub front : List ℕ
-  pub spelled : SectionBytes options.order units front
-  pub pulls : Pulls old now front
-  pub place : offset ≡ length front
+  pub prefix : List ℕ
+  pub spelled : SectionBytes options.order units prefix
+  pub pulls : Pulls old now prefix
+  pub place : offset ≡ length prefix
   pub draft_is : IsDraftOf text general options.dead units draft
 
 pub judged_more : (text general : List ℕ) (options : Options) (old now now' : Option (List ℕ)) (order : Order) (offset offset' : ℕ)
@@ -61,11 +61,11 @@ judged_more text general options old now now' order offset offset' buffer draft 
     subst (λ (o : Order). UnitBytesIn o added.unit buffer.bytes) (next.order_is ∙ same) added.spelled in
     record {
       units = so_far.units ++ (buffer.offset, added.unit) ∷ [];
-      front = so_far.front ++ buffer.bytes;
-      spelled = units_push options.order 0 so_far.units (buffer.offset, added.unit) so_far.front buffer.bytes so_far.spelled
+      prefix = so_far.prefix ++ buffer.bytes;
+      spelled = units_push options.order 0 so_far.units (buffer.offset, added.unit) so_far.prefix buffer.bytes so_far.spelled
           (omega (arith, next.offset_is, so_far.place)) spelled;
-      pulls = pulls_append old now now' so_far.front buffer.bytes so_far.pulls next.pulls;
-      place = omega (arith, at, so_far.place, length-append so_far.front buffer.bytes);
+      pulls = pulls_append old now now' so_far.prefix buffer.bytes so_far.pulls next.pulls;
+      place = omega (arith, at, so_far.place, length-append so_far.prefix buffer.bytes);
       draft_is = added.drafts so_far.units so_far.draft_is;
     }
 
@@ -82,12 +82,12 @@ frame_is_some order frame bytes f = omega (
 
 -- no unit begins what stands after the sound ones
 malformed : {text general : List ℕ} {options : Options} {old now : Option (List ℕ)} {offset : ℕ} {draft : Draft} (bytes rest : List ℕ)
-    (fault : Fault) → (so_far : JudgedSoFar text general options old now offset draft) → bytes ≡ so_far.front ++ rest → 0 < length rest
+    (fault : Fault) → (so_far : JudgedSoFar text general options old now offset draft) → bytes ≡ so_far.prefix ++ rest → 0 < length rest
     → BrokenUnit options.order fault offset rest → IsMalformed text general options bytes fault
 malformed {options = options} bytes rest fault so_far whole some b =
     let t : IsTrueFault options.order fault bytes = record {
       units = so_far.units;
-      front = so_far.front;
+      prefix = so_far.prefix;
       rest = rest;
       sound = so_far.spelled;
       some = some;
@@ -99,17 +99,17 @@ malformed {options = options} bytes rest fault so_far whole some b =
 -- the unit after the sound ones
 module _ {text general : List ℕ} {options : Options} {old now : Option (List ℕ)} {offset : ℕ} {draft : Draft} (bytes rest : List ℕ)
     (buffer : BufferedUnit) (so_far : JudgedSoFar text general options old now offset draft) (at : buffer.offset ≡ offset)
-    (same : buffer.order ≡ options.order) (whole : bytes ≡ so_far.front ++ (buffer.bytes ++ rest)) where
+    (same : buffer.order ≡ options.order) (whole : bytes ≡ so_far.prefix ++ (buffer.bytes ++ rest)) where
   -- has the flaw
   first_flaw : (reason : No) → HasFlaw text general options.dead buffer reason → IsFirstFlaw text general options bytes reason
   first_flaw reason flaw = record {
     units = so_far.units;
     unit = (buffer.offset, flaw.unit);
-    front = so_far.front ++ buffer.bytes;
+    prefix = so_far.prefix ++ buffer.bytes;
     rest = rest;
-    spelled = units_push options.order 0 so_far.units (buffer.offset, flaw.unit) so_far.front buffer.bytes so_far.spelled
+    spelled = units_push options.order 0 so_far.units (buffer.offset, flaw.unit) so_far.prefix buffer.bytes so_far.spelled
         (omega (arith, at, so_far.place)) (subst (λ (o : Order). UnitBytesIn o flaw.unit buffer.bytes) same flaw.spelled);
-    split = whole ∙ sym (append_assoc so_far.front buffer.bytes rest);
+    split = whole ∙ sym (append_assoc so_far.prefix buffer.bytes rest);
     sound = so_far.draft_is.sound;
     flaw = flaw.flaw;
   }
@@ -141,12 +141,12 @@ unit_refused text general options (Some bytes) now now' order offset buffer draf
 unit_refused text general options (Some bytes) now now' order offset buffer draft (refusal.No reason) so_far same next r =
     by_left now now' so_far.pulls next.pulls
   where
-    by_left : (a b : Option (List ℕ)) → Pulls (Some bytes) a so_far.front → Pulls a b buffer.bytes
+    by_left : (a b : Option (List ℕ)) → Pulls (Some bytes) a so_far.prefix → Pulls a b buffer.bytes
         → IsTrueNo text general options bytes reason
     by_left None b p q = absurd p
     by_left (Some x) None p q = absurd q
     by_left (Some x) (Some y) p q =
-        refused bytes y buffer so_far next.offset_is (next.order_is ∙ same) (p ∙ ap (λ (z : List ℕ). so_far.front ++ z) q) reason
+        refused bytes y buffer so_far next.offset_is (next.order_is ∙ same) (p ∙ ap (λ (z : List ℕ). so_far.prefix ++ z) q) reason
         next.whole r
 
 -- ---- no unit comes
@@ -158,7 +158,7 @@ fault_refused : (text general : List ℕ) (options : Options) (old now : Option 
 fault_refused text general options None now order offset draft fault so_far same ends = tt
 fault_refused text general options (Some bytes) now order offset draft fault so_far same ends = by_left now so_far.pulls ends
   where
-    by_left : (a : Option (List ℕ)) → Pulls (Some bytes) a so_far.front → SectionEndsBy offset order a (Some fault)
+    by_left : (a : Option (List ℕ)) → Pulls (Some bytes) a so_far.prefix → SectionEndsBy offset order a (Some fault)
         → IsMalformed text general options bytes fault
     by_left None p e = absurd p
     by_left (Some x) p e =

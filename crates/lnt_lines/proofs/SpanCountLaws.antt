@@ -18,14 +18,14 @@ use Rattle.lnt_sequences.proofs.CountLaws.{rows_of_units, spans_within_rows}
 rows_within : (order : Order) (offset : ℕ) (units : List (ℕ × UnitParts)) (bytes : List ℕ) → UnitsFrom order offset units bytes
     → length (rows_of_units units) ≤ length bytes
 rows_within order offset [] bytes spelled = omega arith
-rows_within order offset (unit ∷ units) bytes (front, back, at, first, joined, later) =
+rows_within order offset (unit ∷ units) bytes (prefix, back, at, first, joined, later) =
     omega (
       arith,
       few_rows unit.1.header [] unit.1.ops,
-      ops_within order unit.1 front first,
-      rows_within order (offset + length front) units back later,
+      ops_within order unit.1 prefix first,
+      rows_within order (offset + length prefix) units back later,
       ap length joined,
-      length-append front back,
+      length-append prefix back,
       length-append (rows unit.1) (rows_of_units units),
     )
 

@@ -43,10 +43,10 @@ IsFlaw line general dead unit _ = ⊥
 pub record IsFirstFlaw (line general : List ℕ) (options : Options) (section : List ℕ) (reason : No) : Type 0 where
   pub units : List (ℕ × UnitParts)
   pub unit : ℕ × UnitParts
-  pub front : List ℕ
+  pub prefix : List ℕ
   pub rest : List ℕ
-  pub spelled : SectionBytes options.order (units ++ unit ∷ []) front
-  pub split : section ≡ front ++ rest
+  pub spelled : SectionBytes options.order (units ++ unit ∷ []) prefix
+  pub split : section ≡ prefix ++ rest
   pub sound : AllByRecursion (IsSoundUnit line general options.dead) units
   pub flaw : IsFlaw line general options.dead unit reason
 

@@ -159,7 +159,7 @@ rows_fit : (h : HeaderParts) (back ops : List Op) (x : List ℕ) → HasHeaderNu
     → LinesAfter h back ops → FitRows (rows_after h back ops)
 rows_fit h back [] x numbers f spelled lines = tt
 rows_fit h back (op ∷ ops) x numbers f spelled lines =
-    let more = fitting_more h back op spelled.front f spelled.first lines.0 in
+    let more = fitting_more h back op spelled.prefix f spelled.first lines.0 in
     made_fits h back op (rows_after h (op ∷ back) ops) numbers f more
     (rows_fit h (op ∷ back) ops spelled.back numbers more spelled.second lines.1)
 

@@ -15,7 +15,7 @@ use Rattle.lnt_machine.specs.Matrix.{row_of, end_row_of, row_made, rows_after, s
 use Rattle.lnt_machine.specs.Matrix.{sequences, Runs, IsRunFault}
 use Rattle.lnt_machine.specs.Parts.{first_sequence}
 use Rattle.lnt_machine.specs.Walking.{IsSequencePlace, KeptProgram, KeepsProgram, LinesAfter, WillGive, SequenceWalk}
-use Rattle.lnt_machine.specs.Stepping.{HasPlaces, IsProgramFront}
+use Rattle.lnt_machine.specs.Stepping.{HasPlaces, IsProgramPrefix}
 use Rattle.lnt_machine.specs.Registers.{advance_of, advances, moved, base, line_increment, line_sum, line, IsLine, part}
 use Rattle.lnt_machine.specs.Registers.{file, column, isa, discriminator, is_stmt, basic_block, prologue_end}
 use Rattle.lnt_machine.specs.Registers.{epilogue_begin, registers_after}
@@ -200,11 +200,11 @@ place_by_numbers h program earlier later place is =
     let at = is.place_is in
     record {
       place_is = record {
-        front = at.front;
+        prefix = at.prefix;
         rest = at.rest;
         split = at.split;
         place_is = at.place_is;
-        earlier_spelled = numbers_of_ops h earlier at.front at.earlier_spelled;
+        earlier_spelled = numbers_of_ops h earlier at.prefix at.earlier_spelled;
         later_spelled = numbers_of_ops h later at.rest at.later_spelled;
       };
       start = is.start;
@@ -229,16 +229,16 @@ sequence_by_numbers kept numbers unit index place d walk same keeps few at gives
     ap (λ (n : HeaderParts). rows_after n (reverse earlier) later) same ∙ same_rows (without_entries h) h (reverse earlier) later in
     subst (λ (rows : List Row). WillGive (first_sequence rows) walk) rows_are (gives earlier later begins))
 
--- a front by the header's numbers is one by the header
-front_by_numbers : (h : HeaderParts) (program : List ℕ) (index place : ℕ) → IsProgramFront (without_entries h) program index place
-    → IsProgramFront h program index place
-front_by_numbers h program index place is = record {
+-- a prefix by the header's numbers is one by the header
+prefix_by_numbers : (h : HeaderParts) (program : List ℕ) (index place : ℕ) → IsProgramPrefix (without_entries h) program index place
+    → IsProgramPrefix h program index place
+prefix_by_numbers h program index place is = record {
   earlier = is.earlier;
-  front = is.front;
+  prefix = is.prefix;
   rest = is.rest;
   split = is.split;
   place_is = is.place_is;
-  spelled = ops_by_numbers h is.earlier is.front is.spelled;
+  spelled = ops_by_numbers h is.earlier is.prefix is.spelled;
   start = is.start;
   index_is = is.index_is ∙ ap (λ (rows : List Row). length (sequences_of rows)) (same_rows (without_entries h) h [] is.earlier);
 }
@@ -248,6 +248,6 @@ pub places_by_numbers : (h : HeaderParts) (program : List ℕ) (count : ℕ) (pl
     → HasPlaces (without_entries h) program count places place → HasPlaces h program count places place
 places_by_numbers h program count places place has = record {
   count_is = has.count_is;
-  each = λ k d few. front_by_numbers h program k (slice_index_or places k d) (has.each k d few);
-  next = front_by_numbers h program count place has.next;
+  each = λ k d few. prefix_by_numbers h program k (slice_index_or places k d) (has.each k d few);
+  next = prefix_by_numbers h program count place has.next;
 }

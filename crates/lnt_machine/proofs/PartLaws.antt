@@ -71,20 +71,20 @@ rows_at_start h back ops start = alike_rows h back [] ops (start_alike h back st
 
 -- ---- rows of two lists of operations
 
-pub rows_after-joined : (h : HeaderParts) (back front rest : List Op)
-    → rows_after h back (front ++ rest) ≡ rows_after h back front ++ rows_after h (reverse front ++ back) rest
+pub rows_after-joined : (h : HeaderParts) (back prefix rest : List Op)
+    → rows_after h back (prefix ++ rest) ≡ rows_after h back prefix ++ rows_after h (reverse prefix ++ back) rest
 rows_after-joined h back [] rest = refl
-rows_after-joined h back (op ∷ front) rest =
-    ap (λ (rows : List Row). cons_option (row_made h back op) rows) (rows_after-joined h (op ∷ back) front rest)
-    ∙ cons_option-append (row_made h back op) (rows_after h (op ∷ back) front) (rows_after h (reverse front ++ op ∷ back) rest)
-    ∙ ap (λ (list : List Op). rows_after h back (op ∷ front) ++ rows_after h list rest) (sym (reverse-cons op front back))
+rows_after-joined h back (op ∷ prefix) rest =
+    ap (λ (rows : List Row). cons_option (row_made h back op) rows) (rows_after-joined h (op ∷ back) prefix rest)
+    ∙ cons_option-append (row_made h back op) (rows_after h (op ∷ back) prefix) (rows_after h (reverse prefix ++ op ∷ back) rest)
+    ∙ ap (λ (list : List Op). rows_after h back (op ∷ prefix) ++ rows_after h list rest) (sym (reverse-cons op prefix back))
 
-pub rows_of_parts : (h : HeaderParts) (front rest : List Op) → AreWhole front
-    → rows_of_ops h (front ++ rest) ≡ rows_of_ops h front ++ rows_of_ops h rest
-rows_of_parts h front rest whole =
-    rows_after-joined h [] front rest
-    ∙ ap (λ (list : List Op). rows_of_ops h front ++ rows_after h list rest) (append-nil (reverse front))
-    ∙ ap (λ (rows : List Row). rows_of_ops h front ++ rows) (rows_at_start h (reverse front) rest whole)
+pub rows_of_parts : (h : HeaderParts) (prefix rest : List Op) → AreWhole prefix
+    → rows_of_ops h (prefix ++ rest) ≡ rows_of_ops h prefix ++ rows_of_ops h rest
+rows_of_parts h prefix rest whole =
+    rows_after-joined h [] prefix rest
+    ∙ ap (λ (list : List Op). rows_of_ops h prefix ++ rows_after h list rest) (append-nil (reverse prefix))
+    ∙ ap (λ (rows : List Row). rows_of_ops h prefix ++ rows) (rows_at_start h (reverse prefix) rest whole)
 
 -- ---- sequences of two lists of rows
 
@@ -130,8 +130,8 @@ some_closed row (next ∷ rows) closed = by_end row.end_sequence (some_closed ne
     by_end true some = record { first = record { rows = row ∷ [] }; others = sequences_of (next ∷ rows); are = refl }
     by_end false some = onto_some row (sequences_of (next ∷ rows)) some
 
-pub sequences_of-joined_rows : (front rest : List Row) → AreClosed front
-    → sequences_of (front ++ rest) ≡ sequences_of front ++ sequences_of rest
+pub sequences_of-joined_rows : (prefix rest : List Row) → AreClosed prefix
+    → sequences_of (prefix ++ rest) ≡ sequences_of prefix ++ sequences_of rest
 sequences_of-joined_rows [] rest closed = refl
 sequences_of-joined_rows (row ∷ []) rest closed = joined_last row (sequences_of rest) row.end_sequence closed
 sequences_of-joined_rows (row ∷ next ∷ rows) rest closed =
@@ -160,11 +160,11 @@ whole_closed h ops whole = subst (λ (list : List Op). AreClosed (rows_of_ops h 
         (subst AreClosed (sym (rows_after-append h [] (reverse back) EndSequence)) (closed_after (rows_of_ops h (reverse back)) _ refl))
     by_back (op ∷ back) start = absurd start
 
-pub sequences_of_parts : (h : HeaderParts) (front rest : List Op) → AreWhole front
-    → sequences_of (rows_of_ops h (front ++ rest)) ≡ sequences_of (rows_of_ops h front) ++ sequences_of (rows_of_ops h rest)
-sequences_of_parts h front rest whole =
-    ap sequences_of (rows_of_parts h front rest whole)
-    ∙ sequences_of-joined_rows (rows_of_ops h front) (rows_of_ops h rest) (whole_closed h front whole)
+pub sequences_of_parts : (h : HeaderParts) (prefix rest : List Op) → AreWhole prefix
+    → sequences_of (rows_of_ops h (prefix ++ rest)) ≡ sequences_of (rows_of_ops h prefix) ++ sequences_of (rows_of_ops h rest)
+sequences_of_parts h prefix rest whole =
+    ap sequences_of (rows_of_parts h prefix rest whole)
+    ∙ sequences_of-joined_rows (rows_of_ops h prefix) (rows_of_ops h rest) (whole_closed h prefix whole)
 
 same_head : {X : Type 0} {x y : X} {xs ys : List X} → x ∷ xs ≡ y ∷ ys → x ≡ y
 same_head e = cc e

@@ -25,20 +25,20 @@ use Rattle.lnt_machine.specs.Matrix.{LinesFit, row_made, rows_after, sequences, 
 use Rattle.lnt_machine.specs.Parts.{AtStart, first_sequence, rows_of_ops}
 use Rattle.lnt_machine.specs.Registers.{IsLine, line}
 use Rattle.lnt_machine.specs.Walking.{IsPlaceOf, IsSequencePlace, KeptProgram, KeepsProgram, LinesAfter, SequenceWalk, WillGive}
-use Rattle.lnt_machine.specs.Stepping.{HasPlaces, IsProgramFront}
+use Rattle.lnt_machine.specs.Stepping.{HasPlaces, IsProgramPrefix}
 
 -- ---- the rows from a place on
 
-index_after : (front rest : List Sequence) (d : Sequence) (k : ℕ) → k ≡ length front → k < length (front ++ rest)
-    → (first : Sequence) × (others : List Sequence) × (rest ≡ first ∷ others) × (slice_index_or (front ++ rest) k d ≡ first)
+index_after : (prefix rest : List Sequence) (d : Sequence) (k : ℕ) → k ≡ length prefix → k < length (prefix ++ rest)
+    → (first : Sequence) × (others : List Sequence) × (rest ≡ first ∷ others) × (slice_index_or (prefix ++ rest) k d ≡ first)
 index_after [] [] d k e few = absurd (omega arith)
 index_after [] (first ∷ others) d k e few = rw e (first, others, refl, refl)
-index_after (one ∷ front) rest d k e few = rw e (by_rest rest (omega (arith, length-append front rest)))
+index_after (one ∷ prefix) rest d k e few = rw e (by_rest rest (omega (arith, length-append prefix rest)))
   where
     by_rest : (rest : List Sequence) → 0 < length rest → (first : Sequence) × (others : List Sequence) × (rest ≡ first ∷ others)
-        × (slice_index_or (one ∷ front ++ rest) (length (one ∷ front)) d ≡ first)
+        × (slice_index_or (one ∷ prefix ++ rest) (length (one ∷ prefix)) d ≡ first)
     by_rest [] some = absurd (omega arith)
-    by_rest (first ∷ others) some = (first, others, refl, get_or-append_seam (one ∷ front) first others d)
+    by_rest (first ∷ others) some = (first, others, refl, get_or-append_seam (one ∷ prefix) first others d)
 
 -- the sequence with this index has the rows from its place on, up to the first end row
 pub sequence_at : (unit : UnitParts) (program : List ℕ) (index place : ℕ) (d : Sequence) (is : IsPlaceOf unit program index place)
@@ -86,11 +86,11 @@ lines_after h earlier (op ∷ later) fit =
     fit) in
     (here, subst (λ (back : List Op). LinesAfter h back later) (reverse-append earlier (op ∷ [])) more)
 
-pub place_of_front : (unit : UnitParts) (program : List ℕ) (index place : ℕ) → IsHeader unit.header
+pub place_of_prefix : (unit : UnitParts) (program : List ℕ) (index place : ℕ) → IsHeader unit.header
     → Each (OpBytes unit.header) unit.ops program → LinesFit unit (length unit.ops)
-    → IsProgramFront unit.header program index place → IsPlaceOf unit program index place
-place_of_front unit program index place valid all fit is =
-    let found = place_found unit.header is.earlier unit.ops is.front is.rest program valid is.spelled all is.split in
+    → IsProgramPrefix unit.header program index place → IsPlaceOf unit program index place
+place_of_prefix unit program index place valid all fit is =
+    let found = place_found unit.header is.earlier unit.ops is.prefix is.rest program valid is.spelled all is.split in
     record {
       earlier = is.earlier;
       later = found.0;
@@ -110,37 +110,37 @@ pub places_none : (h : HeaderParts) (program : List ℕ) → HasPlaces h program
 places_none h program = record {
   count_is = refl;
   each = λ k d few. absurd (omega arith);
-  next = record { earlier = []; front = []; rest = program; split = refl; place_is = refl; spelled = refl; start = tt; index_is = refl };
+  next = record { earlier = []; prefix = []; rest = program; split = refl; place_is = refl; spelled = refl; start = tt; index_is = refl };
 }
 
 -- the sequence at hand has ended
 pub places_more : (h : HeaderParts) (program : List ℕ) (count : ℕ) (places : List ℕ) (place next : ℕ)
-    → HasPlaces h program count places place → IsProgramFront h program (count + 1) next
+    → HasPlaces h program count places place → IsProgramPrefix h program (count + 1) next
     → HasPlaces h program (count + 1) (places ++ place ∷ []) next
-places_more h program count places place next has front = record {
+places_more h program count places place next has prefix = record {
   count_is = omega (arith, has.count_is, length-append places (place ∷ []));
   each = λ k d few. elim (cases_lt k (length places)) [
-    | inl earlier ↦ subst (IsProgramFront h program k) (sym (get_or_append_left places (place ∷ []) d k earlier)) (has.each k d earlier)
+    | inl earlier ↦ subst (IsProgramPrefix h program k) (sym (get_or_append_left places (place ∷ []) d k earlier)) (has.each k d earlier)
     | inr later ↦
         let last : k ≡ length places = omega (arith, length-append places (place ∷ [])) in
         let at : slice_index_or (places ++ place ∷ []) k d ≡ place = ap (λ (i : ℕ). slice_index_or (places ++ place ∷ []) i d) last
         ∙ get_or-append_seam places place [] d in
-        subst (λ (i : ℕ). IsProgramFront h program i (slice_index_or (places ++ place ∷ []) k d)) (sym (last ∙ has.count_is))
-        (subst (IsProgramFront h program count) (sym at) has.next)
+        subst (λ (i : ℕ). IsProgramPrefix h program i (slice_index_or (places ++ place ∷ []) k d)) (sym (last ∙ has.count_is))
+        (subst (IsProgramPrefix h program count) (sym at) has.next)
   ];
-  next = front;
+  next = prefix;
 }
 
 -- whole sequences were read, up to here
-pub front_of : (h : HeaderParts) (start : ℕ) (program : List ℕ) (ops : List Op) (at : At) (count place : ℕ)
+pub prefix_of : (h : HeaderParts) (start : ℕ) (program : List ℕ) (ops : List Op) (at : At) (count place : ℕ)
     → OpsSoFar h start program ops at → AtStart (reverse ops)
-    → count ≡ length (sequences_of (rows_of_ops h ops)) → place ≡ length program - length at.rest → IsProgramFront h program count place
-front_of h start program ops at count place so begins count_is place_is = record {
+    → count ≡ length (sequences_of (rows_of_ops h ops)) → place ≡ length program - length at.rest → IsProgramPrefix h program count place
+prefix_of h start program ops at count place so begins count_is place_is = record {
   earlier = ops;
-  front = so.front;
+  prefix = so.prefix;
   rest = at.rest;
   split = so.whole;
-  place_is = omega (arith, place_is, ap length so.whole, length-append so.front at.rest);
+  place_is = omega (arith, place_is, ap length so.whole, length-append so.prefix at.rest);
   spelled = so.spelled;
   start = begins;
   index_is = count_is;
@@ -166,5 +166,5 @@ pub places_kept : (unit : UnitParts) (header : HeaderParts) (program : List ℕ)
 places_kept unit header program places place valid same all fit has = record {
   header_is = same;
   count = has.count_is;
-  places = λ k d few. place_of_front unit program k (slice_index_or places k d) valid all fit (has.each k d few);
+  places = λ k d few. place_of_prefix unit program k (slice_index_or places k d) valid all fit (has.each k d few);
 }

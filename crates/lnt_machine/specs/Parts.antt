@@ -29,7 +29,7 @@ first_sequence (row ∷ rows) = row ∷ cond row.end_sequence [] (first_sequence
 -- The rows of a program with a prefix of whole sequences are the rows of that prefix, followed by those of the rest run as
 -- a program of its own. So are its sequences.
 pub record RowsOfParts : Type 0 where
-  pub rows : (h : HeaderParts) (front rest : List Op) → AreWhole front
-      → rows_of_ops h (front ++ rest) ≡ rows_of_ops h front ++ rows_of_ops h rest
-  pub sequences : (h : HeaderParts) (front rest : List Op) → AreWhole front
-      → sequences_of (rows_of_ops h (front ++ rest)) ≡ sequences_of (rows_of_ops h front) ++ sequences_of (rows_of_ops h rest)
+  pub rows : (h : HeaderParts) (prefix rest : List Op) → AreWhole prefix
+      → rows_of_ops h (prefix ++ rest) ≡ rows_of_ops h prefix ++ rows_of_ops h rest
+  pub sequences : (h : HeaderParts) (prefix rest : List Op) → AreWhole prefix
+      → sequences_of (rows_of_ops h (prefix ++ rest)) ≡ sequences_of (rows_of_ops h prefix) ++ sequences_of (rows_of_ops h rest)

@@ -38,18 +38,18 @@ pub record HasRan (h : HeaderParts) (ops : List Op) (run : RunState) : Type 0 wh
   pub open_is : run.is_open ≡ are_some left
 
 -- A prefix of the program, of this many whole sequences, ends at this place.
-pub record IsProgramFront (h : HeaderParts) (program : List ℕ) (index place : ℕ) : Type 0 where
+pub record IsProgramPrefix (h : HeaderParts) (program : List ℕ) (index place : ℕ) : Type 0 where
   pub earlier : List Op
-  pub front : List ℕ
+  pub prefix : List ℕ
   pub rest : List ℕ
-  pub split : program ≡ front ++ rest
-  pub place_is : place ≡ length front
-  pub spelled : Each (OpBytes h) earlier front
+  pub split : program ≡ prefix ++ rest
+  pub place_is : place ≡ length prefix
+  pub spelled : Each (OpBytes h) earlier prefix
   pub start : AtStart (reverse earlier)
   pub index_is : index ≡ length (sequences_of (rows_of_ops h earlier))
 
 -- This many sequences have ended; their places are known, and that where the next one begins.
 pub record HasPlaces (h : HeaderParts) (program : List ℕ) (count : ℕ) (places : List ℕ) (place : ℕ) : Type 0 where
   pub count_is : length places ≡ count
-  pub each : (k d : ℕ) → k < length places → IsProgramFront h program k (slice_index_or places k d)
-  pub next : IsProgramFront h program count place
+  pub each : (k d : ℕ) → k < length places → IsProgramPrefix h program k (slice_index_or places k d)
+  pub next : IsProgramPrefix h program count place

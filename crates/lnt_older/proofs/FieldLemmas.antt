@@ -7,7 +7,7 @@ use Rattle.lnt_wire.specs.declared.fault.Fault.{Fault}
 use Rattle.lnt_wire.specs.declared.format.Format.{Format}
 use Rattle.lnt_wire.specs.declared.format.Order.{Order}
 use Rattle.lnt_wire.proofs.CodeLaws.{peel}
-use Rattle.lnt_wire.proofs.LengthLaws.{same_front}
+use Rattle.lnt_wire.proofs.LengthLaws.{same_prefix}
 use Rattle.lnt_header.proofs.ReaderLaws.{first_refused, second_refused, reads_both}
 use Rattle.lnt_header.specs.declared.header.Entry.{Entry}
 use Rattle.lnt_header.specs.declared.header.Pair.{Pair}
@@ -18,19 +18,19 @@ use Rattle.lnt_older.specs.OlderFields.{AfterNumbers, AfterNumbersFault, FieldsO
 use Rattle.lnt_older.specs.OlderFields.{TwoListsFault, zero_reasons}
 use Rattle.lnt_older.specs.declared.numbers.OlderNumbers.{OlderNumbers}
 use Rattle.lnt_older.specs.declared.version.OlderVersion.{OlderVersion}
-use Rattle.lnt_older.proofs.ListFaultLemmas.{begins_front, ends_here, listed_code}
+use Rattle.lnt_older.proofs.ListFaultLemmas.{begins_prefix, ends_here, listed_code}
 use Rattle.lnt_older.proofs.NumberLemmas.{numbers_code}
 use Rattle.std.proofs.lemmas.Grind.{common_steps}
 
 -- ---- one value for its bytes
 
 pub lengths_code : (opcode_base : ℕ) → IsCode (LengthsBytes opcode_base)
-lengths_code opcode_base = grind (arith, common_steps, same_front)
+lengths_code opcode_base = grind (arith, common_steps, same_prefix)
 
 -- a list that isn't empty begins with an entry
 begins_list : (format : Format) (order : Order) (pairs : List Pair) (v : Entry) (vs : List Entry) (y : List ℕ)
     → ListBytes format order pairs (v ∷ vs) y → (rest : List ℕ) → BeginsEntry (y ++ rest)
-begins_list format order pairs v vs y q rest = grind (arith, common_steps, begins_front, append_assoc)
+begins_list format order pairs v vs y q rest = grind (arith, common_steps, begins_prefix, append_assoc)
 
 end_of : (format : Format) (order : Order) (pairs : List Pair) (x : List ℕ) → ListBytes format order pairs [] x → x ≡ 0 ∷ []
 end_of format order pairs x p = rw (p.joined, p.first, p.second) refl
@@ -43,11 +43,11 @@ same_list format order pairs [] (v ∷ vs) x y r s p q e =
 same_list format order pairs (u ∷ us) [] x y r s p q e =
     absurd (ends_here y s (x ++ r) (end_of format order pairs y q) (sym e) (begins_list format order pairs u us x p r))
 same_list format order pairs (u ∷ us) (v ∷ vs) x y r s p q e =
-    let all : p.front ++ (p.back ++ r) ≡ q.front ++ (q.back ++ s) = simp (p.joined, q.joined, append_assoc) at e in
-    let one = peel (listed_code format order pairs) u v p.front q.front (p.back ++ r) (q.back ++ s) p.first q.first all in
+    let all : p.prefix ++ (p.back ++ r) ≡ q.prefix ++ (q.back ++ s) = simp (p.joined, q.joined, append_assoc) at e in
+    let one = peel (listed_code format order pairs) u v p.prefix q.prefix (p.back ++ r) (q.back ++ s) p.first q.first all in
     let rest = same_list format order pairs us vs (p.first.back ++ p.back) (q.first.back ++ q.back) r s
-    (record { front = p.first.back; back = p.back; first = p.first.second; second = p.second; joined = refl })
-    (record { front = q.first.back; back = q.back; first = q.first.second; second = q.second; joined = refl })
+    (record { prefix = p.first.back; back = p.back; first = p.first.second; second = p.second; joined = refl })
+    (record { prefix = q.first.back; back = q.back; first = q.first.second; second = q.second; joined = refl })
     (simp append_assoc one.past) in (
       cc (one.value, rest.0),
       simp (p.joined, p.first.joined, q.joined, q.first.joined, append_assoc, one.bytes, rest.1),

@@ -24,9 +24,9 @@ are_bytes : (bytes : List ℕ) → ((i : ℕ) → get_or bytes i 0 < 256) → Al
 are_bytes [] h = tt
 are_bytes (b ∷ bytes) h = (h 0, are_bytes bytes (λ i. h (suc i)))
 
-front_bytes : (x y : List ℕ) → AllByRecursion (λ byte. byte < 256) (x ++ y) → AllByRecursion (λ byte. byte < 256) x
-front_bytes [] y h = tt
-front_bytes (b ∷ x) y h = (h.0, front_bytes x y h.1)
+prefix_bytes : (x y : List ℕ) → AllByRecursion (λ byte. byte < 256) (x ++ y) → AllByRecursion (λ byte. byte < 256) x
+prefix_bytes [] y h = tt
+prefix_bytes (b ∷ x) y h = (h.0, prefix_bytes x y h.1)
 
 pub regroup : (a b c d e : List ℕ) → (a ++ (b ++ (c ++ d))) ++ e ≡ (a ++ b) ++ c ++ d ++ e
 regroup a b c d e = simp append_assoc
@@ -68,7 +68,7 @@ spelled_at version format order bytes n lengths directories files extra old new 
     let p1 = r.spelled in
     let p2 = p1.second in
     let p3 = p2.second in
-    let joined : bytes ≡ older_bytes version h ++ p3.front ++ p3.back ++ extra =
+    let joined : bytes ≡ older_bytes version h ++ p3.prefix ++ p3.back ++ extra =
     sym rest_is ∙ simp (
       r.whole,
       p1.joined,
@@ -80,10 +80,10 @@ spelled_at version format order bytes n lengths directories files extra old new 
       singles_in version h,
       append_assoc,
     ) in
-    let all = front_bytes (older_bytes version h) (p3.front ++ (p3.back ++ extra))
-    (rw (joined ∙ to_right (older_bytes version h) p3.front p3.back extra) at (are_bytes bytes small)) in
+    let all = prefix_bytes (older_bytes version h) (p3.prefix ++ (p3.back ++ extra))
+    (rw (joined ∙ to_right (older_bytes version h) p3.prefix p3.back extra) at (are_bytes bytes small)) in
     record {
-      directories = p3.front;
+      directories = p3.prefix;
       files = p3.back;
       numbers = record {
         address_size = is;

@@ -1,8 +1,8 @@
 pub mod CopiedLemmas
 pub mod DirectoryLemmas
-pub mod Fronts
+pub mod Prefixes
 pub mod FieldLemmas
-pub mod FrontLemmas
+pub mod PrefixLemmas
 pub mod HeaderLemmas
 pub mod ListFaultLemmas
 pub mod ListLemmas

@@ -29,8 +29,8 @@ listed_code format order pairs = record {
 pub ends_here : (bytes more whole : List ℕ) → bytes ≡ 0 ∷ [] → bytes ++ more ≡ whole → BeginsEntry whole → ⊥
 ends_here bytes more whole p e b = zero_begins more whole (rw p at e) b
 
-pub begins_front : (x rest whole : List ℕ) → BeginsEntry x → whole ≡ x ++ rest → BeginsEntry whole
-begins_front x rest whole b e = record { first = b.first; more = b.more ++ rest; some = b.some; joined = rw (e, b.joined) refl }
+pub begins_prefix : (x rest whole : List ℕ) → BeginsEntry x → whole ≡ x ++ rest → BeginsEntry whole
+begins_prefix x rest whole b e = record { first = b.first; more = b.more ++ rest; some = b.some; joined = rw (e, b.joined) refl }
 
 -- after some entries no list goes on: no entry is there, and no zero byte
 none_list : (format : Format) (order : Order) (pairs : List Pair) (us : List Entry) (x rest bytes : List ℕ)
@@ -39,15 +39,15 @@ none_list : (format : Format) (order : Order) (pairs : List Pair) (us : List Ent
 none_list format order pairs [] x rest bytes p whole none goes_on [] y more q e =
     goes_on more (rw (q.joined, q.first, q.second, whole, p) at e)
 none_list format order pairs [] x rest bytes p whole none goes_on (v ∷ vs) y more q e =
-    none v q.first.front (q.first.back ++ (q.back ++ more)) q.first.first (simp (q.joined, q.first.joined, append_assoc, whole, p) at e)
+    none v q.first.prefix (q.first.back ++ (q.back ++ more)) q.first.first (simp (q.joined, q.first.joined, append_assoc, whole, p) at e)
 none_list format order pairs (u ∷ us) x rest bytes p whole none goes_on [] y more q e =
     zero_begins more (x ++ rest) (rw (q.joined, q.first, q.second, whole) at e)
-    (begins_front p.front (p.back ++ rest) (x ++ rest) p.first.some (simp (p.joined, append_assoc)))
+    (begins_prefix p.prefix (p.back ++ rest) (x ++ rest) p.first.some (simp (p.joined, append_assoc)))
 none_list format order pairs (u ∷ us) x rest bytes p whole none goes_on (v ∷ vs) y more q e =
-    let all : q.front ++ (q.back ++ more) ≡ x ++ rest = rw (q.joined, append_assoc, whole) at e in
-    let one = peel (listed_code format order pairs) v u q.front x (q.back ++ more) rest q.first p all in
+    let all : q.prefix ++ (q.back ++ more) ≡ x ++ rest = rw (q.joined, append_assoc, whole) at e in
+    let one = peel (listed_code format order pairs) v u q.prefix x (q.back ++ more) rest q.first p all in
     none_list format order pairs us p.back rest (p.back ++ rest) p.second refl none goes_on vs (q.first.back ++ q.back) more
-    (record { front = q.first.back; back = q.back; first = q.first.second; second = q.second; joined = refl })
+    (record { prefix = q.first.back; back = q.back; first = q.first.second; second = q.second; joined = refl })
     (append_assoc q.first.back q.back more ∙ one.past)
 
 none_listed_entry : (format : Format) (order : Order) (pairs : List Pair) (bytes : List ℕ)
@@ -86,7 +86,7 @@ end_missing format pairs count old middle fault so_far s =
       place = s.place ∙ r.place;
       reason = no_end so_far.entries r.spelled none_left s.reason.reason_is;
       none = none_list format old.order pairs so_far.entries r.spelling middle.rest old.rest r.spelled r.whole
-          (λ v x more p e. let b = begins_front x more [] p.some (sym (e ∙ none_left)) in absurd (cc b.joined))
+          (λ v x more p e. let b = begins_prefix x more [] p.some (sym (e ∙ none_left)) in absurd (cc b.joined))
           (λ more e. absurd (cc (e, none_left)));
     }
 

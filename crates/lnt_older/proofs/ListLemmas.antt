@@ -21,7 +21,7 @@ use Rattle.lnt_older.specs.ListReading.{BeginsWithPath, PassesList}
 use Rattle.lnt_header_bytes.specs.Stepping.{Passes}
 use Rattle.lnt_header_bytes.specs.TableBytes.{ValuesBytes, EntryBytes}
 use Rattle.lnt_header_bytes.proofs.PassLemmas.{refuses_value_passed, values_begun, values_next_passed, values_passed}
-use Rattle.lnt_older.proofs.Fronts.{front_taken}
+use Rattle.lnt_older.proofs.Prefixes.{prefix_taken}
 use Rattle.std.proofs.lemmas.Grind.{common_steps}
 
 -- the bytes of a text end with a zero byte
@@ -39,7 +39,7 @@ path_first format order pairs entry bytes b p = of_values entry.values (rw b.joi
         → (text : List ℕ) × (past : List ℕ) × (bytes ≡ text ++ 0 ∷ past)
     of_values [] q = absurd q
     of_values (v ∷ values) q =
-        let first = text_ends format order v q.1.front (q.0 ∙ b.is_text) q.1.first in
+        let first = text_ends format order v q.1.prefix (q.0 ∙ b.is_text) q.1.first in
         (first.0, q.1.back, simp (q.1.joined, first.1, append_assoc))
 
 entry_long : (format : Format) (order : Order) (pairs : List Pair) (entry : Entry) (bytes : List ℕ) → BeginsWithPath pairs
@@ -104,20 +104,20 @@ pub list_ended : (format : Format) (pairs : List Pair) (count n : ℕ) (bytes al
     → all ≡ old.rest → left ≡ middle.rest → bytes ≡ take (length all - length left) all → PassesList format pairs count bytes old new
 list_ended format pairs count n bytes all left old middle new so_far none r all_is left_is bytes_are =
     let q = so_far.read in
-    let front = front_taken q.spelling (all_is ∙ q.whole) left_is bytes_are in
+    let prefix = prefix_taken q.spelling (all_is ∙ q.whole) left_is bytes_are in
     let ended = zero_read middle.order n r.spelling new.rest middle.rest r.spelled r.whole none in
     record {
       entries = so_far.entries;
       count_is = so_far.count_is;
-      each = rw front q.spelled;
+      each = rw prefix q.spelled;
       read = record {
         spelling = q.spelling ++ r.spelling;
-        spelled = record { front = q.spelling; back = r.spelling; first = q.spelled; second = ended; joined = refl };
+        spelled = record { prefix = q.spelling; back = r.spelling; first = q.spelled; second = ended; joined = refl };
         whole = simp (q.whole, r.whole, append_assoc);
         place = omega (arith, r.place, q.place, length-append q.spelling r.spelling);
         order = r.order ∙ q.order;
       };
-      joined = simp (q.whole, r.whole, ended, front, append_assoc);
+      joined = simp (q.whole, r.whole, ended, prefix, append_assoc);
     }
 
 -- what the walk over an entry cites

@@ -15,7 +15,7 @@ use Rattle.lnt_wire.specs.declared.format.Order.{Order}
 use Rattle.lnt_wire.proofs.FrameFaultLaws.{frame_fault_at, IsFrameFaultAt, outside_none, same_frame}
 use Rattle.lnt_wire.proofs.FrameFaultLaws.IsFrameFaultAt.{outside_frame, in_version}
 use Rattle.lnt_wire.proofs.FrameLaws.{no_frame}
-use Rattle.lnt_wire.proofs.LengthLaws.{length-number_bytes, same_front, same_length, same_number_front, width_2}
+use Rattle.lnt_wire.proofs.LengthLaws.{length-number_bytes, same_prefix, same_length, same_number_prefix, width_2}
 use Rattle.lnt_wire.proofs.ValueLaws.{offset_width}
 use Rattle.lnt_header.specs.declared.header.HeaderParts.{HeaderParts}
 use Rattle.lnt_header_bytes.specs.StartBytes.{CountedBytes}
@@ -24,10 +24,10 @@ use Rattle.lnt_older.specs.OlderBytes.{older_body, OlderBytes, OlderFieldsBytes}
 use Rattle.lnt_older.specs.OlderFields.{FieldsOf, number_fields}
 use Rattle.lnt_older.specs.OlderUnits.{AnyBytes}
 use Rattle.lnt_older.specs.OlderUnits.AnyParts.{five_parts, older_parts}
-use Rattle.lnt_older.specs.UnitReading.{front_body, PastBytes, ReadsFront}
+use Rattle.lnt_older.specs.UnitReading.{prefix_body, PastBytes, ReadsPrefix}
 use Rattle.lnt_older.specs.Versions.{version_number}
-use Rattle.lnt_older.specs.declared.front.Front.{Front}
-use Rattle.lnt_older.specs.declared.front.UnitVersion.TheVariants.{Older}
+use Rattle.lnt_older.specs.declared.prefix.Prefix.{Prefix}
+use Rattle.lnt_older.specs.declared.prefix.UnitVersion.TheVariants.{Older}
 use Rattle.lnt_older.specs.declared.version.OlderVersion.{OlderVersion}
 use Rattle.lnt_older.specs.declared.version.OlderVersion.TheVariants.{Two, Three, Four}
 use Rattle.lnt_older.proofs.HeaderLemmas.{numbers_in, singles_in}
@@ -60,7 +60,7 @@ other_version : (order : Order) (reason : Reason) (version : OlderVersion) (left
     → IsVersionFault order reason left → left ≡ number_bytes order 2 (version_number version) ++ rest → ⊥
 other_version order Truncated version left rest other k e = omega (arith, k, ap length e, length-append {A = ℕ}, length-number_bytes)
 other_version order (VersionNotFive v) version left rest other k e =
-    let same = same_number_front order 2 width_2 v (version_number version) k.0 rest k.1 (small_version version) (sym k.3 ∙ e) in
+    let same = same_number_prefix order 2 width_2 v (version_number version) k.0 rest k.1 (small_version version) (sym k.3 ∙ e) in
     other version (ap VersionNotFive same.0)
 other_version order reason version left rest other k e = absurd k
 
@@ -105,7 +105,7 @@ fields_none version h bytes p none =
     let some : 0 < h.opcode_base = omega (arith, p.numbers.opcode_base) in
     none (numbers_in h, (lengths, (h.directories, h.files))) (numbers ++ (lengths ++ (p.directories ++ p.files))) h.extra
     (record {
-      front = numbers;
+      prefix = numbers;
       back = lengths ++ (p.directories ++ p.files);
       first = record {
         spelled = refl;
@@ -116,11 +116,11 @@ fields_none version h bytes p none =
         opcode_base = some;
       };
       second = record {
-        front = lengths;
+        prefix = lengths;
         back = p.directories ++ p.files;
         first = (p.numbers.opcode_base, p.numbers.lengths, refl);
         second = record
-            { front = p.directories; back = p.files; first = p.directory_list; second = p.file_list; joined = refl };
+            { prefix = p.directories; back = p.files; first = p.directory_list; second = p.file_list; joined = refl };
         joined = refl;
       };
       joined = refl;
@@ -132,7 +132,7 @@ pub none_counted : (format : Format) (version : OlderVersion) (order : Order) (b
 none_counted format version order bytes none unit x more p e =
     let number = number_bytes order (offset_size format) (length p.fields) in
     none p.fields (number ++ p.fields) (unit.1 ++ more)
-    (record { front = number; back = p.fields; first = record { fits = p.small; spelled = refl }; second = refl; joined = refl })
+    (record { prefix = number; back = p.fields; first = record { fits = p.small; spelled = refl }; second = refl; joined = refl })
     (sym (to_pairs number p.fields unit.1 more) ∙ (rw p.joined at e))
 
 -- where a field that it counts is at fault
@@ -140,9 +140,9 @@ pub none_of_fields : (format : Format) (version : OlderVersion) (order : Order) 
     → length counted < 256 ^ offset_size format → bytes ≡ number_bytes order (offset_size format) (length counted) ++ (counted ++ rest)
     → NoneSpelled (FieldsOf version format order) counted → NoneSpelled (PastBytes format version order) bytes
 none_of_fields format version order counted rest bytes small whole none unit x more p e =
-    let found = same_number_front order (offset_size format) (offset_width format) (length p.fields) (length counted)
+    let found = same_number_prefix order (offset_size format) (offset_width format) (length p.fields) (length counted)
     (p.fields ++ (unit.1 ++ more)) (counted ++ rest) p.small small (simp (p.joined, append_assoc, whole) at e) in
-    let same : p.fields ≡ counted = same_front p.fields counted (unit.1 ++ more) rest found.0 found.1 in
+    let same : p.fields ≡ counted = same_prefix p.fields counted (unit.1 ++ more) rest found.0 found.1 in
     fields_none version unit.0 p.fields p.counted (rw (p.format_is, p.order_is, same) none)
 
 -- ---- whole units
@@ -150,32 +150,32 @@ none_of_fields format version order counted rest bytes small whole none unit x m
 pub one_body : (order : Order) (f g : Format) (body other left more bytes : List ℕ) → LengthFits f (length body)
     → LengthFits g (length other) → bytes ≡ frame_bytes order f body ++ left → frame_bytes order g other ++ more ≡ bytes
     → (g ≡ f) × (other ≡ body)
-one_body order f g body other left more bytes fits fits' e d = grind (arith, common_steps, same_length, append_assoc, same_front)
+one_body order f g body other left more bytes fits fits' e d = grind (arith, common_steps, same_length, append_assoc, same_prefix)
 
 -- where nothing of an older unit stands after its version
-pub none_of_unit : (front : Front) (version : OlderVersion) (old new : At) → ReadsFront front old new → front.version ≡ Older version
-    → NoneSpelled (PastBytes front.format version old.order) front.past.now → NoneSpelled (AnyBytes old.order) old.rest
-none_of_unit front version old new r version_is none (five_parts format body) x more p e =
+pub none_of_unit : (prefix : Prefix) (version : OlderVersion) (old new : At) → ReadsPrefix prefix old new → prefix.version ≡ Older version
+    → NoneSpelled (PastBytes prefix.format version old.order) prefix.past.now → NoneSpelled (AnyBytes old.order) old.rest
+none_of_unit prefix version old new r version_is none (five_parts format body) x more p e =
     let order = old.order in
-    let found = one_body order front.format format (front_body order front) body new.rest more old.rest r.fits p.fits r.whole
+    let found = one_body order prefix.format format (prefix_body order prefix) body new.rest more old.rest r.fits p.fits r.whole
     (rw p.joined at e) in
-    let same = same_number_front order 2 width_2 5 (version_number version) p.version.past front.past.now (omega arith)
+    let same = same_number_prefix order 2 width_2 5 (version_number version) p.version.past prefix.past.now (omega arith)
     (small_version version) (sym p.version.joined ∙ found.1 ∙ rw version_is refl) in
     not_five version same.0
-none_of_unit front version old new r version_is none (older_parts h program) x more p e =
+none_of_unit prefix version old new r version_is none (older_parts h program) x more p e =
     let order = old.order in
     let q = p.1 in
     let body = older_body q.version h q.fields program in
     let size = offset_size h.format in
-    let found = one_body order front.format h.format (front_body order front) body new.rest more old.rest r.fits q.fits r.whole
+    let found = one_body order prefix.format h.format (prefix_body order prefix) body new.rest more old.rest r.fits q.fits r.whole
     (ap (λ (z : List ℕ). z ++ more) (sym (q.joined ∙ ap (λ (o : Order). frame_bytes o h.format body) p.0)) ∙ e) in
     let other_is : body ≡ number_bytes order 2 (version_number q.version)
     ++ (number_bytes order size (length q.fields) ++ (q.fields ++ program)) = simp (p.0, append_assoc) in
-    let same = same_number_front order 2 width_2 (version_number q.version) (version_number version)
-    (number_bytes order size (length q.fields) ++ (q.fields ++ program)) front.past.now (small_version q.version)
+    let same = same_number_prefix order 2 width_2 (version_number q.version) (version_number version)
+    (number_bytes order size (length q.fields) ++ (q.fields ++ program)) prefix.past.now (small_version q.version)
     (small_version version) (sym other_is ∙ found.1 ∙ rw version_is refl) in
     let few : length q.fields ≤ length body = omega (arith, length-append {A = ℕ}) in
-    none (h, program) front.past.now []
+    none (h, program) prefix.past.now []
     (record {
       fields = q.fields;
       format_is = found.0;
@@ -183,4 +183,4 @@ none_of_unit front version old new r version_is none (older_parts h program) x m
       counted = rw (same_version q.version version same.0) at q.counted;
       small = rw found.0 at (below h.format (length body) (length q.fields) q.fits few);
       joined = sym same.1 ∙ rw found.0 refl;
-    }) (append-nil front.past.now)
+    }) (append-nil prefix.past.now)

@@ -7,7 +7,7 @@ use Rattle.lnt_wire.specs.At.{At}
 use Rattle.lnt_wire.specs.Bytes.{IsCode}
 use Rattle.lnt_wire.specs.Reading.{Reads, Refuses}
 use Rattle.lnt_wire.specs.declared.fault.Fault.{Fault}
-use Rattle.lnt_wire.proofs.LengthLaws.{same_front}
+use Rattle.lnt_wire.proofs.LengthLaws.{same_prefix}
 use Rattle.lnt_header.proofs.ReaderLaws.{reads_map, refuses_map}
 use Rattle.lnt_older.specs.OlderFields.{IsSoundFault, NumbersBytes, number_fields, SoundBytes, zero_reasons}
 use Rattle.lnt_older.specs.declared.numbers.OlderNumbers.{OlderNumbers}
@@ -56,4 +56,4 @@ number_count Four n m = refl
 number_count version n m = refl
 
 pub numbers_code : (version : OlderVersion) → IsCode (NumbersBytes version)
-numbers_code version = grind (arith, common_steps, same_front, number_count, same_of)
+numbers_code version = grind (arith, common_steps, same_prefix, number_count, same_of)

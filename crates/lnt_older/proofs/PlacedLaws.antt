@@ -13,14 +13,14 @@ pub placed_more : {A : Type 0} (Says : ℕ × A → List ℕ → Type 0) (offset
     (x : List ℕ) → PlacedFrom Says offset items bytes → item.0 ≡ offset + length bytes → Says item x
     → PlacedFrom Says offset (items ++ item ∷ []) (bytes ++ x)
 placed_more Says offset [] bytes item x none at says = (x, [], omega (arith, at, ap length none), says, rw none (sym (append-nil x)), refl)
-placed_more Says offset (i ∷ items) bytes item x (front, back, here, so, joined, rest) at says = (
-  front,
+placed_more Says offset (i ∷ items) bytes item x (prefix, back, here, so, joined, rest) at says = (
+  prefix,
   back ++ x,
   here,
   so,
-  rw joined (append_assoc front back x),
-  placed_more Says (offset + length front) items back item x rest
-      (omega (arith, at, ap length joined, length-append front back)) says,
+  rw joined (append_assoc prefix back x),
+  placed_more Says (offset + length prefix) items back item x rest
+      (omega (arith, at, ap length joined, length-append prefix back)) says,
 )
 
 -- the items after the first one, whose bytes are these
@@ -29,9 +29,9 @@ placed_past : {A : Type 0} (Says : ℕ × A → List ℕ → Type 0) (offset : �
     → bytes ≡ x ++ rest → (others : List (ℕ × A)) × PlacedFrom Says (offset + length x) others rest
 placed_past Says offset [] bytes x rest some once none whole =
     absurd (omega (arith, some, ap length none, ap length whole, length-append x rest))
-placed_past Says offset (item ∷ items) bytes x rest some once (front, back, here, so, joined, others) whole =
-    let same = once item front back so (sym joined ∙ whole) in
-    (items, rw (same, same_rest front x back rest same (sym joined ∙ whole)) at others)
+placed_past Says offset (item ∷ items) bytes x rest some once (prefix, back, here, so, joined, others) whole =
+    let same = once item prefix back so (sym joined ∙ whole) in
+    (items, rw (same, same_rest prefix x back rest same (sym joined ∙ whole)) at others)
 
 module _ {A : Type 0} (Says : Order → ℕ × A → List ℕ → Type 0) where
   -- at the beginning all are left

@@ -21,32 +21,32 @@ same_from : (order : Order) (directories : List Directory) (m n : ℕ) (units : 
     (section result : List ℕ) → UnitsFrom order m units section → PlacedFrom (λ unit. AnyBytes order unit.1) n others section
     → Each (UpgradedBytes order directories) others result → result ≡ section
 same_from order directories m n [] [] section result p q e = e ∙ sym p
-same_from order directories m n [] (other ∷ others) section result p (front, back, here, so, joined, rest) e =
-    absurd (omega (arith, some_bytes order other.1 front so, ap length joined, ap length p, length-append front back))
-same_from order directories m n (unit ∷ units) [] section result (front, back, here, spelled, joined, rest) q e =
+same_from order directories m n [] (other ∷ others) section result p (prefix, back, here, so, joined, rest) e =
+    absurd (omega (arith, some_bytes order other.1 prefix so, ap length joined, ap length p, length-append prefix back))
+same_from order directories m n (unit ∷ units) [] section result (prefix, back, here, spelled, joined, rest) q e =
     absurd (omega (
       arith,
-      some_bytes order (five_of order unit.1 front spelled) front (unit_frame order unit.1 front spelled),
+      some_bytes order (five_of order unit.1 prefix spelled) prefix (unit_frame order unit.1 prefix spelled),
       ap length joined,
       ap length q,
-      length-append front back,
+      length-append prefix back,
     ))
 same_from order directories m n (unit ∷ units) ((offset, five_parts format body) ∷ others) section result
-    (front, back, here, spelled, joined, rest) (first, after, there, so, whole, more) e =
-    let same : front ≡ first = any_once order (five_of order unit.1 front spelled) (five_parts format body) front first back after
-    (unit_frame order unit.1 front spelled) so (sym joined ∙ whole) in
+    (prefix, back, here, spelled, joined, rest) (first, after, there, so, whole, more) e =
+    let same : prefix ≡ first = any_once order (five_of order unit.1 prefix spelled) (five_parts format body) prefix first back after
+    (unit_frame order unit.1 prefix spelled) so (sym joined ∙ whole) in
     let past : back ≡ after = append_cancel_left first back after (ap (λ (z : List ℕ). z ++ back) (sym same) ∙ (sym joined ∙ whole)) in
-    let copied : e.front ≡ first = frame_once order format body e.front first e.first so in
-    let later : e.back ≡ after = same_from order directories (m + length front) (n + length first) units others after e.back
-    (subst (λ (z : List ℕ). UnitsFrom order (m + length front) units z) past rest) more e.second in
+    let copied : e.prefix ≡ first = frame_once order format body e.prefix first e.first so in
+    let later : e.back ≡ after = same_from order directories (m + length prefix) (n + length first) units others after e.back
+    (subst (λ (z : List ℕ). UnitsFrom order (m + length prefix) units z) past rest) more e.second in
     e.joined ∙ (ap (λ (z : List ℕ). z ++ e.back) copied ∙ (ap (λ (z : List ℕ). first ++ z) later ∙ sym whole))
 same_from order directories m n (unit ∷ units) ((offset, older_parts h program) ∷ others) section result
-    (front, back, here, spelled, joined, rest) (first, after, there, so, whole, more) e =
-    let five = unit_frame order unit.1 front spelled in
-    let same : front ≡ first = any_once order (five_of order unit.1 front spelled) (older_parts h program) front first back after five so
+    (prefix, back, here, spelled, joined, rest) (first, after, there, so, whole, more) e =
+    let five = unit_frame order unit.1 prefix spelled in
+    let same : prefix ≡ first = any_once order (five_of order unit.1 prefix spelled) (older_parts h program) prefix first back after five so
     (sym joined ∙ whole) in
     absurd (five_not_older order unit.1.header.format (unit_body unit.1.header spelled.spelled.whole.fields spelled.spelled.program) h
-    program front five (subst (λ (z : List ℕ). AnyBytes order (older_parts h program) z) (sym same) so))
+    program prefix five (subst (λ (z : List ℕ). AnyBytes order (older_parts h program) z) (sym same) so))
 
 pub same_section : SameSection
 same_section order size directories units section result sound u =

@@ -8,7 +8,7 @@ use Rattle.lnt_wire.specs.Numbers.{number_bytes, offset_size}
 use Rattle.lnt_wire.specs.declared.format.Format.{Format}
 use Rattle.lnt_wire.specs.declared.format.Format.TheVariants.{D32, D64}
 use Rattle.lnt_wire.specs.declared.format.Order.{Order}
-use Rattle.lnt_wire.proofs.LengthLaws.{length-number_bytes, same_front, same_number_front, same_rest, width_2}
+use Rattle.lnt_wire.proofs.LengthLaws.{length-number_bytes, same_prefix, same_number_prefix, same_rest, width_2}
 use Rattle.lnt_wire.proofs.ValueLaws.{offset_width}
 use Rattle.lnt_header.specs.HeaderRules.{IsAddressSize}
 use Rattle.lnt_header.specs.Joins.{Each}
@@ -45,14 +45,14 @@ one_version : (format : Format) (order : Order) (v w : OlderVersion) (fields oth
     → (v ≡ w) × (number_bytes order (offset_size format) (length fields) ++ (fields ++ program)
     ≡ number_bytes order (offset_size format) (length other) ++ (other ++ past))
 one_version format order v w fields other program past e =
-    grind (arith, common_steps, same_number_front, width_2, small_version, append_assoc, same_version)
+    grind (arith, common_steps, same_number_prefix, width_2, small_version, append_assoc, same_version)
 
 same_body : (format : Format) (order : Order) (v w : OlderVersion) (fields other program past : List ℕ)
     → LengthFits format (length (body_bytes format order v fields program))
     → LengthFits format (length (body_bytes format order w other past))
     → body_bytes format order v fields program ≡ body_bytes format order w other past → SameBody v w fields other program past
 same_body format order v w fields other program past fits fits' e =
-    grind (arith, common_steps, one_version, same_number_front, offset_width, fields_fit, same_front, same_rest)
+    grind (arith, common_steps, one_version, same_number_prefix, offset_width, fields_fit, same_prefix, same_rest)
 
 -- ---- headers
 
@@ -85,9 +85,9 @@ same_listed : (format : Format) (order : Order) (pairs : List Pair) (entries oth
     → (x ++ 0 ∷ []) ++ r ≡ (y ++ 0 ∷ []) ++ s → SameList entries others x y r s
 same_listed format order pairs entries others x y r s p q e =
     let first : ListBytes format order pairs entries (x ++ 0 ∷ []) =
-    record { front = x; back = 0 ∷ []; first = p; second = refl; joined = refl } in
+    record { prefix = x; back = 0 ∷ []; first = p; second = refl; joined = refl } in
     let second : ListBytes format order pairs others (y ++ 0 ∷ []) =
-    record { front = y; back = 0 ∷ []; first = q; second = refl; joined = refl } in
+    record { prefix = y; back = 0 ∷ []; first = q; second = refl; joined = refl } in
     let found = (list_code format order pairs).one entries others (x ++ 0 ∷ []) (y ++ 0 ∷ []) r s first second e in
     record {
       count = ap length found.0;
@@ -158,7 +158,7 @@ initial_size D64 order m n = omega (arith, length-append {A = ℕ}, length-numbe
 -- in one format and order the bytes of a frame are those of one body
 frame_body : (format : Format) (order : Order) (body other : List ℕ) → frame_bytes order format body ≡ frame_bytes order format other
     → body ≡ other
-frame_body format order body other e = grind (arith, common_steps, same_rest, same_front, initial_size)
+frame_body format order body other e = grind (arith, common_steps, same_rest, same_prefix, initial_size)
 
 joined_here : (unit : OlderUnit) (size : ℕ) (at next : At) (bytes : List ℕ) → IsAddressSize size → ReadsOlder unit at next
     → at.rest ≡ bytes ++ next.rest → IsJoined unit unit.order bytes

@@ -33,7 +33,7 @@ module _ (Says : Order → ℕ × AnyParts → List ℕ → Type 0)
     (spelled : (order : Order) (unit : ℕ × AnyParts) (bytes : List ℕ) → Says order unit bytes → AnyBytes order unit.1 bytes) where
   pub unit_next : (at : At) → AreLeft Says at → 0 < length at.rest → IsUnitNext at
   unit_next at ([], none) some = absurd (omega (arith, some, ap length none))
-  unit_next at (unit ∷ units, (front, back, here, so, joined, rest)) some = (unit.1, front, back, spelled at.order unit front so, joined)
+  unit_next at (unit ∷ units, (prefix, back, here, so, joined, rest)) some = (unit.1, prefix, back, spelled at.order unit prefix so, joined)
 
   pub fewer_left : (at next : At) (parts : AnyParts) → AreLeft Says at → Reads (AnyBytes at.order) parts at next → AreLeft Says next
   fewer_left at next parts left r = left_after Says (AnyBytes at.order) parts at next r (some_bytes at.order parts r.spelling r.spelled)

@@ -28,13 +28,13 @@ pub record Newer (order : Order) (size : ℕ) (directories : List Directory) (of
 pub newer_of : (order : Order) (size : ℕ) (directories : List Directory) (offset : ℕ) (units : List (ℕ × AnyParts)) (bytes : List ℕ)
     → PlacedFrom (CanBeUpgraded order size directories) offset units bytes → Newer order size directories offset units bytes
 newer_of order size directories offset [] bytes none = record { sound = none; sizes = tt; newer = []; upgraded = refl }
-newer_of order size directories offset (unit ∷ units) bytes (front, back, here, so, joined, rest) =
-    let others = newer_of order size directories (offset + length front) units back rest in
+newer_of order size directories offset (unit ∷ units) bytes (prefix, back, here, so, joined, rest) =
+    let others = newer_of order size directories (offset + length prefix) units back rest in
     record {
-      sound = (front, back, here, so.spelled, joined, others.sound);
+      sound = (prefix, back, here, so.spelled, joined, others.sound);
       sizes = (so.size, others.sizes);
       newer = so.newer ++ others.newer;
-      upgraded = record { front = so.newer; back = others.newer; first = so.upgraded; second = others.upgraded; joined = refl };
+      upgraded = record { prefix = so.newer; back = others.newer; first = so.upgraded; second = others.upgraded; joined = refl };
     }
 
 pub added_long : (size : ℕ) (directories : List Directory) (at next : At) (old new : List ℕ) → AddsAny size directories at next old new
@@ -74,7 +74,7 @@ module _ (order : Order) (size : ℕ) (directories : List Directory) (section : 
       let w = s.walked in
       let before = newer_of order size directories 0 s.units w.done w.sound in
       rw here (record {
-        front = w.done;
+        prefix = w.done;
         unit = l.unit;
         rest = l.more;
         joined = rw (w.joined, l.joined) refl;

@@ -15,7 +15,7 @@ use Rattle.lnt_older.specs.ByteReading.{ByteOf, IsByteFault}
 use Rattle.lnt_older.specs.ByteReading.IsByteFault.{no_byte, is_zero}
 use Rattle.lnt_older.specs.OlderFields.{AreFieldBytes, IsSoundFault, MayBe, SoundBytes}
 use Rattle.lnt_older.specs.OlderFields.IsSoundFault.{missing, zero_byte}
-use Rattle.lnt_older.proofs.Fronts.{front_taken}
+use Rattle.lnt_older.proofs.Prefixes.{prefix_taken}
 use Rattle.std.proofs.lemmas.Grind.{common_steps}
 
 -- ---- one byte
@@ -92,17 +92,17 @@ next_so_far zero_reasons i d b old middle new lt s r =
 pub all_so_far : (zero_reasons : List (Option Reason)) (count : ℕ) (bytes all left : List ℕ) (old new : At) → length zero_reasons ≤ count
     → BytesSoFar zero_reasons count old new → all ≡ old.rest → left ≡ new.rest → bytes ≡ take (length all - length left) all
     → Reads (SoundBytes zero_reasons) bytes old new
-all_so_far zero_reasons count bytes all left old new le s all_is left_is bytes_are = grind (arith, common_steps, take_all, front_taken)
+all_so_far zero_reasons count bytes all left old new le s all_is left_is bytes_are = grind (arith, common_steps, take_all, prefix_taken)
 
-none_sound : (done : List (Option Reason)) (rule : Option Reason) (past : List (Option Reason)) (front rest x more : List ℕ)
-    → AreFieldBytes done front → NoneSpelled (ByteOf rule) rest → AreFieldBytes (done ++ rule ∷ past) x → x ++ more ≡ front ++ rest → ⊥
+none_sound : (done : List (Option Reason)) (rule : Option Reason) (past : List (Option Reason)) (prefix rest x more : List ℕ)
+    → AreFieldBytes done prefix → NoneSpelled (ByteOf rule) rest → AreFieldBytes (done ++ rule ∷ past) x → x ++ more ≡ prefix ++ rest → ⊥
 none_sound [] rule past [] rest [] more s none p e = p
 none_sound [] rule past [] rest (b ∷ x) more s none p e = none b (b ∷ []) (x ++ more) (p.0, refl) e
-none_sound (d ∷ done) rule past (f ∷ front) rest [] more s none p e = p
-none_sound (d ∷ done) rule past (f ∷ front) rest (b ∷ x) more s none p e =
-    let tails : x ++ more ≡ front ++ rest = cc in
-    none_sound done rule past front rest x more s.1 none p.1 tails
-none_sound done rule past front rest x more s none p e = s
+none_sound (d ∷ done) rule past (f ∷ prefix) rest [] more s none p e = p
+none_sound (d ∷ done) rule past (f ∷ prefix) rest (b ∷ x) more s none p e =
+    let tails : x ++ more ≡ prefix ++ rest = cc in
+    none_sound done rule past prefix rest x more s.1 none p.1 tails
+none_sound done rule past prefix rest x more s none p e = s
 
 fault_of : (rules done : List (Option Reason)) (rule : Option Reason) (past : List (Option Reason)) (reason : Reason) (before left : List ℕ)
     → rules ≡ done ++ rule ∷ past → AreFieldBytes done before → IsByteFault rule reason left → IsSoundFault rules reason before left

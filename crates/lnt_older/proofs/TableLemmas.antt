@@ -20,7 +20,7 @@ use Rattle.lnt_header_bytes.proofs.TableLaws.{entry_code}
 use Rattle.lnt_older.specs.ListReading.{BeginsWithPath}
 use Rattle.lnt_older.specs.OlderBytes.{BeginsEntry, directory_pairs, file_pairs, ListedBytes}
 use Rattle.lnt_older.specs.Upgraded.{CountedTable}
-use Rattle.lnt_older.proofs.Fronts.{front_taken}
+use Rattle.lnt_older.proofs.Prefixes.{prefix_taken}
 use Rattle.lnt_older.proofs.ListLemmas.{path_first, zero_begins}
 use Rattle.lnt_older.specs.Upgrading.{HasFiles, IsCountFromZero, IsFileZero}
 use Rattle.std.proofs.lemmas.Grind.{common_steps}
@@ -34,7 +34,7 @@ one_byte_leb n lt = record { shape = lt; value = omega (arith, lt); fits = omega
 pair_spelled : (content code : ℕ) (pair : Pair) → pair.content ≡ content → form_code pair.form ≡ code → content < 128 → code < 128
     → PairBytes pair (content ∷ code ∷ [])
 pair_spelled content code pair content_is code_is lt lu = record {
-  front = content ∷ [];
+  prefix = content ∷ [];
   back = code ∷ [];
   first = rw content_is (one_byte_leb content lt);
   second = rw code_is (one_byte_leb code lu);
@@ -43,7 +43,7 @@ pair_spelled content code pair content_is code_is lt lu = record {
 
 pub one_pair : Each PairBytes directory_pairs (1 ∷ 8 ∷ [])
 one_pair = record {
-  front = 1 ∷ 8 ∷ [];
+  prefix = 1 ∷ 8 ∷ [];
   back = [];
   first = pair_spelled 1 8 (record { content = 1; form = forms.Text }) refl refl (omega arith) (omega arith);
   second = refl;
@@ -55,18 +55,18 @@ number_pair content lt = pair_spelled content 15 (record { content = content; fo
 
 pub four_pairs : Each PairBytes file_pairs (1 ∷ 8 ∷ 2 ∷ 15 ∷ 3 ∷ 15 ∷ 4 ∷ 15 ∷ [])
 four_pairs = record {
-  front = 1 ∷ 8 ∷ [];
+  prefix = 1 ∷ 8 ∷ [];
   back = 2 ∷ 15 ∷ 3 ∷ 15 ∷ 4 ∷ 15 ∷ [];
   first = pair_spelled 1 8 (record { content = 1; form = forms.Text }) refl refl (omega arith) (omega arith);
   second = record {
-    front = 2 ∷ 15 ∷ [];
+    prefix = 2 ∷ 15 ∷ [];
     back = 3 ∷ 15 ∷ 4 ∷ 15 ∷ [];
     first = number_pair 2 (omega arith);
     second = record {
-      front = 3 ∷ 15 ∷ [];
+      prefix = 3 ∷ 15 ∷ [];
       back = 4 ∷ 15 ∷ [];
       first = number_pair 3 (omega arith);
-      second = record { front = 4 ∷ 15 ∷ []; back = []; first = number_pair 4 (omega arith); second = refl; joined = refl };
+      second = record { prefix = 4 ∷ 15 ∷ []; back = []; first = number_pair 4 (omega arith); second = refl; joined = refl };
       joined = refl;
     };
     joined = refl;
@@ -87,7 +87,7 @@ pub each_listed : (format : Format) (order : Order) (pairs : List Pair) (entries
     → Each (ListedBytes format order pairs) entries bytes → Each (EntryBytes format order pairs) entries bytes
 each_listed format order pairs [] bytes p = p
 each_listed format order pairs (entry ∷ entries) bytes p = record {
-  front = p.front;
+  prefix = p.prefix;
   back = p.back;
   first = p.first.spelled;
   second = each_listed format order pairs entries p.back p.second;
@@ -107,19 +107,19 @@ listed_few format order pairs (entry ∷ entries) bytes path p =
       arith,
       listed_few format order pairs entries p.back path p.second,
       ap length p.joined,
-      length-append p.front p.back,
-      two_bytes p.front p.first.some (path_first format order pairs entry p.front path p.first.spelled),
+      length-append p.prefix p.back,
+      two_bytes p.prefix p.first.some (path_first format order pairs entry p.prefix path p.first.spelled),
     )
 
 pub each_append : {X : Type 0} (P : X → List ℕ → Type 0) (us vs : List X) (x y : List ℕ) → Each P us x → Each P vs y
     → Each P (us ++ vs) (x ++ y)
 each_append P [] vs x y p q = subst (Each P vs) (ap (λ (z : List ℕ). z ++ y) (sym p)) q
 each_append P (u ∷ us) vs x y p q = record {
-  front = p.front;
+  prefix = p.prefix;
   back = p.back ++ y;
   first = p.first;
   second = each_append P us vs p.back y p.second q;
-  joined = ap (λ (z : List ℕ). z ++ y) p.joined ∙ append_assoc p.front p.back y;
+  joined = ap (λ (z : List ℕ). z ++ y) p.joined ∙ append_assoc p.prefix p.back y;
 }
 
 pub directory_spelled : (format : Format) (order : Order) (text : List ℕ) → HasNoZero text
@@ -149,19 +149,19 @@ first_file_zero format order count listed bytes left old new some rest_is order_
     absurd (some (sym count_is))
 first_file_zero format order count listed bytes left old new some rest_is order_is p left_is bytes_are (file ∷ files) count_is each =
     let whole : listed ≡ p.read.spelling ++ new.rest = sym rest_is ∙ p.read.whole in
-    let same = (entry_code format order file_pairs).one file p.value each.front p.read.spelling each.back new.rest
+    let same = (entry_code format order file_pairs).one file p.value each.prefix p.read.spelling each.back new.rest
     each.first.spelled (subst (λ (o : Order). EntryBytes format o file_pairs p.value p.read.spelling) order_is p.read.spelled)
     (sym each.joined ∙ whole) in
-    let here : bytes ≡ each.front = front_taken p.read.spelling whole left_is bytes_are ∙ sym same.1 in
+    let here : bytes ≡ each.prefix = prefix_taken p.read.spelling whole left_is bytes_are ∙ sym same.1 in
     record {
       others = each.back;
       joined = rw here each.joined;
       spelled = record {
-        front = each.front;
+        prefix = each.prefix;
         back = [];
         first = each.first.spelled;
         second = refl;
-        joined = here ∙ sym (append-nil each.front);
+        joined = here ∙ sym (append-nil each.prefix);
       };
     }
 
@@ -172,5 +172,5 @@ first_file_there format order count listed old has some rest_is order_is none = 
     at : (files : List Entry) → length files ≡ count → Each (ListedBytes format order file_pairs) files listed → ⊥
     at [] count_is lie = some (sym count_is)
     at (file ∷ files) count_is each =
-        none file each.front each.back (subst (λ (o : Order). EntryBytes format o file_pairs file each.front) (sym order_is)
+        none file each.prefix each.back (subst (λ (o : Order). EntryBytes format o file_pairs file each.prefix) (sym order_is)
         each.first.spelled) (sym each.joined ∙ sym rest_is)

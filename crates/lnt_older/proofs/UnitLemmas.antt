@@ -18,16 +18,16 @@ use Rattle.lnt_header_bytes.specs.StartFaults.{IsCountedFault}
 use Rattle.lnt_older.specs.OlderFields.{FieldsOf, IsFieldsFault, IsReadHeader}
 use Rattle.lnt_older.specs.OlderUnits.{AnyBytes, IsAnyFault, IsOlderUnit, IsSoundUnit, ReadsAny, ReadsOlder}
 use Rattle.lnt_older.specs.OlderUnits.IsAnyFault.{header_length, of_fields}
-use Rattle.lnt_older.specs.UnitReading.{front_body, IsAnyBodyFault, IsAnyOf, IsBodyFault, IsPastFault, IsOlderOf, ReadsFront}
+use Rattle.lnt_older.specs.UnitReading.{prefix_body, IsAnyBodyFault, IsAnyOf, IsBodyFault, IsPastFault, IsOlderOf, ReadsPrefix}
 use Rattle.lnt_older.specs.UnitReading.IsPastFault.{of_length, of_field}
 use Rattle.lnt_older.specs.Versions.{version_number}
-use Rattle.lnt_older.specs.declared.front.Front.{Front}
-use Rattle.lnt_older.specs.declared.front.UnitVersion.TheVariants.{Older}
+use Rattle.lnt_older.specs.declared.prefix.Prefix.{Prefix}
+use Rattle.lnt_older.specs.declared.prefix.UnitVersion.TheVariants.{Older}
 use Rattle.lnt_older.specs.declared.unit.AnyUnit.{AnyUnit}
 use Rattle.lnt_older.specs.declared.unit.AnyUnit.TheVariants as units
 use Rattle.lnt_older.specs.declared.unit.OlderUnit.{OlderUnit}
 use Rattle.lnt_older.specs.declared.version.OlderVersion.{OlderVersion}
-use Rattle.lnt_older.proofs.FrontLemmas.{five_read}
+use Rattle.lnt_older.proofs.PrefixLemmas.{five_read}
 use Rattle.lnt_older.proofs.HeaderLemmas.{moved_numbers}
 use Rattle.lnt_older.proofs.NoUnitLemmas.{none_counted, none_of_fields, none_of_unit, to_pairs}
 use Rattle.std.proofs.lemmas.Grind.{common_steps}
@@ -47,37 +47,37 @@ pub counted_before : (format : Format) (order : Order) (counted : List ℕ) (old
     → length counted ≤ new.place
 counted_before format order counted old new r = omega (arith, counted_place format order counted old new r)
 
-pub unit_found : (front : Front) (version : OlderVersion) (order : Order) (unit : OlderUnit) (counted : List ℕ) (c0 c1 : At)
-    → c0.rest ≡ front.past.now → c0.order ≡ order → Reads (CountedBytes front.format c0.order) counted c0 c1
-    → IsReadHeader version front.format order counted unit.header → unit.format ≡ front.format → unit.order ≡ order
-    → unit.program.now ≡ c1.rest → IsOlderOf front version order unit
-unit_found front version order unit counted c0 c1 rest_is order_is there header format unit_order program =
+pub unit_found : (prefix : Prefix) (version : OlderVersion) (order : Order) (unit : OlderUnit) (counted : List ℕ) (c0 c1 : At)
+    → c0.rest ≡ prefix.past.now → c0.order ≡ order → Reads (CountedBytes prefix.format c0.order) counted c0 c1
+    → IsReadHeader version prefix.format order counted unit.header → unit.format ≡ prefix.format → unit.order ≡ order
+    → unit.program.now ≡ c1.rest → IsOlderOf prefix version order unit
+unit_found prefix version order unit counted c0 c1 rest_is order_is there header format unit_order program =
     grind (arith, common_steps, counted_is, append_assoc)
 
-pub length_missing : (front : Front) (version : OlderVersion) (order : Order) (c0 : At) (fault : Fault)
-    → c0.rest ≡ front.past.now → c0.place ≡ front.place + 2 → c0.order ≡ order
-    → RefusesField (IsCountedFault front.format c0.order) (CountedBytes front.format c0.order) c0 fault
-    → IsBodyFault front version order fault
-length_missing front version order c0 fault rest_is place_is order_is r = record {
+pub length_missing : (prefix : Prefix) (version : OlderVersion) (order : Order) (c0 : At) (fault : Fault)
+    → c0.rest ≡ prefix.past.now → c0.place ≡ prefix.place + 2 → c0.order ≡ order
+    → RefusesField (IsCountedFault prefix.format c0.order) (CountedBytes prefix.format c0.order) c0 fault
+    → IsBodyFault prefix version order fault
+length_missing prefix version order c0 fault rest_is place_is order_is r = record {
   before = [];
   left = c0.rest;
   split = sym rest_is;
-  place = r.place ∙ place_is ∙ sym (add-zero (front.place + 2));
+  place = r.place ∙ place_is ∙ sym (add-zero (prefix.place + 2));
   reason = of_length refl (rw order_is at r.reason);
-  none = none_counted front.format version order front.past.now (rw (order_is, rest_is) at r.none);
+  none = none_counted prefix.format version order prefix.past.now (rw (order_is, rest_is) at r.none);
 }
 
-pub field_missing : (front : Front) (version : OlderVersion) (order : Order) (counted : List ℕ) (c0 c1 : At) (place : ℕ) (fault : Fault)
-    → c0.rest ≡ front.past.now → c0.place ≡ front.place + 2 → c0.order ≡ order → Reads (CountedBytes front.format c0.order) counted c0 c1
+pub field_missing : (prefix : Prefix) (version : OlderVersion) (order : Order) (counted : List ℕ) (c0 c1 : At) (place : ℕ) (fault : Fault)
+    → c0.rest ≡ prefix.past.now → c0.place ≡ prefix.place + 2 → c0.order ≡ order → Reads (CountedBytes prefix.format c0.order) counted c0 c1
     → place + length counted ≡ c1.place
-    → Refuses (IsFieldsFault version front.format order) (FieldsOf version front.format order) (standing place counted order) fault
-    → IsBodyFault front version order fault
-field_missing front version order counted c0 c1 place fault rest_is place_is order_is there placed s =
-    let r = subst (λ (o : Order). Reads (CountedBytes front.format o) counted c0 c1) order_is there in
-    let size = offset_size front.format in
+    → Refuses (IsFieldsFault version prefix.format order) (FieldsOf version prefix.format order) (standing place counted order) fault
+    → IsBodyFault prefix version order fault
+field_missing prefix version order counted c0 c1 place fault rest_is place_is order_is there placed s =
+    let r = subst (λ (o : Order). Reads (CountedBytes prefix.format o) counted c0 c1) order_is there in
+    let size = offset_size prefix.format in
     let number = number_bytes order size (length counted) in
-    let past : front.past.now ≡ (number ++ counted) ++ c1.rest =
-    sym rest_is ∙ r.whole ∙ ap (λ (z : List ℕ). z ++ c1.rest) (counted_is front.format order counted r.spelling r.spelled) in
+    let past : prefix.past.now ≡ (number ++ counted) ++ c1.rest =
+    sym rest_is ∙ r.whole ∙ ap (λ (z : List ℕ). z ++ c1.rest) (counted_is prefix.format order counted r.spelling r.spelled) in
     record {
       before = number ++ s.before;
       left = s.left ++ c1.rest;
@@ -87,21 +87,21 @@ field_missing front version order counted c0 c1 place fault rest_is place_is ord
         s.place,
         placed,
         place_is,
-        counted_place front.format order counted c0 c1 r,
+        counted_place prefix.format order counted c0 c1 r,
         length-append number s.before,
         length-number_bytes order size (length counted),
       );
       reason = of_field s.before s.left c1.rest (rw (← s.split) refl) refl s.reason;
-      none = none_of_fields front.format version order counted c1.rest front.past.now r.spelled.first.fits
+      none = none_of_fields prefix.format version order counted c1.rest prefix.past.now r.spelled.first.fits
           (past ∙ append_assoc number counted c1.rest) s.none;
     }
 
 -- ---- whole units
 
-in_front : (order : Order) (format : Format) (digits before from more body : List ℕ) → LengthFits format (length body)
+in_prefix : (order : Order) (format : Format) (digits before from more body : List ℕ) → LengthFits format (length body)
     → body ≡ (digits ++ before) ++ from
     → InFrame order format (digits ++ before) from (initial_length format order (length body) ++ (digits ++ before)) (from ++ more)
-in_front order format digits before from more body fits e =
+in_prefix order format digits before from more body fits e =
     record { more = more; fits = rw e at fits; before_is = rw e refl; from_is = refl }
 
 fault_of : (order : Order) (format : Format) (version : OlderVersion) (reason : Reason) (before from before' from' : List ℕ)
@@ -112,32 +112,32 @@ fault_of order format version reason before from before' from' in_frame (of_leng
 fault_of order format version reason before from before' from' in_frame (of_field fields left program before_is from_is so) =
     of_fields format version fields left program (rw (before_is, from_is, ← append_assoc) at in_frame) so
 
-older_missing : (front : Front) (version : OlderVersion) (order : Order) (fault : Fault) (old new : At) → ReadsFront front old new
-    → front.version ≡ Older version → order ≡ old.order → IsBodyFault front version order fault
+older_missing : (prefix : Prefix) (version : OlderVersion) (order : Order) (fault : Fault) (old new : At) → ReadsPrefix prefix old new
+    → prefix.version ≡ Older version → order ≡ old.order → IsBodyFault prefix version order fault
     → Refuses (IsAnyFault old.order) (AnyBytes old.order) old fault
-older_missing front version order fault old new r version_is order_is there =
+older_missing prefix version order fault old new r version_is order_is there =
     let b = rw order_is at there in
     let digits = number_bytes old.order 2 (version_number version) in
-    let body = front_body old.order front in
-    let initial = initial_length front.format old.order (length body) in
+    let body = prefix_body old.order prefix in
+    let initial = initial_length prefix.format old.order (length body) in
     let body_is : body ≡ (digits ++ b.before) ++ b.left = rw (version_is, b.split) (sym (append_assoc digits b.before b.left)) in
     record {
       before = initial ++ (digits ++ b.before);
       left = b.left ++ new.rest;
       split = r.whole ∙ ap (λ (z : List ℕ). (initial ++ z) ++ new.rest) body_is ∙ to_pairs initial (digits ++ b.before) b.left new.rest;
       place = omega (arith, b.place, r.body_place, length-append {A = ℕ}, length-number_bytes);
-      reason = fault_of old.order front.format version fault.reason b.before b.left (initial ++ (digits ++ b.before)) (b.left ++ new.rest)
-          (in_front old.order front.format digits b.before b.left new.rest body r.fits body_is) b.reason;
-      none = none_of_unit front version old new r version_is b.none;
+      reason = fault_of old.order prefix.format version fault.reason b.before b.left (initial ++ (digits ++ b.before)) (b.left ++ new.rest)
+          (in_prefix old.order prefix.format digits b.before b.left new.rest body r.fits body_is) b.reason;
+      none = none_of_unit prefix version old new r version_is b.none;
     }
 
-older_read : (front : Front) (version : OlderVersion) (order : Order) (unit : OlderUnit) (old new : At) → ReadsFront front old new
-    → front.version ≡ Older version → order ≡ old.order → IsOlderOf front version order unit → ReadsOlder unit old new
-older_read front version order unit old new r version_is order_is there =
+older_read : (prefix : Prefix) (version : OlderVersion) (order : Order) (unit : OlderUnit) (old new : At) → ReadsPrefix prefix old new
+    → prefix.version ≡ Older version → order ≡ old.order → IsOlderOf prefix version order unit → ReadsOlder unit old new
+older_read prefix version order unit old new r version_is order_is there =
     let u = rw order_is at there in
     let program = unit.program.now in
-    let body = front_body old.order front in
-    let number = number_bytes old.order (offset_size front.format) (length u.counted) in
+    let body = prefix_body old.order prefix in
+    let number = number_bytes old.order (offset_size prefix.format) (length u.counted) in
     let body_is : body ≡ number_bytes old.order 2 (version_number version) ++ number ++ u.counted ++ program =
     simp (version_is, u.joined, append_assoc) in
     record {
@@ -146,7 +146,7 @@ older_read front version order unit old new r version_is order_is there =
       order_is = u.order_is;
       lie = rw (u.format_is, u.order_is) u.header.lie;
       read = λ size is. rw (u.format_is, u.order_is) (record {
-        spelling = frame_bytes old.order front.format body;
+        spelling = frame_bytes old.order prefix.format body;
         spelled = record {
           order_is = refl;
           size_is = refl;
@@ -155,7 +155,7 @@ older_read front version order unit old new r version_is order_is there =
             fields = u.counted;
             counted = u.header.spelled size is;
             fits = rw body_is at r.fits;
-            joined = ap (λ (z : List ℕ). frame_bytes old.order front.format z) body_is;
+            joined = ap (λ (z : List ℕ). frame_bytes old.order prefix.format z) body_is;
           };
         };
         whole = r.whole;
@@ -163,13 +163,13 @@ older_read front version order unit old new r version_is order_is there =
         order = r.order;
       });
       version = version;
-      joined = r.whole ∙ rw (u.format_is, u.order_is, ← u.header.joined) (ap (λ (z : List ℕ). frame_bytes old.order front.format z ++
+      joined = r.whole ∙ rw (u.format_is, u.order_is, ← u.header.joined) (ap (λ (z : List ℕ). frame_bytes old.order prefix.format z ++
           new.rest) body_is);
     }
 
-older_sound : (front : Front) (version : OlderVersion) (order : Order) (unit : OlderUnit) → IsOlderOf front version order unit
+older_sound : (prefix : Prefix) (version : OlderVersion) (order : Order) (unit : OlderUnit) → IsOlderOf prefix version order unit
     → IsOlderUnit unit
-older_sound front version order unit u = record {
+older_sound prefix version order unit u = record {
   directories = u.header.directories;
   files = u.header.files;
   lie = rw (u.format_is, u.order_is) u.header.lie;
@@ -178,21 +178,21 @@ older_sound front version order unit u = record {
 
 -- ---- units of any version
 
-pub any_read : (front : Front) (bytes all left : List ℕ) (order : Order) (unit : AnyUnit) (old new : At) → ReadsFront front old new
+pub any_read : (prefix : Prefix) (bytes all left : List ℕ) (order : Order) (unit : AnyUnit) (old new : At) → ReadsPrefix prefix old new
     → order ≡ old.order → all ≡ old.rest → left ≡ new.rest → bytes ≡ take (length all - length left) all
-    → IsAnyOf front bytes order unit → ReadsAny unit old new
-any_read front bytes all left order (units.Five five) old new r order_is all_is left_is bytes_are p =
-    five_read front five.now all left old new r p.0 all_is left_is (p.1 ∙ bytes_are)
-any_read front bytes all left order (units.Older unit) old new r order_is all_is left_is bytes_are p =
-    older_read front p.0 order unit old new r p.1 order_is p.2
+    → IsAnyOf prefix bytes order unit → ReadsAny unit old new
+any_read prefix bytes all left order (units.Five five) old new r order_is all_is left_is bytes_are p =
+    five_read prefix five.now all left old new r p.0 all_is left_is (p.1 ∙ bytes_are)
+any_read prefix bytes all left order (units.Older unit) old new r order_is all_is left_is bytes_are p =
+    older_read prefix p.0 order unit old new r p.1 order_is p.2
 
-pub any_sound : (front : Front) (bytes : List ℕ) (order : Order) (unit : AnyUnit) → IsAnyOf front bytes order unit → IsSoundUnit unit
-any_sound front bytes order (units.Five five) p = tt
-any_sound front bytes order (units.Older unit) p = older_sound front p.0 order unit p.2
+pub any_sound : (prefix : Prefix) (bytes : List ℕ) (order : Order) (unit : AnyUnit) → IsAnyOf prefix bytes order unit → IsSoundUnit unit
+any_sound prefix bytes order (units.Five five) p = tt
+any_sound prefix bytes order (units.Older unit) p = older_sound prefix p.0 order unit p.2
 
-pub any_missing : (front : Front) (order : Order) (fault : Fault) (old new : At) → ReadsFront front old new → order ≡ old.order
-    → IsAnyBodyFault front order fault → Refuses (IsAnyFault old.order) (AnyBytes old.order) old fault
-any_missing front order fault old new r order_is p = older_missing front p.0 order fault old new r p.1 order_is p.2
+pub any_missing : (prefix : Prefix) (order : Order) (fault : Fault) (old new : At) → ReadsPrefix prefix old new → order ≡ old.order
+    → IsAnyBodyFault prefix order fault → Refuses (IsAnyFault old.order) (AnyBytes old.order) old fault
+any_missing prefix order fault old new r order_is p = older_missing prefix p.0 order fault old new r p.1 order_is p.2
 
 -- ---- another cursor at the same place
 

@@ -7,7 +7,7 @@ use Rattle.lnt_wire.specs.InitialLength.{LengthFits}
 use Rattle.lnt_wire.specs.Reading.{Reads}
 use Rattle.lnt_wire.specs.declared.format.Format.{Format}
 use Rattle.lnt_wire.specs.declared.format.Order.{Order}
-use Rattle.lnt_wire.proofs.LengthLaws.{length-initial, same_number_front, width_2}
+use Rattle.lnt_wire.proofs.LengthLaws.{length-initial, same_number_prefix, width_2}
 use Rattle.lnt_header.specs.HeaderRules.{IsAddressSize}
 use Rattle.lnt_header.specs.declared.header.HeaderParts.{HeaderParts}
 use Rattle.lnt_header_bytes.specs.HeaderBytes.{unit_body}
@@ -60,7 +60,7 @@ frame_once order format body x y p q = p.joined ∙ sym q.joined
 pub five_not_older : (order : Order) (format : Format) (body : List ℕ) (h : HeaderParts) (program x : List ℕ)
     → AnyBytes order (five_parts format body) x → AnyBytes order (older_parts h program) x → ⊥
 five_not_older order format body h program x five older =
-    grind (arith, common_steps, one_body, same_number_front, width_2, small_version, append_assoc, not_five)
+    grind (arith, common_steps, one_body, same_number_prefix, width_2, small_version, append_assoc, not_five)
 
 -- ---- what was read
 

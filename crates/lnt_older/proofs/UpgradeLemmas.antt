@@ -67,7 +67,7 @@ fields_upgraded unit directory zero_bytes o0 o1 o2 o3 o4 none is zero_is begun s
         directory_table = table_spelled unit.format unit.order directory_pairs (1 ∷ 8 ∷ []) directory_bytes d.table
             (directory_entry ∷ ds) (omega arith) (λ e. absurd cc) one_pair directory_table
             (record {
-              front = directory ++ 0 ∷ [];
+              prefix = directory ++ 0 ∷ [];
               back = o.directories.bytes.now;
               first = directory_spelled unit.format unit.order directory none;
               second = listed;

@@ -34,9 +34,9 @@ module _ (size : ℕ) (directories : List Directory) where
       let older = l.large.older in
       let some = some_bytes at.order (older_parts l.large.header l.large.program) l.unit (older.order_is, older.spelled) in
       absurd (omega (arith, ap length (sym l.joined ∙ none), length-append l.unit l.more, some))
-  never_large at (unit ∷ units, (front, back, here, so, joined, rest)) l =
+  never_large at (unit ∷ units, (prefix, back, here, so, joined, rest)) l =
       let older = l.large.older in
-      let same : front ≡ l.unit = any_once at.order unit.1 (older_parts l.large.header l.large.program) front l.unit back l.more so.spelled
+      let same : prefix ≡ l.unit = any_once at.order unit.1 (older_parts l.large.header l.large.program) prefix l.unit back l.more so.spelled
       (older.order_is, older.spelled) (sym joined ∙ l.joined) in
       l.misfit (rw (here, same) at so.fits)
 
@@ -67,7 +67,7 @@ module _ (order : Order) (size : ℕ) (directories : List Directory) (section : 
         let joined : (text ++ old) ++ (first ++ more) ≡ (text ++ new) ++ more = simp (a.joined, append_assoc) in
         subst (IsUpgraded order size directories section) joined
         (w.all ((at.place, a.parts) ∷ units) (first ++ more) (here, next.rest, refl, a.read.spelled, a.read.whole, others)
-        (a.can.size, sizes) (record { front = first; back = more; first = a.can.upgraded; second = newer; joined = refl }));
+        (a.can.size, sizes) (record { prefix = first; back = more; first = a.can.upgraded; second = newer; joined = refl }));
   }
 
   pub writing_all : (at : At) (text : List ℕ) → WritingTo order size directories section at text → length at.rest ≡ 0

@@ -14,7 +14,7 @@ use Rattle.lnt_header_bytes.specs.TableFaults.{IsEntryFault}
 use Rattle.lnt_older.specs.OlderBytes.{BeginsEntry, ListedBytes}
 
 pub data IsListFault (format : Format) (order : Order) (pairs : List Pair) (reason : Reason) (before left : List ℕ) : Type 0 where
-  no_entry : (entries : List Entry) (front past : List ℕ) → Each (ListedBytes format order pairs) entries front → before ≡ front ++ past
+  no_entry : (entries : List Entry) (prefix past : List ℕ) → Each (ListedBytes format order pairs) entries prefix → before ≡ prefix ++ past
       → BeginsEntry (past ++ left) → IsEntryFault format order pairs reason past left → IsListFault format order pairs reason before left
   no_end : (entries : List Entry) → Each (ListedBytes format order pairs) entries before → left ≡ [] → reason ≡ Truncated
       → IsListFault format order pairs reason before left

@@ -62,11 +62,11 @@ pub record IsUpgraded (order : Order) (address_size : ℕ) (directories : List D
 -- After some units comes none, for this reason.
 pub record IsBroken (order : Order) (section : List ℕ) (fault : Fault) : Type 0 where
   pub units : List (ℕ × AnyParts)
-  pub front : List ℕ
+  pub prefix : List ℕ
   pub rest : List ℕ
-  pub joined : section ≡ front ++ rest
-  pub sound : AnySection order units front
-  pub refused : Refuses (IsAnyFault order) (AnyBytes order) (standing (length front) rest order) fault
+  pub joined : section ≡ prefix ++ rest
+  pub sound : AnySection order units prefix
+  pub refused : Refuses (IsAnyFault order) (AnyBytes order) (standing (length prefix) rest order) fault
 
 -- The bytes are an older unit, and the one of version 5 with its entries copied is longer than its format can say.
 --     unit   the unit by its parts, whose join the bytes are
@@ -81,11 +81,11 @@ pub record IsLargeUnit (order : Order) (address_size : ℕ) (directory bytes : L
 
 -- After units that can be written anew comes one at this offset that can't.
 pub record IsLargeAt (order : Order) (address_size : ℕ) (directories : List Directory) (section : List ℕ) (offset : ℕ) : Type 0 where
-  pub front : List ℕ
+  pub prefix : List ℕ
   pub unit : List ℕ
   pub rest : List ℕ
-  pub joined : section ≡ front ++ (unit ++ rest)
-  pub place : offset ≡ length front
+  pub joined : section ≡ prefix ++ (unit ++ rest)
+  pub place : offset ≡ length prefix
   pub before : List ℕ
-  pub upgraded_before : IsUpgraded order address_size directories front before
+  pub upgraded_before : IsUpgraded order address_size directories prefix before
   pub large : IsLargeUnit order address_size (directory_at directories offset) unit

@@ -1,4 +1,4 @@
--- What the front of a unit gives, up to its version. No public contract speaks of it.
+-- What the prefix of a unit gives, up to its version. No public contract speaks of it.
 use Rattle.std.specs.Prelude.{◌≡◌, ℕ, ◌+◌, ◌^◌, ◌<◌, List, [], ◌++◌, length}
 use Rattle.lnt_wire.specs.At.{At}
 use Rattle.lnt_wire.specs.FrameBytes.{frame_bytes}
@@ -15,9 +15,9 @@ use Rattle.lnt_header_bytes.specs.StartFaults.{IsCountedFault}
 use Rattle.lnt_older.specs.OlderBytes.{OlderFieldsBytes}
 use Rattle.lnt_older.specs.OlderFields.{IsFieldsFault, IsReadHeader}
 use Rattle.lnt_older.specs.Versions.{version_number}
-use Rattle.lnt_older.specs.declared.front.Front.{Front}
-use Rattle.lnt_older.specs.declared.front.UnitVersion.{UnitVersion}
-use Rattle.lnt_older.specs.declared.front.UnitVersion.TheVariants.{Five, Older}
+use Rattle.lnt_older.specs.declared.prefix.Prefix.{Prefix}
+use Rattle.lnt_older.specs.declared.prefix.UnitVersion.{UnitVersion}
+use Rattle.lnt_older.specs.declared.prefix.UnitVersion.TheVariants.{Five, Older}
 use Rattle.lnt_older.specs.declared.unit.AnyUnit.{AnyUnit}
 use Rattle.lnt_older.specs.declared.unit.AnyUnit.TheVariants as units
 use Rattle.lnt_older.specs.declared.unit.OlderUnit.{OlderUnit}
@@ -28,25 +28,25 @@ unit_number Five = 5
 unit_number (Older version) = version_number version
 
 -- the body of a unit, by its version and what stands after that
-abbrev pub front_body : Order → Front → List ℕ
-front_body order front = number_bytes order 2 (unit_number front.version) ++ front.past.now
+abbrev pub prefix_body : Order → Prefix → List ℕ
+prefix_body order prefix = number_bytes order 2 (unit_number prefix.version) ++ prefix.past.now
 
--- The read moved past a unit of this front.
-pub record ReadsFront (front : Front) (old new : At) : Type 0 where
-  pub fits : LengthFits front.format (length (front_body old.order front))
-  pub whole : old.rest ≡ frame_bytes old.order front.format (front_body old.order front) ++ new.rest
-  pub body_place : front.place ≡ old.place + length (initial_length front.format old.order (length (front_body old.order front)))
-  pub place : new.place ≡ old.place + length (frame_bytes old.order front.format (front_body old.order front))
+-- The read moved past a unit of this prefix.
+pub record ReadsPrefix (prefix : Prefix) (old new : At) : Type 0 where
+  pub fits : LengthFits prefix.format (length (prefix_body old.order prefix))
+  pub whole : old.rest ≡ frame_bytes old.order prefix.format (prefix_body old.order prefix) ++ new.rest
+  pub body_place : prefix.place ≡ old.place + length (initial_length prefix.format old.order (length (prefix_body old.order prefix)))
+  pub place : new.place ≡ old.place + length (frame_bytes old.order prefix.format (prefix_body old.order prefix))
   pub order : new.order ≡ old.order
 
 -- What stands after the version spells an older unit's header and program.
-pub record IsOlderOf (front : Front) (version : OlderVersion) (order : Order) (unit : OlderUnit) : Type 0 where
-  pub format_is : unit.format ≡ front.format
+pub record IsOlderOf (prefix : Prefix) (version : OlderVersion) (order : Order) (unit : OlderUnit) : Type 0 where
+  pub format_is : unit.format ≡ prefix.format
   pub order_is : unit.order ≡ order
   pub counted : List ℕ
-  pub header : IsReadHeader version front.format order counted unit.header
-  pub small : length counted < 256 ^ offset_size front.format
-  pub joined : front.past.now ≡ number_bytes order (offset_size front.format) (length counted) ++ (counted ++ unit.program.now)
+  pub header : IsReadHeader version prefix.format order counted unit.header
+  pub small : length counted < 256 ^ offset_size prefix.format
+  pub joined : prefix.past.now ≡ number_bytes order (offset_size prefix.format) (length counted) ++ (counted ++ unit.program.now)
 
 -- What stands after the version of an older unit: header_length, the fields that it counts, and the program.
 pub record PastBytes (format : Format) (version : OlderVersion) (order : Order) (unit : HeaderParts × List ℕ) (bytes : List ℕ) : Type 0
@@ -66,16 +66,16 @@ pub data IsPastFault (format : Format) (version : OlderVersion) (order : Order) 
       → IsFieldsFault version format order reason fields left → IsPastFault format version order reason before from
 
 -- a fault of what stands after the version, which has 2 bytes
-abbrev pub IsBodyFault : Front → OlderVersion → Order → Fault → Type 0
-IsBodyFault front version order fault = Refuses (IsPastFault front.format version order) (PastBytes front.format version order)
-    (standing (front.place + 2) front.past.now order) fault
+abbrev pub IsBodyFault : Prefix → OlderVersion → Order → Fault → Type 0
+IsBodyFault prefix version order fault = Refuses (IsPastFault prefix.format version order) (PastBytes prefix.format version order)
+    (standing (prefix.place + 2) prefix.past.now order) fault
 
--- the unit of a front and of these bytes: one of version 5, or an older one
-abbrev pub IsAnyOf : Front → List ℕ → Order → AnyUnit → Type 0
-IsAnyOf front bytes order (units.Five five) = (front.version ≡ Five) × (five.now ≡ bytes)
-IsAnyOf front bytes order (units.Older unit) =
-    (version : OlderVersion) × (front.version ≡ Older version) × IsOlderOf front version order unit
+-- the unit of a prefix and of these bytes: one of version 5, or an older one
+abbrev pub IsAnyOf : Prefix → List ℕ → Order → AnyUnit → Type 0
+IsAnyOf prefix bytes order (units.Five five) = (prefix.version ≡ Five) × (five.now ≡ bytes)
+IsAnyOf prefix bytes order (units.Older unit) =
+    (version : OlderVersion) × (prefix.version ≡ Older version) × IsOlderOf prefix version order unit
 
 -- a fault of an older one
-abbrev pub IsAnyBodyFault : Front → Order → Fault → Type 0
-IsAnyBodyFault front order fault = (version : OlderVersion) × (front.version ≡ Older version) × IsBodyFault front version order fault
+abbrev pub IsAnyBodyFault : Prefix → Order → Fault → Type 0
+IsAnyBodyFault prefix order fault = (version : OlderVersion) × (prefix.version ≡ Older version) × IsBodyFault prefix version order fault

@@ -5,11 +5,11 @@
 #![tactic(auto)]
 
 mod directories;
-mod front;
 mod header;
 pub mod laws;
 mod lists;
 mod numbers;
+mod prefix;
 mod section;
 #[cfg(test)]
 mod tests;

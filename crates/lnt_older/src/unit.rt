@@ -4,8 +4,8 @@ ghost use Rattle.lnt_wire.specs.Reading.{Refuses};
 ghost use Rattle.lnt_older.specs.OlderUnits.{AnyBytes, IsAnyFault, IsSoundUnit, ReadsAny};
 ghost use Rattle.lnt_older.specs.UnitReading.{IsAnyBodyFault, IsAnyOf, IsBodyFault, IsOlderOf};
 
-use crate::front::{Front, UnitVersion, take_front};
 use crate::header::{OlderHeader, read_older_header};
+use crate::prefix::{Prefix, UnitVersion, take_prefix};
 use crate::version::OlderVersion;
 use lnt_header_bytes::read_counted;
 use lnt_wire::{Cursor, Fault, Format, Order};
@@ -50,7 +50,7 @@ pub fn take_any_unit<'a>(cursor: &mut Cursor<'a>) -> Result<AnyUnit<'a>, Fault>
 }
 
 // The same, where nothing is said of the cursor after a refusal.
-#[tactic(auto, using(crate::proofs::UnitLemmas::any_read, crate::proofs::UnitLemmas::any_sound, crate::proofs::UnitLemmas::any_missing, crate::proofs::FrontLemmas::front_room))]
+#[tactic(auto, using(crate::proofs::UnitLemmas::any_read, crate::proofs::UnitLemmas::any_sound, crate::proofs::UnitLemmas::any_missing, crate::proofs::PrefixLemmas::prefix_room))]
 fn read_any_unit<'a>(cursor: &mut Cursor<'a>) -> Result<AnyUnit<'a>, Fault>
     ensures ok { IfOk result (λ unit. ReadsAny unit cursor.old cursor.new) }
     ensures sound { IfOk result IsSoundUnit }
@@ -59,43 +59,43 @@ fn read_any_unit<'a>(cursor: &mut Cursor<'a>) -> Result<AnyUnit<'a>, Fault>
     let _place = cursor.place();
     let order = cursor.order();
     let all = cursor.rest();
-    let front = take_front(cursor)?;
+    let prefix = take_prefix(cursor)?;
     let (bytes, _) = all.split_at(all.len() - cursor.rest().len());
-    any_unit(&front, bytes, order)
+    any_unit(&prefix, bytes, order)
 }
 
-// The unit of a front, whose bytes these are.
-fn any_unit<'a>(front: &Front<'a>, bytes: &'a [u8], order: Order) -> Result<AnyUnit<'a>, Fault>
-    requires { front.now.place + 2 + length front.now.past.now < 2 ^ 64 }
-    ensures ok { IfOk result (λ unit. IsAnyOf front.now bytes.entry.now order unit) }
-    ensures err { IfErr result (λ fault. IsAnyBodyFault front.now order fault) }
+// The unit of a prefix, whose bytes these are.
+fn any_unit<'a>(prefix: &Prefix<'a>, bytes: &'a [u8], order: Order) -> Result<AnyUnit<'a>, Fault>
+    requires { prefix.now.place + 2 + length prefix.now.past.now < 2 ^ 64 }
+    ensures ok { IfOk result (λ unit. IsAnyOf prefix.now bytes.entry.now order unit) }
+    ensures err { IfErr result (λ fault. IsAnyBodyFault prefix.now order fault) }
 {
-    match front.version {
+    match prefix.version {
         UnitVersion::Five => Ok(AnyUnit::Five(bytes)),
-        UnitVersion::Older(version) => match older_unit(front, version, order) {
+        UnitVersion::Older(version) => match older_unit(prefix, version, order) {
             Ok(unit) => Ok(AnyUnit::Older(unit)),
             Err(fault) => Err(fault),
         },
     }
 }
 
-// The older unit of a front.
+// The older unit of a prefix.
 #[tactic(auto, using(crate::proofs::UnitLemmas::unit_found, crate::proofs::UnitLemmas::length_missing, crate::proofs::UnitLemmas::field_missing))]
 fn older_unit<'a>(
-    front: &Front<'a>,
+    prefix: &Prefix<'a>,
     version: OlderVersion,
     order: Order,
 ) -> Result<OlderUnit<'a>, Fault>
-    requires { front.now.place + 2 + length front.now.past.now < 2 ^ 64 }
-    ensures ok { IfOk result (λ unit. IsOlderOf front.now version order unit) }
-    ensures err { IfErr result (λ fault. IsBodyFault front.now version order fault) }
+    requires { prefix.now.place + 2 + length prefix.now.past.now < 2 ^ 64 }
+    ensures ok { IfOk result (λ unit. IsOlderOf prefix.now version order unit) }
+    ensures err { IfErr result (λ fault. IsBodyFault prefix.now version order fault) }
 {
-    let mut cursor = Cursor::new(front.past, front.place + 2, order);
-    let counted = read_counted(&mut cursor, front.format)?;
+    let mut cursor = Cursor::new(prefix.past, prefix.place + 2, order);
+    let counted = read_counted(&mut cursor, prefix.format)?;
     let place = cursor.place() - counted.len() as u64;
-    let header = read_older_header(counted, place, version, front.format, order)?;
+    let header = read_older_header(counted, place, version, prefix.format, order)?;
     Ok(OlderUnit {
-        format: front.format,
+        format: prefix.format,
         order,
         header,
         program: cursor.rest(),

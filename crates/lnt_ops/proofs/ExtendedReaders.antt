@@ -30,24 +30,24 @@ use Rattle.std.proofs.lemmas.Grind.{common_steps}
 
 -- ---- a number in groups of seven bits, and nothing else
 
-high_push : (front : List ℕ) (b : ℕ) → AreHigh front → 128 ≤ b → AreHigh (front ++ b ∷ [])
+high_push : (prefix : List ℕ) (b : ℕ) → AreHigh prefix → 128 ≤ b → AreHigh (prefix ++ b ∷ [])
 high_push [] b h k = (k, tt)
-high_push (a ∷ front) b h k = (h.0, high_push front b h.1 k)
+high_push (a ∷ prefix) b h k = (h.0, high_push prefix b h.1 k)
 
 pub leb_more : (bytes : List ℕ) (i : ℕ) → i < length bytes → AreHigh (take i bytes) → 128 ≤ get_or bytes i 0 → AreHigh (take (i + 1) bytes)
 leb_more bytes i lt h k = subst AreHigh (sym (take_more bytes i 0 lt)) (high_push (take i bytes) (get_or bytes i 0) h k)
 
 -- the first byte below 128 is the last one
-leb_ends : (front : List ℕ) (b : ℕ) (more : List ℕ) → AreHigh front → b < 128 → IsLeb (front ++ b ∷ more) → more ≡ []
+leb_ends : (prefix : List ℕ) (b : ℕ) (more : List ℕ) → AreHigh prefix → b < 128 → IsLeb (prefix ++ b ∷ more) → more ≡ []
 leb_ends [] b [] h lt p = refl
 leb_ends [] b (c ∷ more) h lt p = absurd (omega (arith, p.0, lt))
 leb_ends (a ∷ []) b more h lt p = leb_ends [] b more tt lt p.1
-leb_ends (a ∷ c ∷ front) b more h lt p = leb_ends (c ∷ front) b more h.1 lt p.1
+leb_ends (a ∷ c ∷ prefix) b more h lt p = leb_ends (c ∷ prefix) b more h.1 lt p.1
 
-leb_push : (front : List ℕ) (b : ℕ) → AreHigh front → b < 128 → IsLeb (front ++ b ∷ [])
+leb_push : (prefix : List ℕ) (b : ℕ) → AreHigh prefix → b < 128 → IsLeb (prefix ++ b ∷ [])
 leb_push [] b h k = k
 leb_push (a ∷ []) b h k = (h.0, k)
-leb_push (a ∷ c ∷ front) b h k = (h.0, leb_push (c ∷ front) b h.1 k)
+leb_push (a ∷ c ∷ prefix) b h k = (h.0, leb_push (c ∷ prefix) b h.1 k)
 
 cut_at : (bytes : List ℕ) (i : ℕ) → i < length bytes → bytes ≡ take i bytes ++ get_or bytes i 0 ∷ drop (i + 1) bytes
 cut_at bytes i lt = sym (take-append-drop i bytes) ∙ ap (λ (z : List ℕ). take i bytes ++ z) (drop_more bytes i 0 lt)
@@ -71,7 +71,7 @@ leb_cut (b ∷ c ∷ bytes) h p = leb_cut (c ∷ bytes) h.1 p.1
 pub leb_all : (bytes : List ℕ) (i : ℕ) → length bytes ≤ i → AreHigh (take i bytes) → IsLeb bytes → ⊥
 leb_all bytes i le h p = leb_cut bytes (subst AreHigh (take_all i bytes le) h) p
 
--- a number at the front is the whole, where the whole has its shape
+-- a number at the beginning is the whole, where the whole has its shape
 whole_leb : (n : ℕ) (old new : At) → IsLeb old.rest → Reads UnsignedLeb n old new → UnsignedLeb n old.rest
 whole_leb n old new shape r =
     let same : r.spelling ≡ old.rest = same_leb r.spelling old.rest new.rest [] r.spelled.shape shape
@@ -145,7 +145,7 @@ code_first : (code : ℕ) (Operand : List ℕ → Type 0) (bytes : List ℕ) →
     → (Exactly (code ∷ []) ⨾ Operand) bytes
 code_first code Operand [] some e p = absurd (omega arith)
 code_first code Operand (b ∷ operand) some e p = record {
-  front = code ∷ [];
+  prefix = code ∷ [];
   back = operand;
   first = refl;
   second = p;
@@ -247,7 +247,7 @@ takes_discriminator bytes e = ap taken_by e
 
 in_op : (code : ℕ) (Operand : List ℕ → Type 0) (counted y : List ℕ) → (Exactly (code ∷ []) ⨾ Operand) counted
     → BlockBytes UnsignedLeb counted y → Extended code Operand (0 ∷ y)
-in_op code Operand counted y q p = (counted, q, record { front = 0 ∷ []; back = y; first = refl; second = p; joined = refl })
+in_op code Operand counted y q p = (counted, q, record { prefix = 0 ∷ []; back = y; first = refl; second = p; joined = refl })
 
 op_of : (h : HeaderParts) (c : Coding) (counted y : List ℕ) → ExtendedBody h c counted → BlockBytes UnsignedLeb counted y
     → CodingBytes h c (0 ∷ y)
@@ -262,7 +262,7 @@ pub gives_extended : (h : HeaderParts) (n : ℕ) (view : OpView) (counted : List
 gives_extended h n view counted old middle new r t g =
     let size : n ≡ length counted = sym t.spelled.count_is ∙ ap length (sym t.spelled.taken_is) in
     let block : BlockBytes UnsignedLeb counted (r.spelling ++ t.spelling) = record {
-      front = r.spelling;
+      prefix = r.spelling;
       back = t.spelling;
       first = subst (λ (k : ℕ). UnsignedLeb k r.spelling) size r.spelled;
       second = sym t.spelled.taken_is;

@@ -17,12 +17,12 @@ use Rattle.lnt_ops.specs.OpFaults.IsFirstFault.{unknown_operand, no_length, cut_
 
 -- ---- whatever stands before
 
-pub op_later : (address_size : ℕ) (reason : Reason) (front before left : List ℕ) → IsOpFault address_size reason before left
-    → IsOpFault address_size reason (front ++ before) left
-op_later address_size reason front before left (cut_field e h) = cut_field e (cut_later front before left h)
-op_later address_size reason front before left (large_number e h) = large_number e h
-op_later address_size reason front before left (wrong_length earlier e b h) =
-    wrong_length (front ++ earlier) e (ap (λ (z : List ℕ). front ++ z) b ∙ sym (append_assoc front earlier (0 ∷ []))) h
+pub op_later : (address_size : ℕ) (reason : Reason) (prefix before left : List ℕ) → IsOpFault address_size reason before left
+    → IsOpFault address_size reason (prefix ++ before) left
+op_later address_size reason prefix before left (cut_field e h) = cut_field e (cut_later prefix before left h)
+op_later address_size reason prefix before left (large_number e h) = large_number e h
+op_later address_size reason prefix before left (wrong_length earlier e b h) =
+    wrong_length (prefix ++ earlier) e (ap (λ (z : List ℕ). prefix ++ z) b ∙ sym (append_assoc prefix earlier (0 ∷ []))) h
 
 -- ---- the first fault is a fault
 

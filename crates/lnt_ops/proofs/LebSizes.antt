@@ -11,7 +11,7 @@ record OfLength (n size : ℕ) : Type 0 where
   spelled : UnsignedLeb n spelling
   size_is : length spelling ≡ size
 
--- one more group in front
+-- one more group before
 longer : (m : ℕ) (rest : List ℕ) (size : ℕ) → m < 2 ^ 64 → UnsignedLeb (m / 128) rest → length rest ≡ size → OfLength m (suc size)
 longer m [] size fits p is = absurd p.shape
 longer m (b ∷ rest) size fits p is = record {

@@ -39,8 +39,8 @@ left_next h (op ∷ later) view old new header left s =
     let r = gives.reads in
     let t = left.spelled in
     let both = sym t.joined ∙ r.whole in
-    let found = (op_code h header.numbers).one op gives.op t.front r.spelling t.back new.at.rest t.first r.spelled both in
-    let rest : t.back ≡ new.at.rest = same_rest t.front r.spelling t.back new.at.rest found.1 both in
+    let found = (op_code h header.numbers).one op gives.op t.prefix r.spelling t.back new.at.rest t.first r.spelled both in
+    let rest : t.back ≡ new.at.rest = same_rest t.prefix r.spelling t.back new.at.rest found.1 both in
     record {
       op = op;
       others = later;
@@ -57,7 +57,7 @@ left_ends h (op ∷ later) old new left e = absurd (by_end e.ended)
     by_end : (old.failed ≡ true) ⊎ (length old.at.rest ≡ 0) → ⊥
     by_end (inl failed) = true≢false (sym failed ∙ left.going)
     by_end (inr empty) = let t = left.spelled in omega
-        (arith, empty, ap length t.joined, length-append t.front t.back, op_is_some h op t.front t.first)
+        (arith, empty, ap length t.joined, length-append t.prefix t.back, op_is_some h op t.prefix t.first)
 
 -- none is refused
 pub left_fails : (h : HeaderParts) (later : List Op) (fault : Fault) (old new : Walk) → OperationsAreLeft h later old
@@ -65,33 +65,33 @@ pub left_fails : (h : HeaderParts) (later : List Op) (fault : Fault) (old new : 
 left_fails h [] fault old new left f = omega (arith, f.some, ap length left.spelled)
 left_fails h (op ∷ later) fault old new left f =
     let t = left.spelled in
-    f.refuses.none op t.front t.back (subst (λ (g : HeaderParts). OpBytes g op t.front) (sym left.header_is) t.first) (sym t.joined)
+    f.refuses.none op t.prefix t.back (subst (λ (g : HeaderParts). OpBytes g op t.prefix) (sym left.header_is) t.first) (sym t.joined)
 
--- the operations after some that a front of the program spells
-pub each_after : (h : HeaderParts) (earlier all : List Op) (front rest program : List ℕ) → IsHeader h → Each (OpBytes h) earlier front
-    → Each (OpBytes h) all program → program ≡ front ++ rest → (later : List Op) × (all ≡ earlier ++ later) × Each (OpBytes h) later rest
-each_after h [] all front rest program header p q whole =
+-- the operations after some that a prefix of the program spells
+pub each_after : (h : HeaderParts) (earlier all : List Op) (prefix rest program : List ℕ) → IsHeader h → Each (OpBytes h) earlier prefix
+    → Each (OpBytes h) all program → program ≡ prefix ++ rest → (later : List Op) × (all ≡ earlier ++ later) × Each (OpBytes h) later rest
+each_after h [] all prefix rest program header p q whole =
     (all, refl, subst (Each (OpBytes h) all) (whole ∙ ap (λ (z : List ℕ). z ++ rest) p) q)
-each_after h (op ∷ earlier) [] front rest program header p q whole =
+each_after h (op ∷ earlier) [] prefix rest program header p q whole =
     absurd (omega (
       arith,
       ap length q,
       ap length whole,
-      length-append front rest,
+      length-append prefix rest,
       ap length p.joined,
-      length-append p.front p.back,
-      op_is_some h op p.front p.first,
+      length-append p.prefix p.back,
+      op_is_some h op p.prefix p.first,
     ))
-each_after h (op ∷ earlier) (other ∷ all) front rest program header p q whole =
-    let one = peel (op_code h header.numbers) other op program front [] rest q p (append-nil program ∙ whole) in
+each_after h (op ∷ earlier) (other ∷ all) prefix rest program header p q whole =
+    let one = peel (op_code h header.numbers) other op program prefix [] rest q p (append-nil program ∙ whole) in
     let more = each_after h earlier all p.back rest q.back header p.second q.second (sym (append-nil q.back) ∙ one.past) in
     (more.0, cc (one.value, more.1), more.2)
 
 -- a place stays one, once it is known what the whole program is
-pub place_found : (h : HeaderParts) (earlier all : List Op) (front rest program : List ℕ) → IsHeader h → Each (OpBytes h) earlier front
-    → Each (OpBytes h) all program → program ≡ front ++ rest
-    → (later : List Op) × (all ≡ earlier ++ later) × IsPlace h program earlier later (length front)
-place_found h earlier all front rest program header p q whole = grind (arith, common_steps, each_after)
+pub place_found : (h : HeaderParts) (earlier all : List Op) (prefix rest program : List ℕ) → IsHeader h → Each (OpBytes h) earlier prefix
+    → Each (OpBytes h) all program → program ≡ prefix ++ rest
+    → (later : List Op) × (all ≡ earlier ++ later) × IsPlace h program earlier later (length prefix)
+place_found h earlier all prefix rest program header p q whole = grind (arith, common_steps, each_after)
 
 -- a walk that begins at a place has the later operations before it
 pub left_at : (h : HeaderParts) (program : List ℕ) (earlier later : List Op) (place : ℕ) (walk : Walk)

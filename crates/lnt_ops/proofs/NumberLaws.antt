@@ -27,9 +27,9 @@ numbers_of_op h op x p = p
 pub ops_by_numbers : (h : HeaderParts) (ops : List Op) (x : List ℕ) → Each (OpBytes (without_entries h)) ops x → Each (OpBytes h) ops x
 ops_by_numbers h [] x p = p
 ops_by_numbers h (op ∷ ops) x p = record {
-  front = p.front;
+  prefix = p.prefix;
   back = p.back;
-  first = op_by_numbers h op p.front p.first;
+  first = op_by_numbers h op p.prefix p.first;
   second = ops_by_numbers h ops p.back p.second;
   joined = p.joined;
 }
@@ -37,9 +37,9 @@ ops_by_numbers h (op ∷ ops) x p = record {
 pub numbers_of_ops : (h : HeaderParts) (ops : List Op) (x : List ℕ) → Each (OpBytes h) ops x → Each (OpBytes (without_entries h)) ops x
 numbers_of_ops h [] x p = p
 numbers_of_ops h (op ∷ ops) x p = record {
-  front = p.front;
+  prefix = p.prefix;
   back = p.back;
-  first = numbers_of_op h op p.front p.first;
+  first = numbers_of_op h op p.prefix p.first;
   second = numbers_of_ops h ops p.back p.second;
   joined = p.joined;
 }
@@ -73,9 +73,9 @@ broken_by_numbers h place program fault b = record {
   reason = b.reason;
   first = record {
     ops = b.first.ops;
-    front = b.first.front;
+    prefix = b.first.prefix;
     fields = b.first.fields;
-    sound = ops_by_numbers h b.first.ops b.first.front b.first.sound;
+    sound = ops_by_numbers h b.first.ops b.first.prefix b.first.sound;
     joined = b.first.joined;
     fault = first_by_numbers h fault.reason b.first.fields b.left b.first.fault;
   };

@@ -10,7 +10,7 @@ use Rattle.lnt_wire.specs.declared.fault.Reason.{Reason}
 use Rattle.lnt_wire.specs.declared.fault.Reason.TheVariants.{ExtendedLength, LebTooLarge, Truncated}
 use Rattle.lnt_wire.proofs.CodeLaws.{unsigned_code}
 use Rattle.lnt_wire.proofs.FieldFaultLaws.{number_fault, signed_fault, unsigned_fault}
-use Rattle.lnt_wire.proofs.LengthLaws.{length-number_bytes, same_front, same_rest}
+use Rattle.lnt_wire.proofs.LengthLaws.{length-number_bytes, same_prefix, same_rest}
 use Rattle.lnt_header.specs.FieldFaults.{IsWrongOperand}
 use Rattle.lnt_header.specs.FirstFaults.{FirstOfSeveral}
 use Rattle.lnt_header.specs.FirstFaults.FirstOfSeveral.{next}
@@ -49,7 +49,7 @@ data IsExtendedFault (address_size : ℕ) (reason : Reason) (past left : List �
   counted : (n : ℕ) (spelling rest : List ℕ) → UnsignedLeb n spelling → past ++ left ≡ spelling ++ rest
       → IsCountedFault address_size reason n spelling rest past → IsExtendedFault address_size reason past left
 
--- the same length in front, and what follows it
+-- the same length first, and what follows it
 record SameCount (m n : ℕ) (x y r s : List ℕ) : Type 0 where
   count : m ≡ n
   bytes : x ≡ y
@@ -83,11 +83,11 @@ counted_one size m n x y r s past past' reason other same (wrong op more is noth
     (is ∙ sym is', nothing ∙ sym nothing')
 counted_one size m n x y r s past past' reason other same (wrong op more is nothing count e w)
     (large c o more' is' joined count' e' takes shape much) =
-    let whole = same_front op (c ∷ o) more more' (count ∙ same.count ∙ sym count') (sym e ∙ same.past ∙ e') in
+    let whole = same_prefix op (c ∷ o) more more' (count ∙ same.count ∙ sym count') (sym e ∙ same.past ∙ e') in
     absurd (not_wrong size c op o takes whole shape w)
 counted_one size m n x y r s past past' reason other same (large c o more is joined count e takes shape much)
     (wrong op more' is' nothing count' e' w) =
-    let whole = same_front op (c ∷ o) more' more (count' ∙ sym same.count ∙ sym count) (sym e' ∙ sym same.past ∙ e) in
+    let whole = same_prefix op (c ∷ o) more' more (count' ∙ sym same.count ∙ sym count) (sym e' ∙ sym same.past ∙ e) in
     absurd (not_wrong size c op o takes whole shape w)
 counted_one size m n x y r s past past' reason other same (large c o more is joined count e takes shape much)
     (large c' o' more' is' joined' count' e' takes' shape' much') =
@@ -112,10 +112,10 @@ counted_none : (address_size code n : ℕ) (operand spelling more x rest past : 
 counted_none size code n operand spelling more x rest past reason same right small (short is joined lt) =
     omega (arith, lt, same.count, ap length same.past, length-append operand more)
 counted_none size code n operand spelling more x rest past reason same right small (wrong op more' is nothing count e w) =
-    let whole = same_front op (code ∷ operand) more' more (count ∙ sym same.count) (sym e ∙ sym same.past) in
+    let whole = same_prefix op (code ∷ operand) more' more (count ∙ sym same.count) (sym e ∙ sym same.past) in
     subst (IsWrongOperand size) whole w right
 counted_none size code n operand spelling more x rest past reason same right small (large c o more' is joined count e takes shape much) =
-    let whole : code ∷ operand ≡ c ∷ o = same_front (code ∷ operand) (c ∷ o) more more' (same.count ∙ sym count) (same.past ∙ e) in
+    let whole : code ∷ operand ≡ c ∷ o = same_prefix (code ∷ operand) (c ∷ o) more more' (same.count ∙ sym count) (same.past ∙ e) in
     let codes : code ≡ c = cc in
     let operands : o ≡ operand = cc in
     small (ap taken_by codes ∙ takes) (subst IsLargeUnsigned operands much)
@@ -321,11 +321,11 @@ first_fault h numbers =
 
 first_in_one : (h : HeaderParts) → HasHeaderNumbers h → AreOne (IsFirstIn h)
 first_in_one h numbers reason other before before' left left' f g e =
-    let all : f.front ++ (f.fields ++ left) ≡ g.front ++ (g.fields ++ left') =
-    sym (ap (λ (z : List ℕ). z ++ left) f.joined ∙ append_assoc f.front f.fields left) ∙ e ∙ ap (λ (z : List ℕ). z ++ left') g.joined
-    ∙ append_assoc g.front g.fields left' in
+    let all : f.prefix ++ (f.fields ++ left) ≡ g.prefix ++ (g.fields ++ left') =
+    sym (ap (λ (z : List ℕ). z ++ left) f.joined ∙ append_assoc f.prefix f.fields left) ∙ e ∙ ap (λ (z : List ℕ). z ++ left') g.joined
+    ∙ append_assoc g.prefix g.fields left' in
     let found =
-    each_one (OpBytes h) (IsFirstFault h) (op_code h numbers) (first_fault h numbers) f.ops g.ops reason other f.front g.front f.fields
+    each_one (OpBytes h) (IsFirstFault h) (op_code h numbers) (first_fault h numbers) f.ops g.ops reason other f.prefix g.prefix f.fields
     g.fields left left' f.sound g.sound f.fault g.fault all in
     (found.0, f.joined ∙ found.1 ∙ sym g.joined)
 

@@ -7,7 +7,7 @@ use Rattle.std.specs.Prelude.{ℤ}
 use Rattle.lnt_wire.specs.Bytes.{Exactly, IsCode}
 use Rattle.lnt_wire.specs.Leb128.{UnsignedLeb}
 use Rattle.lnt_wire.proofs.CodeLaws.{same_leb, unsigned_code, signed_code, number_code, peel, same_join}
-use Rattle.lnt_wire.proofs.LengthLaws.{IsWidth, width_2, width_4, width_8, same_front, same_rest}
+use Rattle.lnt_wire.proofs.LengthLaws.{IsWidth, width_2, width_4, width_8, same_prefix, same_rest}
 use Rattle.lnt_header.specs.declared.header.HeaderParts.{HeaderParts}
 use Rattle.lnt_header.specs.declared.op.Op.{Op}
 use Rattle.lnt_header.specs.declared.op.Op.TheVariants.{Special}
@@ -107,7 +107,7 @@ coding_shape h (Coding.unknown_extended code operand) x some p = extended_shape 
 shape_of : (h : HeaderParts) (op : Op) (x : List ℕ) → OpBytes h op x → Shape h.opcode_base (tag op) x
 shape_of h op x p = coding_shape h (coding op) x (positive op) p
 
--- the same bytes in front say the same
+-- the same first bytes say the same
 heads_of : (a b : ℕ) (x y u v r s : List ℕ) → x ≡ a ∷ u → y ≡ b ∷ v → x ++ r ≡ y ++ s → (a ≡ b) × (u ++ r ≡ v ++ s)
 heads_of a b x y u v r s p q e = grind (arith, common_steps)
 
@@ -155,7 +155,7 @@ nothing_code = record { one = λ u v x y r s p q e. (refl, p ∙ sym q) }
 -- what follows the length of an extended operation
 same_extended : {P Q : List ℕ → Type 0} (c d : ℕ) (x y r s : List ℕ) → (p : ExtendedParts c P x) → (q : ExtendedParts d Q y)
     → x ++ r ≡ y ++ s → (c ∷ p.operand ≡ d ∷ q.operand) × (x ≡ y)
-same_extended c d x y r s p q e = grind (arith, common_steps, heads_of, append_assoc, unsigned_code, same_front, same_rest)
+same_extended c d x y r s p q e = grind (arith, common_steps, heads_of, append_assoc, unsigned_code, same_prefix, same_rest)
 
 same_extended_operand : {X : Type 0} {P : X → List ℕ → Type 0} → IsCode P → (make : ℕ → X → Coding) (c d : ℕ) (m n : X) (x y r s : List ℕ)
     → Extended c (P m) x → Extended d (P n) y → x ++ r ≡ y ++ s → (make c m ≡ make d n) × (x ≡ y)
@@ -297,9 +297,9 @@ pub same_whole : {X : Type 0} {P : X → List ℕ → Type 0} → IsCode P → (
     → (us vs : List X) (x y : List ℕ) → Each P us x → Each P vs y → x ≡ y → us ≡ vs
 same_whole code some [] [] x y p q e = refl
 same_whole code some [] (v ∷ vs) x y p q e =
-    absurd (omega (arith, some v q.front q.first, ap length q.joined, ap length e, ap length p, length-append q.front q.back))
+    absurd (omega (arith, some v q.prefix q.first, ap length q.joined, ap length e, ap length p, length-append q.prefix q.back))
 same_whole code some (u ∷ us) [] x y p q e =
-    absurd (omega (arith, some u p.front p.first, ap length p.joined, ap length e, ap length q, length-append p.front p.back))
+    absurd (omega (arith, some u p.prefix p.first, ap length p.joined, ap length e, ap length q, length-append p.prefix p.back))
 same_whole code some (u ∷ us) (v ∷ vs) x y p q e =
     let one = peel code u v x y [] [] p q (ap (λ (z : List ℕ). z ++ []) e) in
     let past : p.back ≡ q.back = sym (append-nil p.back) ∙ one.past ∙ append-nil q.back in

@@ -64,12 +64,12 @@ shortest_extended Operand code x number operand p q = record {
   spelled = record {
     spelled = (
       code ∷ operand,
-      record { front = code ∷ []; back = operand; first = refl; second = q.spelled; joined = refl },
+      record { prefix = code ∷ []; back = operand; first = refl; second = q.spelled; joined = refl },
       record {
-        front = 0 ∷ [];
+        prefix = 0 ∷ [];
         back = number ++ code ∷ operand;
         first = refl;
-        second = record { front = number; back = code ∷ operand; first = p.spelled; second = refl; joined = refl };
+        second = record { prefix = number; back = code ∷ operand; first = p.spelled; second = refl; joined = refl };
         joined = refl;
       },
     );

@@ -27,28 +27,28 @@ pub some_operands : (k : ℕ) (operands : Operands) → StandsForSome (views.Unk
 some_operands k operands v = operands_of k operands v.op v.stands
 
 -- a list that ends where the bytes do
-whole_list : (bytes numbers front rest : List ℕ) → Each UnsignedLeb numbers front → bytes ≡ front ++ rest → NoneSpelled UnsignedLeb rest
+whole_list : (bytes numbers prefix rest : List ℕ) → Each UnsignedLeb numbers prefix → bytes ≡ prefix ++ rest → NoneSpelled UnsignedLeb rest
     → (others : List ℕ) → Each UnsignedLeb others bytes → Each UnsignedLeb numbers bytes
-whole_list bytes numbers front [] p whole none others q = subst (Each UnsignedLeb numbers) (sym (whole ∙ append-nil front)) p
-whole_list bytes numbers front (b ∷ rest) p whole none others q =
-    absurd (none_filled UnsignedLeb numbers front (b ∷ rest) bytes unsigned_code p (omega arith) whole none others q)
+whole_list bytes numbers prefix [] p whole none others q = subst (Each UnsignedLeb numbers) (sym (whole ∙ append-nil prefix)) p
+whole_list bytes numbers prefix (b ∷ rest) p whole none others q =
+    absurd (none_filled UnsignedLeb numbers prefix (b ∷ rest) bytes unsigned_code p (omega arith) whole none others q)
 
 pub numbers_none : (bytes : List ℕ) (at : At) → at.rest ≡ bytes → NumbersSoFar bytes [] at
-numbers_none bytes at e = record { front = []; spelled = refl; whole = sym e }
+numbers_none bytes at e = record { prefix = []; spelled = refl; whole = sym e }
 
 pub numbers_more : (bytes numbers : List ℕ) (n : ℕ) (at new : At) → NumbersSoFar bytes numbers at → Reads UnsignedLeb n at new
     → NumbersSoFar bytes (numbers ++ n ∷ []) new
 numbers_more bytes numbers n at new so r = record {
-  front = so.front ++ r.spelling;
-  spelled = each_push UnsignedLeb numbers n so.front r.spelling so.spelled r.spelled;
-  whole = so.whole ∙ ap (λ (z : List ℕ). so.front ++ z) r.whole ∙ sym (append_assoc so.front r.spelling new.rest);
+  prefix = so.prefix ++ r.spelling;
+  spelled = each_push UnsignedLeb numbers n so.prefix r.spelling so.spelled r.spelled;
+  whole = so.whole ∙ ap (λ (z : List ℕ). so.prefix ++ z) r.whole ∙ sym (append_assoc so.prefix r.spelling new.rest);
 }
 
 -- where no number follows, the bytes end
 pub numbers_done : (bytes numbers : List ℕ) (at : At) (fault : Fault) → SpellsNumbers bytes → NumbersSoFar bytes numbers at
     → RefusesField (IsLebFault IsLargeUnsigned) UnsignedLeb at fault → Each UnsignedLeb numbers bytes
 numbers_done bytes numbers at fault some so r =
-    whole_list bytes numbers so.front at.rest so.spelled so.whole r.none some.numbers some.spelled
+    whole_list bytes numbers so.prefix at.rest so.spelled so.whole r.none some.numbers some.spelled
 
 -- each number shortens the rest
 pub number_long : (n : ℕ) (at new : At) → Reads UnsignedLeb n at new → length new.rest < length at.rest

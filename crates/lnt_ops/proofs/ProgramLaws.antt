@@ -32,7 +32,7 @@ pub none_filled : {X : Type 0} (P : X → List ℕ → Type 0) (us : List X) (x 
     → bytes ≡ x ++ rest → NoneSpelled P rest → (vs : List X) → Each P vs bytes → ⊥
 none_filled P us x rest bytes code p some whole none [] q = omega (arith, some, ap length whole, ap length q, length-append x rest)
 none_filled P [] x rest bytes code p some whole none (v ∷ vs) q =
-    none v q.front q.back q.first (sym q.joined ∙ whole ∙ ap (λ (z : List ℕ). z ++ rest) p)
+    none v q.prefix q.back q.first (sym q.joined ∙ whole ∙ ap (λ (z : List ℕ). z ++ rest) p)
 none_filled P (u ∷ us) x rest bytes code p some whole none (v ∷ vs) q =
     let one = peel code v u bytes x [] rest q p (append-nil bytes ∙ whole) in
     none_filled P us p.back rest q.back code p.second some (sym (append-nil q.back) ∙ one.past) none vs q.second
@@ -44,7 +44,7 @@ all_more h (v ∷ us) u all is = (all.0, all_more h us u all.1 is)
 pub ops_none : (h : HeaderParts) (place : ℕ) (program : List ℕ) (at : At) → at.place ≡ place → at.rest ≡ program → at.order ≡ h.order
     → OpsSoFar h place program [] at
 ops_none h place program at placed rest order =
-    record { front = []; spelled = refl; admitted = tt; whole = sym rest; place_is = placed ∙ sym (add-zero place); order_is = order }
+    record { prefix = []; spelled = refl; admitted = tt; whole = sym rest; place_is = placed ∙ sym (add-zero place); order_is = order }
 
 pub ops_more : (h : HeaderParts) (place : ℕ) (program : List ℕ) (ops : List Op) (op : Op) (view : OpView) (at new : At)
     → OpsSoFar h place program ops at → GivesOp h view at new → StandsFor view op → OpsSoFar h place program (ops ++ op ∷ []) new
@@ -52,11 +52,11 @@ ops_more h place program ops op view at new so g stands =
     let r = g.reads in
     let same : g.op ≡ op = same_op view g.op op g.stands stands in
     record {
-      front = so.front ++ r.spelling;
-      spelled = each_push (OpBytes h) ops op so.front r.spelling so.spelled (subst (λ (o : Op). OpBytes h o r.spelling) same r.spelled);
+      prefix = so.prefix ++ r.spelling;
+      spelled = each_push (OpBytes h) ops op so.prefix r.spelling so.spelled (subst (λ (o : Op). OpBytes h o r.spelling) same r.spelled);
       admitted = all_more h ops op so.admitted (subst (Admits h) same g.admitted);
-      whole = so.whole ∙ ap (λ (z : List ℕ). so.front ++ z) r.whole ∙ sym (append_assoc so.front r.spelling new.rest);
-      place_is = omega (arith, r.place, so.place_is, length-append so.front r.spelling);
+      whole = so.whole ∙ ap (λ (z : List ℕ). so.prefix ++ z) r.whole ∙ sym (append_assoc so.prefix r.spelling new.rest);
+      place_is = omega (arith, r.place, so.place_is, length-append so.prefix r.spelling);
       order_is = r.order ∙ so.order_is;
     }
 
@@ -80,13 +80,13 @@ pub ops_broken : (h : HeaderParts) (place : ℕ) (program : List ℕ) (ops : Lis
     → OpsSoFar h place program ops at → 0 < length at.rest
     → Refuses (IsFirstFault h) (OpBytes h) at fault → BrokenProgram h place program fault
 ops_broken h place program ops at fault header so some r = record {
-  before = so.front ++ r.before;
+  before = so.prefix ++ r.before;
   left = r.left;
-  split = so.whole ∙ ap (λ (z : List ℕ). so.front ++ z) r.split ∙ sym (append_assoc so.front r.before r.left);
-  place_is = omega (arith, r.place, so.place_is, length-append so.front r.before);
-  reason = op_later h.address_size fault.reason so.front r.before r.left (op_fault h fault.reason r.before r.left r.reason);
-  first = record { ops = ops; front = so.front; fields = r.before; sound = so.spelled; joined = refl; fault = r.reason };
-  none = none_filled (OpBytes h) ops so.front at.rest program (op_code h header.numbers) so.spelled some so.whole r.none;
+  split = so.whole ∙ ap (λ (z : List ℕ). so.prefix ++ z) r.split ∙ sym (append_assoc so.prefix r.before r.left);
+  place_is = omega (arith, r.place, so.place_is, length-append so.prefix r.before);
+  reason = op_later h.address_size fault.reason so.prefix r.before r.left (op_fault h fault.reason r.before r.left r.reason);
+  first = record { ops = ops; prefix = so.prefix; fields = r.before; sound = so.spelled; joined = refl; fault = r.reason };
+  none = none_filled (OpBytes h) ops so.prefix at.rest program (op_code h header.numbers) so.spelled some so.whole r.none;
 }
 
 -- ---- walks

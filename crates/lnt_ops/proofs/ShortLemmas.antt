@@ -1,4 +1,4 @@
--- Operations with short operands, at the front of bytes.
+-- Operations with short operands, at the beginning of bytes.
 use Rattle.std.proofs.Common.{◌≡◌, ◌≢◌, ◌==◌, ℕ, zero, suc, ◌+◌, ◌-◌, ◌*◌, ◌%◌, ◌<◌, ◌≤◌, cond, false, List, [], ◌∷◌, ◌++◌}
 use Rattle.std.proofs.Common.{length, take, drop, get_or, add-one, refl, sym, ap, subst, ◌∙◌, arith, inl, inr}
 use Rattle.std.specs.Prelude.{ℤ, pos, neg_ℤ, ◌+ℤ◌, ◌-ℤ◌, ◌*ℤ◌, ◌≤ℤ◌, ◌<ℤ◌, FitsSigned}
@@ -22,12 +22,12 @@ use Rattle.lnt_ops.proofs.ViewLaws.{is_coded}
 use Rattle.lnt_ops.proofs.WalkLemmas.{steps_on}
 use Rattle.lnt_ops.specs.OpBytes.{CodingBytes, OpBytes, OperandBytes, Standard}
 use Rattle.lnt_ops.specs.OpReading.{GivesOp}
-use Rattle.lnt_ops.specs.Short.{IsOperationFront, IsShort, NoneShort}
+use Rattle.lnt_ops.specs.Short.{IsOperationPrefix, IsShort, NoneShort}
 use Rattle.lnt_ops.specs.Stepping.{IsGroup, NoByte, NoDiscriminator, NoTwoBytes}
 use Rattle.lnt_ops.specs.Walks.{Walk, GivesOperation}
 use Rattle.std.proofs.lemmas.Grind.{common_steps}
 
--- ---- bytes at the front
+-- ---- bytes at the beginning
 
 one_taken : (bytes : List ℕ) → 0 < length bytes → take 1 bytes ≡ get_or bytes 0 0 ∷ []
 one_taken [] some = absurd (omega arith)
@@ -88,43 +88,43 @@ discriminator_taken bytes n some first second third = rw (three_taken bytes some
 
 -- ---- operations
 
-front : (h : HeaderParts) (k : ℕ) (view : OpView) (op : Op) (n : ℕ) (bytes operand : List ℕ) → 0 < length bytes → get_or bytes 0 0 ≡ k
+prefix : (h : HeaderParts) (k : ℕ) (view : OpView) (op : Op) (n : ℕ) (bytes operand : List ℕ) → 0 < length bytes → get_or bytes 0 0 ≡ k
     → operand ≡ drop 1 bytes → n ≤ length operand
-    → StandsFor view op → Admits h op → OpBytes h op (k ∷ take n operand) → IsOperationFront h view (n + 1) bytes
-front h k view op n bytes operand some is same le stands admitted spelled = grind (arith, common_steps, one_less, after_one)
+    → StandsFor view op → Admits h op → OpBytes h op (k ∷ take n operand) → IsOperationPrefix h view (n + 1) bytes
+prefix h k view op n bytes operand some is same le stands admitted spelled = grind (arith, common_steps, one_less, after_one)
 
-pub front_special : (h : HeaderParts) (k : ℕ) (bytes : List ℕ) → 0 < length bytes → get_or bytes 0 0 ≡ k → h.opcode_base ≤ k → k < 256
-    → IsOperationFront h (views.Special k) 1 bytes
-front_special h k bytes some is le byte =
-    front h k (views.Special k) (ops.Special k) 0 bytes (drop 1 bytes) some is refl (omega arith) refl le (le, byte, refl)
+pub prefix_special : (h : HeaderParts) (k : ℕ) (bytes : List ℕ) → 0 < length bytes → get_or bytes 0 0 ≡ k → h.opcode_base ≤ k → k < 256
+    → IsOperationPrefix h (views.Special k) 1 bytes
+prefix_special h k bytes some is le byte =
+    prefix h k (views.Special k) (ops.Special k) 0 bytes (drop 1 bytes) some is refl (omega arith) refl le (le, byte, refl)
 
 some_bytes : (bytes : List ℕ) → false ≡ (length bytes == 0) → 0 < length bytes
 some_bytes [] e = absurd cc
 some_bytes (b ∷ bytes) e = omega arith
 
-front_known : (h : HeaderParts) (view : OpView) (k n base : ℕ) (operand : Operand) (bytes rest : List ℕ)
+prefix_known : (h : HeaderParts) (view : OpView) (k n base : ℕ) (operand : Operand) (bytes rest : List ℕ)
     → coding_of view ≡ standard k operand → false ≡ (length bytes == 0) → get_or bytes 0 0 ≡ k → get_or bytes 0 0 < base
     → base ≡ h.opcode_base → rest ≡ drop 1 bytes → n ≤ length rest → OperandBytes h operand (take n rest)
-    → IsOperationFront h view (n + 1) bytes
-front_known h view k n base operand bytes rest e some is lt base_is same le p = grind (arith, common_steps, known_view, front, some_bytes)
+    → IsOperationPrefix h view (n + 1) bytes
+prefix_known h view k n base operand bytes rest e some is lt base_is same le p = grind (arith, common_steps, known_view, prefix, some_bytes)
 
-pub front_bare : (h : HeaderParts) (view : OpView) (k base : ℕ) (bytes : List ℕ) → coding_of view ≡ standard k bare
-    → false ≡ (length bytes == 0) → get_or bytes 0 0 ≡ k → get_or bytes 0 0 < base → base ≡ h.opcode_base → IsOperationFront h view 1 bytes
-front_bare h view k base bytes e some is lt base_is =
-    front_known h view k 0 base bare bytes (drop 1 bytes) e some is lt base_is refl (omega arith) refl
+pub prefix_bare : (h : HeaderParts) (view : OpView) (k base : ℕ) (bytes : List ℕ) → coding_of view ≡ standard k bare
+    → false ≡ (length bytes == 0) → get_or bytes 0 0 ≡ k → get_or bytes 0 0 < base → base ≡ h.opcode_base → IsOperationPrefix h view 1 bytes
+prefix_bare h view k base bytes e some is lt base_is =
+    prefix_known h view k 0 base bare bytes (drop 1 bytes) e some is lt base_is refl (omega arith) refl
 
-pub front_unsigned : (h : HeaderParts) (view : OpView) (k n base : ℕ) (bytes operand : List ℕ) → coding_of view ≡ standard k (unsigned n)
+pub prefix_unsigned : (h : HeaderParts) (view : OpView) (k n base : ℕ) (bytes operand : List ℕ) → coding_of view ≡ standard k (unsigned n)
     → false ≡ (length bytes == 0) → get_or bytes 0 0 ≡ k → get_or bytes 0 0 < base → base ≡ h.opcode_base → operand ≡ drop 1 bytes
-    → (1 ≤ length operand) × UnsignedLeb n (take 1 operand) → IsOperationFront h view 2 bytes
-front_unsigned h view k n base bytes operand e some is lt base_is same p =
-    front_known h view k 1 base (unsigned n) bytes operand e some is lt base_is same p.0 p.1
+    → (1 ≤ length operand) × UnsignedLeb n (take 1 operand) → IsOperationPrefix h view 2 bytes
+prefix_unsigned h view k n base bytes operand e some is lt base_is same p =
+    prefix_known h view k 1 base (unsigned n) bytes operand e some is lt base_is same p.0 p.1
 
-pub front_signed : (h : HeaderParts) (view : OpView) (k size base : ℕ) (z : ℤ) (bytes operand : List ℕ)
+pub prefix_signed : (h : HeaderParts) (view : OpView) (k size base : ℕ) (z : ℤ) (bytes operand : List ℕ)
     → coding_of view ≡ standard k (signed z) → false ≡ (length bytes == 0) → get_or bytes 0 0 ≡ k → get_or bytes 0 0 < base
     → base ≡ h.opcode_base → operand ≡ drop 1 bytes → (size ≤ length operand) × SignedLeb z (take size operand)
-    → IsOperationFront h view (size + 1) bytes
-front_signed h view k size base z bytes operand e some is lt base_is same p =
-    front_known h view k size base (signed z) bytes operand e some is lt base_is same p.0 p.1
+    → IsOperationPrefix h view (size + 1) bytes
+prefix_signed h view k size base z bytes operand e some is lt base_is same p =
+    prefix_known h view k size base (signed z) bytes operand e some is lt base_is same p.0 p.1
 
 -- the length 2, the code 4 and a discriminator of one byte
 discriminator : (h : HeaderParts) (k n : ℕ) (operand : List ℕ) → k ≡ 0 → n < 128 → operand ≡ 2 ∷ 4 ∷ n ∷ []
@@ -134,18 +134,18 @@ discriminator h k n operand e low is =
     rw (e, is) (
       4 ∷ n ∷ [],
       record {
-        front = 4 ∷ [];
+        prefix = 4 ∷ [];
         back = n ∷ [];
         first = refl;
         second = record { shape = low; value = omega (arith, small); fits = omega arith };
         joined = refl;
       },
       record {
-        front = 0 ∷ [];
+        prefix = 0 ∷ [];
         back = 2 ∷ 4 ∷ n ∷ [];
         first = refl;
         second = record {
-          front = 2 ∷ [];
+          prefix = 2 ∷ [];
           back = 4 ∷ n ∷ [];
           first = record { shape = omega arith; value = refl; fits = omega arith };
           second = refl;
@@ -155,27 +155,27 @@ discriminator h k n operand e low is =
       },
     )
 
-pub front_discriminator : (h : HeaderParts) (k n : ℕ) (bytes operand : List ℕ) → false ≡ (length bytes == 0) → get_or bytes 0 0 ≡ k
+pub prefix_discriminator : (h : HeaderParts) (k n : ℕ) (bytes operand : List ℕ) → false ≡ (length bytes == 0) → get_or bytes 0 0 ≡ k
     → k ≡ 0 → operand ≡ drop 1 bytes → (3 ≤ length operand) × (n < 128) × (take 3 operand ≡ 2 ∷ 4 ∷ n ∷ [])
-    → IsOperationFront h (views.SetDiscriminator n) 4 bytes
-front_discriminator h k n bytes operand some is e same p =
-    front h k (views.SetDiscriminator n) (ops.SetDiscriminator n) 3 bytes operand (some_bytes bytes some) is same p.0 refl tt
+    → IsOperationPrefix h (views.SetDiscriminator n) 4 bytes
+prefix_discriminator h k n bytes operand some is e same p =
+    prefix h k (views.SetDiscriminator n) (ops.SetDiscriminator n) 3 bytes operand (some_bytes bytes some) is same p.0 refl tt
     (discriminator h k n (take 3 operand) e p.1 p.2)
 
 -- ---- steps of a walk
 
-gives_front : (h : HeaderParts) (view : OpView) (size : ℕ) (old new : At) → IsOperationFront h view size old.rest
+gives_prefix : (h : HeaderParts) (view : OpView) (size : ℕ) (old new : At) → IsOperationPrefix h view size old.rest
     → new.rest ≡ drop size old.rest → new.place ≡ old.place + size → new.order ≡ old.order → GivesOp h view old new
-gives_front h view size old new f rest place order = grind (arith, common_steps, take-append-drop, length-take-le)
+gives_prefix h view size old new f rest place order = grind (arith, common_steps, take-append-drop, length-take-le)
 
 -- a walk over a program that ends at this offset
 abbrev pub walk_at : HeaderParts → ℕ → List ℕ → Walk
 walk_at h end rest = record { header = h; at = record { place = end - length rest; rest = rest; order = h.order }; failed = false }
 
 pub steps_short : (h : HeaderParts) (end : ℕ) (view : OpView) (size : ℕ) (rest past : List ℕ) → length rest ≤ end
-    → IsOperationFront h view size rest → past ≡ drop size rest → length past + size ≡ length rest
+    → IsOperationPrefix h view size rest → past ≡ drop size rest → length past + size ≡ length rest
     → GivesOperation view (walk_at h end rest) (walk_at h end past)
-steps_short h end view size rest past le f is count = grind (arith, common_steps, steps_on, gives_front)
+steps_short h end view size rest past le f is count = grind (arith, common_steps, steps_on, gives_prefix)
 
 -- ---- where no such operation begins
 
@@ -247,7 +247,7 @@ IsLong k operand = LacksOperand (short_kind k) operand
 
 -- what is so of the operand, where an operation begins the bytes that is coded so
 begins : (h : HeaderParts) (view : OpView) (k n size : ℕ) (operand : Operand) (bytes : List ℕ)
-    → IsLong (get_or bytes 0 0) (drop 1 bytes) → coding_of view ≡ standard k operand → size ≡ n + 1 → IsOperationFront h view size bytes
+    → IsLong (get_or bytes 0 0) (drop 1 bytes) → coding_of view ≡ standard k operand → size ≡ n + 1 → IsOperationPrefix h view size bytes
     → IsLong k (drop 1 bytes) × OperandBytes h operand (take n (drop 1 bytes))
 begins h view k n size operand bytes long e count f =
     let coded = is_coded view f.op (standard k operand) f.stands e (λ listed. listed) in
@@ -276,7 +276,7 @@ discriminator_begins h n _ bytes le s b long = absurd s
 none_long : (h : HeaderParts) (bytes : List ℕ) → get_or bytes 0 0 < h.opcode_base → IsLong (get_or bytes 0 0) (drop 1 bytes)
     → NoneShort h bytes
 none_long h bytes low long (views.Special c) size e f =
-    let g : IsOperationFront h (views.Special c) 1 bytes = subst (λ (m : ℕ). IsOperationFront h (views.Special c) m bytes) e f in
+    let g : IsOperationPrefix h (views.Special c) 1 bytes = subst (λ (m : ℕ). IsOperationPrefix h (views.Special c) m bytes) e f in
     omega (arith, low, special_begins h c g.op bytes (omega (arith, g.within)) g.stands g.spelled)
 none_long h bytes low long views.Copy size e f = (begins h views.Copy 1 0 size bare bytes long refl e f).0
 none_long h bytes low long views.NegateStmt size e f = (begins h views.NegateStmt 6 0 size bare bytes long refl e f).0
@@ -292,8 +292,8 @@ none_long h bytes low long (views.AdvanceLine z) size (inl e) f =
 none_long h bytes low long (views.AdvanceLine z) size (inr e) f =
     let found = begins h (views.AdvanceLine z) 3 2 size (signed z) bytes long refl e f in low_bytes (drop 1 bytes) found.1.shape found.0
 none_long h bytes low long (views.SetDiscriminator n) size e f =
-    let g : IsOperationFront h (views.SetDiscriminator n) 4 bytes =
-    subst (λ (m : ℕ). IsOperationFront h (views.SetDiscriminator n) m bytes) e f in
+    let g : IsOperationPrefix h (views.SetDiscriminator n) 4 bytes =
+    subst (λ (m : ℕ). IsOperationPrefix h (views.SetDiscriminator n) m bytes) e f in
     discriminator_begins h n g.op bytes g.within g.stands g.spelled long
 none_long h bytes low long _ size e f = absurd e
 
@@ -329,4 +329,4 @@ none_other h k bytes is lt n0 n1 n2 n3 n4 n5 n6 n8 =
     none_here h k h.opcode_base bytes (drop 1 bytes) is (omega (arith, is, lt)) refl refl (is_rare k n0 n1 n2 n3 n4 n5 n6 n8 (drop 1 bytes))
 
 -- each short operation that bytes begin with, and why none does
-pub ruleset short_fronts = (front_special, front_bare, front_unsigned, front_signed, front_discriminator, none_empty, none_here, none_other)
+pub ruleset short_prefixes = (prefix_special, prefix_bare, prefix_unsigned, prefix_signed, prefix_discriminator, none_empty, none_here, none_other)

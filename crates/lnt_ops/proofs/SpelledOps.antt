@@ -45,11 +45,11 @@ least_number order size n fits = grind (arith, common_steps)
 least_standard : (h : HeaderParts) (k : ℕ) (Operand : List ℕ → Type 0) → k < h.opcode_base → Least Operand → Least (Standard h k Operand)
 least_standard h k Operand low o = record {
   bytes = k ∷ o.bytes;
-  is = (low, record { front = k ∷ []; back = o.bytes; first = refl; second = o.is; joined = refl });
+  is = (low, record { prefix = k ∷ []; back = o.bytes; first = refl; second = o.is; joined = refl });
   least = λ other p. omega (
     arith,
     ap length p.1.joined,
-    length-append p.1.front p.1.back,
+    length-append p.1.prefix p.1.back,
     ap length p.1.first,
     o.least p.1.back
         p.1.second,
@@ -135,7 +135,7 @@ ops_allowed : (h : HeaderParts) (ops : List Op) (x : List ℕ) → Each (OpBytes
     × AllByRecursion FitsOp ops
 ops_allowed h [] x p = (tt, tt)
 ops_allowed h (op ∷ ops) x p =
-    let one = op_allowed h op p.front p.first in
+    let one = op_allowed h op p.prefix p.first in
     let rest = ops_allowed h ops p.back p.second in
     ((one.0, rest.0), (one.1, rest.1))
 

@@ -23,7 +23,7 @@ use Rattle.std.proofs.Common.{arith}
 
 pub after_opcode : (h : HeaderParts) (k : ℕ) (Operand : List ℕ → Type 0) (y : List ℕ) → k < h.opcode_base → Operand y
     → Standard h k Operand (k ∷ y)
-after_opcode h k Operand y lt p = (lt, record { front = k ∷ []; back = y; first = refl; second = p; joined = refl })
+after_opcode h k Operand y lt p = (lt, record { prefix = k ∷ []; back = y; first = refl; second = p; joined = refl })
 
 -- ---- operations that are read
 

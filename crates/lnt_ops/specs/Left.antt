@@ -14,9 +14,9 @@ pub record OperationsAreLeft (h : HeaderParts) (later : List Op) (walk : Walk) :
 
 -- This many bytes of the program encode the first of its operations, and the bytes after them encode the later ones.
 pub record IsPlace (h : HeaderParts) (program : List ℕ) (earlier later : List Op) (place : ℕ) : Type 0 where
-  pub front : List ℕ
+  pub prefix : List ℕ
   pub rest : List ℕ
-  pub split : program ≡ front ++ rest
-  pub place_is : place ≡ length front
-  pub earlier_spelled : Each (OpBytes h) earlier front
+  pub split : program ≡ prefix ++ rest
+  pub place_is : place ≡ length prefix
+  pub earlier_spelled : Each (OpBytes h) earlier prefix
   pub later_spelled : Each (OpBytes h) later rest

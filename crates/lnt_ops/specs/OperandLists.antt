@@ -18,6 +18,6 @@ pub record SpellsNumbers (bytes : List ℕ) : Type 0 where
 
 -- the numbers of the bytes up to a cursor
 pub record NumbersSoFar (bytes numbers : List ℕ) (at : At) : Type 0 where
-  pub front : List ℕ
-  pub spelled : Each UnsignedLeb numbers front
-  pub whole : bytes ≡ front ++ at.rest
+  pub prefix : List ℕ
+  pub spelled : Each UnsignedLeb numbers prefix
+  pub whole : bytes ≡ prefix ++ at.rest

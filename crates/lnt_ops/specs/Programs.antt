@@ -11,10 +11,10 @@ use Rattle.lnt_ops.specs.OpFaults.{IsOpFault, IsFirstFault}
 -- The fault is that of an operation that isn't valid, after some that are.
 pub record IsFirstIn (h : HeaderParts) (reason : Reason) (before left : List ℕ) : Type 0 where
   pub ops : List Op
-  pub front : List ℕ
+  pub prefix : List ℕ
   pub fields : List ℕ
-  pub sound : Each (OpBytes h) ops front
-  pub joined : before ≡ front ++ fields
+  pub sound : Each (OpBytes h) ops prefix
+  pub joined : before ≡ prefix ++ fields
   pub fault : IsFirstFault h reason fields left
 
 -- No operations encode the whole program, which is at a place, and the fault says why: its own place is after the bytes `before`.

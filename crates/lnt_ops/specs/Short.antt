@@ -9,7 +9,7 @@ use Rattle.lnt_header.specs.OpRules.{Admits, StandsFor}
 use Rattle.lnt_ops.specs.OpBytes.{OpBytes}
 
 -- This many bytes at the start encode an operation that the header admits and the view stands for.
-pub record IsOperationFront (h : HeaderParts) (view : OpView) (size : ℕ) (bytes : List ℕ) : Type 0 where
+pub record IsOperationPrefix (h : HeaderParts) (view : OpView) (size : ℕ) (bytes : List ℕ) : Type 0 where
   pub op : Op
   pub stands : StandsFor view op
   pub admitted : Admits h op
@@ -31,4 +31,4 @@ IsShort view size = ⊥
 
 -- The bytes don't begin with such an operation.
 abbrev pub NoneShort : HeaderParts → List ℕ → Type 0
-NoneShort h bytes = (view : OpView) (size : ℕ) → IsShort view size → IsOperationFront h view size bytes → ⊥
+NoneShort h bytes = (view : OpView) (size : ℕ) → IsShort view size → IsOperationPrefix h view size bytes → ⊥

@@ -17,11 +17,11 @@ use Rattle.lnt_ops.specs.OpSpellings.{Coded}
 
 -- the operations of the program up to a cursor
 pub record OpsSoFar (h : HeaderParts) (place : ℕ) (program : List ℕ) (ops : List Op) (at : At) : Type 0 where
-  pub front : List ℕ
-  pub spelled : Each (OpBytes h) ops front
+  pub prefix : List ℕ
+  pub spelled : Each (OpBytes h) ops prefix
   pub admitted : AllByRecursion (Admits h) ops
-  pub whole : program ≡ front ++ at.rest
-  pub place_is : at.place ≡ place + length front
+  pub whole : program ≡ prefix ++ at.rest
+  pub place_is : at.place ≡ place + length prefix
   pub order_is : at.order ≡ h.order
 
 -- ---- the next operation

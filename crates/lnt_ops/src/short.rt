@@ -4,7 +4,7 @@
 //! of one over all, a `lookup` takes 0.57 and 0.80 of the instructions (`bench/RESULTS.md`).
 ghost use Rattle.std.specs.Prelude.{◌≡◌, ◌<◌, ◌≤◌, length, take, [], ◌∷◌, IfNone, IfSome};
 ghost use Rattle.lnt_wire.specs.Leb128.{SignedLeb, UnsignedLeb};
-ghost use Rattle.lnt_ops.specs.Short.{IsOperationFront, NoneShort};
+ghost use Rattle.lnt_ops.specs.Short.{IsOperationPrefix, NoneShort};
 ghost use Rattle.lnt_ops.specs.Stepping.{IsGroup, NoByte, NoDiscriminator, NoTwoBytes};
 
 use lnt_header::{Header, OpView};
@@ -12,9 +12,9 @@ use lnt_header::{Header, OpView};
 /// The operation that the bytes begin with, and the number of its bytes, if it is of a frequent kind and its operand is
 /// short. `None` if the bytes don't begin with such an operation.
 #[inline(always)]
-#[tactic(auto, using(crate::proofs::ShortLemmas::short_fronts))]
+#[tactic(auto, using(crate::proofs::ShortLemmas::short_prefixes))]
 pub(crate) fn short_op<'a>(bytes: &'a [u8], header: &Header) -> Option<(OpView<'a>, usize)>
-    ensures some { IfSome result (λ found. IsOperationFront header.now found.0 found.1 bytes.now) }
+    ensures some { IfSome result (λ found. IsOperationPrefix header.now found.0 found.1 bytes.now) }
     ensures none { IfNone result (NoneShort header.now bytes.now) }
 {
     if bytes.is_empty() {

@@ -14,7 +14,7 @@ use Rattle.lnt_spans.specs.Instructions.{IsOfInstructions}
 use Rattle.lnt_spans.specs.Merged.{answer_told}
 use Rattle.lnt_spans.specs.Remaining.{SpansAreLeft}
 use Rattle.lnt_spans.specs.Spans.{AreInOrder}
-use Rattle.lnt_spans.proofs.AnsweringLaws.{front_in_order}
+use Rattle.lnt_spans.proofs.AnsweringLaws.{prefix_in_order}
 use Rattle.lnt_records.specs.Passing.{AreLinesIn, Passes}
 use Rattle.lnt_records.specs.Progress.{AddsLine}
 use Rattle.lnt_records.specs.Table.{BeginsWith, Fields}
@@ -200,7 +200,7 @@ judges_lines to_come tell version comparison text table rest count end lines sam
     refl,
     record {
       each = lines.lines.each;
-      in_order = by_paths_order tell table (front_in_order table rest order);
+      in_order = by_paths_order tell table (prefix_in_order table rest order);
     },
   );
   count = omega (arith, same, lines.lines.count_is);

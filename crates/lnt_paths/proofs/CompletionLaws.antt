@@ -1,4 +1,4 @@
--- The stretches given so far are a front of a list of all stretches.
+-- The stretches given so far are a prefix of a list of all stretches.
 use Rattle.std.proofs.Common.{◌≡◌, ◌≢◌, ◌∙◌, ℕ, List, [], ◌∷◌, ◌++◌, ◌⊎◌, inl, inr, refl, ap, sym}
 use Rattle.std.proofs.Common.{None, Option, Some, map}
 use Rattle.std.specs.Option.{option_map}

@@ -11,7 +11,7 @@ use Rattle.lnt_spans.specs.Comparing.{end_of}
 use Rattle.lnt_spans.specs.Spans.{AreInOrder, span_answer}
 use Rattle.std.specs.Option.{option_map}
 use Rattle.lnt_spans.proofs.MergedLemmas as any
-use Rattle.lnt_spans.proofs.AnsweringLaws.{back_in_order, front_in_order}
+use Rattle.lnt_spans.proofs.AnsweringLaws.{back_in_order, prefix_in_order}
 use Rattle.lnt_spans.proofs.PassedLaws.{answer_below, answer_from, begin_after}
 use Rattle.lnt_spans.proofs.PositionLaws.{at_most_trans, below_at_most, below_is_at_most, order_cases}
 use Rattle.lnt_paths.specs.declared.answer.DifferenceByPath.{DifferenceByPath}
@@ -52,7 +52,7 @@ merged_past to_come tell merge passed list at gap mistake missed ahead order = r
   where
     none : (p : Position) → IsAtMost (end_of passed) p → span_answer passed p ≡ None
     none p h = ap (λ (xs : List Span). span_answer xs p) (sym (append-nil passed))
-        ∙ answer_from passed [] p (subst AreInOrder (sym (append-nil passed)) (front_in_order passed list order)) h
+        ∙ answer_from passed [] p (subst AreInOrder (sym (append-nil passed)) (prefix_in_order passed list order)) h
 
 -- a record after those that give no answer at p
 answer_push_none : (table more : List PathSpan) (p : Position) → path_span_answer table p ≡ None

@@ -83,11 +83,11 @@ few_names : (version : PathVersion) → path_column_count version ≤ 11
 few_names Three = omega arith
 few_names Four = omega arith
 
-front_in_order : (xs ys : List PathSpan) → StandInOrder (xs ++ ys) → StandInOrder xs
-front_in_order [] ys h = tt
-front_in_order (x ∷ []) [] h = h
-front_in_order (x ∷ []) (y ∷ ys) h = h.0
-front_in_order (x ∷ next ∷ xs) ys h = (h.0, h.1, front_in_order (next ∷ xs) ys h.2)
+prefix_in_order : (xs ys : List PathSpan) → StandInOrder (xs ++ ys) → StandInOrder xs
+prefix_in_order [] ys h = tt
+prefix_in_order (x ∷ []) [] h = h
+prefix_in_order (x ∷ []) (y ∷ ys) h = h.0
+prefix_in_order (x ∷ next ∷ xs) ys h = (h.0, h.1, prefix_in_order (next ∷ xs) ys h.2)
 
 pub pathed : FormatLaws by_path
 pathed = record {
@@ -96,7 +96,7 @@ pathed = record {
   one_span = one_span;
   count = λ version fields span says. says.says.count;
   sound = sound_field;
-  front = front_in_order;
+  prefix = prefix_in_order;
 }
 
 pub says_narrow : (version : PathVersion) (fields : Fields) (low high : ℕ) (answer : PathAnswer)

@@ -78,8 +78,8 @@ path_at table path rest at more e b = record {
 -- ---- a line
 
 -- a field before others
-field_before : (front b s0 s1 s4 : List ℕ) → s0 ≡ front ++ 44 ∷ s1 → s1 ≡ b ++ s4 → s0 ≡ (front ++ 44 ∷ b) ++ s4
-field_before front b s0 s1 s4 e f = e ∙ ap (λ (t : List ℕ). front ++ 44 ∷ t) f ∙ sym (append_assoc front (44 ∷ b) s4)
+field_before : (prefix b s0 s1 s4 : List ℕ) → s0 ≡ prefix ++ 44 ∷ s1 → s1 ≡ b ++ s4 → s0 ≡ (prefix ++ 44 ∷ b) ++ s4
+field_before prefix b s0 s1 s4 e f = e ∙ ap (λ (t : List ℕ). prefix ++ 44 ∷ t) f ∙ sym (append_assoc prefix (44 ∷ b) s4)
 
 -- the line in the file, what follows it, and the line feed
 last_before : (line more s3 s4 : List ℕ) → s3 ≡ line ++ (more ++ 10 ∷ s4) → s3 ≡ (line ++ (more ++ 10 ∷ [])) ++ s4
@@ -120,11 +120,11 @@ line_taken version said s0 s1 s2 s3 s4 low high path place = by version said.col
     path_is : field_text default_writer said.path.now ≡ said.path.now
     path_is = path_quiet said.path.now path.plain
 
-    low_is : field_text default_writer low.front ≡ low.front
-    low_is = address_text low.front said.low low.spells
+    low_is : field_text default_writer low.prefix ≡ low.prefix
+    low_is = address_text low.prefix said.low low.spells
 
-    high_is : field_text default_writer high.front ≡ high.front
-    high_is = address_text high.front said.high high.spells
+    high_is : field_text default_writer high.prefix ≡ high.prefix
+    high_is = address_text high.prefix said.high high.spells
 
     by : (v : PathVersion) (column : Option ℕ) → said.column ≡ column → IsPlace v said.line column s3 s4 → IsPathLine v said s0 s4
     by Three None e p = absurd p
@@ -132,21 +132,21 @@ line_taken version said s0 s1 s2 s3 s4 low high path place = by version said.col
         let line = p.1 in
         let last = p.2 in
         record {
-          fields = low.front ∷ high.front ∷ said.path.now ∷ line.front ∷ last.front ∷ [];
-          joined = line_start low.front high.front said.path.now line.front (last.front ∷ []) s0 s1 s2 s3 s4 low_is high_is path_is
-              (number_text line.front said.line line.spells) low.joined high.joined path.joined
-              (line.joined ∙ ap (λ (t : List ℕ). line.front ++ 44 ∷ t) last.joined
-              ∙ ap (λ (t : List ℕ). line.front ++ t) (column_end last.front s4 (number_text last.front column last.spells)));
+          fields = low.prefix ∷ high.prefix ∷ said.path.now ∷ line.prefix ∷ last.prefix ∷ [];
+          joined = line_start low.prefix high.prefix said.path.now line.prefix (last.prefix ∷ []) s0 s1 s2 s3 s4 low_is high_is path_is
+              (number_text line.prefix said.line line.spells) low.joined high.joined path.joined
+              (line.joined ∙ ap (λ (t : List ℕ). line.prefix ++ 44 ∷ t) last.joined
+              ∙ ap (λ (t : List ℕ). line.prefix ++ t) (column_end last.prefix s4 (number_text last.prefix column last.spells)));
           says = rw e (record
               { count = refl; low_is = low.spells; high_is = high.spells; path = refl; line = line.spells; column = last.spells });
         }
     by Four column e p =
         let line = p.1 in
         record {
-          fields = low.front ∷ high.front ∷ said.path.now ∷ line.front ∷ [];
-          joined = line_start low.front high.front said.path.now line.front [] s0 s1 s2 s3 s4 low_is high_is path_is
-              (number_text line.front said.line line.spells) low.joined high.joined path.joined
-              (line.joined ∙ ap (λ (t : List ℕ). line.front ++ t) (no_column_end s4));
+          fields = low.prefix ∷ high.prefix ∷ said.path.now ∷ line.prefix ∷ [];
+          joined = line_start low.prefix high.prefix said.path.now line.prefix [] s0 s1 s2 s3 s4 low_is high_is path_is
+              (number_text line.prefix said.line line.spells) low.joined high.joined path.joined
+              (line.joined ∙ ap (λ (t : List ℕ). line.prefix ++ t) (no_column_end s4));
           says = record
               { count = refl; low_is = low.spells; high_is = high.spells; path = refl; line = line.spells; column = e ∙ p.0 };
         }

@@ -32,33 +32,33 @@ begins tell list joined old new next gives left joins = by list next (gives list
 -- ---- those that are left
 
 joined_self : (tell : Answer → PathAnswer) (list : List Span) → AreJoinedAs tell list list
-joined_self tell list = record { order = λ front o. o; same = λ front o p. refl }
+joined_self tell list = record { order = λ prefix o. o; same = λ prefix o p. refl }
 
 joined_both : (tell : Answer → PathAnswer) (xs ys zs : List Span) → AreJoinedAs tell xs ys → AreJoinedAs tell ys zs → AreJoinedAs tell xs zs
 joined_both tell xs ys zs h k = record {
-  order = λ front o. k.order front (h.order front o);
-  same = λ front o p. k.same front (h.order front o) p ∙ h.same front o p;
+  order = λ prefix o. k.order prefix (h.order prefix o);
+  same = λ prefix o p. k.same prefix (h.order prefix o) p ∙ h.same prefix o p;
 }
 
-front_order : (front : List Span) (last next : Span) (rest : List Span) → last.high ≡ next.low → AreInOrder (front ++ last ∷ next ∷ rest)
-    → AreInOrder (front ++ grown last next.high ∷ rest)
-front_order [] last next rest touch o = grown_order last next rest touch o
-front_order (f ∷ []) last next rest touch o = (o.0, o.1, grown_order last next rest touch o.2)
-front_order (f ∷ g ∷ front) last next rest touch o = (o.0, o.1, front_order (g ∷ front) last next rest touch o.2)
+prefix_order : (prefix : List Span) (last next : Span) (rest : List Span) → last.high ≡ next.low → AreInOrder (prefix ++ last ∷ next ∷ rest)
+    → AreInOrder (prefix ++ grown last next.high ∷ rest)
+prefix_order [] last next rest touch o = grown_order last next rest touch o
+prefix_order (f ∷ []) last next rest touch o = (o.0, o.1, grown_order last next rest touch o.2)
+prefix_order (f ∷ g ∷ prefix) last next rest touch o = (o.0, o.1, prefix_order (g ∷ prefix) last next rest touch o.2)
 
-front_answer : (tell : Answer → PathAnswer) (front : List Span) (last next : Span) (rest : List Span) → IsExtendedBy tell last next
-    → AreInOrder (front ++ last ∷ next ∷ rest) → (p : Position)
-    → answer_told tell (front ++ grown last next.high ∷ rest) p ≡ answer_told tell (front ++ last ∷ next ∷ rest) p
-front_answer tell [] last next rest goes o p = grown_answer tell last next rest p goes o
-front_answer tell (f ∷ front) last next rest goes o p =
-    same_after tell f (front ++ grown last next.high ∷ rest) (front ++ last ∷ next ∷ rest) p
-    (front_answer tell front last next rest goes (back_in_order (f ∷ []) (front ++ last ∷ next ∷ rest) o) p)
+prefix_answer : (tell : Answer → PathAnswer) (prefix : List Span) (last next : Span) (rest : List Span) → IsExtendedBy tell last next
+    → AreInOrder (prefix ++ last ∷ next ∷ rest) → (p : Position)
+    → answer_told tell (prefix ++ grown last next.high ∷ rest) p ≡ answer_told tell (prefix ++ last ∷ next ∷ rest) p
+prefix_answer tell [] last next rest goes o p = grown_answer tell last next rest p goes o
+prefix_answer tell (f ∷ prefix) last next rest goes o p =
+    same_after tell f (prefix ++ grown last next.high ∷ rest) (prefix ++ last ∷ next ∷ rest) p
+    (prefix_answer tell prefix last next rest goes (back_in_order (f ∷ []) (prefix ++ last ∷ next ∷ rest) o) p)
 
 grows : (tell : Answer → PathAnswer) (last next : Span) (rest : List Span) → IsExtendedBy tell last next
     → AreJoinedAs tell (last ∷ next ∷ rest) (grown last next.high ∷ rest)
 grows tell last next rest goes = record {
-  order = λ front o. front_order front last next rest goes.0 o;
-  same = λ front o p. front_answer tell front last next rest goes o p;
+  order = λ prefix o. prefix_order prefix last next rest goes.0 o;
+  same = λ prefix o p. prefix_answer tell prefix last next rest goes o p;
 }
 
 -- The span stands for the first of the list, and the others are to come.

@@ -167,7 +167,7 @@ lines_begun tell version old new other list first alike none are begun =
     let each = plain_records tell version begun.records first begun.each
     (all_left (map (tell_span tell) first) (map (tell_span tell) left.0) whole) in
     let plain : HasBegunLines plain_by_path version old new (map (tell_span tell) first) =
-    record { records = begun.records; front = begun.front; each = each } in
+    record { records = begun.records; prefix = begun.prefix; each = each } in
     begun_so version (answer_told tell list) old new (map (tell_span tell) all.0) canonical
     (table_begun plain_by_path version (one_record version) old new (map (tell_span tell) first) (map (tell_span tell) left.0)
     (map (tell_span tell) all.0) plain (sym split)) (inr instructions)

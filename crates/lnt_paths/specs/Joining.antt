@@ -46,9 +46,9 @@ WillGive tell (Some first) left joined = GrowsTo tell first left joined
 
 -- After any spans, those of the second list are in order if those of the first are, and then answer the same by path.
 pub record AreJoinedAs (tell : Answer → PathAnswer) (list joined : List Span) : Type 0 where
-  pub order : (front : List Span) → AreInOrder (front ++ list) → AreInOrder (front ++ joined)
-  pub same : (front : List Span) → AreInOrder (front ++ list) → (p : Position)
-      → answer_told tell (front ++ joined) p ≡ answer_told tell (front ++ list) p
+  pub order : (prefix : List Span) → AreInOrder (prefix ++ list) → AreInOrder (prefix ++ joined)
+  pub same : (prefix : List Span) → AreInOrder (prefix ++ list) → (p : Position)
+      → answer_told tell (prefix ++ joined) p ≡ answer_told tell (prefix ++ list) p
 
 -- No span is to come; or this one is the first of the list, joined with those after it that extend it, and the others are to come.
 abbrev pub GivesJoined : (Answer → PathAnswer) → List Span → (List Span → Type 0) → Option Span → Type 0

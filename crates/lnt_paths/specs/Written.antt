@@ -4,7 +4,7 @@ use Rattle.std.specs.Io.KnownBytes.{Appends, Keeps}
 use Rattle.std.specs.List.{AllByRecursion}
 use Rattle.csv.specs.Writing.{default_writer, row_text}
 use Rattle.lnt_text.specs.Digits.{IsPlainAddress, IsPlainDecimal}
-use Rattle.lnt_io.specs.Fronts.{AppendsFront}
+use Rattle.lnt_io.specs.Prefixes.{AppendsPrefix}
 use Rattle.lnt_spans.specs.declared.position.Position.{Position}
 use Rattle.lnt_records.specs.Table.{Fields}
 use Rattle.lnt_records.specs.Written.{BeginsTableIn, IsPlainTableIn, LineFormat}
@@ -48,7 +48,7 @@ pub record BeginsPathTable (version : PathVersion) (answers : Position → Optio
   pub spans : List PathSpan
   pub canonical : AreCanonicalOf answers spans
   pub begun : BeginsTableIn plain_by_path version spans old new
-  pub of_whole : (bytes : List ℕ) → IsCanonicalPathTable version answers bytes → AppendsFront old new bytes
+  pub of_whole : (bytes : List ℕ) → IsCanonicalPathTable version answers bytes → AppendsPrefix old new bytes
   pub decided : Keeps old new ⊎ AllByRecursion IsPathSpanOfInstructions spans
 
 -- The result of writing the table of these answers, and what was written: exactly the bytes of the table, or nothing if

@@ -7,7 +7,7 @@ use Rattle.lnt_spans.proofs.CanonicalLaws.{one_list}
 use Rattle.lnt_spans.specs.Spans.{IsCanonical, span_answer, version_answer}
 use Rattle.lnt_records.specs.Written.{BeginsCanonicalTable, BeginsTable, IsPlainTable}
 
--- Canonical spans that answer so are one list, so every table of them begins with what was gained.
+-- Canonical spans that answer so are one list, so every table of them begins with what was appended.
 pub canonical_begins : (version : Version) (list spans : List Span) (old new : Option (List ℕ))
     → IsCanonical spans × ((p : Position) → span_answer spans p ≡ version_answer version list p)
     → BeginsTable version spans old new → BeginsCanonicalTable version list old new

@@ -10,7 +10,7 @@ use Rattle.lnt_spans.specs.declared.span.Span.{Span}
 use Rattle.lnt_spans.specs.declared.position.Position.{Position}
 use Rattle.lnt_spans.specs.Answers.{in_version}
 use Rattle.lnt_spans.specs.Comparing.{Compares, IsTold, Merging, end_of}
-use Rattle.lnt_spans.proofs.AnsweringLaws.{front_in_order}
+use Rattle.lnt_spans.proofs.AnsweringLaws.{prefix_in_order}
 use Rattle.lnt_spans.proofs.ToldLaws.{told, told_answer, told_order}
 use Rattle.lnt_spans.specs.Spans.{AreInOrder, span_answer, span_in_version, version_answer}
 use Rattle.lnt_spans.specs.declared.listed.SpanList.{SpanList}
@@ -82,7 +82,7 @@ pub judges_off : {S : Type 0} (to_come : S → List Span → Type 0) (P : List S
 judges_off to_come P merge version section text count end off same compares = (
   record {
     table = off.table;
-    is_table = (refl, record { each = off.lines.each; in_order = front_in_order off.table off.rest off.order });
+    is_table = (refl, record { each = off.lines.each; in_order = prefix_in_order off.table off.rest off.order });
     count = omega (arith, off.lines.count_is);
     version = same;
     compares = compares;
@@ -106,7 +106,7 @@ judges_none to_come merge version same compares = (
 
 -- the first spans alone are in order
 pub order_alone : (table rest : List Span) → AreInOrder (table ++ rest) → AreInOrder (table ++ [])
-order_alone table rest o = subst AreInOrder (sym (append-nil table)) (front_in_order table rest o)
+order_alone table rest o = subst AreInOrder (sym (append-nil table)) (prefix_in_order table rest o)
 
 -- the spans gathered after the records of other spans
 pub gathered_is : {S : Type 0} (to_come : S → List Span → Type 0) (comparison : Comparison S) (list table : List Span)

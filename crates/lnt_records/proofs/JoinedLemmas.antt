@@ -5,12 +5,12 @@ use Rattle.std.specs.List.{All, AllByRecursion, cons_option}
 use Rattle.std.specs.Io.KnownBytes.{Appends}
 use Rattle.std.proofs.lemmas.List.{append-nil}
 use Rattle.std.proofs.lemmas.List.Elements.{All-cons, All-head, All-nil, All-tail}
-use Rattle.lnt_io.specs.Fronts.{AppendsFront}
+use Rattle.lnt_io.specs.Prefixes.{AppendsPrefix}
 use Rattle.lnt_spans.specs.declared.answer.Version.{Version}
 use Rattle.lnt_spans.specs.declared.position.Position.{Position}
 use Rattle.lnt_spans.specs.declared.span.Span.{Span}
 use Rattle.lnt_spans.specs.Joined.{HasJoined}
-use Rattle.lnt_spans.proofs.AnsweringLaws.{front_in_order}
+use Rattle.lnt_spans.proofs.AnsweringLaws.{prefix_in_order}
 use Rattle.lnt_spans.proofs.ComingLaws.{HasGiven}
 use Rattle.lnt_spans.proofs.JoinedLaws.{BeginCanonical, joined_rest}
 use Rattle.lnt_spans.specs.Spans.{AreInOrder, IsCanonical, span_answer, version_answer}
@@ -63,9 +63,9 @@ pub record AreTold (list : List Span) : Type 0 where
   pub order : AreInOrder list
   pub tells : AllByRecursion TellsAll list
 
-front_told : (list pushed : List Span) (AreLeft : List Span → Type 0) → AreTold list → HasGiven list pushed AreLeft → AreTold pushed
-front_told list pushed AreLeft told h = record {
-  order = front_in_order pushed h.rest (subst AreInOrder h.list_is told.order);
+prefix_told : (list pushed : List Span) (AreLeft : List Span → Type 0) → AreTold list → HasGiven list pushed AreLeft → AreTold pushed
+prefix_told list pushed AreLeft told h = record {
+  order = prefix_in_order pushed h.rest (subst AreInOrder h.list_is told.order);
   tells = all_left TellsAll pushed h.rest (subst (AllByRecursion TellsAll) h.list_is told.tells);
 }
 
@@ -74,20 +74,20 @@ pub given_of_version : (version : Version) (list pushed given : List Span) (one 
     → AreTold list → HasGiven list pushed AreLeft
     → HasJoined version pushed (given ++ cons_option one []) last → IfSome one (HasVersion version)
 given_of_version version list pushed given one last AreLeft told h joined =
-    let front = front_told list pushed AreLeft told h in
+    let prefix = prefix_told list pushed AreLeft told h in
     last_of_version version given one
     (all_left (HasVersion version) (given ++ cons_option one []) (cons_option last [])
-    (joined_of_version version pushed (given ++ cons_option one []) last joined front.order front.tells))
+    (joined_of_version version pushed (given ++ cons_option one []) last joined prefix.order prefix.tells))
 
 -- the span given at the end
 pub rest_of_version : (version : Version) (list pushed given : List Span) (last : Option Span) (AreLeft : List Span → Type 0) → AreTold list
     → HasGiven list pushed AreLeft
     → AreGiven version pushed (given ++ cons_option last []) → IfSome last (HasVersion version)
 rest_of_version version list pushed given last AreLeft told h all =
-    let front = front_told list pushed AreLeft told h in
+    let prefix = prefix_told list pushed AreLeft told h in
     last_of_version version given last
     (of_all (HasVersion version) (given ++ cons_option last [])
-    (answers_of_version version pushed (given ++ cons_option last []) all.0.in_order all.1 (to_all TellsAll pushed front.tells)))
+    (answers_of_version version pushed (given ++ cons_option last []) all.0.in_order all.1 (to_all TellsAll pushed prefix.tells)))
 
 -- ---- all of them
 
@@ -140,7 +140,7 @@ canonical_so_far version list given old now block begins l =
     (so_far_begun plain_by_number version old now block given l) refl)
 
 pub canonical_sending : (version : Version) (list given : List Span) (old now new : Option (List ℕ)) (block : List ℕ)
-    → BeginCanonical version list given → Lines plain_by_number version old now block given → AppendsFront now new block
+    → BeginCanonical version list given → Lines plain_by_number version old now block given → AppendsPrefix now new block
     → BeginsCanonicalTable version list old new
 canonical_sending version list given old now new block begins l f =
     canonical_begun version list given old new begins (begun version old new given begins.more _

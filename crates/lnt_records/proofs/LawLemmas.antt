@@ -2,7 +2,7 @@
 use Rattle.std.proofs.Common.{◌≡◌, length, refl, ap, arith}
 use Rattle.lnt_spans.specs.declared.answer.Version.{Version}
 use Rattle.lnt_spans.specs.declared.answer.Version.TheVariants.{One, Two}
-use Rattle.lnt_spans.proofs.AnsweringLaws.{front_in_order}
+use Rattle.lnt_spans.proofs.AnsweringLaws.{prefix_in_order}
 use Rattle.lnt_records.specs.Table.{by_number, column_names}
 use Rattle.lnt_records.proofs.SaidLemmas.{count_at_most, one_span, sound_column}
 use Rattle.lnt_records.proofs.TableLaws.{FormatLaws}
@@ -20,5 +20,5 @@ numbered = record {
   one_span = one_span;
   count = λ version fields span says. says.count;
   sound = sound_column;
-  front = front_in_order;
+  prefix = prefix_in_order;
 }

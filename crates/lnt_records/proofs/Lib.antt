@@ -3,7 +3,7 @@ pub mod BegunLaws
 pub mod ColumnLemmas
 pub mod ComparedLaws
 pub mod ComparisonLemmas
-pub mod FrontLaws
+pub mod PrefixLaws
 pub mod GatherLemmas
 pub mod HeaderLaws
 pub mod JoinedLemmas

@@ -10,8 +10,8 @@ use Rattle.csv.specs.Writing.{default_writer, is_blank, row_body, row_text}
 use Rattle.csv.specs.declared.parser.State.{State}
 use Rattle.csv.specs.declared.parser.State.TheVariants as st
 use Rattle.csv.proofs.RoundTrip.{read-write}
-use Rattle.lnt_io.specs.Fronts.{AppendsFront}
-use Rattle.lnt_io.proofs.FrontLaws.{front_after, front_before, front_none, front_same}
+use Rattle.lnt_io.specs.Prefixes.{AppendsPrefix}
+use Rattle.lnt_io.proofs.PrefixLaws.{prefix_after, prefix_before, prefix_none, prefix_same}
 use Rattle.lnt_records.specs.Passing.{AreLinesIn, IsCutAfter}
 use Rattle.lnt_records.specs.Progress.{AddsLine, AddsLines, HasBegunLines, HasWrittenLines}
 use Rattle.lnt_records.specs.Table.{Fields, IsTableOfIn, TableFormat}
@@ -178,24 +178,24 @@ written_table format plain laws version bytes spans table order =
 
 -- ---- one table
 
--- The records of the first spans are a front of those of all, and the others are those of the rest.
-front_records : {X : Type 0} (Says : Fields → X → Type 0) → HasOneRecord Says → (records all : List Fields) (first rest : List X)
+-- The records of the first spans are a prefix of those of all, and the others are those of the rest.
+prefix_records : {X : Type 0} (Says : Fields → X → Type 0) → HasOneRecord Says → (records all : List Fields) (first rest : List X)
     → AllZip Says records first → AllZip Says all (first ++ rest)
     → (more : List Fields) × (all ≡ records ++ more) × AllZip Says more rest
-front_records Says one [] all [] rest a b = (all, refl, b)
-front_records Says one [] all (x ∷ first) rest a b = absurd a
-front_records Says one (r ∷ records) all [] rest a b = absurd a
-front_records Says one (r ∷ records) [] (x ∷ first) rest a b = absurd b
-front_records Says one (r ∷ records) (s ∷ all) (x ∷ first) rest a b =
+prefix_records Says one [] all [] rest a b = (all, refl, b)
+prefix_records Says one [] all (x ∷ first) rest a b = absurd a
+prefix_records Says one (r ∷ records) all [] rest a b = absurd a
+prefix_records Says one (r ∷ records) [] (x ∷ first) rest a b = absurd b
+prefix_records Says one (r ∷ records) (s ∷ all) (x ∷ first) rest a b =
     let same : s ≡ r = one s r x b.0 a.0 in
-    let past = front_records Says one records all first rest a.1 b.1 in
+    let past = prefix_records Says one records all first rest a.1 b.1 in
     let others = past.1 in
     (past.0, cc, past.2)
 
 one_records : {X : Type 0} (Says : Fields → X → Type 0) → HasOneRecord Says → (records others : List Fields) (list : List X)
     → AllZip Says records list → AllZip Says others list → records ≡ others
 one_records Says one records others list a b =
-    let all = front_records Says one records others list [] a (subst (AllZip Says others) (sym (append-nil list)) b) in
+    let all = prefix_records Says one records others list [] a (subst (AllZip Says others) (sym (append-nil list)) b) in
     none_more all.0 all.2 all.1
   where
     none_more : (more : List Fields) → AllZip Says more [] → others ≡ records ++ more → records ≡ others
@@ -247,7 +247,7 @@ zip_join R [] more (y ∷ ys) others z h = absurd z
 zip_join R (x ∷ xs) more [] others z h = absurd z
 zip_join R (x ∷ xs) more (y ∷ ys) others z h = (z.0, zip_join R xs more ys others z.1 h)
 
--- The header and the lines of these spans: a front went to the writer, and the block has the others.
+-- The header and the lines of these spans: a prefix went to the writer, and the block has the others.
 pub record Lines {V X : Type 0} (plain : LineFormat V X) (version : V) (old now : Option (List ℕ)) (block : List ℕ)
     (spans : List X) : Type 0 where
   pub sent : List ℕ
@@ -289,7 +289,7 @@ lines_put plain version old now block grown spans more l r = record {
   each = zip_join (plain.Says version) l.records r.records spans more l.each r.each;
 }
 
--- a front of the block went to the writer
+-- a prefix of the block went to the writer
 pub lines_sent : {V X : Type 0} (plain : LineFormat V X) (version : V) (old now new : Option (List ℕ)) (block left sent : List ℕ)
     (spans : List X) → Lines plain version old now block spans → Appends now new sent → block ≡ sent ++ left
     → Lines plain version old new left spans
@@ -315,27 +315,27 @@ lines_written plain version old now new block spans l more = record {
 -- before anything was written
 pub none_begun : {V X : Type 0} (plain : LineFormat V X) (version : V) (old : Option (List ℕ)) → HasBegunLines {X = X} plain version old old []
 none_begun plain version old =
-    record { records = []; front = front_none old (lines_of plain.line (plain.names version ∷ [])); each = tt }
+    record { records = []; prefix = prefix_none old (lines_of plain.line (plain.names version ∷ [])); each = tt }
 
 -- while the block was filled
 pub so_far_begun : {V X : Type 0} (plain : LineFormat V X) (version : V) (old now : Option (List ℕ)) (block : List ℕ) (spans : List X)
     → Lines plain version old now block spans → HasBegunLines plain version old now spans
 so_far_begun plain version old now block spans l = record {
   records = l.records;
-  front = record { front = l.sent; rest = block; joined = l.lines; gained = l.handed };
+  prefix = record { prefix = l.sent; rest = block; joined = l.lines; appended = l.handed };
   each = l.each;
 }
 
 -- while the block was sent
 pub sending_begun : {V X : Type 0} (plain : LineFormat V X) (version : V) (old now new : Option (List ℕ)) (block : List ℕ) (spans : List X)
-    → Lines plain version old now block spans → AppendsFront now new block → HasBegunLines plain version old new spans
+    → Lines plain version old now block spans → AppendsPrefix now new block → HasBegunLines plain version old new spans
 sending_begun plain version old now new block spans l f = record {
   records = l.records;
-  front = front_same old new (l.sent ++ block) _ l.lines (front_after old now new l.sent block l.handed f);
+  prefix = prefix_same old new (l.sent ++ block) _ l.lines (prefix_after old now new l.sent block l.handed f);
   each = l.each;
 }
 
--- with a front of the lines of the first spans, with which every table of all begins
+-- with a prefix of the lines of the first spans, with which every table of all begins
 pub table_begun : {V X : Type 0} (plain : LineFormat V X) (version : V) → HasOneRecord (plain.Says version) → (old new : Option (List ℕ))
     (first rest spans : List X) → HasBegunLines plain version old new first → first ++ rest ≡ spans
     → BeginsTableIn plain version spans old new
@@ -345,12 +345,12 @@ table_begun plain version one_record old new first rest spans begun e = record {
   joined = e;
   records = begun.records;
   each = begun.each;
-  front = begun.front;
+  prefix = begun.prefix;
   of_whole = λ bytes whole.
       let all = subst (AllZip (plain.Says version) whole.records) (sym e) whole.each in
-      let more = front_records (plain.Says version) one_record begun.records whole.records first rest begun.each all in
+      let more = prefix_records (plain.Says version) one_record begun.records whole.records first rest begun.each all in
       let text : List ℕ = text_of plain version begun.records in
       let same : text ++ lines_of plain.line more.0 ≡ bytes =
       sym (lines_append plain.line (plain.names version ∷ begun.records) more.0) ∙ ap (text_of plain version) (sym more.1) ∙ sym whole.lines in
-      front_same old new _ bytes same (front_before old new text (lines_of plain.line more.0) begun.front);
+      prefix_same old new _ bytes same (prefix_before old new text (lines_of plain.line more.0) begun.prefix);
 }

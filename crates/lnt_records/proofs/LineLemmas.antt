@@ -25,9 +25,9 @@ pub position_taken : (Address Number : List ℕ → ℕ → Type 0) (position : 
     → Begins Address bytes position.address 44 next
     → Begins Number next position.op 44 rest → IsPosition Address Number position bytes rest
 position_taken Address Number position bytes next rest a b = record {
-  address = a.front;
-  op = b.front;
-  joined = a.joined ∙ ap (λ (t : List ℕ). a.front ++ 44 ∷ t) b.joined;
+  address = a.prefix;
+  op = b.prefix;
+  joined = a.joined ∙ ap (λ (t : List ℕ). a.prefix ++ 44 ∷ t) b.joined;
   address_is = a.spells;
   op_is = b.spells;
 }
@@ -39,12 +39,12 @@ pub more_taken : (Number : List ℕ → ℕ → Type 0) (more : More) (bytes s1 
     → Begins Number s1 more.isa 44 s2
     → Begins Number s2 more.discriminator 10 rest → IsMore Number Two (Some more) bytes rest
 more_taken Number more bytes s1 s2 rest e a b =
-    let last : 44 ∷ s2 ≡ following (b.front ∷ []) ++ 10 ∷ rest =
-    ap (λ (t : List ℕ). 44 ∷ t) b.joined ∙ ap (λ (t : List ℕ). 44 ∷ t ++ 10 ∷ rest) (sym (append-nil b.front)) in
+    let last : 44 ∷ s2 ≡ following (b.prefix ∷ []) ++ 10 ∷ rest =
+    ap (λ (t : List ℕ). 44 ∷ t) b.joined ∙ ap (λ (t : List ℕ). 44 ∷ t ++ 10 ∷ rest) (sym (append-nil b.prefix)) in
     record {
-      fields = a.front ∷ b.front ∷ [];
-      joined = e ∙ past a.front s1 s2 (10 ∷ rest) (b.front ∷ []) a.joined last;
-      fields_are = (a.front, b.front, refl, a.spells, b.spells);
+      fields = a.prefix ∷ b.prefix ∷ [];
+      joined = e ∙ past a.prefix s1 s2 (10 ∷ rest) (b.prefix ∷ []) a.joined last;
+      fields_are = (a.prefix, b.prefix, refl, a.spells, b.spells);
     }
 
 pub answer_taken : (Number : List ℕ → ℕ → Type 0) (version : Version) (answer : Answer) (s0 s1 s2 s3 s4 s5 s6 : List ℕ)
@@ -57,17 +57,17 @@ answer_taken Number version answer s0 s1 s2 s3 s4 s5 s6 unit file line column is
     ap (λ (t : List ℕ). 44 ∷ t) is_stmt.joined ∙ ap (λ (t : List ℕ). 44 ∷ is_stmt.text ++ t) more.joined
     ∙ sym (append_assoc (44 ∷ is_stmt.text) (following more.fields) (10 ∷ s6)) in
     record {
-      unit = unit.front;
-      file = file.front;
-      line = line.front;
-      column = column.front;
+      unit = unit.prefix;
+      file = file.prefix;
+      line = line.prefix;
+      column = column.prefix;
       is_stmt = is_stmt.text;
       more = more.fields;
       joined =
-          past unit.front s0 s1 (10 ∷ s6) (file.front ∷ line.front ∷ column.front ∷ is_stmt.text ∷ more.fields) unit.joined
-          (past file.front s1 s2 (10 ∷ s6) (line.front ∷ column.front ∷ is_stmt.text ∷ more.fields) file.joined
-          (past line.front s2 s3 (10 ∷ s6) (column.front ∷ is_stmt.text ∷ more.fields) line.joined
-          (past column.front s3 s4 (10 ∷ s6) (is_stmt.text ∷ more.fields) column.joined flag)));
+          past unit.prefix s0 s1 (10 ∷ s6) (file.prefix ∷ line.prefix ∷ column.prefix ∷ is_stmt.text ∷ more.fields) unit.joined
+          (past file.prefix s1 s2 (10 ∷ s6) (line.prefix ∷ column.prefix ∷ is_stmt.text ∷ more.fields) file.joined
+          (past line.prefix s2 s3 (10 ∷ s6) (column.prefix ∷ is_stmt.text ∷ more.fields) line.joined
+          (past column.prefix s3 s4 (10 ∷ s6) (is_stmt.text ∷ more.fields) column.joined flag)));
       unit_is = unit.spells;
       file_is = file.spells;
       line_is = line.spells;

@@ -204,14 +204,14 @@ stands_more to_come first now next version old new one a b c la lb lc w0 w1 w2 w
 
 -- ---- where they leave off
 
-front_rest : (table xs : List Span) (first : Option Span) → (table ++ cons_option first []) ++ xs ≡ table ++ cons_option first xs
-front_rest table xs None = ap (λ (t : List Span). t ++ xs) (append-nil table)
-front_rest table xs (Some first) = append_assoc table (first ∷ []) xs
+prefix_rest : (table xs : List Span) (first : Option Span) → (table ++ cons_option first []) ++ xs ≡ table ++ cons_option first xs
+prefix_rest table xs None = ap (λ (t : List Span). t ++ xs) (append-nil table)
+prefix_rest table xs (Some first) = append_assoc table (first ∷ []) xs
 
 -- the spans that are left after those whose lines were passed
-record AreRest (version : Version) (all front rest : List Span) : Type 0 where
-  order : AreInOrder (front ++ rest)
-  same : (p : Position) → span_answer (front ++ rest) p ≡ version_answer version all p
+record AreRest (version : Version) (all prefix rest : List Span) : Type 0 where
+  order : AreInOrder (prefix ++ rest)
+  same : (p : Position) → span_answer (prefix ++ rest) p ≡ version_answer version all p
 
 rest_joined : (version : Version) (pushed table rest : List Span) (first last : Option Span)
     → HasJoined version pushed (table ++ cons_option first []) last → AreInOrder (pushed ++ rest)
@@ -223,7 +223,7 @@ rest_joined version pushed [] rest None None j o =
 rest_joined version pushed [] rest (Some first) None j o = absurd (cc (j.1))
 rest_joined version pushed (s ∷ table) rest first None j o = absurd (cc (j.1))
 rest_joined version pushed table rest first (Some last) j o =
-    let e = front_rest table (last ∷ map (span_in_version version) rest) first in
+    let e = prefix_rest table (last ∷ map (span_in_version version) rest) first in
     record {
       order = subst AreInOrder e (j.order rest o);
       same = λ p. ap (λ (xs : List Span). span_answer xs p) (sym e) ∙ j.same rest o p;

@@ -19,28 +19,28 @@ same_least i j below above =
 -- ---- one list of records
 
 -- The list of all records begins with whatever records were read first.
-read_front : (cfg : Config) (s s1 s2 : State) (xs y1 y2 : List ℕ) (front records : List Fields) → Reached cfg s xs front s1 y1
+read_prefix : (cfg : Config) (s s1 s2 : State) (xs y1 y2 : List ℕ) (prefix records : List Fields) → Reached cfg s xs prefix s1 y1
     → Reached cfg s xs records s2 y2
-    → next_record cfg s2 [] [] y2 ≡ None → (past : List Fields) × (records ≡ front ++ past)
+    → next_record cfg s2 [] [] y2 ≡ None → (past : List Fields) × (records ≡ prefix ++ past)
 unfolding Reached
-read_front cfg s s1 s2 xs y1 y2 [] records h k none = (records, refl)
-read_front cfg s s1 s2 xs y1 y2 (r ∷ front) [] h k none =
+read_prefix cfg s s1 s2 xs y1 y2 [] records h k none = (records, refl)
+read_prefix cfg s s1 s2 xs y1 y2 (r ∷ prefix) [] h k none =
     let last : next_record cfg s [] [] xs ≡ None = rw (k.0, k.1) none in
     let first = h.1 in
     absurd (cc (last, first))
-read_front cfg s s1 s2 xs y1 y2 (r ∷ front) (q ∷ records) h k none =
+read_prefix cfg s s1 s2 xs y1 y2 (r ∷ prefix) (q ∷ records) h k none =
     let one = h.1 in
     let two = k.1 in
     let same : k.0 ≡ h.0 = cc in
     let first : q ≡ r = k.2 ∙ ap (λ (p : Read). p.0) same ∙ sym h.2 in
-    let rest = read_front cfg h.0.1 s1 s2 h.0.2 y1 y2 front records h.3 (subst (λ (p : Read). Reached cfg p.1 p.2 records s2 y2) same k.3)
+    let rest = read_prefix cfg h.0.1 s1 s2 h.0.2 y1 y2 prefix records h.3 (subst (λ (p : Read). Reached cfg p.1 p.2 records s2 y2) same k.3)
     none in
     let past = rest.1 in
     (rest.0, cc)
 
-pub front_of : (bytes : List ℕ) (front records : List Fields) → BeginsWith bytes front → RecordsOf bytes records
-    → (past : List Fields) × (records ≡ front ++ past)
-front_of bytes front records h k = read_front _ _ _ _ _ _ _ front records h.2 k.2 k.3
+pub prefix_of : (bytes : List ℕ) (prefix records : List Fields) → BeginsWith bytes prefix → RecordsOf bytes records
+    → (past : List Fields) × (records ≡ prefix ++ past)
+prefix_of bytes prefix records h k = read_prefix _ _ _ _ _ _ _ prefix records h.2 k.2 k.3
 
 pub begins_all : (bytes : List ℕ) (records : List Fields) → RecordsOf bytes records → BeginsWith bytes records
 begins_all bytes records h = (h.0, h.1, h.2)
@@ -58,31 +58,31 @@ same_lists (x ∷ xs) (y ∷ ys) past more e f =
 
 pub one_list : (bytes : List ℕ) (xs ys : List Fields) → RecordsOf bytes xs → RecordsOf bytes ys → xs ≡ ys
 one_list bytes xs ys h k =
-    let a = front_of bytes ys xs (begins_all bytes ys k) h in
-    let b = front_of bytes xs ys (begins_all bytes xs h) k in
+    let a = prefix_of bytes ys xs (begins_all bytes ys k) h in
+    let b = prefix_of bytes xs ys (begins_all bytes xs h) k in
     same_lists xs ys a.0 b.0 a.1 b.1
 
 -- ---- records up to one
 
-read_both : (cfg : Config) (s s1 s2 : State) (xs y1 y2 : List ℕ) (front records : List Fields) → Reached cfg s xs front s1 y1
-    → Reached cfg s xs records s2 y2 → length front ≤ length records
-    → (past : List Fields) × (records ≡ front ++ past)
+read_both : (cfg : Config) (s s1 s2 : State) (xs y1 y2 : List ℕ) (prefix records : List Fields) → Reached cfg s xs prefix s1 y1
+    → Reached cfg s xs records s2 y2 → length prefix ≤ length records
+    → (past : List Fields) × (records ≡ prefix ++ past)
 unfolding Reached
 read_both cfg s s1 s2 xs y1 y2 [] records h k le = (records, refl)
-read_both cfg s s1 s2 xs y1 y2 (r ∷ front) [] h k le = absurd (omega arith)
-read_both cfg s s1 s2 xs y1 y2 (r ∷ front) (q ∷ records) h k le =
+read_both cfg s s1 s2 xs y1 y2 (r ∷ prefix) [] h k le = absurd (omega arith)
+read_both cfg s s1 s2 xs y1 y2 (r ∷ prefix) (q ∷ records) h k le =
     let one = h.1 in
     let two = k.1 in
     let same : k.0 ≡ h.0 = cc in
     let first : q ≡ r = k.2 ∙ ap (λ (p : Read). p.0) same ∙ sym h.2 in
-    let rest = read_both cfg h.0.1 s1 s2 h.0.2 y1 y2 front records h.3 (subst (λ (p : Read). Reached cfg p.1 p.2 records s2 y2) same k.3)
+    let rest = read_both cfg h.0.1 s1 s2 h.0.2 y1 y2 prefix records h.3 (subst (λ (p : Read). Reached cfg p.1 p.2 records s2 y2) same k.3)
     (omega arith) in
     let past = rest.1 in
     (rest.0, cc)
 
-both_begin : (bytes : List ℕ) (front records : List Fields) → BeginsWith bytes front → BeginsWith bytes records
-    → length front ≤ length records → (past : List Fields) × (records ≡ front ++ past)
-both_begin bytes front records h k le = read_both _ _ _ _ _ _ _ front records h.2 k.2 le
+both_begin : (bytes : List ℕ) (prefix records : List Fields) → BeginsWith bytes prefix → BeginsWith bytes records
+    → length prefix ≤ length records → (past : List Fields) × (records ≡ prefix ++ past)
+both_begin bytes prefix records h k le = read_both _ _ _ _ _ _ _ prefix records h.2 k.2 le
 
 -- The shorter list and the record after it begin the longer list.
 pub stands_before : (bytes : List ℕ) (xs ys : List Fields) (x y : Fields) → BeginsWith bytes (xs ++ x ∷ [])
@@ -93,14 +93,14 @@ stands_before bytes xs ys x y h k lt =
     let both = both_begin bytes (xs ++ x ∷ []) (ys ++ y ∷ []) h k le in
     shorter (xs ++ x ∷ []) both.0 ys (y ∷ []) (sym both.1) (omega (arith, lt, length-append xs (x ∷ [])))
   where
-    shorter : (front past records more : List Fields) → front ++ past ≡ records ++ more → length front ≤ length records
-        → (rest : List Fields) × (records ≡ front ++ rest)
+    shorter : (prefix past records more : List Fields) → prefix ++ past ≡ records ++ more → length prefix ≤ length records
+        → (rest : List Fields) × (records ≡ prefix ++ rest)
     shorter [] past records more e le = (records, refl)
-    shorter (r ∷ front) past [] more e le = absurd (omega arith)
-    shorter (r ∷ front) past (q ∷ records) more e le =
+    shorter (r ∷ prefix) past [] more e le = absurd (omega arith)
+    shorter (r ∷ prefix) past (q ∷ records) more e le =
         let heads : r ≡ q = cc in
-        let tails : front ++ past ≡ records ++ more = cc in
-        let rest = shorter front past records more tails (omega arith) in
+        let tails : prefix ++ past ≡ records ++ more = cc in
+        let rest = shorter prefix past records more tails (omega arith) in
         let found = rest.1 in
         (rest.0, cc)
 

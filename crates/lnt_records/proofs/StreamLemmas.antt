@@ -8,7 +8,7 @@ use Rattle.lnt_spans.specs.declared.difference.Difference.{Difference}
 use Rattle.lnt_spans.specs.declared.position.Position.{Position}
 use Rattle.lnt_spans.specs.declared.span.Span.{Span}
 use Rattle.lnt_spans.specs.Comparing.{Compares, IsTold, Merging, end_of}
-use Rattle.lnt_spans.proofs.AnsweringLaws.{front_in_order}
+use Rattle.lnt_spans.proofs.AnsweringLaws.{prefix_in_order}
 use Rattle.lnt_spans.specs.Spans.{AreInOrder}
 use Rattle.lnt_io.specs.Pulling.{Pulls}
 use Rattle.lnt_records.specs.Outcomes.{IfCompared, IsHeadedOutcome, IsOutcome, Outcome}
@@ -42,7 +42,7 @@ pub passed_after : {S : Type 0} (to_come : S → List Span → Type 0) (P : List
     → HasPassed to_come merge version section text count
 passed_after to_come P merge version section text count end l same past = record {
   table = l.table;
-  order = front_in_order l.table l.rest l.order;
+  order = prefix_in_order l.table l.rest l.order;
   lines = l.lines;
   follows = record {
     spans = l.table ++ l.rest;

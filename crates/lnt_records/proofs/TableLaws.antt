@@ -7,7 +7,7 @@ use Rattle.lnt_records.specs.Faults.{HasFaultyRecordIn, IsFaultIn, IsFaultyIn}
 use Rattle.lnt_records.specs.Reading.{IsNarrow, IsReadAs}
 use Rattle.lnt_records.specs.Table.{BeginsWith, Fields, IsOfColumn, IsTableIn, IsTableOfIn, RecordsOf, TableFormat}
 use Rattle.lnt_records.proofs.BeginningLaws.{faulty_begins, table_begins}
-use Rattle.lnt_records.proofs.RecordLaws.{front_of, one_end, one_list, same_least, stands_before}
+use Rattle.lnt_records.proofs.RecordLaws.{prefix_of, one_end, one_list, same_least, stands_before}
 
 -- What these laws need of a format: a header is of one version, a record of one span, its fields are as many as the columns and of
 -- their kinds, and the first spans of some in order are in order.
@@ -18,7 +18,7 @@ pub record FormatLaws {V X : Type 0} (format : TableFormat V X) : Type 0 where
   pub count : (v : V) (fields : Fields) (x : X) → format.Says v fields x → length fields ≡ length (format.names v)
   pub sound : (v : V) (fields : Fields) (x : X) → format.Says v fields x → (i : ℕ) → i < length (format.names v)
       → IsOfColumn format.columns fields i
-  pub front : (xs ys : List X) → format.InOrder (xs ++ ys) → format.InOrder xs
+  pub prefix : (xs ys : List X) → format.InOrder (xs ++ ys) → format.InOrder xs
 
 -- ---- one more record
 
@@ -115,11 +115,11 @@ one_table format laws bytes v w xs ys a b =
 -- the spans of the records before a certain one
 record Parted {V X : Type 0} (format : TableFormat V X) (version : V) (records : List Fields) (fields : Fields) (spans : List X) : Type
     0 where
-  front : List X
+  prefix : List X
   span : X
   past : List X
-  joined : spans ≡ (front ++ span ∷ []) ++ past
-  each : AllZip (format.Says version) records front
+  joined : spans ≡ (prefix ++ span ∷ []) ++ past
+  each : AllZip (format.Says version) records prefix
   says : format.Says version fields span
 
 part : {V X : Type 0} (format : TableFormat V X) (version : V) (records : List Fields) (fields : Fields) (past : List Fields)
@@ -127,12 +127,12 @@ part : {V X : Type 0} (format : TableFormat V X) (version : V) (records : List F
     → Parted format version records fields spans
 part format version [] fields past [] z = absurd z
 part format version [] fields past (s ∷ spans) z =
-    record { front = []; span = s; past = spans; joined = refl; each = tt; says = z.0 }
+    record { prefix = []; span = s; past = spans; joined = refl; each = tt; says = z.0 }
 part format version (r ∷ records) fields past [] z = absurd z
 part {V} {X} format version (r ∷ records) fields past (s ∷ spans) z =
     let p = part format version records fields past spans z.1 in
     record {
-      front = s ∷ p.front;
+      prefix = s ∷ p.prefix;
       span = p.span;
       past = p.past;
       joined = ap (λ (l : List X). s ∷ l) p.joined;
@@ -142,15 +142,15 @@ part {V} {X} format version (r ∷ records) fields past (s ∷ spans) z =
 
 not_faulty : {V X : Type 0} (format : TableFormat V X) → FormatLaws format → (version : V) (records : List Fields) (fields : Fields)
     (spans : List X) (number : ℕ) (told : TableFault) → (p : Parted format version records fields spans) → format.InOrder spans
-    → IsFaultyIn format version p.front number fields told → ⊥
+    → IsFaultyIn format version p.prefix number fields told → ⊥
 not_faulty format laws version records fields spans number fault.Header p o f = f
 not_faulty format laws version records fields spans number (fault.Fields k) p o f = f.1 (laws.count version fields p.span p.says)
 not_faulty format laws version records fields spans number (fault.Number k i) p o f =
     f.2.faulty (laws.sound version fields p.span p.says i (rw f.1 at f.2.there))
 not_faulty {V} {X} format laws version records fields spans number (fault.Order k) p o f =
     let same : f.1 ≡ p.span = laws.one_span version fields f.1 p.span f.2 p.says in
-    let front = laws.front (p.front ++ p.span ∷ []) p.past (rw p.joined at o) in
-    f.3 (subst (λ (s : X). format.InOrder (p.front ++ s ∷ [])) (sym same) front)
+    let prefix = laws.prefix (p.prefix ++ p.span ∷ []) p.past (rw p.joined at o) in
+    f.3 (subst (λ (s : X). format.InOrder (p.prefix ++ s ∷ [])) (sym same) prefix)
 
 -- a record of a table isn't faulty
 faulty_none : {V X : Type 0} (format : TableFormat V X) → FormatLaws format → (v version : V) (records past : List Fields)
@@ -161,8 +161,8 @@ faulty_none {V} {X} format laws v version (first ∷ records) past fields before
     let same : v ≡ version = laws.one_version v version (sym t.0 ∙ all.0) in
     let p = part format version records fields past spans all.1.each in
     let ours = subst (λ (k : V). AllZip (format.Says k) records before) same t.1.each in
-    let front : before ≡ p.front = one_spans format laws version records before p.front ours p.each in
-    let faulty = subst (λ (xs : List X). IsFaultyIn format version xs (length (first ∷ records)) fields told) front
+    let prefix : before ≡ p.prefix = one_spans format laws version records before p.prefix ours p.each in
+    let faulty = subst (λ (xs : List X). IsFaultyIn format version xs (length (first ∷ records)) fields told) prefix
     (subst (λ (k : V). IsFaultyIn format k before (length (first ∷ records)) fields told) same f) in
     not_faulty format laws version records fields spans (length (first ∷ records)) told p all.1.in_order faulty
 
@@ -170,9 +170,9 @@ record_none : {V X : Type 0} (format : TableFormat V X) → FormatLaws format �
     (records : List Fields) (told : TableFault) → RecordsOf bytes records → IsTableIn format version records spans
     → HasFaultyRecordIn format bytes told → ⊥
 record_none format laws bytes version spans records told all t f =
-    let front = front_of bytes (f.records ++ f.fields ∷ []) records f.begins all in
-    faulty_none format laws f.version version f.records front.0 f.fields f.spans spans told f.table f.faulty
-    (subst (λ (r : List Fields). IsTableIn format version r spans) front.1 t)
+    let prefix = prefix_of bytes (f.records ++ f.fields ∷ []) records f.begins all in
+    faulty_none format laws f.version version f.records prefix.0 f.fields f.spans spans told f.table f.faulty
+    (subst (λ (r : List Fields). IsTableIn format version r spans) prefix.1 t)
 
 pub no_fault : {V X : Type 0} (format : TableFormat V X) → FormatLaws format → (bytes : List ℕ) (version : V) (spans : List X)
     (told : TableFault) → IsTableOfIn format version bytes spans → IsFaultIn format bytes told → ⊥
@@ -216,9 +216,9 @@ one_faulty format laws version spans number fields (fault.Order k) (fault.Order 
 not_earlier : {V X : Type 0} (format : TableFormat V X) → FormatLaws format → (bytes : List ℕ) (told other : TableFault)
     → (f : HasFaultyRecordIn format bytes told) → (g : HasFaultyRecordIn format bytes other) → length f.records < length g.records → ⊥
 not_earlier format laws bytes told other f g lt =
-    let front = stands_before bytes f.records g.records f.fields g.fields f.begins g.begins lt in
-    faulty_none format laws f.version g.version f.records front.0 f.fields f.spans g.spans told f.table f.faulty
-    (subst (λ (records : List Fields). IsTableIn format g.version records g.spans) front.1 g.table)
+    let prefix = stands_before bytes f.records g.records f.fields g.fields f.begins g.begins lt in
+    faulty_none format laws f.version g.version f.records prefix.0 f.fields f.spans g.spans told f.table f.faulty
+    (subst (λ (records : List Fields). IsTableIn format g.version records g.spans) prefix.1 g.table)
 
 one_record : {V X : Type 0} (format : TableFormat V X) → FormatLaws format → (bytes : List ℕ) (told other : TableFault)
     → HasFaultyRecordIn format bytes told → HasFaultyRecordIn format bytes other → told ≡ other

@@ -14,17 +14,17 @@ all_pushed P [] x all p = (p, tt)
 all_pushed P (y ∷ xs) x all p = (all.0, all_pushed P xs x all.1 p)
 
 -- the text has a first record
-pub first_there : (reader : BytesReader) (front text : List ℕ) (first fields : Fields) (found : Bool) → IsReadFor front text
+pub first_there : (reader : BytesReader) (prefix text : List ℕ) (first fields : Fields) (found : Bool) → IsReadFor prefix text
     → IsNarrow first → BeginsWith text (first ∷ [])
-    → MatchBool found (HasRead reader front (fields ∷ [])) (RecordsOf front []) → HasRead reader front (fields ∷ [])
-first_there reader front text first fields true r few b h = h
-first_there reader front text first fields false r few b h = absurd (no_record front first h (r.first first few b))
+    → MatchBool found (HasRead reader prefix (fields ∷ [])) (RecordsOf prefix []) → HasRead reader prefix (fields ∷ [])
+first_there reader prefix text first fields true r few b h = h
+first_there reader prefix text first fields false r few b h = absurd (no_record prefix first h (r.first first few b))
 
 -- it is the one that the caller knows
-pub first_is : (reader : BytesReader) (front text : List ℕ) (first fields : Fields) (more : List Fields) → IsReadFor front text
-    → IsNarrow first → BeginsWith text (first ∷ []) → HasRead reader front (fields ∷ more) → fields ≡ first
-first_is reader front text first fields more r few b h =
-    first_same front fields first (first_begins front fields more (begins reader front (fields ∷ more) h)) (r.first first few b)
+pub first_is : (reader : BytesReader) (prefix text : List ℕ) (first fields : Fields) (more : List Fields) → IsReadFor prefix text
+    → IsNarrow first → BeginsWith text (first ∷ []) → HasRead reader prefix (fields ∷ more) → fields ≡ first
+first_is reader prefix text first fields more r few b h =
+    first_same prefix fields first (first_begins prefix fields more (begins reader prefix (fields ∷ more) h)) (r.first first few b)
 
 -- ---- the bytes
 
@@ -32,11 +32,11 @@ pub cut_at : (text bytes : List ℕ) (first fields : Fields) (passed : List Fiel
     → IsCutAfter fields text bytes passed
 cut_at text bytes first fields passed cut same = subst (λ (f : Fields). IsCutAfter f text bytes passed) (sym same) cut
 
--- These records of the front are those of the text, and so of the bytes.
-pub begins_on : (front text bytes : List ℕ) (first : Fields) (passed more : List Fields) (fields : Fields) → IsReadFor front text
-    → IsCutAfter first text bytes passed → BeginsWith front (first ∷ (more ++ fields ∷ []))
+-- These records of the prefix are those of the text, and so of the bytes.
+pub begins_on : (prefix text bytes : List ℕ) (first : Fields) (passed more : List Fields) (fields : Fields) → IsReadFor prefix text
+    → IsCutAfter first text bytes passed → BeginsWith prefix (first ∷ (more ++ fields ∷ []))
     → (whole : Fields) × IsReadAs fields whole × BeginsWith bytes ((passed ++ more) ++ whole ∷ [])
-begins_on front text bytes first passed more fields r cut b =
+begins_on prefix text bytes first passed more fields r cut b =
     let begun = r.begins (first ∷ more) fields b in (
       begun.0,
       begun.1,
@@ -44,10 +44,10 @@ begins_on front text bytes first passed more fields r cut b =
           (begun.2.0, begun.2.1, cut (more ++ begun.0 ∷ []) begun.2.0 begun.2.1 begun.2.2),
     )
 
-pub all_on : (front text bytes : List ℕ) (first fields : Fields) (passed more : List Fields) → IsReadFor front text → IsNarrow first
-    → fields ≡ first → AllByRecursion IsNarrow more → IsCutAfter first text bytes passed → RecordsOf front (fields ∷ more)
+pub all_on : (prefix text bytes : List ℕ) (first fields : Fields) (passed more : List Fields) → IsReadFor prefix text → IsNarrow first
+    → fields ≡ first → AllByRecursion IsNarrow more → IsCutAfter first text bytes passed → RecordsOf prefix (fields ∷ more)
     → RecordsOf bytes (passed ++ more)
-all_on front text bytes first fields passed more r few same narrow cut all =
-    let here : RecordsOf front (first ∷ more) = subst (λ (f : Fields). RecordsOf front (f ∷ more)) same all in
+all_on prefix text bytes first fields passed more r few same narrow cut all =
+    let here : RecordsOf prefix (first ∷ more) = subst (λ (f : Fields). RecordsOf prefix (f ∷ more)) same all in
     let whole = r.all (first ∷ more) here (few, narrow) in
     (whole.0, whole.1, cut more whole.0 whole.1 whole.2, whole.3)

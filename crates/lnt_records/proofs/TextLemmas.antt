@@ -38,7 +38,7 @@ put_before Spells room new start end n past long long' within le spells after =
     let fits' : end - 1 ≤ length new = omega (arith, long', le) in
     let at_most : start ≤ end - 1 = omega (arith, within) in
     record {
-      front = drop start (take (end - 1) new);
+      prefix = drop start (take (end - 1) new);
       joined = split_before new start (end - 1) at_most fits'
           ∙ ap (λ (t : List ℕ). drop start (take (end - 1) new) ++ t) (after ∙ set_before room end past some fits);
       spells = spells;

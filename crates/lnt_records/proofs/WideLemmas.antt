@@ -11,7 +11,7 @@ use Rattle.csv.specs.declared.parser.Action.TheVariants as act
 use Rattle.csv.specs.declared.parser.State.{State}
 use Rattle.csv.specs.declared.parser.State.TheVariants as st
 use Rattle.csv.specs.declared.parser.Terminator.TheVariants as term
-use Rattle.lnt_records.specs.Reading.{BytesReader, HasRead, IsFrontOf}
+use Rattle.lnt_records.specs.Reading.{BytesReader, HasRead, IsPrefixOf}
 use Rattle.lnt_records.specs.Table.{BeginsWith, Fields}
 use Rattle.lnt_records.proofs.ReadingLaws.{first_same, same_read}
 
@@ -220,33 +220,33 @@ more_read s fields field (c ∷ bytes) more p t e =
 
 -- ---- record 0
 
-pub front_taken : (i : ℕ) (bytes : List ℕ) → IsFrontOf (take i bytes) bytes
-front_taken i bytes = record { more = drop i bytes; joined = sym (take-append-drop i bytes) }
+pub prefix_taken : (i : ℕ) (bytes : List ℕ) → IsPrefixOf (take i bytes) bytes
+prefix_taken i bytes = record { more = drop i bytes; joined = sym (take-append-drop i bytes) }
 
-pub no_front : (bytes : List ℕ) → IsFrontOf [] bytes
-no_front bytes = record { more = bytes; joined = refl }
+pub no_prefix : (bytes : List ℕ) → IsPrefixOf [] bytes
+no_prefix bytes = record { more = bytes; joined = refl }
 
--- a byte order mark is in the front, if there is one
-pub stripped_front : (front more : List ℕ) → 3 ≤ length front → strip_bom (front ++ more) ≡ strip_bom front ++ more
+-- a byte order mark is in the prefix, if there is one
+pub stripped_prefix : (prefix more : List ℕ) → 3 ≤ length prefix → strip_bom (prefix ++ more) ≡ strip_bom prefix ++ more
 unfolding strip_bom
-stripped_front [] more le = absurd (omega (arith, le))
-stripped_front (a ∷ []) more le = absurd (omega (arith, le))
-stripped_front (a ∷ b ∷ []) more le = absurd (omega (arith, le))
-stripped_front (a ∷ b ∷ c ∷ rest) more le = by (is_bom a b c)
+stripped_prefix [] more le = absurd (omega (arith, le))
+stripped_prefix (a ∷ []) more le = absurd (omega (arith, le))
+stripped_prefix (a ∷ b ∷ []) more le = absurd (omega (arith, le))
+stripped_prefix (a ∷ b ∷ c ∷ rest) more le = by (is_bom a b c)
   where
     by : (t : Bool) → (if t then rest ++ more else a ∷ b ∷ c ∷ (rest ++ more)) ≡ (if t then rest else a ∷ b ∷ c ∷ rest) ++ more
     by true = refl
     by false = refl
 
--- Record 0 has no fewer fields than record 0 of a front.
-pub front_fields : (reader : BytesReader) (front bytes : List ℕ) (found : Fields) → HasRead reader front (found ∷ [])
-    → IsFrontOf front bytes → 3 ≤ length front → (fields : Fields) → BeginsWith bytes (fields ∷ [])
+-- Record 0 has no fewer fields than record 0 of a prefix.
+pub prefix_fields : (reader : BytesReader) (prefix bytes : List ℕ) (found : Fields) → HasRead reader prefix (found ∷ [])
+    → IsPrefixOf prefix bytes → 3 ≤ length prefix → (fields : Fields) → BeginsWith bytes (fields ∷ [])
     → length found ≤ length fields
 unfolding Reached
-front_fields reader front bytes found h f le fields begins =
+prefix_fields reader prefix bytes found h f le fields begins =
     let first = h.reached in
-    let whole = more_read st.StartRecord [] [] (strip_bom front) f.more first.0 refl first.1 in
-    let joined : strip_bom bytes ≡ strip_bom front ++ f.more = ap strip_bom f.joined ∙ stripped_front front f.more le in
+    let whole = more_read st.StartRecord [] [] (strip_bom prefix) f.more first.0 refl first.1 in
+    let joined : strip_bom bytes ≡ strip_bom prefix ++ f.more = ap strip_bom f.joined ∙ stripped_prefix prefix f.more le in
     let is : next_record default_config st.StartRecord [] [] (strip_bom bytes) ≡ Some whole.read =
     ap (next_record default_config st.StartRecord [] []) joined ∙ whole.is in
     let other : BeginsWith bytes (whole.read.0 ∷ []) = (whole.read.1, whole.read.2, (whole.read, is, refl, (refl, refl))) in

@@ -8,7 +8,7 @@ use Rattle.std.specs.Io.KnownBytes.{Appends}
 use Rattle.std.specs.List.{AllByRecursion, cons_option}
 use Rattle.csv.specs.Reading.{strip_bom}
 use Rattle.csv.specs.Writing.{default_writer, fields_text, is_blank, row_text}
-use Rattle.lnt_io.specs.Fronts.{AppendsFront}
+use Rattle.lnt_io.specs.Prefixes.{AppendsPrefix}
 use Rattle.lnt_text.specs.Digits.{IsAddress, IsDecimal}
 use Rattle.lnt_spans.specs.declared.answer.Version.{Version}
 use Rattle.lnt_spans.specs.declared.answer.Version.TheVariants.{One, Two}
@@ -163,7 +163,7 @@ begun_until version old now block spans i l =
 pub begun_more : (version : Version) (old now new : Option (List ℕ)) (block grown : List ℕ) (spans : List Span) (i : ℕ) (d : Span)
     → i < length spans
     → Lines plain_by_number version old now block (take i spans) → AddsLine plain_by_number version (get_or spans i d) block grown
-    → AppendsFront now new grown → BeginsTable version spans old new
+    → AppendsPrefix now new grown → BeginsTable version spans old new
 begun_more version old now new block grown spans i d lt l r f =
     let more : List Span = get_or spans i d ∷ [] in
     let lines = lines_put plain_by_number version old now block grown (take i spans) more l
@@ -174,7 +174,7 @@ begun_more version old now new block grown spans i d lt l r f =
 
 -- after the lines of all spans
 pub begun_all : (version : Version) (old now new : Option (List ℕ)) (block : List ℕ) (spans : List Span) (i : ℕ) → length spans ≤ i
-    → Lines plain_by_number version old now block (take i spans) → AppendsFront now new block → BeginsTable version spans old new
+    → Lines plain_by_number version old now block (take i spans) → AppendsPrefix now new block → BeginsTable version spans old new
 begun_all version old now new block spans i le l f =
     begun version old new spans [] spans (sending_begun plain_by_number version old now new block spans
     (subst (λ (xs : List Span). Lines plain_by_number version old now block xs) (take_all i spans le) l) f) (append-nil spans)

@@ -5,7 +5,7 @@ use Rattle.std.specs.Io.KnownBytes.{Appends}
 use Rattle.std.specs.List.{AllZip}
 use Rattle.std.specs.Option.{option_map}
 use Rattle.lnt_text.specs.Digits.{IsAddress, IsDecimal}
-use Rattle.lnt_io.specs.Fronts.{AppendsFront}
+use Rattle.lnt_io.specs.Prefixes.{AppendsPrefix}
 use Rattle.lnt_spans.specs.declared.answer.Answer.{Answer}
 use Rattle.lnt_spans.specs.declared.answer.Version.{Version}
 use Rattle.lnt_spans.specs.declared.position.Position.{Position}
@@ -96,7 +96,7 @@ pub record HasWrittenLines {V X : Type 0} (plain : LineFormat V X) (version : V)
 -- The writer stopped, and a prefix of the header and the lines of these spans has been written.
 pub record HasBegunLines {V X : Type 0} (plain : LineFormat V X) (version : V) (old new : Option (List ℕ)) (spans : List X) : Type 0 where
   pub records : List Fields
-  pub front : AppendsFront old new (lines_of plain.line (plain.names version ∷ records))
+  pub prefix : AppendsPrefix old new (lines_of plain.line (plain.names version ∷ records))
   pub each : AllZip (plain.Says version) records spans
 
 -- ---- differences so far

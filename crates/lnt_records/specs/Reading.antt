@@ -21,9 +21,9 @@ known_length None = 0
 known_length (Some bytes) = length bytes
 
 -- The bytes begin with these.
-pub record IsFrontOf (front bytes : List ℕ) : Type 0 where
+pub record IsPrefixOf (prefix bytes : List ℕ) : Type 0 where
   pub more : List ℕ
-  pub joined : bytes ≡ front ++ more
+  pub joined : bytes ≡ prefix ++ more
 
 -- The reader has read these records, the first ones of the bytes, and is between two records. It takes records with any
 -- number of fields, so only a lack of memory can make it fail.
@@ -55,9 +55,9 @@ abbrev pub IsNarrow : Fields → Type 0
 IsNarrow fields = length fields ≤ 11
 
 -- The records of the prefix are those of the bytes, up to such a record if the prefix isn't all of them.
-pub record IsReadFor (front bytes : List ℕ) : Type 0 where
-  pub few : length front ≤ length bytes
-  pub first : (fields : Fields) → IsNarrow fields → BeginsWith bytes (fields ∷ []) → BeginsWith front (fields ∷ [])
-  pub begins : (records : List Fields) (fields : Fields) → BeginsWith front (records ++ fields ∷ [])
+pub record IsReadFor (prefix bytes : List ℕ) : Type 0 where
+  pub few : length prefix ≤ length bytes
+  pub first : (fields : Fields) → IsNarrow fields → BeginsWith bytes (fields ∷ []) → BeginsWith prefix (fields ∷ [])
+  pub begins : (records : List Fields) (fields : Fields) → BeginsWith prefix (records ++ fields ∷ [])
       → (whole : Fields) × IsReadAs fields whole × BeginsWith bytes (records ++ whole ∷ [])
-  pub all : (records : List Fields) → RecordsOf front records → AllByRecursion IsNarrow records → RecordsOf bytes records
+  pub all : (records : List Fields) → RecordsOf prefix records → AllByRecursion IsNarrow records → RecordsOf bytes records

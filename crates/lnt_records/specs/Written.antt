@@ -2,7 +2,7 @@
 use Rattle.std.specs.Prelude.{◌≡◌, ℕ, List, [], ◌∷◌, ◌++◌, Option, Some, None}
 use Rattle.std.specs.List.{AllZip}
 use Rattle.lnt_text.specs.Digits.{IsPlainAddress, IsPlainDecimal}
-use Rattle.lnt_io.specs.Fronts.{AppendsFront}
+use Rattle.lnt_io.specs.Prefixes.{AppendsPrefix}
 use Rattle.lnt_spans.specs.declared.answer.Answer.{Answer}
 use Rattle.lnt_spans.specs.declared.answer.More.{More}
 use Rattle.lnt_spans.specs.declared.answer.Version.{Version}
@@ -62,8 +62,8 @@ pub record BeginsTableIn {V X : Type 0} (format : LineFormat V X) (version : V) 
   pub joined : first ++ rest ≡ spans
   pub records : List Fields
   pub each : AllZip (format.Says version) records first
-  pub front : AppendsFront old new (lines_of format.line (format.names version ∷ records))
-  pub of_whole : (bytes : List ℕ) → IsPlainTableIn format version bytes spans → AppendsFront old new bytes
+  pub prefix : AppendsPrefix old new (lines_of format.line (format.names version ∷ records))
+  pub of_whole : (bytes : List ℕ) → IsPlainTableIn format version bytes spans → AppendsPrefix old new bytes
 
 -- ---- tables by number
 
@@ -100,4 +100,4 @@ pub record BeginsCanonicalTable (version : Version) (given : List Span) (old new
   pub canonical : IsCanonical spans
   pub same : (p : Position) → span_answer spans p ≡ version_answer version given p
   pub begun : BeginsTable version spans old new
-  pub of_whole : (bytes : List ℕ) → IsCanonicalTable version given bytes → AppendsFront old new bytes
+  pub of_whole : (bytes : List ℕ) → IsCanonicalTable version given bytes → AppendsPrefix old new bytes

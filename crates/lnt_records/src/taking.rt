@@ -63,8 +63,8 @@ pub fn take_records<C, T: TakesRecords<C>>(
         → MatchOption found ((more : List Fields) × RecordsOf bytes (passed ++ more) × T.judges taker.now state.new spans (passed ++ more))
         (λ fault. T.is_fault taker.now bytes fault)) }
 {
-    let front = up_to_wide(alloc, text)?;
-    let mut reader = reader_of(alloc, front);
+    let prefix = up_to_wide(alloc, text)?;
+    let mut reader = reader_of(alloc, prefix);
     let mut row = ByteRecord::new(alloc);
     read_next(&mut reader, &mut row)?;
     while read_next(&mut reader, &mut row)? {

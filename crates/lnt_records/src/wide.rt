@@ -1,6 +1,6 @@
 //! Records with more fields than any table has columns: no such record is held whole.
 ghost use Rattle.std.specs.Prelude.{◌<◌, ◌++◌, IsTrue, IfOk, ℕ, List, [], ◌∷◌, length};
-ghost use Rattle.lnt_records.specs.Reading.{EndsWide, IsFrontOf, IsReadFor};
+ghost use Rattle.lnt_records.specs.Reading.{EndsWide, IsPrefixOf, IsReadFor};
 ghost use Rattle.lnt_records.specs.Table.{BeginsWith, Fields};
 
 use crate::reading::{read_next, reader_of};
@@ -36,11 +36,11 @@ enum Place {
 pub fn begins_wide(alloc: Global, bytes: &[u8]) -> Result<bool, AllocError>
     ensures { IfOk result (λ wide. IsTrue wide → (fields : Fields) → BeginsWith bytes.now (fields ∷ []) → 11 < length fields) }
 {
-    let front = front_of(bytes, true);
-    if front.len() < 3 {
+    let prefix = prefix_of(bytes, true);
+    if prefix.len() < 3 {
         return Ok(false);
     }
-    let mut reader = reader_of(alloc, front);
+    let mut reader = reader_of(alloc, prefix);
     let mut row = ByteRecord::new(alloc);
     if !read_next(&mut reader, &mut row)? {
         return Ok(false);
@@ -51,16 +51,16 @@ pub fn begins_wide(alloc: Global, bytes: &[u8]) -> Result<bool, AllocError>
 /// The bytes to read records from in place of these: all of them, or a prefix that ends within a record with too many fields,
 /// none of which the caller needs. So that record isn't held whole. Fails only if memory runs out.
 pub fn up_to_wide<'a>(alloc: Global, bytes: &'a [u8]) -> Result<&'a [u8], AllocError>
-    ensures { IfOk result (λ front. IsReadFor front.now bytes.now) }
+    ensures { IfOk result (λ prefix. IsReadFor prefix.now bytes.now) }
 {
     if !may_be_long(bytes) {
         return Ok(bytes);
     }
-    let front = front_of(bytes, false);
-    if front.len() < 3 || !ends_wide(alloc, front)? {
+    let prefix = prefix_of(bytes, false);
+    if prefix.len() < 3 || !ends_wide(alloc, prefix)? {
         return Ok(bytes);
     }
-    Ok(front)
+    Ok(prefix)
 }
 
 // Whether a record may be long: one with quotes, or one that fills a block. Others, with too many fields or not, have less than
@@ -93,9 +93,9 @@ fn ends_wide(alloc: Global, bytes: &[u8]) -> Result<bool, AllocError>
 
 // The bytes before the comma with which a record gets too many fields: the first such record, or record 0 alone. None if
 // there is no such comma.
-#[tactic(auto, using(crate::proofs::WideLemmas::front_taken, crate::proofs::WideLemmas::no_front))]
-fn front_of(bytes: &[u8], is_first_alone: bool) -> &[u8]
-    ensures { IsFrontOf result.now bytes.entry.now }
+#[tactic(auto, using(crate::proofs::WideLemmas::prefix_taken, crate::proofs::WideLemmas::no_prefix))]
+fn prefix_of(bytes: &[u8], is_first_alone: bool) -> &[u8]
+    ensures { IsPrefixOf result.now bytes.entry.now }
 {
     let mut commas = 0;
     let mut place = Place::Start;

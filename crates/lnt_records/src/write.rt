@@ -2,7 +2,7 @@
 ghost use Rattle.std.specs.Prelude.{◌≡◌, ◌++◌, ℕ, List, [], OnErr, OnOk};
 ghost use Rattle.std.specs.Io.KnownBytes.{Appends};
 ghost use Rattle.std.specs.List.{All};
-ghost use Rattle.lnt_io.specs.Fronts.{AppendsFront};
+ghost use Rattle.lnt_io.specs.Prefixes.{AppendsPrefix};
 ghost use Rattle.lnt_spans.specs.declared.answer.Version.{Version};
 ghost use Rattle.lnt_spans.specs.Spans.{AreInOrder};
 ghost use Rattle.lnt_records.specs.Written.{BeginsTable, IsOfVersion, IsWrittenTable, line_text, plain_by_number};
@@ -55,7 +55,7 @@ pub fn write_spans<W: Write>(
 pub fn send_full<W: Write>(block: &mut Vec<u8>, out: &mut W) -> Result<(), WriteStop>
     ensures handed { OnOk result ((sent : List ℕ) × Appends (W.contents out.old) (W.contents out.new) sent
         × (block.old.items ≡ sent ++ block.new.items)) }
-    ensures front { OnErr result (AppendsFront (W.contents out.old) (W.contents out.new) block.old.items) }
+    ensures prefix { OnErr result (AppendsPrefix (W.contents out.old) (W.contents out.new) block.old.items) }
 {
     if block.len() < BLOCK {
         return Ok(());
@@ -67,7 +67,7 @@ pub fn send_full<W: Write>(block: &mut Vec<u8>, out: &mut W) -> Result<(), Write
 pub fn send<W: Write>(block: &mut Vec<u8>, out: &mut W) -> Result<(), WriteStop>
     ensures handed { OnOk result (Appends (W.contents out.old) (W.contents out.new) block.old.items) }
     ensures empty { OnOk result (block.new.items ≡ []) }
-    ensures front { OnErr result (AppendsFront (W.contents out.old) (W.contents out.new) block.old.items) }
+    ensures prefix { OnErr result (AppendsPrefix (W.contents out.old) (W.contents out.new) block.old.items) }
 {
     if write_whole(out, block.as_slice()).is_err() {
         return Err(WriteStop::Write);

@@ -33,48 +33,48 @@ use Rattle.std.proofs.lemmas.Grind.{common_steps}
 
 -- ---- lists cut at an element
 
-record Cut {X : Type 0} (xs : List X) (front : List X) (x : X) : Type 0 where
+record Cut {X : Type 0} (xs : List X) (prefix : List X) (x : X) : Type 0 where
   back : List X
-  parts : xs ≡ front ++ x ∷ back
+  parts : xs ≡ prefix ++ x ∷ back
 
-record Past {X : Type 0} (xs ys front : List X) (x : X) (back : List X) : Type 0 where
+record Past {X : Type 0} (xs ys prefix : List X) (x : X) (back : List X) : Type 0 where
   rest : List X
-  front_is : front ≡ xs ++ rest
+  prefix_is : prefix ≡ xs ++ rest
   parts : ys ≡ rest ++ x ∷ back
 
 -- an element of two lists stands in the first of them, or in the second
-cut_at : {X : Type 0} (xs ys front : List X) (x : X) (back : List X) → xs ++ ys ≡ front ++ x ∷ back → Cut xs front x
-    ⊎ Past xs ys front x back
-cut_at [] ys front x back e = inr (record { rest = front; front_is = refl; parts = e })
+cut_at : {X : Type 0} (xs ys prefix : List X) (x : X) (back : List X) → xs ++ ys ≡ prefix ++ x ∷ back → Cut xs prefix x
+    ⊎ Past xs ys prefix x back
+cut_at [] ys prefix x back e = inr (record { rest = prefix; prefix_is = refl; parts = e })
 cut_at {X} (y ∷ xs) ys [] x back e = let first : y ≡ x = cc in inl (record { back = xs; parts = ap (λ (z : X). z ∷ xs) first })
-cut_at {X} (y ∷ xs) ys (z ∷ front) x back e =
+cut_at {X} (y ∷ xs) ys (z ∷ prefix) x back e =
     let first : y ≡ z = cc in
-    let others : xs ++ ys ≡ front ++ x ∷ back = cc in
-    elim (cut_at xs ys front x back others) [
+    let others : xs ++ ys ≡ prefix ++ x ∷ back = cc in
+    elim (cut_at xs ys prefix x back others) [
       | inl c ↦ inl (record { back = c.back; parts = ap (λ (w : X). w ∷ xs) first ∙ ap (λ (ws : List X). z ∷ ws) c.parts })
       | inr b ↦ inr (record {
         rest = b.rest;
-        front_is = ap (λ (ws : List X). z ∷ ws) b.front_is
+        prefix_is = ap (λ (ws : List X). z ∷ ws) b.prefix_is
             ∙ ap (λ (w : X). w ∷ xs ++ b.rest) (sym first);
         parts = b.parts;
       })
     ]
 
 -- an element that stands before another
-cut_before : {X : Type 0} (front later : List X) (x : X) (back : List X) (y : X) (more : List X)
-    → front ++ x ∷ back ≡ later ++ y ∷ more → length front < length later → Cut later front x
-cut_before front [] x back y more e lt = absurd (omega arith)
+cut_before : {X : Type 0} (prefix later : List X) (x : X) (back : List X) (y : X) (more : List X)
+    → prefix ++ x ∷ back ≡ later ++ y ∷ more → length prefix < length later → Cut later prefix x
+cut_before prefix [] x back y more e lt = absurd (omega arith)
 cut_before {X} [] (z ∷ later) x back y more e lt =
     let first : z ≡ x = cc in record { back = later; parts = ap (λ (w : X). w ∷ later) first }
-cut_before {X} (w ∷ front) (z ∷ later) x back y more e lt =
+cut_before {X} (w ∷ prefix) (z ∷ later) x back y more e lt =
     let first : z ≡ w = cc in
-    let others : front ++ x ∷ back ≡ later ++ y ∷ more = cc in
-    let c = cut_before front later x back y more others (omega arith) in
+    let others : prefix ++ x ∷ back ≡ later ++ y ∷ more = cc in
+    let c = cut_before prefix later x back y more others (omega arith) in
     record { back = c.back; parts = ap (λ (v : X). v ∷ later) first ∙ ap (λ (vs : List X). w ∷ vs) c.parts }
 
-all_front : {X : Type 0} (P : X → Type 0) (xs ys : List X) → AllByRecursion P (xs ++ ys) → AllByRecursion P xs
-all_front P [] ys h = tt
-all_front P (x ∷ xs) ys h = (h.0, all_front P xs ys h.1)
+all_prefix : {X : Type 0} (P : X → Type 0) (xs ys : List X) → AllByRecursion P (xs ++ ys) → AllByRecursion P xs
+all_prefix P [] ys h = tt
+all_prefix P (x ∷ xs) ys h = (h.0, all_prefix P xs ys h.1)
 
 all_back : {X : Type 0} (P : X → Type 0) (xs ys : List X) → AllByRecursion P (xs ++ ys) → AllByRecursion P ys
 all_back P [] ys h = h
@@ -83,11 +83,11 @@ all_back P (x ∷ xs) ys h = all_back P xs ys h.1
 -- ---- the first that shows something
 
 record Found {A : Type 0} (show : RowsSoFar → Row → Option A) (walk : RowsSoFar) (rows : List Row) (shows : A) : Type 0 where
-  front : List Row
+  prefix : List Row
   row : Row
-  cut : Cut rows front row
-  here : show (walked walk front) row ≡ Some shows
-  none_before : first_shown show walk front ≡ None
+  cut : Cut rows prefix row
+  here : show (walked walk prefix) row ≡ Some shows
+  none_before : first_shown show walk prefix ≡ None
 
 found : {A : Type 0} (show : RowsSoFar → Row → Option A) (walk : RowsSoFar) (rows : List Row) (shows : A)
     → first_shown show walk rows ≡ Some shows → Found show walk rows shows
@@ -97,7 +97,7 @@ found {A} show walk (row ∷ rows) shows e = by_show (show walk row) refl e (λ 
     by_show : (o : Option A) → show walk row ≡ o → option_or o (first_shown show (next walk row) rows) ≡ Some shows
         → (first_shown show (next walk row) rows ≡ Some shows → Found show (next walk row) rows shows) → Found show walk (row ∷ rows) shows
     by_show (Some first) is e more = record {
-      front = [];
+      prefix = [];
       row = row;
       cut = record { back = rows; parts = refl };
       here = is ∙ e;
@@ -106,24 +106,24 @@ found {A} show walk (row ∷ rows) shows e = by_show (show walk row) refl e (λ 
     by_show None is e more =
         let f = more e in
         record {
-          front = row ∷ f.front;
+          prefix = row ∷ f.prefix;
           row = f.row;
           cut = record { back = f.cut.back; parts = ap (λ (xs : List Row). row ∷ xs) f.cut.parts };
           here = f.here;
-          none_before = ap (λ (o : Option A). option_or o (first_shown show (next walk row) f.front)) is ∙ f.none_before;
+          none_before = ap (λ (o : Option A). option_or o (first_shown show (next walk row) f.prefix)) is ∙ f.none_before;
         }
 
 -- where none does, this one doesn't
-not_shown : {A : Type 0} (show : RowsSoFar → Row → Option A) (walk : RowsSoFar) (rows front : List Row) (row : Row) → Cut rows front row
-    → first_shown show walk rows ≡ None → show (walked walk front) row ≡ None
-not_shown {A} show walk rows front row cut e =
-    by_front (first_shown show walk front) (show (walked walk front) row) (first_shown show (next (walked walk front) row) cut.back)
-    (sym (first_shown-append show walk front (row ∷ cut.back)) ∙ ap (first_shown show walk) (sym cut.parts) ∙ e)
+not_shown : {A : Type 0} (show : RowsSoFar → Row → Option A) (walk : RowsSoFar) (rows prefix : List Row) (row : Row) → Cut rows prefix row
+    → first_shown show walk rows ≡ None → show (walked walk prefix) row ≡ None
+not_shown {A} show walk rows prefix row cut e =
+    by_prefix (first_shown show walk prefix) (show (walked walk prefix) row) (first_shown show (next (walked walk prefix) row) cut.back)
+    (sym (first_shown-append show walk prefix (row ∷ cut.back)) ∙ ap (first_shown show walk) (sym cut.parts) ∙ e)
   where
-    by_front : (a b c : Option A) → option_or a (option_or b c) ≡ None → b ≡ None
-    by_front None None c e = refl
-    by_front None (Some x) c e = absurd cc
-    by_front (Some x) b c e = absurd cc
+    by_prefix : (a b c : Option A) → option_or a (option_or b c) ≡ None → b ≡ None
+    by_prefix None None c e = refl
+    by_prefix None (Some x) c e = absurd cc
+    by_prefix (Some x) b c e = absurd cc
 
 -- ---- the sequence that a row stands in
 
@@ -143,8 +143,8 @@ joined_of unit index (s ∷ ss) = ap (λ (more : List Row). s.rows ++ more) (joi
 open_before : (s : Sequence) (before : List Row) (row : Row) → IsEnded s → Cut s.rows before row → AreOpen before
 open_before s before row e cut =
     elim (cut_at e.body (e.last ∷ []) before row cut.back (sym e.rows_are ∙ cut.parts)) [
-      | inl c ↦ all_front (λ (r : Row). r.end_sequence ≡ false) before (row ∷ c.back) (subst AreOpen c.parts e.body_open)
-      | inr b ↦ subst AreOpen (sym (b.front_is ∙ ap (λ (rest : List Row). e.body ++ rest) (none b.rest b.parts) ∙ append-nil e.body))
+      | inl c ↦ all_prefix (λ (r : Row). r.end_sequence ≡ false) before (row ∷ c.back) (subst AreOpen c.parts e.body_open)
+      | inr b ↦ subst AreOpen (sym (b.prefix_is ∙ ap (λ (rest : List Row). e.body ++ rest) (none b.rest b.parts) ∙ append-nil e.body))
           e.body_open
     ]
   where
@@ -168,13 +168,13 @@ record Stands (placed : List Placed) (before : List Row) (row : Row) (index : �
   sequence : Placed
   stands : StandsIn placed sequence before row index
 
-stands : (placed : List Placed) → AreEnded placed → (walk : RowsSoFar) → walk.begun ≡ [] → (front : List Row) (row : Row)
-    → Cut (rows_of placed) front row → Stands placed (walked walk front).begun row (length front)
-stands [] ended walk none front row cut = absurd (omega (arith, ap length cut.parts, length-append front (row ∷ cut.back)))
-stands (p ∷ placed) ended walk none front row cut =
-    elim (cut_at p.rows (rows_of placed) front row cut.back cut.parts) [
+stands : (placed : List Placed) → AreEnded placed → (walk : RowsSoFar) → walk.begun ≡ [] → (prefix : List Row) (row : Row)
+    → Cut (rows_of placed) prefix row → Stands placed (walked walk prefix).begun row (length prefix)
+stands [] ended walk none prefix row cut = absurd (omega (arith, ap length cut.parts, length-append prefix (row ∷ cut.back)))
+stands (p ∷ placed) ended walk none prefix row cut =
+    elim (cut_at p.rows (rows_of placed) prefix row cut.back cut.parts) [
       | inl c ↦
-          let e = begun_open walk front none (open_before (record { rows = p.rows }) front row ended.0 c) in
+          let e = begun_open walk prefix none (open_before (record { rows = p.rows }) prefix row ended.0 c) in
           record {
             sequence = p;
             stands = record {
@@ -190,9 +190,9 @@ stands (p ∷ placed) ended walk none front row cut =
           let past = walked walk p.rows in
           let s = stands placed ended.1 past (begun_ended walk (record { rows = p.rows }) ended.0) b.rest row
           (record { back = cut.back; parts = b.parts }) in
-          let same : (walked past b.rest).begun ≡ (walked walk front).begun =
+          let same : (walked past b.rest).begun ≡ (walked walk prefix).begun =
           ap (λ (w : RowsSoFar). w.begun) (sym (walked-append walk p.rows b.rest))
-          ∙ ap (λ (rows : List Row). (walked walk rows).begun) (sym b.front_is) in
+          ∙ ap (λ (rows : List Row). (walked walk rows).begun) (sym b.prefix_is) in
           record {
             sequence = s.sequence;
             stands = record {
@@ -201,7 +201,7 @@ stands (p ∷ placed) ended walk none front row cut =
               after = s.stands.after;
               sequences_are = ap (λ (ps : List Placed). p ∷ ps) s.stands.sequences_are;
               rows_are = s.stands.rows_are ∙ ap (λ (rows : List Row). rows ++ row ∷ s.stands.after) same;
-              index_is = ap length b.front_is ∙ length-append p.rows b.rest ∙ ap (λ (n : ℕ). length p.rows + n) s.stands.index_is
+              index_is = ap length b.prefix_is ∙ length-append p.rows b.rest ∙ ap (λ (n : ℕ). length p.rows + n) s.stands.index_is
                   ∙ sym (length-append p.rows (rows_of s.stands.earlier ++ (walked past b.rest).begun))
                   ∙ ap length (sym (append_assoc p.rows (rows_of s.stands.earlier) (walked past b.rest).begun))
                   ∙ ap (λ (rows : List Row). length ((p.rows ++ rows_of s.stands.earlier) ++ rows)) same;
@@ -211,20 +211,20 @@ stands (p ∷ placed) ended walk none front row cut =
 
 -- and the other way round
 record CutAt (rows : List Row) (walk : RowsSoFar) (before : List Row) (row : Row) (index : ℕ) : Type 0 where
-  front : List Row
-  cut : Cut rows front row
-  begun : (walked walk front).begun ≡ before
-  index_is : index ≡ length front
+  prefix : List Row
+  cut : Cut rows prefix row
+  begun : (walked walk prefix).begun ≡ before
+  index_is : index ≡ length prefix
 
 cut_of : (placed : List Placed) → AreEnded placed → (walk : RowsSoFar) → walk.begun ≡ []
     → (p : Placed) (before : List Row) (row : Row) (index : ℕ)
     → StandsIn placed p before row index → CutAt (rows_of placed) walk before row index
 cut_of placed ended walk none p before row index s =
     let all : AreEnded (s.earlier ++ p ∷ s.later) = subst AreEnded s.sequences_are ended in
-    let front = all_front (λ (q : Placed). IsEnded (record { rows = q.rows })) s.earlier (p ∷ s.later) all in
+    let prefix = all_prefix (λ (q : Placed). IsEnded (record { rows = q.rows })) s.earlier (p ∷ s.later) all in
     let here = (all_back (λ (q : Placed). IsEnded (record { rows = q.rows })) s.earlier (p ∷ s.later) all).0 in
     record {
-      front = rows_of s.earlier ++ before;
+      prefix = rows_of s.earlier ++ before;
       cut = record {
         back = s.after ++ rows_of s.later;
         parts = ap rows_of s.sequences_are ∙ flat_map-append (λ (q : Placed). q.rows) s.earlier (p ∷ s.later)
@@ -233,7 +233,7 @@ cut_of placed ended walk none p before row index s =
             ∙ sym (append_assoc (rows_of s.earlier) before (row ∷ s.after ++ rows_of s.later));
       };
       begun = ap (λ (w : RowsSoFar). w.begun) (walked-append walk (rows_of s.earlier) before)
-          ∙ begun_open (walked walk (rows_of s.earlier)) before (begun_all walk s.earlier front none)
+          ∙ begun_open (walked walk (rows_of s.earlier)) before (begun_all walk s.earlier prefix none)
           (open_before (record { rows = p.rows }) before row here (record { back = s.after; parts = s.rows_are }));
       index_is = s.index_is;
     }
@@ -262,20 +262,20 @@ found_in : {A : Type 0} (ss : List Placed) (all : List Row) (show : RowsSoFar �
     → first_shown show start all ≡ Some shows → FoundIn ss all show shows
 found_in ss all show shows w e =
     let f = found show start all shows e in
-    let cut : Cut (rows_of ss) f.front f.row = record { back = f.cut.back; parts = w.rows_are ∙ f.cut.parts } in
-    let s = stands ss w.ended start refl f.front f.row cut in
-    let count : (walked start f.front).rows ≡ length f.front = omega (arith, walked-rows start f.front) in
+    let cut : Cut (rows_of ss) f.prefix f.row = record { back = f.cut.back; parts = w.rows_are ∙ f.cut.parts } in
+    let s = stands ss w.ended start refl f.prefix f.row cut in
+    let count : (walked start f.prefix).rows ≡ length f.prefix = omega (arith, walked-rows start f.prefix) in
     record {
-      walk = walked start f.front;
+      walk = walked start f.prefix;
       row = f.row;
       sequence = s.sequence;
-      stands = subst (StandsIn ss s.sequence (walked start f.front).begun f.row) (sym count) s.stands;
+      stands = subst (StandsIn ss s.sequence (walked start f.prefix).begun f.row) (sym count) s.stands;
       here = f.here;
       first = λ p before other index at lt.
           let c = cut_of ss w.ended start refl p before other index at in
           let index_is = c.index_is in
-          let there = cut_before c.front f.front other c.cut.back f.row f.cut.back (sym c.cut.parts ∙ cut.parts) (omega arith) in
-          (walked start c.front, c.begun, not_shown show start f.front c.front other there f.none_before);
+          let there = cut_before c.prefix f.prefix other c.cut.back f.row f.cut.back (sym c.cut.parts ∙ cut.parts) (omega arith) in
+          (walked start c.prefix, c.begun, not_shown show start f.prefix c.prefix other there f.none_before);
     }
 
 -- where none shows anything, no row of a sequence does
@@ -284,9 +284,9 @@ none_in : {A : Type 0} (ss : List Placed) (all : List Row) (show : RowsSoFar →
     → (walk : RowsSoFar) × (walk.begun ≡ before) × (show walk row ≡ None)
 none_in ss all show w e p before row index at =
     let c = cut_of ss w.ended start refl p before row index at in (
-      walked start c.front,
+      walked start c.prefix,
       c.begun,
-      not_shown show start all c.front row
+      not_shown show start all c.prefix row
           (record { back = c.cut.back; parts = sym w.rows_are ∙ c.cut.parts }) e,
     )
 
@@ -400,13 +400,13 @@ last_row-push (row ∷ rows) more = last_row_is row (rows ++ more ∷ []) ∙ ap
     pushed row [] = refl
     pushed row (next ∷ rows) = pushed next rows
 
-ordered_along : (whole : List Row) → NoneFalls whole → (front : List Row) (last : Row) (back : List Row)
-    → whole ≡ (front ++ last ∷ []) ++ back
-    → IsOrdered (front ++ last ∷ []) → AllUpTo (position_of last) (front ++ last ∷ []) → IsOrdered whole
-ordered_along whole none front last [] e o h = subst IsOrdered (sym (e ∙ append-nil (front ++ last ∷ []))) o
-ordered_along whole none front last (row ∷ back) e o h =
-    let before = front ++ last ∷ [] in
-    let step : IsAtMost (position_of last) (position_of row) = none before row back e last (last_row-push front last) in
+ordered_along : (whole : List Row) → NoneFalls whole → (prefix : List Row) (last : Row) (back : List Row)
+    → whole ≡ (prefix ++ last ∷ []) ++ back
+    → IsOrdered (prefix ++ last ∷ []) → AllUpTo (position_of last) (prefix ++ last ∷ []) → IsOrdered whole
+ordered_along whole none prefix last [] e o h = subst IsOrdered (sym (e ∙ append-nil (prefix ++ last ∷ []))) o
+ordered_along whole none prefix last (row ∷ back) e o h =
+    let before = prefix ++ last ∷ [] in
+    let step : IsAtMost (position_of last) (position_of row) = none before row back e last (last_row-push prefix last) in
     let up : AllUpTo (position_of row) before =
     All-weaker (λ (r : Row). IsAtMost (position_of r) (position_of last)) (λ (r : Row). IsAtMost (position_of r) (position_of row))
     (λ r m. at_most_trans m step) before h in

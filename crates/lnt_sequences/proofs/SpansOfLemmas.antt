@@ -25,7 +25,7 @@ use Rattle.lnt_sequences.proofs.RowLemmas.{IsRising, rising_from_ordered, rising
 
 -- ---- pieces in another order
 
--- two pieces in front, in each other's place
+-- two pieces first, in each other's place
 two_pieces : {A : Type 0} (xs ys zs : List A) → IsPermutation (xs ++ (ys ++ zs)) (ys ++ (xs ++ zs))
 two_pieces xs ys zs = subst (λ l. IsPermutation l (ys ++ (xs ++ zs))) (append_assoc xs ys zs)
     (subst (IsPermutation ((xs ++ ys) ++ zs)) (append_assoc ys xs zs)

@@ -159,7 +159,7 @@ whole show of dead unit step index [] walk all none at = refl
 whole {A} show of dead unit step index (s ∷ ss) walk all none at =
     let there = walked_ended walk s all.0 in
     shown-append show walk s.rows (joined_rows ss)
-    ∙ ap (λ (front : List A). front ++ shown show (walked walk s.rows) (joined_rows ss)) (step walk s all.0 none)
+    ∙ ap (λ (prefix : List A). prefix ++ shown show (walked walk s.rows) (joined_rows ss)) (step walk s all.0 none)
     ∙ ap (λ (k : ℕ). cond (are_live dead s.rows) (of (record { id = record { unit = unit; index = k }; rows = s.rows })) [] ++ shown show
     (walked walk s.rows) (joined_rows ss)) at
     ∙ ap (λ (rest : List A). cond (are_live dead s.rows) (of (record { id = record { unit = unit; index = index }; rows = s.rows })) [] ++

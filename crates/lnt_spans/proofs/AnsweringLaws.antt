@@ -44,11 +44,11 @@ rest_in_order s [] h = tt
 rest_in_order s (t ∷ rest) h = h.2
 
 -- both parts of a list of spans in order are in order
-pub front_in_order : (xs ys : List Span) → AreInOrder (xs ++ ys) → AreInOrder xs
-front_in_order [] ys h = tt
-front_in_order (x ∷ []) [] h = h
-front_in_order (x ∷ []) (y ∷ ys) h = h.0
-front_in_order (x ∷ next ∷ xs) ys h = (h.0, h.1, front_in_order (next ∷ xs) ys h.2)
+pub prefix_in_order : (xs ys : List Span) → AreInOrder (xs ++ ys) → AreInOrder xs
+prefix_in_order [] ys h = tt
+prefix_in_order (x ∷ []) [] h = h
+prefix_in_order (x ∷ []) (y ∷ ys) h = h.0
+prefix_in_order (x ∷ next ∷ xs) ys h = (h.0, h.1, prefix_in_order (next ∷ xs) ys h.2)
 
 pub back_in_order : (xs ys : List Span) → AreInOrder (xs ++ ys) → AreInOrder ys
 back_in_order [] ys h = h

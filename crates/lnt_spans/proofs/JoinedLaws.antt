@@ -29,7 +29,7 @@ pub record BeginCanonical (version : Version) (all given : List Span) : Type 0 w
   pub canonical : IsCanonical (given ++ more)
   pub same : (p : Position) → span_answer (given ++ more) p ≡ version_answer version all p
 
--- the same holds for a front of them, and for an equal list
+-- the same holds for a prefix of them, and for an equal list
 given_before : (version : Version) (all other given next : List Span) → all ≡ other → BeginCanonical version all (given ++ next)
     → BeginCanonical version other given
 given_before version all other given next e b = record {

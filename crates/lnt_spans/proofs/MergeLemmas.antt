@@ -16,7 +16,7 @@ use Rattle.lnt_spans.specs.Merged.{BeginFrom, HasMerged, HasOneMore}
 use Rattle.lnt_spans.specs.Positions.{IsBelow, IsAtMost}
 use Rattle.lnt_spans.specs.Spans.{AreInOrder, span_answer}
 use Rattle.lnt_spans.specs.Stretches.{stretch_of}
-use Rattle.lnt_spans.proofs.AnsweringLaws.{answer_before, answer_after, answer_in, answer_same, back_in_order, front_in_order}
+use Rattle.lnt_spans.proofs.AnsweringLaws.{answer_before, answer_after, answer_in, answer_same, back_in_order, prefix_in_order}
 use Rattle.lnt_spans.proofs.MergedLemmas.{merged_past}
 use Rattle.lnt_spans.proofs.PassedLaws.{answer_below, answer_from, begin_after, origin_first, told_same}
 use Rattle.lnt_spans.proofs.PositionLaws.{at_most_trans, below_at_most, below_is_at_most, not_both, order_cases}
@@ -120,10 +120,10 @@ pub compares_passed : {S : Type 0} (to_come : S → List Span → Type 0) (versi
     → IsAhead to_come merge.spans list → AreInOrder (passed ++ list) → AllByRecursion (IsTold version) passed → at ≡ end_of passed
     → Compares to_come (record { version = version; merge = merge }) (passed ++ list) passed
 compares_passed to_come version merge at passed list is gap mistake missed ahead order told e = record {
-  order = front_in_order passed list order;
+  order = prefix_in_order passed list order;
   at = end;
   merged = merged_past to_come (in_version version) stretch_of merge (passed ++ list) (span_answer passed) gap mistake missed
-      (λ p h. ended passed p (front_in_order passed list order) (subst (λ (q : Position). IsAtMost q p) end h))
+      (λ p h. ended passed p (prefix_in_order passed list order) (subst (λ (q : Position). IsAtMost q p) end h))
       (λ p h. ap (option_map (in_version version)) (answer_below passed list p order (subst (IsBelow p) end h)) ∙ told_same version passed p told)
       list ahead (back_in_order passed list order) (subst (λ (q : Position). BeginFrom q list) (sym end) (begin_after passed list order))
       (λ p h. answer_from passed list p order (subst (λ (q : Position). IsAtMost q p) end h));

@@ -10,7 +10,7 @@ use Rattle.lnt_spans.specs.Positions.{IsBelow, IsAtMost}
 use Rattle.lnt_spans.specs.Remaining.{EndsAfter}
 use Rattle.lnt_spans.specs.Spans.{AreInOrder, span_answer, version_answer}
 use Rattle.lnt_spans.proofs.AheadLaws.{next_after}
-use Rattle.lnt_spans.proofs.AnsweringLaws.{answer_after, answer_same, first_holds, front_in_order, rest_none}
+use Rattle.lnt_spans.proofs.AnsweringLaws.{answer_after, answer_same, first_holds, prefix_in_order, rest_none}
 use Rattle.lnt_spans.proofs.PositionLaws.{at_most_below, at_most_itself, at_most_trans, below_is_at_most, not_both}
 use Rattle.lnt_spans.proofs.ToldLaws.{told, told_answer}
 
@@ -50,7 +50,7 @@ answer_from [] more p o h = refl
 answer_from (span ∷ []) more p o h = answer_after span more p h
 answer_from (span ∷ next ∷ passed) more p o h =
     answer_after span (next ∷ (passed ++ more)) p
-    (at_most_trans (end_above span (next ∷ passed) (front_in_order (span ∷ next ∷ passed) more o)) h)
+    (at_most_trans (end_above span (next ∷ passed) (prefix_in_order (span ∷ next ∷ passed) more o)) h)
     ∙ answer_from (next ∷ passed) more p o.2 h
 
 -- ---- as a version contains them
@@ -63,10 +63,10 @@ pub told_same : (version : Version) (spans : List Span) (p : Position) → AllBy
     → version_answer version spans p ≡ span_answer spans p
 told_same version spans p h = sym (told_answer version spans p) ∙ ap (λ (xs : List Span). span_answer xs p) (told_are version spans h)
 
-pub told_front : (version : Version) (passed more : List Span) → AllByRecursion (IsTold version) (passed ++ more)
+pub told_prefix : (version : Version) (passed more : List Span) → AllByRecursion (IsTold version) (passed ++ more)
     → AllByRecursion (IsTold version) passed
-told_front version [] more h = tt
-told_front version (span ∷ passed) more h = (h.0, told_front version passed more h.1)
+told_prefix version [] more h = tt
+told_prefix version (span ∷ passed) more h = (h.0, told_prefix version passed more h.1)
 
 pub told_back : (version : Version) (passed more : List Span) → AllByRecursion (IsTold version) (passed ++ more)
     → AllByRecursion (IsTold version) more

@@ -1,5 +1,5 @@
 -- Two sides are followed run by run, whatever they answer: how long both answers stay, and that what was told so far of where
--- they differ is a front of all that there is to tell.
+-- they differ is a prefix of all that there is to tell.
 use Rattle.std.proofs.Common.{◌≡◌, ◌≢◌, ◌∙◌, ℕ, zero, suc, ◌+◌, ◌<◌, ◌≤◌, List, [], ◌∷◌, ◌++◌, ◌⊎◌, inl, inr, ap}
 use Rattle.std.proofs.Common.{Some, None, Option, arith, length, append-nil, append_assoc, refl, subst, sym}
 use Rattle.std.proofs.lemmas.Option.{same_Some}
@@ -215,7 +215,7 @@ module _ {X D : Type 0} (same : AreDecided X) (f g : Position → Option X) (beg
         (later_run f at other.1 one.1 one.0 (below_is_at_most b.0.past) first a.0, a.1) b.1 next.1)
   ]
 
-  -- What was told so far is a front of all.
+  -- What was told so far is a prefix of all.
   pub all_told : (at : Position) (s t : Option X) (told : List D) → HasRuns f at → HasRuns g at → Told at s t told
       → (more : List D) × AllTold (told ++ more)
   all_told at s t told ones others below =

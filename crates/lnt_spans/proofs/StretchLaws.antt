@@ -1,4 +1,4 @@
--- The stretches given so far are a front of the list of all stretches.
+-- The stretches given so far are a prefix of the list of all stretches.
 use Rattle.std.proofs.Common.{◌≡◌, ◌∙◌, List, [], ◌∷◌, ◌++◌, Option, ap, map, refl, subst, sym}
 use Rattle.std.proofs.lemmas.List.{map-append}
 use Rattle.std.specs.Option.{option_map}

@@ -28,7 +28,7 @@ use Rattle.lnt_spans.specs.ToldStretches.{AreToldBelow}
 use Rattle.lnt_spans.proofs.AnsweringLaws.{back_in_order}
 use Rattle.lnt_spans.proofs.CountLemmas.{added_range, most_addresses, no_addresses, same_addresses}
 use Rattle.lnt_spans.proofs.MergedLemmas.{missed_here, missed_said, missed_same, missed_unanswered, until_below, until_from}
-use Rattle.lnt_spans.proofs.PassedLaws.{answer_below, answer_from, ends_after, told_front, told_same}
+use Rattle.lnt_spans.proofs.PassedLaws.{answer_below, answer_from, ends_after, told_prefix, told_same}
 use Rattle.lnt_spans.proofs.PositionLaws.{at_most_trans, below_at_most, below_is_at_most, not_both, order_cases}
 use Rattle.lnt_spans.proofs.RunLaws.{Moves, moves}
 use Rattle.lnt_spans.proofs.SideLemmas.{side_run}
@@ -180,7 +180,7 @@ told_after of_section of_table section table version at stretches f passed spans
     (λ p h.
     let below : IsBelow p (end_of passed) = subst (IsBelow p) e h in
     sym (same p) ∙ ap (option_map (in_version version)) (answer_below passed spans p o below)
-    ∙ told_same version passed p (told_front version passed records t)
+    ∙ told_same version passed p (told_prefix version passed records t)
     ∙ sym (answer_below passed records p o' below))
 
 -- ---- the first stretch

@@ -38,7 +38,7 @@ AllMistakes X = (by_table by_section : Position → Option X) (stretches : List 
     → AreAllMistakes by_table by_section stretches
     ↔ AreAllStretches (where_answered by_table by_section) by_table stretches
 
--- the list with the second in front, if there is a first
+-- the list with the second first, if there is a first
 abbrev pub if_some : {X Y : Type 0} → Option X → Y → List Y → List Y
 if_some None one list = list
 if_some (Some _) one list = one ∷ list

@@ -34,7 +34,7 @@ becomes_so version f g old new (OperationIndex position) e h =
 
 -- ---- tables whose writing was stopped
 
--- a whole table, of which a front was gained
+-- a whole table, of which a prefix was appended
 table_begun : (version : PathVersion) (path : ℕ → ℕ → List ℕ) (given : List Span) (answers : Position → Option PathAnswer)
     (old new : Option (List ℕ)) → AreInOrder given → FitSpans given → ((p : Position) → spans_by_path version path given p ≡ answers p)
     → (begun : BeginsPathTable version (spans_by_path version path given) old new) → AllByRecursion IsPathSpanOfInstructions begun.spans
@@ -44,7 +44,7 @@ table_begun version path given answers old new order fits e begun none =
     record {
       whole = table.0;
       is_table = whole_so version (spans_by_path version path given) answers table.0 e table.1;
-      front = begun.of_whole table.0 table.1;
+      prefix = begun.of_whole table.0 table.1;
     }
 
 -- the least position that no table by path can tell
@@ -54,7 +54,7 @@ none_begun : (version : PathVersion) (f answers : Position → Option PathAnswer
 none_begun version f answers old new spans position e canonical least kept =
     (kept, record { spans = spans; canonical = canonical_so f answers spans e canonical; least = least })
 
--- What was gained is a front of the table of these spans; or there is none, and nothing was gained.
+-- What was appended is a prefix of the table of these spans; or there is none, and nothing was appended.
 pub paths_begun : (version : PathVersion) (path : ℕ → ℕ → List ℕ) (given : List Span) (answers : Position → Option PathAnswer)
     (old new : Option (List ℕ)) → AreInOrder given → FitSpans given → ((p : Position) → spans_by_path version path given p ≡ answers p)
     → BeginsPathTable version (spans_by_path version path given) old new → BeginsPaths version answers old new

@@ -1,6 +1,6 @@
 -- The tables that are written from a section's lines.
 use Rattle.std.specs.Prelude.{◌≡◌, ◌⊎◌, Bool, ℕ, List, Option}
-use Rattle.lnt_io.specs.Fronts.{AppendsFront}
+use Rattle.lnt_io.specs.Prefixes.{AppendsPrefix}
 use Rattle.lnt_header.specs.declared.unit_parts.UnitParts.{UnitParts}
 use Rattle.lnt_spans.specs.declared.answer.Version.{Version}
 use Rattle.lnt_spans.specs.declared.position.Position.{Position}
@@ -36,13 +36,13 @@ pub record BeginsTableOfUnits (version : Version) (dead : Option ℕ) (skip : Bo
     : Type 0 where
   pub whole : List ℕ
   pub is_table : IsTableOfUnits version dead skip units whole
-  pub front : AppendsFront old new whole
+  pub prefix : AppendsPrefix old new whole
 
 -- What was written is a prefix of the table by path with these answers. There is one such table, by the same law.
 pub record BeginsTableByPath (version : PathVersion) (answers : Position → Option PathAnswer) (old new : Option (List ℕ)) : Type 0 where
   pub whole : List ℕ
   pub is_table : IsCanonicalPathTable version answers whole
-  pub front : AppendsFront old new whole
+  pub prefix : AppendsPrefix old new whole
 
 -- That; or there can't be a table by path with these answers, and nothing was written.
 abbrev pub BeginsPaths : PathVersion → (Position → Option PathAnswer) → Option (List ℕ) → Option (List ℕ) → Type 0

@@ -1,4 +1,4 @@
--- Numbers read from the front.
+-- Numbers read from the left.
 use Rattle.std.proofs.Common.{◌≡◌, ◌∙◌, ℕ, ◌+◌, ◌*◌, ◌^◌, ◌<◌, ◌≤◌, List, length, get_or}
 use Rattle.std.proofs.Common.{take, drop, sym, ap, arith}
 use Rattle.std.proofs.lemmas.List.{drop_more}
@@ -7,7 +7,7 @@ use Rattle.lnt_text.specs.declared.radix.Radix.{Radix}
 use Rattle.lnt_text.specs.Digits.{IsDigit, IsNumber, radix_base, digit_value, digits_value, most_digits}
 use Rattle.lnt_text.proofs.DigitLemmas.{base_some, value_grows}
 
--- the front is read, as digits that have this number
+-- the prefix is read, as digits that have this number
 pub record IsRead (radix : Radix) (text : List ℕ) (i so_far : ℕ) : Type 0 where
   pub digits : AllByRecursion (IsDigit radix) (take i text)
   pub value : digits_value (radix_base radix) 0 text ≡ digits_value (radix_base radix) so_far (drop i text)

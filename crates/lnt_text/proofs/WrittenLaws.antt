@@ -100,5 +100,5 @@ pub text_before : (room new : List ℕ) (start end : ℕ) → start ≤ end → 
 text_before room new start end le after =
     let whole : start + (end - start) ≡ end = omega (arith, le) in
     drop_split new start end le
-    ∙ ap (λ front. front ++ drop end new) (sym (drop-take start (end - start) new) ∙ ap (λ (k : ℕ). drop start (take k new)) whole)
+    ∙ ap (λ prefix. prefix ++ drop end new) (sym (drop-take start (end - start) new) ∙ ap (λ (k : ℕ). drop start (take k new)) whole)
     ∙ ap (λ rest. drop start (take end new) ++ rest) after

@@ -3,6 +3,6 @@ use Rattle.std.specs.Prelude.{◌≡◌, ℕ, List, ◌∷◌, ◌++◌}
 
 -- The text begins with a text of n, then the byte `end`, then `rest`.
 pub record Begins (Spells : List ℕ → ℕ → Type 0) (text : List ℕ) (n end : ℕ) (rest : List ℕ) : Type 0 where
-  pub front : List ℕ
-  pub joined : text ≡ front ++ end ∷ rest
-  pub spells : Spells front n
+  pub prefix : List ℕ
+  pub joined : text ≡ prefix ++ end ∷ rest
+  pub spells : Spells prefix n

@@ -55,7 +55,7 @@ frame_broken order old fault r = record {
   };
   in_header = λ none. frame r.reason;
   in_program = λ header place program g. absurd
-      (r.none _ g.front g.more (header_frame order header program g.front g.spelled) (sym g.joined));
+      (r.none _ g.prefix g.more (header_frame order header program g.prefix g.spelled) (sym g.joined));
 }
 
 -- ---- the header
@@ -74,7 +74,7 @@ header_broken order fault offset bytes header_fault =
         reason = b.reason;
       };
       in_header = λ none. header_fault.first;
-      in_program = λ header place program g. absurd (b.none (header, program) g.front g.more g.spelled (sym g.joined));
+      in_program = λ header place program g. absurd (b.none (header, program) g.prefix g.more g.spelled (sym g.joined));
     }
 
 -- ---- the operations
@@ -120,7 +120,7 @@ first_of : (h : HeaderParts) (program bytes : List ℕ) (fault : Fault) (offset 
     → (header : HeaderParts) (other : ℕ) (named : List ℕ) → BeginsWithHeader h.order offset bytes header other named
     → BrokenProgram header other named fault
 first_of h program bytes fault offset place p ends b header other named g =
-    let found = same_header header h named program g.front bytes g.more [] g.spelled.order_is g.spelled.spelled p
+    let found = same_header header h named program g.prefix bytes g.more [] g.spelled.order_is g.spelled.spelled p
     (sym g.joined ∙ sym (append-nil bytes)) in
     let places : other ≡ place = omega (arith, g.ends, ends, ap length found.program, ap length found.bytes) in
     rw (found.header, found.program, places) b

@@ -43,7 +43,7 @@ pub each_spelled : (to : Order) (units : List UnitParts) (bytes : List ℕ) → 
     → Each (UnitBytesIn to) units bytes
 each_spelled to [] bytes p = p
 each_spelled to (unit ∷ units) bytes p = record {
-  front = p.front;
+  prefix = p.prefix;
   back = p.back;
   first = p.first.spelled;
   second = each_spelled to units p.back p.second;
@@ -54,7 +54,7 @@ each_spelled to (unit ∷ units) bytes p = record {
 pub converted_none : (order : Order) (section : List ℕ) (format : Format) (to : Order) (at : At) → at.rest ≡ section → at.place ≡ 0
     → at.order ≡ order → ConvertedTo order section format to at []
 converted_none order section format to at rest place ordered =
-    record { units = []; front = []; whole = sym rest; sound = refl; place_is = place; order_is = ordered; put = refl }
+    record { units = []; prefix = []; whole = sym rest; sound = refl; place_is = place; order_is = ordered; put = refl }
 
 -- added after other bytes
 past : {X : Type 0} (P : X → List ℕ → Type 0) (x : X) (done old new : List ℕ) → Appends P x old new
@@ -70,10 +70,10 @@ converted_more order section format to done at next old new p c =
     let r = c.read in
     record {
       units = p.units ++ unit ∷ [];
-      front = p.front ++ r.spelling;
-      whole = p.whole ∙ ap (λ (z : List ℕ). p.front ++ z) r.whole ∙ sym (append_assoc p.front r.spelling next.rest);
-      sound = units_push order 0 p.units unit p.front r.spelling p.sound (omega (arith, p.place_is)) r.spelled;
-      place_is = omega (arith, r.place, p.place_is, length-append p.front r.spelling);
+      prefix = p.prefix ++ r.spelling;
+      whole = p.whole ∙ ap (λ (z : List ℕ). p.prefix ++ z) r.whole ∙ sym (append_assoc p.prefix r.spelling next.rest);
+      sound = units_push order 0 p.units unit p.prefix r.spelling p.sound (omega (arith, p.place_is)) r.spelled;
+      place_is = omega (arith, r.place, p.place_is, length-append p.prefix r.spelling);
       order_is = r.order ∙ p.order_is;
       put = units_more format to p.units unit (done ++ old) (done ++ new) p.put
           (past (UnitBytesIn to) (unit_in_format c.unit format to) done old new c.put);
@@ -95,11 +95,11 @@ placed : (order : Order) (offset : ℕ) (units : List UnitParts) (bytes : List �
     → Placed order offset units bytes
 placed order offset [] bytes p = record { others = []; same = refl; spelled = p }
 placed order offset (unit ∷ units) bytes p =
-    let rest = placed order (offset + length p.front) units p.back p.second in
+    let rest = placed order (offset + length p.prefix) units p.back p.second in
     record {
       others = (offset, unit) ∷ rest.others;
       same = ap (λ (l : List UnitParts). unit ∷ l) rest.same;
-      spelled = (p.front, p.back, refl, p.first.spelled, p.joined, rest.spelled);
+      spelled = (p.prefix, p.back, refl, p.first.spelled, p.joined, rest.spelled);
     }
 
 -- all units
@@ -122,24 +122,24 @@ converted_all order section format to at bytes p ended = grind (arith, common_st
 
 -- some bytes spell the unit after those that stand before it, since some spell each unit
 spelled_past : (order : Order) (format : Format) (to : Order) (k l : ℕ) (units others : List (ℕ × UnitParts)) (unit : UnitParts)
-    (front here rest whole put : List ℕ) → UnitsFrom order k units front → UnitsFrom order l others whole
-    → whole ≡ front ++ (here ++ rest) → UnitBytesIn order unit here
+    (prefix here rest whole put : List ℕ) → UnitsFrom order k units prefix → UnitsFrom order l others whole
+    → whole ≡ prefix ++ (here ++ rest) → UnitBytesIn order unit here
     → Each (IsShortest (UnitBytesIn to)) (units_in_format others format to) put
     → NoSpelling (UnitBytesIn to) (unit_in_format unit format to) → ⊥
-spelled_past order format to k l [] [] unit front here rest whole put p q e spelled all none =
+spelled_past order format to k l [] [] unit prefix here rest whole put p q e spelled all none =
     omega (
       arith,
       ap length q,
       ap length e,
-      length-append front (here ++ rest),
+      length-append prefix (here ++ rest),
       length-append here rest,
       unit_is_some order unit here spelled,
     )
-spelled_past order format to k l [] (u ∷ us) unit front here rest whole put p q e spelled all none =
+spelled_past order format to k l [] (u ∷ us) unit prefix here rest whole put p q e spelled all none =
     let joined : q.0 ++ q.1 ≡ here ++ rest = sym q.4 ∙ e ∙ ap (λ (z : List ℕ). z ++ (here ++ rest)) p in
     let same = (one_spelling order).one u.1 unit q.0 here q.1 rest q.3 spelled joined in
-    none all.front (subst (λ (v : UnitParts). UnitBytesIn to (unit_in_format v format to) all.front) same.0 all.first.spelled)
-spelled_past order format to k l (v ∷ vs) [] unit front here rest whole put p q e spelled all none =
+    none all.prefix (subst (λ (v : UnitParts). UnitBytesIn to (unit_in_format v format to) all.prefix) same.0 all.first.spelled)
+spelled_past order format to k l (v ∷ vs) [] unit prefix here rest whole put p q e spelled all none =
     omega (
       arith,
       unit_is_some order v.1 p.0 p.3,
@@ -147,14 +147,14 @@ spelled_past order format to k l (v ∷ vs) [] unit front here rest whole put p 
       length-append p.0 p.1,
       ap length q,
       ap length e,
-      length-append front (here ++ rest),
+      length-append prefix (here ++ rest),
     )
-spelled_past order format to k l (v ∷ vs) (u ∷ us) unit front here rest whole put p q e spelled all none =
-    let past_front = here ++ rest in
-    let joined : q.0 ++ q.1 ≡ p.0 ++ (p.1 ++ past_front) =
-    sym q.4 ∙ e ∙ ap (λ (z : List ℕ). z ++ past_front) p.4 ∙ append_assoc p.0 p.1 past_front in
-    let same = (one_spelling order).one u.1 v.1 q.0 p.0 q.1 (p.1 ++ past_front) q.3 p.3 joined in
-    let past : q.1 ≡ p.1 ++ past_front = same_rest q.0 p.0 q.1 (p.1 ++ past_front) same.1 joined in
+spelled_past order format to k l (v ∷ vs) (u ∷ us) unit prefix here rest whole put p q e spelled all none =
+    let past_prefix = here ++ rest in
+    let joined : q.0 ++ q.1 ≡ p.0 ++ (p.1 ++ past_prefix) =
+    sym q.4 ∙ e ∙ ap (λ (z : List ℕ). z ++ past_prefix) p.4 ∙ append_assoc p.0 p.1 past_prefix in
+    let same = (one_spelling order).one u.1 v.1 q.0 p.0 q.1 (p.1 ++ past_prefix) q.3 p.3 joined in
+    let past : q.1 ≡ p.1 ++ past_prefix = same_rest q.0 p.0 q.1 (p.1 ++ past_prefix) same.1 joined in
     spelled_past order format to (k + length p.0) (l + length q.0) vs us unit p.1 here rest q.1 all.back p.5 q.5 past spelled
     all.second none
 
@@ -165,7 +165,7 @@ pub stops_by_memory : (order : Order) (section : List ℕ) (format : Format) (to
 stops_by_memory order section format to at bytes (Malformed fault) all p some b =
     let t : IsTrueFault order fault section = record {
       units = p.units;
-      front = p.front;
+      prefix = p.prefix;
       rest = at.rest;
       sound = p.sound;
       some = some;
@@ -175,7 +175,7 @@ stops_by_memory order section format to at bytes (Malformed fault) all p some b 
     absurd (no_section order fault section t all.converted.units all.converted.sound)
 stops_by_memory order section format to at bytes (TooLarge place) all p some b =
     let large = b.1 in
-    absurd (spelled_past order format to 0 0 p.units all.converted.units large.unit p.front large.read.spelling large.next.rest section
-    all.bytes p.sound all.converted.sound (p.whole ∙ ap (λ (z : List ℕ). p.front ++ z) large.read.whole) large.read.spelled
+    absurd (spelled_past order format to 0 0 p.units all.converted.units large.unit p.prefix large.read.spelling large.next.rest section
+    all.bytes p.sound all.converted.sound (p.whole ∙ ap (λ (z : List ℕ). p.prefix ++ z) large.read.whole) large.read.spelled
     all.converted.shortest large.none)
 stops_by_memory order section format to at bytes Memory all p some b = refl

@@ -19,10 +19,10 @@ few_ops h [] program spelled = omega arith
 few_ops h (op ∷ ops) program spelled =
     omega (
       arith,
-      op_is_some h op spelled.front spelled.first,
+      op_is_some h op spelled.prefix spelled.first,
       few_ops h ops spelled.back spelled.second,
       ap length spelled.joined,
-      length-append spelled.front spelled.back,
+      length-append spelled.prefix spelled.back,
     )
 
 -- the operations of a unit

@@ -107,9 +107,9 @@ header_first : (order : Order) (offset : ℕ) (frame_is : Format × List ℕ) (b
     (program : List ℕ) → FrameBytes order frame_is bytes
     → BeginsWithHeader order offset (bytes ++ more) header place program → BeginsWithHeader order offset bytes header place program
 header_first order offset frame_is bytes more header place program is g =
-    let one = (frame_code order).one _ frame_is g.front bytes g.more more (header_frame order header program g.front g.spelled) is
+    let one = (frame_code order).one _ frame_is g.prefix bytes g.more more (header_frame order header program g.prefix g.spelled) is
     (sym g.joined) in
-    record { front = g.front; more = []; spelled = g.spelled; joined = sym one.1 ∙ sym (append-nil g.front); ends = g.ends }
+    record { prefix = g.prefix; more = []; spelled = g.spelled; joined = sym one.1 ∙ sym (append-nil g.prefix); ends = g.ends }
 
 -- a frame in which no unit was found, and whatever follows it
 pub broken_more : (order : Order) (fault : Fault) (offset : ℕ) (frame_is : Format × List ℕ) (bytes more : List ℕ)

@@ -26,7 +26,7 @@ counted_all_by_numbers view count old new is so ends = record {
 
 -- ---- the program goes to the end of the unit
 
-ends_with : (view : View) → IsUnitView view → (front : List ℕ) × (view.unit.bytes ≡ front ++ view.program)
+ends_with : (view : View) → IsUnitView view → (prefix : List ℕ) × (view.unit.bytes ≡ prefix ++ view.program)
 ends_with view is =
     let h = view.header in
     let fields = is.spelled.spelled.fields in

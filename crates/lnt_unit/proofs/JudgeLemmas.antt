@@ -44,7 +44,7 @@ next_judged format to units offset unit None false p s =
       unit = unit;
       past = [];
       joined = refl;
-      front = p.0;
+      prefix = p.0;
       spelled = each_spelled to (units_in_format units format to) p.0 p.1;
       none = s;
     }

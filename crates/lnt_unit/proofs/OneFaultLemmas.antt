@@ -122,7 +122,7 @@ begins_with order offset header program x more bytes p e =
     let size : length x ≡ length initial + (length head + length program) =
     omega (arith, ap length h.joined, length-append initial (head ++ program), length-append head program) in (
       offset + (length initial + length head),
-      record { front = x; more = more; spelled = p; joined = sym e; ends = omega (arith, size) },
+      record { prefix = x; more = more; spelled = p; joined = sym e; ends = omega (arith, size) },
     )
 
 -- two faults of the same bytes are one
@@ -145,7 +145,7 @@ record SameStart (x y r s : List ℕ) : Type 0 where
   bytes : x ≡ y
   past : r ≡ s
 
--- the units in front of bytes that no unit begins are the same
+-- the units before bytes that no unit begins are the same
 same_start : (order : Order) (k l : ℕ) (us vs : List (ℕ × UnitParts)) (x y r s : List ℕ) → UnitsFrom order k us x → UnitsFrom order l vs y
     → x ++ r ≡ y ++ s → NoneSpelled (UnitBytesIn order) r → NoneSpelled (UnitBytesIn order) s → SameStart x y r s
 same_start order k l [] [] x y r s p q e none none' =
@@ -164,24 +164,24 @@ same_start order k l (u ∷ us) (v ∷ vs) x y r s p q e none none' =
     record { bytes = p.4 ∙ ap (λ (z : List ℕ). z ++ p.1) one.1 ∙ ap (λ (z : List ℕ). q.0 ++ z) rest.bytes ∙ sym q.4; past = rest.past }
 
 -- the bytes of the units before two true faults
-same_front_of : (order : Order) (section : List ℕ) (fault other : Fault) → (f : IsTrueFault order fault section)
-    → (g : IsTrueFault order other section) → SameStart f.front g.front f.rest g.rest
-same_front_of order section fault other f g = grind (arith, common_steps, same_start)
+same_prefix_of : (order : Order) (section : List ℕ) (fault other : Fault) → (f : IsTrueFault order fault section)
+    → (g : IsTrueFault order other section) → SameStart f.prefix g.prefix f.rest g.rest
+same_prefix_of order section fault other f g = grind (arith, common_steps, same_start)
 
 true_faults_agree : (order : Order) (section : List ℕ) (fault other : Fault) → IsTrueFault order fault section
     → IsTrueFault order other section → fault ≡ other
 true_faults_agree order section fault other f g =
-    let start = same_front_of order section fault other f g in
-    let there : BrokenUnit order other (length f.front) f.rest =
+    let start = same_prefix_of order section fault other f g in
+    let there : BrokenUnit order other (length f.prefix) f.rest =
     subst (λ (z : List ℕ). BrokenUnit order other (length z) f.rest) (sym start.bytes)
-    (subst (λ (z : List ℕ). BrokenUnit order other (length g.front) z) (sym start.past) g.broken) in
-    broken_one order (length f.front) f.rest fault other f.broken there
+    (subst (λ (z : List ℕ). BrokenUnit order other (length g.prefix) z) (sym start.past) g.broken) in
+    broken_one order (length f.prefix) f.rest fault other f.broken there
 
 units_agree : (order : Order) (section : List ℕ) (fault other : Fault) → (f : IsTrueFault order fault section)
     → (g : IsTrueFault order other section) → f.units ≡ g.units
 units_agree order section fault other f g =
-    let start = same_front_of order section fault other f g in
-    same_units order 0 f.units g.units f.front f.sound (subst (λ (z : List ℕ). UnitsFrom order 0 g.units z) (sym start.bytes) g.sound)
+    let start = same_prefix_of order section fault other f g in
+    same_units order 0 f.units g.units f.prefix f.sound (subst (λ (z : List ℕ). UnitsFrom order 0 g.units z) (sym start.bytes) g.sound)
 
 pub one_true_fault : OneTrueFault
 one_true_fault = record { fault = true_faults_agree; units = units_agree }

@@ -14,24 +14,24 @@ use Rattle.std.proofs.lemmas.Grind.{common_steps}
 
 -- the units that were read up to the cursor
 pub record UnitsSoFar (order : Order) (bytes : List ℕ) (units : List (ℕ × UnitParts)) (cursor : At) : Type 0 where
-  pub front : List ℕ
-  pub whole : bytes ≡ front ++ cursor.rest
-  pub joined : SectionBytes order units front
-  pub place : cursor.place ≡ length front
+  pub prefix : List ℕ
+  pub whole : bytes ≡ prefix ++ cursor.rest
+  pub joined : SectionBytes order units prefix
+  pub place : cursor.place ≡ length prefix
   pub order_is : cursor.order ≡ order
 
 pub no_units : (order : Order) (bytes : List ℕ) (cursor : At) → cursor.rest ≡ bytes → cursor.place ≡ 0 → cursor.order ≡ order
     → UnitsSoFar order bytes [] cursor
-no_units order bytes cursor rest place order_is = record { front = []; whole = sym rest; joined = refl; place = place; order_is = order_is }
+no_units order bytes cursor rest place order_is = record { prefix = []; whole = sym rest; joined = refl; place = place; order_is = order_is }
 
 pub one_more_unit : (order : Order) (bytes : List ℕ) (units : List (ℕ × UnitParts)) (unit : ℕ × UnitParts) (old new : At)
     → UnitsSoFar order bytes units old → Reads (UnitBytesIn order) unit.1 old new
     → unit.0 ≡ old.place → UnitsSoFar order bytes (units ++ unit ∷ []) new
 one_more_unit order bytes units unit old new so_far r here = record {
-  front = so_far.front ++ r.spelling;
-  whole = so_far.whole ∙ ap (λ (z : List ℕ). so_far.front ++ z) r.whole ∙ sym (append_assoc so_far.front r.spelling new.rest);
-  joined = units_push order 0 units unit so_far.front r.spelling so_far.joined (omega (arith, here, so_far.place)) r.spelled;
-  place = omega (arith, r.place, so_far.place, length-append so_far.front r.spelling);
+  prefix = so_far.prefix ++ r.spelling;
+  whole = so_far.whole ∙ ap (λ (z : List ℕ). so_far.prefix ++ z) r.whole ∙ sym (append_assoc so_far.prefix r.spelling new.rest);
+  joined = units_push order 0 units unit so_far.prefix r.spelling so_far.joined (omega (arith, here, so_far.place)) r.spelled;
+  place = omega (arith, r.place, so_far.place, length-append so_far.prefix r.spelling);
   order_is = r.order ∙ so_far.order_is;
 }
 
@@ -54,7 +54,7 @@ unit_added_long order before after old new s = unit_long order s.unit.1 old new 
 pub all_units : (order : Order) (bytes : List ℕ) (units : List (ℕ × UnitParts)) (cursor : At) → UnitsSoFar order bytes units cursor
     → cursor.rest ≡ [] → SectionBytes order units bytes
 all_units order bytes units cursor so_far nothing = subst (λ (z : List ℕ). SectionBytes order units z)
-    (sym (so_far.whole ∙ ap (λ (z : List ℕ). so_far.front ++ z) nothing ∙ append-nil so_far.front)) so_far.joined
+    (sym (so_far.whole ∙ ap (λ (z : List ℕ). so_far.prefix ++ z) nothing ∙ append-nil so_far.prefix)) so_far.joined
 
 -- no unit begins what is left
 true_fault : (order : Order) (bytes : List ℕ) (units : List (ℕ × UnitParts)) (fault : Fault) (cursor : At)

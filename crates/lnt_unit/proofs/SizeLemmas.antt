@@ -11,7 +11,7 @@ use Rattle.lnt_wire.specs.FrameFaults.{IsCutFrame}
 use Rattle.lnt_wire.specs.FrameFaults.IsCutFrame.{no_length, no_wide_length, too_long}
 use Rattle.lnt_wire.specs.Reading.{Reads}
 use Rattle.lnt_wire.proofs.FrameLaws.{cut_none}
-use Rattle.lnt_wire.proofs.LengthLaws.{length-number_bytes, width_4, same_number_front, same_length, length-initial}
+use Rattle.lnt_wire.proofs.LengthLaws.{length-number_bytes, width_4, same_number_prefix, same_length, length-initial}
 use Rattle.lnt_unit.specs.Sizes.{IsLeastSize}
 use Rattle.std.proofs.lemmas.Grind.{common_steps}
 
@@ -29,7 +29,7 @@ least_first old n le = grind (arith, common_steps, length-append, length-initial
 twelve : (order : Order) (format : Format) (n : ℕ) (past bytes : List ℕ) → LengthFits format n
     → initial_length format order n ++ past ≡ number_bytes order 4 0xffffffff ++ bytes → 12 ≤ length (initial_length format order n)
 twelve order D32 n past bytes fits e =
-    let found = same_number_front order 4 width_4 n 0xffffffff past bytes (omega arith) (omega arith) e in
+    let found = same_number_prefix order 4 width_4 n 0xffffffff past bytes (omega arith) (omega arith) e in
     absurd (omega (arith, found.0))
 twelve order D64 n past bytes fits e =
     omega (
@@ -89,13 +89,13 @@ reserved_whole : (order : Order) (n : ℕ) (past bytes : List ℕ) → 0xfffffff
 reserved_whole order n past bytes low high begins (no_length lt) =
     omega (arith, ap length begins, length-append (number_bytes order 4 n) past, length-number_bytes order 4 n)
 reserved_whole order n past bytes low high begins (no_wide_length rest f lt) =
-    let found = same_number_front order 4 width_4 n 0xffffffff past rest (omega arith) (omega arith) (sym begins ∙ f) in
+    let found = same_number_prefix order 4 width_4 n 0xffffffff past rest (omega arith) (omega arith) (sym begins ∙ f) in
     omega (arith, found.0)
 reserved_whole order n past bytes low high begins (too_long D32 m rest fits f lt) =
-    let found = same_number_front order 4 width_4 n m past rest (omega arith) (omega arith) (sym begins ∙ f) in
+    let found = same_number_prefix order 4 width_4 n m past rest (omega arith) (omega arith) (sym begins ∙ f) in
     omega (arith, found.0)
 reserved_whole order n past bytes low high begins (too_long D64 m rest fits f lt) =
-    let found = same_number_front order 4 width_4 n 0xffffffff past (number_bytes order 8 m ++ rest) (omega arith) (omega arith)
+    let found = same_number_prefix order 4 width_4 n 0xffffffff past (number_bytes order 8 m ++ rest) (omega arith) (omega arith)
     (sym begins ∙ f ∙ append_assoc (number_bytes order 4 0xffffffff) (number_bytes order 8 m) rest) in
     omega (arith, found.0)
 

@@ -13,7 +13,7 @@ pub least_more : (order : Order) (taken more : List ℕ) (n size : ℕ) → IsLe
     → IsLeastSize order (taken ++ more) size
 least_more order taken more n size h le = grind (arith, common_steps, append_assoc)
 
--- what a block gives is still a front of the frame
+-- what a block gives is still a prefix of the frame
 pub least_block : (order : Order) (old new : Option (List ℕ)) (taken more : List ℕ) (k n : ℕ) → IsLeastSize order taken n
     → GivesMore old new taken more k → length taken + k ≤ n → IsLeastSize order more (length more)
 least_block order old new taken more k n h g le = subst (λ (z : List ℕ). IsLeastSize order z (length z)) (sym g.joined)

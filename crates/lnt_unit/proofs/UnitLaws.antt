@@ -61,10 +61,10 @@ unit_is_some order unit x p = grind (arith, common_steps, length-append, length-
 -- ---- sections
 
 -- the bytes of a section of one more unit
-pub units_push : (order : Order) (offset : ℕ) (units : List (ℕ × UnitParts)) (unit : ℕ × UnitParts) (front more : List ℕ)
-    → UnitsFrom order offset units front
-    → unit.0 ≡ offset + length front → UnitBytesIn order unit.1 more → UnitsFrom order offset (units ++ unit ∷ []) (front ++ more)
-units_push order offset [] unit front more joined here spelled = (
+pub units_push : (order : Order) (offset : ℕ) (units : List (ℕ × UnitParts)) (unit : ℕ × UnitParts) (prefix more : List ℕ)
+    → UnitsFrom order offset units prefix
+    → unit.0 ≡ offset + length prefix → UnitBytesIn order unit.1 more → UnitsFrom order offset (units ++ unit ∷ []) (prefix ++ more)
+units_push order offset [] unit prefix more joined here spelled = (
   more,
   [],
   here ∙ ap (λ (z : List ℕ). offset + length z) joined ∙ omega arith,
@@ -73,8 +73,8 @@ units_push order offset [] unit front more joined here spelled = (
       ∙ sym (append-nil more),
   refl,
 )
-units_push order offset (first ∷ units) unit front more (a, b, at, first_spelled, whole, rest) here spelled =
-    let size : length front ≡ length a + length b = ap length whole ∙ length-append a b in (
+units_push order offset (first ∷ units) unit prefix more (a, b, at, first_spelled, whole, rest) here spelled =
+    let size : length prefix ≡ length a + length b = ap length whole ∙ length-append a b in (
       a,
       b ++ more,
       at,
@@ -106,13 +106,13 @@ same_units order offset (u ∷ us) (v ∷ vs) x p q =
     cc (heads, tails)
 
 -- no other list goes past the units that stand before bytes that no unit begins
-none_past : (order : Order) (k l : ℕ) (units others : List (ℕ × UnitParts)) (front rest whole : List ℕ) → UnitsFrom order k units front
-    → UnitsFrom order l others whole → whole ≡ front ++ rest → NoneSpelled (UnitBytesIn order) rest → 0 < length rest → ⊥
-none_past order k l [] [] front rest whole p q e none some = omega (arith, ap length p, ap length q, ap length e, length-append front rest)
-none_past order k l [] (u ∷ us) front rest whole p q e none some = none u.1 q.0 q.1 q.3 (sym q.4 ∙ e ∙ ap (λ (z : List ℕ). z ++ rest) p)
-none_past order k l (v ∷ vs) [] front rest whole p q e none some =
-    omega (arith, unit_is_some order v.1 p.0 p.3, ap length p.4, length-append p.0 p.1, ap length q, ap length e, length-append front rest)
-none_past order k l (v ∷ vs) (u ∷ us) front rest whole p q e none some =
+none_past : (order : Order) (k l : ℕ) (units others : List (ℕ × UnitParts)) (prefix rest whole : List ℕ) → UnitsFrom order k units prefix
+    → UnitsFrom order l others whole → whole ≡ prefix ++ rest → NoneSpelled (UnitBytesIn order) rest → 0 < length rest → ⊥
+none_past order k l [] [] prefix rest whole p q e none some = omega (arith, ap length p, ap length q, ap length e, length-append prefix rest)
+none_past order k l [] (u ∷ us) prefix rest whole p q e none some = none u.1 q.0 q.1 q.3 (sym q.4 ∙ e ∙ ap (λ (z : List ℕ). z ++ rest) p)
+none_past order k l (v ∷ vs) [] prefix rest whole p q e none some =
+    omega (arith, unit_is_some order v.1 p.0 p.3, ap length p.4, length-append p.0 p.1, ap length q, ap length e, length-append prefix rest)
+none_past order k l (v ∷ vs) (u ∷ us) prefix rest whole p q e none some =
     let all : q.0 ++ q.1 ≡ p.0 ++ (p.1 ++ rest) = sym q.4 ∙ e ∙ ap (λ (z : List ℕ). z ++ rest) p.4 ∙ append_assoc p.0 p.1 rest in
     let same = same_unit order u.1 v.1 q.0 p.0 q.1 (p.1 ++ rest) q.3 p.3 all in
     let past : q.1 ≡ p.1 ++ rest = same_rest q.0 p.0 q.1 (p.1 ++ rest) same.1 all in
@@ -121,7 +121,7 @@ none_past order k l (v ∷ vs) (u ∷ us) front rest whole p q e none some =
 pub no_section : (order : Order) (fault : Fault) (section : List ℕ) → IsTrueFault order fault section → (units : List (ℕ × UnitParts))
     → SectionBytes order units section → ⊥
 no_section order fault section t units q =
-    none_past order 0 0 t.units units t.front t.rest section t.sound q t.split t.broken.broken.none t.some
+    none_past order 0 0 t.units units t.prefix t.rest section t.sound q t.split t.broken.broken.none t.some
 
 pub one_section : OneSection
 one_section = record {

@@ -112,19 +112,19 @@ whole_walk = record {
 
 -- ---- units
 
-broken_after : (order : Order) (units : List (ℕ × UnitParts)) (front rest : List ℕ) (fault : Fault) → SectionBytes order units front
-    → 0 < length rest → BrokenUnit order fault (length front) rest → BrokenSection order fault (front ++ rest)
-broken_after order units front rest fault spelled some b =
-    let t : IsTrueFault order fault (front ++ rest) = record {
+broken_after : (order : Order) (units : List (ℕ × UnitParts)) (prefix rest : List ℕ) (fault : Fault) → SectionBytes order units prefix
+    → 0 < length rest → BrokenUnit order fault (length prefix) rest → BrokenSection order fault (prefix ++ rest)
+broken_after order units prefix rest fault spelled some b =
+    let t : IsTrueFault order fault (prefix ++ rest) = record {
       units = units;
-      front = front;
+      prefix = prefix;
       rest = rest;
       sound = spelled;
       some = some;
       split = refl;
       broken = b;
     } in
-    record { none = no_section order fault (front ++ rest) t; true_fault = t }
+    record { none = no_section order fault (prefix ++ rest) t; true_fault = t }
 
 -- a whole unit has some byte
 frame_some : (unit : stream.BufferedUnit) → (is : stream.IsWholeUnit unit) → 0 < length unit.bytes
@@ -132,13 +132,13 @@ frame_some unit is = grind (arith, common_steps, length-append, length-initial)
 
 pub fault_of_section : FaultOfSection
 fault_of_section = record {
-  next = λ order units front rest fault spelled ends. broken_after order units front rest fault spelled ends.0
-      (frame_broken order (record { place = length front; rest = rest; order = order }) fault ends.1);
-  here = λ order units front more unit fault spelled is at same b.
+  next = λ order units prefix rest fault spelled ends. broken_after order units prefix rest fault spelled ends.0
+      (frame_broken order (record { place = length prefix; rest = rest; order = order }) fault ends.1);
+  here = λ order units prefix more unit fault spelled is at same b.
       let all : BrokenUnit order fault unit.offset (unit.bytes ++ more) =
       broken_more order fault unit.offset (is.format, is.body) unit.bytes more
       (subst (λ (o : Order). FrameBytes o (is.format, is.body) unit.bytes) same is.spelled) b in
-      broken_after order units front (unit.bytes ++ more) fault spelled (omega (arith, length-append unit.bytes more, frame_some unit is))
+      broken_after order units prefix (unit.bytes ++ more) fault spelled (omega (arith, length-append unit.bytes more, frame_some unit is))
       (subst (λ (n : ℕ). BrokenUnit order fault n (unit.bytes ++ more)) at all);
   alone = λ order offset rest fault ends. frame_broken order (record { place = offset; rest = rest; order = order }) fault ends.1;
 }

@@ -13,11 +13,11 @@ use Rattle.lnt_unit.specs.UnitBytes.{UnitBytesIn, SectionBytes}
 -- The bytes, at the offset, begin with a header and a program. The program is at the place, and ends where the unit does.
 pub record BeginsWithHeader (order : Order) (offset : ℕ) (bytes : List ℕ) (header : HeaderParts) (place : ℕ) (program : List ℕ) : Type 0
   where
-    pub front : List ℕ
+    pub prefix : List ℕ
     pub more : List ℕ
-    pub spelled : HeaderBytesIn order (header, program) front
-    pub joined : bytes ≡ front ++ more
-    pub ends : place + length program ≡ offset + length front
+    pub spelled : HeaderBytesIn order (header, program) prefix
+    pub joined : bytes ≡ prefix ++ more
+    pub ends : place + length program ≡ offset + length prefix
 
 -- The bytes, at the offset, don't begin with a unit, and the fault is true at its place. If they don't begin with a header and a
 -- program, it is that of the header's first field that isn't valid; if they do, that of the program's first operation that isn't
@@ -31,12 +31,12 @@ pub record BrokenUnit (order : Order) (fault : Fault) (offset : ℕ) (bytes : Li
 -- A section is broken after some units that it begins with: more bytes follow, and they don't begin with a unit.
 pub record IsTrueFault (order : Order) (fault : Fault) (section : List ℕ) : Type 0 where
   pub units : List (ℕ × UnitParts)
-  pub front : List ℕ
+  pub prefix : List ℕ
   pub rest : List ℕ
-  pub sound : SectionBytes order units front
+  pub sound : SectionBytes order units prefix
   pub some : 0 < length rest
-  pub split : section ≡ front ++ rest
-  pub broken : BrokenUnit order fault (length front) rest
+  pub split : section ≡ prefix ++ rest
+  pub broken : BrokenUnit order fault (length prefix) rest
 
 -- No list of units encodes the section, and the fault is true of it.
 pub record BrokenSection (order : Order) (fault : Fault) (section : List ℕ) : Type 0 where

@@ -57,10 +57,10 @@ IsToldAs fault Memory = fault.reason ≡ reasons.Memory
 -- The units of the section up to a cursor, each in this format and order, are these bytes.
 pub record ConvertedTo (order : Order) (section : List ℕ) (format : Format) (to : Order) (at : At) (bytes : List ℕ) : Type 0 where
   pub units : List (ℕ × UnitParts)
-  pub front : List ℕ
-  pub whole : section ≡ front ++ at.rest
-  pub sound : SectionBytes order units front
-  pub place_is : at.place ≡ length front
+  pub prefix : List ℕ
+  pub whole : section ≡ prefix ++ at.rest
+  pub sound : SectionBytes order units prefix
+  pub place_is : at.place ≡ length prefix
   pub order_is : at.order ≡ order
   pub put : Each (IsShortest (UnitBytesIn to)) (units_in_format units format to) bytes
 

@@ -18,8 +18,8 @@ pub record IsFirstLarge (format : Format) (to : Order) (units : List (ℕ × Uni
   pub unit : UnitParts
   pub past : List (ℕ × UnitParts)
   pub joined : units ≡ before ++ (offset, unit) ∷ past
-  pub front : List ℕ
-  pub spelled : Each (UnitBytesIn to) (units_in_format before format to) front
+  pub prefix : List ℕ
+  pub spelled : Each (UnitBytesIn to) (units_in_format before format to) prefix
   pub none : NoSpelling (UnitBytesIn to) (unit_in_format unit format to)
 
 -- The section has such a unit at the offset.

@@ -68,11 +68,11 @@ pub record WholeWalk : Type 0 where
 -- section, whatever follows, and the fault is true of it. After frames that encode no unit, the fault of `next_unit` is true of
 -- what is left.
 pub record FaultOfSection : Type 0 where
-  pub next : (order : Order) (units : List (ℕ × UnitParts)) (front rest : List ℕ) (fault : Fault) → SectionBytes order units front
-      → EndsBy (record { place = length front; rest = rest; order = order }) (Some fault) → BrokenSection order fault (front ++ rest)
-  pub here : (order : Order) (units : List (ℕ × UnitParts)) (front more : List ℕ) (unit : stream.BufferedUnit) (fault : Fault)
-      → SectionBytes order units front
-      → stream.IsWholeUnit unit → unit.offset ≡ length front → unit.order ≡ order → BrokenUnit order fault unit.offset unit.bytes
-      → BrokenSection order fault (front ++ (unit.bytes ++ more))
+  pub next : (order : Order) (units : List (ℕ × UnitParts)) (prefix rest : List ℕ) (fault : Fault) → SectionBytes order units prefix
+      → EndsBy (record { place = length prefix; rest = rest; order = order }) (Some fault) → BrokenSection order fault (prefix ++ rest)
+  pub here : (order : Order) (units : List (ℕ × UnitParts)) (prefix more : List ℕ) (unit : stream.BufferedUnit) (fault : Fault)
+      → SectionBytes order units prefix
+      → stream.IsWholeUnit unit → unit.offset ≡ length prefix → unit.order ≡ order → BrokenUnit order fault unit.offset unit.bytes
+      → BrokenSection order fault (prefix ++ (unit.bytes ++ more))
   pub alone : (order : Order) (offset : ℕ) (rest : List ℕ) (fault : Fault)
       → EndsBy (record { place = offset; rest = rest; order = order }) (Some fault) → BrokenUnit order fault offset rest

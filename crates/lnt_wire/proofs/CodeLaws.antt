@@ -1,10 +1,10 @@
--- Kinds of spelling of which none is the front of another, and each spells one value. Crates above cite these.
+-- Kinds of spelling of which none is the prefix of another, and each spells one value. Crates above cite these.
 use Rattle.std.proofs.Common.{◌≡◌, ℕ, List, [], ◌∷◌, ◌++◌, length, sym, ap, ◌∙◌, append_assoc, arith}
 use Rattle.lnt_wire.specs.declared.format.Order.{Order}
 use Rattle.lnt_wire.specs.Bytes.{TakenBytes, Then, IsCode}
 use Rattle.lnt_wire.specs.Leb128.{IsLeb, groups, signed_groups, UnsignedLeb, SignedLeb}
 use Rattle.lnt_wire.specs.Numbers.{NumberBytes}
-use Rattle.lnt_wire.proofs.LengthLaws.{IsWidth, length-number_bytes, same_front, same_rest}
+use Rattle.lnt_wire.proofs.LengthLaws.{IsWidth, length-number_bytes, same_prefix, same_rest}
 
 -- ---- numbers in groups of seven bits
 
@@ -43,7 +43,7 @@ number_code order size width = record {
   one = λ m n x y r s p q e.
       let len : length x ≡ length y =
       ap length p.spelled ∙ length-number_bytes order size m ∙ sym (length-number_bytes order size n) ∙ ap length (sym q.spelled) in
-      let same : x ≡ y = same_front x y r s len e in
+      let same : x ≡ y = same_prefix x y r s len e in
       (width.same order m n p.fits q.fits (sym p.spelled ∙ same ∙ q.spelled), same);
 }
 
@@ -52,38 +52,38 @@ number_code order size width = record {
 pub taken_code : (count : ℕ) → IsCode (TakenBytes count)
 taken_code count = record {
   one = λ u v x y r s p q e.
-      let same : x ≡ y = same_front x y r s (p.count_is ∙ sym q.count_is) e in
+      let same : x ≡ y = same_prefix x y r s (p.count_is ∙ sym q.count_is) e in
       (p.taken_is ∙ same ∙ sym q.taken_is, same);
 }
 
 -- ---- joins
 
--- What is so of two joins that begin with spellings of a kind that is a code, where more bytes make them the same: the fronts spell
+-- What is so of two joins that begin with spellings of a kind that is a code, where more bytes make them the same: the prefixes spell
 -- one value and are the same, and so is what follows them.
-pub record Peeled {X : Type 0} (u v : X) (front front' rest rest' : List ℕ) : Type 0 where
+pub record Peeled {X : Type 0} (u v : X) (prefix prefix' rest rest' : List ℕ) : Type 0 where
   pub value : u ≡ v
-  pub bytes : front ≡ front'
+  pub bytes : prefix ≡ prefix'
   pub past : rest ≡ rest'
 
--- the fronts need not be of one kind
+-- the prefixes need not be of one kind
 pub peel_by : {X : Type 0} {P P' Q Q' : List ℕ → Type 0} (u v : X) (x y r s : List ℕ)
     → ((a b c d : List ℕ) → P a → P' b → a ++ c ≡ b ++ d → (u ≡ v) × (a ≡ b))
-    → (t : Then P Q x) → (t' : Then P' Q' y) → x ++ r ≡ y ++ s → Peeled u v t.front t'.front (t.back ++ r) (t'.back ++ s)
+    → (t : Then P Q x) → (t' : Then P' Q' y) → x ++ r ≡ y ++ s → Peeled u v t.prefix t'.prefix (t.back ++ r) (t'.back ++ s)
 peel_by u v x y r s one t t' e =
-    let all : t.front ++ (t.back ++ r) ≡ t'.front ++ (t'.back ++ s) =
-    sym (append_assoc t.front t.back r)
+    let all : t.prefix ++ (t.back ++ r) ≡ t'.prefix ++ (t'.back ++ s) =
+    sym (append_assoc t.prefix t.back r)
     ∙ ap (λ (z : List ℕ). z ++ r) (sym t.joined)
     ∙ e
     ∙ ap (λ (z : List ℕ). z ++ s) t'.joined
-    ∙ append_assoc t'.front t'.back s in
-    let found : (u ≡ v) × (t.front ≡ t'.front) = one t.front t'.front (t.back ++ r) (t'.back ++ s) t.first t'.first all in
-    record { value = found.0; bytes = found.1; past = same_rest t.front t'.front (t.back ++ r) (t'.back ++ s) found.1 all }
+    ∙ append_assoc t'.prefix t'.back s in
+    let found : (u ≡ v) × (t.prefix ≡ t'.prefix) = one t.prefix t'.prefix (t.back ++ r) (t'.back ++ s) t.first t'.first all in
+    record { value = found.0; bytes = found.1; past = same_rest t.prefix t'.prefix (t.back ++ r) (t'.back ++ s) found.1 all }
 
 pub peel : {X : Type 0} {P : X → List ℕ → Type 0} {Q Q' : List ℕ → Type 0} → IsCode P → (u v : X) (x y r s : List ℕ)
-    → (t : Then (P u) Q x) → (t' : Then (P v) Q' y) → x ++ r ≡ y ++ s → Peeled u v t.front t'.front (t.back ++ r) (t'.back ++ s)
+    → (t : Then (P u) Q x) → (t' : Then (P v) Q' y) → x ++ r ≡ y ++ s → Peeled u v t.prefix t'.prefix (t.back ++ r) (t'.back ++ s)
 peel code u v x y r s t t' e = peel_by u v x y r s (λ a b c d. code.one u v a b c d) t t' e
 
 -- two joins of the same parts are the same
-pub same_join : {P Q P' Q' : List ℕ → Type 0} (x y : List ℕ) → (t : Then P Q x) → (t' : Then P' Q' y) → t.front ≡ t'.front
+pub same_join : {P Q P' Q' : List ℕ → Type 0} (x y : List ℕ) → (t : Then P Q x) → (t' : Then P' Q' y) → t.prefix ≡ t'.prefix
     → t.back ≡ t'.back → x ≡ y
 same_join x y t t' p q = let a = t.joined in let b = t'.joined in cc (a, b, p, q)

@@ -91,13 +91,13 @@ module _ (Length : ℕ → List ℕ → Type 0) (IsLengthFault : Reason → List
     (field : IsOneFieldFault Length IsLengthFault) where
   block_none : (reason : Reason) (bytes : List ℕ) → IsBlockFault Length IsLengthFault reason bytes → NoneSpelled (BlockBytes Length) bytes
   block_none reason bytes (no_length h) block x more p e =
-      field.none reason bytes h (length block) p.front (p.back ++ more) p.first
-      (sym (append_assoc p.front p.back more) ∙ ap (λ (z : List ℕ). z ++ more) (sym p.joined) ∙ e)
+      field.none reason bytes h (length block) p.prefix (p.back ++ more) p.first
+      (sym (append_assoc p.prefix p.back more) ∙ ap (λ (z : List ℕ). z ++ more) (sym p.joined) ∙ e)
   block_none reason bytes (cut_block size y rest is q f lt) block x more p e =
-      let all : p.front ++ (p.back ++ more) ≡ y ++ rest =
-      sym (append_assoc p.front p.back more) ∙ ap (λ (z : List ℕ). z ++ more) (sym p.joined) ∙ e ∙ f in
-      let found = code.one (length block) size p.front y (p.back ++ more) rest p.first q all in
-      let past : p.back ++ more ≡ rest = same_rest p.front y (p.back ++ more) rest found.1 all in
+      let all : p.prefix ++ (p.back ++ more) ≡ y ++ rest =
+      sym (append_assoc p.prefix p.back more) ∙ ap (λ (z : List ℕ). z ++ more) (sym p.joined) ∙ e ∙ f in
+      let found = code.one (length block) size p.prefix y (p.back ++ more) rest p.first q all in
+      let past : p.back ++ more ≡ rest = same_rest p.prefix y (p.back ++ more) rest found.1 all in
       omega (arith, lt, found.0, ap length past, length-append p.back more, ap length p.second)
 
   block_one : (reason other : Reason) (bytes : List ℕ) → IsBlockFault Length IsLengthFault reason bytes

@@ -41,38 +41,38 @@ pub record IsFound (format : Format) (order : Order) (form : Form) (value : Form
   pub value_is : first_value format order form (x ++ more) ≡ value
   pub size_is : first_size format order form (x ++ more) ≡ length x
 
--- a block after a length that the front spells
-record IsBlockFound (block front x more : List ℕ) (count : ℕ) : Type 0 where
-  block_is : after_length (length front) count (x ++ more) ≡ block
-  size_is : length front + count ≡ length x
+-- a block after a length that the prefix spells
+record IsBlockFound (block prefix x more : List ℕ) (count : ℕ) : Type 0 where
+  block_is : after_length (length prefix) count (x ++ more) ≡ block
+  size_is : length prefix + count ≡ length x
 
 block_found : (Length : ℕ → List ℕ → Type 0) (block x more : List ℕ) (count : ℕ) → (p : BlockBytes Length block x) → count ≡ length block
-    → IsBlockFound block p.front x more count
+    → IsBlockFound block p.prefix x more count
 block_found Length block x more count p count_is =
-    let whole : x ++ more ≡ p.front ++ (block ++ more) =
-    ap (λ (z : List ℕ). z ++ more) (p.joined ∙ ap (λ (z : List ℕ). p.front ++ z) p.second) ∙ append_assoc p.front block more in
+    let whole : x ++ more ≡ p.prefix ++ (block ++ more) =
+    ap (λ (z : List ℕ). z ++ more) (p.joined ∙ ap (λ (z : List ℕ). p.prefix ++ z) p.second) ∙ append_assoc p.prefix block more in
     record {
       block_is =
-          ap (λ (z : List ℕ). after_length (length p.front) count z) whole
-          ∙ ap (take count) (drop-append_seam p.front (block ++ more))
+          ap (λ (z : List ℕ). after_length (length p.prefix) count z) whole
+          ∙ ap (take count) (drop-append_seam p.prefix (block ++ more))
           ∙ ap (λ (n : ℕ). take n (block ++ more)) count_is
           ∙ take-append_seam block more;
-      size_is = omega (arith, ap length p.joined, length-append p.front p.back, ap length p.second, count_is);
+      size_is = omega (arith, ap length p.joined, length-append p.prefix p.back, ap length p.second, count_is);
     }
 
--- the front of a join begins what the join begins
-front_begins : (Length : ℕ → List ℕ → Type 0) (block x more : List ℕ) → (p : BlockBytes Length block x)
-    → x ++ more ≡ p.front ++ (p.back ++ more)
-front_begins Length block x more p = ap (λ (z : List ℕ). z ++ more) p.joined ∙ append_assoc p.front p.back more
+-- the prefix of a join begins what the join begins
+prefix_begins : (Length : ℕ → List ℕ → Type 0) (block x more : List ℕ) → (p : BlockBytes Length block x)
+    → x ++ more ≡ p.prefix ++ (p.back ++ more)
+prefix_begins Length block x more p = ap (λ (z : List ℕ). z ++ more) p.joined ∙ append_assoc p.prefix p.back more
 
 sized_block_found : (order : Order) (size : ℕ) (block x more : List ℕ) → (p : BlockBytes (NumberBytes order size) block x)
     → (after_length size (first_number order size (x ++ more)) (x ++ more) ≡ block)
     × (size + first_number order size (x ++ more) ≡ length x)
 sized_block_found order size block x more p =
     let count : first_number order size (x ++ more) ≡ length block =
-    ap (first_number order size) (front_begins (NumberBytes order size) block x more p)
-    ∙ number_found order size (length block) p.front (p.back ++ more) p.first in
-    let width : length p.front ≡ size = number_size order size (length block) p.front p.first in
+    ap (first_number order size) (prefix_begins (NumberBytes order size) block x more p)
+    ∙ number_found order size (length block) p.prefix (p.back ++ more) p.first in
+    let width : length p.prefix ≡ size = number_size order size (length block) p.prefix p.first in
     let found = block_found (NumberBytes order size) block x more (first_number order size (x ++ more)) p count in (
       ap (λ (n : ℕ). after_length n (first_number order size (x ++ more)) (x ++ more)) (sym width)
           ∙ found.block_is,
@@ -111,8 +111,8 @@ of_form format order (Data16 t) x more p =
       size_is = sym p.count_is;
     }
 of_form format order (Block t) x more p =
-    let leb : first_leb (x ++ more) ≡ p.front =
-    ap first_leb (front_begins UnsignedLeb t x more p) ∙ leb_found p.front (p.back ++ more) p.first.shape in
+    let leb : first_leb (x ++ more) ≡ p.prefix =
+    ap first_leb (prefix_begins UnsignedLeb t x more p) ∙ leb_found p.prefix (p.back ++ more) p.first.shape in
     let count : groups (first_leb (x ++ more)) ≡ length t = ap groups leb ∙ sym p.first.value in
     let found = block_found UnsignedLeb t x more (groups (first_leb (x ++ more))) p count in
     record {

@@ -12,7 +12,7 @@ use Rattle.lnt_wire.specs.declared.fault.Reason.TheVariants.{ReservedLength, Tru
 use Rattle.lnt_wire.specs.declared.format.Format.{Format}
 use Rattle.lnt_wire.specs.declared.format.Order.{Order}
 use Rattle.lnt_wire.proofs.FrameLaws.{cut_none, reserved_none}
-use Rattle.lnt_wire.proofs.LengthLaws.{length-number_bytes, same_front, same_length, same_number_front, width_2, width_4}
+use Rattle.lnt_wire.proofs.LengthLaws.{length-number_bytes, same_prefix, same_length, same_number_prefix, width_2, width_4}
 
 -- ---- frames
 
@@ -35,7 +35,7 @@ same_frame order f g fields left before from fields' left' before' from' h k e =
     let other = fields' ++ left' in
     let found = same_length order f g (length body) (length other) (body ++ h.more) (other ++ k.more) h.fits k.fits
     (sym (whole_frame order f fields left before from h) ∙ e ∙ whole_frame order g fields' left' before' from' k) in
-    (found.format, same_front body other h.more k.more found.number found.past)
+    (found.format, same_prefix body other h.more k.more found.number found.past)
 
 -- and where the fields before them are the same, they are one place
 pub same_place : (order : Order) (f g : Format) (fields left before from fields' left' before' from' : List ℕ)
@@ -60,7 +60,7 @@ reserved_whole : (order : Order) (bytes : List ℕ) → IsReserved order bytes �
 reserved_whole order bytes r (no_length lt) =
     omega (arith, ap length r.joined, length-append (number_bytes order 4 r.n) r.rest, length-number_bytes order 4 r.n)
 reserved_whole order bytes r (no_wide_length rest e lt) =
-    let found = same_number_front order 4 width_4 r.n 0xffffffff r.rest rest (omega (arith, r.high)) (omega arith) (sym r.joined ∙ e) in
+    let found = same_number_prefix order 4 width_4 r.n 0xffffffff r.rest rest (omega (arith, r.high)) (omega arith) (sym r.joined ∙ e) in
     omega (arith, found.0, r.high)
 reserved_whole order bytes r (too_long format n rest fits e lt) = reserved_none order format n rest bytes fits (sym e) r
 
@@ -113,7 +113,7 @@ pub version_none : (order : Order) (reason : Reason) (body past : List ℕ) → 
 version_none order Truncated body past h e =
     omega (arith, h, ap length e, length-append (version_five order) past, length-number_bytes order 2 5)
 version_none order (VersionNotFive v) body past h e =
-    h.2 (same_number_front order 2 width_2 v 5 h.0 past h.1 (omega arith) (sym h.3 ∙ e)).0
+    h.2 (same_number_prefix order 2 width_2 v 5 h.0 past h.1 (omega arith) (sym h.3 ∙ e)).0
 version_none order reason body past h e = absurd h
 
 -- and another has one
@@ -126,6 +126,6 @@ version_one order Truncated other body h k = absurd k
 version_one order (VersionNotFive v) Truncated body h k =
     absurd (omega (arith, k, ap length h.3, length-append (number_bytes order 2 v) h.0, length-number_bytes order 2 v))
 version_one order (VersionNotFive v) (VersionNotFive w) body h k =
-    ap VersionNotFive (same_number_front order 2 width_2 v w h.0 k.0 h.1 k.1 (sym h.3 ∙ k.3)).0
+    ap VersionNotFive (same_number_prefix order 2 width_2 v w h.0 k.0 h.1 k.1 (sym h.3 ∙ k.3)).0
 version_one order (VersionNotFive v) other body h k = absurd k
 version_one order reason other body h k = absurd h

@@ -1,4 +1,4 @@
--- A frame has one spelling, which is the front of no other frame's; and where a fault of a frame is so, the bytes begin with none.
+-- A frame has one spelling, which is the prefix of no other frame's; and where a fault of a frame is so, the bytes begin with none.
 -- Crates above cite these.
 use Rattle.std.proofs.Common.{◌≡◌, ℕ, ◌≤◌, List, ◌++◌, length, sym, ap, ◌∙◌, append_assoc, arith, [], ◌∷◌}
 use Rattle.std.proofs.lemmas.List.{length-append, append-nil}
@@ -7,7 +7,7 @@ use Rattle.lnt_wire.specs.FrameBytes.{FrameBytes, version_five}
 use Rattle.lnt_wire.specs.FrameFaults.{IsCutFrame, InFrame, IsReserved, IsFrameFault}
 use Rattle.lnt_wire.specs.FrameFaults.IsCutFrame.{no_length, no_wide_length, too_long}
 use Rattle.lnt_wire.specs.InitialLength.{initial_length, LengthFits}
-use Rattle.lnt_wire.proofs.LengthLaws.{width_4, same_front, same_number_front, same_length, length-initial, length-number_bytes, width_2}
+use Rattle.lnt_wire.proofs.LengthLaws.{width_4, same_prefix, same_number_prefix, same_length, length-initial, length-number_bytes, width_2}
 use Rattle.lnt_wire.specs.Numbers.{number_bytes}
 use Rattle.lnt_wire.specs.declared.format.Format.{Format}
 use Rattle.lnt_wire.specs.declared.format.Format.TheVariants.{D32, D64}
@@ -21,11 +21,11 @@ pub cut_none : (order : Order) (format : Format) (n : ℕ) (past bytes : List �
 cut_none order format n past bytes fits le e (no_length lt) =
     omega (arith, ap length e, length-append (initial_length format order n) past, length-initial format order n)
 cut_none order D32 n past bytes fits le e (no_wide_length rest f lt) =
-    let found = same_number_front order 4 width_4 n 0xffffffff past rest (omega arith) (omega arith) (e ∙ f) in
+    let found = same_number_prefix order 4 width_4 n 0xffffffff past rest (omega arith) (omega arith) (e ∙ f) in
     omega (arith, found.0)
 cut_none order D64 n past bytes fits le e (no_wide_length rest f lt) =
     let found =
-    same_number_front order 4 width_4 0xffffffff 0xffffffff (number_bytes order 8 n ++ past) rest (omega arith) (omega arith)
+    same_number_prefix order 4 width_4 0xffffffff 0xffffffff (number_bytes order 8 n ++ past) rest (omega arith) (omega arith)
     (sym (append_assoc (number_bytes order 4 0xffffffff) (number_bytes order 8 n) past) ∙ e ∙ f) in
     omega (arith, ap length found.1, length-append (number_bytes order 8 n) past, length-number_bytes order 8 n)
 cut_none order format n past bytes fits le e (too_long f m rest fits' g lt) =
@@ -36,11 +36,11 @@ cut_none order format n past bytes fits le e (too_long f m rest fits' g lt) =
 pub reserved_none : (order : Order) (format : Format) (n : ℕ) (past bytes : List ℕ) → LengthFits format n
     → initial_length format order n ++ past ≡ bytes → IsReserved order bytes → ⊥
 reserved_none order D32 n past bytes fits e r =
-    let found = same_number_front order 4 width_4 n r.n past r.rest (omega arith) (omega (arith, r.high)) (e ∙ r.joined) in
+    let found = same_number_prefix order 4 width_4 n r.n past r.rest (omega arith) (omega (arith, r.high)) (e ∙ r.joined) in
     omega (arith, found.0, r.low)
 reserved_none order D64 n past bytes fits e r =
     let found =
-    same_number_front order 4 width_4 0xffffffff r.n (number_bytes order 8 n ++ past) r.rest (omega arith) (omega (arith, r.high))
+    same_number_prefix order 4 width_4 0xffffffff r.n (number_bytes order 8 n ++ past) r.rest (omega arith) (omega (arith, r.high))
     (sym (append_assoc (number_bytes order 4 0xffffffff) (number_bytes order 8 n) past) ∙ e ∙ r.joined) in
     omega (arith, found.0, r.high)
 
@@ -49,7 +49,7 @@ same_body : (order : Order) (f g : Format) (body other more left : List ℕ) →
     → initial_length f order (length body) ++ (body ++ more) ≡ initial_length g order (length other) ++ (other ++ left) → body ≡ other
 same_body order f g body other more left p q e =
     let found = same_length order f g (length body) (length other) (body ++ more) (other ++ left) p q e in
-    same_front body other more left found.number found.past
+    same_prefix body other more left found.number found.past
 
 -- the body of a frame, where another body is known to stand
 in_frame_body : (order : Order) (format g : Format) (body left more before from : List ℕ) → LengthFits format (length body)
@@ -75,7 +75,7 @@ no_frame_at order ReservedLength before from h format body past more fits versio
     reserved_none order format (length body) (body ++ more) from fits (e ∙ ap (λ (z : List ℕ). z ++ from) h.0) h.1
 no_frame_at order (VersionNotFive v) before from h format body past more fits version e =
     let same = in_frame_body order format h.0 body (number_bytes order 2 v ++ h.1) more before from fits h.4 e in
-    let found = same_number_front order 2 width_2 v 5 h.1 past h.2 (omega arith) (sym same ∙ version) in
+    let found = same_number_prefix order 2 width_2 v 5 h.1 past h.2 (omega arith) (sym same ∙ version) in
     h.3 found.0
 no_frame_at order reason before from h format body past more fits version e = absurd h
 
@@ -102,7 +102,7 @@ frame_code order = record {
       let second : y ++ s ≡ initial_length v.0 order (length v.1) ++ (v.1 ++ s) =
       ap (λ (z : List ℕ). z ++ s) q.joined ∙ append_assoc (initial_length v.0 order (length v.1)) v.1 s in
       let found = same_length order u.0 v.0 (length u.1) (length v.1) (u.1 ++ r) (v.1 ++ s) p.fits q.fits (sym first ∙ e ∙ second) in
-      let bodies : u.1 ≡ v.1 = same_front u.1 v.1 r s found.number found.past in
+      let bodies : u.1 ≡ v.1 = same_prefix u.1 v.1 r s found.number found.past in
       let starts : initial_length u.0 order (length u.1) ≡ initial_length v.0 order (length v.1) =
       ap (λ (f : Format). initial_length f order (length u.1)) found.format ∙ ap (λ (n : ℕ). initial_length v.0 order n) found.number in
       let bytes : x ≡ y =

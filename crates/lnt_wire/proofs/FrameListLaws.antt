@@ -11,22 +11,22 @@ use Rattle.lnt_wire.proofs.LengthLaws.{length-initial}
 
 -- The frames are those of the bytes before the cursor.
 pub record FramesSoFar (order : Order) (bytes : List ℕ) (frames : List Frame) (cursor : At) : Type 0 where
-  pub front : List ℕ
-  pub whole : bytes ≡ front ++ cursor.rest
-  pub joined : FramesFrom order 0 frames front
-  pub place : cursor.place ≡ length front
+  pub prefix : List ℕ
+  pub whole : bytes ≡ prefix ++ cursor.rest
+  pub joined : FramesFrom order 0 frames prefix
+  pub place : cursor.place ≡ length prefix
   pub order_is : cursor.order ≡ order
 
 pub no_frames : (order : Order) (bytes : List ℕ) (cursor : At) → cursor.rest ≡ bytes → cursor.place ≡ 0 → cursor.order ≡ order
     → FramesSoFar order bytes [] cursor
 no_frames order bytes cursor rest place order_is =
-    record { front = []; whole = sym rest; joined = refl; place = place; order_is = order_is }
+    record { prefix = []; whole = sym rest; joined = refl; place = place; order_is = order_is }
 
 -- one more frame after others
-frames_push : (order : Order) (offset : ℕ) (frames : List Frame) (frame : Frame) (front more : List ℕ)
-    → FramesFrom order offset frames front
-    → frame.offset ≡ offset + length front → IsFrame order frame more → FramesFrom order offset (frames ++ frame ∷ []) (front ++ more)
-frames_push order offset [] frame front more joined here spelled = (
+frames_push : (order : Order) (offset : ℕ) (frames : List Frame) (frame : Frame) (prefix more : List ℕ)
+    → FramesFrom order offset frames prefix
+    → frame.offset ≡ offset + length prefix → IsFrame order frame more → FramesFrom order offset (frames ++ frame ∷ []) (prefix ++ more)
+frames_push order offset [] frame prefix more joined here spelled = (
   more,
   [],
   ap (λ (z : List ℕ). z ++ more) joined
@@ -37,8 +37,8 @@ frames_push order offset [] frame front more joined here spelled = (
   spelled,
   refl,
 )
-frames_push order offset (first ∷ frames) frame front more (a, b, whole, at, spelled_first, rest) here spelled =
-    let size : length front ≡ length a + length b = ap length whole ∙ length-append a b in (
+frames_push order offset (first ∷ frames) frame prefix more (a, b, whole, at, spelled_first, rest) here spelled =
+    let size : length prefix ≡ length a + length b = ap length whole ∙ length-append a b in (
       a,
       b ++ more,
       ap (λ (z : List ℕ). z ++ more) whole ∙ append_assoc a b more,
@@ -51,12 +51,12 @@ pub one_more_frame : (order : Order) (bytes : List ℕ) (frames : List Frame) (f
     → FramesSoFar order bytes frames old → Reads (IsFrame old.order) frame old new
     → frame.offset ≡ old.place → FramesSoFar order bytes (frames ++ frame ∷ []) new
 one_more_frame order bytes frames frame old new so_far r here = record {
-  front = so_far.front ++ r.spelling;
-  whole = so_far.whole ∙ ap (λ (z : List ℕ). so_far.front ++ z) r.whole ∙ sym (append_assoc so_far.front r.spelling new.rest);
+  prefix = so_far.prefix ++ r.spelling;
+  whole = so_far.whole ∙ ap (λ (z : List ℕ). so_far.prefix ++ z) r.whole ∙ sym (append_assoc so_far.prefix r.spelling new.rest);
   joined =
-      frames_push order 0 frames frame so_far.front r.spelling so_far.joined (omega (arith, here, so_far.place))
+      frames_push order 0 frames frame so_far.prefix r.spelling so_far.joined (omega (arith, here, so_far.place))
       (subst (λ (o : Order). IsFrame o frame r.spelling) so_far.order_is r.spelled);
-  place = omega (arith, r.place, so_far.place, length-append so_far.front r.spelling);
+  place = omega (arith, r.place, so_far.place, length-append so_far.prefix r.spelling);
   order_is = r.order ∙ so_far.order_is;
 }
 

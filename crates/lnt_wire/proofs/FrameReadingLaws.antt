@@ -1,4 +1,4 @@
--- The exits of the reader of a frame: a frame at the front of the bytes, and each reason why none is there.
+-- The exits of the reader of a frame: a frame at the prefix of the bytes, and each reason why none is there.
 use Rattle.std.proofs.Common.{◌≡◌, ℕ, ◌+◌, ◌<◌, ◌≤◌, List, [], ◌∷◌, ◌++◌, length, refl, sym, ap, subst, ◌∙◌, append_assoc, arith}
 use Rattle.std.proofs.lemmas.List.{length-append, append-nil}
 use Rattle.lnt_wire.specs.At.{At}

@@ -1,4 +1,4 @@
--- LEB128 numbers: their groups read from the front, and summed from the front or from the back.
+-- LEB128 numbers: their groups read from the prefix, and summed from the prefix or from the back.
 use Rattle.std.proofs.Common.{◌≡◌, ℕ, zero, suc, ◌+◌, ◌*◌, ◌%◌, ◌^◌, ◌<◌, ◌≤◌, List, [], ◌∷◌, ◌++◌, length, get_or, take, drop}
 use Rattle.std.proofs.Common.{refl, sym, ap, ◌∙◌, arith, subst, Bool, true, false, cond, leb, add-one, ◌-◌, inl, inr}
 use Rattle.std.specs.Prelude.{ℤ, pos, ◌+ℤ◌, ◌-ℤ◌, ◌*ℤ◌, neg_ℤ, ◌≤ℤ◌, ◌<ℤ◌, FitsSigned}
@@ -18,14 +18,14 @@ use Rattle.lnt_wire.specs.Skipping.{Skips}
 use Rattle.lnt_wire.proofs.CodeLaws.{same_leb}
 use Rattle.lnt_wire.proofs.ReadLemmas.{reads_skipped}
 
-pub high_push : (front : List ℕ) (b : ℕ) → AreHigh front → 128 ≤ b → AreHigh (front ++ b ∷ [])
+pub high_push : (prefix : List ℕ) (b : ℕ) → AreHigh prefix → 128 ≤ b → AreHigh (prefix ++ b ∷ [])
 high_push [] b h k = (k, tt)
-high_push (a ∷ front) b h k = (h.0, high_push front b h.1 k)
+high_push (a ∷ prefix) b h k = (h.0, high_push prefix b h.1 k)
 
-pub leb_push : (front : List ℕ) (b : ℕ) → AreHigh front → b < 128 → IsLeb (front ++ b ∷ [])
+pub leb_push : (prefix : List ℕ) (b : ℕ) → AreHigh prefix → b < 128 → IsLeb (prefix ++ b ∷ [])
 leb_push [] b h k = k
 leb_push (a ∷ []) b h k = (h.0, k)
-leb_push (a ∷ c ∷ front) b h k = (h.0, leb_push (c ∷ front) b h.1 k)
+leb_push (a ∷ c ∷ prefix) b h k = (h.0, leb_push (c ∷ prefix) b h.1 k)
 
 pub high_more : (bytes : List ℕ) (i : ℕ) → i < length bytes → AreHigh (take i bytes) → 128 ≤ get_or bytes i 0 → AreHigh (take (i + 1) bytes)
 high_more bytes i lt h k = subst AreHigh (sym (take_more bytes i 0 lt)) (high_push (take i bytes) (get_or bytes i 0) h k)
@@ -78,7 +78,7 @@ signed_step : (low g width whole : ℕ) (s : Bool) → whole ≡ 128 * width
 signed_step low g width whole true e = omega (arith, ints)
 signed_step low g width whole false e = omega (arith, ints)
 
--- one more byte in front of some
+-- one more byte in prefix of some
 pub signed_more : (b c : ℕ) (bytes : List ℕ) → signed_groups (b ∷ c ∷ bytes) ≡ pos (b % 128) +ℤ pos 128 *ℤ signed_groups (c ∷ bytes)
 signed_more b c bytes =
     signed_step (b % 128) (groups (c ∷ bytes)) (128 ^ length (c ∷ bytes)) (128 ^ suc (length (c ∷ bytes))) (has_sign (c ∷ bytes))
@@ -164,19 +164,19 @@ one_high b le lt =
     let same : b % 128 + 128 * 0 ≡ b = omega arith in
     ap (λ (s : Bool). pos (b % 128 + 128 * 0) -ℤ pos (cond s (128 ^ 1) 0)) (le-leb 64 b le) ∙ ap (λ (n : ℕ). pos n -ℤ pos 128) same
 
--- ---- at most 9 groups, from the front
+-- ---- at most 9 groups, from the prefix
 
-pub groups_push : (front : List ℕ) (b : ℕ) → groups (front ++ b ∷ []) ≡ groups front + b % 128 * 128 ^ length front
+pub groups_push : (prefix : List ℕ) (b : ℕ) → groups (prefix ++ b ∷ []) ≡ groups prefix + b % 128 * 128 ^ length prefix
 groups_push [] b = omega arith
-groups_push (a ∷ front) b =
-    let rest = groups_push front b in
-    let moved : 128 * (b % 128 * 128 ^ length front) ≡ b % 128 * 128 ^ suc (length front) =
-    rw (pow-suc 128 (length front)) (mul_comm 128 (b % 128 * 128 ^ length front) ∙ mul_assoc (b % 128) (128 ^ length front) 128) in
+groups_push (a ∷ prefix) b =
+    let rest = groups_push prefix b in
+    let moved : 128 * (b % 128 * 128 ^ length prefix) ≡ b % 128 * 128 ^ suc (length prefix) =
+    rw (pow-suc 128 (length prefix)) (mul_comm 128 (b % 128 * 128 ^ length prefix) ∙ mul_assoc (b % 128) (128 ^ length prefix) 128) in
     omega (arith, rest, moved)
 
-pub groups_bound : (front : List ℕ) → groups front < 128 ^ length front
+pub groups_bound : (prefix : List ℕ) → groups prefix < 128 ^ length prefix
 groups_bound [] = omega arith
-groups_bound (a ∷ front) = omega (arith, groups_bound front, pow-suc 128 (length front))
+groups_bound (a ∷ prefix) = omega (arith, groups_bound prefix, pow-suc 128 (length prefix))
 
 -- one more group of a few
 pub sum_more : (bytes : List ℕ) (i sum scale : ℕ) → i < length bytes → sum ≡ groups (take i bytes) → scale ≡ 128 ^ i

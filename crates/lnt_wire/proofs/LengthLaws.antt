@@ -1,4 +1,4 @@
--- Numbers of a fixed width and initial lengths have one spelling each, which is the front of no other's. Crates above cite these.
+-- Numbers of a fixed width and initial lengths have one spelling each, which is the prefix of no other's. Crates above cite these.
 use Rattle.std.proofs.Common.{◌≡◌, ℕ, zero, suc, ◌%◌, ◌^◌, ◌<◌, ◌≤◌, List, [], ◌∷◌, ◌++◌, length, refl, sym, ap, ◌∙◌, append_assoc, arith}
 use Rattle.std.proofs.lemmas.List.{append_cancel_left, length-append}
 use Rattle.std.proofs.lemmas.Nat.{from_le_bytes-to_le_bytes_2, from_be_bytes-to_be_bytes_2, from_le_bytes-to_le_bytes_4}
@@ -11,20 +11,20 @@ use Rattle.lnt_wire.specs.declared.format.Format.TheVariants.{D32, D64}
 use Rattle.lnt_wire.specs.Numbers.{number_bytes}
 use Rattle.lnt_wire.specs.InitialLength.{initial_length, LengthFits}
 
--- ---- fronts of one length
+-- ---- prefixes of one length
 
-pub same_front : (x y r s : List ℕ) → length x ≡ length y → x ++ r ≡ y ++ s → x ≡ y
-same_front [] [] r s len e = refl
-same_front [] (b ∷ y) r s len e = absurd (omega arith)
-same_front (a ∷ x) [] r s len e = absurd (omega arith)
-same_front (a ∷ x) (b ∷ y) r s len e =
+pub same_prefix : (x y r s : List ℕ) → length x ≡ length y → x ++ r ≡ y ++ s → x ≡ y
+same_prefix [] [] r s len e = refl
+same_prefix [] (b ∷ y) r s len e = absurd (omega arith)
+same_prefix (a ∷ x) [] r s len e = absurd (omega arith)
+same_prefix (a ∷ x) (b ∷ y) r s len e =
     let heads : a ≡ b = cc in
     let tails : x ++ r ≡ y ++ s = cc in
     let n : length x ≡ length y = omega arith in
-    let rest : x ≡ y = same_front x y r s n tails in
+    let rest : x ≡ y = same_prefix x y r s n tails in
     cc
 
--- what follows fronts that are the same
+-- what follows prefixes that are the same
 pub same_rest : (x y r s : List ℕ) → x ≡ y → x ++ r ≡ y ++ s → r ≡ s
 same_rest x y r s same e = append_cancel_left y r s (ap (λ (t : List ℕ). t ++ r) (sym same) ∙ e)
 
@@ -74,12 +74,12 @@ width_4 = record { same = same_4 }
 pub width_8 : IsWidth 8
 width_8 = record { same = same_8 }
 
--- a number in front
-pub same_number_front : (order : Order) (size : ℕ) → IsWidth size → (m n : ℕ) (r s : List ℕ) → m < 256 ^ size → n < 256 ^ size
+-- a number in prefix
+pub same_number_prefix : (order : Order) (size : ℕ) → IsWidth size → (m n : ℕ) (r s : List ℕ) → m < 256 ^ size → n < 256 ^ size
     → number_bytes order size m ++ r ≡ number_bytes order size n ++ s → (m ≡ n) × (r ≡ s)
-same_number_front order size width m n r s p q e =
+same_number_prefix order size width m n r s p q e =
     let same : number_bytes order size m ≡ number_bytes order size n =
-    same_front (number_bytes order size m) (number_bytes order size n) r s
+    same_prefix (number_bytes order size m) (number_bytes order size n) r s
     (length-number_bytes order size m ∙ sym (length-number_bytes order size n)) e in
     (width.same order m n p q same, same_rest (number_bytes order size m) (number_bytes order size n) r s same e)
 
@@ -99,16 +99,16 @@ length-initial D64 order n =
 pub same_length : (order : Order) (f g : Format) (m n : ℕ) (r s : List ℕ) → LengthFits f m → LengthFits g n
     → initial_length f order m ++ r ≡ initial_length g order n ++ s → SameLength f g m n r s
 same_length order D32 D32 m n r s p q e =
-    let found = same_number_front order 4 width_4 m n r s (omega arith) (omega arith) e in
+    let found = same_number_prefix order 4 width_4 m n r s (omega arith) (omega arith) e in
     record { format = refl; number = found.0; past = found.1 }
 same_length order D32 D64 m n r s p q e =
     let found =
-    same_number_front order 4 width_4 m 0xffffffff r (number_bytes order 8 n ++ s) (omega arith) (omega arith)
+    same_number_prefix order 4 width_4 m 0xffffffff r (number_bytes order 8 n ++ s) (omega arith) (omega arith)
     (e ∙ append_assoc (number_bytes order 4 0xffffffff) (number_bytes order 8 n) s) in
     absurd (omega (arith, found.0))
 same_length order D64 D32 m n r s p q e =
     let found =
-    same_number_front order 4 width_4 0xffffffff n (number_bytes order 8 m ++ r) s (omega arith) (omega arith)
+    same_number_prefix order 4 width_4 0xffffffff n (number_bytes order 8 m ++ r) s (omega arith) (omega arith)
     (sym (append_assoc (number_bytes order 4 0xffffffff) (number_bytes order 8 m) r) ∙ e) in
     absurd (omega (arith, found.0))
 same_length order D64 D64 m n r s p q e =
@@ -117,5 +117,5 @@ same_length order D64 D64 m n r s p q e =
     (sym (append_assoc (number_bytes order 4 0xffffffff) (number_bytes order 8 m) r)
     ∙ e
     ∙ append_assoc (number_bytes order 4 0xffffffff) (number_bytes order 8 n) s) in
-    let found = same_number_front order 8 width_8 m n r s p q tails in
+    let found = same_number_prefix order 8 width_8 m n r s p q tails in
     record { format = refl; number = found.0; past = found.1 }

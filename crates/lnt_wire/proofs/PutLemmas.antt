@@ -24,10 +24,10 @@ use Rattle.lnt_wire.proofs.LengthLaws.{length-number_bytes}
 
 -- The groups put so far stand before each spelling of the rest, and so does something as long before it in each spelling of the whole.
 pub record Begun {X : Type 0} (Spells : X → List ℕ → Type 0) (whole rest : X) (old new : List ℕ) : Type 0 where
-  pub front : List ℕ
-  pub joined : new ≡ old ++ front
-  pub completes : (tail : List ℕ) → Spells rest tail → Spells whole (front ++ tail)
-  pub same : (other : List ℕ) → Spells whole other → (tail : List ℕ) × Spells rest tail × (length other ≡ length front + length tail)
+  pub prefix : List ℕ
+  pub joined : new ≡ old ++ prefix
+  pub completes : (tail : List ℕ) → Spells rest tail → Spells whole (prefix ++ tail)
+  pub same : (other : List ℕ) → Spells whole other → (tail : List ℕ) × Spells rest tail × (length other ≡ length prefix + length tail)
 
 -- one more group, after which the rest is spelled
 pub record IsGroup {X : Type 0} (Spells : X → List ℕ → Type 0) (rest after : X) (byte : ℕ) : Type 0 where
@@ -36,19 +36,19 @@ pub record IsGroup {X : Type 0} (Spells : X → List ℕ → Type 0) (rest after
 
 begun : {X : Type 0} (Spells : X → List ℕ → Type 0) (whole : X) (old : List ℕ) → Begun Spells whole whole old old
 begun Spells whole old =
-    record { front = []; joined = sym (append-nil old); completes = λ tail p. p; same = λ other p. (other, p, omega arith) }
+    record { prefix = []; joined = sym (append-nil old); completes = λ tail p. p; same = λ other p. (other, p, omega arith) }
 
 group_put : {X : Type 0} (Spells : X → List ℕ → Type 0) (whole rest after : X) (old new : List ℕ) (byte : ℕ)
     → Begun Spells whole rest old new → IsGroup Spells rest after byte
     → Begun Spells whole after old (new ++ byte ∷ [])
 group_put Spells whole rest after old new byte b g = record {
-  front = b.front ++ byte ∷ [];
-  joined = ap (λ (z : List ℕ). z ++ byte ∷ []) b.joined ∙ append_assoc old b.front (byte ∷ []);
-  completes = λ tail p. subst (Spells whole) (sym (append_assoc b.front (byte ∷ []) tail)) (b.completes (byte ∷ tail) (g.completes tail p));
+  prefix = b.prefix ++ byte ∷ [];
+  joined = ap (λ (z : List ℕ). z ++ byte ∷ []) b.joined ∙ append_assoc old b.prefix (byte ∷ []);
+  completes = λ tail p. subst (Spells whole) (sym (append_assoc b.prefix (byte ∷ []) tail)) (b.completes (byte ∷ tail) (g.completes tail p));
   same = λ other p.
       let one = b.same other p in
       let two = g.same one.0 one.1 in
-      (two.0, two.1, omega (arith, one.2, two.2, length-append b.front (byte ∷ [])));
+      (two.0, two.1, omega (arith, one.2, two.2, length-append b.prefix (byte ∷ [])));
 }
 
 -- the last group
@@ -56,14 +56,14 @@ last_put : {X : Type 0} (Spells : X → List ℕ → Type 0) (whole rest : X) (o
     → Spells rest (byte ∷ []) → ((other : List ℕ) → Spells rest other → 0 < length other)
     → Appends Spells whole old (new ++ byte ∷ [])
 last_put Spells whole rest old new byte b p some = record {
-  spelling = b.front ++ byte ∷ [];
+  spelling = b.prefix ++ byte ∷ [];
   spelled = record {
     spelled = b.completes (byte ∷ []) p;
     shortest = λ other q.
         let found = b.same other q in
-        omega (arith, found.2, some found.0 found.1, length-append b.front (byte ∷ []));
+        omega (arith, found.2, some found.0 found.1, length-append b.prefix (byte ∷ []));
   };
-  joined = ap (λ (z : List ℕ). z ++ byte ∷ []) b.joined ∙ append_assoc old b.front (byte ∷ []);
+  joined = ap (λ (z : List ℕ). z ++ byte ∷ []) b.joined ∙ append_assoc old b.prefix (byte ∷ []);
 }
 
 some_leb : (bytes : List ℕ) → IsLeb bytes → 0 < length bytes
@@ -188,7 +188,7 @@ last_signed z rest d m old new b is low high fits =
 
 pub begun_extends : {X : Type 0} (Spells : X → List ℕ → Type 0) (whole rest : X) (old new : List ℕ) → Begun Spells whole rest old new
     → Extends old new
-begun_extends Spells whole rest old new b = record { more = b.front; joined = b.joined }
+begun_extends Spells whole rest old new b = record { more = b.prefix; joined = b.joined }
 
 -- what the writer of an unsigned number cites
 pub ruleset unsigned_groups = (begun_unsigned, put_unsigned, last_unsigned, begun_extends)

@@ -12,7 +12,7 @@ use Rattle.lnt_wire.specs.Reading.{Reads, RefusesField, IsCutShort}
 use Rattle.lnt_wire.specs.Skipping.{Skips}
 use Rattle.lnt_wire.proofs.LengthLaws.{length-number_bytes}
 
--- no front of the bytes is longer than they are
+-- no prefix of the bytes is longer than they are
 none_taken : (count : ℕ) (bytes : List ℕ) → length bytes < count → NoneSpelled (TakenBytes count) bytes
 none_taken count bytes short taken spelling more t e = omega (arith, length-append spelling more, ap length e, t.count_is)
 

@@ -11,14 +11,14 @@ use Rattle.lnt_wire.specs.declared.form.Form.TheVariants as forms
 use Rattle.lnt_wire.specs.declared.form.FormValue.{FormValue}
 use Rattle.lnt_wire.specs.declared.form.FormValue.TheVariants.{Text, LineStrp, Strp, Udata, Data1, Data2, Data4, Data8, Data16}
 use Rattle.lnt_wire.specs.declared.form.FormValue.TheVariants.{Block, Block1, Block2, Block4}
-use Rattle.lnt_wire.specs.declared.form.Prefix.TheVariants.{Leb, One, Two, Four}
+use Rattle.lnt_wire.specs.declared.form.BlockLength.TheVariants.{Leb, One, Two, Four}
 use Rattle.lnt_wire.specs.declared.view.ValueView.{ValueView}
 use Rattle.lnt_wire.specs.Borrowed.{value_of}
 use Rattle.lnt_wire.specs.FormBytes.{TextBytes, BlockBytes, ValueBytes, FormBytes, form_of}
 use Rattle.lnt_wire.specs.FormFaults.{IsCutText, IsValueFault}
 use Rattle.lnt_wire.specs.Leb128.{UnsignedLeb, IsLargeUnsigned, IsLebFault}
 use Rattle.lnt_wire.specs.Numbers.{NumberBytes, OffsetBytes, offset_size}
-use Rattle.lnt_wire.specs.Prefixes.{LengthBytes, IsPrefixedFault}
+use Rattle.lnt_wire.specs.BlockLengths.{LengthBytes, IsBlockValueFault}
 use Rattle.lnt_wire.specs.Reading.{Reads, RefusesField, IsCutShort}
 
 -- no value of one kind, where there is none of another that each has
@@ -159,11 +159,11 @@ block_part format order (Block b) bytes p = (b, p.spelled)
 block_part format order value bytes p = let other = p.form_is in absurd cc
 
 pub refuses_block : (format : Format) (form : Form) (old : At) (fault : Fault) → form ≡ forms.Block
-    → RefusesField (IsPrefixedFault old.order Leb) (BlockBytes (LengthBytes old.order Leb)) old fault
+    → RefusesField (IsBlockValueFault old.order Leb) (BlockBytes (LengthBytes old.order Leb)) old fault
     → RefusesField (IsValueFault format old.order form) (ValueBytes format old.order form) old fault
 refuses_block format form old fault is r =
     refused_in format form forms.Block old fault is
-    (refused_as (IsPrefixedFault old.order Leb) (BlockBytes (LengthBytes old.order Leb))
+    (refused_as (IsBlockValueFault old.order Leb) (BlockBytes (LengthBytes old.order Leb))
     (ValueBytes format old.order forms.Block) old fault (block_part format old.order) r)
 
 block1_part : (format : Format) (order : Order) (value : FormValue) (bytes : List ℕ) → ValueBytes format order forms.Block1 value bytes
@@ -172,11 +172,11 @@ block1_part format order (Block1 b) bytes p = (b, p.spelled)
 block1_part format order value bytes p = let other = p.form_is in absurd cc
 
 pub refuses_block1 : (format : Format) (form : Form) (old : At) (fault : Fault) → form ≡ forms.Block1
-    → RefusesField (IsPrefixedFault old.order One) (BlockBytes (LengthBytes old.order One)) old fault
+    → RefusesField (IsBlockValueFault old.order One) (BlockBytes (LengthBytes old.order One)) old fault
     → RefusesField (IsValueFault format old.order form) (ValueBytes format old.order form) old fault
 refuses_block1 format form old fault is r =
     refused_in format form forms.Block1 old fault is
-    (refused_as (IsPrefixedFault old.order One) (BlockBytes (LengthBytes old.order One))
+    (refused_as (IsBlockValueFault old.order One) (BlockBytes (LengthBytes old.order One))
     (ValueBytes format old.order forms.Block1) old fault (block1_part format old.order) r)
 
 block2_part : (format : Format) (order : Order) (value : FormValue) (bytes : List ℕ) → ValueBytes format order forms.Block2 value bytes
@@ -185,11 +185,11 @@ block2_part format order (Block2 b) bytes p = (b, p.spelled)
 block2_part format order value bytes p = let other = p.form_is in absurd cc
 
 pub refuses_block2 : (format : Format) (form : Form) (old : At) (fault : Fault) → form ≡ forms.Block2
-    → RefusesField (IsPrefixedFault old.order Two) (BlockBytes (LengthBytes old.order Two)) old fault
+    → RefusesField (IsBlockValueFault old.order Two) (BlockBytes (LengthBytes old.order Two)) old fault
     → RefusesField (IsValueFault format old.order form) (ValueBytes format old.order form) old fault
 refuses_block2 format form old fault is r =
     refused_in format form forms.Block2 old fault is
-    (refused_as (IsPrefixedFault old.order Two) (BlockBytes (LengthBytes old.order Two))
+    (refused_as (IsBlockValueFault old.order Two) (BlockBytes (LengthBytes old.order Two))
     (ValueBytes format old.order forms.Block2) old fault (block2_part format old.order) r)
 
 block4_part : (format : Format) (order : Order) (value : FormValue) (bytes : List ℕ) → ValueBytes format order forms.Block4 value bytes
@@ -198,11 +198,11 @@ block4_part format order (Block4 b) bytes p = (b, p.spelled)
 block4_part format order value bytes p = let other = p.form_is in absurd cc
 
 pub refuses_block4 : (format : Format) (form : Form) (old : At) (fault : Fault) → form ≡ forms.Block4
-    → RefusesField (IsPrefixedFault old.order Four) (BlockBytes (LengthBytes old.order Four)) old fault
+    → RefusesField (IsBlockValueFault old.order Four) (BlockBytes (LengthBytes old.order Four)) old fault
     → RefusesField (IsValueFault format old.order form) (ValueBytes format old.order form) old fault
 refuses_block4 format form old fault is r =
     refused_in format form forms.Block4 old fault is
-    (refused_as (IsPrefixedFault old.order Four) (BlockBytes (LengthBytes old.order Four))
+    (refused_as (IsBlockValueFault old.order Four) (BlockBytes (LengthBytes old.order Four))
     (ValueBytes format old.order forms.Block4) old fault (block4_part format old.order) r)
 
 -- the refusal of each form, which the reader of values cites

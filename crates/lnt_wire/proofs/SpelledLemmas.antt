@@ -103,17 +103,17 @@ offset D32 order n fits small =
 offset D64 order n fits small = fixed order 8 n (omega (arith, fits))
 
 block : (Length : ℕ → List ℕ → Type 0) (bytes : List ℕ) → HasShortest Length (length bytes) → HasShortest (BlockBytes Length) bytes
-block Length bytes (front, is) = (
-  front ++ bytes,
+block Length bytes (prefix, is) = (
+  prefix ++ bytes,
   record {
-    spelled = record { front = front; back = bytes; first = is.spelled; second = refl; joined = refl };
+    spelled = record { prefix = prefix; back = bytes; first = is.spelled; second = refl; joined = refl };
     shortest = λ other p. omega (
       arith,
-      length-append front bytes,
+      length-append prefix bytes,
       ap length p.joined,
-      length-append p.front p.back,
+      length-append p.prefix p.back,
       ap length p.second,
-      is.shortest p.front p.first,
+      is.shortest p.prefix p.first,
     );
   },
 )

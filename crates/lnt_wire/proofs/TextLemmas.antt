@@ -6,9 +6,9 @@ use Rattle.std.proofs.lemmas.List.{take_more}
 use Rattle.lnt_wire.specs.FormBytes.{HasNoZero}
 use Rattle.lnt_wire.specs.Texts.{up_to_zero}
 
-no_zero_push : (front : List ℕ) (b : ℕ) → HasNoZero front → 0 < b → HasNoZero (front ++ b ∷ [])
+no_zero_push : (prefix : List ℕ) (b : ℕ) → HasNoZero prefix → 0 < b → HasNoZero (prefix ++ b ∷ [])
 no_zero_push [] b h k = (k, tt)
-no_zero_push (a ∷ front) b h k = (h.0, no_zero_push front b h.1 k)
+no_zero_push (a ∷ prefix) b h k = (h.0, no_zero_push prefix b h.1 k)
 
 pub no_zero_more : (bytes : List ℕ) (i : ℕ) → i < length bytes → HasNoZero (take i bytes) → get_or bytes i 0 ≢ 0
     → HasNoZero (take (i + 1) bytes)

@@ -1,4 +1,4 @@
--- Values of one form have spellings of which none is the front of another, and each spells one value. Crates above cite these.
+-- Values of one form have spellings of which none is the prefix of another, and each spells one value. Crates above cite these.
 use Rattle.std.proofs.Common.{◌≡◌, ℕ, List, [], ◌∷◌, ◌++◌, length, refl, sym, ap, ◌∙◌, arith}
 use Rattle.lnt_wire.specs.declared.format.Order.{Order}
 use Rattle.lnt_wire.specs.declared.format.Format.{Format}
@@ -8,21 +8,21 @@ use Rattle.lnt_wire.specs.declared.form.Form.TheVariants as forms
 use Rattle.lnt_wire.specs.declared.form.FormValue.{FormValue}
 use Rattle.lnt_wire.specs.declared.form.FormValue.TheVariants.{Text, LineStrp, Strp, Udata, Data1, Data2, Data4, Data8, Data16}
 use Rattle.lnt_wire.specs.declared.form.FormValue.TheVariants.{Block, Block1, Block2, Block4}
-use Rattle.lnt_wire.specs.declared.form.Prefix.{Prefix}
-use Rattle.lnt_wire.specs.declared.form.Prefix.TheVariants.{Leb, One, Two, Four}
+use Rattle.lnt_wire.specs.declared.form.BlockLength.{BlockLength}
+use Rattle.lnt_wire.specs.declared.form.BlockLength.TheVariants.{Leb, One, Two, Four}
 use Rattle.lnt_wire.specs.Bytes.{IsCode}
 use Rattle.lnt_wire.specs.FormBytes.{form_code, form_of, HasNoZero, BlockBytes, FormBytes}
-use Rattle.lnt_wire.specs.Prefixes.{LengthBytes}
+use Rattle.lnt_wire.specs.BlockLengths.{LengthBytes}
 use Rattle.lnt_wire.specs.Laws.{OneNumber, OneLeb, OneValue}
 use Rattle.lnt_wire.specs.Numbers.{offset_size}
 use Rattle.lnt_wire.proofs.CodeLaws.{number_code, unsigned_code, signed_code, taken_code, peel, same_join}
-use Rattle.lnt_wire.proofs.LengthLaws.{IsWidth, width_1, width_2, width_4, width_8, same_front}
+use Rattle.lnt_wire.proofs.LengthLaws.{IsWidth, width_1, width_2, width_4, width_8, same_prefix}
 
 pub offset_width : (format : Format) → IsWidth (offset_size format)
 offset_width D32 = width_4
 offset_width D64 = width_8
 
-pub length_code : (order : Order) (prefix : Prefix) → IsCode (LengthBytes order prefix)
+pub length_code : (order : Order) (encoding : BlockLength) → IsCode (LengthBytes order encoding)
 length_code order Leb = unsigned_code
 length_code order One = number_code order 1 width_1
 length_code order Two = number_code order 2 width_2
@@ -43,12 +43,12 @@ same_number : {X : Type 0} (make : ℕ → X) (m n : ℕ) (x y : List ℕ) → (
 same_number make m n x y h = (ap make h.0, h.1)
 
 -- blocks with lengths of one kind
-same_block : (order : Order) (prefix : Prefix) (t t' x y r s : List ℕ) → BlockBytes (LengthBytes order prefix) t x
-    → BlockBytes (LengthBytes order prefix) t' y → x ++ r ≡ y ++ s → (t ≡ t') × (x ≡ y)
-same_block order prefix t t' x y r s p q e =
-    let one = peel (length_code order prefix) (length t) (length t') x y r s p q e in
+same_block : (order : Order) (encoding : BlockLength) (t t' x y r s : List ℕ) → BlockBytes (LengthBytes order encoding) t x
+    → BlockBytes (LengthBytes order encoding) t' y → x ++ r ≡ y ++ s → (t ≡ t') × (x ≡ y)
+same_block order encoding t t' x y r s p q e =
+    let one = peel (length_code order encoding) (length t) (length t') x y r s p q e in
     let len : length p.back ≡ length q.back = ap length p.second ∙ one.value ∙ sym (ap length q.second) in
-    let same : p.back ≡ q.back = same_front p.back q.back r s len one.past in
+    let same : p.back ≡ q.back = same_prefix p.back q.back r s len one.past in
     (sym p.second ∙ same ∙ q.second, same_join x y p q one.bytes same)
 
 -- values of one form

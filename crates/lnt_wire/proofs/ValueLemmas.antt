@@ -5,10 +5,10 @@ use Rattle.std.proofs.lemmas.List.{length-append, length-take-le, take_more, tak
 use Rattle.lnt_wire.specs.At.{At}
 use Rattle.lnt_wire.specs.declared.fault.Fault.{Fault}
 use Rattle.lnt_wire.specs.declared.fault.Reason.TheVariants.{Truncated}
-use Rattle.lnt_wire.specs.declared.form.Prefix.{Prefix}
+use Rattle.lnt_wire.specs.declared.form.BlockLength.{BlockLength}
 use Rattle.lnt_wire.specs.FormBytes.{HasNoZero, TextBytes, BlockBytes}
 use Rattle.lnt_wire.specs.FormFaults.{IsCutText}
-use Rattle.lnt_wire.specs.Prefixes.{LengthBytes, IsLengthFault, IsPrefixedFault}
+use Rattle.lnt_wire.specs.BlockLengths.{LengthBytes, IsLengthFault, IsBlockValueFault}
 use Rattle.lnt_wire.specs.FormFaults.IsBlockFault.{no_length, cut_block}
 use Rattle.lnt_wire.specs.Reading.{Reads, RefusesField}
 use Rattle.lnt_wire.specs.Skipping.{Skips}
@@ -48,46 +48,46 @@ reads_text old new bytes text size same lt no_zero zero_is is s =
 
 -- ---- blocks
 
-pub refuses_no_length : (prefix : Prefix) (old at : At) (fault : Fault) → at ≡ old
-    → RefusesField (IsLengthFault prefix) (LengthBytes at.order prefix) at fault
-    → RefusesField (IsPrefixedFault old.order prefix) (BlockBytes (LengthBytes old.order prefix)) old fault
-refuses_no_length prefix old at fault same there =
-    let r : RefusesField (IsLengthFault prefix) (LengthBytes old.order prefix) old fault =
-    subst (λ (a : At). RefusesField (IsLengthFault prefix) (LengthBytes a.order prefix) a fault) same there in
+pub refuses_no_length : (encoding : BlockLength) (old at : At) (fault : Fault) → at ≡ old
+    → RefusesField (IsLengthFault encoding) (LengthBytes at.order encoding) at fault
+    → RefusesField (IsBlockValueFault old.order encoding) (BlockBytes (LengthBytes old.order encoding)) old fault
+refuses_no_length encoding old at fault same there =
+    let r : RefusesField (IsLengthFault encoding) (LengthBytes old.order encoding) old fault =
+    subst (λ (a : At). RefusesField (IsLengthFault encoding) (LengthBytes a.order encoding) a fault) same there in
     record {
       place = r.place;
       reason = no_length r.reason;
       none = λ block spelling more p e.
-          r.none (length block) p.front (p.back ++ more) p.first
-          (sym (append_assoc p.front p.back more) ∙ ap (λ (z : List ℕ). z ++ more) (sym p.joined) ∙ e);
+          r.none (length block) p.prefix (p.back ++ more) p.first
+          (sym (append_assoc p.prefix p.back more) ∙ ap (λ (z : List ℕ). z ++ more) (sym p.joined) ∙ e);
     }
 
-pub refuses_cut_block : (prefix : Prefix) (old at ahead : At) (size : ℕ) (bytes : List ℕ) (fault : Fault) → at ≡ old
-    → Reads (LengthBytes at.order prefix) size at ahead → bytes ≡ ahead.rest → length bytes < size
+pub refuses_cut_block : (encoding : BlockLength) (old at ahead : At) (size : ℕ) (bytes : List ℕ) (fault : Fault) → at ≡ old
+    → Reads (LengthBytes at.order encoding) size at ahead → bytes ≡ ahead.rest → length bytes < size
     → fault.place ≡ old.place → fault.reason ≡ Truncated
-    → RefusesField (IsPrefixedFault old.order prefix) (BlockBytes (LengthBytes old.order prefix)) old fault
-refuses_cut_block prefix old at ahead size bytes fault same there rest short place reason =
-    let r : Reads (LengthBytes old.order prefix) size old ahead =
-    subst (λ (a : At). Reads (LengthBytes a.order prefix) size a ahead) same there in
+    → RefusesField (IsBlockValueFault old.order encoding) (BlockBytes (LengthBytes old.order encoding)) old fault
+refuses_cut_block encoding old at ahead size bytes fault same there rest short place reason =
+    let r : Reads (LengthBytes old.order encoding) size old ahead =
+    subst (λ (a : At). Reads (LengthBytes a.order encoding) size a ahead) same there in
     let short_here : length ahead.rest < size = omega (arith, short, ap length rest) in
     record {
       place = place;
       reason = cut_block size r.spelling ahead.rest reason r.spelled r.whole short_here;
       none = λ block spelling more p e.
-          let all : p.front ++ (p.back ++ more) ≡ r.spelling ++ ahead.rest =
-          sym (append_assoc p.front p.back more) ∙ ap (λ (z : List ℕ). z ++ more) (sym p.joined) ∙ e ∙ r.whole in
+          let all : p.prefix ++ (p.back ++ more) ≡ r.spelling ++ ahead.rest =
+          sym (append_assoc p.prefix p.back more) ∙ ap (λ (z : List ℕ). z ++ more) (sym p.joined) ∙ e ∙ r.whole in
           let found =
-          (length_code old.order prefix).one (length block) size p.front r.spelling (p.back ++ more) ahead.rest p.first r.spelled all in
-          let past : p.back ++ more ≡ ahead.rest = same_rest p.front r.spelling (p.back ++ more) ahead.rest found.1 all in
+          (length_code old.order encoding).one (length block) size p.prefix r.spelling (p.back ++ more) ahead.rest p.first r.spelled all in
+          let past : p.back ++ more ≡ ahead.rest = same_rest p.prefix r.spelling (p.back ++ more) ahead.rest found.1 all in
           omega (arith, found.0, short_here, ap length past, length-append p.back more, ap length p.second);
     }
 
-pub reads_block : (prefix : Prefix) (old at ahead new : At) (size : ℕ) (bytes block : List ℕ) → at ≡ old
-    → Reads (LengthBytes at.order prefix) size at ahead → bytes ≡ ahead.rest → size ≤ length bytes → block ≡ take size bytes
-    → Skips size ahead new → Reads (BlockBytes (LengthBytes old.order prefix)) block old new
-reads_block prefix old at ahead new size bytes block same there rest le is s =
-    let r : Reads (LengthBytes old.order prefix) size old ahead =
-    subst (λ (a : At). Reads (LengthBytes a.order prefix) size a ahead) same there in
+pub reads_block : (encoding : BlockLength) (old at ahead new : At) (size : ℕ) (bytes block : List ℕ) → at ≡ old
+    → Reads (LengthBytes at.order encoding) size at ahead → bytes ≡ ahead.rest → size ≤ length bytes → block ≡ take size bytes
+    → Skips size ahead new → Reads (BlockBytes (LengthBytes old.order encoding)) block old new
+reads_block encoding old at ahead new size bytes block same there rest le is s =
+    let r : Reads (LengthBytes old.order encoding) size old ahead =
+    subst (λ (a : At). Reads (LengthBytes a.order encoding) size a ahead) same there in
     let count : length block ≡ size = ap length is ∙ length-take-le size bytes le in
     let joined : ahead.rest ≡ block ++ new.rest =
     sym rest
@@ -99,9 +99,9 @@ reads_block prefix old at ahead new size bytes block same there rest le is s =
       spelling = r.spelling ++ block;
       spelled =
           record {
-            front = r.spelling;
+            prefix = r.spelling;
             back = block;
-            first = subst (λ (n : ℕ). LengthBytes old.order prefix n r.spelling) (sym count) r.spelled;
+            first = subst (λ (n : ℕ). LengthBytes old.order encoding n r.spelling) (sym count) r.spelled;
             second = refl;
             joined = refl;
           };

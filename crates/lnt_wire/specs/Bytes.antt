@@ -13,11 +13,11 @@ pub record TakenBytes (count : ℕ) (taken bytes : List ℕ) : Type 0 where
 
 -- The bytes are a prefix of the first kind, followed by a rest of the second kind.
 pub record Then (First Second : List ℕ → Type 0) (bytes : List ℕ) : Type 0 where
-  pub front : List ℕ
+  pub prefix : List ℕ
   pub back : List ℕ
-  pub first : First front
+  pub first : First prefix
   pub second : Second back
-  pub joined : bytes ≡ front ++ back
+  pub joined : bytes ≡ prefix ++ back
 
 infixr 30 ◌⨾◌
 abbrev pub ◌⨾◌ : (List ℕ → Type 0) → (List ℕ → Type 0) → List ℕ → Type 0

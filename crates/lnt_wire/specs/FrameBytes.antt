@@ -42,5 +42,5 @@ pub record IsPlacedFrame (order : Order) (frame : Frame) : Type 0 where
 abbrev pub FramesFrom : Order → ℕ → List Frame → List ℕ → Type 0
 FramesFrom order offset [] bytes = bytes ≡ []
 FramesFrom order offset (frame ∷ frames) bytes =
-    (front : List ℕ) × (back : List ℕ) × (bytes ≡ front ++ back)
-    × (frame.offset ≡ offset) × IsFrame order frame front × FramesFrom order (offset + length front) frames back
+    (prefix : List ℕ) × (back : List ℕ) × (bytes ≡ prefix ++ back)
+    × (frame.offset ≡ offset) × IsFrame order frame prefix × FramesFrom order (offset + length prefix) frames back

@@ -17,8 +17,8 @@ EndsBy at (Some fault) = (0 < length at.rest) × Refuses (IsFrameFault at.order)
 -- The bytes of the frames one after another are a prefix of the section, from offset 0 on, and after it the section ends as
 -- the fault says. So they are all frames of the section, or all before the first fault.
 pub record AreFrames (order : Order) (bytes : List ℕ) (frames : List Frame) (fault : Option Fault) : Type 0 where
-  pub front : List ℕ
+  pub prefix : List ℕ
   pub rest : List ℕ
-  pub whole : bytes ≡ front ++ rest
-  pub joined : FramesFrom order 0 frames front
-  pub ends : EndsBy (record { place = length front; rest = rest; order = order }) fault
+  pub whole : bytes ≡ prefix ++ rest
+  pub joined : FramesFrom order 0 frames prefix
+  pub ends : EndsBy (record { place = length prefix; rest = rest; order = order }) fault

@@ -13,7 +13,7 @@ pub mod InitialLength
 pub mod Laws
 pub mod Leb128
 pub mod Numbers
-pub mod Prefixes
+pub mod BlockLengths
 pub mod Reading
 pub mod ShortLebs
 pub mod Skipping

@@ -104,8 +104,8 @@ impl<'a> Cursor<'a> {
                 reason: Reason::Truncated,
             });
         }
-        let (front, _) = rest.split_at(n);
+        let (prefix, _) = rest.split_at(n);
         self.skip(n);
-        Ok(front)
+        Ok(prefix)
     }
 }

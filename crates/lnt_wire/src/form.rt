@@ -145,7 +145,7 @@ impl FormValue {
 
 // How the length of a block is encoded: as an unsigned LEB128 number, or in 1, 2 or 4 bytes.
 #[derive(Clone, Copy)]
-pub(crate) enum Prefix {
+pub(crate) enum BlockLength {
     Leb,
     One,
     Two,

@@ -6,10 +6,10 @@ ghost use Rattle.lnt_wire.specs.Bytes.{Appends, Extends};
 ghost use Rattle.lnt_wire.specs.FaultTexts.{encode_fault_text};
 ghost use Rattle.lnt_wire.specs.FormBytes.{BlockBytes, FormBytes, HasNoZero, HasSpelling, IsTooLarge, TextBytes};
 ghost use Rattle.lnt_wire.specs.Leb128.{UnsignedLeb, SignedLeb};
-ghost use Rattle.lnt_wire.specs.Prefixes.{BlockLengthFits, LengthBytes};
+ghost use Rattle.lnt_wire.specs.BlockLengths.{BlockLengthFits, LengthBytes};
 ghost use Rattle.lnt_wire.specs.Numbers.{NumberBytes, OffsetBytes, IsLargeOffset};
 
-use crate::form::{FormValue, Prefix};
+use crate::form::{BlockLength, FormValue};
 use crate::format::{Format, Order};
 use byteorder::{BigEndian, ByteOrder, LittleEndian};
 use std::alloc::{AllocError, AllocFailed};
@@ -270,10 +270,10 @@ fn add_wide(out: &mut Vec<u8>, value: &FormValue, order: Order) -> Result<(), Al
         FormValue::Data4(n) => put_u32(out, *n, order),
         FormValue::Data8(n) => put_u64(out, *n, order),
         FormValue::Data16(bytes) => out.extend_from_slice(bytes),
-        FormValue::Block(block) => add_block(out, block.as_slice(), Prefix::Leb, order),
-        FormValue::Block1(block) => add_block(out, block.as_slice(), Prefix::One, order),
-        FormValue::Block2(block) => add_block(out, block.as_slice(), Prefix::Two, order),
-        FormValue::Block4(block) => add_block(out, block.as_slice(), Prefix::Four, order),
+        FormValue::Block(block) => add_block(out, block.as_slice(), BlockLength::Leb, order),
+        FormValue::Block1(block) => add_block(out, block.as_slice(), BlockLength::One, order),
+        FormValue::Block2(block) => add_block(out, block.as_slice(), BlockLength::Two, order),
+        FormValue::Block4(block) => add_block(out, block.as_slice(), BlockLength::Four, order),
     }
 }
 
@@ -291,15 +291,15 @@ fn add_text(out: &mut Vec<u8>, text: &[u8]) -> Result<(), AllocError>
 fn add_block(
     out: &mut Vec<u8>,
     block: &[u8],
-    prefix: Prefix,
+    encoding: BlockLength,
     order: Order,
 ) -> Result<(), AllocError>
-    requires { BlockLengthFits prefix (length block.now) }
+    requires { BlockLengthFits encoding (length block.now) }
     ensures ok { OnOk result
-        (Appends (BlockBytes (LengthBytes order prefix)) block.now out.old.items out.new.items) }
+        (Appends (BlockBytes (LengthBytes order encoding)) block.now out.old.items out.new.items) }
     ensures extends { OnErr result (Extends out.old.items out.new.items) }
 {
-    add_length(out, block.len(), prefix, order)?;
+    add_length(out, block.len(), encoding, order)?;
     out.extend_from_slice(block)
 }
 
@@ -307,17 +307,17 @@ fn add_block(
 fn add_length(
     out: &mut Vec<u8>,
     length: usize,
-    prefix: Prefix,
+    encoding: BlockLength,
     order: Order,
 ) -> Result<(), AllocError>
-    requires { BlockLengthFits prefix length }
-    ensures ok { OnOk result (Appends (LengthBytes order prefix) length out.old.items out.new.items) }
+    requires { BlockLengthFits encoding length }
+    ensures ok { OnOk result (Appends (LengthBytes order encoding) length out.old.items out.new.items) }
     ensures unchanged { OnErr result (out.new.items ≡ out.old.items) }
 {
-    match prefix {
-        Prefix::Leb => append_uleb(out, length as u64),
-        Prefix::One => Ok(out.push(length as u8)?),
-        Prefix::Two => put_u16(out, length as u16, order),
-        Prefix::Four => put_u32(out, length as u32, order),
+    match encoding {
+        BlockLength::Leb => append_uleb(out, length as u64),
+        BlockLength::One => Ok(out.push(length as u8)?),
+        BlockLength::Two => put_u16(out, length as u16, order),
+        BlockLength::Four => put_u32(out, length as u32, order),
     }
 }

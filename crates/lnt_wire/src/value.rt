@@ -5,12 +5,12 @@ ghost use Rattle.lnt_wire.specs.Bytes.{TakenBytes};
 ghost use Rattle.lnt_wire.specs.declared.format.Format.{Format};
 ghost use Rattle.lnt_wire.specs.FormBytes.{TextBytes, BlockBytes, ValueBytes};
 ghost use Rattle.lnt_wire.specs.FormFaults.{IsCutText, IsValueFault};
-ghost use Rattle.lnt_wire.specs.Prefixes.{LengthBytes, IsLengthFault, IsPrefixedFault, block_form};
+ghost use Rattle.lnt_wire.specs.BlockLengths.{LengthBytes, IsLengthFault, IsBlockValueFault, block_form};
 ghost use Rattle.lnt_wire.specs.Reading.{Reads, RefusesField, RefusesFieldOr, IsCutShort};
 
 use crate::cursor::Cursor;
 use crate::fault::{Fault, Reason};
-use crate::form::{Form, FormValue, Prefix};
+use crate::form::{BlockLength, Form, FormValue};
 use crate::format::Format;
 use crate::strings::text_size;
 use crate::view::{ValueView, owned};
@@ -37,10 +37,10 @@ impl<'a> Cursor<'a> {
             Form::Data8 => Ok(ValueView::Data8(self.u64()?)),
             Form::Data16 => Ok(ValueView::Data16(self.data16()?)),
             Form::Text => Ok(ValueView::Text(self.text()?)),
-            Form::Block => self.prefixed(Prefix::Leb),
-            Form::Block1 => self.prefixed(Prefix::One),
-            Form::Block2 => self.prefixed(Prefix::Two),
-            Form::Block4 => self.prefixed(Prefix::Four),
+            Form::Block => self.block_value(BlockLength::Leb),
+            Form::Block1 => self.block_value(BlockLength::One),
+            Form::Block2 => self.block_value(BlockLength::Two),
+            Form::Block4 => self.block_value(BlockLength::Four),
             Form::Strp => Ok(ValueView::Strp(self.offset(format)?)),
             Form::LineStrp => Ok(ValueView::LineStrp(self.offset(format)?)),
             Form::Udata => Ok(ValueView::Udata(self.uleb()?)),
@@ -106,34 +106,34 @@ impl<'a> Cursor<'a> {
     // The next block as a value, in the form whose lengths are encoded as `prefix` says. Such a form is the same in both
     // formats. Fails as `block` does.
     #[inline(always)]
-    fn prefixed(&mut self, prefix: Prefix) -> Result<ValueView<'a>, Fault>
+    fn block_value(&mut self, encoding: BlockLength) -> Result<ValueView<'a>, Fault>
         ensures ok { IfOk result (λ v. (format : Format) →
-            Reads (ValueBytes format self.old.order (block_form prefix)) (value_of v) self.old self.new) }
+            Reads (ValueBytes format self.old.order (block_form encoding)) (value_of v) self.old self.new) }
         ensures err { IfErr result (λ fault.
-            RefusesField (IsPrefixedFault self.old.order prefix) (BlockBytes (LengthBytes self.old.order prefix)) self.old fault) }
+            RefusesField (IsBlockValueFault self.old.order encoding) (BlockBytes (LengthBytes self.old.order encoding)) self.old fault) }
         ensures unchanged { OnErr result (self.new ≡ self.old) }
     {
-        let block = self.block(prefix)?;
-        match prefix {
-            Prefix::Leb => Ok(ValueView::Block(block)),
-            Prefix::One => Ok(ValueView::Block1(block)),
-            Prefix::Two => Ok(ValueView::Block2(block)),
-            Prefix::Four => Ok(ValueView::Block4(block)),
+        let block = self.block(encoding)?;
+        match encoding {
+            BlockLength::Leb => Ok(ValueView::Block(block)),
+            BlockLength::One => Ok(ValueView::Block1(block)),
+            BlockLength::Two => Ok(ValueView::Block2(block)),
+            BlockLength::Four => Ok(ValueView::Block4(block)),
         }
     }
 
     // The bytes of the next block, whose length is encoded as `prefix` says. Fails with `Truncated` if the length is truncated
     // or counts more bytes than follow it, and with `LebTooLarge`. The place of each is the length's first byte.
     #[inline(never)]
-    fn block(&mut self, prefix: Prefix) -> Result<&'a [u8], Fault>
-        ensures ok { IfOk result (λ v. Reads (BlockBytes (LengthBytes self.old.order prefix)) v.now self.old self.new) }
+    fn block(&mut self, encoding: BlockLength) -> Result<&'a [u8], Fault>
+        ensures ok { IfOk result (λ v. Reads (BlockBytes (LengthBytes self.old.order encoding)) v.now self.old self.new) }
         ensures err { IfErr result (λ fault.
-            RefusesField (IsPrefixedFault self.old.order prefix) (BlockBytes (LengthBytes self.old.order prefix)) self.old fault) }
+            RefusesField (IsBlockValueFault self.old.order encoding) (BlockBytes (LengthBytes self.old.order encoding)) self.old fault) }
         ensures unchanged { OnErr result (self.new ≡ self.old) }
     {
         let place = self.place();
         let mut ahead = self.fork();
-        let size = ahead.length(prefix)?;
+        let size = ahead.length(encoding)?;
         let bytes = ahead.rest();
         if size > bytes.len() as u64 {
             return Err(Fault {
@@ -148,17 +148,17 @@ impl<'a> Cursor<'a> {
     }
 
     // The next length of a block, encoded as `prefix` says.
-    fn length(&mut self, prefix: Prefix) -> Result<u64, Fault>
-        ensures ok { IfOk result (λ v. Reads (LengthBytes self.old.order prefix) v self.old self.new) }
+    fn length(&mut self, encoding: BlockLength) -> Result<u64, Fault>
+        ensures ok { IfOk result (λ v. Reads (LengthBytes self.old.order encoding) v self.old self.new) }
         ensures err { IfErr result (λ fault.
-            RefusesField (IsLengthFault prefix) (LengthBytes self.old.order prefix) self.old fault) }
+            RefusesField (IsLengthFault encoding) (LengthBytes self.old.order encoding) self.old fault) }
         ensures unchanged { OnErr result (self.new ≡ self.old) }
     {
-        match prefix {
-            Prefix::Leb => self.uleb(),
-            Prefix::One => Ok(u64::from(self.u8()?)),
-            Prefix::Two => Ok(u64::from(self.u16()?)),
-            Prefix::Four => Ok(u64::from(self.u32()?)),
+        match encoding {
+            BlockLength::Leb => self.uleb(),
+            BlockLength::One => Ok(u64::from(self.u8()?)),
+            BlockLength::Two => Ok(u64::from(self.u16()?)),
+            BlockLength::Four => Ok(u64::from(self.u32()?)),
         }
     }
 }

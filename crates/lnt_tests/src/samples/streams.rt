@@ -70,8 +70,8 @@ impl Read for Pieces<'_> {
         }
         self.sound -= 1;
         let count = self.piece.min(buf.len()).min(self.bytes.len());
-        let (front, rest) = self.bytes.split_at(count);
-        buf[..count].copy_from_slice(front);
+        let (prefix, rest) = self.bytes.split_at(count);
+        buf[..count].copy_from_slice(prefix);
         self.bytes = rest;
         Ok(count)
     }

@@ -10,8 +10,8 @@ pub(crate) fn unit_of(alloc: Global, bytes: &[u8]) -> Option<Unit> {
 }
 
 // The bytes of the one, and after them those of the other, if there is enough memory.
-pub(crate) fn joined(alloc: Global, front: &[u8], back: &[u8]) -> Option<Vec<u8>> {
-    let mut bytes = Vec::from_slice(alloc, front).ok()?;
+pub(crate) fn joined(alloc: Global, prefix: &[u8], back: &[u8]) -> Option<Vec<u8>> {
+    let mut bytes = Vec::from_slice(alloc, prefix).ok()?;
     bytes.extend_from_slice(back).ok()?;
     Some(bytes)
 }

@@ -1,9 +1,9 @@
 use Rattle.std.proofs.Common.{◌≡◌, ◌∙◌, ◌<◌, true, false, sym, length, rules, refl}
-use Rattle.lnt_io.proofs.FrontLaws.{so_stopped}
+use Rattle.lnt_io.proofs.PrefixLaws.{so_stopped}
 use Rattle.lnt_io.specs.Pulling.{IsAtEnd}
-use Rattle.lnt_answers.proofs.AddressLemmas.{is_empty, not_empty, pulls_front, text_begun, text_ended, text_ended_within}
+use Rattle.lnt_answers.proofs.AddressLemmas.{is_empty, not_empty, pulls_prefix, text_begun, text_ended, text_ended_within}
 use Rattle.lnt_answers.proofs.AddressLemmas.{text_kept, text_more, text_pulled}
-use Rattle.lnt_answers.proofs.AddressFronts.{last_stopped, text_kept_begun, text_stopped, text_unbegun}
+use Rattle.lnt_answers.proofs.AddressPrefixes.{last_stopped, text_kept_begun, text_stopped, text_unbegun}
 use Rattle.lnt_answers.proofs.addresses.print_addresses.Goals.{then-not-is_empty+in_ok-answer_line, else-not-is_empty}
 use Rattle.lnt_answers.proofs.addresses.print_addresses.Goals as goal
 
@@ -20,7 +20,7 @@ loop-count-init g c = record {
 pub loop-count-preserved : goal.loop-count-preserved
 loop-count-preserved g c =
     let block = rw (c.loop-count.invariant.same, c.loop-count.invariant.index) at c.in_ok-answer_block.ensures.told in
-    let pulls = pulls_front (g.T.Source.remaining c.loop-count.lines) (g.T.Source.remaining c.pull.new.self) c.in-Ok.count
+    let pulls = pulls_prefix (g.T.Source.remaining c.loop-count.lines) (g.T.Source.remaining c.pull.new.self) c.in-Ok.count
     c.loop-count.block.len c.pull.new.buf _ c.deref.result.now (search rules) c.deref.ensures.value c.in-Ok.ensures.bytes in
     record {
       failures = c.in-Ok.ensures.failures ∙ c.loop-count.invariant.failures;
@@ -69,7 +69,7 @@ returns-in_default-clause-begun g c = text_kept_begun c.loop-count.invariant.tol
 pub returns-in_err-answer_block-clause-begun : goal.returns-in_err-answer_block-clause-begun
 returns-in_err-answer_block-clause-begun g c =
     let begun = rw (c.loop-count.invariant.same, c.loop-count.invariant.index) at c.in_err-answer_block.ensures.stopped in
-    let pulls = pulls_front (g.T.Source.remaining c.loop-count.lines) (g.T.Source.remaining c.pull.new.self) c.in-Ok.count
+    let pulls = pulls_prefix (g.T.Source.remaining c.loop-count.lines) (g.T.Source.remaining c.pull.new.self) c.in-Ok.count
     c.loop-count.block.len c.pull.new.buf _ c.deref.result.now (search rules) c.deref.ensures.value c.in-Ok.ensures.bytes in
     so_stopped c.from_residual-in_err-answer_block.result _
     (text_stopped (g.T.Source.remaining c.pull.new.self) _ c.loop-count.invariant.told pulls begun)
@@ -77,7 +77,7 @@ returns-in_err-answer_block-clause-begun g c =
 pub returns-in_err-flush-clause-begun : goal.returns-in_err-flush-clause-begun
 returns-in_err-flush-clause-begun g c =
     let block = rw (c.loop-count.invariant.same, c.loop-count.invariant.index) at c.in_ok-answer_block.ensures.told in
-    let pulls = pulls_front (g.T.Source.remaining c.loop-count.lines) (g.T.Source.remaining c.pull.new.self) c.in-Ok.count
+    let pulls = pulls_prefix (g.T.Source.remaining c.loop-count.lines) (g.T.Source.remaining c.pull.new.self) c.in-Ok.count
     c.loop-count.block.len c.pull.new.buf _ c.deref.result.now (search rules) c.deref.ensures.value c.in-Ok.ensures.bytes in
     so_stopped c.from_residual-in_err-flush.result _
     (text_kept_begun (text_kept {new = g.W.Write.contents c.flush.new.self}

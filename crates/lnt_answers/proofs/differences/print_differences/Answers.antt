@@ -1,5 +1,5 @@
 use Rattle.std.proofs.Common.{◌∙◌, refl}
-use Rattle.lnt_io.proofs.FrontLaws.{so_stopped}
+use Rattle.lnt_io.proofs.PrefixLaws.{so_stopped}
 use Rattle.lnt_answers.proofs.ScopeLemmas.{all_printed, printed_more, printed_none, stopped_within}
 use Rattle.lnt_answers.proofs.StretchLemmas.{more_stretches}
 use Rattle.lnt_answers.proofs.differences.print_differences.Goals as goal
@@ -33,7 +33,7 @@ returns-in_err-print-clause-begun g c =
     stopped_within c.in-Some.difference printed
     (more_stretches g.S.SpanSource.to_come g.T.SpanSource.to_come c.next_difference.new.self f f' _
     (c.in-Some.ensures.told f f' printed.given printed.so))
-    c.is_some-is_answered.ensures (rw c.loop-difference.invariant.0 at c.in_err-print.ensures.front))
+    c.is_some-is_answered.ensures (rw c.loop-difference.invariant.0 at c.in_err-print.ensures.prefix))
 
 pub returns-clause-lines : goal.returns-clause-lines
 returns-clause-lines g c f f' h =

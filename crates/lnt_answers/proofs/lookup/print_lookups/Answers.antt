@@ -1,7 +1,7 @@
 use Rattle.std.proofs.Common.{[], ◌∙◌, get_or, refl, subst}
 use Rattle.std.specs.Io.KnownBytes.{Appends}
-use Rattle.lnt_io.proofs.FrontLaws.{front_in_items, front_none, front_same, so_stopped}
-use Rattle.lnt_answers.proofs.FileLemmas.{gained_all, gained_more}
+use Rattle.lnt_io.proofs.PrefixLaws.{prefix_in_items, prefix_none, prefix_same, so_stopped}
+use Rattle.lnt_answers.proofs.FileLemmas.{appended_all, appended_more}
 use Rattle.lnt_answers.proofs.RoomLaws.{text_in_room}
 use Rattle.lnt_spans.specs.declared.position.Position.{Position}
 use Rattle.lnt_answers.specs.Lines.{lookup_line}
@@ -17,7 +17,7 @@ loop-position-preserved g c =
       index = c.put_lookup.ensures.index ∙ c.loop-position.invariant.index;
       none = c.in_ok-send.ensures.empty;
       lines = λ dead skip units is.
-          gained_more (lookup_line c.args.index.now dead skip units) [] c.args.positions.now c.loop-position.position-index no_place
+          appended_more (lookup_line c.args.index.now dead skip units) [] c.args.positions.now c.loop-position.position-index no_place
           (g.W.Write.contents c.args.out.now) (g.W.Write.contents c.loop-position.out) (g.W.Write.contents c.send.new.out)
           c.loop-position-test.true (c.loop-position.invariant.lines dead skip units is)
           (subst (Appends (g.W.Write.contents c.loop-position.out) (g.W.Write.contents c.send.new.out))
@@ -26,28 +26,28 @@ loop-position-preserved g c =
           c.in_ok-send.ensures.whole);
     }
 
-pub returns-in_err-put_lookup-clause-front : goal.returns-in_err-put_lookup-clause-front
-returns-in_err-put_lookup-clause-front g c dead skip units is =
+pub returns-in_err-put_lookup-clause-prefix : goal.returns-in_err-put_lookup-clause-prefix
+returns-in_err-put_lookup-clause-prefix g c dead skip units is =
     so_stopped c.from_residual-in_err-put_lookup.result _
-    (front_in_items (lookup_line c.args.index.now dead skip units) [] c.args.positions.now c.loop-position.position-index no_place
+    (prefix_in_items (lookup_line c.args.index.now dead skip units) [] c.args.positions.now c.loop-position.position-index no_place
     (g.W.Write.contents c.args.out.now) (g.W.Write.contents c.loop-position.out) (g.W.Write.contents c.loop-position.out)
-    c.loop-position-test.true (c.loop-position.invariant.lines dead skip units is) (front_none (g.W.Write.contents c.loop-position.out)
+    c.loop-position-test.true (c.loop-position.invariant.lines dead skip units is) (prefix_none (g.W.Write.contents c.loop-position.out)
     (lookup_line c.args.index.now dead skip units (get_or c.args.positions.now c.loop-position.position-index no_place))))
 
-pub returns-in_err-send-clause-front : goal.returns-in_err-send-clause-front
-returns-in_err-send-clause-front g c dead skip units is =
+pub returns-in_err-send-clause-prefix : goal.returns-in_err-send-clause-prefix
+returns-in_err-send-clause-prefix g c dead skip units is =
     let line = rw c.loop-position.invariant.index at c.in_ok-put_lookup.ensures.line in
     so_stopped c.from_residual-in_err-send.result _
-    (front_in_items (lookup_line c.args.index.now dead skip units) [] c.args.positions.now c.loop-position.position-index no_place
+    (prefix_in_items (lookup_line c.args.index.now dead skip units) [] c.args.positions.now c.loop-position.position-index no_place
     (g.W.Write.contents c.args.out.now) (g.W.Write.contents c.loop-position.out) (g.W.Write.contents c.send.new.out)
     c.loop-position-test.true (c.loop-position.invariant.lines dead skip units is)
-    (front_same (g.W.Write.contents c.loop-position.out) (g.W.Write.contents c.send.new.out) c.put_lookup.new.line.items _
+    (prefix_same (g.W.Write.contents c.loop-position.out) (g.W.Write.contents c.send.new.out) c.put_lookup.new.line.items _
     (text_in_room c.loop-position.line.items c.put_lookup.new.line.items c.put_lookup.new.line.items _
     c.loop-position.invariant.none (line dead skip units is) refl)
-    c.in_err-send.ensures.front))
+    c.in_err-send.ensures.prefix))
 
 pub returns-clause-lines : goal.returns-clause-lines
 returns-clause-lines g c dead skip units is =
-    gained_all (lookup_line c.args.index.now dead skip units) [] c.args.positions.now c.loop-position.position-index
+    appended_all (lookup_line c.args.index.now dead skip units) [] c.args.positions.now c.loop-position.position-index
     (g.W.Write.contents c.args.out.now) (g.W.Write.contents c.loop-position.out) c.loop-position-test.false
     (c.loop-position.invariant.lines dead skip units is)

@@ -1,8 +1,8 @@
 use Rattle.std.proofs.Common.{ℕ, Option, subst, sym}
 use Rattle.std.specs.Io.KnownBytes.{Appends}
 use Rattle.std.proofs.KnownBytes.{Appends-nil}
-use Rattle.lnt_io.specs.Fronts.{AppendsFront}
-use Rattle.lnt_io.proofs.FrontLaws.{so_stopped}
+use Rattle.lnt_io.specs.Prefixes.{AppendsPrefix}
+use Rattle.lnt_io.proofs.PrefixLaws.{so_stopped}
 use Rattle.lnt_spans.specs.Counts.{addresses_answered}
 use Rattle.lnt_sequences.specs.Sequences.{line_answer}
 use Rattle.lnt_table.specs.declared.within.CheckedWithin.{CheckedWithin}
@@ -23,10 +23,10 @@ returns-clause-text g c dead skip units is =
     (subst (λ (checked : CheckedWithin). Appends (g.W.Write.contents c.args.out.now) (g.W.Write.contents c.print_line.new.out)
     (checked_line checked)) (c.answer_if_none.ensures dead skip units is) c.in_ok-print_line.ensures.line)
 
-pub returns-in_err-print_line-clause-front : goal.returns-in_err-print_line-clause-front
-returns-in_err-print_line-clause-front g c dead skip units is =
+pub returns-in_err-print_line-clause-prefix : goal.returns-in_err-print_line-clause-prefix
+returns-in_err-print_line-clause-prefix g c dead skip units is =
     so_stopped c.from_residual.result _
-    (subst (λ (missed : Option ℕ). AppendsFront (g.W.Write.contents c.args.out.now) (g.W.Write.contents c.print_line.new.out)
+    (subst (λ (missed : Option ℕ). AppendsPrefix (g.W.Write.contents c.args.out.now) (g.W.Write.contents c.print_line.new.out)
     (end_text c.args.scope (addresses_answered (line_answer dead skip units)) missed)) (sym c.in-Some.is)
-    (subst (λ (checked : CheckedWithin). AppendsFront (g.W.Write.contents c.args.out.now) (g.W.Write.contents c.print_line.new.out)
-    (checked_line checked)) (c.answer_if_none.ensures dead skip units is) c.in_err-print_line.ensures.front))
+    (subst (λ (checked : CheckedWithin). AppendsPrefix (g.W.Write.contents c.args.out.now) (g.W.Write.contents c.print_line.new.out)
+    (checked_line checked)) (c.answer_if_none.ensures dead skip units is) c.in_err-print_line.ensures.prefix))

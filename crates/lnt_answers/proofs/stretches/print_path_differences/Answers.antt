@@ -1,5 +1,5 @@
 use Rattle.std.proofs.Common.{◌∙◌}
-use Rattle.lnt_io.proofs.FrontLaws.{so_stopped}
+use Rattle.lnt_io.proofs.PrefixLaws.{so_stopped}
 use Rattle.lnt_paths.specs.PathStretches.{stretches_of}
 use Rattle.lnt_paths.proofs.CompletionLaws.{path_stretches_on}
 use Rattle.lnt_answers.proofs.PathStretchLemmas.{answered_so}
@@ -46,7 +46,7 @@ returns-in_err-printed-clause-begun g c =
     stopped_within c.in-Some.difference printed
     (path_stretches_on g.S.SpanSource.to_come (g.P.Paths.bytes_of c.args.paths.now) c.next_difference.new.self f f' _ told)
     (answered_so c.in-Some.difference c.is_some-is_answered.result c.is_some-is_answered.ensures)
-    (rw c.loop-lines.invariant.0 at c.in_err-printed.ensures.front))
+    (rw c.loop-lines.invariant.0 at c.in_err-printed.ensures.prefix))
 
 pub returns-clause-lines : goal.returns-clause-lines
 returns-clause-lines g c f f' h =

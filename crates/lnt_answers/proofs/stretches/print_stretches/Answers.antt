@@ -1,4 +1,4 @@
-use Rattle.lnt_io.proofs.FrontLaws.{so_stopped}
+use Rattle.lnt_io.proofs.PrefixLaws.{so_stopped}
 use Rattle.std.proofs.Common.{inr}
 use Rattle.lnt_answers.proofs.PathStretchLemmas.{for_path_units}
 use Rattle.lnt_answers.proofs.ScopeLemmas.{end_begun, end_told}
@@ -36,7 +36,7 @@ returns-in_err-status-in-Ok-Numbered-Table-clause-begun g c =
     numbered_begun _ c.args.index.now dead skip units _ _ _ _ _ c.in-Ok-Numbered-Table.differences-is
     (rw (c.in-Ok-Numbered-Table.field-0-is, c.in-Ok-Numbered-Table.field-0-0-is) at (c.in-Ok-Numbered-Table.ensures.ok dead skip units is))
     (λ f f' h all. end_begun (c.in_ok-missed-in-Ok-Numbered-Table.ensures.lines f f' h) all
-    (c.in_err-status-in-Ok-Numbered-Table.ensures.front dead skip units is))))
+    (c.in_err-status-in-Ok-Numbered-Table.ensures.prefix dead skip units is))))
 
 pub returns-in_err-missed-in-Ok-ByPath-Table-clause-begun : goal.returns-in_err-missed-in-Ok-ByPath-Table-clause-begun
 returns-in_err-missed-in-Ok-ByPath-Table-clause-begun g c =
@@ -57,7 +57,7 @@ returns-in_err-status-in-Ok-ByPath-Table-clause-begun g c =
     (rw (c.in-Ok-ByPath-Table.field-0-is, c.in-Ok-ByPath-Table.field-0-0-is) at c.in-Ok-ByPath-Table.ensures.started)
     (c.differences_by_path-differences.ensures.told dead skip units is)
     (λ f f' h all. end_begun (c.in_ok-missed-in-Ok-ByPath-Table.ensures.lines f f' h) all
-    (c.in_err-status-in-Ok-ByPath-Table.ensures.front dead skip units is))))
+    (c.in_err-status-in-Ok-ByPath-Table.ensures.prefix dead skip units is))))
 
 pub returns-in_err-print_fault-in-Ok-Numbered-Fault-clause-begun : goal.returns-in_err-print_fault-in-Ok-Numbered-Fault-clause-begun
 returns-in_err-print_fault-in-Ok-Numbered-Fault-clause-begun g c =
@@ -65,7 +65,7 @@ returns-in_err-print_fault-in-Ok-Numbered-Fault-clause-begun g c =
     (inr (λ dead skip units is.
     fault_begun _ c.args.index.now dead skip units _ _ c.in-Ok-Numbered-Fault.fault
     (rw (c.in-Ok-Numbered-Fault.field-0-is, c.in-Ok-Numbered-Fault.field-0-0-is) at (c.in-Ok-Numbered-Fault.ensures.ok dead skip units is))
-    c.in_err-print_fault-in-Ok-Numbered-Fault.ensures.front))
+    c.in_err-print_fault-in-Ok-Numbered-Fault.ensures.prefix))
 
 pub returns-in_err-print_fault-in-Ok-ByPath-Fault-clause-begun : goal.returns-in_err-print_fault-in-Ok-ByPath-Fault-clause-begun
 returns-in_err-print_fault-in-Ok-ByPath-Fault-clause-begun g c =
@@ -73,4 +73,4 @@ returns-in_err-print_fault-in-Ok-ByPath-Fault-clause-begun g c =
     (inr (λ dead skip units is.
     path_fault_begun _ c.args.index.now dead skip units _ c.in-Ok-ByPath-Fault.fault
     (rw (c.in-Ok-ByPath-Fault.field-0-is, c.in-Ok-ByPath-Fault.field-0-0-is) at (c.in-Ok-ByPath-Fault.ensures.ok dead skip units is))
-    c.in_err-print_fault-in-Ok-ByPath-Fault.ensures.front))
+    c.in_err-print_fault-in-Ok-ByPath-Fault.ensures.prefix))

@@ -1,8 +1,8 @@
 use Rattle.std.proofs.Common.{rules, subst}
 use Rattle.std.specs.Io.KnownBytes.{Appends}
-use Rattle.lnt_io.proofs.FrontLaws.{so_stopped}
+use Rattle.lnt_io.proofs.PrefixLaws.{so_stopped}
 use Rattle.lnt_answers.proofs.RoomLaws.{text_in_room}
-use Rattle.lnt_answers.proofs.SumFronts.{sum_stopped, sums_unbegun}
+use Rattle.lnt_answers.proofs.SumPrefixes.{sum_stopped, sums_unbegun}
 use Rattle.lnt_answers.proofs.SumLemmas.{sum_listed}
 use Rattle.lnt_answers.specs.SumLines.{listed_at}
 use Rattle.lnt_answers.proofs.sums.print_sum.Goals as goal
@@ -27,7 +27,7 @@ returns-in_err-write_whole-clause-begun g c =
     c.found_of-found.result (search rules) (search rules) (search rules) c.found_of-found.ensures.found
     (text_in_room c.clear.new.self.items c.put_found.new.line.items c.as_slice.result.now _ c.clear.ensures.items c.in_ok-put_found.ensures
     c.as_slice.ensures.value)
-    c.in_err-write_whole.ensures.front)
+    c.in_err-write_whole.ensures.prefix)
 
 pub returns-clause-sum : goal.returns-clause-sum
 returns-clause-sum g c =

@@ -1,6 +1,6 @@
 use Rattle.std.proofs.Common.{rules}
-use Rattle.lnt_io.proofs.FrontLaws.{so_stopped}
-use Rattle.lnt_answers.proofs.SumFronts.{units_stopped}
+use Rattle.lnt_io.proofs.PrefixLaws.{so_stopped}
+use Rattle.lnt_answers.proofs.SumPrefixes.{units_stopped}
 use Rattle.lnt_answers.proofs.SumLemmas.{sums_of_all, sums_of_more}
 use Rattle.lnt_answers.proofs.sums.print_sums.Goals as goal
 

@@ -1,7 +1,7 @@
 use Rattle.std.proofs.Common.{arith}
-use Rattle.lnt_io.proofs.FrontLaws.{so_stopped}
+use Rattle.lnt_io.proofs.PrefixLaws.{so_stopped}
 use Rattle.lnt_lines.specs.Indexed.{file_count_in}
-use Rattle.lnt_answers.proofs.SumFronts.{sums_stopped}
+use Rattle.lnt_answers.proofs.SumPrefixes.{sums_stopped}
 use Rattle.lnt_answers.proofs.SumLemmas.{sums_more}
 use Rattle.lnt_answers.proofs.sums.print_unit_sums.Goals as goal
 

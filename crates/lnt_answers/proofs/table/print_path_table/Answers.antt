@@ -1,5 +1,5 @@
 use Rattle.std.proofs.Common.{rules}
-use Rattle.lnt_io.proofs.FrontLaws.{front_since, so_stopped}
+use Rattle.lnt_io.proofs.PrefixLaws.{prefix_since, so_stopped}
 use Rattle.lnt_answers.specs.PathTables.{operation_line}
 use Rattle.lnt_answers.proofs.PathTableLemmas.{line_begun, table_begun}
 use Rattle.lnt_answers.proofs.table.print_path_table.Goals as goal
@@ -13,9 +13,9 @@ returns-in_err-print_operation-in-Ok-OperationIndex-clause-begun g c =
     let none = rw c.in-Ok-OperationIndex.field-0-is at c.in-Ok-OperationIndex.ensures.table dead skip units is in
     line_begun c.args.version (told_path c.args.version c.args.index.now dead skip units) position (g.W.Write.contents c.args.out.now)
     (g.W.Write.contents c.print_operation.new.out) none.1
-    (front_since (g.W.Write.contents c.args.out.now) (g.W.Write.contents c.write_paths.new.out)
+    (prefix_since (g.W.Write.contents c.args.out.now) (g.W.Write.contents c.write_paths.new.out)
     (g.W.Write.contents c.print_operation.new.out) (operation_line position) none.0
-    c.in_err-print_operation-in-Ok-OperationIndex.ensures.front))
+    c.in_err-print_operation-in-Ok-OperationIndex.ensures.prefix))
 
 pub returns-in-Err-clause-begun : goal.returns-in-Err-clause-begun
 returns-in-Err-clause-begun g c dead skip units is =

@@ -9,4 +9,4 @@ returns-in_err-index-clause-stopped g c =
     let new = g.W.Write.contents c.judge.new.out in
     begins_bad c.args.files.now.texts c.args.from.now (g.S.Source.remaining c.args.files.now.section)
     (BeginsJudged (BeginsGoodFile c.args.question (options_in c.args.from.now) (g.F.Source.remaining c.args.files.now.file)) old new) old
-    new c.from_residual.result (λ reason front. front) c.in_err-index.ensures.stopped
+    new c.from_residual.result (λ reason prefix. prefix) c.in_err-index.ensures.stopped

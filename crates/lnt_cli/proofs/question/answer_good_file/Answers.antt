@@ -1,4 +1,4 @@
-use Rattle.lnt_io.proofs.FrontLaws.{so_stopped}
+use Rattle.lnt_io.proofs.PrefixLaws.{so_stopped}
 use Rattle.lnt_cli.proofs.StopLemmas.{places_stopped}
 use Rattle.lnt_cli.proofs.question.answer_good_file.Goals as goal
 

@@ -9,4 +9,4 @@ returns-in_err-index-clause-stopped g c =
     let new = g.W.Write.contents c.judge.new.out in
     begins_bad c.args.files.now.texts c.args.from.now (g.S.Source.remaining c.args.files.now.section)
     (BeginsJudged (BeginsGood (g.O.Opener.tells c.args.opener.now) (options_in c.args.from.now) c.args.question.now) old new)
-    old new c.from_residual-in_err-index.result (λ reason front. front) c.in_err-index.ensures.stopped
+    old new c.from_residual-in_err-index.result (λ reason prefix. prefix) c.in_err-index.ensures.stopped

@@ -1,5 +1,5 @@
 use Rattle.std.proofs.Common.{ap, rules}
-use Rattle.lnt_io.proofs.FrontLaws.{so_stopped}
+use Rattle.lnt_io.proofs.PrefixLaws.{so_stopped}
 use Rattle.lnt_dump.proofs.Frames.{next_framed}
 use Rattle.lnt_dump.proofs.Dumps.{units_broken, units_cut, units_end, units_fault_cut, units_faulty, units_more, units_none}
 use Rattle.lnt_dump.proofs.Dumps.{units_stay}
@@ -23,7 +23,7 @@ returns-in-Fault-clause-told g c =
 pub returns-in-Fault-clause-begun : goal.returns-in-Fault-clause-begun
 returns-in-Fault-clause-begun g c =
     units_fault_cut c.loop-page.invariant.told (g.W.Write.contents c.print_fault.new.out) c.in-Fault.fault c.print_fault.result (rw
-    c.in-Fault.is at c.in_ok-unit.ensures.next) c.print_fault.ensures.front
+    c.in-Fault.is at c.in_ok-unit.ensures.next) c.print_fault.ensures.prefix
 
 pub returns-in-End-clause-told : goal.returns-in-End-clause-told
 returns-in-End-clause-told g c =

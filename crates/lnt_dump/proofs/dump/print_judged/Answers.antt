@@ -1,4 +1,4 @@
-use Rattle.lnt_io.proofs.FrontLaws.{so_stopped}
+use Rattle.lnt_io.proofs.PrefixLaws.{so_stopped}
 use Rattle.std.proofs.Common.{inr, refl}
 use Rattle.lnt_dump.proofs.Dumps.{faulty_begun, faulty_told, valid_so}
 use Rattle.lnt_dump.proofs.dump.print_judged.Goals as goal
@@ -6,7 +6,7 @@ use Rattle.lnt_dump.proofs.dump.print_judged.Goals as goal
 pub returns-in_err-print_valid-in-Ok-clause-begun : goal.returns-in_err-print_valid-in-Ok-clause-begun
 returns-in_err-print_valid-in-Ok-clause-begun g c =
     so_stopped c.from_residual.result _
-    (inr (valid_so c.args.unit.now c.in-Ok.ensures.ok c.in_err-print_valid-in-Ok.ensures.front))
+    (inr (valid_so c.args.unit.now c.in-Ok.ensures.ok c.in_err-print_valid-in-Ok.ensures.prefix))
 
 pub returns-in_ok-print_valid-in-Ok-clause-told : goal.returns-in_ok-print_valid-in-Ok-clause-told
 returns-in_ok-print_valid-in-Ok-clause-told g c =
@@ -19,4 +19,4 @@ returns-in-Err-clause-told g c =
 
 pub returns-in-Err-clause-begun : goal.returns-in-Err-clause-begun
 returns-in-Err-clause-begun g c =
-    faulty_begun _ _ _ _ _ c.in-Err.fault c.print_unit_fault.result c.requires c.in-Err.ensures.err c.print_unit_fault.ensures.front
+    faulty_begun _ _ _ _ _ c.in-Err.fault c.print_unit_fault.result c.requires c.in-Err.ensures.err c.print_unit_fault.ensures.prefix

@@ -8,4 +8,4 @@ returns-in-Err-clause-told g c =
 
 pub returns-in-Err-clause-begun : goal.returns-in-Err-clause-begun
 returns-in-Err-clause-begun g c =
-    broken_begun _ _ _ _ _ c.in-Err.fault c.in-Err.ensures.err c.print_fault.result c.print_fault.ensures.kept c.print_fault.ensures.front
+    broken_begun _ _ _ _ _ c.in-Err.fault c.in-Err.ensures.err c.print_fault.result c.print_fault.ensures.kept c.print_fault.ensures.prefix

@@ -1,5 +1,5 @@
 use Rattle.std.proofs.Common.{◌+◌, ◌^◌, ◌<◌, arith, subst, sym}
-use Rattle.lnt_io.proofs.FrontLaws.{so_stopped}
+use Rattle.lnt_io.proofs.PrefixLaws.{so_stopped}
 use Rattle.lnt_ops.specs.Walks.{Walk}
 use Rattle.lnt_machine.proofs.RanLaws.{fails_op, gives_op}
 use Rattle.lnt_dump.proofs.UnitWalks.{OpsTold, ops_all, ops_cut, ops_more, ops_none}
@@ -20,11 +20,11 @@ unreachable-requires g c =
     let fails = fails_op c.in_default.is c.in-Some.ensures.steps in
     stands_fails (c.loop-op.invariant c.requires.0 c.requires.1).at fails
 
-pub returns-in_err-print_op-clause-front : goal.returns-in_err-print_op-clause-front
-returns-in_err-print_op-clause-front g c =
+pub returns-in_err-print_op-clause-prefix : goal.returns-in_err-print_op-clause-prefix
+returns-in_err-print_op-clause-prefix g c =
     let step = gives_op c.in-Ok.is c.in-Some.ensures.steps in
     so_stopped c.from_residual.result _
-    (λ ops is. ops_cut c.ops-op-items.ensures.is_header (c.loop-op.invariant ops is) step c.in_err-print_op.ensures.front)
+    (λ ops is. ops_cut c.ops-op-items.ensures.is_header (c.loop-op.invariant ops is) step c.in_err-print_op.ensures.prefix)
 
 pub overflow_add-index : goal.overflow_add-index
 overflow_add-index g c =

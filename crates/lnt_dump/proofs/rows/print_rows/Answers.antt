@@ -1,5 +1,5 @@
 use Rattle.std.proofs.Common.{◌∙◌, ◌+◌, ◌^◌, ◌<◌, arith, subst, sym}
-use Rattle.lnt_io.proofs.FrontLaws.{so_stopped}
+use Rattle.lnt_io.proofs.PrefixLaws.{so_stopped}
 use Rattle.lnt_ops.specs.Walks.{Walk}
 use Rattle.lnt_dump.proofs.RunWalks.{RowsTold, rows_all, rows_cut, rows_more, rows_none, rows_quiet, rows_room}
 use Rattle.lnt_dump.proofs.RunWalks.{running_allowed, running_in}
@@ -32,11 +32,11 @@ unreachable-requires-in_default-step g c =
     running_in c.ops-op-items.ensures.is_header (c.loop-op.invariant c.requires.0 c.requires.1).running step c.requires.2
     c.in_default-step.ensures.out_of_range c.in_default-step.ensures.fault
 
-pub returns-in_err-print_row-clause-front : goal.returns-in_err-print_row-clause-front
-returns-in_err-print_row-clause-front g c =
+pub returns-in_err-print_row-clause-prefix : goal.returns-in_err-print_row-clause-prefix
+returns-in_err-print_row-clause-prefix g c =
     let step = gives_op c.in-Ok.is c.in-Some.ensures.steps in
     so_stopped c.from_residual.result _ (λ ops is. rows_cut c.ops-op-items.ensures.is_header c.ops-op-items.ensures.is_view
-    (c.loop-op.invariant ops is) step c.in-Ok-step.ensures.ok c.in-Some-made.is c.in_err-print_row.ensures.front)
+    (c.loop-op.invariant ops is) step c.in-Ok-step.ensures.ok c.in-Some-made.is c.in_err-print_row.ensures.prefix)
 
 pub overflow_add-index : goal.overflow_add-index
 overflow_add-index g c =

@@ -1,6 +1,6 @@
 use Rattle.std.proofs.Common.{ap, rules}
-use Rattle.lnt_io.proofs.FrontLaws.{so_stopped}
-use Rattle.lnt_dump.proofs.FrameFronts.{fault_cut, units_cut, units_stopped}
+use Rattle.lnt_io.proofs.PrefixLaws.{so_stopped}
+use Rattle.lnt_dump.proofs.FramePrefixes.{fault_cut, units_cut, units_stopped}
 use Rattle.lnt_dump.proofs.Frames.{frames_faulty, frames_more, frames_none, next_framed}
 use Rattle.lnt_dump.proofs.units.print_units.Goals as goal
 
@@ -26,7 +26,7 @@ returns-in-Fault-clause-told g c =
 pub returns-in-Fault-clause-begun : goal.returns-in-Fault-clause-begun
 returns-in-Fault-clause-begun g c =
     fault_cut (g.W.Write.contents c.print_fault.new.out) c.in-Fault.fault c.print_fault.result c.loop-line.invariant.told (rw c.in-Fault.is
-    at c.in_ok-unit.ensures.next) c.print_fault.ensures.front
+    at c.in_ok-unit.ensures.next) c.print_fault.ensures.prefix
 
 pub returns-in_err-unit-clause-begun : goal.returns-in_err-unit-clause-begun
 returns-in_err-unit-clause-begun g c =
@@ -36,4 +36,4 @@ pub returns-in_err-print_frame-in-Unit-clause-begun : goal.returns-in_err-print_
 returns-in_err-print_frame-in-Unit-clause-begun g c =
     so_stopped c.from_residual-in_err-print_frame-in-Unit.result _ (units_cut c.in_ok-unit.ensures.order c.loop-line.invariant.told
     (next_framed c.in-Unit.is c.in_ok-unit.ensures.next c.frame.ensures.offset c.frame.ensures.bytes c.frame.ensures.placed)
-    c.in_err-print_frame-in-Unit.ensures.front)
+    c.in_err-print_frame-in-Unit.ensures.prefix)

@@ -1,6 +1,6 @@
 use Rattle.std.proofs.Common.{◌∙◌, sym, ap, arith, length}
 use Rattle.std.proofs.lemmas.Bool.{eqb-true}
-use Rattle.lnt_io.proofs.FrontLaws.{so_stopped}
+use Rattle.lnt_io.proofs.PrefixLaws.{so_stopped}
 use Rattle.lnt_dump.proofs.Anew.{anew_walk}
 use Rattle.lnt_dump.proofs.PagedWalks.{walk_cut, walk_last_cut, walk_printed, walk_stopped, walk_turned}
 use Rattle.lnt_dump.proofs.upgrade.print_anew.Goals as goal
@@ -9,19 +9,19 @@ pub loop-cursor-preserved : goal.loop-cursor-preserved
 loop-cursor-preserved g c =
     walk_turned (anew_walk _ _ _ _) c.loop-cursor.invariant c.in_ok-upgrade_next.ensures.ok c.in_ok-turn_full.ensures.ok
 
-pub returns-in_err-upgrade_next-clause-front : goal.returns-in_err-upgrade_next-clause-front
-returns-in_err-upgrade_next-clause-front g c =
+pub returns-in_err-upgrade_next-clause-prefix : goal.returns-in_err-upgrade_next-clause-prefix
+returns-in_err-upgrade_next-clause-prefix g c =
     so_stopped c.from_residual.result _ (walk_stopped (anew_walk _ _ _ _) c.loop-cursor.invariant)
 
-pub returns-in_err-turn_full-clause-front : goal.returns-in_err-turn_full-clause-front
-returns-in_err-turn_full-clause-front g c =
+pub returns-in_err-turn_full-clause-prefix : goal.returns-in_err-turn_full-clause-prefix
+returns-in_err-turn_full-clause-prefix g c =
     so_stopped c.from_residual-in_err-turn_full.result _
-    (walk_cut (anew_walk _ _ _ _) c.loop-cursor.invariant c.in_ok-upgrade_next.ensures.ok c.in_err-turn_full.ensures.front)
+    (walk_cut (anew_walk _ _ _ _) c.loop-cursor.invariant c.in_ok-upgrade_next.ensures.ok c.in_err-turn_full.ensures.prefix)
 
-pub returns-in_err-hand_on-clause-front : goal.returns-in_err-hand_on-clause-front
-returns-in_err-hand_on-clause-front g c =
+pub returns-in_err-hand_on-clause-prefix : goal.returns-in_err-hand_on-clause-prefix
+returns-in_err-hand_on-clause-prefix g c =
     so_stopped c.from_residual-in_err-hand_on.result _
-    (walk_last_cut (anew_walk _ _ _ _) c.loop-cursor.invariant c.in_err-hand_on.ensures.front)
+    (walk_last_cut (anew_walk _ _ _ _) c.loop-cursor.invariant c.in_err-hand_on.ensures.prefix)
 
 pub returns-clause-whole : goal.returns-clause-whole
 returns-clause-whole g c =

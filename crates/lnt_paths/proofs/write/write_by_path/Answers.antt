@@ -7,7 +7,7 @@ use Rattle.lnt_spans.specs.Instructions.{IsOfInstructions}
 use Rattle.lnt_paths.specs.Joining.{IsFirstOperation}
 use Rattle.lnt_paths.specs.PathAnswers.{PathAnswer, path_answer}
 use Rattle.lnt_paths.proofs.WriteLemmas.{keeps_same, lines_begun, operation_found, table_begun_none, table_written}
-use Rattle.lnt_io.proofs.FrontLaws.{so_stopped}
+use Rattle.lnt_io.proofs.PrefixLaws.{so_stopped}
 use Rattle.lnt_paths.proofs.write.write_by_path.Goals as goal
 
 pub returns-in-Some-clause-table : goal.returns-in-Some-clause-table

@@ -11,7 +11,7 @@ use Rattle.lnt_paths.specs.PathLines.{plain_told}
 use Rattle.lnt_paths.specs.PathTables.{path_column_names}
 use Rattle.lnt_records.specs.Written.{line_text}
 use Rattle.lnt_paths.proofs.LineLemmas.{header_text}
-use Rattle.lnt_io.proofs.FrontLaws.{so_stopped}
+use Rattle.lnt_io.proofs.PrefixLaws.{so_stopped}
 use Rattle.lnt_paths.proofs.write.write_lines.Goals as goal
 
 pub loop-block-init : goal.loop-block-init
@@ -64,12 +64,12 @@ returns-clause-begun g c =
     let tell : Answer → PathAnswer = path_answer c.args.version (g.P.Paths.bytes_of c.args.paths.now) in
     let inv = c.loop-block.invariant in
     on_err_weaker c.send.result
-    (λ front. (
+    (λ prefix. (
       inv.0,
-      sending_begun (plain_told tell) c.args.version _ _ _ _ inv.0 inv.1 front,
+      sending_begun (plain_told tell) c.args.version _ _ _ _ inv.0 inv.1 prefix,
       λ list come all joins.
           let given = inv.4 list all come joins in (given.rest, given.list_is),
-    )) c.send.ensures.front
+    )) c.send.ensures.prefix
 
 pub returns-in_err-fields-clause-begun : goal.returns-in_err-fields-clause-begun
 returns-in_err-fields-clause-begun g c =
@@ -117,7 +117,7 @@ returns-in_err-send_full-clause-begun g c =
     (one_line (plain_told tell) c.args.version c.in-Some.span _ _ c.in_ok-put_line.ensures.added) in
     so_stopped c.from_residual-in_err-send_full.result _ (
       inv.0 ++ c.in-Some.span ∷ [],
-      sending_begun (plain_told tell) c.args.version _ _ _ _ (inv.0 ++ c.in-Some.span ∷ []) lines c.in_err-send_full.ensures.front,
+      sending_begun (plain_told tell) c.args.version _ _ _ _ (inv.0 ++ c.in-Some.span ∷ []) lines c.in_err-send_full.ensures.prefix,
       λ list come all joins.
           let given = one_given all inv.0 c.in-Some.span old new (inv.4 list all come joins) gives in (given.rest, given.list_is),
     )

@@ -1,7 +1,7 @@
 use Rattle.std.proofs.Common.{◌≡◌, ◌∙◌, ap, subst, sym, refl, None, List, ℕ, [], ◌∷◌, ◌++◌}
 use Rattle.std.specs.List.{cons_option}
 use Rattle.std.proofs.lemmas.Result.{on_err_weaker, on_ok_weaker}
-use Rattle.lnt_io.proofs.FrontLaws.{so_stopped}
+use Rattle.lnt_io.proofs.PrefixLaws.{so_stopped}
 use Rattle.lnt_spans.specs.declared.answer.Version.{Version}
 use Rattle.lnt_spans.specs.declared.span.Span.{Span}
 use Rattle.lnt_spans.specs.Joined.{HasJoined}
@@ -96,12 +96,12 @@ returns-clause-begun g c =
     (rest_of_version version known.0 inv.0 inv.1 last old (record { order = known.2; tells = known.3 }) (inv.5 known.0 known.1)
     (all (subst AreInOrder (ends known.0 known.1) known.2))) in
     on_err_weaker c.send.result
-    (λ front list coming order. canonical_sending version list (inv.1 ++ cons_option last []) _ _ _ _
+    (λ prefix list coming order. canonical_sending version list (inv.1 ++ cons_option last []) _ _ _ _
     (all_begun version list (inv.1 ++ cons_option last [])
     (subst (λ (xs : List Span). AreGiven version xs (inv.1 ++ cons_option last [])) (sym (ends list coming))
     (all (subst AreInOrder (ends list coming) order))))
-    (lines_put plain_by_number version _ _ _ _ inv.1 (cons_option last []) inv.4 added) front)
-    c.send.ensures.front
+    (lines_put plain_by_number version _ _ _ _ inv.1 (cons_option last []) inv.4 added) prefix)
+    c.send.ensures.prefix
 
 pub returns-in_err-put_header-clause-begun : goal.returns-in_err-put_header-clause-begun
 returns-in_err-put_header-clause-begun g c =
@@ -152,4 +152,4 @@ returns-in_err-send_full-clause-begun g c =
     (λ list coming order. canonical_sending version list (inv.1 ++ cons_option one []) _ _ _ _
     (given_begun version list (inv.0 ++ span ∷ []) (inv.1 ++ cons_option one []) c.push-joined.new.self.last new joined (pushed list coming)
     order)
-    (lines_put plain_by_number version _ _ _ _ inv.1 (cons_option one []) inv.4 added) c.in_err-send_full.ensures.front)
+    (lines_put plain_by_number version _ _ _ _ inv.1 (cons_option one []) inv.4 added) c.in_err-send_full.ensures.prefix)

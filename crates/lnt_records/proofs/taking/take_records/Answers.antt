@@ -7,15 +7,15 @@ use Rattle.lnt_records.proofs.taking.take_records.Goals as goal
 
 pub loop-row-init : goal.loop-row-init
 loop-row-init g c =
-    let front = c.in_ok-front.front.now in
+    let prefix = c.in_ok-prefix.prefix.now in
     let known = c.requires.first in
     let fields = fields_of c.read_next.new.row in (
-      front,
+      prefix,
       fields,
       [],
-      c.in_ok-front.ensures,
-      first_there c.read_next.new.reader front c.args.text.now known.0 fields c.in_ok-read_next.field-0 c.in_ok-front.ensures known.1
-          known.2 (c.in_ok-read_next.ensures.read front [] c.reader_of-reader.ensures),
+      c.in_ok-prefix.ensures,
+      first_there c.read_next.new.reader prefix c.args.text.now known.0 fields c.in_ok-read_next.field-0 c.in_ok-prefix.ensures known.1
+          known.2 (c.in_ok-read_next.ensures.read prefix [] c.reader_of-reader.ensures),
       tt,
       λ count taken. subst (g.T.TakesRecords.has_taken c.args.taker.now c.args.state.now) (omega arith) taken,
       λ spans passed j. subst (g.T.TakesRecords.judges c.args.taker.now c.args.state.now spans) (sym (append-nil passed)) j,

@@ -6,8 +6,8 @@ use Rattle.lnt_records.specs.Table.{Fields}
 use Rattle.lnt_records.proofs.taking.take_records.Given as goal
 
 abbrev pub invariant-loop-row : goal.invariant-loop-row
-invariant-loop-row g l = (front : List ℕ) × (first : Fields) × (more : List Fields) × IsReadFor front l.text
-    × HasRead l.reader front (first ∷ more) × AllByRecursion IsNarrow more
+invariant-loop-row g l = (prefix : List ℕ) × (first : Fields) × (more : List Fields) × IsReadFor prefix l.text
+    × HasRead l.reader prefix (first ∷ more) × AllByRecursion IsNarrow more
     × ((count : ℕ) → g.T.TakesRecords.has_taken l.taker l.fn.state count
     → g.T.TakesRecords.has_taken l.taker l.state (count + length more))
     × ((spans : List Span) (passed : List Fields) → g.T.TakesRecords.judges l.taker l.fn.state spans passed

@@ -1,7 +1,7 @@
 use Rattle.std.specs.Prelude.{◌<◌, List}
 use Rattle.lnt_records.specs.Reading.{HasRead, bytes_left, known_length}
 use Rattle.lnt_records.specs.Table.{Fields}
-use Rattle.lnt_records.proofs.FrontLaws.{EndsIn}
+use Rattle.lnt_records.proofs.PrefixLaws.{EndsIn}
 use Rattle.lnt_records.proofs.wide.ends_wide.Given as goal
 
 abbrev pub invariant-loop-row : goal.invariant-loop-row

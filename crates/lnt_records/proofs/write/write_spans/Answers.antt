@@ -1,5 +1,5 @@
 use Rattle.std.proofs.lemmas.Result.{on_err_weaker, on_ok_weaker}
-use Rattle.lnt_io.proofs.FrontLaws.{so_stopped}
+use Rattle.lnt_io.proofs.PrefixLaws.{so_stopped}
 use Rattle.lnt_records.proofs.WriteLemmas.{all_lines, begun_all, begun_more, begun_none, begun_until, line_more, no_span}
 use Rattle.lnt_records.proofs.write.write_spans.Goals as goal
 
@@ -22,7 +22,7 @@ pub returns-clause-begun : goal.returns-clause-begun
 returns-clause-begun g c =
     on_err_weaker c.send.result
     (begun_all _ _ _ _ _ c.args.spans.now c.loop-span.span-index c.loop-span-test.false c.loop-span.invariant)
-    c.send.ensures.front
+    c.send.ensures.prefix
 
 pub returns-in_err-put_header-clause-begun : goal.returns-in_err-put_header-clause-begun
 returns-in_err-put_header-clause-begun g c =
@@ -39,4 +39,4 @@ returns-in_err-send_full-clause-begun g c =
     let added = c.in_ok-put_span.ensures c.args.version version in
     so_stopped c.from_residual-in_err-send_full.result _
     (begun_more _ _ _ _ _ _ c.args.spans.now c.loop-span.span-index no_span c.loop-span-test.true c.loop-span.invariant added
-    c.in_err-send_full.ensures.front)
+    c.in_err-send_full.ensures.prefix)

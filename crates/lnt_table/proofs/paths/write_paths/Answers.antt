@@ -5,7 +5,7 @@ use Rattle.lnt_paths.specs.PathAnswers.{spans_by_path}
 use Rattle.lnt_table.specs.ByPath.{indexed_path, told_path}
 use Rattle.lnt_table.proofs.PathLemmas.{becomes_so, paths_begun}
 use Rattle.lnt_table.proofs.UnitPathLemmas.{told_by_units}
-use Rattle.lnt_io.proofs.FrontLaws.{so_stopped}
+use Rattle.lnt_io.proofs.PrefixLaws.{so_stopped}
 use Rattle.lnt_table.proofs.paths.write_paths.Goals as goal
 
 pub returns-clause-table : goal.returns-clause-table

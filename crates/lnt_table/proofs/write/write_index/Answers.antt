@@ -43,6 +43,6 @@ returns-clause-begun g c =
         same = λ p. table.1.same p ∙ told_so c.args.version dead skip units all.spans all.answers p;
         written = table.1.written;
       };
-      front = begun.of_whole table.0 table.1;
+      prefix = begun.of_whole table.0 table.1;
     })
     c.write_canonical.ensures.begun

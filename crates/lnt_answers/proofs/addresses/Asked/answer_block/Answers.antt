@@ -1,7 +1,7 @@
 use Rattle.std.proofs.Common.{◌+◌, ◌++◌, ◌∙◌, refl, sym, subst, rules, take, List, ℕ}
-use Rattle.lnt_io.proofs.FrontLaws.{so_stopped}
+use Rattle.lnt_io.proofs.PrefixLaws.{so_stopped}
 use Rattle.lnt_answers.specs.AddressBlocks.{AreFirstTold}
-use Rattle.lnt_answers.proofs.AddressFronts.{first_kept, first_stopped}
+use Rattle.lnt_answers.proofs.AddressPrefixes.{first_kept, first_stopped}
 use Rattle.lnt_answers.proofs.AddressLemmas.{first_emptied, first_joined, first_more, first_none, first_sent, none_in, none_in_joined}
 use Rattle.lnt_answers.proofs.CommaLemmas.{rest_after}
 use Rattle.lnt_answers.proofs.addresses.Asked.answer_block.Goals as goal
@@ -70,7 +70,7 @@ returns-in_err-send-clause-stopped g c =
     let more = rw (c.in_ok-end_line.ensures.same, before.same, c.end_line.ensures.index, before.index) at c.in_ok-rest.ensures.told in
     let made = first_joined c.loop-end.self.line.items rest (take end rest) before.whole at ended (rest_after rest (end + 1)) more in
     so_stopped c.from_residual-in_err-send.result _
-    (first_stopped {new = g.W.Write.contents c.send.new.out} before.told made before.none c.in_err-send.ensures.front)
+    (first_stopped {new = g.W.Write.contents c.send.new.out} before.told made before.none c.in_err-send.ensures.prefix)
 
 pub returns-in_err-extend_from_slice-clause-stopped : goal.returns-in_err-extend_from_slice-clause-stopped
 returns-in_err-extend_from_slice-clause-stopped g c =

@@ -1,6 +1,6 @@
 use Rattle.std.proofs.Common.{[], ◌∷◌}
-use Rattle.lnt_io.proofs.FrontLaws.{so_stopped}
-use Rattle.lnt_answers.proofs.AddressFronts.{begun_nothing}
+use Rattle.lnt_io.proofs.PrefixLaws.{so_stopped}
+use Rattle.lnt_answers.proofs.AddressPrefixes.{begun_nothing}
 use Rattle.lnt_answers.proofs.addresses.Asked.answer_line.Goals as goal
 
 pub returns-in_err-put_line-clause-stopped : goal.returns-in_err-put_line-clause-stopped

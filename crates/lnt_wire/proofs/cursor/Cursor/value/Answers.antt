@@ -1,6 +1,6 @@
 use Rattle.lnt_wire.specs.declared.form.FormValue.TheVariants.{Text, LineStrp, Strp, Udata, Data1, Data2, Data4, Data8, Data16}
 use Rattle.lnt_wire.specs.declared.form.Form.TheVariants as forms
-use Rattle.lnt_wire.specs.declared.form.Prefix.TheVariants.{Leb, One, Two, Four}
+use Rattle.lnt_wire.specs.declared.form.BlockLength.TheVariants.{Leb, One, Two, Four}
 use Rattle.lnt_wire.specs.declared.view.ValueView.{ValueView}
 use Rattle.lnt_wire.specs.Borrowed.{value_of}
 use Rattle.lnt_wire.specs.Bytes.{TakenBytes}
@@ -8,7 +8,7 @@ use Rattle.lnt_wire.specs.FormBytes.{BlockBytes, TextBytes, ValueBytes}
 use Rattle.lnt_wire.specs.Leb128.{UnsignedLeb}
 use Rattle.lnt_wire.specs.Numbers.{NumberBytes, OffsetBytes}
 use Rattle.lnt_wire.specs.FormFaults.{IsValueFault}
-use Rattle.lnt_wire.specs.Prefixes.{LengthBytes, IsPrefixedFault}
+use Rattle.lnt_wire.specs.BlockLengths.{LengthBytes, IsBlockValueFault}
 use Rattle.lnt_wire.specs.Reading.{Reads, RefusesField}
 use Rattle.lnt_wire.proofs.RefusedForms.{hands_on, gives_none, leaves_it, reads_value, refuses_as, reads_in}
 use Rattle.lnt_wire.proofs.RefusedForms.{refuses_data1, refuses_data2, refuses_data4, refuses_data8, refuses_data16}
@@ -168,67 +168,67 @@ returns-in_ok-text-in-Text-clause-ok c =
 
 pub returns-in-Block-clause-err : goal.returns-in-Block-clause-err
 returns-in-Block-clause-err c =
-    refuses_as c.prefixed.result
-    (RefusesField (IsPrefixedFault c.args.self.now.order Leb) (BlockBytes (LengthBytes c.args.self.now.order Leb)) c.args.self.now)
+    refuses_as c.block_value.result
+    (RefusesField (IsBlockValueFault c.args.self.now.order Leb) (BlockBytes (LengthBytes c.args.self.now.order Leb)) c.args.self.now)
     (RefusesField (IsValueFault c.args.format c.args.self.now.order c.args.form)
     (ValueBytes c.args.format c.args.self.now.order c.args.form) c.args.self.now)
-    (λ fault. refuses_block c.args.format c.args.form c.args.self.now fault c.in-Block.is) c.prefixed.ensures.err
+    (λ fault. refuses_block c.args.format c.args.form c.args.self.now fault c.in-Block.is) c.block_value.ensures.err
 
 pub returns-in-Block-clause-ok : goal.returns-in-Block-clause-ok
 returns-in-Block-clause-ok c =
-    reads_in c.prefixed.result c.args.format c.args.form forms.Block c.args.self.now c.prefixed.new.self
-    c.in-Block.is c.prefixed.ensures.ok
+    reads_in c.block_value.result c.args.format c.args.form forms.Block c.args.self.now c.block_value.new.self
+    c.in-Block.is c.block_value.ensures.ok
 
 pub returns-in-Block-clause-unchanged : goal.returns-in-Block-clause-unchanged
-returns-in-Block-clause-unchanged c = c.prefixed.ensures.unchanged
+returns-in-Block-clause-unchanged c = c.block_value.ensures.unchanged
 
 pub returns-in-Block1-clause-err : goal.returns-in-Block1-clause-err
 returns-in-Block1-clause-err c =
-    refuses_as c.prefixed-in-Block1.result
-    (RefusesField (IsPrefixedFault c.args.self.now.order One) (BlockBytes (LengthBytes c.args.self.now.order One)) c.args.self.now)
+    refuses_as c.block_value-in-Block1.result
+    (RefusesField (IsBlockValueFault c.args.self.now.order One) (BlockBytes (LengthBytes c.args.self.now.order One)) c.args.self.now)
     (RefusesField (IsValueFault c.args.format c.args.self.now.order c.args.form)
     (ValueBytes c.args.format c.args.self.now.order c.args.form) c.args.self.now)
-    (λ fault. refuses_block1 c.args.format c.args.form c.args.self.now fault c.in-Block1.is) c.prefixed-in-Block1.ensures.err
+    (λ fault. refuses_block1 c.args.format c.args.form c.args.self.now fault c.in-Block1.is) c.block_value-in-Block1.ensures.err
 
 pub returns-in-Block1-clause-ok : goal.returns-in-Block1-clause-ok
 returns-in-Block1-clause-ok c =
-    reads_in c.prefixed-in-Block1.result c.args.format c.args.form forms.Block1 c.args.self.now c.prefixed-in-Block1.new.self
-    c.in-Block1.is c.prefixed-in-Block1.ensures.ok
+    reads_in c.block_value-in-Block1.result c.args.format c.args.form forms.Block1 c.args.self.now c.block_value-in-Block1.new.self
+    c.in-Block1.is c.block_value-in-Block1.ensures.ok
 
 pub returns-in-Block1-clause-unchanged : goal.returns-in-Block1-clause-unchanged
-returns-in-Block1-clause-unchanged c = c.prefixed-in-Block1.ensures.unchanged
+returns-in-Block1-clause-unchanged c = c.block_value-in-Block1.ensures.unchanged
 
 pub returns-in-Block2-clause-err : goal.returns-in-Block2-clause-err
 returns-in-Block2-clause-err c =
-    refuses_as c.prefixed-in-Block2.result
-    (RefusesField (IsPrefixedFault c.args.self.now.order Two) (BlockBytes (LengthBytes c.args.self.now.order Two)) c.args.self.now)
+    refuses_as c.block_value-in-Block2.result
+    (RefusesField (IsBlockValueFault c.args.self.now.order Two) (BlockBytes (LengthBytes c.args.self.now.order Two)) c.args.self.now)
     (RefusesField (IsValueFault c.args.format c.args.self.now.order c.args.form)
     (ValueBytes c.args.format c.args.self.now.order c.args.form) c.args.self.now)
-    (λ fault. refuses_block2 c.args.format c.args.form c.args.self.now fault c.in-Block2.is) c.prefixed-in-Block2.ensures.err
+    (λ fault. refuses_block2 c.args.format c.args.form c.args.self.now fault c.in-Block2.is) c.block_value-in-Block2.ensures.err
 
 pub returns-in-Block2-clause-ok : goal.returns-in-Block2-clause-ok
 returns-in-Block2-clause-ok c =
-    reads_in c.prefixed-in-Block2.result c.args.format c.args.form forms.Block2 c.args.self.now c.prefixed-in-Block2.new.self
-    c.in-Block2.is c.prefixed-in-Block2.ensures.ok
+    reads_in c.block_value-in-Block2.result c.args.format c.args.form forms.Block2 c.args.self.now c.block_value-in-Block2.new.self
+    c.in-Block2.is c.block_value-in-Block2.ensures.ok
 
 pub returns-in-Block2-clause-unchanged : goal.returns-in-Block2-clause-unchanged
-returns-in-Block2-clause-unchanged c = c.prefixed-in-Block2.ensures.unchanged
+returns-in-Block2-clause-unchanged c = c.block_value-in-Block2.ensures.unchanged
 
 pub returns-in-Block4-clause-err : goal.returns-in-Block4-clause-err
 returns-in-Block4-clause-err c =
-    refuses_as c.prefixed-in-Block4.result
-    (RefusesField (IsPrefixedFault c.args.self.now.order Four) (BlockBytes (LengthBytes c.args.self.now.order Four)) c.args.self.now)
+    refuses_as c.block_value-in-Block4.result
+    (RefusesField (IsBlockValueFault c.args.self.now.order Four) (BlockBytes (LengthBytes c.args.self.now.order Four)) c.args.self.now)
     (RefusesField (IsValueFault c.args.format c.args.self.now.order c.args.form)
     (ValueBytes c.args.format c.args.self.now.order c.args.form) c.args.self.now)
-    (λ fault. refuses_block4 c.args.format c.args.form c.args.self.now fault c.in-Block4.is) c.prefixed-in-Block4.ensures.err
+    (λ fault. refuses_block4 c.args.format c.args.form c.args.self.now fault c.in-Block4.is) c.block_value-in-Block4.ensures.err
 
 pub returns-in-Block4-clause-ok : goal.returns-in-Block4-clause-ok
 returns-in-Block4-clause-ok c =
-    reads_in c.prefixed-in-Block4.result c.args.format c.args.form forms.Block4 c.args.self.now c.prefixed-in-Block4.new.self
-    c.in-Block4.is c.prefixed-in-Block4.ensures.ok
+    reads_in c.block_value-in-Block4.result c.args.format c.args.form forms.Block4 c.args.self.now c.block_value-in-Block4.new.self
+    c.in-Block4.is c.block_value-in-Block4.ensures.ok
 
 pub returns-in-Block4-clause-unchanged : goal.returns-in-Block4-clause-unchanged
-returns-in-Block4-clause-unchanged c = c.prefixed-in-Block4.ensures.unchanged
+returns-in-Block4-clause-unchanged c = c.block_value-in-Block4.ensures.unchanged
 
 pub returns-in_err-offset-in-Strp-clause-err : goal.returns-in_err-offset-in-Strp-clause-err
 returns-in_err-offset-in-Strp-clause-err c =

@@ -4,11 +4,11 @@ use Rattle.std.specs.Prelude.{◌≡◌, ℕ, List, ◌++◌, Option}
 use Rattle.std.specs.Io.KnownBytes.{Appends, append_known}
 
 -- The known bytes grow by a prefix of these bytes.
-pub record AppendsFront (old new : Option (List ℕ)) (bytes : List ℕ) : Type 0 where
-  pub front : List ℕ
+pub record AppendsPrefix (old new : Option (List ℕ)) (bytes : List ℕ) : Type 0 where
+  pub prefix : List ℕ
   pub rest : List ℕ
-  pub joined : front ++ rest ≡ bytes
-  pub gained : Appends old new front
+  pub joined : prefix ++ rest ≡ bytes
+  pub appended : Appends old new prefix
 
 -- The known bytes grow by a prefix of bytes that a complete run might have written.
 --     Ends    relates what the writer holds after a complete run to how the run ends
@@ -16,4 +16,4 @@ pub record HasBegun {Ending : Type 0} (Ends : Option (List ℕ) → Ending → T
   pub whole : List ℕ
   pub ending : Ending
   pub is_end : Ends (append_known old whole) ending
-  pub front : AppendsFront old new whole
+  pub prefix : AppendsPrefix old new whole

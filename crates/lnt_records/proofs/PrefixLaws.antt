@@ -1,4 +1,4 @@
--- A front of some bytes that ends in a record with too many fields: its other records are those of the bytes.
+-- A prefix of some bytes that ends in a record with too many fields: its other records are those of the bytes.
 use Rattle.std.proofs.Common.{◌≡◌, ◌⊎◌, ◌∙◌, ℕ, ◌<◌, ◌≤◌, Bool, true, false, List, [], ◌∷◌, ◌++◌, Some, None, length}
 use Rattle.std.proofs.Common.{length-append, refl, sym, ap, subst, arith, inl, inr}
 use Rattle.std.specs.List.{AllByRecursion}
@@ -7,12 +7,12 @@ use Rattle.csv.specs.Machine.{Read, ends_at_end, field_after, fields_after, is_e
 use Rattle.csv.specs.Reading.{Reached, default_config, strip_bom}
 use Rattle.csv.specs.declared.parser.State.{State}
 use Rattle.csv.specs.declared.parser.State.TheVariants as st
-use Rattle.lnt_records.specs.Reading.{EndsWide, IsFrontOf, IsNarrow, IsReadAs, IsReadFor}
+use Rattle.lnt_records.specs.Reading.{EndsWide, IsPrefixOf, IsNarrow, IsReadAs, IsReadFor}
 use Rattle.lnt_records.specs.Table.{BeginsWith, Fields, RecordsOf}
 use Rattle.lnt_records.proofs.BeginningLaws.{records_begin}
 use Rattle.lnt_records.proofs.ReadingLaws.{first_same, record_left, same_read}
 use Rattle.lnt_records.proofs.RecordLaws.{begins_all, one_end, one_list}
-use Rattle.lnt_records.proofs.WideLemmas.{more_read, outside_comment, stripped_front}
+use Rattle.lnt_records.proofs.WideLemmas.{more_read, outside_comment, stripped_prefix}
 
 -- ---- one record
 
@@ -125,7 +125,7 @@ read_on s bytes more (r ∷ records) fields after rest between h =
     })
     by (inr read) (inr on) = inr ((h.0.0, h.0.1, h.0.2 ++ more), read, h.2, on)
 
--- ---- the front
+-- ---- the prefix
 
 -- A text's last record is the only one.
 last_same : (bytes : List ℕ) (xs ys : List Fields) (x y : Fields) → RecordsOf bytes (xs ++ x ∷ []) → RecordsOf bytes (ys ++ y ∷ []) → x ≡ y
@@ -146,24 +146,24 @@ all_read bytes = record {
   all = λ records h narrow. h;
 }
 
-front_begins : (front bytes : List ℕ) → IsFrontOf front bytes → 3 ≤ length front → EndsWide front
+prefix_begins : (prefix bytes : List ℕ) → IsPrefixOf prefix bytes → 3 ≤ length prefix → EndsWide prefix
     → (records : List Fields) (fields : Fields)
-    → BeginsWith front (records ++ fields ∷ []) → (whole : Fields) × IsReadAs fields whole × BeginsWith bytes (records ++ whole ∷ [])
+    → BeginsWith prefix (records ++ fields ∷ []) → (whole : Fields) × IsReadAs fields whole × BeginsWith bytes (records ++ whole ∷ [])
 unfolding Reached next_record
-front_begins front bytes f long ends records fields h =
-    by (read_on st.StartRecord (strip_bom front) f.more records fields h.0 h.1 refl h.2)
+prefix_begins prefix bytes f long ends records fields h =
+    by (read_on st.StartRecord (strip_bom prefix) f.more records fields h.0 h.1 refl h.2)
   where
-    joined : strip_bom bytes ≡ strip_bom front ++ f.more
-    joined = ap strip_bom f.joined ∙ stripped_front front f.more long
+    joined : strip_bom bytes ≡ strip_bom prefix ++ f.more
+    joined = ap strip_bom f.joined ∙ stripped_prefix prefix f.more long
 
-    by : Widens st.StartRecord (strip_bom front ++ f.more) records fields h.0 h.1
-        ⊎ Reached default_config st.StartRecord (strip_bom front ++ f.more) (records ++ fields ∷ []) h.0 (h.1 ++ f.more)
+    by : Widens st.StartRecord (strip_bom prefix ++ f.more) records fields h.0 h.1
+        ⊎ Reached default_config st.StartRecord (strip_bom prefix ++ f.more) (records ++ fields ∷ []) h.0 (h.1 ++ f.more)
         → (whole : Fields) × IsReadAs fields whole × BeginsWith bytes (records ++ whole ∷ [])
     by (inl w) =
         let none : next_record default_config h.0 [] [] h.1 ≡ None =
         ap (λ (s : State). next_record default_config s [] [] h.1) w.last.0
         ∙ ap (λ (t : List ℕ). next_record default_config st.StartRecord [] [] t) w.last.1 in
-        let same : fields ≡ ends.last = last_same front records ends.records fields ends.last (h.0, h.1, h.2, none) ends.all in
+        let same : fields ≡ ends.last = last_same prefix records ends.records fields ends.last (h.0, h.1, h.2, none) ends.all in
         let wide : 11 < length fields = omega (arith, ends.wide, ap (λ (r : Fields). length r) same) in (
           w.whole,
           inr (wide, omega (arith, wide, w.wider)),
@@ -185,31 +185,31 @@ front_begins front bytes f long ends records fields h =
       ),
     )
 
-front_first : (front bytes : List ℕ) → IsFrontOf front bytes → 3 ≤ length front → EndsWide front → (fields : Fields) → IsNarrow fields
-    → BeginsWith bytes (fields ∷ []) → BeginsWith front (fields ∷ [])
-front_first front bytes f long ends fields narrow h = by_records ends.records ends.last ends.all
+prefix_first : (prefix bytes : List ℕ) → IsPrefixOf prefix bytes → 3 ≤ length prefix → EndsWide prefix → (fields : Fields) → IsNarrow fields
+    → BeginsWith bytes (fields ∷ []) → BeginsWith prefix (fields ∷ [])
+prefix_first prefix bytes f long ends fields narrow h = by_records ends.records ends.last ends.all
   where
-    by_begun : (other : Fields) → BeginsWith front (other ∷ []) → (whole : Fields) → IsReadAs other whole → whole ≡ fields
-        → BeginsWith front (fields ∷ [])
-    by_begun other b whole (inl same) e = subst (λ (r : Fields). BeginsWith front (r ∷ [])) (sym same ∙ e) b
+    by_begun : (other : Fields) → BeginsWith prefix (other ∷ []) → (whole : Fields) → IsReadAs other whole → whole ≡ fields
+        → BeginsWith prefix (fields ∷ [])
+    by_begun other b whole (inl same) e = subst (λ (r : Fields). BeginsWith prefix (r ∷ [])) (sym same ∙ e) b
     by_begun other b whole (inr wide) e = absurd (omega (arith, narrow, wide.1, ap (λ (r : Fields). length r) e))
 
-    by_first : (other : Fields) → BeginsWith front (other ∷ []) → BeginsWith front (fields ∷ [])
+    by_first : (other : Fields) → BeginsWith prefix (other ∷ []) → BeginsWith prefix (fields ∷ [])
     by_first other b =
-        let begun = front_begins front bytes f long ends [] other b in
+        let begun = prefix_begins prefix bytes f long ends [] other b in
         by_begun other b begun.0 begun.1 (first_same bytes begun.0 fields begun.2 h)
 
-    by_records : (records : List Fields) (last : Fields) → RecordsOf front (records ++ last ∷ []) → BeginsWith front (fields ∷ [])
-    by_records [] last all = by_first last (records_begin front last [] all)
-    by_records (r ∷ records) last all = by_first r (records_begin front r (records ++ last ∷ []) all)
+    by_records : (records : List Fields) (last : Fields) → RecordsOf prefix (records ++ last ∷ []) → BeginsWith prefix (fields ∷ [])
+    by_records [] last all = by_first last (records_begin prefix last [] all)
+    by_records (r ∷ records) last all = by_first r (records_begin prefix r (records ++ last ∷ []) all)
 
-pub front_read : (front bytes : List ℕ) → IsFrontOf front bytes → 3 ≤ length front → EndsWide front → IsReadFor front bytes
-front_read front bytes f long ends = record {
-  few = omega (arith, ap length f.joined, length-append front f.more);
-  first = front_first front bytes f long ends;
-  begins = front_begins front bytes f long ends;
+pub prefix_read : (prefix bytes : List ℕ) → IsPrefixOf prefix bytes → 3 ≤ length prefix → EndsWide prefix → IsReadFor prefix bytes
+prefix_read prefix bytes f long ends = record {
+  few = omega (arith, ap length f.joined, length-append prefix f.more);
+  first = prefix_first prefix bytes f long ends;
+  begins = prefix_begins prefix bytes f long ends;
   all = λ records h narrow. absurd (
-      let same = one_list front records (ends.records ++ ends.last ∷ []) h ends.all in
+      let same = one_list prefix records (ends.records ++ ends.last ∷ []) h ends.all in
       omega (arith, ends.wide, last_narrow ends.records ends.last (subst (AllByRecursion IsNarrow) same narrow))
       );
 }

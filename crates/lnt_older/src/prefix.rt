@@ -1,9 +1,9 @@
-//! The front of a unit: its initial length and its version (DWARF 5, sections 6.2.4 and 7.4).
+//! The prefix of a unit: its initial length and its version (DWARF 5, sections 6.2.4 and 7.4).
 ghost use Rattle.std.specs.Prelude.{◌≡◌, ◌≢◌, IfErr, IfOk, MatchOption};
 ghost use Rattle.lnt_wire.specs.Reading.{Refuses};
 ghost use Rattle.lnt_older.specs.OlderUnits.{AnyBytes, IsAnyFault};
-ghost use Rattle.lnt_older.specs.UnitReading.{ReadsFront, unit_number};
-ghost use Rattle.lnt_older.specs.declared.front.UnitVersion.{UnitVersion};
+ghost use Rattle.lnt_older.specs.UnitReading.{ReadsPrefix, unit_number};
+ghost use Rattle.lnt_older.specs.declared.prefix.UnitVersion.{UnitVersion};
 
 use crate::version::OlderVersion;
 use lnt_wire::{Cursor, Fault, Format, Reason, initial_length};
@@ -30,7 +30,7 @@ impl UnitVersion {
 
 /// A unit by its initial length and its version.
 #[derive(Clone, Copy)]
-pub(crate) struct Front<'a> {
+pub(crate) struct Prefix<'a> {
     pub format: Format,
     pub version: UnitVersion,
     // The offset in the section of the version.
@@ -39,10 +39,10 @@ pub(crate) struct Front<'a> {
     pub past: &'a [u8],
 }
 
-/// The front of the unit at the cursor, which moves past the unit. After a refusal nothing is said of the cursor.
-#[tactic(auto, using(crate::proofs::FrontLemmas::front_exits))]
-pub(crate) fn take_front<'a>(cursor: &mut Cursor<'a>) -> Result<Front<'a>, Fault>
-    ensures ok { IfOk result (λ front. ReadsFront front cursor.old cursor.new) }
+/// The prefix of the unit at the cursor, which moves past the unit. After a refusal nothing is said of the cursor.
+#[tactic(auto, using(crate::proofs::PrefixLemmas::prefix_exits))]
+pub(crate) fn take_prefix<'a>(cursor: &mut Cursor<'a>) -> Result<Prefix<'a>, Fault>
+    ensures ok { IfOk result (λ prefix. ReadsPrefix prefix cursor.old cursor.new) }
     ensures err { IfErr result (λ fault. Refuses (IsAnyFault cursor.old.order) (AnyBytes cursor.old.order) cursor.old fault) }
 {
     let offset = cursor.place();
@@ -65,7 +65,7 @@ pub(crate) fn take_front<'a>(cursor: &mut Cursor<'a>) -> Result<Front<'a>, Fault
     let mut inside = Cursor::new(body, place, cursor.order());
     let number = inside.u16()?;
     match UnitVersion::of(number) {
-        Some(version) => Ok(Front {
+        Some(version) => Ok(Prefix {
             format,
             version,
             place,

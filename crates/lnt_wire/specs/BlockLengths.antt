@@ -5,41 +5,41 @@ use Rattle.lnt_wire.specs.declared.format.Order.{Order}
 use Rattle.lnt_wire.specs.declared.fault.Reason.{Reason}
 use Rattle.lnt_wire.specs.declared.form.Form.{Form}
 use Rattle.lnt_wire.specs.declared.form.Form.TheVariants as forms
-use Rattle.lnt_wire.specs.declared.form.Prefix.{Prefix}
-use Rattle.lnt_wire.specs.declared.form.Prefix.TheVariants.{Leb, One, Two, Four}
+use Rattle.lnt_wire.specs.declared.form.BlockLength.{BlockLength}
+use Rattle.lnt_wire.specs.declared.form.BlockLength.TheVariants.{Leb, One, Two, Four}
 use Rattle.lnt_wire.specs.FormFaults.{IsBlockFault}
 use Rattle.lnt_wire.specs.Leb128.{UnsignedLeb, IsLargeUnsigned, IsLebFault}
 use Rattle.lnt_wire.specs.Numbers.{NumberBytes}
 use Rattle.lnt_wire.specs.Reading.{IsCutShort}
 
 -- The bytes encode the length.
-abbrev pub LengthBytes : Order → Prefix → ℕ → List ℕ → Type 0
+abbrev pub LengthBytes : Order → BlockLength → ℕ → List ℕ → Type 0
 LengthBytes order Leb = UnsignedLeb
 LengthBytes order One = NumberBytes order 1
 LengthBytes order Two = NumberBytes order 2
 LengthBytes order Four = NumberBytes order 4
 
 -- The form of blocks whose length is encoded so.
-abbrev pub block_form : Prefix → Form
+abbrev pub block_form : BlockLength → Form
 block_form Leb = forms.Block
 block_form One = forms.Block1
 block_form Two = forms.Block2
 block_form Four = forms.Block4
 
 -- The length, which is below 2 ^ 64, can be encoded so.
-abbrev pub BlockLengthFits : Prefix → ℕ → Type 0
+abbrev pub BlockLengthFits : BlockLength → ℕ → Type 0
 BlockLengthFits Leb n = Unit {0}
 BlockLengthFits One n = n < 2 ^ 8
 BlockLengthFits Two n = n < 2 ^ 16
 BlockLengthFits Four n = n < 2 ^ 32
 
 -- Why the bytes don't begin with a length.
-abbrev pub IsLengthFault : Prefix → Reason → List ℕ → Type 0
+abbrev pub IsLengthFault : BlockLength → Reason → List ℕ → Type 0
 IsLengthFault Leb = IsLebFault IsLargeUnsigned
 IsLengthFault One = IsCutShort 1
 IsLengthFault Two = IsCutShort 2
 IsLengthFault Four = IsCutShort 4
 
 -- Why the bytes don't begin with a block.
-abbrev pub IsPrefixedFault : Order → Prefix → Reason → List ℕ → Type 0
-IsPrefixedFault order prefix = IsBlockFault (LengthBytes order prefix) (IsLengthFault prefix)
+abbrev pub IsBlockValueFault : Order → BlockLength → Reason → List ℕ → Type 0
+IsBlockValueFault order encoding = IsBlockFault (LengthBytes order encoding) (IsLengthFault encoding)

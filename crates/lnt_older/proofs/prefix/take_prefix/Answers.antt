@@ -1,7 +1,7 @@
 use Rattle.std.proofs.Common.{◌∙◌, refl}
 use Rattle.std.proofs.lemmas.Result.{err_from_is_err_and}
-use Rattle.lnt_older.proofs.FrontLemmas.{initial_missing, body_missing, version_cut, version_unknown}
-use Rattle.lnt_older.proofs.front.take_front.Goals as goal
+use Rattle.lnt_older.proofs.PrefixLemmas.{initial_missing, body_missing, version_cut, version_unknown}
+use Rattle.lnt_older.proofs.prefix.take_prefix.Goals as goal
 
 pub returns-in-Err-clause-err : goal.returns-in-Err-clause-err
 returns-in-Err-clause-err c = initial_missing c.args.cursor.now _ c.place-offset.ensures.value c.in-Err.ensures.err

@@ -1,4 +1,4 @@
--- The front of a unit that is read, and the faults of it.
+-- The prefix of a unit that is read, and the faults of it.
 use Rattle.std.proofs.Common.{◌≡◌, ◌≢◌, ℕ, ◌+◌, ◌-◌, ◌<◌, ◌^◌, List, ◌++◌, length, take, refl, sym, ap, ◌∙◌, append_assoc, arith}
 use Rattle.std.proofs.lemmas.List.{length-append}
 use Rattle.lnt_wire.specs.At.{At}
@@ -17,12 +17,12 @@ use Rattle.lnt_wire.specs.declared.format.Order.{Order}
 use Rattle.lnt_wire.proofs.LengthLaws.{length-number_bytes}
 use Rattle.lnt_wire.proofs.FrameReadingLaws.{refuses_initial, refuses_long, refuses_version}
 use Rattle.lnt_older.specs.OlderUnits.{AnyBytes, IsAnyFault, ReadsFive}
-use Rattle.lnt_older.specs.UnitReading.{front_body, ReadsFront, unit_number}
+use Rattle.lnt_older.specs.UnitReading.{prefix_body, ReadsPrefix, unit_number}
 use Rattle.lnt_older.specs.Versions.{version_number}
-use Rattle.lnt_older.specs.declared.front.Front.{Front}
-use Rattle.lnt_older.specs.declared.front.UnitVersion.{UnitVersion}
-use Rattle.lnt_older.specs.declared.front.UnitVersion.TheVariants.{Five, Older}
-use Rattle.lnt_older.proofs.Fronts.{front_taken}
+use Rattle.lnt_older.specs.declared.prefix.Prefix.{Prefix}
+use Rattle.lnt_older.specs.declared.prefix.UnitVersion.{UnitVersion}
+use Rattle.lnt_older.specs.declared.prefix.UnitVersion.TheVariants.{Five, Older}
+use Rattle.lnt_older.proofs.Prefixes.{prefix_taken}
 use Rattle.lnt_older.proofs.NoUnitLemmas.{IsNoOlder, none_in_frame}
 use Rattle.std.proofs.lemmas.Grind.{common_steps}
 
@@ -76,41 +76,41 @@ version_unknown old ahead new inside after initial number body fault r q rest_is
 
 -- ---- what is read
 
-pub front_read : (old ahead new inside after : At) (initial : Format × ℕ) (number : ℕ) (body : List ℕ) (front : Front)
+pub prefix_read : (old ahead new inside after : At) (initial : Format × ℕ) (number : ℕ) (body : List ℕ) (prefix : Prefix)
     → Reads (InitialBytes old.order) initial old ahead → Reads (TakenBytes initial.1) body ahead new
     → inside.rest ≡ body → inside.order ≡ old.order → Reads (NumberBytes inside.order 2) number inside after
-    → front.format ≡ initial.0 → unit_number front.version ≡ number → front.place ≡ ahead.place → front.past.now ≡ after.rest
-    → ReadsFront front old new
-front_read old ahead new inside after initial number body front r q rest_is order_is s format_is number_is place past =
+    → prefix.format ≡ initial.0 → unit_number prefix.version ≡ number → prefix.place ≡ ahead.place → prefix.past.now ≡ after.rest
+    → ReadsPrefix prefix old new
+prefix_read old ahead new inside after initial number body prefix r q rest_is order_is s format_is number_is place past =
     grind (arith, common_steps, append_assoc, length-append)
 
 -- the bytes after the version end below 2 ^ 64
-pub front_room : (front : Front) (old new : At) → ReadsFront front old new → old.place + length old.rest < 2 ^ 64
-    → front.place + 2 + length front.past.now < 2 ^ 64
-front_room front old new r room = omega (arith, room, r.body_place, ap length r.whole, length-append {A = ℕ}, length-number_bytes)
+pub prefix_room : (prefix : Prefix) (old new : At) → ReadsPrefix prefix old new → old.place + length old.rest < 2 ^ 64
+    → prefix.place + 2 + length prefix.past.now < 2 ^ 64
+prefix_room prefix old new r room = omega (arith, room, r.body_place, ap length r.whole, length-append {A = ℕ}, length-number_bytes)
 
 -- a unit of version 5
-pub five_read : (front : Front) (bytes all left : List ℕ) (old new : At) → ReadsFront front old new → front.version ≡ Five
+pub five_read : (prefix : Prefix) (bytes all left : List ℕ) (old new : At) → ReadsPrefix prefix old new → prefix.version ≡ Five
     → all ≡ old.rest → left ≡ new.rest → bytes ≡ take (length all - length left) all → ReadsFive bytes old new
-five_read front bytes all left old new r version_is all_is left_is bytes_are =
-    let whole = front_body old.order front in
-    let spelling = frame_bytes old.order front.format whole in
+five_read prefix bytes all left old new r version_is all_is left_is bytes_are =
+    let whole = prefix_body old.order prefix in
+    let spelling = frame_bytes old.order prefix.format whole in
     record {
-      format = front.format;
+      format = prefix.format;
       body = whole;
       read = record {
         spelling = spelling;
         spelled = record {
           fits = r.fits;
-          version = record { past = front.past.now; joined = rw version_is refl };
+          version = record { past = prefix.past.now; joined = rw version_is refl };
           joined = refl;
         };
         whole = r.whole;
         place = r.place;
         order = r.order;
       };
-      bytes_are = front_taken spelling (all_is ∙ r.whole) left_is bytes_are;
+      bytes_are = prefix_taken spelling (all_is ∙ r.whole) left_is bytes_are;
     }
 
--- what the reader of a front cites
-pub ruleset front_exits = (initial_missing, body_missing, version_cut, version_unknown, front_read)
+-- what the reader of a prefix cites
+pub ruleset prefix_exits = (initial_missing, body_missing, version_cut, version_unknown, prefix_read)

@@ -1,4 +1,4 @@
--- A writer that has gained a front of the lines of findings.
+-- A writer that has appended a prefix of the lines of findings.
 use Rattle.std.proofs.Common.{◌≡◌, ◌∙◌, ℕ, ◌+◌, ◌<◌, suc, List, [], ◌++◌, append-nil, append_assoc}
 use Rattle.std.proofs.Common.{length, get_or, take, drop}
 use Rattle.std.proofs.Common.{Option, Some, None, ap, codes, refl, sym, subst, map, arith, take-append-drop}
@@ -6,8 +6,8 @@ use Rattle.std.specs.List.{flat_map}
 use Rattle.std.specs.Io.KnownBytes.{Appends, append_known}
 use Rattle.std.proofs.lemmas.List.{append_cancel_left, map-append}
 use Rattle.std.proofs.lemmas.List.Concat.{flat_map-append}
-use Rattle.lnt_io.specs.Fronts.{AppendsFront}
-use Rattle.lnt_io.proofs.FrontLaws.{appends_known, front_after, front_none, front_same}
+use Rattle.lnt_io.specs.Prefixes.{AppendsPrefix}
+use Rattle.lnt_io.proofs.PrefixLaws.{appends_known, prefix_after, prefix_none, prefix_same}
 use Rattle.lnt_io.specs.Files.{FileState, TellsNoMore}
 use Rattle.lnt_io.specs.declared.status.Status.{Status}
 use Rattle.lnt_answers.specs.declared.digest.Agreement.{Agreement}
@@ -17,7 +17,7 @@ use Rattle.lnt_files.specs.Paths.{path_or_empty}
 use Rattle.lnt_answers.specs.SumLines.{AreSumsBegun, AreSumsTold, IsTrueOfFile, found_status, found_text, head_text}
 use Rattle.lnt_answers.specs.SumLines.{listed_at, listed_below, listed_in, file_of, sum_line}
 use Rattle.lnt_answers.proofs.SumLaws.{true_later}
-use Rattle.lnt_answers.proofs.FileLemmas.{front_of_later, lists_of_more}
+use Rattle.lnt_answers.proofs.FileLemmas.{prefix_of_later, lists_of_more}
 use Rattle.lnt_answers.proofs.SumLemmas.{sum_listed, true_joined}
 
 -- ---- joins
@@ -29,20 +29,20 @@ begun_before tells index files more old new so = record {
   rest = so.rest ++ more;
   places = sym (append_assoc (map file_of so.findings) so.rest more) ∙ ap (λ (list : List (ℕ × ℕ)). list ++ more) so.places;
   are_true = so.are_true;
-  front = so.front;
+  prefix = so.prefix;
 }
 
-front_of : (old new : Option (List ℕ)) (whole texts : List ℕ) → Appends old (append_known old whole) texts → AppendsFront old new whole
-    → AppendsFront old new texts
-front_of None new whole texts all f = record { front = []; rest = texts; joined = refl; gained = tt }
-front_of (Some xs) new whole texts all f = front_same (Some xs) new whole texts (append_cancel_left xs whole texts all) f
+prefix_of : (old new : Option (List ℕ)) (whole texts : List ℕ) → Appends old (append_known old whole) texts → AppendsPrefix old new whole
+    → AppendsPrefix old new texts
+prefix_of None new whole texts all f = record { prefix = []; rest = texts; joined = refl; appended = tt }
+prefix_of (Some xs) new whole texts all f = prefix_same (Some xs) new whole texts (append_cancel_left xs whole texts all) f
 
 -- ---- a file
 
 -- nothing was written
 pub sums_unbegun : (tells : List ℕ → FileState → Type 0) (index : Indexed) (files : List (ℕ × ℕ)) (old : Option (List ℕ))
     → AreSumsBegun tells index files old old
-sums_unbegun tells index files old = record { findings = []; rest = files; places = refl; are_true = tt; front = front_none old [] }
+sums_unbegun tells index files old = record { findings = []; rest = files; places = refl; are_true = tt; prefix = prefix_none old [] }
 
 -- the writer stopped within the line of a file
 pub sum_stopped : (tells : List ℕ → FileState → Type 0) (index : Indexed) (unit file : ℕ) (a b : Option (List ℕ))
@@ -50,7 +50,7 @@ pub sum_stopped : (tells : List ℕ → FileState → Type 0) (index : Indexed) 
     → path ≡ path_or_empty (file_path_in index unit file) → shown ≡ path_or_empty (file_path_in index unit file)
     → IsTrueOfFile tells path listed found
     → bytes ≡ (head_text unit file ++ found_text found) ++ (codes " " ++ (quoted_text shown ++ codes "\n"))
-    → AppendsFront a b bytes → AreSumsBegun tells index (listed_at index unit file) a b
+    → AppendsPrefix a b bytes → AreSumsBegun tells index (listed_at index unit file) a b
 sum_stopped tells index unit file a b listed path shown bytes found is path_is shown_is so same f =
     let text = (head_text unit file ++ found_text found) ++ (codes " " ++ (quoted_text shown ++ codes "\n")) in
     let told = sum_listed tells index unit file a (append_known a text) listed path shown found (found_status found) is path_is shown_is so
@@ -60,7 +60,7 @@ sum_stopped tells index unit file a b listed path shown bytes found is path_is s
       rest = [];
       places = append-nil (map file_of told.findings) ∙ told.places;
       are_true = told.are_true;
-      front = front_of a b text (flat_map (sum_line index) told.findings) told.printed (front_same a b bytes text same f);
+      prefix = prefix_of a b text (flat_map (sum_line index) told.findings) told.printed (prefix_same a b bytes text same f);
     }
 
 -- ---- within the files
@@ -77,15 +77,15 @@ module _ {tells tells' : List ℕ → FileState → Type 0} {index : Indexed} {a
         ∙ append_assoc files (map file_of next.findings) next.rest ∙ ap (λ (list : List (ℕ × ℕ)). files ++ list) next.places;
     are_true = true_joined tells index so.findings next.findings so.are_true
         (true_later tells tells' index next.findings later next.are_true);
-    front = front_same a c _ _ (sym (flat_map-append (sum_line index) so.findings next.findings))
-        (front_after a b c (flat_map (sum_line index) so.findings) (flat_map (sum_line index) next.findings) so.printed next.front);
+    prefix = prefix_same a c _ _ (sym (flat_map-append (sum_line index) so.findings next.findings))
+        (prefix_after a b c (flat_map (sum_line index) so.findings) (flat_map (sum_line index) next.findings) so.printed next.prefix);
   }
 
   -- of a unit
   pub sums_stopped : (unit file count : ℕ) → file < count → AreSumsTold tells index (listed_below index unit file) a b s
       → AreSumsBegun tells' index (listed_at index unit file) b c → AreSumsBegun tells index (listed_below index unit count) a c
   sums_stopped unit file count lt so next =
-      let after = front_of_later (listed_below index unit) (listed_at index unit) (λ n. refl) (suc file) count (omega (arith, lt)) in
+      let after = prefix_of_later (listed_below index unit) (listed_at index unit) (λ n. refl) (suc file) count (omega (arith, lt)) in
       subst (λ (list : List (ℕ × ℕ)). AreSumsBegun tells index list a c) after.1
       (begun_before tells index (listed_below index unit (suc file)) after.0 a c (begun_after so next))
 
@@ -94,12 +94,12 @@ module _ {tells tells' : List ℕ → FileState → Type 0} {index : Indexed} {a
       → AreSumsTold tells index (flat_map (listed_in index) (take i units)) a b s
       → AreSumsBegun tells' index (listed_in index (get_or units i d)) b c → AreSumsBegun tells index (flat_map (listed_in index) units) a c
   units_stopped units i d lt so next =
-      let front = flat_map (listed_in index) (take i units) in
+      let prefix = flat_map (listed_in index) (take i units) in
       let unit = listed_in index (get_or units i d) in
       let rest = flat_map (listed_in index) (drop (i + 1) units) in
-      let all : (front ++ unit) ++ rest ≡ flat_map (listed_in index) units =
+      let all : (prefix ++ unit) ++ rest ≡ flat_map (listed_in index) units =
       ap (λ (list : List (ℕ × ℕ)). list ++ rest) (sym (lists_of_more (listed_in index) units i d lt))
       ∙ sym (flat_map-append (listed_in index) (take (i + 1) units) (drop (i + 1) units))
       ∙ ap (flat_map (listed_in index)) (take-append-drop (i + 1) units) in
       subst (λ (list : List (ℕ × ℕ)). AreSumsBegun tells index list a c) all
-      (begun_before tells index (front ++ unit) rest a c (begun_after so next))
+      (begun_before tells index (prefix ++ unit) rest a c (begun_after so next))

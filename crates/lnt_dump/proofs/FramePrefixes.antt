@@ -1,11 +1,11 @@
--- Fronts of the lines of a section's frames, of which some weren't read.
+-- Prefixes of the lines of a section's frames, of which some weren't read.
 use Rattle.std.proofs.Common.{◌≡◌, ℕ, ◌+◌, List, [], ◌∷◌, ◌++◌, length, Option, Some, None, IfSome, Result, Ok, Err, OnErr, refl, sym, ap}
 use Rattle.std.proofs.Common.{subst, ◌∙◌, append_assoc, append-nil, arith}
 use Rattle.std.proofs.lemmas.List.{length-append}
 use Rattle.std.proofs.lemmas.List.Concat.{flat_map-append}
 use Rattle.std.specs.List.{flat_map}
-use Rattle.lnt_io.specs.Fronts.{AppendsFront, HasBegun}
-use Rattle.lnt_io.proofs.FrontLaws.{appends_known, front_after, front_all, front_before, front_same}
+use Rattle.lnt_io.specs.Prefixes.{AppendsPrefix, HasBegun}
+use Rattle.lnt_io.proofs.PrefixLaws.{appends_known, prefix_after, prefix_all, prefix_before, prefix_same}
 use Rattle.lnt_wire.specs.At.{At}
 use Rattle.lnt_wire.specs.FrameBytes.{FramesFrom}
 use Rattle.lnt_wire.specs.Frames.{AreFrames, EndsBy}
@@ -31,33 +31,33 @@ rest_of None now read are = record { more = []; fault = None; so = tt }
 rest_of (Some bytes) None read are = absurd read.pulls
 rest_of {order} {frames} {of_reader} {offset} (Some bytes) (Some rest) read are =
     let at : At = record { place = offset; rest = rest; order = of_reader } in
-    let later = frames_ahead at (bytes_after read.front rest bytes read.pulls are) in
+    let later = frames_ahead at (bytes_after read.prefix rest bytes read.pulls are) in
     let before = read.so_far in
-    let place : offset + length later.front ≡ length (before.front ++ later.front) =
-    omega (arith, before.place, length-append before.front later.front) in
-    let Joined : Order → ℕ → Type 0 = λ (o : Order) (n : ℕ). FramesFrom o n later.frames later.front in
+    let place : offset + length later.prefix ≡ length (before.prefix ++ later.prefix) =
+    omega (arith, before.place, length-append before.prefix later.prefix) in
+    let Joined : Order → ℕ → Type 0 = λ (o : Order) (n : ℕ). FramesFrom o n later.frames later.prefix in
     let Ends : Order → ℕ → Type 0 = λ (o : Order) (n : ℕ). EndsBy (record { place = n; rest = later.rest; order = o }) later.fault in
-    let start : offset ≡ 0 + length before.front = omega (arith, before.place) in
-    let joined : Joined order (0 + length before.front) =
-    subst (λ (o : Order). Joined o (0 + length before.front)) before.order_is
+    let start : offset ≡ 0 + length before.prefix = omega (arith, before.place) in
+    let joined : Joined order (0 + length before.prefix) =
+    subst (λ (o : Order). Joined o (0 + length before.prefix)) before.order_is
     (subst (λ (n : ℕ). Joined of_reader n) start later.joined) in
     record {
       more = later.frames;
       fault = later.fault;
       so = record {
-        front = before.front ++ later.front;
+        prefix = before.prefix ++ later.prefix;
         rest = later.rest;
-        whole = read.pulls ∙ ap (λ (z : List ℕ). z ++ rest) (before.whole ∙ append-nil before.front)
-            ∙ ap (λ (z : List ℕ). before.front ++ z) later.whole ∙ sym (append_assoc before.front later.front later.rest);
-        joined = frames_join order 0 frames later.frames before.front later.front before.joined joined;
-        ends = subst (λ (o : Order). Ends o (length (before.front ++ later.front))) before.order_is
+        whole = read.pulls ∙ ap (λ (z : List ℕ). z ++ rest) (before.whole ∙ append-nil before.prefix)
+            ∙ ap (λ (z : List ℕ). before.prefix ++ z) later.whole ∙ sym (append_assoc before.prefix later.prefix later.rest);
+        joined = frames_join order 0 frames later.frames before.prefix later.prefix before.joined joined;
+        ends = subst (λ (o : Order). Ends o (length (before.prefix ++ later.prefix))) before.order_is
             (subst (λ (n : ℕ). Ends of_reader n) place later.ends);
       };
     }
 
--- a front of the lines of these frames, where the section goes on so
+-- a prefix of the lines of these frames, where the section goes on so
 lines_begun : {order : Order} {section old new : Option (List ℕ)} {frames : List Frame} → RestOf order section frames
-    → AppendsFront old new (flat_map unit_line frames) → HasBegun (AreUnitsTold order section old) old new
+    → AppendsPrefix old new (flat_map unit_line frames) → HasBegun (AreUnitsTold order section old) old new
 lines_begun {order} {section} {old} {new} {frames} rest f =
     let before = flat_map unit_line frames in
     let later = flat_map unit_line rest.more in
@@ -75,7 +75,7 @@ lines_begun {order} {section} {old} {new} {frames} rest f =
         printed = appends_known old text;
         status_is = refl;
       };
-      front = front_same old new (before ++ (later ++ end)) text joined (front_before old new before (later ++ end) f);
+      prefix = prefix_same old new (before ++ (later ++ end)) text joined (prefix_before old new before (later ++ end) f);
     }
 
 -- nothing more is written
@@ -83,23 +83,23 @@ pub units_stopped : {order : Order} {start now old new : Option (List ℕ)} {of_
     → FramesTold order start now old new of_reader offset → IfSome start AreBytes → HasBegun (AreUnitsTold order start old) old new
 units_stopped {order} {start} {now} {old} {new} told are =
     lines_begun (rest_of start now told.read are)
-    (front_all old new (flat_map unit_line told.frames) told.printed)
+    (prefix_all old new (flat_map unit_line told.frames) told.printed)
 
--- of the line of a unit a front is written
+-- of the line of a unit a prefix is written
 pub units_cut : {order : Order} {start mid now old then new : Option (List ℕ)} {of_reader next_order : Order} {offset after : ℕ}
     {unit : BufferedUnit} {frame : Frame} → next_order ≡ of_reader → FramesTold order start mid old then of_reader offset
-    → IsNextFramed of_reader offset after mid now unit frame → AppendsFront then new (unit_line frame) → IfSome start AreBytes
+    → IsNextFramed of_reader offset after mid now unit frame → AppendsPrefix then new (unit_line frame) → IfSome start AreBytes
     → HasBegun (AreUnitsTold order start old) old new
 units_cut {start = start} {now = now} {old = old} {then = then} {new = new} {frame = frame} ordered told n f are =
     let before = flat_map unit_line told.frames in
     lines_begun (rest_of start now (read_more ordered told.read n) are)
-    (front_same old new (before ++ unit_line frame) (flat_map unit_line (told.frames ++ frame ∷ []))
-    (flat_push unit_line told.frames frame) (front_after old then new before (unit_line frame) told.printed f))
+    (prefix_same old new (before ++ unit_line frame) (flat_map unit_line (told.frames ++ frame ∷ []))
+    (flat_push unit_line told.frames frame) (prefix_after old then new before (unit_line frame) told.printed f))
 
 -- of the line of the fault
 pub fault_cut : {order : Order} {start now old then : Option (List ℕ)} {of_reader : Order} {offset : ℕ} (new : Option (List ℕ))
     (fault : Fault) (printed : Result Status Halt) → FramesTold order start now old then of_reader offset
-    → SectionEndsBy offset of_reader now (Some fault) → OnErr printed (AppendsFront then new (end_line (Some fault)))
+    → SectionEndsBy offset of_reader now (Some fault) → OnErr printed (AppendsPrefix then new (end_line (Some fault)))
     → OnErr printed (IfSome start AreBytes → HasBegun (AreUnitsTold order start old) old new)
 fault_cut new fault (Ok status) told ends f = tt
 fault_cut {order} {start} {now} {old} {then} new fault (Err halt) told ends f =
@@ -115,5 +115,5 @@ fault_cut {order} {start} {now} {old} {then} new fault (Err halt) told ends f =
         printed = appends_known old (before ++ end);
         status_is = refl;
       };
-      front = front_after old then new before end told.printed f;
+      prefix = prefix_after old then new before end told.printed f;
     }

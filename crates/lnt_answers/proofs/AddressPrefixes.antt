@@ -6,8 +6,8 @@ use Rattle.std.proofs.lemmas.List.Concat.{flat_map-append}
 use Rattle.std.proofs.ByRecursion.{All-append as all_append}
 use Rattle.std.specs.List.{flat_map}
 use Rattle.std.specs.Str.Lines.{lines}
-use Rattle.lnt_io.specs.Fronts.{AppendsFront}
-use Rattle.lnt_io.proofs.FrontLaws.{front_after, front_all, front_before, front_none, front_same}
+use Rattle.lnt_io.specs.Prefixes.{AppendsPrefix}
+use Rattle.lnt_io.proofs.PrefixLaws.{prefix_after, prefix_all, prefix_before, prefix_none, prefix_same}
 use Rattle.lnt_io.specs.Pulling.{Pulls, IsAtEnd}
 use Rattle.lnt_io.specs.declared.status.Status.{Status}
 use Rattle.lnt_lines.specs.Indexed.{Indexed}
@@ -27,7 +27,7 @@ module _ {index : Indexed} {op : ℕ} where
     told = all.told;
     lines_are = all.lines_are;
     so = all.so;
-    front = λ dead skip units is. front_all old new (flat_map (told_line index dead skip units) all.told) (all.printed dead skip units is);
+    prefix = λ dead skip units is. prefix_all old new (flat_map (told_line index dead skip units) all.told) (all.printed dead skip units is);
   }
 
   -- those before some of which a prefix was written
@@ -38,13 +38,13 @@ module _ {index : Indexed} {op : ℕ} where
     lines_are = texts_append a.told b.told ∙ ap (λ (z : List (List ℕ)). z ++ map (λ line. line.0) b.told) a.lines_are
         ∙ ap (λ (z : List (List ℕ)). xs ++ z) b.lines_are;
     so = all_append (Tells op) a.told b.told a.so b.so;
-    front = λ dead skip units is.
+    prefix = λ dead skip units is.
         let text = told_line index dead skip units in
-        front_same old new _ _ (sym (flat_map-append text a.told b.told))
-        (front_after old now new (flat_map text a.told) (flat_map text b.told) (a.printed dead skip units is) (b.front dead skip units is));
+        prefix_same old new _ _ (sym (flat_map-append text a.told b.told))
+        (prefix_after old now new (flat_map text a.told) (flat_map text b.told) (a.printed dead skip units is) (b.prefix dead skip units is));
   }
 
-  -- Others follow, whatever they tell: what was gained of these is a front of what is printed of all of them.
+  -- Others follow, whatever they tell: what was appended of these is a prefix of what is printed of all of them.
   begun_before : {xs : List (List ℕ)} {old new : Option (List ℕ)} (ys : List (List ℕ)) → AreLinesBegun index op xs old new
       → AreLinesBegun index op (xs ++ ys) old new
   begun_before {xs} {old} {new} ys begun =
@@ -54,26 +54,26 @@ module _ {index : Indexed} {op : ℕ} where
         lines_are = texts_append begun.told others.0 ∙ ap (λ (z : List (List ℕ)). z ++ map (λ line. line.0) others.0) begun.lines_are
             ∙ ap (λ (z : List (List ℕ)). xs ++ z) others.1.0;
         so = all_append (Tells op) begun.told others.0 begun.so others.1.1;
-        front = λ dead skip units is.
+        prefix = λ dead skip units is.
             let text = told_line index dead skip units in
-            front_same old new _ _ (sym (flat_map-append text begun.told others.0))
-            (front_before old new (flat_map text begun.told) (flat_map text others.0) (begun.front dead skip units is));
+            prefix_same old new _ _ (sym (flat_map-append text begun.told others.0))
+            (prefix_before old new (flat_map text begun.told) (flat_map text others.0) (begun.prefix dead skip units is));
       }
 
   -- nothing was written
   pub begun_nothing : (texts : List (List ℕ)) (old : Option (List ℕ)) → AreLinesBegun index op texts old old
   begun_nothing texts old =
-      begun_before {xs = []} texts (record { told = []; lines_are = refl; so = tt; front = λ dead skip units is. front_none old [] })
+      begun_before {xs = []} texts (record { told = []; lines_are = refl; so = tt; prefix = λ dead skip units is. prefix_none old [] })
 
   -- within their lines, which were made in an empty buffer
   begun_sending : {texts : List (List ℕ)} {none made : List ℕ} {old new : Option (List ℕ)} {s t : Status}
-      → AreLinesTold index op texts (Some none) (Some made) s t → none ≡ [] → AppendsFront old new made → AreLinesBegun index op texts old new
-  begun_sending {none = none} {made = made} {old = old} {new = new} all empty front = record {
+      → AreLinesTold index op texts (Some none) (Some made) s t → none ≡ [] → AppendsPrefix old new made → AreLinesBegun index op texts old new
+  begun_sending {none = none} {made = made} {old = old} {new = new} all empty prefix = record {
     told = all.told;
     lines_are = all.lines_are;
     so = all.so;
-    front = λ dead skip units is. front_same old new made _
-        (text_in_room none made made (flat_map (told_line index dead skip units) all.told) empty (all.printed dead skip units is) refl) front;
+    prefix = λ dead skip units is. prefix_same old new made _
+        (text_in_room none made made (flat_map (told_line index dead skip units) all.told) empty (all.printed dead skip units is) refl) prefix;
   }
 
   -- ---- the first lines of a text
@@ -87,10 +87,10 @@ module _ {index : Indexed} {op : ℕ} where
   -- within those after some
   pub first_stopped : {text mid rest none made : List ℕ} {old now new : Option (List ℕ)} {s t u : Status}
       → AreFirstTold index op text mid old now s t → AreFirstTold index op mid rest (Some none) (Some made) t u → none ≡ []
-      → AppendsFront now new made → AreFirstBegun index op text old new
-  first_stopped {rest = rest} a b empty front = record {
+      → AppendsPrefix now new made → AreFirstBegun index op text old new
+  first_stopped {rest = rest} a b empty prefix = record {
     texts = a.texts ++ b.texts;
-    begun = begun_append a.told (begun_sending b.told empty front);
+    begun = begun_append a.told (begun_sending b.told empty prefix);
     cut = λ more. (
       lines (rest ++ more),
       append_assoc a.texts b.texts (lines (rest ++ more)) ∙ ap (λ (z : List (List ℕ)). a.texts ++ z) (sym (b.cut more)) ∙ sym (a.cut more),
