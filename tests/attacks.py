@@ -1,5 +1,5 @@
 """Makes good sections of shapes that cost a careless reader much, looks up an address in each, and lists its files. A section
-of four times the size has to take at most eight times the processor time, and many addresses a few times that of one. The memory of each
+of twice the size has to take at most 2.3 times the processor time, and many addresses a few times that of one. The memory of each
 word has to stay within four times the bytes that are given and 8 MB, or within what docs/LIMITS.md says of the shape. With the word
 --figures it also prints what each took. The last line is 'N passed, M failed'."""
 
@@ -16,9 +16,9 @@ PROGRAM = "crates/linetab/out/linetab"
 # The least time of each of the two sizes counts. Where these are too far apart, and not by twice as much, more turns are taken, since
 # other work on the machine slows some of them.
 TURNS, MOST_TURNS = 5, 25
-# Four times the size takes at most eight times as long, also where it no longer fits a cache; what grows with the square takes sixteen
-# times as long.
-MOST_GROWTH = 8
+# Twice the size takes at most 2.3 times as long, also where it no longer fits a cache, and four times the size that squared; what grows
+# with the square takes sixteen times as long.
+MOST_GROWTH = 2.3**2
 MOST_COPIES, OWN_MEMORY = 4, 8 << 20
 
 ONE_DIRECTORY = bytes([1, 1, 8, 1]) + b"/s\0"
@@ -134,6 +134,16 @@ def columns_of_one_file(count):
     }
 
 
+def plain_lines(count):
+    """Rows of one file, whose columns alternate, and the table of them by path, on the lines that the program writes for them."""
+    line = b"0x%%x,0x%%x,/%s/a,1,%%d\n" % (b"s" * 200)
+    lines = (line % (0x1001 + place, 0x1002 + place, 1 + place % 2) for place in range(count))
+    return {
+        "line": one_sequence(long_directory(200) + TWO_FILES, b"\5\1\x20\5\2\x20" * (count // 2)),
+        "table": b"low,high,path,line,column\n" + b"".join(lines),
+    }
+
+
 def two_files(count):
     """Rows of two files in turn, which have the same long path."""
     return {"line": one_sequence(long_directory(count) + TWO_FILES, b"\4\0\x20\4\1\x20" * (count // 2))}
@@ -234,6 +244,8 @@ LARGE = {
         lambda size, given: MOST_COPIES * given + 128 * size,
     ),
     "many short units": (short_units, 140_000, "verify LINE", 0, lambda size, given: MOST_COPIES * given + 1024 * size),
+    # the lines are compared as text, and the table isn't held
+    "a table by path of many lines": (plain_lines, 100_000, "check LINE TABLE", 0, lambda size, given: MOST_COPIES * size),
     "a header of many fields": (fields, 8_000_000, "check LINE TABLE", 1, lambda size, given: MOST_COPIES * given),
     **{
         "a record of many fields, %s, %s" % (names, text): (

@@ -1,27 +1,23 @@
 -- The lines of a section's canonical spans by path are passed, as the spans come.
-use Rattle.std.proofs.Common.{◌≡◌, ◌∙◌, ℕ, ◌+◌, ◌<◌, ◌≤◌, ◌^◌, List, [], ◌∷◌, ◌++◌, Option, Some, None, IfSome, map, length, refl, ap, sym, subst}
-use Rattle.std.proofs.Common.{Err, Ok, Result, append-nil, append_assoc, arith, length-append}
+use Rattle.std.proofs.Common.{◌≡◌, ◌∙◌, ℕ, ◌+◌, ◌≤◌, List, [], ◌∷◌, ◌++◌, Option, Some, None, map, length, refl, ap, sym, subst}
+use Rattle.std.proofs.Common.{Err, Ok, Result, append-nil, append_assoc, arith}
 use Rattle.std.proofs.lemmas.List.{map-append}
-use Rattle.std.specs.List.{AllZip, cons_option}
-use Rattle.csv.specs.Reading.{Reached, default_config, strip_bom}
+use Rattle.std.specs.List.{cons_option}
 use Rattle.csv.specs.Writing.{default_writer, row_text}
-use Rattle.csv.specs.declared.parser.State.TheVariants as st
 use Rattle.lnt_spans.specs.declared.answer.Answer.{Answer}
 use Rattle.lnt_spans.specs.declared.position.Position.{Position}
 use Rattle.lnt_spans.specs.declared.span.Span.{Span}
-use Rattle.lnt_spans.specs.Comparing.{end_of}
 use Rattle.lnt_spans.specs.Instructions.{IsOfInstructions}
 use Rattle.lnt_spans.specs.Merged.{answer_told}
 use Rattle.lnt_spans.specs.Remaining.{SpansAreLeft}
 use Rattle.lnt_spans.specs.Spans.{AreInOrder}
 use Rattle.lnt_spans.proofs.AnsweringLaws.{prefix_in_order}
 use Rattle.lnt_records.specs.Passing.{AreLinesIn, Passes}
-use Rattle.lnt_records.specs.Progress.{AddsLine}
 use Rattle.lnt_records.specs.Table.{BeginsWith, Fields}
-use Rattle.lnt_records.specs.Written.{line_text, lines_of}
+use Rattle.lnt_records.specs.Written.{line_text}
 use Rattle.lnt_records.proofs.LineLaws as any
 use Rattle.lnt_records.proofs.LineLaws.{few_records, no_lines_in}
-use Rattle.lnt_records.proofs.PassingLemmas.{end_added, few_passed, passes_both, passes_line, passes_none}
+use Rattle.lnt_records.proofs.PassingLemmas.{end_added, passes_both, passes_line, passes_none}
 use Rattle.lnt_records.proofs.StreamLemmas as stream
 use Rattle.lnt_paths.specs.declared.comparison.PathComparison.{PathComparison}
 use Rattle.lnt_paths.specs.declared.version.PathVersion.{PathVersion}
@@ -29,7 +25,7 @@ use Rattle.lnt_paths.specs.Joining.{GivesJoined, tell_span}
 use Rattle.lnt_paths.specs.Merging.{IsMerged, JudgesByPath}
 use Rattle.lnt_paths.specs.Passing.{AreLinesOf, LeaveOff}
 use Rattle.lnt_paths.specs.PathAnswers.{PathAnswer}
-use Rattle.lnt_paths.specs.PathLines.{plain_told}
+use Rattle.lnt_paths.specs.PathLines.{IsSpanLine, plain_told}
 use Rattle.lnt_paths.specs.PathSpans.{PathSpan, whole}
 use Rattle.lnt_paths.specs.PathTables.{by_path, path_column_names}
 use Rattle.lnt_paths.specs.Written.{IsPlainPathRecord, plain_by_path}
@@ -48,19 +44,16 @@ no_lines tell version = record { lines = no_lines_in by_path plain_by_path versi
 position_whole : (p : Position) → p.op ≡ 0 → whole p.address ≡ p
 position_whole p e = ap (λ (op : ℕ). record { address = p.address; op = op }) (sym e)
 
-lines_more : (tell : Answer → PathAnswer) (version : PathVersion) (text : List ℕ) (table : List Span) (count end : ℕ) (line : List ℕ)
-    (span : Span) → AreLinesOf tell version text table count end → AddsLine (plain_told tell) version span [] line → IsOfInstructions span
-    → AreLinesOf tell version (text ++ line) (table ++ span ∷ []) (count + 1) span.high.address
-lines_more tell version text table count end line span a put whole =
-    let said : IsPlainPathRecord version put.fields (tell_span tell span) =
-    record { says = put.says; low_op = whole.0; high_op = whole.1 } in
-    let more = any.lines_more by_path plain_by_path version text (map (tell_span tell) table) count put.fields (tell_span tell span) a.lines
-    (plain_paths.says version put.fields (tell_span tell span) said) in
+lines_more : (tell : Answer → PathAnswer) (version : PathVersion) (text : List ℕ) (table : List Span) (count end : ℕ) (fields : Fields)
+    (span : Span) → AreLinesOf tell version text table count end → (plain_told tell).Says version fields span → IsOfInstructions span
+    → AreLinesOf tell version (text ++ row fields) (table ++ span ∷ []) (count + 1) span.high.address
+lines_more tell version text table count end fields span a says whole =
+    let said : IsPlainPathRecord version fields (tell_span tell span) = record { says = says; low_op = whole.0; high_op = whole.1 } in
     record {
-      lines = subst (λ (t : List ℕ). AreLinesIn by_path plain_by_path version (text ++ t) (map (tell_span tell) (table ++ span ∷ [])) (count + 1))
-          (sym put.joined)
-          (subst (λ (spans : List PathSpan). AreLinesIn by_path plain_by_path version (text ++ row put.fields) spans (count + 1))
-          (sym (map-append (tell_span tell) table (span ∷ []))) more);
+      lines = subst (λ (spans : List PathSpan). AreLinesIn by_path plain_by_path version (text ++ row fields) spans (count + 1))
+          (sym (map-append (tell_span tell) table (span ∷ [])))
+          (any.lines_more by_path plain_by_path version text (map (tell_span tell) table) count fields (tell_span tell span) a.lines
+          (plain_paths.says version fields (tell_span tell span) said));
       end_is = position_whole span.high whole.1 ∙ sym (end_added table span);
     }
 
@@ -114,17 +107,17 @@ filled a b c la lb lc w0 w1 w2 text p q =
 
 pub stands_more : {S : Type 0} (to_come : S → List Span → Type 0) (first : S) (tell : Answer → PathAnswer) (version : PathVersion)
     (next next' : Option Span) (spans spans' : S) (a b c : Option (List ℕ)) (la lb lc : ℕ) (w0 w1 w2 w3 : List ℕ) (count end : ℕ)
-    (span : Span) (line : List ℕ)
+    (span : Span)
     → Stands to_come first tell version next spans a b la lb w0 w1 count end
     → ((rest : List Span) → SpansAreLeft to_come next spans rest → GivesJoined tell rest (SpansAreLeft to_come next' spans') (Some span))
-    → AddsLine (plain_told tell) version span [] line → Passes b c lb lc w1 w2 [] → w2 ≡ line ++ w3 → IsOfInstructions span
+    → Passes b c lb lc w1 w2 [] → IsSpanLine tell version span w2 w3 → IsOfInstructions span
     → Stands to_come first tell version next' spans' a c la lc w0 w3 (count + 1) span.high.address
-stands_more to_come first tell version next next' spans spans' a b c la lb lc w0 w1 w2 w3 count end span line s gives put more here whole =
+stands_more to_come first tell version next next' spans spans' a b c la lb lc w0 w1 w2 w3 count end span s gives more line whole =
     record {
       table = s.table ++ span ∷ [];
-      text = s.text ++ line;
-      bytes = passes_line a c la lc w0 w2 w3 s.text line (filled a b c la lb lc w0 w1 w2 s.text s.bytes more) here;
-      lines = lines_more tell version s.text s.table count end line span s.lines put whole;
+      text = s.text ++ row line.fields;
+      bytes = passes_line a c la lc w0 w2 w3 s.text (row line.fields) (filled a b c la lb lc w0 w1 w2 s.text s.bytes more) line.joined;
+      lines = lines_more tell version s.text s.table count end line.fields span s.lines line.says whole;
       left = λ list come order.
           let one = left_joined to_come tell next' spans' list s.table span (SpansAreLeft to_come next spans) (s.left list come order) gives in
           let split = append_assoc s.table (span ∷ []) one.0 in

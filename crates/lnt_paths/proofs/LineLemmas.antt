@@ -1,27 +1,32 @@
 -- Lines that are written are read as a table by `csv`.
-use Rattle.std.proofs.Common.{◌≡◌, ◌∙◌, ℕ, ◌+◌, ◌-◌, ◌≤◌, false, List, [], ◌∷◌, ◌++◌, Option, Some, None, length, get_or, take, refl, sym}
+use Rattle.std.proofs.Common.{◌≡◌, ◌≢◌, ◌∙◌, ℕ, ◌+◌, ◌-◌, ◌≤◌, Bool, true, false, List, [], ◌∷◌, ◌++◌, Option, Some, None, drop, length, get_or, take, refl, sym}
 use Rattle.std.proofs.Common.{ap, subst, append_assoc, arith, length-append}
 use Rattle.std.proofs.lemmas.List.{append-nil, take-append-le, take_all}
+use Rattle.std.proofs.Math.Seq.{drop-append_seam}
+use Rattle.std.specs.Bool.{MatchBool}
 use Rattle.std.specs.List.{All, AllByRecursion, AllZip}
 use Rattle.std.proofs.lemmas.List.Elements.{recursion_from_All}
-use Rattle.csv.specs.Reading.{strip_bom}
+use Rattle.csv.specs.Machine.{next_record}
+use Rattle.csv.specs.Reading.{default_config, strip_bom}
+use Rattle.csv.specs.declared.parser.State.{State}
+use Rattle.csv.specs.declared.parser.State.TheVariants as st
 use Rattle.csv.specs.Writing.{default_writer, field_text, fields_text, is_blank, needs_byte, row_text}
-use Rattle.lnt_text.specs.Digits.{IsDecimal, IsPlainAddress, IsPlainDecimal, Puts}
+use Rattle.lnt_text.specs.Delimited.{Begins}
+use Rattle.lnt_text.specs.Digits.{IsDecimal, IsPlainAddress, IsPlainDecimal}
 use Rattle.lnt_text.proofs.TextLaws.{plain_address}
 use Rattle.lnt_records.specs.Table.{Fields}
 use Rattle.lnt_records.specs.Progress.{AddsLine}
 use Rattle.lnt_records.specs.Written.{line_text}
-use Rattle.lnt_records.proofs.LineLaws.{LineLaws, text_of, written_table}
+use Rattle.lnt_records.proofs.LineLaws.{IsReadBack, LineLaws, line_read, text_of, written_table}
 use Rattle.lnt_records.proofs.QuotingLaws.{IsQuiet, address_text, number_text, quiet_text}
-use Rattle.lnt_spans.specs.declared.answer.Answer.{Answer}
 use Rattle.lnt_spans.specs.declared.position.Position.{Position}
 use Rattle.lnt_spans.specs.declared.span.Span.{Span}
 use Rattle.lnt_paths.specs.declared.version.PathVersion.{PathVersion}
 use Rattle.lnt_paths.specs.declared.version.PathVersion.TheVariants.{Three, Four}
-use Rattle.lnt_paths.specs.PathLines.{AddsPlace, IsPlaceEnd, IsPlainByte, field_with_comma, plain_told}
-use Rattle.lnt_paths.specs.PathAnswers.{PathAnswer, path_answer}
+use Rattle.lnt_paths.specs.PathLines.{IsLineOf, IsPlace, IsPlainByte, IsSpanLine, field_with_comma, path_field, plain_told}
+use Rattle.lnt_paths.specs.PathAnswers.{PathAnswer, path_answer, told_column}
 use Rattle.lnt_paths.specs.PathSpans.{AreCanonicalOf, PathSpan}
-use Rattle.lnt_paths.specs.PathTables.{IsPathRecord, SaysColumn, SaysPath, by_path, path_column_names}
+use Rattle.lnt_paths.specs.PathTables.{IsPathRecord, SaysColumn, by_path, path_column_names}
 use Rattle.lnt_paths.specs.Written.{IsCanonicalPathTable, IsPlainPathRecord, IsPlainPathTable, plain_by_path}
 use Rattle.lnt_paths.proofs.OneWrittenLaws.{one_record}
 
@@ -69,7 +74,7 @@ field_made path text new n e l f =
 -- ---- a line
 
 -- the text of a line whose addresses and line number need no quotes
-pub line_fields : (low high path line : List ℕ) (more : Fields) → field_text default_writer low ≡ low
+line_fields : (low high path line : List ℕ) (more : Fields) → field_text default_writer low ≡ low
     → field_text default_writer high ≡ high
     → field_text default_writer line ≡ line
     → row_text default_writer (low ∷ high ∷ path ∷ line ∷ more)
@@ -77,66 +82,175 @@ pub line_fields : (low high path line : List ℕ) (more : Fields) → field_text
 unfolding is_blank fields_text
 line_fields low high path line more a b c = rw (a, b, c) (simp append_assoc)
 
--- what the fields after the line in the file are
-abbrev EndSays : PathVersion → Fields → Answer → Type 0
-EndSays Three fields answer = (text : List ℕ) × (fields ≡ text ∷ []) × IsPlainDecimal text answer.column
-EndSays Four fields answer = fields ≡ []
+-- a field before others
+field_before : (prefix b s0 s1 s4 : List ℕ) → s0 ≡ prefix ++ 44 ∷ s1 → s1 ≡ b ++ s4 → s0 ≡ (prefix ++ 44 ∷ b) ++ s4
+field_before prefix b s0 s1 s4 e f = e ∙ ap (λ (t : List ℕ). prefix ++ 44 ∷ t) f ∙ sym (append_assoc prefix (44 ∷ b) s4)
 
--- the end of a line
-end_fields : (version : PathVersion) (answer : Answer) (more : List ℕ) → IsPlaceEnd version answer.column more
-    → (fields : Fields) × (more ≡ fields_text default_writer fields ++ 10 ∷ []) × EndSays version fields answer
+-- the line in the file, what follows it, and the line feed
+last_before : (line more s3 s4 : List ℕ) → s3 ≡ line ++ (more ++ 10 ∷ s4) → s3 ≡ (line ++ (more ++ 10 ∷ [])) ++ s4
+last_before line more s3 s4 e =
+    e ∙ ap (λ (t : List ℕ). line ++ t) (sym (append_assoc more (10 ∷ []) s4)) ∙ sym (append_assoc line (more ++ 10 ∷ []) s4)
+
+-- the text of the line
+line_start : (low high path line : List ℕ) (more : Fields) (s0 s1 s2 s3 s4 : List ℕ) → field_text default_writer low ≡ low
+    → field_text default_writer high ≡ high → field_text default_writer line ≡ line
+    → s0 ≡ low ++ 44 ∷ s1 → s1 ≡ high ++ 44 ∷ s2 → s2 ≡ field_text default_writer path ++ 44 ∷ s3
+    → s3 ≡ line ++ (fields_text default_writer more ++ 10 ∷ s4)
+    → s0 ≡ row_text default_writer (low ∷ high ∷ path ∷ line ∷ more) ++ s4
+line_start low high path line more s0 s1 s2 s3 s4 a b c e0 e1 e2 e3 =
+    let file : List ℕ = field_text default_writer path in
+    let end : List ℕ = line ++ (fields_text default_writer more ++ 10 ∷ []) in
+    let from = field_before file end s2 s3 s4 e2 (last_before line (fields_text default_writer more) s3 s4 e3) in
+    let next = field_before high (file ++ 44 ∷ end) s1 s2 s4 e1 from in
+    field_before low (high ++ 44 ∷ (file ++ 44 ∷ end)) s0 s1 s4 e0 next
+    ∙ ap (λ (t : List ℕ). t ++ s4) (sym (line_fields low high path line more a b c))
+
+-- the column and the line feed
+column_end : (column : List ℕ) (rest : List ℕ) → field_text default_writer column ≡ column
+    → 44 ∷ (column ++ 10 ∷ rest) ≡ fields_text default_writer (column ∷ []) ++ 10 ∷ rest
 unfolding fields_text
-end_fields Three answer more e = (
-  e.0 ∷ [],
-  e.2 ∙ rw (number_text e.0 answer.column e.1.number) (ap (λ (t : List ℕ). 44 ∷ t ++ 10 ∷ []) (sym (append-nil e.0))),
-  (e.0, refl, e.1),
-)
-end_fields Four answer more e = ([], e, refl)
+column_end column rest q = rw (q, append-nil column) refl
 
-says_line : (version : PathVersion) (path : ℕ → ℕ → List ℕ) (answer : Answer) (low high line : List ℕ) (a b : ℕ) (more : Fields)
-    → IsPlainAddress low a → IsPlainAddress high b
-    → IsPlainDecimal line answer.line → EndSays version more answer
-    → SaysPath IsPlainAddress IsPlainDecimal version (low ∷ high ∷ path answer.unit answer.file ∷ line ∷ more) a b
-    (path_answer version path answer)
-says_line Three path answer low high line a b more l h n e =
-    subst (λ (m : Fields). SaysPath IsPlainAddress IsPlainDecimal Three (low ∷ high ∷ path answer.unit answer.file ∷ line ∷ m) a b
-    (path_answer Three path answer)) (sym e.1)
-    (record { count = refl; low_is = l; high_is = h; path = refl; line = n; column = e.2 })
-says_line Four path answer low high line a b more l h n e =
-    subst (λ (m : Fields). SaysPath IsPlainAddress IsPlainDecimal Four (low ∷ high ∷ path answer.unit answer.file ∷ line ∷ m) a b
-    (path_answer Four path answer)) (sym e)
-    (record { count = refl; low_is = l; high_is = h; path = refl; line = n; column = refl })
+no_column_end : (rest : List ℕ) → 10 ∷ rest ≡ fields_text default_writer [] ++ 10 ∷ rest
+unfolding fields_text
+no_column_end rest = refl
 
-plain_text : (text : List ℕ) (n : ℕ) → IsPlainAddress text n → field_text default_writer text ≡ text
+-- Numbers that are spelled so need no quotes.
+abbrev NeedNoQuotes : (List ℕ → ℕ → Type 0) → Type 0
+NeedNoQuotes Number = (text : List ℕ) (n : ℕ) → Number text n → field_text default_writer text ≡ text
+
+-- the parts of a line, one after another, are the line
+pub line_taken : (Address Decimal : List ℕ → ℕ → Type 0) → NeedNoQuotes Address → NeedNoQuotes Decimal → (version : PathVersion)
+    (low high : ℕ) (answer : PathAnswer) (s0 s1 s2 s3 s4 : List ℕ) → Begins Address s0 low 44 s1 → Begins Address s1 high 44 s2
+    → s2 ≡ field_text default_writer answer.path ++ 44 ∷ s3 → IsPlace Decimal version answer.line answer.column s3 s4
+    → IsLineOf Address Decimal version low high answer s0 s4
+line_taken Address Decimal quiet calm version low high answer s0 s1 s2 s3 s4 l h path place = by version answer.column refl place
+  where
+    low_is : field_text default_writer l.prefix ≡ l.prefix
+    low_is = quiet l.prefix low l.spells
+
+    high_is : field_text default_writer h.prefix ≡ h.prefix
+    high_is = quiet h.prefix high h.spells
+
+    by : (v : PathVersion) (column : Option ℕ) → answer.column ≡ column → IsPlace Decimal v answer.line column s3 s4
+        → IsLineOf Address Decimal v low high answer s0 s4
+    by Three None e p = absurd p
+    by Three (Some column) e p =
+        let line = p.1 in
+        let last = p.2 in
+        record {
+          fields = l.prefix ∷ h.prefix ∷ answer.path ∷ line.prefix ∷ last.prefix ∷ [];
+          joined = line_start l.prefix h.prefix answer.path line.prefix (last.prefix ∷ []) s0 s1 s2 s3 s4 low_is high_is
+              (calm line.prefix answer.line line.spells) l.joined h.joined path
+              (line.joined ∙ ap (λ (t : List ℕ). line.prefix ++ 44 ∷ t) last.joined
+              ∙ ap (λ (t : List ℕ). line.prefix ++ t) (column_end last.prefix s4 (calm last.prefix column last.spells)));
+          says = rw e (record
+              { count = refl; low_is = l.spells; high_is = h.spells; path = refl; line = line.spells; column = last.spells });
+        }
+    by Four column e p =
+        let line = p.1 in
+        record {
+          fields = l.prefix ∷ h.prefix ∷ answer.path ∷ line.prefix ∷ [];
+          joined = line_start l.prefix h.prefix answer.path line.prefix [] s0 s1 s2 s3 s4 low_is high_is
+              (calm line.prefix answer.line line.spells) l.joined h.joined path
+              (line.joined ∙ ap (λ (t : List ℕ). line.prefix ++ t) (no_column_end s4));
+          says = record
+              { count = refl; low_is = l.spells; high_is = h.spells; path = refl; line = line.spells; column = e ∙ p.0 };
+        }
+
+-- ---- a line in three parts
+
+begins_more : (Spells : List ℕ → ℕ → Type 0) (text : List ℕ) (n end : ℕ) (rest more : List ℕ) → Begins Spells text n end rest
+    → Begins Spells (text ++ more) n end (rest ++ more)
+begins_more Spells text n end rest more b = record {
+  prefix = b.prefix;
+  joined = ap (λ (t : List ℕ). t ++ more) b.joined ∙ append_assoc b.prefix (end ∷ rest) more;
+  spells = b.spells;
+}
+
+place_more : (Decimal : List ℕ → ℕ → Type 0) (version : PathVersion) (line : ℕ) (column : Option ℕ) (text more : List ℕ)
+    → IsPlace Decimal version line column text [] → IsPlace Decimal version line column (text ++ more) more
+place_more Decimal Three line None text more p = absurd p
+place_more Decimal Three line (Some column) text more p =
+    (p.0 ++ more, begins_more Decimal text line 44 p.0 more p.1, begins_more Decimal p.0 column 10 [] more p.2)
+place_more Decimal Four line column text more p = (p.0, begins_more Decimal text line 10 [] more p.1)
+
+plain_text : NeedNoQuotes IsPlainAddress
 plain_text text n h = address_text text n (plain_address text n h)
 
-line_join : (old b1 b2 b3 b4 b5 new low high file place more : List ℕ) → b1 ≡ old ++ low → b2 ≡ b1 ++ 44 ∷ [] → b3 ≡ b2 ++ high
-    → b4 ≡ b3 ++ 44 ∷ []
-    → b5 ≡ b4 ++ (file ++ 44 ∷ []) → new ≡ b5 ++ (place ++ more) → new ≡ old ++ (low ++ (44 ∷ high ++ (44 ∷ file ++ (44 ∷ place ++ more))))
-line_join old b1 b2 b3 b4 b5 new low high file place more e1 e2 e3 e4 e5 e6 = rw (e6, e5, e4, e3, e2, e1) (simp append_assoc)
+plain_number : NeedNoQuotes IsPlainDecimal
+plain_number text n h = number_text text n h.number
 
--- the parts of a line, added one after another, are the line
-pub line_put : (version : PathVersion) (path : ℕ → ℕ → List ℕ) (span : Span) (old b1 b2 b3 b4 b5 new : List ℕ)
-    → Puts IsPlainAddress span.low.address old b1 → b2 ≡ b1 ++ 44 ∷ []
-    → Puts IsPlainAddress span.high.address b2 b3 → b4 ≡ b3 ++ 44 ∷ []
-    → b5 ≡ b4 ++ field_with_comma (path span.answer.unit span.answer.file) → AddsPlace version span.answer b5 new
-    → AddsLine (plain_told (path_answer version path)) version span old new
-line_put version path span old b1 b2 b3 b4 b5 new low e2 high e4 e5 place =
-    let file : List ℕ = path span.answer.unit span.answer.file in
-    let end = end_fields version span.answer place.more place.column in
-    let text = line_fields low.text high.text file place.text end.0 (plain_text low.text span.low.address low.spells)
-    (plain_text high.text span.high.address high.spells) (number_text place.text span.answer.line place.line.number) in
+-- the two addresses, each with a comma after it
+abbrev pub AreAddresses : Span → List ℕ → Type 0
+AreAddresses span text = (high : List ℕ) × Begins IsPlainAddress text span.low.address 44 high
+    × Begins IsPlainAddress high span.high.address 44 []
+
+abbrev pub IsPlaceOf : PathVersion → Span → List ℕ → Type 0
+IsPlaceOf version span text = IsPlace IsPlainDecimal version span.answer.line (told_column version span.answer.column) text []
+
+pub span_line : (version : PathVersion) (path : ℕ → ℕ → List ℕ) (span : Span) (first field last more : List ℕ)
+    → AreAddresses span first → field ≡ path_field path span.answer.unit span.answer.file → IsPlaceOf version span last
+    → IsSpanLine (path_answer version path) version span (first ++ (field ++ (last ++ more))) more
+span_line version path span first field last more a e p =
+    let rest : List ℕ = field ++ (last ++ more) in
+    let file : List ℕ = field_text default_writer (path span.answer.unit span.answer.file) in
+    line_taken IsPlainAddress IsPlainDecimal plain_text plain_number version span.low.address span.high.address
+    (path_answer version path span.answer) (first ++ rest) (a.0 ++ rest) rest (last ++ more) more
+    (begins_more IsPlainAddress first span.low.address 44 a.0 rest a.1) (begins_more IsPlainAddress a.0 span.high.address 44 [] rest a.2)
+    (ap (λ (t : List ℕ). t ++ (last ++ more)) e ∙ append_assoc file (44 ∷ []) (last ++ more))
+    (place_more IsPlainDecimal version span.answer.line (told_column version span.answer.column) last more p)
+
+-- the parts that were added one after another
+pub line_put : (version : PathVersion) (path : ℕ → ℕ → List ℕ) (span : Span) (old b1 b2 new first field last : List ℕ)
+    → AreAddresses span first → b1 ≡ old ++ first → field ≡ path_field path span.answer.unit span.answer.file → b2 ≡ b1 ++ field
+    → IsPlaceOf version span last → new ≡ b2 ++ last → AddsLine (plain_told (path_answer version path)) version span old new
+line_put version path span old b1 b2 new first field last a e1 f e2 p e3 =
+    let l = span_line version path span first field last [] a f p in
+    let parts : new ≡ old ++ (first ++ (field ++ (last ++ []))) = rw (e3, e2, e1) (simp (append_assoc, append-nil)) in
     record {
-      fields = low.text ∷ high.text ∷ file ∷ place.text ∷ end.0;
-      joined =
-          line_join old b1 b2 b3 b4 b5 new low.text high.text (field_text default_writer file) place.text place.more low.joined e2
-          high.joined e4 e5 place.joined
-          ∙ ap (λ (m : List ℕ). old ++ (low.text ++ (44 ∷ high.text ++ (44 ∷ field_text default_writer file ++ (44 ∷ place.text ++ m)))))
-          end.1
-          ∙ ap (λ (t : List ℕ). old ++ t) (sym text);
-      says = says_line version path span.answer low.text high.text place.text span.low.address span.high.address end.0 low.spells
-          high.spells place.line end.2;
+      fields = l.fields;
+      joined = parts ∙ ap (λ (t : List ℕ). old ++ t) (l.joined ∙ append-nil (row_text default_writer l.fields));
+      says = l.says;
     }
+
+-- the parts that were passed one after another
+pub parts_passed : (version : PathVersion) (path : ℕ → ℕ → List ℕ) (span : Span) (old new first field last s1 s2 s3 : List ℕ) (n : ℕ)
+    → old ≡ first ++ s1 → s1 ≡ field ++ s2 → s2 ≡ last ++ s3 → n ≡ length old - length s3 → new ≡ drop n old
+    → AreAddresses span first → field ≡ path_field path span.answer.unit span.answer.file → IsPlaceOf version span last
+    → IsSpanLine (path_answer version path) version span old new
+parts_passed version path span old new first field last s1 s2 s3 n e1 e2 e3 count dropped a f p =
+    let parts : old ≡ first ++ (field ++ (last ++ s3)) = rw (e1, e2, e3) refl in
+    let prefix : List ℕ = first ++ (field ++ last) in
+    let joined : old ≡ prefix ++ s3 = parts ∙ simp append_assoc in
+    let long : n ≡ length prefix = omega (arith, count, ap length joined, length-append prefix s3) in
+    let left : new ≡ s3 = dropped ∙ ap (λ (k : ℕ). drop k old) long ∙ ap (drop (length prefix)) joined ∙ drop-append_seam prefix s3 in
+    rw (parts, left) (span_line version path span first field last s3 a f p)
+
+-- ---- fields and paths
+
+-- the first field of a record that was read, if one was
+first_field : Option (Fields × State × List ℕ) → List ℕ
+first_field None = []
+first_field (Some found) = get_or found.0 0 []
+
+pair_back : (path : List ℕ) → IsReadBack (row_text default_writer) (path ∷ [] ∷ [])
+pair_back path = record { some = omega arith; line_is = refl }
+
+-- Fields are the same only if their paths are.
+pub one_field : (p q : List ℕ) → field_with_comma p ≡ field_with_comma q → p ≡ q
+unfolding first_field
+one_field p q e =
+    let same : row_text default_writer (p ∷ [] ∷ []) ≡ row_text default_writer (q ∷ [] ∷ []) =
+    pair_text p ∙ ap (λ (t : List ℕ). t ++ 10 ∷ []) e ∙ sym (pair_text q) in
+    ap first_field (sym (line_read (row_text default_writer) (p ∷ [] ∷ []) [] (pair_back p))
+    ∙ ap (λ (t : List ℕ). next_record default_config st.StartRecord [] [] (t ++ [])) same
+    ∙ line_read (row_text default_writer) (q ∷ [] ∷ []) [] (pair_back q))
+
+pub same_paths : (same : Bool) (p q one other : List ℕ) → one ≡ field_with_comma p → other ≡ field_with_comma q
+    → MatchBool same (one ≡ other) (one ≢ other) → MatchBool same (p ≡ q) (p ≢ q)
+same_paths true p q one other e f m = one_field p q (sym e ∙ m ∙ f)
+same_paths false p q one other e f m = λ same. m (e ∙ ap field_with_comma same ∙ sym f)
 
 -- ---- lines are read back
 

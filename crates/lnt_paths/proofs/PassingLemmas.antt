@@ -1,13 +1,13 @@
 -- The lines of a table by path that are passed are the records that `csv` reads.
 use Rattle.std.proofs.Common.{◌≡◌, ◌∙◌, ℕ, ◌+◌, ◌-◌, ◌<◌, ◌≤◌, List, [], ◌∷◌, ◌++◌, Option, Some}
-use Rattle.std.proofs.Common.{None, length, length-append, length-drop, get_or, drop, take, if◌then◌else◌}
+use Rattle.std.proofs.Common.{length, length-append, length-drop, get_or, drop, take}
 use Rattle.std.proofs.Common.{refl, sym, ap, subst, append_assoc, append-nil, arith}
 use Rattle.std.proofs.lemmas.List.{drop-drop, drop_more, take-append-drop, take_all}
 use Rattle.std.proofs.lemmas.List.Elements.{recursion_from_All}
 use Rattle.std.specs.List.{All}
 use Rattle.csv.specs.Machine.{Read, next_record}
 use Rattle.csv.specs.Reading.{Reached, default_config, strip_bom}
-use Rattle.csv.specs.Writing.{default_writer, field_text, fields_text, is_blank, row_body, row_text}
+use Rattle.csv.specs.Writing.{default_writer, field_text, fields_text, row_text}
 use Rattle.csv.specs.declared.parser.State.{State}
 use Rattle.csv.specs.declared.parser.State.TheVariants as st
 use Rattle.lnt_text.specs.Digits.{IsAddress, IsDecimal}
@@ -22,11 +22,11 @@ use Rattle.lnt_records.proofs.QuotingLaws.{address_text, number_text, quiet_text
 use Rattle.lnt_paths.specs.declared.comparison.PathComparison.{PathComparison}
 use Rattle.lnt_paths.specs.declared.record.PathRecord.{PathRecord}
 use Rattle.lnt_paths.specs.declared.version.PathVersion.{PathVersion}
-use Rattle.lnt_paths.specs.declared.version.PathVersion.TheVariants.{Three, Four}
 use Rattle.lnt_paths.specs.PathLines.{IsPlainByte}
 use Rattle.lnt_records.specs.Passing.{IsCutAfter}
 use Rattle.lnt_paths.specs.Merging.{IsMerged, JudgesByPath}
-use Rattle.lnt_paths.specs.Passing.{GoesOnAs, HasTaken, IsAfter, IsPathBefore, IsPathLine, IsPlace}
+use Rattle.lnt_paths.specs.PathLines.{IsLineOf, IsPlace}
+use Rattle.lnt_paths.specs.Passing.{GoesOnAs, HasTaken, IsAfter, IsPathBefore, IsPathLine}
 use Rattle.lnt_paths.specs.PathAnswers.{PathAnswer}
 use Rattle.lnt_paths.specs.PathSpans.{PathSpan, whole}
 use Rattle.lnt_paths.specs.PathTables.{SaysPath, by_path, path_column_names}
@@ -34,7 +34,7 @@ use Rattle.lnt_paths.specs.Reading.{record_answer, record_span}
 use Rattle.lnt_paths.specs.Written.{plain_by_path}
 use Rattle.lnt_paths.proofs.ComparisonLemmas.{record_taken}
 use Rattle.lnt_paths.proofs.OneTableLemmas.{pathed}
-use Rattle.lnt_paths.proofs.LineLemmas.{line_fields, plain_paths, quiet_by_recursion}
+use Rattle.lnt_paths.proofs.LineLemmas.{line_taken, plain_paths, quiet_by_recursion}
 
 -- ---- parts of a line
 
@@ -77,79 +77,12 @@ path_at table path rest at more e b = record {
 
 -- ---- a line
 
--- a field before others
-field_before : (prefix b s0 s1 s4 : List ℕ) → s0 ≡ prefix ++ 44 ∷ s1 → s1 ≡ b ++ s4 → s0 ≡ (prefix ++ 44 ∷ b) ++ s4
-field_before prefix b s0 s1 s4 e f = e ∙ ap (λ (t : List ℕ). prefix ++ 44 ∷ t) f ∙ sym (append_assoc prefix (44 ∷ b) s4)
-
--- the line in the file, what follows it, and the line feed
-last_before : (line more s3 s4 : List ℕ) → s3 ≡ line ++ (more ++ 10 ∷ s4) → s3 ≡ (line ++ (more ++ 10 ∷ [])) ++ s4
-last_before line more s3 s4 e =
-    e ∙ ap (λ (t : List ℕ). line ++ t) (sym (append_assoc more (10 ∷ []) s4)) ∙ sym (append_assoc line (more ++ 10 ∷ []) s4)
-
--- the text of the line
-line_start : (low high path line : List ℕ) (more : Fields) (s0 s1 s2 s3 s4 : List ℕ) → field_text default_writer low ≡ low
-    → field_text default_writer high ≡ high → field_text default_writer path ≡ path → field_text default_writer line ≡ line
-    → s0 ≡ low ++ 44 ∷ s1 → s1 ≡ high ++ 44 ∷ s2 → s2 ≡ path ++ 44 ∷ s3 → s3 ≡ line ++ (fields_text default_writer more ++ 10 ∷ s4)
-    → s0 ≡ row_text default_writer (low ∷ high ∷ path ∷ line ∷ more) ++ s4
-line_start low high path line more s0 s1 s2 s3 s4 a b p c e0 e1 e2 e3 =
-    let end : List ℕ = line ++ (fields_text default_writer more ++ 10 ∷ []) in
-    let from : s2 ≡ (path ++ 44 ∷ end) ++ s4 =
-    field_before path end s2 s3 s4 e2 (last_before line (fields_text default_writer more) s3 s4 e3) in
-    let next : s1 ≡ (high ++ 44 ∷ (path ++ 44 ∷ end)) ++ s4 = field_before high (path ++ 44 ∷ end) s1 s2 s4 e1 from in
-    let all : s0 ≡ (low ++ 44 ∷ (high ++ 44 ∷ (path ++ 44 ∷ end))) ++ s4 =
-    field_before low (high ++ 44 ∷ (path ++ 44 ∷ end)) s0 s1 s4 e0 next in
-    let text : row_text default_writer (low ∷ high ∷ path ∷ line ∷ more) ≡ low ++ 44 ∷ (high ++ 44 ∷ (path ++ 44 ∷ end)) =
-    line_fields low high path line more a b c ∙ ap (λ (t : List ℕ). low ++ 44 ∷ (high ++ 44 ∷ (t ++ 44 ∷ end))) p in
-    all ∙ ap (λ (t : List ℕ). t ++ s4) (sym text)
-
--- the column and the line feed
-column_end : (column : List ℕ) (rest : List ℕ) → field_text default_writer column ≡ column
-    → 44 ∷ (column ++ 10 ∷ rest) ≡ fields_text default_writer (column ∷ []) ++ 10 ∷ rest
-unfolding fields_text
-column_end column rest q = rw (q, append-nil column) refl
-
-no_column_end : (rest : List ℕ) → 10 ∷ rest ≡ fields_text default_writer [] ++ 10 ∷ rest
-unfolding fields_text
-no_column_end rest = refl
-
-pub line_taken : (version : PathVersion) (said : PathRecord) (s0 s1 s2 s3 s4 : List ℕ) → Begins IsAddress s0 said.low 44 s1
-    → Begins IsAddress s1 said.high 44 s2 → IsPathBefore said.path.now s2 s3 → IsPlace version said.line said.column s3 s4
-    → IsPathLine version said s0 s4
-line_taken version said s0 s1 s2 s3 s4 low high path place = by version said.column refl place
-  where
-    path_is : field_text default_writer said.path.now ≡ said.path.now
-    path_is = path_quiet said.path.now path.plain
-
-    low_is : field_text default_writer low.prefix ≡ low.prefix
-    low_is = address_text low.prefix said.low low.spells
-
-    high_is : field_text default_writer high.prefix ≡ high.prefix
-    high_is = address_text high.prefix said.high high.spells
-
-    by : (v : PathVersion) (column : Option ℕ) → said.column ≡ column → IsPlace v said.line column s3 s4 → IsPathLine v said s0 s4
-    by Three None e p = absurd p
-    by Three (Some column) e p =
-        let line = p.1 in
-        let last = p.2 in
-        record {
-          fields = low.prefix ∷ high.prefix ∷ said.path.now ∷ line.prefix ∷ last.prefix ∷ [];
-          joined = line_start low.prefix high.prefix said.path.now line.prefix (last.prefix ∷ []) s0 s1 s2 s3 s4 low_is high_is path_is
-              (number_text line.prefix said.line line.spells) low.joined high.joined path.joined
-              (line.joined ∙ ap (λ (t : List ℕ). line.prefix ++ 44 ∷ t) last.joined
-              ∙ ap (λ (t : List ℕ). line.prefix ++ t) (column_end last.prefix s4 (number_text last.prefix column last.spells)));
-          says = rw e (record
-              { count = refl; low_is = low.spells; high_is = high.spells; path = refl; line = line.spells; column = last.spells });
-        }
-    by Four column e p =
-        let line = p.1 in
-        record {
-          fields = low.prefix ∷ high.prefix ∷ said.path.now ∷ line.prefix ∷ [];
-          joined = line_start low.prefix high.prefix said.path.now line.prefix [] s0 s1 s2 s3 s4 low_is high_is path_is
-              (number_text line.prefix said.line line.spells) low.joined high.joined path.joined
-              (line.joined ∙ ap (λ (t : List ℕ). line.prefix ++ t) (no_column_end s4));
-          says = record
-              { count = refl; low_is = low.spells; high_is = high.spells; path = refl; line = line.spells; column = e ∙ p.0 };
-        }
+pub record_line : (version : PathVersion) (low high line : ℕ) (path : List ℕ) (column : Option ℕ) (s0 s1 s2 s3 s4 : List ℕ)
+    → Begins IsAddress s0 low 44 s1 → Begins IsAddress s1 high 44 s2 → IsPathBefore path s2 s3 → IsPlace IsDecimal version line column s3 s4
+    → IsLineOf IsAddress IsDecimal version low high (record { path = path; line = line; column = column }) s0 s4
+record_line version low high line path column s0 s1 s2 s3 s4 from to file place =
+    line_taken IsAddress IsDecimal address_text number_text version low high (record { path = path; line = line; column = column }) s0 s1 s2
+    s3 s4 from to (file.joined ∙ ap (λ (t : List ℕ). t ++ 44 ∷ s3) (sym (path_quiet path file.plain))) place
 
 -- ---- `csv` reads it as its fields
 

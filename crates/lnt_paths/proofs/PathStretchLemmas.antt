@@ -16,7 +16,7 @@ use Rattle.lnt_paths.specs.declared.stretches.HeldSpans.{HeldSpans}
 use Rattle.lnt_paths.specs.declared.telling.PathMemory.{PathMemory}
 use Rattle.lnt_paths.specs.declared.telling.SaidPath.{SaidPath}
 use Rattle.lnt_paths.specs.declared.version.PathVersion.{PathVersion}
-use Rattle.lnt_paths.specs.Compared.{IsRemembered}
+use Rattle.lnt_paths.specs.PathLines.{IsRemembered}
 use Rattle.lnt_paths.specs.Held.{held_span}
 use Rattle.lnt_paths.specs.PathAnswers.{path_answer, PathAnswer, spans_by_path}
 use Rattle.lnt_paths.specs.PathSpans.{path_span_answer, StandInOrder, whole}

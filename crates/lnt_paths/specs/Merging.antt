@@ -10,7 +10,7 @@ use Rattle.lnt_spans.specs.Merged.{HasMerged, answer_told, end_of_records}
 use Rattle.lnt_paths.specs.declared.answer.DifferenceByPath.{DifferenceByPath}
 use Rattle.lnt_paths.specs.declared.comparison.PathComparison.{PathComparison}
 use Rattle.lnt_paths.specs.declared.version.PathVersion.{PathVersion}
-use Rattle.lnt_paths.specs.Compared.{IsRemembered}
+use Rattle.lnt_paths.specs.PathLines.{IsRemembered}
 use Rattle.lnt_paths.specs.PathAnswers.{PathAnswer}
 use Rattle.lnt_paths.specs.PathSpans.{PathSpan, path_span_answer, whole}
 use Rattle.lnt_paths.specs.PathStretches.{stretch_of}

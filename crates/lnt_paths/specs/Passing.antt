@@ -1,12 +1,10 @@
 -- A table by path that is parsed line by line, as long as nothing is in quotes. No public contract speaks of it.
-use Rattle.std.specs.Prelude.{◌≡◌, ℕ, ◌+◌, ◌≤◌, List, [], ◌∷◌, ◌++◌, Option, Some, None, length, map}
+use Rattle.std.specs.Prelude.{◌≡◌, ℕ, ◌+◌, ◌≤◌, List, [], ◌∷◌, ◌++◌, length, map}
 use Rattle.std.specs.List.{All}
 use Rattle.csv.specs.Reading.{Reached, default_config, strip_bom}
-use Rattle.csv.specs.Writing.{default_writer, row_text}
 use Rattle.csv.specs.declared.parser.State.{State}
 use Rattle.csv.specs.declared.parser.State.TheVariants as state
 use Rattle.lnt_text.specs.Digits.{IsAddress, IsDecimal}
-use Rattle.lnt_text.specs.Delimited.{Begins}
 use Rattle.lnt_records.specs.Passing.{AreLinesIn}
 use Rattle.lnt_records.specs.Reading.{IsNarrow}
 use Rattle.lnt_records.specs.Table.{Fields}
@@ -19,13 +17,12 @@ use Rattle.lnt_spans.specs.Spans.{AreInOrder}
 use Rattle.lnt_paths.specs.declared.comparison.PathComparison.{PathComparison}
 use Rattle.lnt_paths.specs.declared.record.PathRecord.{PathRecord}
 use Rattle.lnt_paths.specs.declared.version.PathVersion.{PathVersion}
-use Rattle.lnt_paths.specs.declared.version.PathVersion.TheVariants.{Three, Four}
-use Rattle.lnt_paths.specs.PathLines.{IsPlainByte}
+use Rattle.lnt_paths.specs.PathLines.{IsLineOf, IsPlainByte}
 use Rattle.lnt_paths.specs.Joining.{tell_span}
 use Rattle.lnt_paths.specs.Merging.{JudgesByPath}
 use Rattle.lnt_paths.specs.PathAnswers.{PathAnswer}
 use Rattle.lnt_paths.specs.PathSpans.{whole}
-use Rattle.lnt_paths.specs.PathTables.{SaysPath, by_path, path_column_names}
+use Rattle.lnt_paths.specs.PathTables.{by_path, path_column_names}
 use Rattle.lnt_paths.specs.Reading.{record_answer}
 use Rattle.lnt_paths.specs.Written.{plain_by_path}
 
@@ -36,18 +33,9 @@ pub record IsPathBefore (path bytes rest : List ℕ) : Type 0 where
   pub joined : bytes ≡ path ++ 44 ∷ rest
   pub plain : All IsPlainByte path
 
--- the line in the file, in version 3 a comma and the column, and a line feed; then `rest`
-abbrev pub IsPlace : PathVersion → ℕ → Option ℕ → List ℕ → List ℕ → Type 0
-IsPlace Three line None bytes rest = ⊥
-IsPlace Three line (Some column) bytes rest =
-    (middle : List ℕ) × Begins IsDecimal bytes line 44 middle × Begins IsDecimal middle column 10 rest
-IsPlace Four line column bytes rest = (column ≡ None) × Begins IsDecimal bytes line 10 rest
-
--- a line, as `csv` writes it, with these values; then `rest`
-pub record IsPathLine (version : PathVersion) (said : PathRecord) (bytes rest : List ℕ) : Type 0 where
-  pub fields : Fields
-  pub joined : bytes ≡ row_text default_writer fields ++ rest
-  pub says : SaysPath IsAddress IsDecimal version fields said.low said.high (record_answer said)
+-- the line of a record; then `rest`
+abbrev pub IsPathLine : PathVersion → PathRecord → List ℕ → List ℕ → Type 0
+IsPathLine version said = IsLineOf IsAddress IsDecimal version said.low said.high (record_answer said)
 
 -- ---- the lines so far
 

@@ -1,14 +1,17 @@
 -- The lines that are written of spans by path. `tell` gives an answer by path. No public contract speaks of it.
-use Rattle.std.specs.Prelude.{◌≡◌, ℕ, false, List, [], ◌∷◌, ◌++◌, Option, IfSome}
-use Rattle.std.specs.List.{All}
+use Rattle.std.specs.Prelude.{◌≡◌, ℕ, false, List, [], ◌∷◌, ◌++◌, Option, Some, None}
 use Rattle.csv.specs.Writing.{default_writer, field_text, needs_byte, row_text}
+use Rattle.lnt_text.specs.Delimited.{Begins}
 use Rattle.lnt_text.specs.Digits.{IsPlainAddress, IsPlainDecimal}
+use Rattle.lnt_records.specs.Table.{Fields}
 use Rattle.lnt_records.specs.Written.{LineFormat}
 use Rattle.lnt_spans.specs.declared.answer.Answer.{Answer}
 use Rattle.lnt_spans.specs.declared.span.Span.{Span}
-use Rattle.lnt_paths.specs.declared.field.PathField.{PathField}
+use Rattle.lnt_paths.specs.declared.fields.PathFields.{PathFields}
+use Rattle.lnt_paths.specs.declared.telling.PathMemory.{PathMemory}
 use Rattle.lnt_paths.specs.declared.version.PathVersion.{PathVersion}
 use Rattle.lnt_paths.specs.declared.version.PathVersion.TheVariants.{Three, Four}
+use Rattle.lnt_paths.specs.Compared.{ArePairsOf, AreTextsOf}
 use Rattle.lnt_paths.specs.PathAnswers.{PathAnswer}
 use Rattle.lnt_paths.specs.PathTables.{SaysPath, path_column_names}
 
@@ -20,13 +23,19 @@ field_with_comma path = field_text default_writer path ++ 44 ∷ []
 pub record IsPlainByte (byte : ℕ) : Type 0 where
   pub needs_none : needs_byte default_writer byte ≡ false
 
--- The cached field is that of its file, if these are the paths of files.
-abbrev pub IsFieldOf : (ℕ → ℕ → List ℕ) → PathField → Type 0
-IsFieldOf path kept = kept.text.items ≡ field_with_comma (path kept.unit kept.file)
+-- the same of each file of each unit
+abbrev pub path_field : (ℕ → ℕ → List ℕ) → ℕ → ℕ → List ℕ
+path_field path unit file = field_with_comma (path unit file)
 
--- Every cached field is that of its file.
-abbrev pub AreFieldsOf : (ℕ → ℕ → List ℕ) → List (Option PathField) → Type 0
-AreFieldsOf path slots = All (λ slot. IfSome slot (IsFieldOf path)) slots
+-- Every field is that of its file, and it is remembered correctly which files have the same path, if these are the paths of files.
+pub record AreFieldsOf (path : ℕ → ℕ → List ℕ) (fields : PathFields) : Type 0 where
+  pub texts : AreTextsOf (path_field path) fields.texts
+  pub pairs : ArePairsOf path fields.pairs
+
+-- All that is remembered of paths is correct.
+pub record IsRemembered (path : ℕ → ℕ → List ℕ) (memory : PathMemory) : Type 0 where
+  pub known : AreTextsOf path memory.known.paths
+  pub fields : AreFieldsOf path memory.fields
 
 -- the lines of spans, with only the addresses of their positions
 abbrev pub plain_told : (Answer → PathAnswer) → LineFormat PathVersion Span
@@ -37,15 +46,20 @@ plain_told tell = record {
       SaysPath IsPlainAddress IsPlainDecimal version fields span.low.address span.high.address (tell span.answer);
 }
 
--- what follows the line in the file: in version 3 a comma and the column, then a line feed
-abbrev pub IsPlaceEnd : PathVersion → ℕ → List ℕ → Type 0
-IsPlaceEnd Three column more = (text : List ℕ) × IsPlainDecimal text column × (more ≡ 44 ∷ text ++ 10 ∷ [])
-IsPlaceEnd Four column more = more ≡ 10 ∷ []
+-- the line in the file, in version 3 a comma and the column, and a line feed; then `rest`
+abbrev pub IsPlace : (List ℕ → ℕ → Type 0) → PathVersion → ℕ → Option ℕ → List ℕ → List ℕ → Type 0
+IsPlace Decimal Three line None bytes rest = ⊥
+IsPlace Decimal Three line (Some column) bytes rest =
+    (middle : List ℕ) × Begins Decimal bytes line 44 middle × Begins Decimal middle column 10 rest
+IsPlace Decimal Four line column bytes rest = (column ≡ None) × Begins Decimal bytes line 10 rest
 
--- The end of a span's line was appended: the line in the file, in version 3 the column, and a line feed.
-pub record AddsPlace (version : PathVersion) (answer : Answer) (old new : List ℕ) : Type 0 where
-  pub text : List ℕ
-  pub line : IsPlainDecimal text answer.line
-  pub more : List ℕ
-  pub joined : new ≡ old ++ (text ++ more)
-  pub column : IsPlaceEnd version answer.column more
+-- a line, as `csv` writes it, with these addresses and this answer, whose numbers are spelled so; then `rest`
+pub record IsLineOf (Address Decimal : List ℕ → ℕ → Type 0) (version : PathVersion) (low high : ℕ) (answer : PathAnswer)
+    (bytes rest : List ℕ) : Type 0 where
+  pub fields : Fields
+  pub joined : bytes ≡ row_text default_writer fields ++ rest
+  pub says : SaysPath Address Decimal version fields low high answer
+
+-- the line of a span, as it is written, with only the addresses of its positions; then `rest`
+abbrev pub IsSpanLine : (Answer → PathAnswer) → PathVersion → Span → List ℕ → List ℕ → Type 0
+IsSpanLine tell version span = IsLineOf IsPlainAddress IsPlainDecimal version span.low.address span.high.address (tell span.answer)

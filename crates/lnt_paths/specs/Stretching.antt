@@ -5,7 +5,7 @@ use Rattle.lnt_spans.specs.declared.span.Span.{Span}
 use Rattle.lnt_spans.specs.AnyStretches.{Stretch}
 use Rattle.lnt_spans.specs.Stretching.{HasGiven, stretches_to_give}
 use Rattle.lnt_paths.specs.declared.stretches.DifferencesByPath.{DifferencesByPath}
-use Rattle.lnt_paths.specs.Compared.{IsRemembered}
+use Rattle.lnt_paths.specs.PathLines.{IsRemembered}
 use Rattle.lnt_paths.specs.PathAnswers.{path_answer, PathAnswer}
 use Rattle.lnt_paths.specs.Reading.{said_answer}
 use Rattle.lnt_paths.specs.TableRuns.{held_runs, IsTableAt}

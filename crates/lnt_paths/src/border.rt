@@ -6,9 +6,9 @@ ghost use Rattle.lnt_spans.specs.Instructions.{IsOfInstructions};
 ghost use Rattle.lnt_paths.specs.Joining.{AllJoinTo, IsFirstOperation};
 ghost use Rattle.lnt_paths.specs.PathAnswers.{path_answer};
 
+use crate::fields::PathFields;
 use crate::joined::Joined;
 use crate::paths::Paths;
-use crate::told::ComparedPaths;
 use crate::version::PathVersion;
 use lnt_spans::{Position, SpanSource};
 use std::alloc::{AllocError, Global};
@@ -24,9 +24,9 @@ pub(crate) fn first_operation<S: SpanSource + Drop, P: Paths>(
         → AllJoinTo (path_answer version (P.bytes_of paths.now)) list joined
         → MatchOption found (AllByRecursion IsOfInstructions joined) (λ position. IsFirstOperation position joined)) }
 {
-    let mut compared = ComparedPaths::none();
+    let mut fields = PathFields::new(alloc)?;
     let mut joined = Joined::of(spans);
-    while let Some(span) = joined.next_joined(alloc, paths, version, &mut compared)? {
+    while let Some(span) = joined.next_joined(alloc, paths, version, &mut fields)? {
         if span.low.op != 0 {
             return Ok(Some(span.low));
         }

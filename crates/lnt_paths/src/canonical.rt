@@ -1,5 +1,5 @@
 //! Moves past the lines of a table by path that are the lines of a section's canonical spans, without parsing them.
-ghost use Rattle.std.specs.Prelude.{◌≡◌, ◌≢◌, ◌+◌, ◌-◌, ◌^◌, ◌<◌, ◌++◌, ℕ, List, length, IfOk, IsErrOf};
+ghost use Rattle.std.specs.Prelude.{◌≡◌, ◌≢◌, ◌+◌, ◌-◌, ◌^◌, ◌<◌, ◌++◌, ℕ, List, length, IfOk, IfSome, IsErrOf};
 ghost use Rattle.std.specs.Bool.{MatchBool};
 ghost use Rattle.lnt_spans.specs.declared.span.Span as spec;
 ghost use Rattle.lnt_spans.specs.Instructions.{IsOfInstructions};
@@ -7,15 +7,15 @@ ghost use Rattle.lnt_spans.specs.Spans.{AreInOrder};
 ghost use Rattle.lnt_records.specs.Passing.{Passes};
 ghost use Rattle.lnt_paths.specs.Passing.{AreLinesOf, LeaveOff};
 ghost use Rattle.lnt_paths.specs.PathAnswers.{path_answer};
+ghost use Rattle.lnt_paths.specs.PathLines.{IsSpanLine, path_field};
 
-use crate::field::PathFields;
+use crate::fields::PathFields;
 use crate::joined::Joined;
-use crate::line::put_line;
+use crate::line::{addresses_before, place_before};
 use crate::paths::Paths;
-use crate::told::ComparedPaths;
 use crate::version::PathVersion;
 use lnt_io::{Source, Stop};
-use lnt_records::{Remaining, Window, told};
+use lnt_records::{ROOM, Remaining, Window, told};
 use lnt_spans::{Span, SpanSource};
 use std::alloc::Global;
 
@@ -49,20 +49,19 @@ pub(crate) fn pass_spans<S: SpanSource + Drop, P: Paths, T: Source>(
     ensures no_failure { result ≢ Err Stop.Read → T.failures source.new ≡ T.failures source.old }
     ensures not_long { IsErrOf result Stop.TooLong → ⊥ }
 {
-    let mut compared = ComparedPaths::none();
-    let mut joined = Joined::of(spans);
     let mut fields = told(PathFields::new(alloc))?;
-    let mut line = Vec::new(alloc);
+    let mut joined = Joined::of(spans);
+    let mut room = [0; ROOM];
     let mut count = 1;
     let mut end = 0;
-    while let Some(span) = told(joined.next_joined(alloc, paths, version, &mut compared))? {
-        line.clear();
-        told(put_line(alloc, paths, version, &mut fields, &span, &mut line))?;
-        window.fill(alloc, source, line.len())?;
-        if !pass_line(window, &span, &line) {
+    while let Some(span) = told(joined.next_joined(alloc, paths, version, &mut fields))? {
+        let field = told(fields.take(alloc, paths, &span.answer))?;
+        window.fill(alloc, source, field.text.len().saturating_add(ROOM))?;
+        if !pass_line(window, &mut room, version, &field.text, &span) {
             let spans = joined.remaining(Some(span));
             return Ok(Passed { spans, count, end });
         }
+        fields.keep(field);
         count += 1;
         end = span.high.address;
     }
@@ -70,12 +69,47 @@ pub(crate) fn pass_spans<S: SpanSource + Drop, P: Paths, T: Source>(
     Ok(Passed { spans, count, end })
 }
 
-// Moves past the line of this span, if it is next, and the span begins and ends at whole instructions.
-fn pass_line(window: &mut Window, span: &Span, line: &[u8]) -> bool
-    ensures { MatchBool result ((window.old ≡ line.now ++ window.new) × IsOfInstructions span.now) (window.new ≡ window.old) }
+// Moves past the line of this span, if it is next, and the span begins and ends at whole instructions. `field` is the path of its file
+// as a field, with the comma after it.
+#[inline(always)]
+fn pass_line(
+    window: &mut Window,
+    room: &mut [u8; ROOM],
+    version: PathVersion,
+    field: &[u8],
+    span: &Span,
+) -> bool
+    ensures { (path : ℕ → ℕ → List ℕ) → field.now ≡ path_field path span.now.answer.unit span.now.answer.file
+        → MatchBool result (IsSpanLine (path_answer version path) version span.now window.old window.new × IsOfInstructions span.now)
+        (window.new ≡ window.old) }
 {
     if span.low.op != 0 || span.high.op != 0 {
         return false;
     }
-    window.pass_text(line)
+    let bytes = window.bytes();
+    let start = addresses_before(room, span);
+    let Some(after) = rest_after(bytes, &room[start..]) else {
+        return false;
+    };
+    let Some(after) = rest_after(after, field) else {
+        return false;
+    };
+    let start = place_before(room, version, &span.answer);
+    let Some(after) = rest_after(after, &room[start..]) else {
+        return false;
+    };
+    let passed = bytes.len() - after.len();
+    window.pass(passed);
+    true
+}
+
+// The bytes after these first ones, if the text begins with them.
+#[inline(always)]
+fn rest_after<'t>(text: &'t [u8], first: &[u8]) -> Option<&'t [u8]>
+    ensures { IfSome result (λ rest. text.now ≡ first.now ++ rest.now) }
+{
+    if !text.starts_with(first) {
+        return None;
+    }
+    Some(&text[first.len()..])
 }

@@ -1,80 +1,21 @@
-//! Caches the paths of files as fields of a record.
+//! The path of a file as a field of a record.
 ghost use Rattle.std.specs.Prelude.{◌≡◌, ◌++◌, ◌∷◌, ℕ, List, [], IfOk, IsTrue, OnOk};
 ghost use Rattle.std.specs.Bool.{MatchBool};
 ghost use Rattle.std.specs.List.{All};
 ghost use Rattle.csv.specs.Writing.{default_writer, row_text};
-ghost use Rattle.lnt_paths.specs.PathLines.{AreFieldsOf, IsPlainByte, field_with_comma};
+ghost use Rattle.lnt_paths.specs.PathLines.{IsPlainByte, field_with_comma};
 
 use crate::paths::Paths;
 use csv::Writer;
 use std::alloc::{AllocError, Global};
 
-// The number of fields kept at most.
-const SLOTS: u64 = 256;
-
-// The number of bytes of the longest field that is kept, so that all of them together take 2 MiB at most.
-const LONGEST: usize = 8192;
-
 // The path of a file as a field of a record, with the comma after it.
-#[derive(Drop)]
-pub(crate) struct PathField {
+pub(crate) fn field_of<P: Paths>(
+    alloc: Global,
+    paths: &P,
     unit: u64,
     file: u64,
-    text: Vec<u8>,
-}
-
-// A cache of fields, one in each slot, which the file number selects. It pays off since code alternates between files.
-#[derive(Drop)]
-pub(crate) struct PathFields {
-    slots: Vec<Option<PathField>>,
-}
-
-impl PathFields {
-    // An empty cache.
-    pub(crate) fn new(alloc: Global) -> Result<PathFields, AllocError>
-        ensures { IfOk result (λ fields. (path : ℕ → ℕ → List ℕ) → AreFieldsOf path fields.slots.items) }
-    {
-        let mut slots = Vec::new(alloc);
-        for _ in 0..SLOTS {
-            slots.push(None)?;
-        }
-        Ok(PathFields { slots })
-    }
-
-    // Adds the path of a file to a line, with the comma after it.
-    pub(crate) fn put<P: Paths>(
-        &mut self,
-        alloc: Global,
-        paths: &P,
-        unit: u64,
-        file: u64,
-        line: &mut Vec<u8>,
-    ) -> Result<(), AllocError>
-        requires { AreFieldsOf (P.bytes_of paths.now) self.old.slots.items }
-        ensures kept { OnOk result (AreFieldsOf (P.bytes_of paths.now) self.new.slots.items) }
-        ensures added { OnOk result (line.new.items ≡ line.old.items ++ field_with_comma (P.bytes_of paths.now unit file)) }
-    {
-        let place = (file % SLOTS) as usize;
-        if let Some(Some(kept)) = self.slots.get(place) {
-            if kept.unit == unit && kept.file == file {
-                line.extend_from_slice(&kept.text)?;
-                return Ok(());
-            }
-        }
-        let text = field_of(alloc, paths, unit, file)?;
-        line.extend_from_slice(&text)?;
-        if text.len() > LONGEST {
-            return Ok(());
-        }
-        if let Some(slot) = self.slots.get_mut(place) {
-            *slot = Some(PathField { unit, file, text });
-        }
-        Ok(())
-    }
-}
-
-// The path of a file as a field of a record, with the comma after it.
-fn field_of<P: Paths>(alloc: Global, paths: &P, unit: u64, file: u64) -> Result<Vec<u8>, AllocError>
+) -> Result<Vec<u8>, AllocError>
     ensures { IfOk result (λ text. text.items ≡ field_with_comma (P.bytes_of paths.now unit file)) }
 {
     let mut path = paths.path_of(alloc, unit, file)?;

@@ -7,13 +7,13 @@ ghost use Rattle.lnt_spans.specs.Ahead.{count_ahead};
 ghost use Rattle.std.specs.List.{cons_option};
 ghost use Rattle.lnt_spans.specs.Coming.{GivesFirstSpan};
 ghost use Rattle.lnt_spans.specs.Remaining.{SpansAreLeft};
-ghost use Rattle.lnt_paths.specs.Compared.{AreCompared};
 ghost use Rattle.lnt_paths.specs.Joining.{AllJoinTo, GivesJoined, IsExtendedBy, WillGive};
 ghost use Rattle.lnt_paths.specs.PathAnswers.{PathAnswer, path_answer, told_column};
+ghost use Rattle.lnt_paths.specs.PathLines.{AreFieldsOf};
 
+use crate::fields::PathFields;
 use crate::paths::Paths;
 use crate::telling::same_place;
-use crate::told::ComparedPaths;
 use crate::version::PathVersion;
 use lnt_records::Remaining;
 use lnt_spans::{Answer, Span, SpanSource};
@@ -37,7 +37,7 @@ impl<S: SpanSource> Joined<S> {
         Joined { next, spans }
     }
 
-    // Gives the next joined span: the next span with all those that extend it. It is inlined, and `compared` stands apart, so that the
+    // Gives the next joined span: the next span with all those that extend it. It is inlined, and `fields` stands apart, so that the
     // walk over the spans keeps its state in registers.
     #[inline(always)]
     pub(crate) fn next_joined<P: Paths>(
@@ -45,10 +45,10 @@ impl<S: SpanSource> Joined<S> {
         alloc: Global,
         paths: &P,
         version: PathVersion,
-        compared: &mut ComparedPaths,
+        fields: &mut PathFields,
     ) -> Result<Option<Span>, AllocError>
-        requires { AreCompared (P.bytes_of paths.now) compared.old.slots }
-        ensures compared { OnOk result (AreCompared (P.bytes_of paths.now) compared.new.slots) }
+        requires { AreFieldsOf (P.bytes_of paths.now) fields.old }
+        ensures fields { OnOk result (AreFieldsOf (P.bytes_of paths.now) fields.new) }
         ensures gives { IfOk result (λ given. (joined : List spec.Span)
             → WillGive (path_answer version (P.bytes_of paths.now)) self.old.next (S.to_come self.old.spans) joined
             → GivesFirstSpan (WillGive (path_answer version (P.bytes_of paths.now)) self.new.next
@@ -62,7 +62,7 @@ impl<S: SpanSource> Joined<S> {
             return Ok(None);
         };
         while let Some(span) = self.spans.next_span() {
-            if !goes_on(alloc, paths, version, compared, &last, &span)? {
+            if !goes_on(alloc, paths, version, fields, &last, &span)? {
                 self.next = Some(span);
                 return Ok(Some(last));
             }
@@ -85,17 +85,17 @@ fn goes_on<P: Paths>(
     alloc: Global,
     paths: &P,
     version: PathVersion,
-    compared: &mut ComparedPaths,
+    fields: &mut PathFields,
     last: &Span,
     span: &Span,
 ) -> Result<bool, AllocError>
-    requires { AreCompared (P.bytes_of paths.now) compared.old.slots }
-    ensures compared { OnOk result (AreCompared (P.bytes_of paths.now) compared.new.slots) }
+    requires { AreFieldsOf (P.bytes_of paths.now) fields.old }
+    ensures fields { OnOk result (AreFieldsOf (P.bytes_of paths.now) fields.new) }
     ensures goes { IfOk result (λ goes. MatchBool goes (IsExtendedBy (path_answer version (P.bytes_of paths.now)) last.now span.now)
         (IsExtendedBy (path_answer version (P.bytes_of paths.now)) last.now span.now → ⊥)) }
 {
     if last.high != span.low || !same_place(version, &last.answer, &span.answer) {
         return Ok(false);
     }
-    compared.same_path(alloc, paths, &last.answer, &span.answer)
+    fields.same_path(alloc, paths, &last.answer, &span.answer)
 }

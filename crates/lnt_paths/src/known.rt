@@ -1,8 +1,9 @@
 //! Caches the paths of files.
 ghost use Rattle.std.specs.Prelude.{◌≡◌, ◌≢◌, ℕ, List, IfOk, OnOk};
 ghost use Rattle.std.specs.Bool.{MatchBool};
-ghost use Rattle.lnt_paths.specs.Compared.{AreKnownOf, AreTold};
+ghost use Rattle.lnt_paths.specs.Compared.{AreTextsOf, AreTold, IsTextOf};
 
+use crate::kept::{FileText, FileTexts};
 use crate::paths::Paths;
 use crate::told::ToldFiles;
 use lnt_spans::Answer;
@@ -14,31 +15,19 @@ const SLOTS: u64 = 4096;
 // The number of bytes of the longest path that is kept, so that all of them together take 2 MiB at most.
 const LONGEST: usize = 512;
 
-// The path of a file, with its unit and file number.
-#[derive(Drop)]
-pub(crate) struct KnownPath {
-    unit: u64,
-    file: u64,
-    path: Vec<u8>,
-}
-
-// A cache of paths, one in each slot, which the sum of the unit and the file number selects: a path is made again only after
-// another file with the same slot was asked for, or if it is long.
+// A cache of paths: a path is made again only after another file with the same slot was asked for, or if it is long.
 #[derive(Drop)]
 pub(crate) struct KnownPaths {
-    slots: Vec<Option<KnownPath>>,
+    paths: FileTexts,
 }
 
 impl KnownPaths {
     // An empty cache.
     pub(crate) fn new(alloc: Global) -> Result<KnownPaths, AllocError>
-        ensures { IfOk result (λ known. (path : ℕ → ℕ → List ℕ) → AreKnownOf path known.slots.items) }
+        ensures { IfOk result (λ known. (path : ℕ → ℕ → List ℕ) → AreTextsOf path known.paths) }
     {
-        let mut slots = Vec::new(alloc);
-        for _ in 0..SLOTS {
-            slots.push(None)?;
-        }
-        Ok(KnownPaths { slots })
+        let paths = FileTexts::new(alloc, SLOTS, LONGEST)?;
+        Ok(KnownPaths { paths })
     }
 
     // Whether the file that an answer names has this path, byte for byte. The result is remembered for some files.
@@ -51,9 +40,9 @@ impl KnownPaths {
         answer: &Answer,
         path: &[u8],
     ) -> Result<bool, AllocError>
-        requires known { AreKnownOf (P.bytes_of paths.now) self.old.slots.items }
+        requires known { AreTextsOf (P.bytes_of paths.now) self.old.paths }
         requires told { AreTold (P.bytes_of paths.now) path.now told.old.slots }
-        ensures kept { OnOk result (AreKnownOf (P.bytes_of paths.now) self.new.slots.items) }
+        ensures kept { OnOk result (AreTextsOf (P.bytes_of paths.now) self.new.paths) }
         ensures told { OnOk result (AreTold (P.bytes_of paths.now) path.now told.new.slots) }
         ensures same { IfOk result (λ same. MatchBool same (P.bytes_of paths.now answer.now.unit answer.now.file ≡ path.now)
             (P.bytes_of paths.now answer.now.unit answer.now.file ≢ path.now)) }
@@ -74,30 +63,30 @@ impl KnownPaths {
         answer: &Answer,
         path: &[u8],
     ) -> Result<bool, AllocError>
-        requires { AreKnownOf (P.bytes_of paths.now) self.old.slots.items }
-        ensures kept { OnOk result (AreKnownOf (P.bytes_of paths.now) self.new.slots.items) }
+        requires { AreTextsOf (P.bytes_of paths.now) self.old.paths }
+        ensures kept { OnOk result (AreTextsOf (P.bytes_of paths.now) self.new.paths) }
         ensures same { IfOk result (λ same. MatchBool same (P.bytes_of paths.now answer.now.unit answer.now.file ≡ path.now)
             (P.bytes_of paths.now answer.now.unit answer.now.file ≢ path.now)) }
     {
-        let (unit, file) = (answer.unit, answer.file);
-        let place = (unit.wrapping_add(file) % SLOTS) as usize;
-        if let Some(Some(kept)) = self.slots.get(place) {
-            if kept.unit == unit && kept.file == file {
-                return Ok(kept.path.as_slice() == path);
-            }
-        }
-        let made = paths.path_of(alloc, unit, file)?;
-        let same = made.as_slice() == path;
-        if made.len() > LONGEST {
-            return Ok(same);
-        }
-        if let Some(slot) = self.slots.get_mut(place) {
-            *slot = Some(KnownPath {
-                unit,
-                file,
-                path: made,
-            });
-        }
+        let known = match self.paths.take(answer.unit, answer.file) {
+            Some(known) => known,
+            None => path_of(alloc, paths, answer)?,
+        };
+        let same = known.is_text(path);
+        self.paths.keep(known);
         Ok(same)
     }
+}
+
+// The path of the file that an answer names.
+fn path_of<P: Paths>(alloc: Global, paths: &P, answer: &Answer) -> Result<FileText, AllocError>
+    ensures { IfOk result (λ made. (made.unit ≡ answer.now.unit) × (made.file ≡ answer.now.file)
+        × IsTextOf (P.bytes_of paths.now) made) }
+{
+    let text = paths.path_of(alloc, answer.unit, answer.file)?;
+    Ok(FileText {
+        unit: answer.unit,
+        file: answer.file,
+        text,
+    })
 }

@@ -1,46 +1,65 @@
-//! Writes the line of a span.
-ghost use Rattle.std.specs.Prelude.{OnOk};
+//! Writes the line of a span: the addresses, the path as a field, and the line in the file with what follows it.
+ghost use Rattle.std.specs.Prelude.{◌<◌, ℕ, List, [], drop, OnOk};
+ghost use Rattle.lnt_text.specs.Delimited.{Begins};
+ghost use Rattle.lnt_text.specs.Digits.{IsPlainAddress, IsPlainDecimal};
 ghost use Rattle.lnt_records.specs.Progress.{AddsLine};
-ghost use Rattle.lnt_paths.specs.PathAnswers.{path_answer};
-ghost use Rattle.lnt_paths.specs.PathLines.{AddsPlace, AreFieldsOf, plain_told};
+ghost use Rattle.lnt_paths.specs.PathAnswers.{path_answer, told_column};
+ghost use Rattle.lnt_paths.specs.PathLines.{AreFieldsOf, IsPlace, plain_told};
 
-use crate::field::PathFields;
+use crate::fields::PathFields;
 use crate::paths::Paths;
 use crate::version::PathVersion;
+use lnt_records::{ROOM, address_field_before, number_before};
 use lnt_spans::{Answer, Span};
-use lnt_text::{put_address, put_decimal};
 use std::alloc::{AllocError, Global};
 
-// Adds the line of a span; of its positions only the addresses are written.
+// Adds the line of a span, of which parts are written into `room` first; of its positions only the addresses are written.
 pub(crate) fn put_line<P: Paths>(
     alloc: Global,
     paths: &P,
     version: PathVersion,
     fields: &mut PathFields,
+    room: &mut [u8; ROOM],
     span: &Span,
     line: &mut Vec<u8>,
 ) -> Result<(), AllocError>
-    requires { AreFieldsOf (P.bytes_of paths.now) fields.old.slots.items }
-    ensures kept { OnOk result (AreFieldsOf (P.bytes_of paths.now) fields.new.slots.items) }
+    requires { AreFieldsOf (P.bytes_of paths.now) fields.old }
+    ensures kept { OnOk result (AreFieldsOf (P.bytes_of paths.now) fields.new) }
     ensures added { OnOk result (AddsLine
         (plain_told (path_answer version (P.bytes_of paths.now))) version span.now line.old.items line.new.items) }
 {
-    put_address(line, span.low.address)?;
-    line.extend_from_slice(b",")?;
-    put_address(line, span.high.address)?;
-    line.extend_from_slice(b",")?;
-    fields.put(alloc, paths, span.answer.unit, span.answer.file, line)?;
-    put_place(version, &span.answer, line)
+    let start = addresses_before(room, span);
+    line.extend_from_slice(&room[start..])?;
+    let field = fields.take(alloc, paths, &span.answer)?;
+    line.extend_from_slice(&field.text)?;
+    fields.keep(field);
+    let start = place_before(room, version, &span.answer);
+    line.extend_from_slice(&room[start..])
 }
 
-// Adds the line in the file, in version 3 the column, and the line feed.
-fn put_place(version: PathVersion, answer: &Answer, line: &mut Vec<u8>) -> Result<(), AllocError>
-    ensures { OnOk result (AddsPlace version answer.now line.old.items line.new.items) }
+// Writes the two addresses of a span, each with a comma after it, so that they end where `room` does; gives their index.
+#[inline(always)]
+pub(crate) fn addresses_before(room: &mut [u8; ROOM], span: &Span) -> usize
+    ensures begins { result < 256 }
+    ensures written { (high : List ℕ) × Begins IsPlainAddress (drop result room.new) span.now.low.address 44 high
+        × Begins IsPlainAddress high span.now.high.address 44 [] }
 {
-    put_decimal(line, answer.line)?;
-    if version == PathVersion::Three {
-        line.extend_from_slice(b",")?;
-        put_decimal(line, answer.column)?;
+    let at = address_field_before(room, ROOM, span.high.address);
+    address_field_before(room, at, span.low.address)
+}
+
+// Writes the line in the file, in version 3 a comma and the column, and a line feed, so that they end where `room` does; gives
+// their index.
+#[inline(always)]
+pub(crate) fn place_before(room: &mut [u8; ROOM], version: PathVersion, answer: &Answer) -> usize
+    ensures begins { result < 256 }
+    ensures written { IsPlace IsPlainDecimal version answer.now.line (told_column version answer.now.column) (drop result room.new) [] }
+{
+    match version {
+        PathVersion::Three => {
+            let at = number_before(room, ROOM, answer.column, b'\n');
+            number_before(room, at, answer.line, b',')
+        }
+        PathVersion::Four => number_before(room, ROOM, answer.line, b'\n'),
     }
-    line.extend_from_slice(b"\n")
 }

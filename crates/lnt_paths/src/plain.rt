@@ -1,8 +1,9 @@
 //! Parses lines of a table by path that have nothing in quotes, each in one pass over its bytes.
 ghost use Rattle.std.specs.Prelude.{◌≡◌, ◌≤◌, ◌∷◌, ◌++◌, drop, length, IfSome};
 ghost use Rattle.std.specs.List.{All};
-ghost use Rattle.lnt_paths.specs.PathLines.{IsPlainByte};
-ghost use Rattle.lnt_paths.specs.Passing.{IsPathBefore, IsPathLine, IsPlace};
+ghost use Rattle.lnt_text.specs.Digits.{IsDecimal};
+ghost use Rattle.lnt_paths.specs.PathLines.{IsPlainByte, IsPlace};
+ghost use Rattle.lnt_paths.specs.Passing.{IsPathBefore, IsPathLine};
 
 use crate::field::calls_for_quotes;
 use crate::record::PathRecord;
@@ -76,7 +77,7 @@ fn plain_field<'t>(text: &'t [u8]) -> Option<(&'t [u8], usize)>
 // Parses the line in the file, the column if the version has columns, and the line feed; gives the next index.
 #[inline(always)]
 fn place_at(table: &[u8], at: usize, version: PathVersion) -> Option<((u64, Option<u64>), usize)>
-    ensures { IfSome result (λ found. IsPlace version found.0.0 found.0.1 (drop at table.now) (drop found.1 table.now)) }
+    ensures { IfSome result (λ found. IsPlace IsDecimal version found.0.0 found.0.1 (drop at table.now) (drop found.1 table.now)) }
 {
     match version {
         PathVersion::Three => {

@@ -6,7 +6,7 @@ ghost use Rattle.lnt_spans.specs.Counts.{addresses_answered};
 ghost use Rattle.lnt_spans.specs.Partial.{where_missed};
 ghost use Rattle.lnt_spans.specs.Spans.{AreInOrder};
 ghost use Rattle.lnt_paths.specs.declared.answer.DifferenceByPath as spec_difference;
-ghost use Rattle.lnt_paths.specs.Compared.{IsRemembered};
+ghost use Rattle.lnt_paths.specs.PathLines.{IsRemembered};
 ghost use Rattle.lnt_paths.specs.Held.{held_span};
 ghost use Rattle.lnt_paths.specs.PathAnswers.{PathAnswer, spans_by_path, told_path_answer};
 ghost use Rattle.lnt_paths.specs.PathSpans.{StandInOrder, path_span_answer};

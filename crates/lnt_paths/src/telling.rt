@@ -3,15 +3,16 @@ ghost use Rattle.std.specs.Prelude.{◌≡◌, ◌≢◌, ℕ, List, IfOk, OnOk}
 ghost use Rattle.std.specs.Bool.{MatchBool};
 ghost use Rattle.std.specs.Option.{option_map};
 ghost use Rattle.lnt_spans.specs.AnyStretches.{stretch_at};
-ghost use Rattle.lnt_paths.specs.Compared.{IsRemembered};
+ghost use Rattle.lnt_paths.specs.PathLines.{IsRemembered};
 ghost use Rattle.lnt_paths.specs.PathAnswers.{path_answer, told_column, told_path_answer};
 ghost use Rattle.lnt_paths.specs.PathStretches.{stretch_of};
 ghost use Rattle.lnt_paths.specs.Reading.{said_answer};
 
 use crate::answer::{AnswerByPath, DifferenceByPath};
+use crate::fields::PathFields;
 use crate::known::KnownPaths;
 use crate::paths::Paths;
-use crate::told::{ComparedPaths, ToldFiles};
+use crate::told::ToldFiles;
 use crate::version::PathVersion;
 use lnt_spans::{Answer, Position, Telling};
 use std::alloc::{AllocError, Global};
@@ -30,7 +31,7 @@ pub(crate) struct SaidPath<'r> {
 #[derive(Drop)]
 pub(crate) struct PathMemory {
     known: KnownPaths,
-    compared: ComparedPaths,
+    fields: PathFields,
 }
 
 impl PathMemory {
@@ -39,10 +40,8 @@ impl PathMemory {
         ensures { IfOk result (λ memory. (path : ℕ → ℕ → List ℕ) → IsRemembered path memory) }
     {
         let known = KnownPaths::new(alloc)?;
-        Ok(PathMemory {
-            known,
-            compared: ComparedPaths::none(),
-        })
+        let fields = PathFields::new(alloc)?;
+        Ok(PathMemory { known, fields })
     }
 }
 
@@ -57,7 +56,8 @@ pub(crate) struct PathTelling<'p, 'r, P> {
 
 impl<'p, 'r, P: Paths> Telling for PathTelling<'p, 'r, P> {
     ghost use Rattle.std.specs.Prelude.{◌≡◌};
-    ghost use Rattle.lnt_paths.specs.Compared.{AreTold, IsRemembered};
+    ghost use Rattle.lnt_paths.specs.Compared.{AreTold};
+    ghost use Rattle.lnt_paths.specs.PathLines.{IsRemembered};
     ghost use Rattle.lnt_paths.specs.PathAnswers.{PathAnswer, path_answer};
     ghost use Rattle.lnt_paths.specs.PathStretches.{stretch_of};
     ghost use Rattle.lnt_paths.specs.Reading.{said_answer};
@@ -93,9 +93,7 @@ impl<'p, 'r, P: Paths> Telling for PathTelling<'p, 'r, P> {
         if !same_place(self.version, one, other) {
             return Ok(false);
         }
-        memory
-            .compared
-            .same_path(self.alloc, self.paths, one, other)
+        memory.fields.same_path(self.alloc, self.paths, one, other)
     }
 
     #[inline(always)]

@@ -13,13 +13,12 @@ ghost use Rattle.lnt_paths.specs.PathLines.{plain_told};
 ghost use Rattle.lnt_paths.specs.Written.{BeginsPathTable, HasBecome, IsCanonicalPathTable};
 
 use crate::border::first_operation;
-use crate::field::PathFields;
+use crate::fields::PathFields;
 use crate::joined::Joined;
 use crate::line::put_line;
 use crate::paths::Paths;
-use crate::told::ComparedPaths;
 use crate::version::{PathTable, PathVersion};
-use lnt_records::{WriteStop, put_header, send, send_full};
+use lnt_records::{ROOM, WriteStop, put_header, send, send_full};
 use lnt_spans::SpanSource;
 use std::alloc::Global;
 use std::io::Write;
@@ -99,13 +98,21 @@ fn write_lines<S: SpanSource + Drop, P: Paths, W: Write>(
         × HasBegunLines (plain_told (path_answer version (P.bytes_of paths.now))) version (W.contents out.old) (W.contents out.new) first
         × ((list : List spec.Span) → S.to_come spans list → AreFirstOf (path_answer version (P.bytes_of paths.now)) list first)) }
 {
-    let mut compared = ComparedPaths::none();
-    let mut joined = Joined::of(spans);
     let mut fields = PathFields::new(alloc)?;
+    let mut joined = Joined::of(spans);
+    let mut room = [0; ROOM];
     let mut block = Vec::new(alloc);
     put_header(&mut block, &version)?;
-    while let Some(span) = joined.next_joined(alloc, paths, version, &mut compared)? {
-        put_line(alloc, paths, version, &mut fields, &span, &mut block)?;
+    while let Some(span) = joined.next_joined(alloc, paths, version, &mut fields)? {
+        put_line(
+            alloc,
+            paths,
+            version,
+            &mut fields,
+            &mut room,
+            &span,
+            &mut block,
+        )?;
         send_full(&mut block, out)?;
     }
     send(&mut block, out)

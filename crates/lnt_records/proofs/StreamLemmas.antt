@@ -1,7 +1,7 @@
 -- A table of which some lines were passed, and the rest was read after its header.
 use Rattle.std.proofs.Common.{◌≡◌, ◌≢◌, ◌∙◌, ℕ, ◌+◌, ◌^◌, ◌<◌, List, [], ◌∷◌, ◌++◌, Option, Some, None, IfSome, append_assoc, length}
 use Rattle.std.proofs.Common.{length-append, refl, ap, subst, sym, arith}
-use Rattle.std.specs.List.{AllByRecursion, AllZip}
+use Rattle.std.specs.List.{AllByRecursion}
 use Rattle.csv.specs.declared.parser.State.TheVariants as st
 use Rattle.lnt_spans.specs.declared.answer.Version.{Version}
 use Rattle.lnt_spans.specs.declared.difference.Difference.{Difference}
@@ -10,7 +10,6 @@ use Rattle.lnt_spans.specs.declared.span.Span.{Span}
 use Rattle.lnt_spans.specs.Comparing.{Compares, IsTold, Merging, end_of}
 use Rattle.lnt_spans.proofs.AnsweringLaws.{prefix_in_order}
 use Rattle.lnt_spans.specs.Spans.{AreInOrder}
-use Rattle.lnt_io.specs.Pulling.{Pulls}
 use Rattle.lnt_records.specs.Outcomes.{IfCompared, IsHeadedOutcome, IsOutcome, Outcome}
 use Rattle.lnt_records.specs.declared.outcome.TableRead.TheVariants.{Fault}
 use Rattle.lnt_records.specs.declared.fault.TableFault.TheVariants as fault

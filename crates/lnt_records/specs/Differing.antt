@@ -1,5 +1,5 @@
 -- A table compared with a section's spans at every position.
-use Rattle.std.specs.Prelude.{◌≡◌, ◌≢◌, ℕ, List, [], Option}
+use Rattle.std.specs.Prelude.{◌≢◌, ℕ, List, [], Option}
 use Rattle.lnt_spans.specs.declared.answer.Answer.{Answer}
 use Rattle.lnt_spans.specs.declared.listed.SpanList.{SpanList}
 use Rattle.lnt_spans.specs.declared.stretches.Differences.{Differences}

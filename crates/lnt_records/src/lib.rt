@@ -41,5 +41,6 @@ pub use record::RecordFault;
 pub use remaining::Remaining;
 pub use stream::{TableStart, compare_lines, compare_table};
 pub use taking::{TakesRecords, take_records};
+pub use text::{ROOM, address_field_before, number_before};
 pub use window::Window;
 pub use write::{put_header, send, send_full, write_spans};

@@ -9,8 +9,8 @@ ghost use Rattle.lnt_records.specs.Written.{IsOfVersion};
 use lnt_spans::{Answer, Position, Span};
 use lnt_text::{address_before, decimal_before};
 
-// More bytes than there are in any line that is written here or parsed as a line.
-pub(crate) const ROOM: usize = 256;
+/// More bytes than there are in any line that is written here or parsed as a line.
+pub const ROOM: usize = 256;
 
 // Writes the line of a span, without leading zeros, so that it ends where `room` does; gives the index at which it begins.
 #[inline(always)]
@@ -31,8 +31,18 @@ fn position_before(room: &mut [u8; ROOM], end: usize, position: Position) -> usi
     ensures written { IsPosition IsPlainAddress IsPlainDecimal position (drop result room.new) (drop end room.old) }
 {
     let at = number_before(room, end, position.op, b',');
-    room[at - 1] = b',';
-    address_before(room, at - 1, position.address)
+    address_field_before(room, at, position.address)
+}
+
+/// Writes an address and a comma after it so that they end before `end`; gives their index.
+#[inline(always)]
+pub fn address_field_before(room: &mut [u8; ROOM], end: usize, address: u64) -> usize
+    requires { (19 ≤ end) × (end ≤ 256) }
+    ensures begins { (result < end) × (end ≤ result + 19) }
+    ensures written { Begins IsPlainAddress (drop result room.new) address 44 (drop end room.old) }
+{
+    room[end - 1] = b',';
+    address_before(room, end - 1, address)
 }
 
 // Writes the fields of an answer, separated by commas, and the line feed, so that they end where `room` does; gives their
@@ -84,9 +94,9 @@ fn flag_before(room: &mut [u8; ROOM], end: usize, on: bool) -> usize
     end - 1
 }
 
-// Writes a decimal number and the byte after it so that they end before `end`; gives their index.
+/// Writes a decimal number and the byte after it so that they end before `end`; gives their index.
 #[inline(always)]
-fn number_before(room: &mut [u8; ROOM], end: usize, n: u64, past: u8) -> usize
+pub fn number_before(room: &mut [u8; ROOM], end: usize, n: u64, past: u8) -> usize
     requires { (21 ≤ end) × (end ≤ 256) }
     ensures begins { (result < end) × (end ≤ result + 21) }
     ensures written { Begins IsPlainDecimal (drop result room.new) n past (drop end room.old) }

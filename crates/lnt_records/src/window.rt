@@ -37,17 +37,17 @@ impl Window {
         }
     }
 
-    // The current bytes.
+    /// The current bytes.
     #[inline(always)]
-    pub(crate) fn bytes(&self) -> &[u8]
+    pub fn bytes(&self) -> &[u8]
         ensures { result.now ≡ self.now }
     {
         &self.block[self.at..]
     }
 
-    // Moves past `count` bytes, or to the end if there are fewer.
+    /// Moves past `count` bytes, or to the end if there are fewer.
     #[inline(always)]
-    pub(crate) fn pass(&mut self, count: usize)
+    pub fn pass(&mut self, count: usize)
         ensures { self.new ≡ drop count self.old }
     {
         self.at += count.min(self.block.len() - self.at);

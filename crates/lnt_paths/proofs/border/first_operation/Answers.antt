@@ -14,7 +14,7 @@ loop-joined-init g c =
     let new : List Span → Type 0 = WillGive tell c.of-joined.result.next (g.S.SpanSource.to_come c.of-joined.result.spans) in (
       [],
       tt,
-      c.none-compared.ensures (g.P.Paths.bytes_of c.args.paths.now),
+      c.in_ok-fields.ensures (g.P.Paths.bytes_of c.args.paths.now),
       λ list joined come joins. none_given joined new (c.of-joined.ensures.gives tell list joined come joins),
     )
 
@@ -50,6 +50,6 @@ loop-joined-preserved g c =
     subst (λ (o : Option Span). (spans : List Span) → old spans → GivesFirstSpan new spans o) c.in-Some.is c.in_ok-span.ensures.gives in (
       inv.0 ++ c.in-Some.span ∷ [],
       none_more inv.0 c.in-Some.span inv.1 (c.if-span-ne0.false, c.if-span-ne0-2.false),
-      c.in_ok-span.ensures.compared,
+      c.in_ok-span.ensures.fields,
       λ list joined come joins. one_given joined inv.0 c.in-Some.span old new (inv.3 list joined come joins) gives,
     )

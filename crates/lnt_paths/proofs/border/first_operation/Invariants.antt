@@ -4,14 +4,14 @@ use Rattle.lnt_spans.specs.declared.span.Span.{Span}
 use Rattle.lnt_spans.specs.Ahead.{count_ahead}
 use Rattle.lnt_spans.proofs.ComingLaws.{HasGiven}
 use Rattle.lnt_spans.specs.Instructions.{IsOfInstructions}
-use Rattle.lnt_paths.specs.Compared.{AreCompared}
+use Rattle.lnt_paths.specs.PathLines.{AreFieldsOf}
 use Rattle.lnt_paths.specs.Joining.{AllJoinTo, WillGive}
 use Rattle.lnt_paths.specs.PathAnswers.{path_answer}
 use Rattle.lnt_paths.proofs.border.first_operation.Given as goal
 
 abbrev pub invariant-loop-joined : goal.invariant-loop-joined
 invariant-loop-joined g l = (given : List Span) × AllByRecursion IsOfInstructions given
-    × AreCompared (g.P.Paths.bytes_of l.paths) l.compared.slots
+    × AreFieldsOf (g.P.Paths.bytes_of l.paths) l.fields
     × ((list joined : List Span) → g.S.SpanSource.to_come l.fn.spans list
     → AllJoinTo (path_answer l.version (g.P.Paths.bytes_of l.paths)) list joined
     → HasGiven joined given (WillGive (path_answer l.version (g.P.Paths.bytes_of l.paths)) l.joined.next

@@ -22,7 +22,6 @@ loop-block-init g c =
       no_lines (plain_told tell) c.args.version _ _ (c.in_ok-put_header.ensures
           ∙ ap (λ (t : List ℕ). t ++ line_text (path_column_names c.args.version)) c.new-block.ensures.items ∙ header_text c.args.version),
       c.in_ok-fields.ensures (g.P.Paths.bytes_of c.args.paths.now),
-      c.none-compared.ensures (g.P.Paths.bytes_of c.args.paths.now),
       λ list joined come joins. none_given joined new (c.of-joined.ensures.gives tell list joined come joins),
     )
 
@@ -40,8 +39,7 @@ loop-block-preserved g c =
       inv.0 ++ c.in-Some.span ∷ [],
       lines_sent (plain_told tell) c.args.version _ _ _ _ _ handed.0 (inv.0 ++ c.in-Some.span ∷ []) lines handed.1 handed.2,
       c.in_ok-put_line.ensures.kept,
-      c.in_ok-span.ensures.compared,
-      λ list joined come joins. one_given joined inv.0 c.in-Some.span old new (inv.4 list joined come joins) gives,
+      λ list joined come joins. one_given joined inv.0 c.in-Some.span old new (inv.3 list joined come joins) gives,
     )
 
 pub returns-clause-lines : goal.returns-clause-lines
@@ -56,7 +54,7 @@ returns-clause-lines g c =
     (λ handed. (
       inv.0,
       lines_written (plain_told tell) c.args.version _ _ _ _ inv.0 inv.1 handed,
-      λ list all come joins. all_given all inv.0 old new (inv.4 list all come joins) gives,
+      λ list all come joins. all_given all inv.0 old new (inv.3 list all come joins) gives,
     )) c.send.ensures.handed
 
 pub returns-clause-begun : goal.returns-clause-begun
@@ -68,7 +66,7 @@ returns-clause-begun g c =
       inv.0,
       sending_begun (plain_told tell) c.args.version _ _ _ _ inv.0 inv.1 prefix,
       λ list come all joins.
-          let given = inv.4 list all come joins in (given.rest, given.list_is),
+          let given = inv.3 list all come joins in (given.rest, given.list_is),
     )) c.send.ensures.prefix
 
 pub returns-in_err-fields-clause-begun : goal.returns-in_err-fields-clause-begun
@@ -91,7 +89,7 @@ returns-in_err-span-clause-begun g c =
       inv.0,
       so_far_begun (plain_told tell) c.args.version _ _ _ inv.0 inv.1,
       λ list come all joins.
-          let given = inv.4 list all come joins in (given.rest, given.list_is),
+          let given = inv.3 list all come joins in (given.rest, given.list_is),
     )
 
 pub returns-in_err-put_line-clause-begun : goal.returns-in_err-put_line-clause-begun
@@ -102,7 +100,7 @@ returns-in_err-put_line-clause-begun g c =
       inv.0,
       so_far_begun (plain_told tell) c.args.version _ _ _ inv.0 inv.1,
       λ list come all joins.
-          let given = inv.4 list all come joins in (given.rest, given.list_is),
+          let given = inv.3 list all come joins in (given.rest, given.list_is),
     )
 
 pub returns-in_err-send_full-clause-begun : goal.returns-in_err-send_full-clause-begun
@@ -119,5 +117,5 @@ returns-in_err-send_full-clause-begun g c =
       inv.0 ++ c.in-Some.span ∷ [],
       sending_begun (plain_told tell) c.args.version _ _ _ _ (inv.0 ++ c.in-Some.span ∷ []) lines c.in_err-send_full.ensures.prefix,
       λ list come all joins.
-          let given = one_given all inv.0 c.in-Some.span old new (inv.4 list all come joins) gives in (given.rest, given.list_is),
+          let given = one_given all inv.0 c.in-Some.span old new (inv.3 list all come joins) gives in (given.rest, given.list_is),
     )

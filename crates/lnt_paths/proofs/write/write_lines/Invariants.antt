@@ -2,7 +2,6 @@ use Rattle.std.specs.Prelude.{List}
 use Rattle.lnt_spans.specs.declared.span.Span.{Span}
 use Rattle.lnt_spans.specs.Ahead.{count_ahead}
 use Rattle.lnt_spans.proofs.ComingLaws.{HasGiven}
-use Rattle.lnt_paths.specs.Compared.{AreCompared}
 use Rattle.lnt_paths.specs.Joining.{AllJoinTo, WillGive}
 use Rattle.lnt_paths.specs.PathAnswers.{path_answer}
 use Rattle.lnt_paths.specs.PathLines.{AreFieldsOf, plain_told}
@@ -12,8 +11,7 @@ use Rattle.lnt_paths.proofs.write.write_lines.Given as goal
 abbrev pub invariant-loop-block : goal.invariant-loop-block
 invariant-loop-block g l = (given : List Span) × Lines (plain_told (path_answer l.version (g.P.Paths.bytes_of l.paths))) l.version
     (g.W.Write.contents l.fn.out) (g.W.Write.contents l.out) l.block.items given
-    × AreFieldsOf (g.P.Paths.bytes_of l.paths) l.fields.slots.items
-    × AreCompared (g.P.Paths.bytes_of l.paths) l.compared.slots
+    × AreFieldsOf (g.P.Paths.bytes_of l.paths) l.fields
     × ((list joined : List Span) → g.S.SpanSource.to_come l.fn.spans list
     → AllJoinTo (path_answer l.version (g.P.Paths.bytes_of l.paths)) list joined
     → HasGiven joined given (WillGive (path_answer l.version (g.P.Paths.bytes_of l.paths)) l.joined.next

@@ -1,4 +1,4 @@
-use Rattle.std.proofs.Common.{◌^◌, ◌<◌, ◌+◌, ◌++◌, ℕ, List, [], arith, length}
+use Rattle.std.proofs.Common.{◌^◌, ◌<◌, ◌+◌, ◌++◌, ℕ, List, arith, length}
 use Rattle.lnt_records.specs.Passing.{Ends}
 use Rattle.lnt_records.specs.Table.{by_number, column_names}
 use Rattle.lnt_records.specs.Written.{line_text, plain_by_number}

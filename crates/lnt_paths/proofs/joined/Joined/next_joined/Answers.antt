@@ -14,7 +14,7 @@ loop-span-preserved g c =
     let goes = rw c.if-not-branch.false at c.in_ok-goes_on.ensures.goes in (
       inv.0,
       omega (arith, inv.1, c.in-Some-next_span.ensures.fewer),
-      c.in_ok-goes_on.ensures.compared,
+      c.in_ok-goes_on.ensures.fields,
       λ joined will. grows_on tell joined old new c.loop-span.last c.in-Some-next_span.span c.in-Some-next_span.ensures.gives goes
           (inv.3 joined will),
       λ list left. stands_grown tell list old new c.loop-span.last c.in-Some-next_span.span c.in-Some-next_span.ensures.gives goes

@@ -1,7 +1,7 @@
 use Rattle.std.specs.Prelude.{◌≡◌, ◌≤◌, List, None}
 use Rattle.lnt_spans.specs.declared.span.Span.{Span}
 use Rattle.lnt_spans.specs.Remaining.{SpansAreLeft}
-use Rattle.lnt_paths.specs.Compared.{AreCompared}
+use Rattle.lnt_paths.specs.PathLines.{AreFieldsOf}
 use Rattle.lnt_paths.specs.Joining.{GrowsTo, WillGive}
 use Rattle.lnt_paths.specs.PathAnswers.{path_answer}
 use Rattle.lnt_paths.proofs.StepLemmas.{Stands}
@@ -9,7 +9,7 @@ use Rattle.lnt_paths.proofs.joined.Joined.next_joined.Given as goal
 
 abbrev pub invariant-loop-span : goal.invariant-loop-span
 invariant-loop-span g l = (l.self.next ≡ None) × (g.S.SpanSource.left l.self.spans ≤ g.S.SpanSource.left l.fn.self.spans)
-    × AreCompared (g.P.Paths.bytes_of l.paths) l.compared.slots
+    × AreFieldsOf (g.P.Paths.bytes_of l.paths) l.fields
     × ((joined : List Span) → WillGive (path_answer l.version (g.P.Paths.bytes_of l.paths)) l.fn.self.next
     (g.S.SpanSource.to_come l.fn.self.spans) joined
     → GrowsTo (path_answer l.version (g.P.Paths.bytes_of l.paths)) l.last (g.S.SpanSource.to_come l.self.spans) joined)
