@@ -1,22 +1,14 @@
 -- Files that the opener refused.
-use Rattle.std.proofs.Common.{◌≡◌, ℕ, List, ◌⊎◌, Option, Result, Ok, Err, inl, inr}
-use Rattle.lnt_io.specs.Files.{FileState, Readable, RefusesOnly}
+use Rattle.std.proofs.Common.{ℕ, List, ◌⊎◌, Result, Ok, Err, inl, inr}
+use Rattle.lnt_io.specs.Files.{FileState, RefusesOnly}
 use Rattle.lnt_io.specs.declared.status.Status.{Status}
 use Rattle.lnt_words.specs.Asking.{IsAskedBy}
 use Rattle.lnt_words.specs.declared.request.Asked.{Asked}
-use Rattle.lnt_words.specs.declared.request.Judging.{Judging}
-use Rattle.lnt_words.specs.declared.request.Question.{Question}
-use Rattle.lnt_words.specs.declared.request.Question.TheVariants.{Md5}
 use Rattle.lnt_cli.specs.Runs.{TellUnreadable}
-use Rattle.lnt_cli.specs.Stops.{AnswersUnreadable, IsToldUnreadable}
+use Rattle.lnt_cli.specs.Stops.{IsToldUnreadable}
 use Rattle.lnt_cli.specs.declared.stop.CliStop.{CliStop}
 use Rattle.lnt_cli.specs.declared.stop.FileStop.{FileStop}
 use Rattle.lnt_cli.proofs.RunLemmas.{IsEndOf}
-
--- Once the section is open, a file is refused only where the listed sums are asked for.
-pub sums_asked : (tells : List ℕ → FileState → Type 0) (from : Judging) (question : Question) (bytes : Option (List ℕ))
-    → tells from.section.now (Readable bytes) → question ≡ Md5 → AnswersUnreadable tells from question
-sums_asked tells from question bytes opened is = rw is (bytes, opened)
 
 -- The answer's stop tells an unreadable file, or the answer may: so does the run's, or the answer to the words.
 told_by_run : (tells : List ℕ → FileState → Type 0) (words : List (List ℕ)) (asked : Asked) (ended : Result Status FileStop)

@@ -1,6 +1,6 @@
 -- Answers that were stopped.
 use Rattle.std.proofs.Common.{ℕ, List, ◌⊎◌, Option, IsErr, Result, Ok, Err, OnErr, inl, inr, refl, true, false}
-use Rattle.std.proofs.Common.{Bool, ◌++◌, codes}
+use Rattle.std.proofs.Common.{◌++◌, codes}
 use Rattle.std.proofs.lemmas.Bool.{false≢true}
 use Rattle.std.specs.Io.KnownBytes.{Appends, Keeps, append_known}
 use Rattle.lnt_io.specs.Prefixes.{AppendsPrefix, HasBegun}

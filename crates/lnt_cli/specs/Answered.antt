@@ -1,7 +1,7 @@
 -- The answers to requests, and the bytes of which they are true.
 --     tells       what the opener may say of the file with a name, as the run begins
 --     old, new    what the writer of the answer holds before and afterwards
-use Rattle.std.specs.Prelude.{◌≡◌, Bool, ℕ, List, [], Option, None, Some, IfSome, true, false, string_bytes}
+use Rattle.std.specs.Prelude.{◌≡◌, ℕ, List, [], Option, None, Some, IfSome, true, false, string_bytes}
 use Rattle.std.specs.Option.{option_copied}
 use Rattle.std.specs.Io.KnownBytes.{Appends}
 use Rattle.lnt_io.specs.Files.{AreBytesOf, FileState, Readable}

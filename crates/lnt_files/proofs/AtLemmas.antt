@@ -11,13 +11,14 @@ use Rattle.lnt_header.specs.declared.header.Entry.{Entry}
 use Rattle.lnt_header.specs.declared.header.HeaderParts.{HeaderParts}
 use Rattle.lnt_header.specs.declared.header.Pair.{Pair}
 use Rattle.lnt_files.specs.declared.walk.EntryView.{EntryView}
-use Rattle.lnt_files.specs.Contents.{bytes_of_sum, content_md5, path_text, place_of, sum_of}
+use Rattle.lnt_files.specs.Contents.{content_md5, path_text, place_of}
 use Rattle.lnt_files.specs.Paths.{directory_text, file_path, listed_sum}
 use Rattle.lnt_files.specs.Seen.{EntryAt, HasSeenEntries}
 use Rattle.lnt_files.specs.Tables.{AreUsableTables}
 use Rattle.lnt_files.specs.Walks.{Says, EntryStep}
 use Rattle.lnt_files.proofs.PathLemmas.{path_there, within}
 use Rattle.lnt_files.proofs.JudgedLemmas.{seen_more, says_in, some_left}
+use Rattle.std.proofs.lemmas.Grind.{common_steps}
 
 -- a walk stands after so many entries
 pub record IsAfter (table walk : BorrowedTable) (count : ℕ) : Type 0 where
@@ -45,8 +46,7 @@ after_more table old new count None b lt ends = absurd (some_left b.has_seen new
 
 pub there : (table old new : BorrowedTable) (count : ℕ) (step : Option EntryView) → IsAfter table old count → count < length table.entries
     → EntryStep old step new → step ≡ None → ⊥
-there table old new count step b lt ends e =
-    some_left b.has_seen new lt (subst (λ (s : Option EntryView). EntryStep old s new) e ends)
+there table old new count step b lt ends e = grind (arith, common_steps, some_left)
 
 -- none of this number
 pub not_there : (table : BorrowedTable) (number : ℕ) → length table.entries ≤ number → EntryAt table number None
@@ -60,13 +60,7 @@ get_after (x ∷ xs) ys y (suc n) e = get_after xs ys y n (omega arith)
 
 pub entry_is : (table old new : BorrowedTable) (number : ℕ) (step : Option EntryView) → IsAfter table old number
     → number < length table.entries → EntryStep old step new → EntryAt table number step
-entry_is table old new number None b lt ends = absurd (some_left b.has_seen new lt ends)
-entry_is table old new number (Some view) b lt g = (
-  g.entry,
-  ap (λ (es : List Entry). slice_get es number) (b.has_seen.joined ∙ ap (λ (es : List Entry). b.seen ++ es) g.entries_are)
-      ∙ get_after b.seen new.entries g.entry number b.has_seen.count_is,
-  says_in b.has_seen g,
-)
+entry_is table old new number step b lt ends = grind (arith, common_steps, some_left, get_after, says_in)
 
 -- ---- what is asked of an entry
 
@@ -80,31 +74,20 @@ pub directory_text_is : (line general : List ℕ) (h : HeaderParts) (table : Bor
     → EntryAt table number (Some view)
     → ((pairs : List Pair) (entry : Entry) → Says pairs entry view → text ≡ path_text line general pairs entry)
     → text ≡ directory_text line general h number
-directory_text_is line general h table number view text pairs_are entries_are at told =
-    let there : slice_get h.directories number ≡ Some at.0 =
-    subst (λ (es : List Entry). slice_get es number ≡ Some at.0) entries_are at.1 in
-    of_entry (path_text line general h.directory_format) h.directories number at.0 text there
-    (told h.directory_format at.0 (subst (λ (ps : List Pair). Says ps at.0 view) pairs_are at.2))
+directory_text_is line general h table number view text pairs_are entries_are at told = grind (arith, common_steps, there, of_entry)
 
 pub no_directory_text : (line general : List ℕ) (h : HeaderParts) (table : BorrowedTable) (number : ℕ) → table.entries ≡ h.directories
     → EntryAt table number None → None ≡ directory_text line general h number
-no_directory_text line general h table number entries_are at =
-    let none : slice_get h.directories number ≡ None = subst (λ (es : List Entry). slice_get es number ≡ None) entries_are at in
-    sym (ap (option_and_then (path_text line general h.directory_format)) none)
+no_directory_text line general h table number entries_are at = grind (arith, common_steps)
 
 -- an entry of this number, by the header
 pub file_there : (h : HeaderParts) (table : BorrowedTable) (number : ℕ) (view : EntryView) → table.pairs ≡ h.file_format
     → table.entries ≡ h.files → EntryAt table number (Some view)
     → (entry : Entry) × (slice_get h.files number ≡ Some entry) × Says h.file_format entry view
-file_there h table number view pairs_are entries_are at = (
-  at.0,
-  subst (λ (es : List Entry). slice_get es number ≡ Some at.0) entries_are at.1,
-  subst (λ (ps : List Pair). Says ps at.0 view) pairs_are at.2,
-)
+file_there h table number view pairs_are entries_are at = grind (arith, common_steps)
 
 some_is_not_none : (o : Option (List ℕ)) → IsSome o → None ≡ o → ⊥
-some_is_not_none None h e = cc
-some_is_not_none (Some x) h e = cc
+some_is_not_none o h e = grind (arith, common_steps)
 
 -- under usable tables each file's pieces are there
 pub never_without : (line general : List ℕ) (h : HeaderParts) (table : BorrowedTable) (number : ℕ) (view : EntryView)
@@ -117,19 +100,9 @@ never_without line general h table number view usable pairs_are entries_are at n
 
 pub within_files : (h : HeaderParts) (table : BorrowedTable) (number : ℕ) (view : EntryView) → table.pairs ≡ h.file_format
     → table.entries ≡ h.files → EntryAt table number (Some view) → number < length h.files
-within_files h table number view pairs_are entries_are at =
-    let there = file_there h table number view pairs_are entries_are at in
-    within h.files number there.0 (sym there.1)
+within_files h table number view pairs_are entries_are at = grind (arith, common_steps, there, file_there, within)
 
 -- no file lists a sum where the format has none
 pub none_listed : (h : HeaderParts) (pairs : List Pair) (number : ℕ) → pairs ≡ h.file_format → place_of content_md5 pairs ≡ None
     → None ≡ listed_sum h number
-none_listed h pairs number same none = by_entry (slice_get h.files number)
-  where
-    none_there : None ≡ place_of content_md5 h.file_format
-    none_there = sym none ∙ ap (place_of content_md5) same
-
-    by_entry : (o : Option Entry) → None ≡ option_and_then (sum_of h.file_format) o
-    by_entry None = refl
-    by_entry (Some entry) =
-        ap (λ (place : Option ℕ). option_and_then bytes_of_sum (option_and_then (slice_get entry.values) place)) none_there
+none_listed h pairs number same none = grind (arith, common_steps)

@@ -1,21 +1,16 @@
 -- Where the texts of a section end.
-use Rattle.std.proofs.Common.{◌≡◌, ◌≢◌, ℕ, zero, suc, ◌-◌, ◌<◌, ◌≤◌, List, [], ◌∷◌, length, get_or, drop, Option, Some, None, refl, sym, ap}
-use Rattle.std.proofs.Common.{subst, arith, ◌⊎◌, inl, inr, false}
+use Rattle.std.proofs.Common.{◌≡◌, ◌≢◌, ℕ, zero, suc, ◌-◌, ◌<◌, ◌≤◌, List, [], ◌∷◌, length, get_or, drop, Option, None, refl, ap}
+use Rattle.std.proofs.Common.{arith, ◌⊎◌, inl, inr, false}
 use Rattle.std.specs.Prelude.{IsSome}
 use Rattle.std.specs.Option.{option_map, is_some}
 use Rattle.lnt_wire.specs.FormBytes.{HasNoZero}
 use Rattle.lnt_wire.specs.Texts.{up_to_zero}
 use Rattle.lnt_files.specs.TextEnds.{TextsEndAt}
-
--- no zero byte follows
-no_end : (bytes : List ℕ) → HasNoZero bytes → up_to_zero bytes ≡ None
-no_end [] h = refl
-no_end (zero ∷ bytes) h = absurd (omega (arith, h.0))
-no_end (suc b ∷ bytes) h = ap (λ (o : Option (List ℕ)). option_map (λ text. suc b ∷ text) o) (no_end bytes h.1)
+use Rattle.std.proofs.lemmas.Grind.{common_steps}
+use Rattle.lnt_wire.proofs.TextLemmas.{no_end}
 
 some_mapped : (f : List ℕ → List ℕ) (o : Option (List ℕ)) → IsSome o → IsSome (option_map f o)
-some_mapped f (Some x) h = refl
-some_mapped f None h = h
+some_mapped f o h = grind (arith, common_steps)
 
 -- a zero byte ends a text
 zero_ends : (bytes : List ℕ) (i : ℕ) → i < length bytes → get_or bytes i 0 ≡ 0 → IsSome (up_to_zero bytes)
@@ -61,11 +56,7 @@ suc_pred n some = omega arith
 
 pub none_before : (section : List ℕ) (end : ℕ) → 0 < end → end ≤ length section → NoneFrom end section → get_or section (end - 1) 0 ≢ 0
     → NoneFrom (end - 1) section
-none_before section end some le h other =
-    record {
-      none = before section (end - 1) (omega arith) (omega (arith, other))
-          (subst (λ (n : ℕ). HasNoZero (drop n section)) (sym (suc_pred end some)) h.none);
-    }
+none_before section end some le h other = grind (arith, common_steps, before, suc_pred)
 
 none_is_not_some : (o : Option (List ℕ)) → o ≡ None → IsSome o → ⊥
 none_is_not_some o e h = let f : is_some o ≡ false = ap is_some e in absurd cc
@@ -77,19 +68,12 @@ split_lt (suc m) zero = inr (omega arith)
 split_lt (suc m) (suc n) = elim (split_lt m n) [ inl lt ↦ inl (omega arith) | inr le ↦ inr (omega arith) ]
 
 below : (section : List ℕ) (end offset : ℕ) → NoneFrom end section → IsSome (up_to_zero (drop offset section)) → offset < end
-below section end offset h some =
-    elim (split_lt offset end) [
-      | inl lt ↦ lt
-      | inr le ↦ absurd
-          (none_is_not_some (up_to_zero (drop offset section)) (no_end (drop offset section) (no_zero_later section end offset le h.none))
-          some)
-    ]
+below section end offset h some = grind (arith, common_steps, split_lt, none_is_not_some, no_end, no_zero_later)
 
 -- the byte before the end is zero, and none after it
 pub last_zero : (section : List ℕ) (end : ℕ) → 0 < end → end ≤ length section → NoneFrom end section → get_or section (end - 1) 0 ≡ 0
     → TextsEndAt end section
-last_zero section end some le h e =
-    record { texts = λ offset. (below section end offset h, λ lt. zero_ends_after section offset (end - 1) (omega arith) (omega arith) e) }
+last_zero section end some le h e = grind (arith, common_steps, below, zero_ends_after)
 
 -- no byte is zero
 pub no_zero : (section : List ℕ) → NoneFrom 0 section → TextsEndAt 0 section

@@ -1,8 +1,7 @@
 -- What entries say that are read where they lie.
-use Rattle.std.proofs.Common.{◌≡◌, ◌≢◌, ℕ, zero, suc, ◌+◌, ◌<◌, ◌≤◌, List, [], ◌∷◌, ◌++◌, length, get_or, Option, Some, None, refl, sym, ap}
-use Rattle.std.proofs.Common.{subst, ◌∙◌, lit≤, arith}
+use Rattle.std.proofs.Common.{◌≡◌, ◌≢◌, ℕ, zero, suc, ◌+◌, ◌<◌, ◌≤◌, List, [], ◌∷◌, ◌++◌, length, get_or, Option, Some, None, refl, ap}
+use Rattle.std.proofs.Common.{subst, lit≤, arith}
 use Rattle.std.specs.List.{slice_get}
-use Rattle.std.specs.Option.{option_and_then}
 use Rattle.std.proofs.lemmas.List.{length-append}
 use Rattle.lnt_wire.specs.At.{At}
 use Rattle.lnt_wire.specs.Borrowed.{value_of}
@@ -24,6 +23,7 @@ use Rattle.lnt_files.specs.declared.components.Usual.TheVariants.{Path, IndexedP
 use Rattle.lnt_files.specs.declared.walk.EntryView.{EntryView}
 use Rattle.lnt_files.specs.Walks.{Says, contents_of, IsUsual, ArePlaces}
 use Rattle.lnt_files.specs.Stepping.{ReadsEntry, IsComponent, AreComponents}
+use Rattle.std.proofs.lemmas.Grind.{common_steps}
 
 -- ---- the usual formats
 
@@ -42,8 +42,7 @@ their_pairs (pair ∷ pairs) = ap (λ (ps : List Pair). pair ∷ ps) (their_pair
 
 are_pairs : (pairs : List Pair) (contents : List ℕ) (forms : List Form) → contents_of pairs ≡ contents → forms_of pairs ≡ forms
     → pairs_of contents forms ≡ pairs
-are_pairs pairs contents forms e f =
-    sym (ap (λ (cs : List ℕ). pairs_of cs (forms_of pairs)) e ∙ ap (pairs_of contents) f) ∙ their_pairs pairs
+are_pairs pairs contents forms e f = grind (arith, common_steps, their_pairs)
 
 abbrev directory_pair : Pair
 directory_pair = pair_of content_directory_index Udata
@@ -57,14 +56,11 @@ sum_pair = pair_of content_md5 Data16
 says_read : (format : Format) (pairs : List Pair) (count : ℕ) (values : List FormValue) (view : EntryView) (old new : At)
     → length pairs ≤ count → AreReadTo format pairs count values old new → Says pairs (entry_of values) view
     → ReadsEntry format pairs view old new
-says_read format pairs count values view old new le r says =
-    record { entry = entry_of values; says = says; read = entry_read format pairs count values old new le r }
+says_read format pairs count values view old new le r says = grind (arith, common_steps, entry_read)
 
 first_to : (format : Format) (more : List Pair) (u : FormValue) (old new : At) → Reads (ValueBytes format old.order LineStrp) u old new
     → AreReadTo format (pair_of content_path LineStrp ∷ more) 1 (u ∷ []) old new
-first_to format more u old new r =
-    let pairs = pair_of content_path LineStrp ∷ more in
-    read_more format pairs 0 (pair_of content_path LineStrp) [] u old old new (omega arith) (read_none format pairs old) r
+first_to format more u old new r = grind (arith, common_steps, read_more, read_none)
 
 second_to : (format : Format) (more : List Pair) (u v : FormValue) (old middle new : At)
     → Reads (ValueBytes format old.order LineStrp) u old middle → Reads (ValueBytes format middle.order Udata) v middle new
@@ -80,10 +76,7 @@ module _ (format : Format) (pairs : List Pair) where
   usual_read : (theirs : List Pair) (count : ℕ) (values : List FormValue) (view said : EntryView) (old new : At) → theirs ≡ pairs
       → view ≡ said → length theirs ≤ count → AreReadTo format theirs count values old new → Says theirs (entry_of values) said
       → ReadsEntry format pairs view old new
-  usual_read theirs count values view said old new same view_is le r says =
-      subst (λ (ps : List Pair). ReadsEntry format ps view old new) same
-      (subst (λ (v : EntryView). ReadsEntry format theirs v old new) (sym view_is)
-      (says_read format theirs count values said old new le r says))
+  usual_read theirs count values view said old new same view_is le r says = grind (arith, common_steps, says_read)
 
   pub path_read : (u : ValueView) (view : EntryView) (old new : At) → IsUsual Path pairs
       → view ≡ record { path = Some u; directory = None; sum = None } → Reads (ValueBytes format old.order LineStrp) (value_of u) old new
@@ -160,20 +153,15 @@ get_here (v ∷ values) value = get_here values value
 
 pub kept_here : (values : List FormValue) (value : ValueView) (wanted : Option ℕ) (place : ℕ) → length values ≡ place → wanted ≡ Some place
     → IsComponent wanted (values ++ value_of value ∷ []) (Some value)
-kept_here values value wanted place count e =
-    sym (ap (option_and_then (slice_get (values ++ value_of value ∷ []))) (e ∙ ap (λ (n : ℕ). Some n) (sym count))
-    ∙ get_here values (value_of value))
+kept_here values value wanted place count e = grind (arith, common_steps, get_here)
 
 pub kept_earlier : (values : List FormValue) (value : FormValue) (wanted : Option ℕ) (place : ℕ) (component : Option ValueView)
     → length values ≡ place → wanted ≢ Some place → IsComponent wanted values component
     → IsComponent wanted (values ++ value ∷ []) component
-kept_earlier values value None place component count other h = h
-kept_earlier values value (Some p) place component count other h =
-    h ∙ sym (get_earlier values value p (λ e. other (ap (λ (n : ℕ). Some n) (e ∙ count))))
+kept_earlier values value wanted place component count other h = grind (arith, common_steps, get_earlier)
 
 none_kept : (place : Option ℕ) → IsComponent place [] None
-none_kept None = refl
-none_kept (Some p) = refl
+none_kept place = grind (arith, common_steps)
 
 -- The values of so many pairs were read, and the components among them are kept.
 pub record AreReadAndKept (format : Format) (pairs : List Pair) (places : Places) (count : ℕ) (view : EntryView) (old now : At) : Type
@@ -185,14 +173,7 @@ pub record AreReadAndKept (format : Format) (pairs : List Pair) (places : Places
 
 pub nothing_read : (format : Format) (pairs : List Pair) (places : Places) (view : EntryView) (at : At)
     → view ≡ record { path = None; directory = None; sum = None } → AreReadAndKept format pairs places 0 view at at
-nothing_read format pairs places view at view_is =
-    subst (λ (v : EntryView). AreReadAndKept format pairs places 0 v at at) (sym view_is)
-    (record {
-      values = [];
-      count_is = refl;
-      read = read_none format pairs at;
-      kept = record { path = none_kept places.path; directory = none_kept places.directory; sum = none_kept places.sum };
-    })
+nothing_read format pairs places view at view_is = grind (arith, common_steps, read_none, none_kept)
 
 pub one_more_read : (format : Format) (pairs : List Pair) (places : Places) (i : ℕ) (d : Pair) (value : FormValue) (view more : EntryView)
     (old middle new : At) → i < length pairs
@@ -209,14 +190,7 @@ one_more_read format pairs places i d value view more old middle new lt p r keep
 pub all_read : (format : Format) (pairs : List Pair) (places : Places) (count : ℕ) (view : EntryView) (old new : At)
     → ArePlaces places pairs → length pairs ≤ count → AreReadAndKept format pairs places count view old new
     → ReadsEntry format pairs view old new
-all_read format pairs places count view old new are le p =
-    let get = option_and_then (slice_get p.values) in
-    says_read format pairs count p.values view old new le p.read
-    (record {
-      path = p.kept.path ∙ ap get are.path;
-      directory = p.kept.directory ∙ ap get are.directory;
-      sum = p.kept.sum ∙ ap get are.sum;
-    })
+all_read format pairs places count view old new are le p = grind (arith, common_steps, says_read)
 
 pub none_there : (format : Format) (pairs : List Pair) (places : Places) (i : ℕ) (d : Pair) (view : EntryView) (old middle : At)
     → i < length pairs → AreReadAndKept format pairs places i view old middle

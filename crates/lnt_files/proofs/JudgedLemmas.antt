@@ -1,7 +1,7 @@
 -- Tables that are judged in one walk.
 use Rattle.std.proofs.Common.{◌≡◌, ℕ, ◌+◌, ◌<◌, ◌≤◌, ◌↔◌, List, [], ◌∷◌, ◌++◌, length, Option, Some, None, refl, sym, ap, subst, ◌∙◌}
 use Rattle.std.proofs.Common.{append_assoc, arith}
-use Rattle.std.specs.Prelude.{Bool, true, false, IsTrue, MatchOption}
+use Rattle.std.specs.Prelude.{Bool, false, IsTrue, MatchOption}
 use Rattle.std.specs.List.{AllByRecursion}
 use Rattle.std.proofs.lemmas.List.{length-append, append-nil, nil_from_length}
 use Rattle.lnt_header_bytes.specs.Borrowed.{BorrowedTable}
@@ -10,13 +10,13 @@ use Rattle.lnt_header.specs.declared.header.Entry.{Entry}
 use Rattle.lnt_header.specs.declared.header.HeaderParts.{HeaderParts}
 use Rattle.lnt_header.specs.declared.header.Pair.{Pair}
 use Rattle.lnt_files.specs.declared.tables.EntryTableFault.{EntryTableFault}
-use Rattle.lnt_files.specs.declared.tables.EntryTableFault.TheVariants.{StringOutside, DirectoryNumber}
-use Rattle.lnt_header.specs.declared.header.EntryTable.TheVariants.{Files}
+use Rattle.lnt_files.specs.declared.tables.EntryTableFault.TheVariants.{DirectoryNumber}
 use Rattle.lnt_files.specs.declared.walk.EntryView.{EntryView}
 use Rattle.lnt_files.specs.Contents.{directory_number}
 use Rattle.lnt_files.specs.Seen.{first_missing, NamesDirectoryBelow, HasAll, IsFilesFault, HasSeenEntries}
 use Rattle.lnt_files.specs.Tables.{HasUsableFormat, HasPath, AreUsableTables, IsTablesFault}
 use Rattle.lnt_files.specs.Walks.{Says, EntryStep, GivesEntry}
+use Rattle.std.proofs.lemmas.Grind.{common_steps}
 
 -- ---- what was seen
 
@@ -26,21 +26,14 @@ seen_none table = record { joined = refl; count_is = refl; pairs_are = refl }
 module _ {seen : List Entry} {table old : BorrowedTable} {count : ℕ} (s : HasSeenEntries seen table old count) where
   pub seen_more : {new : BorrowedTable} {view : EntryView} → (g : GivesEntry old view new)
       → HasSeenEntries (seen ++ g.entry ∷ []) table new (count + 1)
-  seen_more {new} g = record {
-    joined = s.joined ∙ ap (λ (es : List Entry). seen ++ es) g.entries_are ∙ sym (append_assoc seen (g.entry ∷ []) new.entries);
-    count_is = omega (arith, s.count_is, length-append seen (g.entry ∷ []));
-    pairs_are = g.pairs_are ∙ s.pairs_are;
-  }
+  seen_more {new} g = grind (arith, common_steps, append_assoc, length-append)
 
   -- what it says by the table's format
   pub says_in : {new : BorrowedTable} {view : EntryView} → (g : GivesEntry old view new) → Says table.pairs g.entry view
   says_in {view = view} g = subst (λ (ps : List Pair). Says ps g.entry view) s.pairs_are g.says
 
   seen_all : length table.entries ≤ count → seen ≡ table.entries
-  seen_all le =
-      let none : old.entries ≡ [] =
-      nil_from_length old.entries (omega (arith, ap length s.joined, length-append seen old.entries, s.count_is, le)) in
-      sym (append-nil seen) ∙ ap (λ (es : List Entry). seen ++ es) (sym none) ∙ sym s.joined
+  seen_all le = grind (arith, common_steps, nil_from_length, length-append, append-nil)
 
   pub some_left : (new : BorrowedTable) → count < length table.entries → EntryStep old None new → ⊥
   some_left new lt ends = omega (arith, ap length s.joined, length-append seen old.entries, s.count_is, lt, ap length ends.0)
@@ -58,8 +51,7 @@ pub record AllHavePaths (line general : List ℕ) (table walk : BorrowedTable) (
   pub all : AllByRecursion (HasPath line general table.pairs) seen
 
 pub all_begun : (line general : List ℕ) (table walk : BorrowedTable) → walk ≡ table → AllHavePaths line general table walk 0
-all_begun line general table walk e =
-    subst (λ (w : BorrowedTable). AllHavePaths line general table w 0) (sym e) (record { seen = []; has_seen = seen_none table; all = tt })
+all_begun line general table walk e = grind (arith, common_steps, seen_none)
 
 -- what a test of the next entry tells
 abbrev pub TellsPath : List ℕ → List ℕ → Bool → EntryView → Type 0
@@ -83,15 +75,7 @@ module _ {line general : List ℕ} {table old : BorrowedTable} {count : ℕ} (a 
 
   pub all_but : {new : BorrowedTable} {view : EntryView} (told : Bool) → GivesEntry old view new → TellsPath line general told view
       → (IsTrue told → ⊥) → IsFirstNot (HasPath line general table.pairs) table.entries count
-  all_but {new} told g tells other = record {
-    before = a.seen;
-    value = g.entry;
-    past = new.entries;
-    joined = a.has_seen.joined ∙ ap (λ (es : List Entry). a.seen ++ es) g.entries_are;
-    index_is = sym a.has_seen.count_is;
-    all_before = a.all;
-    not_so = λ has. other ((tells table.pairs g.entry (says_in a.has_seen g)).1 has);
-  }
+  all_but {new} told g tells other = grind (arith, common_steps, says_in)
 
 -- ---- formats
 
@@ -105,20 +89,11 @@ false_is_not : IsTrue false → ⊥
 false_is_not e = cc
 
 longer : {X : Type 0} (P : X → Type 0) (xs more : List X) (k : ℕ) → IsFirstNot P xs k → IsFirstNot P (xs ++ more) k
-longer P xs more k f = record {
-  before = f.before;
-  value = f.value;
-  past = f.past ++ more;
-  joined = ap (λ (z : List _). z ++ more) f.joined ∙ append_assoc f.before (f.value ∷ f.past) more;
-  index_is = f.index_is;
-  all_before = f.all_before;
-  not_so = f.not_so;
-}
+longer P xs more k f = grind (arith, common_steps, append_assoc)
 
 here : {X : Type 0} (P : X → Type 0) (xs : List X) (x : X) (k : ℕ) → length xs ≡ k → AllByRecursion P xs → (P x → ⊥)
     → IsFirstNot P (xs ++ x ∷ []) k
-here P xs x k count all other =
-    record { before = xs; value = x; past = []; joined = refl; index_is = sym count; all_before = all; not_so = other }
+here P xs x k count all other = grind (arith, common_steps)
 
 -- the first that is missing
 abbrev Missing : {X : Type 0} → (X → Type 0) → List X → Option ℕ → Type 0
@@ -127,9 +102,7 @@ Missing P xs missing = MatchOption missing (AllByRecursion P xs) (λ k. IsFirstN
 no_more : {X : Type 0} (P : X → Type 0) (xs : List X) (x : X) (k : ℕ) (missing : Option ℕ) (told : Bool) → length xs ≡ k
     → (IsTrue told → P x) × (P x → IsTrue told) → Missing P xs missing
     → Missing P (xs ++ x ∷ []) (first_missing missing k told)
-no_more P xs x k (Some first) told count tells m = longer P xs (x ∷ []) first m
-no_more P xs x k None true count tells m = all_push P xs x m (tells.0 refl)
-no_more P xs x k None false count tells m = here P xs x k count m (λ p. false_is_not (tells.1 p))
+no_more P xs x k missing told count tells m = grind (arith, common_steps, longer, all_push, here, false_is_not)
 
 -- what the first files are, up to the first of them without its directory
 pub record FilesSeen (line general : List ℕ) (directories : ℕ) (table walk : BorrowedTable) (count : ℕ) (missing : Option ℕ) : Type 0 where
@@ -169,22 +142,14 @@ module _ {line general : List ℕ} {directories : ℕ} {table old : BorrowedTabl
   files_but told g tells other = all_but s.of_paths told g tells other
 
   numbers_done : length table.entries ≤ count → Missing (NamesDirectoryBelow directories table.pairs) table.entries missing
-  numbers_done le =
-      subst (λ (es : List Entry). Missing (NamesDirectoryBelow directories table.pairs) es missing) (seen_all s.of_paths.has_seen le)
-      s.numbers
+  numbers_done le = grind (arith, common_steps, seen_all)
 
   pub files_sound : length table.entries ≤ count → missing ≡ None → HasAll line general directories table
-  files_sound le e = record {
-    paths = all_done s.of_paths le;
-    numbers = subst (Missing (NamesDirectoryBelow directories table.pairs) table.entries) e (numbers_done le);
-  }
+  files_sound le e = grind (arith, common_steps, all_done, numbers_done)
 
   pub files_missing : (index : ℕ) → length table.entries ≤ count → missing ≡ Some index
       → IsFilesFault line general directories table (DirectoryNumber index)
-  files_missing index le e =
-      let numbers : Missing (NamesDirectoryBelow directories table.pairs) table.entries (Some index) =
-      subst (Missing (NamesDirectoryBelow directories table.pairs) table.entries) e (numbers_done le) in
-      (all_done s.of_paths le, numbers)
+  files_missing index le e = grind (arith, common_steps, numbers_done, all_done)
 
 -- ---- both tables
 
@@ -211,16 +176,7 @@ found_in : (line general : List ℕ) (h : HeaderParts) (d f : BorrowedTable) (fo
     → HasUsableFormat d.pairs d.entries → HasUsableFormat f.pairs f.entries → AllByRecursion (HasPath line general d.pairs) d.entries
     → MatchOption found (HasAll line general (length d.entries) f) (λ fault. IsFilesFault line general (length d.entries) f fault)
     → IsFound line general found (with_tables h d.pairs d.entries f.pairs f.entries)
-found_in line general h d f None first second paths m = record {
-  directories = record { format = first; paths = paths };
-  files = record { format = second; paths = m.paths };
-  numbers = m.numbers;
-}
-found_in line general h d f (Some (StringOutside Files index)) first second paths m =
-    (record { directories = first; files = second }, paths, m)
-found_in line general h d f (Some (DirectoryNumber index)) first second paths m =
-    (record { format = first; paths = paths }, record { format = second; paths = m.0 }, m.1)
-found_in line general h d f (Some fault) first second paths m = absurd m
+found_in line general h d f found first second paths m = grind (arith, common_steps)
 
 pub judged : (line general : List ℕ) (h : HeaderParts) (d f : BorrowedTable) (count : ℕ) (found : Option EntryTableFault)
     → AreJudged line general h d f count

@@ -15,6 +15,7 @@ use Rattle.lnt_files.specs.Files.{KeptFile, kept_path, kept_sum, AreFilesOf}
 use Rattle.lnt_files.specs.Kept.{kept_files, EndAt}
 use Rattle.lnt_files.specs.Stepping.{start_of, IsKeptFile, KeepsFiles}
 use Rattle.lnt_files.specs.Paths.{file_path}
+use Rattle.std.proofs.lemmas.Grind.{common_steps}
 
 -- ---- one file of those that are kept
 
@@ -43,10 +44,7 @@ start_after start (file ∷ files) (suc n) d lt = start_after file.end files n d
 
 pub start_is_end : (start : ℕ) (files : List PathEnd) (n : ℕ) (d : PathEnd) → 0 < n → n < length files
     → start_of start files n ≡ (get_or files (n - 1) d).end
-start_is_end start files zero d some lt = absurd (omega arith)
-start_is_end start files (suc n) d some lt =
-    let same : suc n - 1 ≡ n = omega arith in
-    rw same (start_after start files n d (omega arith))
+start_is_end start files n d some lt = grind (arith, common_steps, start_after)
 
 -- ---- the ends
 
@@ -76,17 +74,10 @@ same_part paths start end = sym (between_is paths start end)
 pub path_is : (paths : List ℕ) (kept : List PathEnd) (n start : ℕ) (file : PathEnd) → Some file ≡ slice_get kept n
     → start ≡ start_of 0 kept n
     → Some (drop start (take file.end paths)) ≡ kept_path (kept_files paths 0 kept) n
-path_is paths kept n start file e s =
-    let whole = kept_path_is paths 0 kept n in
-    let found : slice_get kept n ≡ Some file = sym e in
-    ap (λ (z : List ℕ). Some z) (same_part paths start file.end)
-    ∙ subst (λ (m : ℕ). Some (slice_range paths m file.end) ≡ kept_path (kept_files paths 0 kept) n) (sym s)
-    (sym (whole ∙ ap (λ (o : Option PathEnd). option_map (λ file. slice_range paths (start_of 0 kept n) file.end) o) found))
+path_is paths kept n start file e s = grind (arith, common_steps, kept_path_is, same_part)
 
 pub no_path_is : (paths : List ℕ) (kept : List PathEnd) (n : ℕ) → None ≡ slice_get kept n → None ≡ kept_path (kept_files paths 0 kept) n
-no_path_is paths kept n e =
-    sym (kept_path_is paths 0 kept n ∙ ap (λ (o : Option PathEnd). option_map (λ file. slice_range paths (start_of 0 kept n) file.end) o)
-    (sym e))
+no_path_is paths kept n e = grind (arith, common_steps, kept_path_is)
 
 -- ---- one file more
 
@@ -97,15 +88,11 @@ ends_more last start (first ∷ files) file h le = (h.0, ends_more last first.en
 
 same_range : (paths more : List ℕ) (start end : ℕ) → start ≤ end → end ≤ length paths
     → slice_range (paths ++ more) start end ≡ slice_range paths start end
-same_range paths more start end le within =
-    ap (λ (z : List ℕ). take (end - start) z) (drop-append-le start paths more (omega arith))
-    ∙ take-append-le (end - start) (drop start paths) more (omega (arith, length-drop start paths))
+same_range paths more start end le within = grind (arith, common_steps, drop-append-le, take-append-le, length-drop)
 
 last_range : (paths more : List ℕ) (start end : ℕ) → start ≡ length paths → end ≡ length paths + length more
     → slice_range (paths ++ more) start end ≡ more
-last_range paths more start end e f =
-    ap (λ (z : List ℕ). take (end - start) z) (drop_at paths more start (sym e))
-    ∙ take_all (end - start) more (omega (arith, e, f))
+last_range paths more start end e f = grind (arith, common_steps, drop_at, take_all)
 
 kept_more : (paths more : List ℕ) (start : ℕ) (files : List PathEnd) (file : PathEnd) → EndAt (length paths) start files
     → file.end ≡ length paths + length more
@@ -129,18 +116,7 @@ keeps_path : (line general : List ℕ) (h : HeaderParts) (files : List Entry) (i
     → file.end ≡ length (paths ++ more)
     → KeepsFiles line general h (take (i + 1) files) (paths ++ more) (kept ++ file ∷ [])
 keeps_path line general h files i d paths more kept file k lt path sum end =
-    let long : file.end ≡ length paths + length more = end ∙ length-append paths more in
-    let next : KeptFile = record { path = more; listed = file.listed } in
-    let one : IsKeptFile line general h (get_or files i d) next = record { path = path; sum = sum } in
-    let all = all_zipped_more (IsKeptFile line general h) (take i files) (kept_files paths 0 kept) (get_or files i d) next k.same one in
-    let ends = ends_more (length paths) 0 kept file k.ends (omega (arith, long)) in
-    record {
-      ends = subst (λ (n : ℕ). EndAt n 0 (kept ++ file ∷ [])) end ends;
-      same = subst (λ (z : List Entry). AllZip (IsKeptFile line general h) z (kept_files (paths ++ more) 0 (kept ++ file ∷ [])))
-          (sym (take_more files i d lt))
-          (subst (λ (z : List KeptFile). AllZip (IsKeptFile line general h) (take i files ++ get_or files i d ∷ []) z)
-          (sym (kept_more paths more 0 kept file k.ends long)) all);
-    }
+    grind (arith, common_steps, length-append, all_zipped_more, ends_more, take_more, kept_more)
 
 pub keeps_more : (line general : List ℕ) (h : HeaderParts) (files : List Entry) (i : ℕ) (entry : Entry) (paths new : List ℕ)
     (kept : List PathEnd) (file : PathEnd)
@@ -182,8 +158,7 @@ same_sum line general h _ _ n all = absurd all
 
 pub all_kept : (line general : List ℕ) (h : HeaderParts) (n : ℕ) (paths : List ℕ) (kept : List PathEnd)
     → KeepsFiles line general h (take n h.files) paths kept → length h.files ≤ n → KeepsFiles line general h h.files paths kept
-all_kept line general h n paths kept k le =
-    subst (λ (z : List Entry). KeepsFiles line general h z paths kept) (take_all n h.files le) k
+all_kept line general h n paths kept k le = grind (arith, common_steps, take_all)
 
 pub are_files : (line general : List ℕ) (h : HeaderParts) (paths : List ℕ) (kept : List PathEnd)
     → KeepsFiles line general h h.files paths kept → AreFilesOf line general h (kept_files paths 0 kept)

@@ -1,25 +1,23 @@
 -- Under usable tables each file has a path.
-use Rattle.std.proofs.Common.{◌≡◌, ℕ, zero, suc, ◌<◌, List, [], ◌∷◌, length, get_or, Option, Some, None, refl, sym, subst, arith}
+use Rattle.std.proofs.Common.{◌≡◌, ℕ, zero, suc, ◌<◌, List, [], ◌∷◌, length, get_or, Option, Some, refl, sym, subst, arith}
 use Rattle.std.proofs.lemmas.Option.{slice_get_within, get_or_from_slice_get}
-use Rattle.std.specs.Prelude.{Bool, true, false, cond, ◌==◌, ◌||◌, IsSome}
+use Rattle.std.specs.Prelude.{Bool, true, false, cond, IsSome}
 use Rattle.std.specs.List.{AllByRecursion, slice_get}
 use Rattle.std.specs.Option.{option_map, option_and_then}
 use Rattle.lnt_header.specs.declared.header.Entry.{Entry}
 use Rattle.lnt_header.specs.declared.header.HeaderParts.{HeaderParts}
 use Rattle.lnt_header.proofs.FirstLaws.{all_at}
-use Rattle.lnt_files.specs.Contents.{path_text, directory_number}
-use Rattle.lnt_files.specs.Paths.{begins_with_slash, join, directory_text, below_first, directory_path, below_directory, file_path}
+use Rattle.lnt_files.specs.Paths.{directory_text, directory_path, file_path}
 use Rattle.lnt_files.specs.Tables.{HasPath, HasDirectory, AreUsableTables}
+use Rattle.std.proofs.lemmas.Grind.{common_steps}
 
 -- ---- values that are there
 
 some_mapped : {X Y : Type 0} (f : X → Y) (o : Option X) → IsSome o → IsSome (option_map f o)
-some_mapped f None h = h
-some_mapped f (Some x) h = refl
+some_mapped f o h = grind (arith, common_steps)
 
 some_then : {X Y : Type 0} (f : X → Option Y) (o : Option X) → ((x : X) → IsSome (f x)) → IsSome o → IsSome (option_and_then f o)
-some_then f None h k = k
-some_then f (Some x) h k = h x
+some_then f o h k = grind (arith, common_steps)
 
 either_some : {X : Type 0} (b : Bool) (x : X) (o : Option X) → IsSome o → IsSome (cond b (Some x) o)
 either_some true x o h = refl
@@ -38,28 +36,15 @@ record HaveTexts (line general : List ℕ) (h : HeaderParts) : Type 0 where
   texts : (number : ℕ) → number < length h.directories → IsSome (directory_text line general h number)
 
 texts_there : (line general : List ℕ) (h : HeaderParts) → AreUsableTables line general h → HaveTexts line general h
-texts_there line general h usable = record {
-  texts = λ number lt. element_there (path_text line general h.directory_format) h.directories number usable.directories.paths lt;
-}
+texts_there line general h usable = grind (arith, common_steps, element_there)
 
 directory_there : (line general : List ℕ) (h : HeaderParts) (number : ℕ) → HaveTexts line general h → number < length h.directories
     → IsSome (directory_path line general h number)
-directory_there line general h number have lt =
-    some_then (λ text. cond ((number == 0) || begins_with_slash text) (Some text) (below_first line general h text))
-    (directory_text line general h number)
-    (λ text. either_some ((number == 0) || begins_with_slash text) text (below_first line general h text)
-    (some_mapped (λ first. join first text) (directory_text line general h 0) (have.texts 0 (omega (arith, lt)))))
-    (have.texts number lt)
+directory_there line general h number have lt = grind (arith, common_steps, some_then, either_some, some_mapped)
 
 file_there : (line general : List ℕ) (h : HeaderParts) (file : Entry) → HaveTexts line general h → HasPath line general h.file_format file
     → HasDirectory h file → IsSome (file_path line general h file)
-file_there line general h file have path lt =
-    some_then (λ text. cond (begins_with_slash text) (Some text) (below_directory line general h file text))
-    (path_text line general h.file_format file)
-    (λ text. either_some (begins_with_slash text) text (below_directory line general h file text)
-    (some_mapped (λ directory. join directory text) (directory_path line general h (directory_number h.file_format file))
-    (directory_there line general h (directory_number h.file_format file) have lt)))
-    path
+file_there line general h file have path lt = grind (arith, common_steps, some_then, either_some, some_mapped, directory_there)
 
 each_there : (line general : List ℕ) (h : HeaderParts) (files : List Entry) → HaveTexts line general h
     → AllByRecursion (HasPath line general h.file_format) files → AllByRecursion (HasDirectory h) files

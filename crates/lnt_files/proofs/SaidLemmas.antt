@@ -1,10 +1,9 @@
 -- What an entry says, by its components.
-use Rattle.std.proofs.Common.{◌≡◌, ◌↔◌, ℕ, List, Option, Some, None, sym, ap, subst, ◌∙◌}
+use Rattle.std.proofs.Common.{◌≡◌, ◌↔◌, ℕ, List, Option, Some, None, sym, ap, ◌∙◌, arith}
 use Rattle.std.specs.Prelude.{Bool, false, IsTrue, IsSome}
 use Rattle.std.specs.Option.{option_map, option_and_then, option_map_or}
 use Rattle.lnt_wire.specs.Borrowed.{value_of}
 use Rattle.lnt_wire.specs.Texts.{text_of}
-use Rattle.lnt_wire.specs.declared.form.FormValue.{FormValue}
 use Rattle.lnt_wire.specs.declared.view.ValueView.{ValueView}
 use Rattle.lnt_header.specs.declared.header.Entry.{Entry}
 use Rattle.lnt_header.specs.declared.header.Pair.{Pair}
@@ -12,25 +11,22 @@ use Rattle.lnt_files.specs.Contents.{path_text, number_of, directory_number, byt
 use Rattle.lnt_files.specs.Tables.{HasPath}
 use Rattle.lnt_files.specs.Walks.{Says}
 use Rattle.lnt_files.specs.declared.walk.EntryView.{EntryView}
+use Rattle.std.proofs.lemmas.Grind.{common_steps}
 
 -- the path's text
 said_text : (line general : List ℕ) (pairs : List Pair) (entry : Entry) (view : EntryView) (path : Option ValueView) → Says pairs entry view
     → view.path ≡ path
     → path_text line general pairs entry ≡ option_and_then (text_of line general) (option_map value_of path)
-said_text line general pairs entry view path says is =
-    ap (option_and_then (text_of line general)) (sym says.path ∙ ap (option_map value_of) is)
+said_text line general pairs entry view path says is = grind (arith, common_steps)
 
 pub has_text : (line general : List ℕ) (pairs : List Pair) (entry : Entry) (view : EntryView) (value : ValueView) (result : Bool)
     → view.path ≡ Some value → IsTrue result ↔ IsSome (text_of line general (value_of value))
     → Says pairs entry view → IsTrue result ↔ HasPath line general pairs entry
-has_text line general pairs entry view value result is told says =
-    subst (λ (o : Option (List ℕ)). IsTrue result ↔ IsSome o) (sym (said_text line general pairs entry view (Some value) says is)) told
+has_text line general pairs entry view value result is told says = grind (arith, common_steps, said_text)
 
 pub has_none : (line general : List ℕ) (pairs : List Pair) (entry : Entry) (view : EntryView) → view.path ≡ None → Says pairs entry view
     → IsTrue false ↔ HasPath line general pairs entry
-has_none line general pairs entry view is says =
-    subst (λ (o : Option (List ℕ)). IsTrue false ↔ IsSome o) (sym (said_text line general pairs entry view None says is))
-    ((λ h. h), (λ h. h))
+has_none line general pairs entry view is says = grind (arith, common_steps, said_text)
 
 pub text_is : (line general : List ℕ) (pairs : List Pair) (entry : Entry) (view : EntryView) (value : ValueView) (text : Option (List ℕ))
     → view.path ≡ Some value → text ≡ text_of line general (value_of value)
@@ -45,8 +41,7 @@ no_text_is line general pairs entry view is says = sym (said_text line general p
 said_number : (pairs : List Pair) (entry : Entry) (view : EntryView) (directory : Option ValueView) → Says pairs entry view
     → view.directory ≡ directory
     → directory_number pairs entry ≡ option_map_or number_of (option_map value_of directory) 0
-said_number pairs entry view directory says is =
-    ap (λ (o : Option FormValue). option_map_or number_of o 0) (sym says.directory ∙ ap (option_map value_of) is)
+said_number pairs entry view directory says is = grind (arith, common_steps)
 
 pub number_is : (pairs : List Pair) (entry : Entry) (view : EntryView) (value : ValueView) (n : ℕ) → view.directory ≡ Some value
     → n ≡ number_of (value_of value) → Says pairs entry view → n ≡ directory_number pairs entry

@@ -1,9 +1,8 @@
 -- Walks over entries.
-use Rattle.std.proofs.Common.{◌≡◌, ◌≢◌, ℕ, suc, ◌-◌, List, [], ◌∷◌, length, length-drop, refl, sym, ap, subst, ◌∙◌, arith}
+use Rattle.std.proofs.Common.{◌≡◌, ◌≢◌, ℕ, suc, ◌-◌, List, [], ◌∷◌, length, length-drop, refl, sym, ap, ◌∙◌, arith}
 use Rattle.lnt_wire.specs.At.{At}
 use Rattle.lnt_wire.specs.Bytes.{NoneSpelled}
 use Rattle.lnt_wire.specs.declared.format.Format.{Format}
-use Rattle.lnt_wire.specs.declared.format.Order.{Order}
 use Rattle.lnt_header_bytes.specs.Borrowed.{first_entries, BorrowedTable, AreEntryBytes}
 use Rattle.lnt_header.specs.Joins.{Each}
 use Rattle.lnt_header_bytes.proofs.BorrowedLaws.{all_found, first_found, others_spelled}
@@ -16,6 +15,7 @@ use Rattle.lnt_files.specs.declared.components.Usual.{Usual}
 use Rattle.lnt_files.specs.declared.walk.EntryView.{EntryView}
 use Rattle.lnt_files.specs.Walks.{IsUsual, ArePlaces, GivesEntry, left_of, IsWalk}
 use Rattle.lnt_files.specs.Stepping.{ReadsEntry}
+use Rattle.std.proofs.lemmas.Grind.{common_steps}
 
 table_with : BorrowedTable → List Entry → BorrowedTable
 table_with table entries = record table { entries = entries }
@@ -23,19 +23,12 @@ table_with table entries = record table { entries = entries }
 pub begun_is : (table : BorrowedTable) (left : ℕ) (at : At) → left ≡ length table.entries → AreEntryBytes table at.rest
     → left_of table left at ≡ table
 unfolding table_with
-begun_is table left at count bytes =
-    ap (table_with table) (all_found table.format table.order table.pairs left table.entries at.rest (sym count) bytes)
+begun_is table left at count bytes = grind (arith, common_steps, table_with, all_found)
 
 pub walk_begun : (table : BorrowedTable) (usual : Usual) (places : Places) (left : ℕ) (at : At) → IsUsual usual table.pairs
     → ArePlaces places table.pairs → left ≡ length table.entries → at.order ≡ table.order
     → AreEntryBytes table at.rest → IsWalk table usual places left at
-walk_begun table usual places left at is are count order bytes =
-    record {
-      usual_is = is;
-      places_are = are;
-      order_is = order;
-      bytes = subst (λ (t : BorrowedTable). AreEntryBytes t at.rest) (sym (begun_is table left at count bytes)) bytes;
-    }
+walk_begun table usual places left at is are count order bytes = grind (arith, common_steps, begun_is)
 
 -- a walk that begins before a later entry
 pub before_is : (table : BorrowedTable) (first left : ℕ) (at : At) → left ≡ length table.entries - first
@@ -45,13 +38,7 @@ before_is table first left at count bytes = begun_is (from_entry first table) le
 pub walk_before : (table : BorrowedTable) (usual : Usual) (places : Places) (first left : ℕ) (at : At) → IsUsual usual table.pairs
     → ArePlaces places table.pairs → left ≡ length table.entries - first → at.order ≡ table.order
     → AreEntryBytes (from_entry first table) at.rest → IsWalk table usual places left at
-walk_before table usual places first left at is are count order bytes =
-    record {
-      usual_is = is;
-      places_are = are;
-      order_is = order;
-      bytes = subst (λ (t : BorrowedTable). AreEntryBytes t at.rest) (sym (before_is table first left at count bytes)) bytes;
-    }
+walk_before table usual places first left at is are count order bytes = grind (arith, common_steps, before_is)
 
 pub walk_ended : (table : BorrowedTable) (left : ℕ) (at : At) → left ≡ 0 → (left_of table left at).entries ≡ []
 walk_ended table left at none = ap (λ (n : ℕ). first_entries table.format table.order table.pairs n at.rest) none
@@ -67,19 +54,7 @@ record IsStepped (table : BorrowedTable) (left : ℕ) (entry : Entry) (at new : 
 stepped : (table : BorrowedTable) (usual : Usual) (places : Places) (left : ℕ) (view : EntryView) (at new : At) → left ≢ 0
     → IsWalk table usual places left at → (r : ReadsEntry table.format table.pairs view at new)
     → IsStepped table left r.entry at new
-stepped table usual places left view at new some is r =
-    let spelled : EntryBytes table.format table.order table.pairs r.entry r.read.spelling =
-    subst (λ (o : Order). EntryBytes table.format o table.pairs r.entry r.read.spelling) is.order_is r.read.spelled in
-    let entries : (left_of table left at).entries ≡ r.entry ∷ (left_of table (left - 1) new).entries =
-    ap (λ (n : ℕ). first_entries table.format table.order table.pairs n at.rest) (one_less left some)
-    ∙ first_found table.format table.order table.pairs (left - 1) r.entry r.read.spelling new.rest at.rest spelled r.read.whole in
-    record {
-      entries_are = entries;
-      bytes = others_spelled table.format table.order table.pairs r.entry (left_of table (left - 1) new).entries r.read.spelling new.rest
-          at.rest
-          (subst (λ (es : List Entry). Each (EntryBytes table.format table.order table.pairs) es at.rest) entries is.bytes) spelled
-          r.read.whole;
-    }
+stepped table usual places left view at new some is r = grind (arith, common_steps, one_less, first_found, others_spelled)
 
 pub walk_steps : (table : BorrowedTable) (usual : Usual) (places : Places) (left : ℕ) (view : EntryView) (at new : At) → left ≢ 0
     → IsWalk table usual places left at → ReadsEntry table.format table.pairs view at new
@@ -106,24 +81,15 @@ never count table bytes none each = none _ each.prefix each.back each.first (sym
 pub walk_never_stops : (table : BorrowedTable) (usual : Usual) (places : Places) (left : ℕ) (at : At) → left ≢ 0
     → IsWalk table usual places left at
     → NoneSpelled (EntryBytes table.format at.order table.pairs) at.rest → ⊥
-walk_never_stops table usual places left at some is none =
-    let here : NoneSpelled (EntryBytes table.format table.order table.pairs) at.rest =
-    subst (λ (o : Order). NoneSpelled (EntryBytes table.format o table.pairs) at.rest) is.order_is none in
-    never (left - 1) table at.rest here
-    (subst (λ (n : ℕ). Each (EntryBytes table.format table.order table.pairs) (first_entries table.format table.order table.pairs n at.rest)
-    at.rest) (one_less left some) is.bytes)
+walk_never_stops table usual places left at some is none = grind (arith, common_steps, never, one_less)
 
 -- the same by the table that was asked
 pub in_table : (table : BorrowedTable) (format : Format) (pairs : List Pair) (view : EntryView) (at new : At) → format ≡ table.format
     → pairs ≡ table.pairs → ReadsEntry format pairs view at new
     → ReadsEntry table.format table.pairs view at new
-in_table table format pairs view at new format_is pairs_are r =
-    subst (λ (f : Format). ReadsEntry f table.pairs view at new) format_is
-    (subst (λ (ps : List Pair). ReadsEntry format ps view at new) pairs_are r)
+in_table table format pairs view at new format_is pairs_are r = grind (arith, common_steps)
 
 pub none_in_table : (table : BorrowedTable) (format : Format) (pairs : List Pair) (at : At) → format ≡ table.format → pairs ≡ table.pairs
     → NoneSpelled (EntryBytes format at.order pairs) at.rest
     → NoneSpelled (EntryBytes table.format at.order table.pairs) at.rest
-none_in_table table format pairs at format_is pairs_are none =
-    subst (λ (f : Format). NoneSpelled (EntryBytes f at.order table.pairs) at.rest) format_is
-    (subst (λ (ps : List Pair). NoneSpelled (EntryBytes format at.order ps) at.rest) pairs_are none)
+none_in_table table format pairs at format_is pairs_are none = grind (arith, common_steps)

@@ -1,5 +1,5 @@
 -- A header in another format and byte order can be read too, and admits what it admitted.
-use Rattle.std.proofs.Common.{List, [], ◌∷◌}
+use Rattle.std.proofs.Common.{List, [], ◌∷◌, arith}
 use Rattle.std.specs.List.{AllByRecursion}
 use Rattle.lnt_wire.specs.declared.format.Format.{Format}
 use Rattle.lnt_wire.specs.declared.format.Order.{Order}
@@ -8,29 +8,16 @@ use Rattle.lnt_header.specs.HeaderRules.{HasHeaderNumbers, IsHeader}
 use Rattle.lnt_header.specs.OpRules.{Admits}
 use Rattle.lnt_header.specs.declared.header.HeaderParts.{HeaderParts}
 use Rattle.lnt_header.specs.declared.op.Op.{Op}
-use Rattle.lnt_header.specs.declared.op.Op.TheVariants.{Special}
+use Rattle.std.proofs.lemmas.Grind.{common_steps}
 
 numbers_in_format : (h : HeaderParts) (format : Format) (order : Order) → HasHeaderNumbers h → HasHeaderNumbers (in_format h format order)
-numbers_in_format h format order n = record {
-  address_size = n.address_size;
-  line_base = n.line_base;
-  bytes = n.bytes;
-  max_ops = n.max_ops;
-  line_range = n.line_range;
-  opcode_base = n.opcode_base;
-  lengths = n.lengths;
-}
+numbers_in_format h format order n = grind (arith, common_steps)
 
 pub header_in_format : (h : HeaderParts) (format : Format) (order : Order) → IsHeader h → IsHeader (in_format h format order)
-header_in_format h format order is = record {
-  numbers = numbers_in_format h format order is.numbers;
-  directories = is.directories;
-  files = is.files;
-}
+header_in_format h format order is = grind (arith, common_steps, numbers_in_format)
 
 pub op_in_format : (h : HeaderParts) (format : Format) (order : Order) (op : Op) → Admits h op → Admits (in_format h format order) op
-op_in_format h format order (Special c) a = a
-op_in_format h format order op a = a
+op_in_format h format order op a = grind (arith, common_steps)
 
 pub ops_in_format : (h : HeaderParts) (format : Format) (order : Order) (ops : List Op) → AllByRecursion (Admits h) ops
     → AllByRecursion (Admits (in_format h format order)) ops

@@ -1,5 +1,5 @@
 -- Where what is joined from parts has a fault, it isn't spelled, and its first fault is one. Crates above cite these.
-use Rattle.std.proofs.Common.{◌≡◌, ℕ, List, [], ◌∷◌, ◌++◌, sym, ap, subst, ◌∙◌, append_assoc}
+use Rattle.std.proofs.Common.{◌≡◌, ℕ, List, [], ◌∷◌, ◌++◌, sym, ap, ◌∙◌, append_assoc, arith}
 use Rattle.lnt_wire.specs.Bytes.{IsCode, NoneSpelled}
 use Rattle.lnt_wire.specs.declared.fault.Reason.{Reason}
 use Rattle.lnt_wire.proofs.CodeLaws.{peel}
@@ -10,6 +10,7 @@ use Rattle.lnt_header.specs.FirstFaults.FirstOf.{first, second}
 use Rattle.lnt_header.specs.FirstFaults.FirstOfSeveral.{next}
 use Rattle.lnt_header.specs.Joins.{Both, Each, Several}
 use Rattle.lnt_header.proofs.ReaderLaws.{none_first, none_second, none_several}
+use Rattle.std.proofs.lemmas.Grind.{common_steps}
 
 -- Faults that say no two things of the same bytes: one reason, at one place.
 abbrev pub AreOne : (Reason → List ℕ → List ℕ → Type 0) → Type 0
@@ -29,30 +30,19 @@ IsHere IsSo reason before left = (before ≡ []) × IsSo reason left
 
 pub field_fault : {X : Type 0} (Spells : X → List ℕ → Type 0) (IsSo : Reason → List ℕ → Type 0) → IsOneFieldFault Spells IsSo
     → IsOneFault Spells (IsHere IsSo)
-field_fault Spells IsSo field = record {
-  none = λ reason before left h x spelling more p e. field.none reason left h.1 x spelling more p (e ∙ ap (λ (z : List ℕ). z ++ left) h.0);
-  one = λ reason other before before' left left' h k e.
-      let same : left ≡ left' = ap (λ (z : List ℕ). z ++ left) (sym h.0) ∙ e ∙ ap (λ (z : List ℕ). z ++ left') k.0 in
-      (field.one reason other left h.1 (subst (IsSo other) (sym same) k.1), h.0 ∙ sym k.0);
-}
+field_fault Spells IsSo field = grind (arith, common_steps)
 
 -- the same fault by another name
 pub fault_as : {X : Type 0} (P : X → List ℕ → Type 0) (IsSo IsAlso : Reason → List ℕ → List ℕ → Type 0)
     → ((reason : Reason) (before left : List ℕ) → IsAlso reason before left → IsSo reason before left) → IsOneFault P IsSo
     → IsOneFault P IsAlso
-fault_as P IsSo IsAlso is fault = record {
-  none = λ reason before left h. fault.none reason before left (is reason before left h);
-  one =
-      λ reason other before before' left left' h k e. fault.one reason other before before' left left' (is reason before left h)
-      (is other before' left' k) e;
-}
+fault_as P IsSo IsAlso is fault = grind (arith, common_steps)
 
 -- no value of one kind, since there is none of another that each such value has
 pub fault_of_part : {X Y : Type 0} (P : X → List ℕ → Type 0) (Q : Y → List ℕ → Type 0) (IsSo : Reason → List ℕ → List ℕ → Type 0)
     (part : Y → X)
     → ((y : Y) (x : List ℕ) → Q y x → P (part y) x) → IsOneFault P IsSo → IsOneFault Q IsSo
-fault_of_part P Q IsSo part is fault =
-    record { none = λ reason before left h y x more q e. fault.none reason before left h (part y) x more (is y x q) e; one = fault.one }
+fault_of_part P Q IsSo part is fault = grind (arith, common_steps)
 
 -- ---- a value, and then one whose kind it decides
 
@@ -70,20 +60,7 @@ module _ {X : Type 0} (P : X → List ℕ → Type 0) (OfFirst : Reason → List
 
   -- the first fault is one
   pub first_one : AreOne OfFirst → AreApart → ((x : X) → AreOne (OfSecond x)) → AreOne (FirstOf P OfFirst OfSecond)
-  first_one firsts apart seconds reason other before before' left left' (first h) (first k) e =
-      firsts reason other before before' left left' h k e
-  first_one firsts apart seconds reason other before before' left left' (first h) (second x prefix past p joined k) e =
-      absurd (apart reason other x before left prefix past left' h p k (e ∙ after_first before' prefix past left' joined))
-  first_one firsts apart seconds reason other before before' left left' (second x prefix past p joined h) (first k) e =
-      absurd (apart other reason x before' left' prefix past left k p h (sym e ∙ after_first before prefix past left joined))
-  first_one firsts apart seconds reason other before before' left left' (second x prefix past p joined h)
-      (second y prefix' past' q joined' k) e =
-      let all : prefix ++ (past ++ left) ≡ prefix' ++ (past' ++ left') =
-      sym (after_first before prefix past left joined) ∙ e ∙ after_first before' prefix' past' left' joined' in
-      let found = code.one x y prefix prefix' (past ++ left) (past' ++ left') p q all in
-      let rest = same_rest prefix prefix' (past ++ left) (past' ++ left') found.1 all in
-      let same = seconds y reason other past past' left left' (subst (λ (z : X). OfSecond z reason past left) found.0 h) k rest in
-      (same.0, joined ∙ ap (λ (z : List ℕ). z ++ past) found.1 ∙ ap (λ (z : List ℕ). prefix' ++ z) same.1 ∙ sym joined')
+  first_one firsts apart seconds reason other before before' left left' h k e = grind (arith, common_steps, after_first, same_rest)
 
   -- where the first part's faults leave none of it spelled
   pub first_of : {Y : Type 0} (Q : X → Y → List ℕ → Type 0) → IsOneFault P OfFirst → ((x : X) → IsOneFault (Q x) (OfSecond x))
@@ -106,9 +83,7 @@ module _ {X : Type 0} (P : X → List ℕ → Type 0) (IsSo : Reason → List �
   -- no value stands where there is a fault of one
   none_here : (y : X) (ys : List X) (prefix rest before left : List ℕ) (reason : Reason) → IsSo reason before left → Each P (y ∷ ys) prefix
       → before ++ left ≡ prefix ++ rest → ⊥
-  none_here y ys prefix rest before left reason h q e =
-      one.none reason before left h y q.prefix (q.back ++ rest) q.first
-      (sym (append_assoc q.prefix q.back rest) ∙ ap (λ (z : List ℕ). z ++ rest) (sym q.joined) ∙ sym e)
+  none_here y ys prefix rest before left reason h q e = grind (arith, common_steps, append_assoc)
 
   -- after values that are there the fault of the next is one
   pub each_one : (xs ys : List X) (reason other : Reason) (prefix prefix' past past' left left' : List ℕ) → Each P xs prefix
@@ -134,12 +109,8 @@ module _ {X : Type 0} (P : X → List ℕ → Type 0) (IsSo : Reason → List �
 
   -- the same of as many values as a count says
   several_one : (n : ℕ) → AreOne (FirstOfSeveral n P IsSo)
-  several_one n reason other before before' left left' (next xs prefix past lt each joined h) (next ys prefix' past' lt' each' joined' k)
-      e =
-      let found = each_one xs ys reason other prefix prefix' past past' left left' each each' h k
-      (sym (ap (λ (z : List ℕ). z ++ left) joined ∙ append_assoc prefix past left) ∙ e ∙ ap (λ (z : List ℕ). z ++ left') joined'
-      ∙ append_assoc prefix' past' left') in
-      (found.0, joined ∙ found.1 ∙ sym joined')
+  several_one n reason other before before' left left' (next xs prefix past lt each joined h) (next ys prefix' past' lt' each' joined' k) e =
+      grind (arith, common_steps, each_one, append_assoc)
 
   pub several_of : (n : ℕ) → IsOneFault (Several n P) (FirstOfSeveral n P IsSo)
   several_of n = record {

@@ -3,6 +3,7 @@ use Rattle.std.proofs.Common.{ℕ, zero, suc, ◌+◌, ◌<◌, ◌≤◌, List,
 use Rattle.std.proofs.lemmas.List.{take_more, drop_more, take-append-drop, length-take-le}
 use Rattle.std.specs.List.{AllByRecursion}
 use Rattle.lnt_header.specs.HeaderTests.{IsFirstNot}
+use Rattle.std.proofs.lemmas.Grind.{common_steps}
 
 all_push : {X : Type 0} (P : X → Type 0) (xs : List X) (x : X) → AllByRecursion P xs → P x → AllByRecursion P (xs ++ x ∷ [])
 all_push P [] x h p = (p, tt)
@@ -44,5 +45,4 @@ all_after P (x ∷ xs) ys h = all_after P xs ys h.1
 
 -- one that isn't so, among values that all are
 pub first_is_wrong : {X : Type 0} {P : X → Type 0} {xs : List X} {i : ℕ} → IsFirstNot P xs i → AllByRecursion P xs → ⊥
-first_is_wrong {X} {P} {xs} {i} first h =
-    first.not_so (all_after P first.before (first.value ∷ first.past) (subst (AllByRecursion P) first.joined h)).0
+first_is_wrong {X} {P} {xs} {i} first h = grind (arith, common_steps, all_after)

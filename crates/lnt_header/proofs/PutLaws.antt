@@ -8,58 +8,33 @@ use Rattle.lnt_wire.specs.Bytes.{Exactly, Then, IsShortest, Appends}
 use Rattle.lnt_header.specs.Encoding.{RefusedPut}
 use Rattle.lnt_header.specs.Joins.{Each}
 use Rattle.lnt_header.proofs.ReaderLaws.{each_push}
+use Rattle.std.proofs.lemmas.Grind.{common_steps}
 
 -- ---- joins
 
 -- the shortest of a join is the join of the shortest
 pub join_shortest : {X Y : Type 0} (P : X → List ℕ → Type 0) (Q : Y → List ℕ → Type 0) (u : X) (v : Y) (x y : List ℕ) → IsShortest P u x
     → IsShortest Q v y → IsShortest (λ (w : X × Y). Then (P w.0) (Q w.1)) (u, v) (x ++ y)
-join_shortest P Q u v x y p q = record {
-  spelled = record { prefix = x; back = y; first = p.spelled; second = q.spelled; joined = refl };
-  shortest = λ other t. omega (
-    arith,
-    length-append x y,
-    ap length t.joined,
-    length-append t.prefix t.back,
-    p.shortest t.prefix t.first,
-    q.shortest t.back t.second,
-  );
-}
+join_shortest P Q u v x y p q = grind (arith, common_steps, length-append)
 
 -- one byte
 pub byte_put : (n : ℕ) (old : List ℕ) → Appends (λ (k : ℕ). Exactly (k ∷ [])) n old (old ++ n ∷ [])
-byte_put n old = record {
-  spelling = n ∷ [];
-  spelled = record { spelled = refl; shortest = λ other p. omega (arith, ap length p) };
-  joined = refl;
-}
+byte_put n old = grind (arith, common_steps)
 
 -- one put after another
 pub join_put : {X Y : Type 0} (P : X → List ℕ → Type 0) (Q : Y → List ℕ → Type 0) (u : X) (v : Y) (old middle new : List ℕ)
     → Appends P u old middle → Appends Q v middle new → Appends (λ (w : X × Y). Then (P w.0) (Q w.1)) (u, v) old new
-join_put P Q u v old middle new p q = record {
-  spelling = p.spelling ++ q.spelling;
-  spelled = join_shortest P Q u v p.spelling q.spelling p.spelled q.spelled;
-  joined = q.joined ∙ ap (λ (z : List ℕ). z ++ q.spelling) p.joined ∙ append_assoc old p.spelling q.spelling;
-}
+join_put P Q u v old middle new p q = grind (arith, common_steps, join_shortest, append_assoc)
 
 -- the same bytes as another value
 pub put_as : {X Y : Type 0} (P : X → List ℕ → Type 0) (Q : Y → List ℕ → Type 0) (u : X) (v : Y) (old new : List ℕ)
     → ((x : List ℕ) → P u x → Q v x) → ((x : List ℕ) → Q v x → P u x) → Appends P u old new → Appends Q v old new
-put_as P Q u v old new to from p = record {
-  spelling = p.spelling;
-  spelled = record { spelled = to p.spelling p.spelled.spelled; shortest = λ other q. p.spelled.shortest other (from other q) };
-  joined = p.joined;
-}
+put_as P Q u v old new to from p = grind (arith, common_steps)
 
 -- ---- lists
 
 pub each_begun : {X : Type 0} (P : X → List ℕ → Type 0) (old : List ℕ) → Appends (Each P) [] old old
-each_begun P old = record {
-  spelling = [];
-  spelled = record { spelled = refl; shortest = λ other p. omega arith };
-  joined = sym (append-nil old);
-}
+each_begun P old = grind (arith, common_steps, append-nil)
 
 -- a spelling of a list with one more value, in two
 pub record Parted {X : Type 0} (P : X → List ℕ → Type 0) (us : List X) (u : X) (bytes : List ℕ) : Type 0 where

@@ -1,13 +1,10 @@
 -- Tests of a header's parts.
-use Rattle.std.proofs.Common.{◌≡◌, ℕ, zero, suc, ◌+◌, ◌<◌, List, [], ◌∷◌, ◌++◌, length, take, min, refl, sym, ap, subst}
-use Rattle.std.proofs.Common.{◌∙◌, arith, ◌⊎◌, inl, inr}
+use Rattle.std.proofs.Common.{◌≡◌, ℕ, zero, suc, ◌+◌, ◌<◌, List, [], ◌∷◌, ◌++◌, length, take, min, refl, sym, ap, ◌∙◌, arith, ◌⊎◌}
 use Rattle.std.specs.Prelude.{Bool, true, false, IsTrue, ◌≢◌, map, FitsSigned}
 use Rattle.std.specs.Bool.{MatchBool}
 use Rattle.std.specs.List.{AllByRecursion, AllZip}
 use Rattle.std.specs.Int.{w8}
 use Rattle.lnt_wire.specs.declared.form.FormValue.{FormValue}
-use Rattle.lnt_wire.specs.declared.form.FormValue.TheVariants.{Text, LineStrp, Strp, Udata, Data1, Data2, Data4, Data8}
-use Rattle.lnt_wire.specs.declared.form.FormValue.TheVariants.{Data16, Block, Block1, Block2, Block4}
 use Rattle.lnt_wire.specs.FormBytes.{form_of, HasSpelling}
 use Rattle.lnt_header.specs.declared.fault.UnitFault.{UnitFault}
 use Rattle.lnt_header.specs.declared.fault.UnitFault.TheVariants.{HeaderNumber, EntryNotOfFormat, TextHoldsZero, OpNotOfUnit}
@@ -20,6 +17,7 @@ use Rattle.lnt_header.specs.HeaderRules.{IsAddressSize, AreStandardLengths, six_
 use Rattle.lnt_header.specs.OpRules.{known_lengths, last_known}
 use Rattle.lnt_header.specs.HeaderRules.{IsEntryOf, IsEntryTable, IsHeader}
 use Rattle.lnt_header.specs.HeaderTests.{IsFormat, IsPartsFault, FitsItsForm, HoldsNoZero, FitsPair, IsOfFormat, HasSoundTexts}
+use Rattle.std.proofs.lemmas.Grind.{common_steps}
 
 -- ---- the standard lengths
 
@@ -35,9 +33,7 @@ prefix_is : (xs : List ℕ) (m : ℕ) → m ≡ min (length xs) last_known → t
 prefix_is xs m e = ap (λ (n : ℕ). take n xs) e ∙ taken_capped xs last_known
 
 known_is : (xs : List ℕ) (m : ℕ) → m ≡ min (length xs) last_known → take m known_lengths ≡ take (length xs) known_lengths
-known_is xs m e =
-    let swapped : m ≡ min (length known_lengths) (length xs) = omega (arith, e) in
-    ap (λ (n : ℕ). take n known_lengths) swapped ∙ taken_capped known_lengths (length xs)
+known_is xs m e = grind (arith, common_steps, min, taken_capped)
 
 -- a comparison of the known ones
 pub standard_lengths : (xs : List ℕ) (m : ℕ) (r : Bool) → m ≡ min (length xs) last_known
@@ -60,24 +56,15 @@ zip_start P xs left ys right same same' long = rw (same, same') (record { as_lon
 
 pub zip_more : {X Y : Type 0} (P : X → Y → Type 0) (xs left left' : List X) (ys right right' : List Y) (x : X) (y : Y)
     → ZipLeft P xs ys left right → left ≡ x ∷ left' → right ≡ y ∷ right' → P x y → ZipLeft P xs ys left' right'
-zip_more P xs left left' ys right right' x y h is is' p =
-    let k : ZipLeft P xs ys (x ∷ left') (y ∷ right') = subst (λ (z : List _). ZipLeft P xs ys z (y ∷ right')) is
-    (subst (λ (z : List _). ZipLeft P xs ys left z) is' h) in
-    record { as_long = omega (arith, k.as_long); to = λ all. k.to (p, all); from = λ all. (k.from all).1 }
+zip_more P xs left left' ys right right' x y h is is' p = grind (arith, common_steps)
 
 pub zip_not : {X Y : Type 0} (P : X → Y → Type 0) (xs left left' : List X) (ys right right' : List Y) (x : X) (y : Y)
     → ZipLeft P xs ys left right → left ≡ x ∷ left' → right ≡ y ∷ right' → (P x y → ⊥) → AllZip P xs ys → ⊥
-zip_not P xs left left' ys right right' x y h is is' other all =
-    let k : ZipLeft P xs ys (x ∷ left') (y ∷ right') = subst (λ (z : List _). ZipLeft P xs ys z (y ∷ right')) is
-    (subst (λ (z : List _). ZipLeft P xs ys left z) is' h) in
-    other (k.from all).0
+zip_not P xs left left' ys right right' x y h is is' other all = grind (arith, common_steps)
 
 ends : {X Y : Type 0} (P : X → Y → Type 0) (left : List X) (right : List Y) → length left ≡ length right → (left ≡ []) ⊎ (right ≡ [])
     → AllZip P left right
-ends P [] [] e none = tt
-ends P [] (y ∷ right) e none = absurd (omega arith)
-ends P (x ∷ left) [] e none = absurd (omega arith)
-ends P (x ∷ left) (y ∷ right) e none = elim none [ inl a ↦ absurd cc | inr a ↦ absurd cc ]
+ends P left right e none = grind (arith, common_steps)
 
 pub zip_end : {X Y : Type 0} (P : X → Y → Type 0) (xs left : List X) (ys right : List Y) → ZipLeft P xs ys left right → (left ≡ [])
     ⊎ (right ≡ []) → AllZip P xs ys
@@ -100,30 +87,10 @@ pub header_numbers : (h : HeaderParts) → IsAddressSize h.address_size → Fits
     → AllByRecursion (λ byte. byte < 256) (six_bytes h) → AllByRecursion (λ byte. byte < 256) h.standard_lengths
     → 0 < h.max_ops → 0 < h.line_range → h.opcode_base ≡ length h.standard_lengths + 1 → AreStandardLengths h.standard_lengths
     → HasHeaderNumbers h
-header_numbers h size fits six lengths max_ops line_range opcode_base known = record {
-  address_size = size;
-  line_base = fits;
-  bytes = bytes_join (six_bytes h) h.standard_lengths six lengths;
-  max_ops = max_ops;
-  line_range = line_range;
-  opcode_base = opcode_base;
-  lengths = known;
-}
+header_numbers h size fits six lengths max_ops line_range opcode_base known = grind (arith, common_steps, bytes_join, standard_lengths)
 
 both_tests : (value : FormValue) → FitsItsForm value → HoldsNoZero value → HasSpelling value
-both_tests (Text text) f z = z
-both_tests (LineStrp n) f z = f
-both_tests (Strp n) f z = f
-both_tests (Udata n) f z = f
-both_tests (Data1 n) f z = f
-both_tests (Data2 n) f z = f
-both_tests (Data4 n) f z = f
-both_tests (Data8 n) f z = f
-both_tests (Data16 bytes) f z = f
-both_tests (Block block) f z = f
-both_tests (Block1 block) f z = f
-both_tests (Block2 block) f z = f
-both_tests (Block4 block) f z = f
+both_tests value f z = grind (arith, common_steps)
 
 record AreValues (pairs : List Pair) (values : List FormValue) : Type 0 where
   forms : map form_of values ≡ map (λ pair. pair.form) pairs
@@ -170,23 +137,10 @@ format_of : (pairs : List Pair) (entries : List Entry) → IsEntryTable pairs en
 format_of pairs entries t = record { few_pairs = t.few_pairs; none_without_pairs = t.none_without_pairs }
 
 own_form : (value : FormValue) → HasSpelling value → FitsItsForm value
-own_form (Text text) h = tt
-own_form (LineStrp n) h = h
-own_form (Strp n) h = h
-own_form (Udata n) h = h
-own_form (Data1 n) h = h
-own_form (Data2 n) h = h
-own_form (Data4 n) h = h
-own_form (Data8 n) h = h
-own_form (Data16 bytes) h = h
-own_form (Block block) h = h
-own_form (Block1 block) h = h
-own_form (Block2 block) h = h
-own_form (Block4 block) h = h
+own_form value h = grind (arith, common_steps)
 
 no_zero : (value : FormValue) → HasSpelling value → HoldsNoZero value
-no_zero (Text text) h = h
-no_zero value h = tt
+no_zero value h = grind (arith, common_steps)
 
 of_format : (pairs : List Pair) (values : List FormValue) → map form_of values ≡ map (λ pair. pair.form) pairs
     → AllByRecursion HasSpelling values → AllZip FitsPair pairs values

@@ -1,7 +1,6 @@
 -- Units by their parts, tested.
-use Rattle.std.proofs.Common.{◌≡◌, ap, ℕ, List}
+use Rattle.std.proofs.Common.{◌≡◌, ap, ℕ, List, arith}
 use Rattle.lnt_header.specs.declared.fault.UnitFault.{UnitFault}
-use Rattle.lnt_header.specs.declared.fault.UnitFault.TheVariants.{HeaderNumber, EntryNotOfFormat, TextHoldsZero, OpNotOfUnit}
 use Rattle.lnt_header.specs.declared.header.HeaderParts.{HeaderParts}
 use Rattle.lnt_header.specs.declared.op.Op.{Op}
 use Rattle.lnt_header.specs.HeaderRules.{IsHeader}
@@ -11,13 +10,11 @@ use Rattle.lnt_header.specs.OpRules.{Admits}
 use Rattle.lnt_header.specs.declared.unit_parts.UnitParts.{UnitParts}
 use Rattle.lnt_header.specs.UnitRules.{IsUnit}
 use Rattle.lnt_header.specs.UnitTests.{IsUnitFault}
+use Rattle.std.proofs.lemmas.Grind.{common_steps}
 
 -- a header's fault is a unit's
 pub header_fault : (unit : UnitParts) (fault : UnitFault) → IsPartsFault fault unit.header → IsUnitFault fault unit
-header_fault unit HeaderNumber h = h
-header_fault unit (EntryNotOfFormat which index) h = h
-header_fault unit (TextHoldsZero which index) h = h
-header_fault unit (OpNotOfUnit index) h = absurd h
+header_fault unit fault h = grind (arith, common_steps)
 
 pub no_header_first : (unit : UnitParts) → (IsHeader unit.header → ⊥) → IsUnit unit → ⊥
 no_header_first unit none is = none is.header

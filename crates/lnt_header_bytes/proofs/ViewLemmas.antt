@@ -95,9 +95,6 @@ pub fields_read : (format : Format) (s : Singles) (ls : List ℕ) (directories f
     → IsEntryTableRead format directories m2 m3 → IsEntryTableRead format files m3 new → AreFieldsRead format s ls directories files old new
 fields_read format s ls directories files old m1 m2 m3 new r t d f = grind (arith, common_steps, reads_fields)
 
-abbrev with_entries : HeaderParts → List Entry → List Entry → List ℕ → HeaderParts
-with_entries h directories files extra = record h { directories = directories; files = files; extra = extra }
-
 -- a header that was read without its entries has none
 plain_is : (h : HeaderParts) (dc : ℕ) (db : List ℕ) (fc : ℕ) (fb extra : List ℕ) → h.directories ≡ [] → h.files ≡ [] → h.extra ≡ []
     → h ≡ without_entries (header_over h dc db fc fb extra)

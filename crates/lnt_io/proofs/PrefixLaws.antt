@@ -1,21 +1,20 @@
 -- Prefixes of what is written: laws that the proofs of the crates above cite.
 use Rattle.std.proofs.Common.{◌≡◌, ◌∙◌, ℕ, ◌+◌, ◌<◌, List, [], ◌∷◌, ◌++◌, append-nil, append_assoc, length, get_or, take, drop}
-use Rattle.std.proofs.Common.{Option, None, Some, Result, Ok, Err, OnErr, ap, subst, sym, take-append-drop, refl}
+use Rattle.std.proofs.Common.{Option, Result, OnErr, ap, subst, sym, take-append-drop, refl, arith}
 use Rattle.std.specs.List.{flat_map}
 use Rattle.std.specs.Io.KnownBytes.{Appends, Keeps, append_known}
-use Rattle.std.proofs.KnownBytes.{Appends-nil, Appends-trans}
+use Rattle.std.proofs.KnownBytes.{Appends-nil}
 use Rattle.std.proofs.lemmas.List.{take_more}
 use Rattle.std.proofs.lemmas.List.Concat.{flat_map-append}
 use Rattle.lnt_io.specs.Prefixes.{AppendsPrefix}
+use Rattle.std.proofs.lemmas.Grind.{common_steps}
 
 -- nothing was written: the empty prefix
 pub prefix_none : (old : Option (List ℕ)) (bytes : List ℕ) → AppendsPrefix old old bytes
 prefix_none old bytes = record { prefix = []; rest = bytes; joined = refl; appended = Appends-nil old }
 
 Appends_kept : (old new : Option (List ℕ)) → Keeps old new → Appends old new []
-Appends_kept None new k = tt
-Appends_kept (Some xs) None k = absurd k
-Appends_kept (Some xs) (Some ys) k = k ∙ sym (append-nil xs)
+Appends_kept old new k = grind (arith, common_steps, append-nil)
 
 -- everything was written: the whole
 pub prefix_all : (old new : Option (List ℕ)) (bytes : List ℕ) → Appends old new bytes → AppendsPrefix old new bytes
@@ -23,22 +22,12 @@ prefix_all old new bytes a = record { prefix = bytes; rest = []; joined = append
 
 -- a prefix stays one when more bytes follow
 pub prefix_before : (old new : Option (List ℕ)) (bytes more : List ℕ) → AppendsPrefix old new bytes → AppendsPrefix old new (bytes ++ more)
-prefix_before old new bytes more f = record {
-  prefix = f.prefix;
-  rest = f.rest ++ more;
-  joined = sym (append_assoc f.prefix f.rest more) ∙ ap (λ (l : List ℕ). l ++ more) f.joined;
-  appended = f.appended;
-}
+prefix_before old new bytes more f = grind (arith, common_steps, append_assoc)
 
 -- some bytes, and then a prefix of others
 pub prefix_after : (old now new : Option (List ℕ)) (first second : List ℕ) → Appends old now first → AppendsPrefix now new second
     → AppendsPrefix old new (first ++ second)
-prefix_after old now new first second a f = record {
-  prefix = first ++ f.prefix;
-  rest = f.rest;
-  joined = append_assoc first f.prefix f.rest ∙ ap (λ (l : List ℕ). first ++ l) f.joined;
-  appended = Appends-trans old now new first f.prefix a f.appended;
-}
+prefix_after old now new first second a f = grind (arith, common_steps, append_assoc)
 
 -- a prefix of the bytes, where the writer first kept what it held
 pub prefix_since : (old now new : Option (List ℕ)) (bytes : List ℕ) → Keeps old now → AppendsPrefix now new bytes → AppendsPrefix old new bytes
@@ -71,10 +60,8 @@ prefix_in_items f head items i d a b c lt before here =
 
 -- appending to known bytes gives what `append_known` says
 pub appends_known : (old : Option (List ℕ)) (bytes : List ℕ) → Appends old (append_known old bytes) bytes
-appends_known None bytes = tt
-appends_known (Some xs) bytes = refl
+appends_known old bytes = grind (arith, common_steps)
 
 -- what holds in any case holds on an error too
 pub so_stopped : {T E : Type 0} (result : Result T E) (IsSo : Type 0) → IsSo → OnErr result IsSo
-so_stopped (Ok value) IsSo so = tt
-so_stopped (Err fault) IsSo so = so
+so_stopped result IsSo so = grind (arith, common_steps)

@@ -1,9 +1,9 @@
 -- Bytes that are written piece by piece.
-use Rattle.std.proofs.Common.{◌≡◌, ◌∙◌, ℕ, List, ◌++◌, append_assoc, take, drop, length, Option, ap, sym}
-use Rattle.std.proofs.Common.{take-append-drop, None, Some, arith, ◌-◌}
+use Rattle.std.proofs.Common.{◌≡◌, ◌∙◌, ℕ, List, ◌++◌, append_assoc, take, drop, length, Option, ap, sym, take-append-drop, arith, ◌-◌}
 use Rattle.std.proofs.lemmas.List.{length-drop, take_all}
 use Rattle.std.specs.Io.KnownBytes.{Appends, Keeps}
 use Rattle.std.proofs.KnownBytes.{Appends-trans}
+use Rattle.std.proofs.lemmas.Grind.{common_steps}
 
 -- All of the bytes but `rest` were written.
 pub record HasWritten (old now : Option (List ℕ)) (bytes rest : List ℕ) : Type 0 where
@@ -24,13 +24,6 @@ more_written old now new bytes rest count w a = record {
   appended = Appends-trans old now new w.prefix (take count rest) w.appended a;
 }
 
-Appends_kept : (old now new : Option (List ℕ)) (bytes : List ℕ) → Appends old now bytes → Keeps now new → Appends old new bytes
-Appends_kept None now new bytes a k = tt
-Appends_kept (Some xs) None new bytes a k = absurd a
-Appends_kept (Some xs) (Some ys) None bytes a k = absurd k
-Appends_kept (Some xs) (Some ys) (Some zs) bytes a k = k ∙ a
-
 pub kept_written : (old now new : Option (List ℕ)) (bytes rest : List ℕ) → HasWritten old now bytes rest → Keeps now new
     → HasWritten old new bytes rest
-kept_written old now new bytes rest w k =
-    record { prefix = w.prefix; joined = w.joined; appended = Appends_kept old now new w.prefix w.appended k }
+kept_written old now new bytes rest w k = grind (arith, common_steps)

@@ -1,11 +1,10 @@
 -- The fields of a unit that is written anew have one length.
-use Rattle.std.proofs.Common.{◌≡◌, ℕ, ◌+◌, List, length, take, refl, sym, ap, ◌∙◌, arith}
+use Rattle.std.proofs.Common.{◌≡◌, ℕ, List, length, take, refl, sym, ap, ◌∙◌, arith}
 use Rattle.std.proofs.lemmas.List.{length-append}
-use Rattle.lnt_wire.specs.Numbers.{offset_size}
-use Rattle.lnt_wire.proofs.LengthLaws.{length-number_bytes}
 use Rattle.lnt_header.specs.declared.header.HeaderParts.{HeaderParts}
 use Rattle.lnt_header.proofs.ListLaws.{same_each}
 use Rattle.lnt_header_bytes.specs.HeaderBytes.{unit_body}
+use Rattle.lnt_header_bytes.proofs.ProgramLaws.{length-body}
 use Rattle.lnt_header_bytes.proofs.TableLaws.{entry_code}
 use Rattle.lnt_older.specs.OlderBytes.{file_pairs}
 use Rattle.lnt_older.specs.Upgraded.{CopiedFields, CountedTable}
@@ -31,13 +30,7 @@ one_length {h} p q =
       one_table p.files_are files_are,
     )
 
--- how long a body is
-body_length : (h : HeaderParts) (fields program : List ℕ)
-    → length (unit_body h fields program) ≡ 4 + offset_size h.format + length fields + length program
-body_length h fields program = omega (arith, length-append {A = ℕ}, length-number_bytes)
-
 -- bodies are as long as their fields and programs
 pub same_body_length : (h k : HeaderParts) (fields others program past : List ℕ) → h.format ≡ k.format → length fields ≡ length others
     → program ≡ past → length (unit_body h fields program) ≡ length (unit_body k others past)
-same_body_length h k fields others program past format_is long same =
-    omega (arith, body_length h fields program, body_length k others past, ap offset_size format_is, long, ap length same)
+same_body_length h k fields others program past format_is long same = grind (arith, common_steps, length-body)

@@ -2,7 +2,7 @@
 use Rattle.std.proofs.Common.{◌≡◌, ◌≢◌, ◌∙◌, ℕ, ◌+◌, ◌-◌, ◌<◌, ◌≤◌, Bool, true, false, List, [], ◌∷◌, ◌++◌, length, get_or}
 use Rattle.std.proofs.Common.{Result, Ok, Err, Option, Some, None, inl, inr, refl, sym, ap, arith, zero, suc}
 use Rattle.std.specs.Bool.{MatchBool}
-use Rattle.std.specs.Prelude.{IfSome, codes}
+use Rattle.std.specs.Prelude.{codes}
 use Rattle.lnt_records.specs.Reading.{BytesReader, HasRead}
 use Rattle.lnt_records.proofs.ReadingLaws.{first_same}
 use Rattle.lnt_records.specs.Table.{BeginsWith, Fields}
@@ -82,13 +82,7 @@ missing_at (e ∷ es) offset none =
 -- the comparisons with an offset rise
 comparisons_rise : (directories : List Directory) (offset : ℕ) → AreDirectories directories
     → IsNonDecreasingBy (λ (directory : Directory). ordering_index (nat_cmp directory.unit offset)) directories
-comparisons_rise directories offset up i j d le lt =
-    let keys = not_falling (units_of directories) up i j le (omega (arith, lt, long_is directories)) in
-    higher (get_or directories i d).unit (get_or directories j d).unit
-    (omega (arith, keys, unit_at directories i d (omega (arith, le, lt)), unit_at directories j d lt))
-  where
-    higher : (a b : ℕ) → a ≤ b → ordering_index (nat_cmp a offset) ≤ ordering_index (nat_cmp b offset)
-    higher a b le = grind (arith, nat_tests)
+comparisons_rise directories offset up i j d le lt = grind (arith, common_steps, not_falling, long_is, unit_at, nat_tests)
 
 pub found_directory : (directories : List Directory) (offset i : ℕ) (d : Directory) → AreDirectories directories → i < length directories
     → IsBinarySearchResult (λ (directory : Directory). nat_cmp directory.unit offset) directories (Ok i)
@@ -113,10 +107,7 @@ no_directory directories offset i up h =
 
 pub all_named : (fields : Fields) → length fields ≡ 2 → get_or fields 0 [] ≡ codes "unit" → get_or fields 1 [] ≡ codes "directory"
     → fields ≡ directory_names
-all_named [] e unit directory = absurd (omega (arith, e))
-all_named (a ∷ []) e unit directory = absurd (omega (arith, e))
-all_named (a ∷ (b ∷ [])) e unit directory = rw (unit, directory) refl
-all_named (a ∷ (b ∷ (c ∷ more))) e unit directory = absurd (omega (arith, e))
+all_named fields e unit directory = grind (arith, common_steps)
 
 pub not_unit : (fields : Fields) → get_or fields 0 [] ≢ codes "unit" → fields ≢ directory_names
 not_unit fields other e = other (ap (λ (f : Fields). get_or f 0 []) e)
@@ -159,13 +150,7 @@ rising_last xs x up some =
 
 pub may_follow : (older : List ℕ) (directories : List Directory) (before : Option ℕ) (directory : Directory) → AreDirectories directories
     → IsLastUnit directories before → IsNext before older directory → MayFollow older directories directory
-may_follow older directories before directory up last next =
-    (rw (map_more directories directory) (rising_more (units_of directories) directory.unit up (after before last next.0)), next.1)
-  where
-    after : (before : Option ℕ) → IsLastUnit directories before → IfSome before (λ unit. unit < directory.unit)
-        → 0 < length (units_of directories) → get_or (units_of directories) (length (units_of directories) - 1) 0 < directory.unit
-    after None none less some = absurd (omega (arith, some, none, long_is directories))
-    after (Some unit) last less some = rw (long_is directories, ← last.1) less
+may_follow older directories before directory up last next = grind (arith, common_steps, map_more, rising_more, long_is)
 
 pub must_follow : (older : List ℕ) (directories : List Directory) (before : Option ℕ) (directory : Directory)
     → IsLastUnit directories before → MayFollow older directories directory → IsNext before older directory
@@ -225,8 +210,7 @@ no_zero_at fs ds h offset = absurd h
 
 pub sound_from : (older bytes : List ℕ) (directories : List Directory) → IsDirectoryFile older bytes directories
     → AreSoundDirectories directories
-sound_from older bytes directories file =
-    record { rising = file.so.rising; no_zero = no_zero_at file.records directories file.so.each }
+sound_from older bytes directories file = grind (arith, common_steps, no_zero_at)
 
 pub sound_none : (directories : List Directory) → directories ≡ [] → AreSoundDirectories directories
 sound_none directories none = rw none (record { rising = λ i j d lt few. absurd (omega (arith, few)); no_zero = λ offset. tt })

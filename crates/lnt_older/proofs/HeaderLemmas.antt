@@ -16,7 +16,6 @@ use Rattle.lnt_older.specs.OlderFields.{FieldsOf, header_of, IsReadHeader, Numbe
 use Rattle.lnt_older.specs.declared.header.OlderHeader.{OlderHeader}
 use Rattle.lnt_older.specs.declared.numbers.OlderNumbers.{OlderNumbers}
 use Rattle.lnt_older.specs.declared.version.OlderVersion.{OlderVersion}
-use Rattle.lnt_older.specs.declared.version.OlderVersion.TheVariants.{Four}
 use Rattle.lnt_older.proofs.FieldLemmas.{fields_read}
 use Rattle.std.proofs.lemmas.Grind.{common_steps}
 
@@ -27,9 +26,6 @@ are_bytes (b ∷ bytes) h = (h 0, are_bytes bytes (λ i. h (suc i)))
 prefix_bytes : (x y : List ℕ) → AllByRecursion (λ byte. byte < 256) (x ++ y) → AllByRecursion (λ byte. byte < 256) x
 prefix_bytes [] y h = tt
 prefix_bytes (b ∷ x) y h = (h.0, prefix_bytes x y h.1)
-
-pub regroup : (a b c d e : List ℕ) → (a ++ (b ++ (c ++ d))) ++ e ≡ (a ++ b) ++ c ++ d ++ e
-regroup a b c d e = simp append_assoc
 
 pub to_right : (a b c d : List ℕ) → a ++ b ++ c ++ d ≡ a ++ (b ++ (c ++ d))
 to_right a b c d = simp append_assoc
@@ -46,13 +42,11 @@ numbers_in h = record {
 
 pub singles_in : (version : OlderVersion) (h : HeaderParts)
     → older_bytes version h ≡ number_fields version (numbers_in h) ++ h.standard_lengths
-singles_in Four h = refl
-singles_in version h = refl
+singles_in version h = grind (arith, common_steps)
 
 numbers_small : (version : OlderVersion) (h : HeaderParts) → SaysOperations version h.max_ops
     → AllByRecursion (λ byte. byte < 256) (older_bytes version h) → AllByRecursion (λ byte. byte < 256) (single_bytes h)
-numbers_small Four h says all = all
-numbers_small version h says all = (all.0, (omega (arith, says), all.1))
+numbers_small version h says all = grind (arith, common_steps)
 
 -- the numbers of a header are sound in any format and order, and with any directories and files
 pub moved_numbers : {f g : Format} {o p : Order} {size : ℕ} {n : OlderNumbers} {lengths extra : List ℕ} {ds fs ds' fs' : List Entry}

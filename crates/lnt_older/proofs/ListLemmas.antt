@@ -1,6 +1,5 @@
 -- Lists of older units.
-use Rattle.std.proofs.Common.{◌≡◌, ℕ, ◌+◌, ◌<◌, ◌≤◌, ◌-◌, zero, suc, List, [], ◌∷◌, ◌++◌, length, take}
-use Rattle.std.proofs.Common.{refl, ap, ◌∙◌, append_assoc, arith}
+use Rattle.std.proofs.Common.{◌≡◌, ℕ, ◌+◌, ◌<◌, ◌≤◌, ◌-◌, List, [], ◌∷◌, ◌++◌, length, take, refl, ap, ◌∙◌, append_assoc, arith}
 use Rattle.std.proofs.lemmas.List.{length-append}
 use Rattle.lnt_wire.specs.At.{At}
 use Rattle.lnt_wire.specs.FormBytes.{FormBytes, form_of}
@@ -19,7 +18,7 @@ use Rattle.lnt_header.proofs.ReaderLaws.{reads_none, reads_more}
 use Rattle.lnt_older.specs.OlderBytes.{BeginsEntry, ListedBytes}
 use Rattle.lnt_older.specs.ListReading.{BeginsWithPath, PassesList}
 use Rattle.lnt_header_bytes.specs.Stepping.{Passes}
-use Rattle.lnt_header_bytes.specs.TableBytes.{ValuesBytes, EntryBytes}
+use Rattle.lnt_header_bytes.specs.TableBytes.{EntryBytes}
 use Rattle.lnt_header_bytes.proofs.PassLemmas.{refuses_value_passed, values_begun, values_next_passed, values_passed}
 use Rattle.lnt_older.proofs.Prefixes.{prefix_taken}
 use Rattle.std.proofs.lemmas.Grind.{common_steps}
@@ -27,20 +26,12 @@ use Rattle.std.proofs.lemmas.Grind.{common_steps}
 -- the bytes of a text end with a zero byte
 text_ends : (format : Format) (order : Order) (value : FormValue) (bytes : List ℕ) → form_of value ≡ forms.Text
     → FormBytes format order value bytes → (text : List ℕ) × (bytes ≡ text ++ 0 ∷ [])
-text_ends format order (Text b) bytes is p = (b, p.joined)
-text_ends format order value bytes is p = absurd cc
+text_ends format order value bytes is p = grind (arith, common_steps)
 
 -- and so does the first value of an entry that begins with one
 pub path_first : (format : Format) (order : Order) (pairs : List Pair) (entry : Entry) (bytes : List ℕ) → BeginsWithPath pairs
     → EntryBytes format order pairs entry bytes → (text : List ℕ) × (past : List ℕ) × (bytes ≡ text ++ 0 ∷ past)
-path_first format order pairs entry bytes b p = of_values entry.values (rw b.joined at p)
-  where
-    of_values : (values : List FormValue) → ValuesBytes format order (b.pair ∷ b.past) values bytes
-        → (text : List ℕ) × (past : List ℕ) × (bytes ≡ text ++ 0 ∷ past)
-    of_values [] q = absurd q
-    of_values (v ∷ values) q =
-        let first = text_ends format order v q.1.prefix (q.0 ∙ b.is_text) q.1.first in
-        (first.0, q.1.back, simp (q.1.joined, first.1, append_assoc))
+path_first format order pairs entry bytes b p = grind (arith, common_steps, text_ends, append_assoc)
 
 entry_long : (format : Format) (order : Order) (pairs : List Pair) (entry : Entry) (bytes : List ℕ) → BeginsWithPath pairs
     → EntryBytes format order pairs entry bytes → 0 < length bytes
@@ -94,10 +85,7 @@ list_shorter format pairs old new path p = grind (arith, common_steps, entry_lon
 -- the byte that ends a list is zero
 zero_read : (order : Order) (n : ℕ) (bytes rest whole : List ℕ) → NumberBytes order 1 n bytes → whole ≡ bytes ++ rest
     → (BeginsEntry whole → ⊥) → bytes ≡ 0 ∷ []
-zero_read order zero bytes rest whole p e none = p.spelled ∙ one_digit order 0 (omega arith)
-zero_read order (suc n) bytes rest whole p e none =
-    let digit : bytes ≡ suc n ∷ [] = p.spelled ∙ one_digit order (suc n) (omega (arith, p.fits)) in
-    absurd (none (record { first = suc n; more = rest; some = omega arith; joined = rw (e, digit) refl }))
+zero_read order n bytes rest whole p e none = grind (arith, common_steps, one_digit)
 
 pub list_ended : (format : Format) (pairs : List Pair) (count n : ℕ) (bytes all left : List ℕ) (old middle new : At)
     → ListedSoFar format pairs count old middle → (BeginsEntry middle.rest → ⊥) → Reads (NumberBytes middle.order 1) n middle new

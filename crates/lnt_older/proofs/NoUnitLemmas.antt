@@ -9,7 +9,7 @@ use Rattle.lnt_wire.specs.InitialFaults.{IsVersionFault}
 use Rattle.lnt_wire.specs.InitialLength.{initial_length, LengthFits}
 use Rattle.lnt_wire.specs.Numbers.{number_bytes, offset_size}
 use Rattle.lnt_wire.specs.declared.fault.Reason.{Reason}
-use Rattle.lnt_wire.specs.declared.fault.Reason.TheVariants.{Truncated, VersionNotFive}
+use Rattle.lnt_wire.specs.declared.fault.Reason.TheVariants.{VersionNotFive}
 use Rattle.lnt_wire.specs.declared.format.Format.{Format}
 use Rattle.lnt_wire.specs.declared.format.Order.{Order}
 use Rattle.lnt_wire.proofs.FrameFaultLaws.{frame_fault_at, IsFrameFaultAt, outside_none, same_frame}
@@ -29,7 +29,6 @@ use Rattle.lnt_older.specs.Versions.{version_number}
 use Rattle.lnt_older.specs.declared.prefix.Prefix.{Prefix}
 use Rattle.lnt_older.specs.declared.prefix.UnitVersion.TheVariants.{Older}
 use Rattle.lnt_older.specs.declared.version.OlderVersion.{OlderVersion}
-use Rattle.lnt_older.specs.declared.version.OlderVersion.TheVariants.{Two, Three, Four}
 use Rattle.lnt_older.proofs.HeaderLemmas.{numbers_in, singles_in}
 use Rattle.std.proofs.lemmas.Grind.{common_steps}
 
@@ -39,18 +38,13 @@ to_pairs a b c d = simp append_assoc
 -- ---- versions
 
 pub small_version : (version : OlderVersion) → version_number version < 256 ^ 2
-small_version Two = omega arith
-small_version version = omega arith
+small_version version = grind (arith, common_steps)
 
 pub not_five : (version : OlderVersion) → 5 ≡ version_number version → ⊥
-not_five Two e = omega (arith, e)
-not_five version e = omega (arith, e)
+not_five version e = grind (arith, common_steps)
 
 pub same_version : (v w : OlderVersion) → version_number v ≡ version_number w → v ≡ w
-same_version Two Two e = refl
-same_version Three Three e = refl
-same_version Four Four e = refl
-same_version v w e = absurd (omega (arith, e))
+same_version v w e = grind (arith, common_steps)
 
 -- the reason isn't an older version
 abbrev pub IsNoOlder : Reason → Type 0
@@ -58,11 +52,8 @@ IsNoOlder reason = (version : OlderVersion) → reason ≢ VersionNotFive (versi
 
 other_version : (order : Order) (reason : Reason) (version : OlderVersion) (left rest : List ℕ) → IsNoOlder reason
     → IsVersionFault order reason left → left ≡ number_bytes order 2 (version_number version) ++ rest → ⊥
-other_version order Truncated version left rest other k e = omega (arith, k, ap length e, length-append {A = ℕ}, length-number_bytes)
-other_version order (VersionNotFive v) version left rest other k e =
-    let same = same_number_prefix order 2 width_2 v (version_number version) k.0 rest k.1 (small_version version) (sym k.3 ∙ e) in
-    other version (ap VersionNotFive same.0)
-other_version order reason version left rest other k e = absurd k
+other_version order reason version left rest other k e =
+    grind (arith, common_steps, length-append, length-number_bytes, same_number_prefix, width_2, small_version)
 
 -- ---- frames
 
@@ -73,18 +64,8 @@ stands order format body more fits = grind (arith, common_steps, append-nil)
 
 no_older : (h : HeaderParts) (reason : Reason) (before from : List ℕ) → IsNoOlder reason → IsFrameFaultAt h.order reason before from
     → (program x more : List ℕ) → OlderBytes h program x → x ++ more ≡ before ++ from → ⊥
-no_older h reason before from other (outside_frame k) program x more p e =
-    let body = older_body p.version h p.fields program in
-    let initial = initial_length h.format h.order (length body) in
-    outside_none h.order reason h.format before from [] body initial (body ++ more) k (stands h.order h.format body more p.fits)
-    (sym e ∙ rw p.joined (append_assoc initial body more))
-no_older h reason before from other (in_version format left w k) program x more p e =
-    let body = older_body p.version h p.fields program in
-    let initial = initial_length h.format h.order (length body) in
-    let number = number_bytes h.order (offset_size h.format) (length p.fields) in
-    let found = same_frame h.order format h.format [] left before from [] body initial (body ++ more) w
-    (stands h.order h.format body more p.fits) (sym e ∙ rw p.joined (append_assoc initial body more)) in
-    other_version h.order reason p.version left (number ++ (p.fields ++ program)) other k (simp append_assoc at found.1)
+no_older h reason before from other k program x more p e =
+    grind (arith, common_steps, outside_frame, outside_none, stands, append_assoc, in_version, same_frame, other_version)
 
 -- where the initial length or the version is at fault
 pub none_in_frame : (order : Order) (reason : Reason) (before from : List ℕ) → IsNoOlder reason → IsFrameFault order reason before from

@@ -1,5 +1,5 @@
 -- The numbers of an older header.
-use Rattle.std.proofs.Common.{◌≡◌, ℕ, List, length, refl, sym, ap, ◌∙◌}
+use Rattle.std.proofs.Common.{◌≡◌, ℕ, List, length, sym, ap, ◌∙◌}
 use Rattle.std.specs.Prelude.{ℤ, FitsSigned}
 use Rattle.std.specs.Int.{w8, cast_unsigned, cast_signed}
 use Rattle.std.proofs.lemmas.Int.{to_z-of_z}
@@ -12,14 +12,12 @@ use Rattle.lnt_header.proofs.ReaderLaws.{reads_map, refuses_map}
 use Rattle.lnt_older.specs.OlderFields.{IsSoundFault, NumbersBytes, number_fields, SoundBytes, zero_reasons}
 use Rattle.lnt_older.specs.declared.numbers.OlderNumbers.{OlderNumbers}
 use Rattle.lnt_older.specs.declared.version.OlderVersion.{OlderVersion}
-use Rattle.lnt_older.specs.declared.version.OlderVersion.TheVariants.{Four}
 use Rattle.std.proofs.lemmas.Grind.{common_steps}
 use Rattle.std.proofs.Common.{arith}
 
 sound_fields : (version : OlderVersion) (n : OlderNumbers) (x : List ℕ) → NumbersBytes version n x
     → SoundBytes (zero_reasons version) (number_fields version n) x
-sound_fields Four n x p = (rw p.spelled (tt, (p.max_ops, (tt, (tt, (p.line_range, (p.opcode_base, tt)))))), sym p.spelled)
-sound_fields version n x p = (rw p.spelled (tt, (tt, (tt, (p.line_range, (p.opcode_base, tt))))), sym p.spelled)
+sound_fields version n x p = grind (arith, common_steps)
 
 pub numbers_refused : (version : OlderVersion) (old : At) (fault : Fault)
     → Refuses (IsSoundFault (zero_reasons version)) (SoundBytes (zero_reasons version)) old fault
@@ -29,8 +27,7 @@ numbers_refused version old fault r =
 
 pub numbers_read : (version : OlderVersion) (bytes : List ℕ) (n : OlderNumbers) (old new : At) → NumbersBytes version n bytes
     → Reads (SoundBytes (zero_reasons version)) bytes old new → Reads (NumbersBytes version) n old new
-numbers_read version bytes n old new p r =
-    reads_map (SoundBytes (zero_reasons version)) (NumbersBytes version) bytes n old new (λ x q. rw q.1 at p) r
+numbers_read version bytes n old new p r = grind (arith, common_steps, reads_map)
 
 -- ---- one value for its bytes
 
@@ -43,17 +40,10 @@ same_numbers : (n m : OlderNumbers) → n.minimum_instruction_length ≡ m.minim
 same_numbers n m a b c d f g = grind (arith, common_steps)
 
 same_of : (version : OlderVersion) (n m : OlderNumbers) (x : List ℕ) → NumbersBytes version n x → NumbersBytes version m x → n ≡ m
-same_of Four n m x p q =
-    let e : number_fields Four n ≡ number_fields Four m = sym p.spelled ∙ q.spelled in
-    same_numbers n m (cc) (cc) (cc) (same_signed_byte n.line_base m.line_base p.line_base q.line_base (cc)) (cc) (cc)
-same_of version n m x p q =
-    let e : number_fields version n ≡ number_fields version m = sym p.spelled ∙ q.spelled in
-    same_numbers n m (cc) (p.operations ∙ sym q.operations) (cc)
-    (same_signed_byte n.line_base m.line_base p.line_base q.line_base (cc)) (cc) (cc)
+same_of version n m x p q = grind (arith, common_steps, same_numbers, same_signed_byte)
 
 number_count : (version : OlderVersion) (n m : OlderNumbers) → length (number_fields version n) ≡ length (number_fields version m)
-number_count Four n m = refl
-number_count version n m = refl
+number_count version n m = grind (arith, common_steps)
 
 pub numbers_code : (version : OlderVersion) → IsCode (NumbersBytes version)
 numbers_code version = grind (arith, common_steps, same_prefix, number_count, same_of)

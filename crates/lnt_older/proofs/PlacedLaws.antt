@@ -7,6 +7,7 @@ use Rattle.lnt_wire.specs.declared.format.Order.{Order}
 use Rattle.lnt_wire.proofs.LengthLaws.{same_rest}
 use Rattle.lnt_header.specs.Joins.{PlacedFrom}
 use Rattle.lnt_older.specs.Upgradable.{AreLeft}
+use Rattle.std.proofs.lemmas.Grind.{common_steps}
 
 -- one more item
 pub placed_more : {A : Type 0} (Says : ℕ × A → List ℕ → Type 0) (offset : ℕ) (items : List (ℕ × A)) (bytes : List ℕ) (item : ℕ × A)
@@ -43,6 +44,4 @@ module _ {A : Type 0} (Says : Order → ℕ × A → List ℕ → Type 0) where
   pub left_after : {V : Type 0} (Spells : V → List ℕ → Type 0) (v : V) (at next : At) (r : Reads Spells v at next) → 0 < length r.spelling
       → ((item : ℕ × A) (y m : List ℕ) → Says at.order item y → y ++ m ≡ r.spelling ++ next.rest → y ≡ r.spelling)
       → AreLeft Says at → AreLeft Says next
-  left_after Spells v at next r some once (items, placed) =
-      let others = placed_past (Says at.order) at.place items at.rest r.spelling next.rest some once placed r.whole in
-      (others.0, rw (r.order, r.place) others.1)
+  left_after Spells v at next r some once (items, placed) = grind (arith, common_steps, placed_past)

@@ -11,7 +11,7 @@ use Rattle.lnt_wire.specs.Numbers.{NumberBytes, number_bytes}
 use Rattle.lnt_wire.specs.Reading.{Reads, RefusesField, Refuses, IsCutShort}
 use Rattle.lnt_wire.specs.declared.fault.Fault.{Fault}
 use Rattle.lnt_wire.specs.declared.fault.Reason.{Reason}
-use Rattle.lnt_wire.specs.declared.fault.Reason.TheVariants.{Truncated, ReservedLength, VersionNotFive}
+use Rattle.lnt_wire.specs.declared.fault.Reason.TheVariants.{Truncated, VersionNotFive}
 use Rattle.lnt_wire.specs.declared.format.Format.{Format}
 use Rattle.lnt_wire.specs.declared.format.Order.{Order}
 use Rattle.lnt_wire.proofs.LengthLaws.{length-number_bytes}
@@ -36,9 +36,7 @@ truncated_other : (reason : Reason) → reason ≡ Truncated → IsNoOlder reaso
 truncated_other reason is version e = let both = sym is ∙ e in absurd cc
 
 initial_other : (order : Order) (reason : Reason) (bytes : List ℕ) → IsInitialFault order reason bytes → IsNoOlder reason
-initial_other order Truncated bytes h version e = absurd cc
-initial_other order ReservedLength bytes h version e = absurd cc
-initial_other order reason bytes h version e = absurd h
+initial_other order reason bytes h version e = grind (arith, common_steps)
 
 pub initial_missing : (old : At) (fault : Fault) → fault.place ≡ old.place → IsInitialFault old.order fault.reason old.rest
     → Refuses (IsAnyFault old.order) (AnyBytes old.order) old fault

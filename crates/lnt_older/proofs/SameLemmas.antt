@@ -12,6 +12,7 @@ use Rattle.lnt_older.proofs.UpgradeLaws.{any_once, five_not_older, frame_once, s
 use Rattle.lnt_older.specs.Laws.{SameSection}
 use Rattle.lnt_older.specs.Sections.{UpgradedBytes}
 use Rattle.lnt_older.specs.declared.directories.Directory.{Directory}
+use Rattle.std.proofs.lemmas.Grind.{common_steps}
 
 -- the format and the body of a unit of version 5
 abbrev five_of : (order : Order) (unit : UnitParts) (x : List ℕ) → (p : UnitBytesIn order unit x) → AnyParts
@@ -49,5 +50,4 @@ same_from order directories m n (unit ∷ units) ((offset, older_parts h program
     program prefix five (subst (λ (z : List ℕ). AnyBytes order (older_parts h program) z) (sym same) so))
 
 pub same_section : SameSection
-same_section order size directories units section result sound u =
-    same_from order directories 0 0 units u.units section result sound u.sound u.upgraded
+same_section order size directories units section result sound u = grind (arith, common_steps, same_from)

@@ -3,19 +3,19 @@ use Rattle.std.proofs.Common.{◌≡◌, ℕ, ◌^◌, ◌<◌, List, [], ◌∷
 use Rattle.std.proofs.lemmas.List.{append_cancel_right, length-append}
 use Rattle.lnt_wire.specs.At.{At}
 use Rattle.lnt_wire.specs.FrameBytes.{frame_bytes}
-use Rattle.lnt_wire.specs.InitialLength.{initial_length, LengthFits}
+use Rattle.lnt_wire.specs.InitialLength.{LengthFits}
 use Rattle.lnt_wire.specs.Numbers.{number_bytes, offset_size}
 use Rattle.lnt_wire.specs.declared.format.Format.{Format}
-use Rattle.lnt_wire.specs.declared.format.Format.TheVariants.{D32, D64}
 use Rattle.lnt_wire.specs.declared.format.Order.{Order}
-use Rattle.lnt_wire.proofs.LengthLaws.{length-number_bytes, same_prefix, same_number_prefix, same_rest, width_2}
+use Rattle.lnt_wire.proofs.LengthLaws.{same_prefix, same_number_prefix, same_rest, width_2}
 use Rattle.lnt_wire.proofs.ValueLaws.{offset_width}
 use Rattle.lnt_header.specs.HeaderRules.{IsAddressSize}
 use Rattle.lnt_header.specs.Joins.{Each}
 use Rattle.lnt_header.specs.declared.header.Entry.{Entry}
 use Rattle.lnt_header.specs.declared.header.Pair.{Pair}
 use Rattle.lnt_header_bytes.specs.HeaderFaults.{LengthsBytes}
-use Rattle.lnt_header_bytes.proofs.HeaderLaws.{below}
+use Rattle.lnt_header_bytes.proofs.HeaderLaws.{below, regroup}
+use Rattle.lnt_header_bytes.proofs.ProgramLaws.{length-initial-same}
 use Rattle.lnt_older.specs.OlderBytes.{body_bytes, directory_pairs, file_pairs, ListBytes, ListedBytes}
 use Rattle.lnt_older.specs.OlderFields.{header_spelling, ListsLie, NumbersBytes, number_fields}
 use Rattle.lnt_older.specs.OlderUnits.{ReadsOlder, unit_header}
@@ -37,8 +37,7 @@ record SameBody (v w : OlderVersion) (fields other program past : List ℕ) : Ty
 
 fields_fit : (format : Format) (order : Order) (v : OlderVersion) (fields program : List ℕ)
     → LengthFits format (length (body_bytes format order v fields program)) → length fields < 256 ^ offset_size format
-fields_fit format order v fields program fits =
-    below format (length (body_bytes format order v fields program)) (length fields) fits (omega (arith, length-append {A = ℕ}))
+fields_fit format order v fields program fits = grind (arith, common_steps, below, length-append)
 
 one_version : (format : Format) (order : Order) (v w : OlderVersion) (fields other program past : List ℕ)
     → body_bytes format order v fields program ≡ body_bytes format order w other past
@@ -95,9 +94,6 @@ same_listed format order pairs entries others x y r s p q e =
       past = same_rest (x ++ 0 ∷ []) (y ++ 0 ∷ []) r s found.1 e;
     }
 
-nested : (a b c d e : List ℕ) → a ++ b ++ c ++ d ++ e ≡ a ++ (b ++ (c ++ (d ++ e)))
-nested a b c d e = simp append_assoc
-
 same_header : (version : OlderVersion) (format : Format) (order : Order) (o p : OlderHeader) → HasParts version format order o
     → HasParts version format order p → header_spelling version o ≡ header_spelling version p → SameHeader o p
 same_header version format order o p a b e =
@@ -111,7 +107,7 @@ same_header version format order o p a b e =
     let g = p.files.bytes.now ++ 0 ∷ [] in
     let x = o.extra.now in
     let y = p.extra.now in
-    let all : n ++ (l ++ (d ++ (f ++ x))) ≡ m ++ (k ++ (c ++ (g ++ y))) = sym (nested n l d f x) ∙ e ∙ nested m k c g y in
+    let all : n ++ (l ++ (d ++ (f ++ x))) ≡ m ++ (k ++ (c ++ (g ++ y))) = sym (regroup n l d f x) ∙ e ∙ regroup m k c g y in
     let numbers = (numbers_code version).one o.numbers p.numbers n m (l ++ (d ++ (f ++ x))) (k ++ (c ++ (g ++ y))) a.numbers b.numbers
     all in
     let past = same_rest n m (l ++ (d ++ (f ++ x))) (k ++ (c ++ (g ++ y))) numbers.1 all in
@@ -151,14 +147,10 @@ record IsJoined (unit : OlderUnit) (order : Order) (bytes : List ℕ) : Type 0 w
   pub joined : bytes ≡ frame_bytes order unit.format
       (body_bytes unit.format order version (header_spelling version unit.header) unit.program.now)
 
-initial_size : (format : Format) (order : Order) (m n : ℕ) → length (initial_length format order m) ≡ length (initial_length format order n)
-initial_size D32 order m n = omega (arith, length-number_bytes)
-initial_size D64 order m n = omega (arith, length-append {A = ℕ}, length-number_bytes)
-
 -- in one format and order the bytes of a frame are those of one body
 frame_body : (format : Format) (order : Order) (body other : List ℕ) → frame_bytes order format body ≡ frame_bytes order format other
     → body ≡ other
-frame_body format order body other e = grind (arith, common_steps, same_rest, same_prefix, initial_size)
+frame_body format order body other e = grind (arith, common_steps, same_rest, same_prefix, length-initial-same)
 
 joined_here : (unit : OlderUnit) (size : ℕ) (at next : At) (bytes : List ℕ) → IsAddressSize size → ReadsOlder unit at next
     → at.rest ≡ bytes ++ next.rest → IsJoined unit unit.order bytes

@@ -24,8 +24,7 @@ abbrev pub IsSpelled : Order → ℕ × AnyParts → List ℕ → Type 0
 IsSpelled order = λ unit. AnyBytes order unit.1
 
 pub any_long : (at next : At) (parts : AnyParts) → Reads (AnyBytes at.order) parts at next → length next.rest < length at.rest
-any_long at next parts r =
-    omega (arith, ap length r.whole, length-append r.spelling next.rest, some_bytes at.order parts r.spelling r.spelled)
+any_long at next parts r = grind (arith, common_steps, length-append, some_bytes)
 
 -- ---- the units that are left
 
@@ -72,8 +71,7 @@ older_more ((offset, older_parts header program) ∷ units) more = ap (λ (l : L
 
 later_on : {low high : ℕ} (offsets : List ℕ) → low ≤ high → All (λ (other : ℕ). high ≤ other) offsets
     → All (λ (other : ℕ). low ≤ other) offsets
-later_on {low} {high} offsets le all =
-    All-weaker (λ (other : ℕ). high ≤ other) (λ (other : ℕ). low ≤ other) (λ other more. omega arith) offsets all
+later_on {low} {high} offsets le all = grind (arith, common_steps)
 
 -- each unit has bytes, so it stands after those before it
 older_from : (order : Order) (offset : ℕ) (units : List (ℕ × AnyParts)) (bytes : List ℕ) → PlacedFrom (IsSpelled order) offset units bytes
@@ -104,8 +102,7 @@ pub record OlderTo (order : Order) (section : List ℕ) (at : At) (older : List 
 module _ (order : Order) (section : List ℕ) where
   pub older_none : (at : At) (older : List ℕ) → at.rest ≡ section → at.place ≡ 0 → at.order ≡ order → older ≡ []
       → OlderTo order section at older
-  older_none at older rest place ordered none =
-      record { units = []; walked = walked_none IsSpelled order section at rest place ordered; older_are = none }
+  older_none at older rest place ordered none = grind (arith, common_steps, walked_none)
 
   older_next : (at next : At) (older new : List ℕ) (parts : AnyParts) → OlderTo order section at older
       → Reads (AnyBytes at.order) parts at next → new ≡ older ++ older_offsets ((at.place, parts) ∷ []) → OlderTo order section next new
@@ -139,9 +136,6 @@ module _ (order : Order) (section : List ℕ) where
   pub broken_there : (at : At) (older : List ℕ) (fault : Fault) → OlderTo order section at older
       → Refuses (IsAnyFault at.order) (AnyBytes at.order) at fault → IsBroken order section fault
   broken_there at older fault o r = grind (arith, common_steps)
-
-pub five_long : (at next : At) (bytes : List ℕ) → ReadsFive bytes at next → length next.rest < length at.rest
-five_long at next bytes r = any_long at next (five_parts r.format r.body) (five_read bytes at next r)
 
 pub older_long : (at next : At) (unit : OlderUnit) → ReadsOlder unit at next → length next.rest < length at.rest
 older_long at next unit r = grind (arith, common_steps, any_long, older_read)

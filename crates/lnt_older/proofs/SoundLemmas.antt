@@ -25,8 +25,7 @@ byte_is order n x p = p.spelled ∙ one_digit order n p.fits
 
 reads_byte : (zero_reason : Option Reason) (n : ℕ) (old new : At) → MayBe zero_reason n → Reads (NumberBytes old.order 1) n old new
     → Reads (ByteOf zero_reason) n old new
-reads_byte zero_reason n old new may r =
-    reads_map (NumberBytes old.order 1) (ByteOf zero_reason) n n old new (λ x p. (may, byte_is old.order n x p)) r
+reads_byte zero_reason n old new may r = grind (arith, common_steps, reads_map, byte_is)
 
 pub reads_any : (zero_reason : Option Reason) (n : ℕ) (old new : At) → zero_reason ≡ None → Reads (NumberBytes old.order 1) n old new
     → Reads (ByteOf zero_reason) n old new

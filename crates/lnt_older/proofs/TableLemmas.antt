@@ -95,8 +95,7 @@ each_listed format order pairs (entry ∷ entries) bytes p = record {
 }
 
 two_bytes : (bytes : List ℕ) → BeginsEntry bytes → ((text : List ℕ) × (past : List ℕ) × (bytes ≡ text ++ 0 ∷ past)) → 2 ≤ length bytes
-two_bytes bytes b ([], past, e) = absurd (zero_begins past bytes (sym e) b)
-two_bytes bytes b (c ∷ text, past, e) = omega (arith, ap length e, length-append text (0 ∷ past))
+two_bytes bytes b h = grind (arith, common_steps, zero_begins, length-append)
 
 -- each entry has a path that isn't empty, and the zero byte after it
 pub listed_few : (format : Format) (order : Order) (pairs : List Pair) (entries : List Entry) (bytes : List ℕ) → BeginsWithPath pairs
@@ -129,18 +128,14 @@ directory_spelled format order text none = grind (arith, common_steps, append-ni
 -- ---- file 0
 
 pub none_from_zero : (count : ℕ) → count ≡ 0 → IsCountFromZero count 0
-none_from_zero count is [] e = refl
-none_from_zero count is (file ∷ files) e = omega (arith, is, e)
+none_from_zero count is h e = grind (arith, common_steps)
 
 pub some_from_zero : (count : ℕ) → count ≢ 0 → IsCountFromZero count (count + 1)
-some_from_zero count some [] e = absurd (omega (arith, some, e))
-some_from_zero count some (file ∷ files) e = omega (arith, e)
+some_from_zero count some h e = grind (arith, common_steps)
 
 pub no_file_zero : (format : Format) (order : Order) (count : ℕ) (listed bytes : List ℕ) → count ≡ 0 → bytes ≡ listed
     → IsFileZero format order count listed bytes
-no_file_zero format order count listed bytes none same [] count_is lie =
-    record { others = []; joined = sym same ∙ sym (append-nil bytes); spelled = same ∙ lie }
-no_file_zero format order count listed bytes none same (file ∷ files) count_is lie = absurd (omega (arith, none, count_is))
+no_file_zero format order count listed bytes none same h count_is lie = grind (arith, common_steps, append-nil)
 
 pub first_file_zero : (format : Format) (order : Order) (count : ℕ) (listed bytes left : List ℕ) (old new : At) → count ≢ 0
     → old.rest ≡ listed → old.order ≡ order → Passes (EntryBytes format old.order file_pairs) old new → left ≡ new.rest

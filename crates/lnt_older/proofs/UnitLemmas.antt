@@ -1,5 +1,5 @@
 -- Older units that are read, and the first field of them that isn't there.
-use Rattle.std.proofs.Common.{◌≡◌, ℕ, ◌+◌, ◌-◌, ◌≤◌, List, [], ◌++◌, length, take, refl, sym, ap, subst, ◌∙◌, append_assoc, add-zero, arith}
+use Rattle.std.proofs.Common.{◌≡◌, ℕ, ◌+◌, ◌-◌, List, [], ◌++◌, length, take, refl, sym, ap, subst, ◌∙◌, append_assoc, add-zero, arith}
 use Rattle.std.proofs.lemmas.List.{length-append, append-nil}
 use Rattle.lnt_wire.specs.At.{At}
 use Rattle.lnt_wire.specs.FrameBytes.{frame_bytes}
@@ -42,10 +42,6 @@ counted_is format order counted x p = rw (p.joined, p.first.spelled, p.second) r
 counted_place : (format : Format) (order : Order) (counted : List ℕ) (old new : At) → Reads (CountedBytes format order) counted old new
     → new.place ≡ old.place + offset_size format + length counted
 counted_place format order counted old new r = grind (arith, common_steps, counted_is, length-append, length-number_bytes)
-
-pub counted_before : (format : Format) (order : Order) (counted : List ℕ) (old new : At) → Reads (CountedBytes format order) counted old new
-    → length counted ≤ new.place
-counted_before format order counted old new r = omega (arith, counted_place format order counted old new r)
 
 pub unit_found : (prefix : Prefix) (version : OlderVersion) (order : Order) (unit : OlderUnit) (counted : List ℕ) (c0 c1 : At)
     → c0.rest ≡ prefix.past.now → c0.order ≡ order → Reads (CountedBytes prefix.format c0.order) counted c0 c1
@@ -101,8 +97,7 @@ field_missing prefix version order counted c0 c1 place fault rest_is place_is or
 in_prefix : (order : Order) (format : Format) (digits before from more body : List ℕ) → LengthFits format (length body)
     → body ≡ (digits ++ before) ++ from
     → InFrame order format (digits ++ before) from (initial_length format order (length body) ++ (digits ++ before)) (from ++ more)
-in_prefix order format digits before from more body fits e =
-    record { more = more; fits = rw e at fits; before_is = rw e refl; from_is = refl }
+in_prefix order format digits before from more body fits e = grind (arith, common_steps)
 
 fault_of : (order : Order) (format : Format) (version : OlderVersion) (reason : Reason) (before from before' from' : List ℕ)
     → InFrame order format (number_bytes order 2 (version_number version) ++ before) from before' from'

@@ -1,5 +1,5 @@
 -- What a unit says that was read where it lies; and that the bytes of a place are those of one unit.
-use Rattle.std.proofs.Common.{◌≡◌, ℕ, ◌<◌, List, ◌++◌, length, refl, sym, ap, subst, ◌∙◌, append_assoc, inr, arith}
+use Rattle.std.proofs.Common.{◌≡◌, ℕ, ◌<◌, List, ◌++◌, length, refl, sym, subst, ◌∙◌, append_assoc, inr, arith}
 use Rattle.std.proofs.lemmas.List.{append_cancel_right, length-append}
 use Rattle.lnt_wire.specs.At.{At}
 use Rattle.lnt_wire.specs.FrameBytes.{FrameBytes, frame_bytes}
@@ -11,7 +11,6 @@ use Rattle.lnt_wire.proofs.LengthLaws.{length-initial, same_number_prefix, width
 use Rattle.lnt_header.specs.HeaderRules.{IsAddressSize}
 use Rattle.lnt_header.specs.declared.header.HeaderParts.{HeaderParts}
 use Rattle.lnt_header_bytes.specs.HeaderBytes.{unit_body}
-use Rattle.lnt_older.specs.OlderBytes.{older_body}
 use Rattle.lnt_older.specs.OlderUnits.{AnyBytes, AnyParts, ReadsFive, ReadsOlder, unit_header}
 use Rattle.lnt_older.specs.OlderUnits.AnyParts.{five_parts, older_parts}
 use Rattle.lnt_older.specs.Upgraded.{CopiedFields, upgraded}
@@ -32,11 +31,7 @@ record IsCounted (order : Order) (bytes : List ℕ) : Type 0 where
   pub joined : bytes ≡ frame_bytes order format body
 
 counted : (order : Order) (parts : AnyParts) (x : List ℕ) → AnyBytes order parts x → IsCounted order x
-counted order (five_parts format body) x p = record { format = format; body = body; fits = p.fits; joined = p.joined }
-counted order (older_parts h program) x p =
-    let q = p.1 in
-    let body = older_body q.version h q.fields program in
-    record { format = h.format; body = body; fits = q.fits; joined = q.joined ∙ ap (λ (o : Order). frame_bytes o h.format body) p.0 }
+counted order parts x p = grind (arith, common_steps)
 
 -- a unit has bytes
 pub some_bytes : (order : Order) (parts : AnyParts) (x : List ℕ) → AnyBytes order parts x → 0 < length x

@@ -90,13 +90,7 @@ kept_all rows brief whole old walk are gives base items = by_others are.others a
 
 -- some may be left
 pub kept_some : (rows : List Row) (brief : BriefRows) → WereKept rows brief → brief.is_whole ≡ false → AreInBrief rows brief
-kept_some rows brief (walk, are) part = record {
-  kept = are.kept;
-  others = are.others;
-  rows_are = are.rows_are;
-  kept_are = are.kept_are;
-  none_other = λ whole. absurd (true≢false (sym whole ∙ part));
-}
+kept_some rows brief (walk, are) part = grind (arith, common_steps, true≢false)
 
 -- ---- what they answer
 
@@ -137,13 +131,11 @@ some_brief = record { address = 0; line = 0; file = 0; column = 0; discriminator
 
 row_below : (brief : BriefRows) (p place : Position) (row : Row) (one : BriefRow) → p ≡ onto brief.base place
     → IsInBrief brief.base row one → IsBelow place (place_of one) → IsBelow p (position_of row)
-row_below brief p place row one same is below = subst (λ (q : Position). IsBelow q (position_of row)) (sym same)
-    (subst (λ (q : Position). IsBelow (onto brief.base place) q) (sym is.position_is) (onto_below brief.base place (place_of one) below))
+row_below brief p place row one same is below = grind (arith, common_steps, onto_below)
 
 row_at_most : (brief : BriefRows) (p place : Position) (row : Row) (one : BriefRow) → p ≡ onto brief.base place
     → IsInBrief brief.base row one → IsAtMost (place_of one) place → IsAtMost (position_of row) p
-row_at_most brief p place row one same is most = subst (λ (q : Position). IsAtMost (position_of row) q) (sym same)
-    (subst (λ (q : Position). IsAtMost q (onto brief.base place)) (sym is.position_is) (onto_at_most brief.base (place_of one) place most))
+row_at_most brief p place row one same is most = grind (arith, common_steps, onto_at_most)
 
 -- none of the rows after the first `count` is at or below the position
 none_after : (rows : List Row) (brief : BriefRows) (p : Position) (count : ℕ) → (are : AreInBrief rows brief) → IsReachedIn brief p count

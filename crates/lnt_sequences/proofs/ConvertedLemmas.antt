@@ -170,18 +170,12 @@ kept_alike R rows true ss ts order order' z = kept_twins R rows ss ts [] [] ss t
 
 row_alike : (units others : List (ℕ × UnitParts)) (unit other : ℕ) (row : Option Row) → StandAlike units others unit other
     → AreAlike units others (option_map (answer_of unit) row) (option_map (answer_of other) row)
-row_alike units others unit other None s = tt
-row_alike units others unit other (Some row) s = record { stand = s; same = refl }
+row_alike units others unit other row s = grind (arith, common_steps)
 
 said_alike : (units others : List (ℕ × UnitParts)) (p : Position) (one two : Option Placed) → FoundAlike (AreTwins units others) one two
     → AreAlike units others (option_and_then (λ (placed : Placed). option_map (answer_of placed.id.unit) (row_at p placed.rows)) one)
     (option_and_then (λ (placed : Placed). option_map (answer_of placed.id.unit) (row_at p placed.rows)) two)
-said_alike units others p None None t = tt
-said_alike units others p (Some one) (Some two) t =
-    subst (λ (rows : List Row). AreAlike units others (option_map (answer_of one.id.unit) (row_at p one.rows))
-    (option_map (answer_of two.id.unit) (row_at p rows))) t.rows_are
-    (row_alike units others one.id.unit two.id.unit (row_at p one.rows) t.stand)
-said_alike units others p _ _ t = absurd t
+said_alike units others p one two t = grind (arith, common_steps, row_alike)
 
 pub converted_answers : SameMatrix → ConvertedAnswers
 converted_answers law order section format to result c dead skip p =

@@ -101,11 +101,7 @@ unlike : (a b : Extent) → (Alike a b → ⊥) → copies a b ≡ false
 unlike a b ne = and_right (stands_before b.id a.id) (end_alike a b) (not_alike a b ne)
 
 no_copy_of_later : (a b : Extent) → EndsNoLater a b → copies a b ≡ false
-no_copy_of_later a b h = by_test (end_alike a b) refl
-  where
-    by_test : (t : Bool) → end_alike a b ≡ t → copies a b ≡ false
-    by_test true e = and_left (stands_before b.id a.id) (end_alike a b) (not_before a b h (alike_is a b e))
-    by_test false e = and_right (stands_before b.id a.id) (end_alike a b) e
+no_copy_of_later a b h = grind (arith, common_steps, and_left, not_before, alike_is, and_right)
 
 abbrev IdDiffers : Extent → Extent → Type 0
 IdDiffers a b = a.id ≢ b.id

@@ -8,11 +8,8 @@ use Rattle.lnt_machine.specs.declared.row.Row.{Row}
 use Rattle.lnt_machine.specs.declared.row.Sequence.{Sequence}
 use Rattle.lnt_machine.specs.Matrix.{joined_rows, rows}
 use Rattle.lnt_machine.proofs.SequenceLaws.{joined_within}
-use Rattle.lnt_spans.specs.declared.span.Span.{Span}
-use Rattle.lnt_spans.specs.Positions.{is_below}
 use Rattle.lnt_sequences.specs.RowSpans.{row_spans, span_between, spans_after, spans_of}
 use Rattle.lnt_sequences.specs.Sequences.{is_copy, kept_of, kept_sequences, live_in, live_sequences, Placed}
-use Rattle.lnt_sequences.specs.Sequences.{position_of}
 use Rattle.lnt_sequences.proofs.WalkLaws.{placed_from}
 use Rattle.std.proofs.lemmas.Grind.{common_steps}
 
@@ -20,11 +17,7 @@ use Rattle.std.proofs.lemmas.Grind.{common_steps}
 
 -- between two rows stands one span at most
 between_within : (unit : ℕ) (row next : Row) → length (span_between unit row next) ≤ 1
-between_within unit row next = by_test (is_below (position_of row) (position_of next)) _
-  where
-    by_test : (t : Bool) (span : Span) → length (cond t (span ∷ []) []) ≤ 1
-    by_test true span = omega arith
-    by_test false span = omega arith
+between_within unit row next = grind (arith, common_steps)
 
 after_within : (unit : ℕ) (row : Row) (rows : List Row) → length (spans_after unit row rows) ≤ length rows
 after_within unit row [] = omega arith
@@ -37,8 +30,7 @@ after_within unit row (next ∷ rows) =
     )
 
 row_spans_within : (unit : ℕ) (rows : List Row) → length (row_spans unit rows) ≤ length rows
-row_spans_within unit [] = omega arith
-row_spans_within unit (row ∷ rows) = omega (arith, after_within unit row rows)
+row_spans_within unit rows = grind (arith, common_steps, after_within)
 
 -- ---- some of the sequences
 

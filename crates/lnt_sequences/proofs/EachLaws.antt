@@ -1,5 +1,5 @@
 -- What holds of the offset and of every row of each unit holds so of kept sequences, and of what spans between their rows say.
-use Rattle.std.proofs.Common.{ℕ, ◌+◌, Bool, true, false, not, cond, List, [], ◌∷◌, ◌++◌, Option}
+use Rattle.std.proofs.Common.{ℕ, ◌+◌, Bool, true, false, not, List, [], ◌∷◌, ◌++◌, Option, arith}
 use Rattle.std.specs.List.{All, AllByRecursion}
 use Rattle.std.proofs.lemmas.List.Elements.{All-append, All-filter, All-from_recursion, All-nil, recursion_from_All}
 use Rattle.lnt_header.specs.declared.unit_parts.UnitParts.{UnitParts}
@@ -8,11 +8,11 @@ use Rattle.lnt_machine.specs.declared.row.Sequence.{Sequence}
 use Rattle.lnt_machine.specs.Matrix.{sequences}
 use Rattle.lnt_machine.proofs.SequenceLaws.{EachRow}
 use Rattle.lnt_spans.specs.declared.span.Span.{Span}
-use Rattle.lnt_spans.specs.Positions.{is_below}
 use Rattle.lnt_sequences.specs.RowSpans.{row_spans, span_between, spans_after, spans_of}
 use Rattle.lnt_sequences.specs.Sequences.{answer_of, is_copy, is_live, kept_of, kept_sequences, live_in, live_sequences, Placed}
 use Rattle.lnt_sequences.specs.Sequences.{placed_in, position_of}
 use Rattle.lnt_sequences.proofs.WalkLaws.{placed_from}
+use Rattle.std.proofs.lemmas.Grind.{common_steps}
 
 -- U holds of the unit's offset, and P of each row of its sequences
 pub record EachIn (U : ℕ → Type 0) (P : Row → Type 0) (unit : ℕ × UnitParts) : Type 0 where
@@ -53,12 +53,7 @@ Between U P Q = (unit : ℕ) (row next : Row) → U unit → P row → P next
 
 each_between : (U : ℕ → Type 0) (P : Row → Type 0) (Q : Span → Type 0) (unit : ℕ) (row next : Row) (later : List Span) → Between U P Q
     → U unit → P row → P next → AllByRecursion Q later → AllByRecursion Q (span_between unit row next ++ later)
-each_between U P Q unit row next later between offset one other rest = by_test (is_below (position_of row) (position_of next))
-  where
-    by_test : (t : Bool) → AllByRecursion Q
-        (cond t (record { low = position_of row; high = position_of next; answer = answer_of unit row } ∷ []) [] ++ later)
-    by_test true = (between unit row next offset one other, rest)
-    by_test false = rest
+each_between U P Q unit row next later between offset one other rest = grind (arith, common_steps)
 
 each_after : (U : ℕ → Type 0) (P : Row → Type 0) (Q : Span → Type 0) (unit : ℕ) (row : Row) (rows : List Row) → Between U P Q → U unit
     → P row → AllByRecursion P rows → AllByRecursion Q (spans_after unit row rows)

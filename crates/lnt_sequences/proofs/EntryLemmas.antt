@@ -11,8 +11,7 @@ use Rattle.std.proofs.lemmas.List.Elements.{All-cons, All-nil}
 use Rattle.std.proofs.lemmas.List.Sorted.{Contains-permutation, IsPermutation-sym}
 use Rattle.lnt_machine.specs.declared.row.Row.{Row}
 use Rattle.lnt_spans.specs.declared.position.Position.{Position}
-use Rattle.lnt_spans.specs.declared.span.Span.{Span}
-use Rattle.lnt_spans.specs.Positions.{IsAtMost, IsBelow, is_below}
+use Rattle.lnt_spans.specs.Positions.{IsAtMost, is_below}
 use Rattle.lnt_spans.proofs.EachTwoLaws.{find_only}
 use Rattle.lnt_spans.proofs.PositionLaws.{at_most_from_not_below, at_most_itself, at_most_trans, not_both}
 use Rattle.lnt_spans.specs.Spans.{AreInOrder}
@@ -28,6 +27,7 @@ use Rattle.lnt_sequences.proofs.HolderLemmas.{answer_none, held_once}
 use Rattle.lnt_sequences.proofs.RowLemmas.{spans_answer}
 use Rattle.lnt_sequences.proofs.SpansOfLemmas.{IsTurnOf, turns_permuted}
 use Rattle.lnt_sequences.proofs.TurnLemmas.{spans_in_turn}
+use Rattle.std.proofs.lemmas.Grind.{common_steps}
 
 -- ---- the sequence of each entry
 
@@ -149,15 +149,7 @@ flat unit row (next ∷ rows) e = by_test (is_below (position_of row) (position_
     by_test false h none more = at_most_trans (more none) (at_most_from_not_below (position_of row) (position_of next) h)
 
 some_span : (entry : Extent) (placed : Placed) → IsSketch placed entry → 0 < length (row_spans placed.id.unit placed.rows)
-some_span entry placed s = subst (λ (rows : List Row). 0 < length (row_spans placed.id.unit rows)) (sym s.rows_are)
-    (by_spans (spans_after placed.id.unit s.first s.others) refl)
-  where
-    by_spans : (spans : List Span) → spans_after placed.id.unit s.first s.others ≡ spans
-        → 0 < length (spans_after placed.id.unit s.first s.others)
-    by_spans [] e = absurd (not_both
-        (subst (IsBelow (position_of s.first)) s.high (subst (λ (p : Position). IsBelow p entry.high) s.low s.some))
-        (flat placed.id.unit s.first s.others e))
-    by_spans (span ∷ spans) e = omega (arith, ap length e)
+some_span entry placed s = grind (arith, common_steps, not_both, flat)
 
 turns_some : (sequences : List Placed) (entries : List Extent) (in_turn : List Placed) → AllZip (IsTurn sequences) entries in_turn
     → length entries ≤ length (spans_of in_turn)

@@ -24,8 +24,8 @@ use Rattle.lnt_sequences.specs.declared.watch.Watch.{Watch}
 use Rattle.lnt_sequences.specs.Evidence.{IsFall, IsFirstFall, IsFirstMissingFile, IsMissingFile, rows_of, StandsIn}
 use Rattle.lnt_sequences.specs.Laws.{FallIsNotOrdered, MissingFileIsNotThere}
 use Rattle.lnt_sequences.specs.Rules.{AreOrdered, FilesExist, HaveFiles, IsOrdered}
-use Rattle.lnt_sequences.specs.Sequences.{are_live, is_live, last_row, live_of, Placed, placed_rows, position_of}
-use Rattle.lnt_sequences.specs.Watching.{closed, current_of, fall_shown, falls_after, file_shown, first_shown, grown}
+use Rattle.lnt_sequences.specs.Sequences.{is_live, last_row, live_of, Placed, placed_rows, position_of}
+use Rattle.lnt_sequences.specs.Watching.{closed, current_of, fall_shown, falls_after, file_shown, first_shown}
 use Rattle.lnt_sequences.specs.Watching.{HasSeenAll, is_in_live, last_after, names_no_file, next, start, RowsSoFar, walked}
 use Rattle.lnt_sequences.proofs.WalkLaws.{each_ended, first_shown-append, last_row_is, placed_from, walked-append}
 use Rattle.lnt_sequences.proofs.WalkLaws.{walked_ended, walked_open, walked-rows}
@@ -116,14 +116,7 @@ found {A} show walk (row ∷ rows) shows e = by_show (show walk row) refl e (λ 
 -- where none does, this one doesn't
 not_shown : {A : Type 0} (show : RowsSoFar → Row → Option A) (walk : RowsSoFar) (rows prefix : List Row) (row : Row) → Cut rows prefix row
     → first_shown show walk rows ≡ None → show (walked walk prefix) row ≡ None
-not_shown {A} show walk rows prefix row cut e =
-    by_prefix (first_shown show walk prefix) (show (walked walk prefix) row) (first_shown show (next (walked walk prefix) row) cut.back)
-    (sym (first_shown-append show walk prefix (row ∷ cut.back)) ∙ ap (first_shown show walk) (sym cut.parts) ∙ e)
-  where
-    by_prefix : (a b c : Option A) → option_or a (option_or b c) ≡ None → b ≡ None
-    by_prefix None None c e = refl
-    by_prefix None (Some x) c e = absurd cc
-    by_prefix (Some x) b c e = absurd cc
+not_shown {A} show walk rows prefix row cut e = grind (arith, common_steps, first_shown-append)
 
 -- ---- the sequence that a row stands in
 
@@ -317,11 +310,7 @@ live_each P dead ss step = along [] ss refl
 -- its sequence is live as the watch takes it
 live_is : (dead : Option ℕ) (walk : RowsSoFar) (row : Row) (p : Placed) (after : List Row) → p.rows ≡ walk.begun ++ row ∷ after
     → is_in_live dead walk row ≡ is_live dead p
-live_is dead walk row p after e = by_begun walk.begun ∙ ap (are_live dead) (sym e)
-  where
-    by_begun : (begun : List Row) → (grown dead (current_of dead begun) row).live ≡ are_live dead (begun ++ row ∷ after)
-    by_begun [] = refl
-    by_begun (first ∷ rest) = refl
+live_is dead walk row p after e = grind (arith, common_steps)
 
 -- it falls
 record FallsFrom (begun : List Row) (row : Row) : Type 0 where
@@ -339,10 +328,7 @@ falls_from dead (first ∷ rest) row e = record {
 
 falls_test : (dead : Option ℕ) (begun : List Row) (row previous : Row) → last_row begun ≡ Some previous
     → IsBelow (position_of row) (position_of previous) → falls_after (current_of dead begun) row ≡ true
-falls_test dead [] row previous e h = absurd cc
-falls_test dead (first ∷ rest) row previous e h =
-    let same : last_after first rest ≡ previous = same_Some (last_after first rest) previous (sym (last_row_is first rest) ∙ e) in
-    ap (λ (last : Row). is_below (position_of row) (position_of last)) same ∙ test_below (position_of row) (position_of previous) h
+falls_test dead begun row previous e h = grind (arith, common_steps, same_Some, last_row_is, test_below)
 
 shows : {A : Type 0} (t : Bool) (a b : A) → cond t (Some a) None ≡ Some b → (t ≡ true) × (a ≡ b)
 shows true a b e = (refl, same_Some a b e)
@@ -448,12 +434,7 @@ none_falls dead ss all w e = live_each (λ (p : Placed). IsOrdered p.rows) dead 
 
 pub falls_judged : (dead : Option ℕ) (unit files : ℕ) (watch : Watch) (all : List Row) → HasSeenAll dead unit files watch all
     → MatchOption watch.falls (AreOrdered (live_of dead (placed_rows unit all))) (IsFirstFall dead (placed_rows unit all))
-falls_judged dead unit files watch all seen = by_falls watch.falls (sym (seen.seen seen.few).falls_is)
-  where
-    by_falls : (o : Option ℕ) → first_shown (fall_shown dead) start all ≡ o
-        → MatchOption o (AreOrdered (live_of dead (placed_rows unit all))) (IsFirstFall dead (placed_rows unit all))
-    by_falls None e = none_falls dead (placed_rows unit all) all (whole unit all seen.closed) e
-    by_falls (Some index) e = first_fall dead (placed_rows unit all) all index (whole unit all seen.closed) e
+falls_judged dead unit files watch all seen = grind (arith, common_steps, none_falls, whole, first_fall)
 
 -- ---- the first missing file
 
@@ -533,12 +514,7 @@ all_files dead files ss all w e = live_each (λ (p : Placed). FilesExist files p
 pub files_judged : (dead : Option ℕ) (unit files : ℕ) (watch : Watch) (all : List Row) → HasSeenAll dead unit files watch all
     → MatchOption watch.missing_file (HaveFiles files (live_of dead (placed_rows unit all)))
     (IsFirstMissingFile dead files (placed_rows unit all))
-files_judged dead unit files watch all seen = by_file watch.missing_file (sym (seen.seen seen.few).file_is)
-  where
-    by_file : (o : Option MissingFile) → first_shown (file_shown dead files) start all ≡ o
-        → MatchOption o (HaveFiles files (live_of dead (placed_rows unit all))) (IsFirstMissingFile dead files (placed_rows unit all))
-    by_file None e = all_files dead files (placed_rows unit all) all (whole unit all seen.closed) e
-    by_file (Some missing) e = first_file dead files (placed_rows unit all) all missing (whole unit all seen.closed) e
+files_judged dead unit files watch all seen = grind (arith, common_steps, all_files, whole, first_file)
 
 -- ---- what is told is against the rules
 

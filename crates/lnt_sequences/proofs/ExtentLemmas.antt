@@ -1,6 +1,6 @@
 -- A sequence and its extent hold the same positions.
-use Rattle.std.proofs.Common.{◌≡◌, ◌≢◌, ◌⊎◌, ℕ, zero, suc, ◌<◌, Bool, true, false, ◌&&◌, List, [], ◌∷◌, ◌++◌, Option}
-use Rattle.std.proofs.Common.{Some, None, refl, sym, ap, ◌∙◌, subst, arith, length, get_or, inl, inr, ⊎_elim}
+use Rattle.std.proofs.Common.{◌≡◌, ◌≢◌, ◌⊎◌, ℕ, suc, Bool, true, false, ◌&&◌, List, [], ◌∷◌, ◌++◌}
+use Rattle.std.proofs.Common.{Some, None, refl, sym, ap, ◌∙◌, subst, arith, get_or, inl, inr, ⊎_elim}
 use Rattle.std.specs.List.{AllPairs, All, Contains}
 use Rattle.std.proofs.lemmas.Bool.{false_from_ne_true}
 use Rattle.std.proofs.lemmas.List.{get_or_default}
@@ -15,8 +15,7 @@ use Rattle.lnt_spans.proofs.PositionLaws.{below_from_test, not_both, test_at_mos
 use Rattle.lnt_sequences.specs.declared.extent.Extent.{Extent}
 use Rattle.lnt_sequences.specs.declared.extent.Overlap.{Overlap}
 use Rattle.lnt_sequences.specs.declared.sequence.SeqId.{SeqId}
-use Rattle.lnt_sequences.specs.Extents.{BeginsNoLater, ComesNoLater, extent_of, extent_of_rows, extents_of}
-use Rattle.lnt_sequences.specs.Extents.{IsFirstOverlap, IsIn, IsNotLater}
+use Rattle.lnt_sequences.specs.Extents.{BeginsNoLater, ComesNoLater, extent_of, extents_of, IsFirstOverlap, IsIn, IsNotLater}
 use Rattle.lnt_sequences.specs.Laws.{OverlapIsNotApart, SequenceSpans}
 use Rattle.lnt_sequences.specs.Overlaps.{ExtentsDisjoint, ExtentsOverlap}
 use Rattle.lnt_sequences.proofs.WalkLaws.{last_row_is}
@@ -60,34 +59,8 @@ pub record IsSketch (s : Placed) (e : Extent) : Type 0 where
 
 sketch_of : (id : SeqId) (rows : List Row) → IsEmpty (record { id = id; rows = rows })
     ⊎ ((e : Extent) × IsSketch (record { id = id; rows = rows }) e)
-sketch_of id [] = inl (record { list = refl; none = none_held })
-sketch_of id (row ∷ rows) = by_test (is_below (position_of row) (position_of (last_after row rows))) refl
-  where
-    by_test : (t : Bool) → is_below (position_of row) (position_of (last_after row rows)) ≡ t
-        → IsEmpty (record { id = id; rows = row ∷ rows }) ⊎ ((e : Extent) × IsSketch (record { id = id; rows = row ∷ rows }) e)
-    by_test true e =
-        inr (
-          record { low = position_of row; high = position_of (last_after row rows); id = id },
-          record {
-            first = row;
-            others = rows;
-            rows_are = refl;
-            first_is = refl;
-            low = refl;
-            high = refl;
-            list = ap (λ (o : Option Row). extent_of_rows id (Some row) o) (last_row_is row rows) ∙ rw e refl;
-            id = refl;
-            some = below_from_test (position_of row) (position_of (last_after row rows)) e;
-            into = λ p h. let b = from_holds row rows p h in record { from = b.0; below = b.1 };
-            back = λ p h. holds_after row rows p h.from h.below;
-          },
-        )
-    by_test false e =
-        inl (record {
-          list = ap (λ (o : Option Row). extent_of_rows id (Some row) o) (last_row_is row rows) ∙ rw e refl;
-          none = λ p h. let b = from_holds row rows p h in not_both b.1
-              (at_most_trans (at_most_from_not_below (position_of row) (position_of (last_after row rows)) e) b.0);
-        })
+sketch_of id rows =
+    grind (arith, common_steps, none_held, last_row_is, below_from_test, from_holds, holds_after, not_both, at_most_trans, at_most_from_not_below)
 
 pub sketch : (s : Placed) → IsEmpty s ⊎ ((e : Extent) × IsSketch s e)
 sketch s = sketch_of s.id s.rows
@@ -176,11 +149,7 @@ pub Contains-past : {X : Type 0} (y : X) (xs : List X) (x : X) → Contains xs x
 Contains-past y xs x h = (suc h.0, omega (arith, h.1), h.2)
 
 pub here_or_later : {X : Type 0} (y : X) (xs : List X) (x : X) → Contains (y ∷ xs) x → (y ≡ x) ⊎ Contains xs x
-here_or_later {X} y xs x h = by_place h.0 h.1 h.2
-  where
-    by_place : (k : ℕ) → k < suc (length xs) → get_or (y ∷ xs) k x ≡ x → (y ≡ x) ⊎ Contains xs x
-    by_place zero l e = inl e
-    by_place (suc k) l e = inr (k, omega arith, e)
+here_or_later {X} y xs x h = grind (arith, common_steps)
 
 -- an extent is that of one of the sequences
 pub of_sequence : (ss : List Placed) (e : Extent) → Contains (extents_of ss) e → (s : Placed) × Contains ss s × IsSketch s e
@@ -241,10 +210,7 @@ overlap_of_sequences ss overlap o =
 -- ---- the test is the relation
 
 pub test_from_holds : (rows : List Row) (p : Position) → Holds rows p → holds p rows ≡ true
-test_from_holds [] p h = absurd (none_held p h)
-test_from_holds (row ∷ rows) p h =
-    let b = from_holds row rows p h in
-    holds_is row rows p ∙ rw (test_at_most (position_of row) p b.0, test_below p (position_of (last_after row rows)) b.1) refl
+test_from_holds rows p h = grind (arith, common_steps, none_held, from_holds, holds_is, test_at_most, test_below)
 
 pub holds_from_test : (rows : List Row) (p : Position) → holds p rows ≡ true → Holds rows p
 holds_from_test [] p h = absurd cc

@@ -18,6 +18,7 @@ use Rattle.lnt_sequences.specs.Rules.{AreApart}
 use Rattle.lnt_sequences.specs.Sequences.{answer_in, answer_of, holds, Placed, row_at}
 use Rattle.lnt_sequences.proofs.ExtentLemmas.{all_back, holds_from_test, IsEmpty, IsSketch, not_held, of_sequence, sketch, test_from_holds}
 use Rattle.lnt_sequences.proofs.OverlapLemmas.{ends_before}
+use Rattle.std.proofs.lemmas.Grind.{common_steps}
 
 -- ---- what is known of the places on both sides
 
@@ -72,8 +73,7 @@ found_inside extents p middle e l from below = (
 )
 
 pub found_nowhere : (extents : List Extent) (p : Position) (low high : ℕ) → IsBracket extents p low high → high ≤ low → NoneHolds extents p
-found_nowhere extents p low high b h = λ k d l i. ⊎_elim (λ (lt : k < low). not_both i.below (b.before k d lt))
-    (λ (le : low ≤ k). not_both (b.past k d (omega arith) l) i.from) (cases_lt k low)
+found_nowhere extents p low high b h = grind (arith, common_steps, not_both, cases_lt)
 
 -- ---- the sequence that holds a position
 

@@ -56,12 +56,7 @@ below_back p q r s h k l = grind (arith, nat_tests)
 
 positions_back : (p q r s : Position) → (is_below p q && (is_same p r && is_same q s)) ≡ true
     → (is_below r s && (is_same r p && is_same s q)) ≡ true
-positions_back p q r s h = by_parts (is_below p q) (is_same p r) (is_same q s) refl refl refl h
-  where
-    by_parts : (a b c : Bool) → is_below p q ≡ a → is_same p r ≡ b → is_same q s ≡ c → (a && (b && c)) ≡ true
-        → (is_below r s && (is_same r p && is_same s q)) ≡ true
-    by_parts true true true e f g h = rw (below_back p q r s e f g, same_back p r f, same_back q s g) refl
-    by_parts _ _ _ e f g h = absurd cc
+positions_back p q r s h = grind (arith, common_steps, below_back, same_back)
 
 alike_back : (a b c d : Option Row) → ends_alike a b c d ≡ true → ends_alike c d a b ≡ true
 alike_back (Some a) (Some b) (Some c) (Some d) h = positions_back (position_of a) (position_of b) (position_of c) (position_of d) h
@@ -101,11 +96,7 @@ not_true true h = absurd cc
 not_true false h = refl
 
 unlike_kept : (ss : List Placed) (s t : Placed) → IsKept ss s → IsKept ss t → (s.id ≡ t.id → ⊥) → hold_alike s.rows t.rows ≡ false
-unlike_kept ss s t h k ne = by_test (stands_before s.id t.id) refl
-  where
-    by_test : (b : Bool) → stands_before s.id t.id ≡ b → hold_alike s.rows t.rows ≡ false
-    by_test true e = hold_alike_back t.rows s.rows (unlike_before ss t s h.contained k.no_copy e)
-    by_test false e = unlike_before ss s t k.contained h.no_copy (one_before s.id t.id ne e)
+unlike_kept ss s t h k ne = grind (arith, common_steps, hold_alike_back, unlike_before, one_before)
 
 -- no two of different ids that are kept are alike
 pub kept_differ : (ss : List Placed) → AreDistinct ss

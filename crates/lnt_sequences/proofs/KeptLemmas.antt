@@ -1,6 +1,6 @@
 -- The extents of the kept sequences are those of all that are no copies.
-use Rattle.std.proofs.Common.{◌≡◌, ◌≢◌, Bool, true, false, not, ◌&&◌, ◌||◌, cond, List, [], ◌∷◌, ◌++◌, Option, Some}
-use Rattle.std.proofs.Common.{refl, sym, ap, ◌∙◌, subst, arith, ⊎_elim, ℕ, length, take}
+use Rattle.std.proofs.Common.{◌≡◌, ◌≢◌, Bool, true, false, not, ◌&&◌, ◌||◌, cond, List, [], ◌∷◌, ◌++◌}
+use Rattle.std.proofs.Common.{refl, sym, ap, ◌∙◌, arith, ⊎_elim, ℕ, length, take}
 use Rattle.std.specs.List.{All, AllPairs, filter}
 use Rattle.std.specs.List.Sorted.{IsPermutation}
 use Rattle.std.proofs.Math.Seq.{take-append_seam}
@@ -21,8 +21,7 @@ use Rattle.lnt_sequences.specs.Overlaps.{ExtentsDisjoint, ExtentsOverlap}
 use Rattle.lnt_sequences.proofs.WalkLaws.{last_row_is}
 use Rattle.lnt_sequences.proofs.KeptLaws.{kept_distinct}
 use Rattle.lnt_sequences.specs.Rules.{AreApart, AreDistinct}
-use Rattle.lnt_sequences.specs.Sequences.{ends_alike, first_row, hold_alike, Holds, is_copy, is_same, kept_of, last_row}
-use Rattle.lnt_sequences.specs.Sequences.{Placed, position_of, stands_before}
+use Rattle.lnt_sequences.specs.Sequences.{hold_alike, is_copy, is_same, kept_of, Placed, position_of, stands_before}
 use Rattle.lnt_sequences.specs.Watching.{last_after}
 use Rattle.lnt_sequences.proofs.ExtentLemmas.{apart_from_disjoint, extents_ids, extents_some, holds_after, IsEmpty}
 use Rattle.lnt_sequences.proofs.ExtentLemmas.{IsSketch, overlap_of_sequences, sketch}
@@ -39,8 +38,7 @@ alike_rows row other rows others = grind (arith, common_steps, last_row_is)
 
 below_ends : (s : Placed) (e : Extent) → (k : IsSketch s e)
     → is_below (position_of k.first) (position_of (last_after k.first k.others)) ≡ true
-below_ends s e k = subst (λ (p : Position). is_below p (position_of (last_after k.first k.others)) ≡ true) k.low
-    (subst (λ (p : Position). is_below e.low p ≡ true) k.high (test_below e.low e.high k.some))
+below_ends s e k = grind (arith, common_steps, test_below)
 
 alike_by_extents : (s t : Placed) (e f : Extent) → IsSketch s e → IsSketch t f → hold_alike s.rows t.rows ≡ end_alike e f
 alike_by_extents s t e f k l = grind (arith, common_steps, alike_rows, below_ends)
@@ -50,27 +48,8 @@ alike_some : (p q r s : Position) → is_below p q ≡ true → (is_same p r && 
 alike_some p q r s h k = grind (arith, nat_tests)
 
 unlike_empty : (s t : Placed) (e : Extent) → IsSketch s e → IsEmpty t → hold_alike s.rows t.rows ≡ false
-unlike_empty s t e k none = rw k.rows_are (by_rows t.rows none.none)
-  where
-    by_rows : (rows : List Row) → ((p : Position) → Holds rows p → ⊥) → hold_alike (k.first ∷ k.others) rows ≡ false
-    by_rows [] h = ap (λ (o : Option Row). ends_alike (Some k.first) o (first_row []) (last_row [])) (last_row_is k.first k.others)
-    by_rows (row ∷ rows) h = alike_rows k.first row k.others rows
-        ∙ by_test (is_same (position_of k.first) (position_of row) && is_same (position_of (last_after k.first k.others))
-        (position_of (last_after row rows))) refl
-      where
-        some : is_below (position_of k.first) (position_of (last_after k.first k.others)) ≡ true
-        some = below_ends s e k
-
-        by_test : (t : Bool) → (is_same (position_of k.first) (position_of row) && is_same (position_of (last_after k.first k.others))
-            (position_of (last_after row rows))) ≡ t → (is_below (position_of k.first) (position_of (last_after k.first k.others))
-            && (is_same (position_of k.first) (position_of row) && is_same (position_of (last_after k.first k.others))
-            (position_of (last_after row rows)))) ≡ false
-        by_test true same =
-            let below = alike_some (position_of k.first) (position_of (last_after k.first k.others)) (position_of row)
-            (position_of (last_after row rows)) some same in
-            absurd (h (position_of row) (holds_after row rows (position_of row) (at_most_itself (position_of row))
-            (below_from_test (position_of row) (position_of (last_after row rows)) below)))
-        by_test false same = rw (some, same) refl
+unlike_empty s t e k none =
+    grind (arith, common_steps, last_row_is, alike_rows, below_ends, alike_some, holds_after, at_most_itself, below_from_test)
 
 -- ---- which are copies
 
@@ -132,8 +111,7 @@ kept_extents_are true ss = kept_among ss ss
 
 pub kept_are : (skip : Bool) (ss : List Placed) (es ys : List Extent) → es ≡ extents_of ss → IsPermutation (kept_extents skip es) ys
     → IsPermutation (extents_of (kept_of skip ss)) ys
-kept_are skip ss es ys are h =
-    subst (λ (list : List Extent). IsPermutation list ys) (ap (kept_extents skip) are ∙ sym (kept_extents_are skip ss)) h
+kept_are skip ss es ys are h = grind (arith, common_steps, kept_extents_are)
 
 pub kept_some : (ss : List Placed) (ys : List Extent) → IsPermutation (extents_of ss) ys → All (λ (e : Extent). IsBelow e.low e.high) ys
 kept_some ss ys h = All-permutation (λ (e : Extent). IsBelow e.low e.high) (extents_of ss) ys h (extents_some ss)

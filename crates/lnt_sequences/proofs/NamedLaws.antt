@@ -1,5 +1,5 @@
 -- Where the rows of live sequences name files that are there, what a section answers does too.
-use Rattle.std.proofs.Common.{◌≡◌, ℕ, ◌+◌, ◌<◌, Bool, true, false, not, cond, List, [], ◌∷◌, ◌++◌, Option, Some, None, refl, sym, ap}
+use Rattle.std.proofs.Common.{◌≡◌, ℕ, ◌+◌, ◌<◌, Bool, true, false, not, cond, List, [], ◌∷◌, ◌++◌, Option, Some, refl, sym, ap}
 use Rattle.std.proofs.Common.{subst, arith, length, inl, inr, ◌⊎◌}
 use Rattle.std.specs.Prelude.{IfSome, MatchOption}
 use Rattle.std.specs.List.{All, AllByRecursion, find}
@@ -95,8 +95,7 @@ kept_names Q p true ss all = All-filter (λ (placed : Placed). not (is_copy ss p
 
 said : (Q : ℕ → ℕ → Type 0) (p : Position) (placed : Placed) (found : Option Row) → row_at p placed.rows ≡ found → Holds placed.rows p
     → Names Q p placed → IfSome (option_map (answer_of placed.id.unit) found) (λ (answer : Answer). Q answer.unit answer.file)
-said Q p placed None is held names = tt
-said Q p placed (Some row) is held names = names row held is
+said Q p placed found is held names = grind (arith, common_steps)
 
 answer_names : (Q : ℕ → ℕ → Type 0) (p : Position) (ss : List Placed) → AllByRecursion (Names Q p) ss
     → IfSome (answer_in ss p) (λ (answer : Answer). Q answer.unit answer.file)

@@ -1,6 +1,5 @@
 -- What the spans of a sequence answer is what its rows answer.
-use Rattle.std.proofs.Common.{◌≡◌, ℕ, suc, Bool, true, false, cond, ◌&&◌, List, [], ◌∷◌, ◌++◌, reverse, Option, Some}
-use Rattle.std.proofs.Common.{None, refl, sym, ap, ◌∙◌, arith}
+use Rattle.std.proofs.Common.{◌≡◌, ℕ, suc, Bool, true, false, cond, ◌&&◌, List, [], ◌∷◌, ◌++◌, Option, Some, None, refl, sym, ◌∙◌, arith}
 use Rattle.std.specs.List.{find}
 use Rattle.std.specs.Option.{option_map, option_and_then, option_or}
 use Rattle.std.proofs.lemmas.List.{reverse-append}
@@ -63,8 +62,7 @@ after_between unit row (next ∷ rows) h = step_between unit row next (spans_aft
 
 pub row_at_cons : (p : Position) (row : Row) (rows : List Row)
     → row_at p (row ∷ rows) ≡ option_or (row_at p rows) (cond (is_at_most (position_of row) p) (Some row) None)
-row_at_cons p row rows = ap (λ (xs : List Row). find (λ (r : Row). is_at_most (position_of r) p) xs) (reverse-append (row ∷ []) rows)
-    ∙ find-append (λ (r : Row). is_at_most (position_of r) p) (reverse rows) (row ∷ [])
+row_at_cons p row rows = grind (arith, common_steps, reverse-append, find-append)
 
 or_some : (o : Option Row) (row : Row) → (found : Row) × (option_or o (Some row) ≡ Some found)
 or_some None row = (row, refl)

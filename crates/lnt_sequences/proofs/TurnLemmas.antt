@@ -1,5 +1,5 @@
 -- The spans of sequences one after another.
-use Rattle.std.proofs.Common.{List, [], ◌∷◌, ap, subst, sym}
+use Rattle.std.proofs.Common.{List, [], ◌∷◌, ap, subst, sym, arith}
 use Rattle.lnt_spans.specs.declared.position.Position.{Position}
 use Rattle.lnt_spans.specs.declared.span.Span.{Span}
 use Rattle.lnt_spans.proofs.BetweenLaws.{AreBetween, between_append, between_from, order_from_between}
@@ -9,6 +9,7 @@ use Rattle.lnt_sequences.specs.Rules.{AreOrdered, IsOrdered}
 use Rattle.lnt_sequences.specs.Sequences.{Placed, position_of}
 use Rattle.lnt_sequences.specs.Watching.{last_after}
 use Rattle.lnt_sequences.proofs.RowLemmas.{after_between, rising_from_ordered}
+use Rattle.std.proofs.lemmas.Grind.{common_steps}
 
 pub spans_between : (low high : Position) (sequences : List Placed) → StandInTurn low sequences high → AreOrdered sequences
     → AreBetween low (spans_of sequences) high
@@ -23,5 +24,4 @@ spans_between low high (placed ∷ sequences) (row, rows, are, from, others) ord
     (spans_between (position_of (last_after row rows)) high sequences others ordered.1)
 
 pub spans_in_turn : SpansInTurn
-spans_in_turn low high sequences turn ordered =
-    order_from_between low high (spans_of sequences) (spans_between low high sequences turn ordered)
+spans_in_turn low high sequences turn ordered = grind (arith, common_steps, order_from_between, spans_between)

@@ -1,13 +1,13 @@
 -- The sequences of a section, one more unit at a time.
 use Rattle.std.proofs.Common.{◌≡◌, ◌≢◌, ℕ, suc, ◌+◌, ◌^◌, ◌<◌, ◌≤◌, List, [], ◌∷◌, ◌++◌, Option, refl, sym, ap, ◌∙◌, arith, length}
 use Rattle.std.specs.List.{All, AllPairs}
-use Rattle.std.proofs.lemmas.List.{append-nil, length-append}
+use Rattle.std.proofs.lemmas.List.{append-nil}
 use Rattle.std.proofs.lemmas.List.Concat.{flat_map-append}
 use Rattle.std.proofs.lemmas.List.Elements.{All-append, All-cons, All-filter, All-nil, All-weaker}
 use Rattle.std.proofs.lemmas.List.Kept.{AllPairs-filter}
 use Rattle.lnt_wire.specs.declared.format.Order.{Order}
 use Rattle.lnt_header.specs.declared.unit_parts.UnitParts.{UnitParts}
-use Rattle.lnt_unit.specs.UnitBytes.{UnitBytesIn, UnitsFrom}
+use Rattle.lnt_unit.specs.UnitBytes.{UnitsFrom}
 use Rattle.lnt_machine.specs.declared.row.Row.{Row}
 use Rattle.lnt_machine.specs.declared.row.Sequence.{Sequence}
 use Rattle.lnt_machine.specs.Matrix.{joined_rows, rows, Runs, sequences_of}
@@ -19,14 +19,14 @@ use Rattle.lnt_sequences.specs.Sequences.{is_live, live_in, live_of, live_sequen
 use Rattle.lnt_sequences.specs.Watching.{Collects, CollectsRows}
 use Rattle.lnt_sequences.proofs.WalkLaws.{each_ended, extents_ended, placed_from, whole}
 use Rattle.std.proofs.lemmas.Grind.{common_steps}
+use Rattle.lnt_unit.proofs.UnitLaws.{unit_is_some}
 
 -- ---- the sequences
 
 -- those of one more unit
 pub live-append : (dead : Option ℕ) (units : List (ℕ × UnitParts)) (unit : ℕ × UnitParts)
     → live_sequences dead (units ++ unit ∷ []) ≡ live_sequences dead units ++ live_in dead unit
-live-append dead units unit = flat_map-append (live_in dead) units (unit ∷ [])
-    ∙ ap (λ (more : List Placed). live_sequences dead units ++ more) (append-nil (live_in dead unit))
+live-append dead units unit = grind (arith, common_steps, flat_map-append, append-nil)
 
 pub ordered-append : (xs ys : List Placed) → AreOrdered xs → AreOrdered ys → AreOrdered (xs ++ ys)
 ordered-append [] ys h k = k
@@ -132,27 +132,18 @@ offsets_from order offset (unit ∷ units) bytes h =
     (All-weaker (λ (unit : ℕ × UnitParts). offset + length h.0 ≤ unit.0) (λ (unit : ℕ × UnitParts). offset ≤ unit.0)
     (λ other le. omega arith) units (offsets_from order (offset + length h.0) units h.1 h.5))
 
-some_bytes : (order : Order) (unit : UnitParts) (bytes : List ℕ) → UnitBytesIn order unit bytes → 0 < length bytes
-some_bytes order unit bytes u = grind (arith, common_steps, length-append)
-
-pub offsets_differ : (order : Order) (offset : ℕ) (units : List (ℕ × UnitParts)) (bytes : List ℕ) → UnitsFrom order offset units bytes
-    → AllPairs (λ (one : ℕ × UnitParts) (other : ℕ × UnitParts). one.0 ≢ other.0) units
-offsets_differ order offset [] bytes h = pairs_nil (λ (one : ℕ × UnitParts) (other : ℕ × UnitParts). one.0 ≢ other.0)
-offsets_differ order offset (unit ∷ units) bytes h =
-    let at = h.2 in
-    let some = some_bytes order unit.1 h.0 h.3 in
-    pairs_cons (λ (one : ℕ × UnitParts) (other : ℕ × UnitParts). one.0 ≢ other.0) unit units
-    (All-weaker (λ (other : ℕ × UnitParts). offset + length h.0 ≤ other.0) (λ (other : ℕ × UnitParts). unit.0 ≢ other.0)
-    (λ other le same. omega arith) units (offsets_from order (offset + length h.0) units h.1 h.5))
-    (offsets_differ order (offset + length h.0) units h.1 h.5)
-
 pub offsets_rise : (order : Order) (offset : ℕ) (units : List (ℕ × UnitParts)) (bytes : List ℕ) → UnitsFrom order offset units bytes
     → AllPairs (λ (one : ℕ × UnitParts) (other : ℕ × UnitParts). one.0 < other.0) units
 offsets_rise order offset [] bytes h = pairs_nil (λ (one : ℕ × UnitParts) (other : ℕ × UnitParts). one.0 < other.0)
 offsets_rise order offset (unit ∷ units) bytes h =
     let at = h.2 in
-    let some = some_bytes order unit.1 h.0 h.3 in
+    let some = unit_is_some order unit.1 h.0 h.3 in
     pairs_cons (λ (one : ℕ × UnitParts) (other : ℕ × UnitParts). one.0 < other.0) unit units
     (All-weaker (λ (other : ℕ × UnitParts). offset + length h.0 ≤ other.0) (λ (other : ℕ × UnitParts). unit.0 < other.0)
     (λ other le. omega arith) units (offsets_from order (offset + length h.0) units h.1 h.5))
     (offsets_rise order (offset + length h.0) units h.1 h.5)
+
+pub offsets_differ : (order : Order) (offset : ℕ) (units : List (ℕ × UnitParts)) (bytes : List ℕ) → UnitsFrom order offset units bytes
+    → AllPairs (λ (one : ℕ × UnitParts) (other : ℕ × UnitParts). one.0 ≢ other.0) units
+offsets_differ order offset units bytes u i j d lt l same =
+    let rise = offsets_rise order offset units bytes u i j d lt l in omega (arith, rise, same)

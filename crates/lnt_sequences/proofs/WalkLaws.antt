@@ -11,8 +11,8 @@ use Rattle.lnt_machine.specs.Matrix.{joined_rows, onto_first, sequences_of}
 use Rattle.lnt_spans.proofs.PositionLaws.{at_most_itself, test_not_below}
 use Rattle.lnt_sequences.specs.declared.extent.Extent.{Extent}
 use Rattle.lnt_sequences.specs.declared.watch.Current.{Current}
-use Rattle.lnt_sequences.specs.Extents.{extent_between, extent_of, extent_of_rows}
-use Rattle.lnt_sequences.specs.Sequences.{are_live, begins_live, is_live, last_row, Placed, position_of}
+use Rattle.lnt_sequences.specs.Extents.{extent_between, extent_of}
+use Rattle.lnt_sequences.specs.Sequences.{are_live, is_live, last_row, Placed, position_of}
 use Rattle.lnt_sequences.specs.Watching.{closed, current_of, extent_from, extent_shown, first_shown, grown, is_in_live}
 use Rattle.lnt_sequences.specs.Watching.{last_after, longer, next, shown, RowsSoFar, walked}
 use Rattle.std.proofs.lemmas.Grind.{common_steps}
@@ -30,12 +30,10 @@ shown-append {A} show walk (row ∷ xs) ys = ap (λ (all : List A). show walk ro
     ∙ sym (append_assoc (show walk row) (shown show (next walk row) xs) (shown show (walked (next walk row) xs) ys))
 
 or_assoc : {A : Type 0} (a b c : Option A) → option_or a (option_or b c) ≡ option_or (option_or a b) c
-or_assoc None b c = refl
-or_assoc (Some x) b c = refl
+or_assoc a b c = grind (arith, common_steps)
 
 or_none : {A : Type 0} (a : Option A) → option_or a None ≡ a
-or_none None = refl
-or_none (Some x) = refl
+or_none a = grind (arith, common_steps)
 
 pub first_shown-append : {A : Type 0} (show : RowsSoFar → Row → Option A) (walk : RowsSoFar) (xs ys : List Row)
     → first_shown show walk (xs ++ ys) ≡ option_or (first_shown show walk xs) (first_shown show (walked walk xs) ys)
@@ -47,13 +45,11 @@ first_shown-append {A} show walk (row ∷ xs) ys =
 -- one more row
 pub shown-push : {A : Type 0} (show : RowsSoFar → Row → List A) (walk : RowsSoFar) (xs : List Row) (row : Row)
     → shown show walk (xs ++ row ∷ []) ≡ shown show walk xs ++ show (walked walk xs) row
-shown-push {A} show walk xs row =
-    shown-append show walk xs (row ∷ []) ∙ ap (λ (all : List A). shown show walk xs ++ all) (append-nil (show (walked walk xs) row))
+shown-push {A} show walk xs row = grind (arith, common_steps, shown-append, append-nil)
 
 pub first_shown-push : {A : Type 0} (show : RowsSoFar → Row → Option A) (walk : RowsSoFar) (xs : List Row) (row : Row)
     → first_shown show walk (xs ++ row ∷ []) ≡ option_or (first_shown show walk xs) (show (walked walk xs) row)
-first_shown-push {A} show walk xs row = first_shown-append show walk xs (row ∷ [])
-    ∙ ap (λ (o : Option A). option_or (first_shown show walk xs) o) (or_none (show (walked walk xs) row))
+first_shown-push {A} show walk xs row = grind (arith, common_steps, first_shown-append, or_none)
 
 pub walked-rows : (walk : RowsSoFar) (rows : List Row) → (walked walk rows).rows ≡ walk.rows + length rows
 walked-rows walk [] = omega arith
@@ -94,16 +90,7 @@ walked_open walk (row ∷ rows) o = ap (λ (t : Bool). walked (cond t (closed wa
 -- all of its rows
 pub walked_ended : (walk : RowsSoFar) (s : Sequence) → IsEnded s
     → walked walk s.rows ≡ record { rows = walk.rows + length s.rows; ended = walk.ended + 1; begun = [] }
-walked_ended walk s e = ap (walked walk) e.rows_are ∙ walked-append walk e.body (e.last ∷ [])
-    ∙ ap (λ (w : RowsSoFar). next w e.last) (walked_open walk e.body e.body_open)
-    ∙ ap (λ (t : Bool). cond t (closed (record { rows = walk.rows + length e.body; ended = walk.ended; begun = walk.begun ++ e.body }))
-    (longer (record { rows = walk.rows + length e.body; ended = walk.ended; begun = walk.begun ++ e.body }) e.last)) e.ends
-    ∙ same (walk.rows + length e.body + 1) (walk.rows + length s.rows)
-    (omega (arith, ap length e.rows_are, length-append e.body (e.last ∷ [])))
-  where
-    same : (m n : ℕ) → m ≡ n → ◌≡◌ {A = RowsSoFar} (record { rows = m; ended = walk.ended + 1; begun = [] })
-        (record { rows = n; ended = walk.ended + 1; begun = [] })
-    same m n e = rw e refl
+walked_ended walk s e = grind (arith, common_steps, walked-append, walked_open, length-append)
 
 -- ---- its extent
 
@@ -129,14 +116,7 @@ live_extent dead unit index rows =
 extents_last : (dead : Option ℕ) (unit index : ℕ) (begun : List Row) (row : Row) → row.end_sequence ≡ true
     → cond (grown dead (current_of dead begun) row).live (extent_from unit index (current_of dead begun) row) []
     ≡ live_extent dead unit index (begun ++ row ∷ [])
-extents_last dead unit index [] row e =
-    let none : extent_between (record { unit = unit; index = index }) (position_of row) (position_of row) ≡ [] =
-    rw (test_not_below (position_of row) (position_of row) (at_most_itself (position_of row))) refl in
-    ap (λ (extents : List Extent). cond (begins_live dead row) extents []) (sym none)
-extents_last dead unit index (first ∷ rest) row e = ap (λ (t : Bool). cond (begins_live dead first)
-    (cond t (extent_between (record { unit = unit; index = index }) (position_of first) (position_of row)) []) []) e
-    ∙ ap (λ (o : Option Row). cond (begins_live dead first) (extent_of_rows (record { unit = unit; index = index }) (Some first) o) [])
-    (sym (last_row_is first (rest ++ row ∷ []) ∙ ap Some (last_after-push first rest row)))
+extents_last dead unit index begun row e = grind (arith, common_steps, test_not_below, at_most_itself, last_row_is, last_after-push)
 
 pub extents_ended : (dead : Option ℕ) (unit : ℕ) (walk : RowsSoFar) (s : Sequence) → IsEnded s → walk.begun ≡ []
     → shown (extent_shown dead unit) walk s.rows ≡ live_extent dead unit walk.ended s.rows

@@ -8,9 +8,7 @@ use Rattle.lnt_sequences.specs.declared.watch.Current.{Current}
 use Rattle.lnt_sequences.specs.declared.watch.Watch.{Watch}
 use Rattle.lnt_sequences.specs.Sequences.{Placed}
 use Rattle.lnt_sequences.specs.Stepping.{counted, gone_on, noted}
-use Rattle.lnt_sequences.specs.Watching.{closed, CollectsRows, current_of, extent_from}
-use Rattle.lnt_sequences.specs.Watching.{grown, HasSeen, longer, next}
-use Rattle.lnt_sequences.specs.Watching.{RowsSoFar, walked}
+use Rattle.lnt_sequences.specs.Watching.{closed, CollectsRows, current_of, extent_from, grown, HasSeen, longer, next, RowsSoFar, walked}
 use Rattle.lnt_sequences.proofs.WalkLaws.{first_shown-push, last_after-push, shown-push, walked-append, walked-rows}
 use Rattle.std.proofs.lemmas.Grind.{common_steps}
 
@@ -18,8 +16,7 @@ use Rattle.std.proofs.lemmas.Grind.{common_steps}
 
 current-push : (dead : Option ℕ) (begun : List Row) (row : Row)
     → current_of dead (begun ++ row ∷ []) ≡ Some (grown dead (current_of dead begun) row)
-current-push dead [] row = refl
-current-push dead (first ∷ rest) row = rw (last_after-push first rest row) refl
+current-push dead begun row = grind (arith, common_steps, last_after-push)
 
 -- the walk with one more row: its fields, as a watch counts them
 next-rows : (walk : RowsSoFar) (row : Row) (t : Bool) → (cond t (closed walk) (longer walk row)).rows ≡ walk.rows + 1
@@ -54,19 +51,7 @@ pub seen_more : (dead : Option ℕ) (unit files : ℕ) (rows : List Row) (old ne
     → current ≡ grown old.dead old.current row → new ≡ gone_on (noted old row current.live) row current
     → HasSeen dead unit files old rows → HasSeen dead unit files new (rows ++ row ∷ [])
 seen_more dead unit files rows old new row current is e seen few =
-    grind (
-      arith,
-      common_steps,
-      length-append,
-      walked-rows,
-      ended_few,
-      walked-append,
-      next-rows,
-      next-ended,
-      cond,
-      next-current,
-      first_shown-push,
-    )
+    grind (arith, common_steps, common_steps, length-append, walked-rows, ended_few, walked-append, next-rows, next-ended, next-current, first_shown-push)
 
 -- ---- what is collected
 

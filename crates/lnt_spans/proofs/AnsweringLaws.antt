@@ -1,5 +1,5 @@
 -- What a list of spans answers, in terms of its first span.
-use Rattle.std.proofs.Common.{◌≡◌, ◌∙◌, true, false, Bool, List, [], ◌∷◌, ◌++◌, inl, inr, refl, sym, Some, None}
+use Rattle.std.proofs.Common.{◌≡◌, ◌∙◌, true, false, Bool, List, [], ◌∷◌, ◌++◌, refl, Some, None, arith}
 use Rattle.std.specs.Prelude.{◌&&◌}
 use Rattle.lnt_spans.specs.declared.position.Position.{Position}
 use Rattle.lnt_spans.specs.declared.span.Span.{Span}
@@ -7,6 +7,7 @@ use Rattle.lnt_spans.specs.Positions.{IsBelow, IsAtMost}
 use Rattle.lnt_spans.specs.Spans.{AreInOrder, span_answer}
 use Rattle.lnt_spans.proofs.PositionLaws.{test_below, test_not_below, test_at_most, test_not_at_most, below_at_most}
 use Rattle.lnt_spans.proofs.PositionLaws.{below_is_at_most, order_cases}
+use Rattle.std.proofs.lemmas.Grind.{common_steps}
 
 -- p is in the first span
 pub answer_in : (s : Span) (rest : List Span) (p : Position) → IsAtMost s.low p → IsBelow p s.high
@@ -27,21 +28,13 @@ answer_after s rest p h = rw (test_not_below p s.high h, false-and) refl
 -- prepending a span to two lists that agree at p
 pub answer_same : (s : Span) (xs ys : List Span) (p : Position) → span_answer xs p ≡ span_answer ys p
     → span_answer (s ∷ xs) p ≡ span_answer (s ∷ ys) p
-answer_same s xs ys p e = elim (order_cases p s.low) [
-  | inl h ↦ answer_before s xs p h ∙ e ∙ sym (answer_before s ys p h)
-  | inr h ↦ elim (order_cases p s.high) [
-    | inl k ↦ answer_in s xs p h k ∙ sym (answer_in s ys p h k)
-    | inr k ↦ answer_after s xs p k ∙ e ∙ sym (answer_after s ys p k)
-  ]
-]
+answer_same s xs ys p e = grind (arith, common_steps, order_cases, answer_before, answer_in, answer_after)
 
 pub first_holds : (s : Span) (rest : List Span) → AreInOrder (s ∷ rest) → IsBelow s.low s.high
-first_holds s [] h = h
-first_holds s (t ∷ rest) h = h.0
+first_holds s rest h = grind (arith, common_steps)
 
 pub rest_in_order : (s : Span) (rest : List Span) → AreInOrder (s ∷ rest) → AreInOrder rest
-rest_in_order s [] h = tt
-rest_in_order s (t ∷ rest) h = h.2
+rest_in_order s rest h = grind (arith, common_steps)
 
 -- both parts of a list of spans in order are in order
 pub prefix_in_order : (xs ys : List Span) → AreInOrder (xs ++ ys) → AreInOrder xs
@@ -62,5 +55,4 @@ none_before s (t ∷ rest) p h k =
 
 -- below the end of the first span the rest answers nothing
 pub rest_none : (s : Span) (rest : List Span) (p : Position) → AreInOrder (s ∷ rest) → IsBelow p s.high → span_answer rest p ≡ None
-rest_none s [] p h k = refl
-rest_none s (t ∷ rest) p h k = none_before t rest p h.2 (below_at_most k h.1)
+rest_none s rest p h k = grind (arith, common_steps, none_before, below_at_most)

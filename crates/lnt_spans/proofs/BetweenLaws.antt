@@ -1,15 +1,16 @@
 -- Spans in order, described by where they begin and end.
-use Rattle.std.proofs.Common.{◌≡◌, Bool, true, false, ◌&&◌, ◌∙◌, List, [], ◌∷◌, ◌++◌, None, refl}
+use Rattle.std.proofs.Common.{◌≡◌, Bool, true, false, ◌&&◌, ◌∙◌, List, [], ◌∷◌, ◌++◌, None, refl, arith}
 use Rattle.std.specs.List.{AllPairs, All}
 use Rattle.std.proofs.lemmas.List.Elements.{All-cons, All-nil, All-weaker}
 use Rattle.lnt_spans.specs.declared.position.Position.{Position}
 use Rattle.lnt_spans.specs.declared.span.Span.{Span}
-use Rattle.lnt_spans.specs.Positions.{IsBelow, IsAtMost, is_below, is_at_most}
+use Rattle.lnt_spans.specs.Positions.{IsBelow, IsAtMost}
 use Rattle.lnt_spans.specs.Spans.{AreInOrder, is_in_span, span_answer}
 use Rattle.lnt_spans.proofs.AnsweringLaws.{answer_before}
 use Rattle.lnt_spans.proofs.EachTwoLaws.{pairs_nil, pairs_cons}
 use Rattle.lnt_spans.proofs.PositionLaws.{at_most_from_test, at_most_itself, at_most_trans, below_at_most}
 use Rattle.lnt_spans.proofs.PositionLaws.{below_from_test, below_is_at_most, test_at_most, test_below}
+use Rattle.std.proofs.lemmas.Grind.{common_steps}
 
 -- ---- one span
 
@@ -23,9 +24,7 @@ pub record InSpan (p : Position) (span : Span) : Type 0 where
   pub below : IsBelow p span.high
 
 pub in_span : (p : Position) (span : Span) → is_in_span p span ≡ true → InSpan p span
-in_span p span h =
-    let b = both_true (is_at_most span.low p) (is_below p span.high) h in
-    record { from = at_most_from_test span.low p b.0; below = below_from_test p span.high b.1 }
+in_span p span h = grind (arith, common_steps, both_true, at_most_from_test, below_from_test)
 
 pub test_in_span : (p : Position) (span : Span) → InSpan p span → is_in_span p span ≡ true
 test_in_span p span h = rw (test_at_most span.low p h.from, test_below p span.high h.below) refl

@@ -1,6 +1,5 @@
 -- What a bisection of spans in order knows of the spans that it has ruled out.
-use Rattle.std.proofs.Common.{◌≡◌, ℕ, ◌+◌, ◌<◌, ◌≤◌, Bool, true, false, List, Option, Some, None, refl, sym, ap, subst}
-use Rattle.std.proofs.Common.{arith, length, get_or, ⊎_elim}
+use Rattle.std.proofs.Common.{◌≡◌, ℕ, ◌+◌, ◌<◌, ◌≤◌, true, false, List, Option, Some, None, sym, ap, subst, arith, length, get_or, ⊎_elim}
 use Rattle.std.specs.Option.{option_map}
 use Rattle.std.proofs.lemmas.List.Elements.{Contains-get_or}
 use Rattle.std.proofs.lemmas.Bool.{cases_eq, cases_lt}
@@ -13,6 +12,7 @@ use Rattle.lnt_spans.proofs.PositionLaws.{at_most_trans, below_at_most, below_is
 use Rattle.lnt_spans.proofs.EachTwoLaws.{find_only, find_none, each_two_from_pairs}
 use Rattle.lnt_spans.proofs.BetweenLaws.{InSpan, in_span, test_in_span, ends_before, none_empty}
 use Rattle.lnt_spans.specs.Brackets.{IsBracket}
+use Rattle.std.proofs.lemmas.Grind.{common_steps}
 
 pub bracket_below : (spans : List Span) (p : Position) (low high middle : ℕ) → AreInOrder spans → IsBracket spans p low high → low ≤ middle
     → middle < high
@@ -69,11 +69,7 @@ found_inside spans p middle d o l h =
     sym (ap (λ (q : Option Span). option_map (λ (s : Span). s.answer) q) one)
 
 not_inside : (p : Position) (s : Span) → (InSpan p s → ⊥) → is_in_span p s ≡ false
-not_inside p s h = by_test (is_in_span p s) refl
-  where
-    by_test : (t : Bool) → is_in_span p s ≡ t → is_in_span p s ≡ false
-    by_test true e = absurd (h (in_span p s e))
-    by_test false e = e
+not_inside p s h = grind (arith, common_steps, in_span)
 
 pub found_nowhere : (spans : List Span) (p : Position) (low high : ℕ) → IsBracket spans p low high → high ≤ low → None ≡ span_answer spans p
 found_nowhere spans p low high b h =

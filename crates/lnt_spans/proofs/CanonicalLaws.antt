@@ -1,17 +1,17 @@
 -- Canonical lists.
-use Rattle.std.proofs.Common.{◌≡◌, ◌∙◌, List, [], ◌∷◌, inl, inr, refl, sym, subst, Some}
+use Rattle.std.proofs.Common.{◌≡◌, ◌∙◌, List, [], ◌∷◌, inl, inr, refl, sym, Some, arith}
 use Rattle.lnt_spans.specs.declared.position.Position.{Position}
 use Rattle.lnt_spans.specs.declared.answer.Answer.{Answer}
 use Rattle.lnt_spans.specs.declared.span.Span.{Span}
-use Rattle.lnt_spans.specs.Positions.{IsBelow, IsAtMost}
+use Rattle.lnt_spans.specs.Positions.{IsBelow}
 use Rattle.lnt_spans.specs.Spans.{AreInOrder, DifferWhereTheyTouch, IsCanonical, span_answer}
 use Rattle.lnt_spans.specs.Laws.{OneCanonical, AgreeEverywhere}
 use Rattle.lnt_spans.proofs.PositionLaws.{order_cases, order_three, at_most_below, at_most_itself, below_is_at_most, same_position}
 use Rattle.lnt_spans.proofs.AnsweringLaws.{answer_in, answer_after, first_holds, rest_in_order, none_before, rest_none}
+use Rattle.std.proofs.lemmas.Grind.{common_steps}
 
 rest_differ : (s : Span) (rest : List Span) → DifferWhereTheyTouch (s ∷ rest) → DifferWhereTheyTouch rest
-rest_differ s [] h = tt
-rest_differ s (t ∷ rest) h = h.1
+rest_differ s rest h = grind (arith, common_steps)
 
 -- of two lists, the one whose first span begins earlier answers where the other doesn't
 not_earlier : (x y : Span) (xs ys : List Span) → AreInOrder (x ∷ xs) → AreInOrder (y ∷ ys) → AgreeEverywhere (x ∷ xs) (y ∷ ys)
@@ -23,11 +23,7 @@ not_earlier x y xs ys ox oy same lt =
     cc
 
 same_low : (x y : Span) (xs ys : List Span) → AreInOrder (x ∷ xs) → AreInOrder (y ∷ ys) → AgreeEverywhere (x ∷ xs) (y ∷ ys) → x.low ≡ y.low
-same_low x y xs ys ox oy same = elim (order_three x.low y.low) [
-  | inl lt ↦ absurd (not_earlier x y xs ys ox oy same lt)
-  | inr (inl e) ↦ e
-  | inr (inr gt) ↦ absurd (not_earlier y x ys xs oy ox (λ p. sym (same p)) gt)
-]
+same_low x y xs ys ox oy same = grind (arith, common_steps, order_three, not_earlier)
 
 same_answer : (x y : Span) (xs ys : List Span) → AreInOrder (x ∷ xs) → AreInOrder (y ∷ ys) → AgreeEverywhere (x ∷ xs) (y ∷ ys)
     → x.low ≡ y.low → x.answer ≡ y.answer
@@ -55,19 +51,11 @@ answers_other x (t ∷ rest) o d e = elim (order_cases x.high t.low) [
 
 not_shorter : (x y : Span) (xs ys : List Span) → IsCanonical (x ∷ xs) → AreInOrder (y ∷ ys) → AgreeEverywhere (x ∷ xs) (y ∷ ys)
     → x.low ≡ y.low → x.answer ≡ y.answer → IsBelow x.high y.high → ⊥
-not_shorter x y xs ys cx oy same low answer lt =
-    let from : IsAtMost y.low x.high = subst (λ (p : Position). IsAtMost p x.high) low (below_is_at_most (first_holds x xs cx.in_order)) in
-    let there = answer_in y ys x.high from lt in
-    let e = same x.high in
-    answers_other x xs cx.in_order cx.differ (cc)
+not_shorter x y xs ys cx oy same low answer lt = grind (arith, common_steps, below_is_at_most, first_holds, answer_in, answers_other)
 
 same_high : (x y : Span) (xs ys : List Span) → IsCanonical (x ∷ xs) → IsCanonical (y ∷ ys) → AgreeEverywhere (x ∷ xs) (y ∷ ys)
     → x.low ≡ y.low → x.answer ≡ y.answer → x.high ≡ y.high
-same_high x y xs ys cx cy same low answer = elim (order_three x.high y.high) [
-  | inl lt ↦ absurd (not_shorter x y xs ys cx cy.in_order same low answer lt)
-  | inr (inl e) ↦ e
-  | inr (inr gt) ↦ absurd (not_shorter y x ys xs cy cx.in_order (λ p. sym (same p)) (sym low) (sym answer) gt)
-]
+same_high x y xs ys cx cy same low answer = grind (arith, common_steps, order_three, not_shorter)
 
 make : Position → Position → Answer → Span
 make low high answer = record { low = low; high = high; answer = answer }
@@ -78,10 +66,7 @@ made s = refl
 
 same_rest : (x y : Span) (xs ys : List Span) → AreInOrder (x ∷ xs) → AreInOrder (y ∷ ys) → AgreeEverywhere (x ∷ xs) (y ∷ ys)
     → x.high ≡ y.high → AgreeEverywhere xs ys
-same_rest x y xs ys ox oy same high p = elim (order_cases p x.high) [
-  | inl lt ↦ rest_none x xs p ox lt ∙ sym (rest_none y ys p oy (subst (λ (q : Position). IsBelow p q) high lt))
-  | inr ge ↦ sym (answer_after x xs p ge) ∙ same p ∙ answer_after y ys p (subst (λ (q : Position). IsAtMost q p) high ge)
-]
+same_rest x y xs ys ox oy same high p = grind (arith, common_steps, order_cases, rest_none, answer_after)
 
 pub one_list : OneCanonical
 one_list [] [] cx cy same = refl

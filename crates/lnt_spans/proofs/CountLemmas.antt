@@ -15,6 +15,7 @@ use Rattle.lnt_spans.specs.Positions.{IsBelow, IsAtMost, is_below, is_at_most}
 use Rattle.lnt_spans.specs.Spans.{AreInOrder, span_answer}
 use Rattle.lnt_spans.proofs.AnsweringLaws.{answer_after, answer_before, answer_in, rest_in_order, rest_none}
 use Rattle.lnt_spans.proofs.PositionLaws.{order_cases, test_at_most, test_below, test_not_at_most, test_not_below}
+use Rattle.std.proofs.lemmas.Grind.{common_steps}
 
 -- ---- counts of the numbers that pass a test
 
@@ -137,8 +138,7 @@ between_test low high from to h k = record {
 
 pub counted_between : (low high : Position) (from to : ℕ) → IsFirstFrom low from → IsFirstFrom high to → to ≤ 2 ^ 64
     → to - from ≡ addresses_between low high
-counted_between low high from to h k l =
-    sym (count_range (is_between low high) from to (2 ^ 64) (between_test low high from to h k) l)
+counted_between low high from to h k l = grind (arith, common_steps, count_range, between_test)
 
 -- ---- the addresses that are answered
 
@@ -159,13 +159,8 @@ is_within low high p = is_at_most low p && is_below p high
 
 added_here : {X : Type 0} (answers more : Position → Option X) (low high : Position) → AnswersMore answers more low high → (p : Position)
     → one_if (is_some (more p)) ≡ one_if (is_some (answers p)) + one_if (is_within low high p)
-added_here answers more low high h p = elim (order_cases p low) [
-  | inl k ↦ rw (test_not_at_most low p k, h.below p k) (omega arith)
-  | inr k ↦ elim (order_cases p high) [
-    | inl l ↦ rw (test_at_most low p k, test_below p high l, h.added p k l, h.unanswered p k l) refl
-    | inr l ↦ rw (test_not_below p high l, false-and-right (is_at_most low p), h.above p l) (omega arith)
-  ]
-]
+added_here answers more low high h p =
+    grind (arith, common_steps, order_cases, test_not_at_most, test_at_most, test_below, test_not_below, false-and-right)
 
 pub added_range : {X : Type 0} (answers more : Position → Option X) (low high : Position) → AnswersMore answers more low high
     → addresses_answered more ≡ addresses_answered answers + addresses_between low high
@@ -176,12 +171,7 @@ added_range answers more low high h =
 
 span_added : (span : Span) (rest : List Span) → AreInOrder (span ∷ rest)
     → AnswersMore (span_answer rest) (span_answer (span ∷ rest)) span.low span.high
-span_added span rest order = record {
-  added = λ p h k. ap is_some (answer_in span rest p h k);
-  unanswered = λ p h k. rest_none span rest p order k;
-  below = λ p h. ap is_some (answer_before span rest p h);
-  above = λ p h. ap is_some (answer_after span rest p h);
-}
+span_added span rest order = grind (arith, common_steps, answer_in, rest_none, answer_before, answer_after)
 
 pub addresses_of_spans : (spans : List Span) → AreInOrder spans → addresses_answered (span_answer spans) ≡ addresses_of spans
 addresses_of_spans [] order = no_addresses (span_answer []) (λ p. refl)
@@ -233,39 +223,22 @@ pub counts_first : (S : Type 0) (to_come : S → List Span → Type 0) (total : 
     → ((list : List Span) → to_come spans list → GivesFirstSpan (to_come spans') list (Some span))
     → (count + addresses_between span.low span.high ≤ 2 ^ 64 → more ≡ count + addresses_between span.low span.high)
     → GivesFirstSpan (CountsTo to_come total spans' more) list (Some span)
-counts_first S to_come total spans spans' count more span [] h gives adds = gives [] h.coming
-counts_first S to_come total spans spans' count more span (first ∷ rest) h gives adds =
-    let given = gives (first ∷ rest) h.coming in
-    let same : addresses_between span.low span.high ≡ addresses_between first.low first.high =
-    ap (λ (s : Span). addresses_between s.low s.high) given.0 in
-    let most : count + addresses_between span.low span.high ≤ 2 ^ 64 = omega (arith, h.counted, h.most, same) in
-    (given.0, record { coming = given.1; counted = omega (arith, h.counted, same, adds most); most = h.most })
+counts_first S to_come total spans spans' count more span list h gives adds = grind (arith, common_steps)
 
 pub counts_end : (S : Type 0) (to_come : S → List Span → Type 0) (total : ℕ) (spans spans' : S) (count : ℕ) (list : List Span)
     → CountsTo to_come total spans count list
     → ((list : List Span) → to_come spans list → GivesFirstSpan (to_come spans') list None)
     → GivesFirstSpan (CountsTo to_come total spans' count) list None × (count ≡ total)
-counts_end S to_come total spans spans' count [] h gives = (tt, omega (arith, h.counted))
-counts_end S to_come total spans spans' count (first ∷ rest) h gives = absurd (gives (first ∷ rest) h.coming)
+counts_end S to_come total spans spans' count list h gives = grind (arith, common_steps)
 
 pub counts_on : (S : Type 0) (to_come : S → List Span → Type 0) (total : ℕ) (spans spans' : S) (count more : ℕ) (span : Span)
     → CountsOn to_come total spans count
     → ((list : List Span) → to_come spans list → GivesFirstSpan (to_come spans') list (Some span))
     → (count + addresses_between span.low span.high ≤ 2 ^ 64 → more ≡ count + addresses_between span.low span.high)
     → CountsOn to_come total spans' more
-counts_on S to_come total spans spans' count more span h gives adds =
-    by_list h.0 (counts_first S to_come total spans spans' count more span h.0 h.1 gives adds)
-  where
-    by_list : (list : List Span) → GivesFirstSpan (CountsTo to_come total spans' more) list (Some span)
-        → CountsOn to_come total spans' more
-    by_list [] g = absurd g
-    by_list (first ∷ rest) g = (rest, g.1)
+counts_on S to_come total spans spans' count more span h gives adds = grind (arith, common_steps, counts_first)
 
 -- nothing counted yet, of spans in order
 pub counts_none : (S : Type 0) (to_come : S → List Span → Type 0) (spans : S) (list : List Span) → to_come spans list → AreInOrder list
     → CountsTo to_come (addresses_of list) spans 0 list
-counts_none S to_come spans list coming order = record {
-  coming = coming;
-  counted = omega arith;
-  most = omega (arith, addresses_of_spans list order, most_addresses (span_answer list));
-}
+counts_none S to_come spans list coming order = grind (arith, common_steps, addresses_of_spans, most_addresses)

@@ -1,5 +1,5 @@
 -- What holds of any two elements of a list, and of the only element that passes a test.
-use Rattle.std.proofs.Common.{◌≡◌, ◌≢◌, ℕ, zero, suc, ◌<◌, ◌≤◌, Bool, true, false, cond, List, [], ◌∷◌, ◌++◌, Option}
+use Rattle.std.proofs.Common.{◌≡◌, ◌≢◌, ℕ, suc, ◌<◌, Bool, true, false, cond, List, [], ◌∷◌, ◌++◌, Option}
 use Rattle.std.proofs.Common.{Some, None, refl, sym, ap, ◌∙◌, subst, arith, length, get_or, ⊎_elim}
 use Rattle.std.specs.List.{find, AllPairs, All, Contains, swap}
 use Rattle.std.specs.List.Sorted.{IsPermutation}
@@ -9,6 +9,7 @@ use Rattle.std.proofs.lemmas.Bool.{cases_eq, cases_lt}
 use Rattle.std.proofs.lemmas.List.{get_or_default}
 use Rattle.std.proofs.lemmas.List.Elements.{All-cons, All-append, All-head, All-tail}
 use Rattle.std.proofs.lemmas.Option.{same_Some}
+use Rattle.std.proofs.lemmas.Grind.{common_steps}
 
 -- ---- each element and each later one
 
@@ -16,10 +17,7 @@ pub pairs_nil : {X : Type 0} (R : X → X → Type 0) → AllPairs R []
 pairs_nil R i j d lt l = absurd (omega arith)
 
 pub pairs_cons : {X : Type 0} (R : X → X → Type 0) (x : X) (xs : List X) → All (R x) xs → AllPairs R xs → AllPairs R (x ∷ xs)
-pairs_cons R x xs h k zero zero d lt l = absurd (omega arith)
-pairs_cons R x xs h k zero (suc j) d lt l = h j d (omega arith)
-pairs_cons R x xs h k (suc i) zero d lt l = absurd (omega arith)
-pairs_cons R x xs h k (suc i) (suc j) d lt l = k i j d (omega arith) (omega arith)
+pairs_cons R x xs h k m p d lt l = grind (arith, common_steps)
 
 pub pairs_head : {X : Type 0} (R : X → X → Type 0) (x : X) (xs : List X) → AllPairs R (x ∷ xs) → All (R x) xs
 pairs_head R x xs h = λ k d l. h 0 (suc k) d (omega arith) (omega arith)
@@ -41,8 +39,7 @@ abbrev pub EachTwo : {X : Type 0} → (X → X → Type 0) → List X → Type 0
 EachTwo {X} R xs = (i j : ℕ) (d : X) → i ≢ j → i < length xs → j < length xs → R (get_or xs i d) (get_or xs j d)
 
 pub each_two_from_pairs : {X : Type 0} (R : X → X → Type 0) → ((x y : X) → R x y → R y x) → (xs : List X) → AllPairs R xs → EachTwo R xs
-each_two_from_pairs R back xs h i j d ne li lj =
-    ⊎_elim (λ (lt : i < j). h i j d lt lj) (λ (le : j ≤ i). back (get_or xs j d) (get_or xs i d) (h j i d (omega arith) li)) (cases_lt i j)
+each_two_from_pairs R back xs h i j d ne li lj = grind (arith, common_steps, cases_lt)
 
 pub pairs_from_each_two : {X : Type 0} (R : X → X → Type 0) (xs : List X) → EachTwo R xs → AllPairs R xs
 pairs_from_each_two R xs h i j d lt lj = h i j d (omega arith) (omega arith) lj

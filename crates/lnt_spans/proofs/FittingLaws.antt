@@ -1,9 +1,8 @@
 -- What holds of each canonical span, where it holds of what is given: above all that their numbers are of at most 64 bits.
-use Rattle.std.proofs.Common.{◌≡◌, ◌∙◌, List, [], ◌∷◌, ◌++◌, Option, Some, None, refl, sym, ap, subst, append_assoc, ⊎_elim}
+use Rattle.std.proofs.Common.{◌≡◌, ◌∙◌, List, [], ◌∷◌, ◌++◌, Option, Some, None, refl, sym, ap, subst, append_assoc, ⊎_elim, arith}
 use Rattle.std.proofs.lemmas.List.{append-nil}
 use Rattle.std.specs.List.{AllByRecursion, cons_option}
 use Rattle.lnt_spans.specs.declared.answer.Version.{Version}
-use Rattle.lnt_spans.specs.declared.answer.Version.TheVariants.{One, Two}
 use Rattle.lnt_spans.specs.declared.position.Position.{Position}
 use Rattle.lnt_spans.specs.declared.span.Span.{Span}
 use Rattle.lnt_spans.specs.Fitting.{FitSpans, FitsSpan}
@@ -13,6 +12,7 @@ use Rattle.lnt_spans.proofs.CanonicalLaws.{one_list}
 use Rattle.lnt_spans.proofs.JoinLemmas.{joined_span}
 use Rattle.lnt_spans.proofs.JoinedLaws.{joins_or_not}
 use Rattle.lnt_spans.proofs.JoinerLemmas.{joined_all, joined_first, joined_given, joined_more}
+use Rattle.std.proofs.lemmas.Grind.{common_steps}
 
 -- ---- the canonical spans, and what holds of each
 
@@ -87,12 +87,7 @@ fits_extended : Extends FitsSpan
 fits_extended first next h k = record { low = h.low; high = k.high; answer = h.answer }
 
 fits_told : (version : Version) (span : Span) → FitsSpan span → FitsSpan (span_in_version version span)
-fits_told One span h = record {
-  low = h.low;
-  high = h.high;
-  answer = record { unit = h.answer.unit; file = h.answer.file; line = h.answer.line; column = h.answer.column; more = tt };
-}
-fits_told Two span h = record { low = h.low; high = h.high; answer = h.answer }
+fits_told version span h = grind (arith, common_steps)
 
 fit_told : (version : Version) (spans : List Span) → FitSpans spans → AllByRecursion (AsTold FitsSpan version) spans
 fit_told version [] h = tt

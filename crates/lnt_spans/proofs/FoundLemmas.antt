@@ -1,8 +1,6 @@
 -- What a comparison found, once no record of the table follows.
-use Rattle.std.proofs.Common.{◌≡◌, ◌∙◌, ℕ, ◌+◌, ◌^◌, ◌≤◌, true, false, List, [], ◌∷◌, ◌⊎◌, inl, inr, refl, ap, sym, subst}
-use Rattle.std.proofs.Common.{Some, None, Option, arith}
-use Rattle.std.specs.Option.{is_some, option_map, option_or}
-use Rattle.std.specs.Prelude.{MatchOption}
+use Rattle.std.proofs.Common.{◌≡◌, ◌∙◌, ℕ, ◌+◌, ◌^◌, ◌≤◌, true, false, List, ◌∷◌, ◌⊎◌, inl, inr, refl, ap, subst, Some, None, Option, arith}
+use Rattle.std.specs.Option.{is_some, option_map}
 use Rattle.std.proofs.lemmas.Bool.{true≢false}
 use Rattle.std.proofs.lemmas.Option.{same_Some}
 use Rattle.lnt_spans.specs.declared.answer.Answer.{Answer}
@@ -13,48 +11,22 @@ use Rattle.lnt_spans.specs.Ahead.{IsAhead}
 use Rattle.lnt_spans.specs.AnyStretches.{Stretch}
 use Rattle.lnt_spans.specs.Counts.{CountsTo, addresses_answered, addresses_between, addresses_of, is_answered, whole}
 use Rattle.lnt_spans.specs.Differences.{IsFirstDifference}
-use Rattle.lnt_spans.specs.Merged.{AreCounted, AreFound, AreMergedBy, ArePassed, HasGap, HasMerged}
-use Rattle.lnt_spans.specs.Merged.{answer_told, until}
+use Rattle.lnt_spans.specs.Merged.{AreCounted, AreFound, ArePassed, HasGap, HasMerged, answer_told, until}
 use Rattle.lnt_spans.specs.Partial.{IsRightWherever, where_missed}
 use Rattle.lnt_spans.specs.Positions.{IsAtMost}
 use Rattle.lnt_spans.specs.Spans.{span_answer}
 use Rattle.lnt_spans.proofs.AheadLaws.{left_first}
-use Rattle.lnt_spans.proofs.CountLemmas.{addresses_of_spans, count_either, most_addresses, one_if}
-use Rattle.lnt_spans.proofs.CountLemmas.{same_addresses}
+use Rattle.lnt_spans.proofs.CountLemmas.{addresses_of_spans, count_either, most_addresses, one_if, same_addresses}
 use Rattle.lnt_spans.proofs.PositionLaws.{order_cases}
 use Rattle.lnt_spans.proofs.MergedLemmas.{alike_here, gap_begins, missed_here, missed_unanswered, none_from, none_is, until_below, until_from}
+use Rattle.std.proofs.lemmas.Grind.{common_steps}
 
 -- a mistake was found
 pub found_mistaken : {S D X : Type 0} (to_come : S → List Span → Type 0) (tell : Answer → X) (value_of : D → Stretch X) (merge : Merge S D)
     (spans : List Span) (by_table : Position → Option X) (missed : ℕ) → true ≡ is_some merge.mistake
     → HasMerged to_come tell value_of merge spans by_table
     → AreFound value_of (answer_told tell spans) by_table (record { gap = merge.gap; mistake = merge.mistake; missed = missed })
-found_mistaken {S} {D} {X} to_come tell value_of merge spans by_table missed some m =
-    by_mistake merge.gap merge.mistake some m.merged
-  where
-    section : Position → Option X
-    section = answer_told tell spans
-
-    by_mistake : (gap mistake : Option D) → true ≡ is_some mistake
-        → AreMergedBy (option_map value_of mistake) (option_map value_of gap) tell spans by_table merge.at (IsAhead to_come merge.spans)
-        merge.missed
-        → AreFound value_of section by_table (record { gap = gap; mistake = mistake; missed = missed })
-    by_mistake gap None e c = absurd (true≢false e)
-    by_mistake None (Some d) e c = record {
-      first = record {
-        section = c.0.first.section;
-        table = c.0.first.table;
-        differ = c.0.first.differ;
-        least = λ p h. alike_here by_table section p (c.0.first.least p h) (c.1 p h);
-      };
-      mistake = c.0.first;
-      missed = λ none. cc none;
-    }
-    by_mistake (Some gap) (Some d) e c = record {
-      first = c.1.0;
-      mistake = c.0.first;
-      missed = λ none. cc none;
-    }
+found_mistaken {S} {D} {X} to_come tell value_of merge spans by_table missed some m = grind (arith, common_steps, true≢false, alike_here)
 
 -- none was found, and so the spans that are left count
 pub merged_none : {S D X : Type 0} (to_come : S → List Span → Type 0) (tell : Answer → X) (value_of : D → Stretch X) (merge : Merge S D)
@@ -62,9 +34,7 @@ pub merged_none : {S D X : Type 0} (to_come : S → List Span → Type 0) (tell 
     → HasMerged to_come tell value_of merge spans by_table
     → AreCounted tell spans by_table merge.at (IsAhead to_come merge.spans) merge.missed
     × HasGap (option_map value_of merge.gap) tell spans by_table merge.at
-merged_none {S} {D} {X} to_come tell value_of merge spans by_table none m =
-    subst (λ (f : Option D). AreMergedBy (option_map value_of f) (option_map value_of merge.gap) tell spans by_table merge.at
-    (IsAhead to_come merge.spans) merge.missed) (none_is merge.mistake (sym none)) m.merged
+merged_none {S} {D} {X} to_come tell value_of merge spans by_table none m = grind (arith, common_steps, none_is)
 
 -- the table is right everywhere
 right_ended : {X : Type 0} (tell : Answer → X) (spans : List Span) (by_table : Position → Option X) (at : Position)
@@ -81,41 +51,8 @@ pub found_ended : {S D X : Type 0} (to_come : S → List Span → Type 0) (tell 
     → counted ≡ merge.missed → HasMerged to_come tell value_of merge spans by_table
     → AreFound value_of (answer_told tell spans) by_table (record { gap = merge.gap; mistake = merge.mistake; missed = counted })
 unfolding merged_none
-found_ended {S} {D} {X} to_come tell value_of merge spans by_table counted none empty is m = rw (none_is merge.mistake (sym none)) (record {
-  first = first merge.gap now.1;
-  mistake = right_ended tell spans by_table merge.at (IsAhead to_come merge.spans) now.0.passed m.ended;
-  missed = λ e. is ∙ now.0.counted ∙ same_addresses (until merge.at missed) missed (λ p. ap is_some (elim (order_cases p merge.at) [
-    | inl early ↦ until_below merge.at p missed early
-    | inr late ↦ until_from merge.at p missed late ∙ sym (missed_unanswered by_table section p (nothing p late))
-  ]));
-})
-  where
-    section : Position → Option X
-    section = answer_told tell spans
-
-    missed : Position → Option X
-    missed = where_missed by_table (answer_told tell spans)
-
-    now : AreCounted tell spans by_table merge.at (IsAhead to_come merge.spans) merge.missed
-        × HasGap (option_map value_of merge.gap) tell spans by_table merge.at
-    now = merged_none to_come tell value_of merge spans by_table none m
-
-    no_more : (rest : List Span) → IsAhead to_come merge.spans rest → rest ≡ []
-    no_more [] left = refl
-    no_more (span ∷ rest) left = absurd (let h : None ≡ Some span = sym empty ∙ left.0 in cc h)
-
-    nothing : (p : Position) → IsAtMost merge.at p → section p ≡ None
-    nothing p h = ap (option_map tell) (now.0.passed.same p h
-        ∙ ap (λ (xs : List Span). span_answer xs p) (no_more now.0.passed.rest now.0.passed.left))
-
-    first : (gap : Option D) → HasGap (option_map value_of gap) tell spans by_table merge.at
-        → MatchOption (option_or gap None) ((p : Position) → section p ≡ by_table p)
-        (λ difference. IsFirstDifference section by_table (value_of difference))
-    first None h = λ p. elim (order_cases p merge.at) [
-      | inl early ↦ alike_here by_table section p (now.0.passed.right p early) (h p early)
-      | inr late ↦ nothing p late ∙ sym (m.ended p late)
-    ]
-    first (Some gap) h = h.0
+found_ended {S} {D} {X} to_come tell value_of merge spans by_table counted none empty is m =
+    grind (arith, common_steps, none_is, right_ended, same_addresses, order_cases, until_below, until_from, missed_unanswered, merged_none, alike_here)
 
 -- the addresses at which the table doesn't answer are those below a position, and those of the spans that are left there
 missed_rest : {X : Type 0} (tell : Answer → X) (spans : List Span) (by_table : Position → Option X) (at : Position)

@@ -1,13 +1,14 @@
 -- Joining a span with one that touches it and answers the same.
-use Rattle.std.proofs.Common.{append_assoc, ◌≡◌, ◌≢◌, ◌∙◌, List, [], ◌∷◌, ◌++◌, inl, inr, refl, ap, sym, subst, Some, None, false}
+use Rattle.std.proofs.Common.{append_assoc, ◌≡◌, ◌≢◌, List, [], ◌∷◌, ◌++◌, subst, None, false, arith}
 use Rattle.lnt_spans.specs.declared.answer.Version.{Version}
 use Rattle.lnt_spans.specs.declared.position.Position.{Position}
 use Rattle.lnt_spans.specs.declared.span.Span.{Span}
-use Rattle.lnt_spans.specs.Positions.{IsBelow, IsAtMost}
+use Rattle.lnt_spans.specs.Positions.{IsBelow}
 use Rattle.lnt_spans.specs.Spans.{AreInOrder, DifferWhereTheyTouch, span_answer, span_in_version, version_answer}
 use Rattle.lnt_spans.proofs.AnsweringLaws.{answer_in, answer_before, answer_after, answer_same, first_holds, rest_in_order}
 use Rattle.lnt_spans.proofs.PositionLaws.{order_cases, below_at_most, below_is_at_most}
 use Rattle.lnt_spans.proofs.ToldLaws.{told, told_answer, told_order}
+use Rattle.std.proofs.lemmas.Grind.{common_steps}
 
 -- a default for list indices out of bounds
 abbrev pub no_span : Span
@@ -50,26 +51,8 @@ push_differ (d ∷ e ∷ done) first next h k = (h.0, push_differ (e ∷ done) f
 answer_joined : (first next : Span) (more : List Span) (p : Position) → first.high ≡ next.low → first.answer ≡ next.answer
     → IsBelow first.low first.high → IsBelow next.low next.high
     → span_answer (joined_span first next.high ∷ more) p ≡ span_answer (first ∷ next ∷ more) p
-answer_joined first next more p touch same h k = elim (order_cases p first.low) [
-  | inl before ↦
-      let early : IsBelow p next.low = subst (λ (q : Position). IsBelow p q) touch (below_at_most before (below_is_at_most h)) in
-      answer_before (joined_span first next.high) more p before
-      ∙ sym (answer_before first (next ∷ more) p before ∙ answer_before next more p early)
-  | inr from ↦ elim (order_cases p first.high) [
-    | inl under ↦
-        let early : IsBelow p next.low = subst (λ (q : Position). IsBelow p q) touch under in
-        answer_in (joined_span first next.high) more p from (below_at_most early (below_is_at_most k))
-        ∙ sym (answer_in first (next ∷ more) p from under)
-    | inr over ↦
-        let late : IsAtMost next.low p = subst (λ (q : Position). IsAtMost q p) touch over in
-        elim (order_cases p next.high) [
-          | inl under ↦ answer_in (joined_span first next.high) more p from under ∙ ap Some same
-              ∙ sym (answer_after first (next ∷ more) p over ∙ answer_in next more p late under)
-          | inr past ↦ answer_after (joined_span first next.high) more p past
-              ∙ sym (answer_after first (next ∷ more) p over ∙ answer_after next more p past)
-        ]
-  ]
-]
+answer_joined first next more p touch same h k =
+    grind (arith, common_steps, order_cases, below_at_most, below_is_at_most, answer_before, answer_in, answer_after)
 
 pub join_answer : (done : List Span) (first next : Span) (more : List Span) (p : Position) → first.high ≡ next.low
     → first.answer ≡ next.answer
@@ -90,35 +73,19 @@ pub record Joining (spans done : List Span) (first : Span) (rest : List Span) : 
 
 pub keep_join : (spans done : List Span) (first next : Span) (more : List Span) → Joining spans done first (next ∷ more)
     → (first.high ≡ next.low) × (first.answer ≡ next.answer) → Joining spans done (joined_span first next.high) more
-keep_join spans done first next more j e = record {
-  order = join_order done first next more e.0 j.order;
-  differ = join_differ done first next.high j.differ;
-  same = λ p. join_answer done first next more p e.0 e.1 j.order ∙ j.same p;
-}
+keep_join spans done first next more j e = grind (arith, common_steps, join_order, join_differ, join_answer)
 
 pub keep_push : (spans done : List Span) (first next : Span) (more : List Span) → Joining spans done first (next ∷ more)
     → (first.high ≡ next.low → first.answer ≢ next.answer) → Joining spans (done ++ first ∷ []) next more
-keep_push spans done first next more j e =
-    let cut = append_assoc done (first ∷ []) (next ∷ more) in record {
-      order = subst AreInOrder (sym cut) j.order;
-      differ = push_differ done first next j.differ e;
-      same = λ p. ap (λ (xs : List Span). span_answer xs p) cut ∙ j.same p;
-    }
+keep_push spans done first next more j e = grind (arith, common_steps, append_assoc, push_differ)
 
 -- ---- the first span, and the end
 
 pub join_start : (version : Version) (spans rest : List Span) (first : Span) → spans ≡ first ∷ rest → AreInOrder spans
     → Joining (told version spans) [] (span_in_version version first) (told version rest)
-join_start version spans rest first e o =
-    rw e
-    (record {
-      order = told_order version (first ∷ rest) (rw e at o);
-      differ = tt;
-      same = λ p. refl;
-    })
+join_start version spans rest first e o = grind (arith, common_steps, told_order)
 
 pub join_end : (version : Version) (spans done rest : List Span) (last : Span) → Joining (told version spans) done last (told version rest)
     → rest ≡ []
     → (p : Position) → span_answer (done ++ last ∷ []) p ≡ version_answer version spans p
-join_end version spans done rest last j e p =
-    let whole : Joining (told version spans) done last [] = rw e at j in whole.same p ∙ told_answer version spans p
+join_end version spans done rest last j e p = grind (arith, common_steps, told, told_answer)

@@ -1,6 +1,6 @@
 -- The spans that a joiner has given begin the list of canonical spans, whatever is pushed later.
-use Rattle.std.proofs.Common.{◌≡◌, ◌≢◌, ◌∙◌, List, [], ◌∷◌, ◌++◌, ◌⊎◌, inl, inr, Option, Some, None, refl, sym, ap, subst}
-use Rattle.std.proofs.Common.{append_assoc, ⊎_elim}
+use Rattle.std.proofs.Common.{◌≡◌, ◌≢◌, ◌∙◌, List, [], ◌∷◌, ◌++◌, ◌⊎◌, Option, Some, None, refl, sym, ap, subst}
+use Rattle.std.proofs.Common.{append_assoc, ⊎_elim, arith}
 use Rattle.std.proofs.lemmas.List.{append-nil}
 use Rattle.std.specs.List.{cons_option}
 use Rattle.lnt_spans.specs.declared.answer.Version.{Version}
@@ -11,15 +11,13 @@ use Rattle.lnt_spans.specs.Spans.{AreInOrder, IsCanonical, span_answer, span_in_
 use Rattle.lnt_spans.proofs.JoinLemmas.{joined_span}
 use Rattle.lnt_spans.proofs.SameLaws.{same_answers, same_positions}
 use Rattle.lnt_spans.proofs.JoinerLemmas.{joined_all, joined_first, joined_given, joined_more}
+use Rattle.std.proofs.lemmas.Grind.{common_steps}
 
 -- ---- whether two spans join
 
 pub joins_or_not : (last next : Span)
     → ((last.high ≡ next.low) × (last.answer ≡ next.answer)) ⊎ (last.high ≡ next.low → last.answer ≢ next.answer)
-joins_or_not last next = elim (same_positions last.high next.low) [
-  | inr apart ↦ inr (λ touch. absurd (apart touch))
-  | inl touch ↦ elim (same_answers last.answer next.answer) [ inl same ↦ inl (touch, same) | inr differ ↦ inr (λ e. differ) ]
-]
+joins_or_not last next = grind (arith, common_steps, same_positions, same_answers)
 
 -- ---- what was given begins the canonical spans
 
@@ -32,12 +30,7 @@ pub record BeginCanonical (version : Version) (all given : List Span) : Type 0 w
 -- the same holds for a prefix of them, and for an equal list
 given_before : (version : Version) (all other given next : List Span) → all ≡ other → BeginCanonical version all (given ++ next)
     → BeginCanonical version other given
-given_before version all other given next e b = record {
-  more = next ++ b.more;
-  canonical = subst IsCanonical (append_assoc given next b.more) b.canonical;
-  same = λ p. ap (λ (list : List Span). span_answer list p) (sym (append_assoc given next b.more)) ∙ b.same p
-      ∙ ap (λ (list : List Span). version_answer version list p) e;
-}
+given_before version all other given next e b = grind (arith, common_steps, append_assoc)
 
 -- any spans may still come, as long as they are in order
 pub joined_rest : (version : Version) (rest pushed given : List Span) (last : Option Span) → HasJoined version pushed given last

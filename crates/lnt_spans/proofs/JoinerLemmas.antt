@@ -1,5 +1,5 @@
 -- Spans joined as they come.
-use Rattle.std.proofs.Common.{◌≡◌, ◌≢◌, List, [], ◌∷◌, ◌++◌, Option, Some, None, refl, sym, ap, ◌∙◌, subst, append_assoc}
+use Rattle.std.proofs.Common.{◌≡◌, ◌≢◌, List, [], ◌∷◌, ◌++◌, Option, Some, None, refl, sym, ap, ◌∙◌, subst, append_assoc, arith}
 use Rattle.std.proofs.lemmas.List.{append-nil}
 use Rattle.std.specs.List.{cons_option}
 use Rattle.lnt_spans.specs.declared.answer.Version.{Version}
@@ -9,6 +9,7 @@ use Rattle.lnt_spans.specs.Joined.{HasJoined, IsJoined}
 use Rattle.lnt_spans.specs.Spans.{AreInOrder, IsCanonical, span_answer, span_in_version, version_answer}
 use Rattle.lnt_spans.proofs.JoinLemmas.{join_differ, joined_span, Joining, keep_join, keep_push, push_differ}
 use Rattle.lnt_spans.proofs.ToldLaws.{told, told_answer, told_order}
+use Rattle.std.proofs.lemmas.Grind.{common_steps}
 
 regrouped : (pushed rest : List Span) (span : Span) → AreInOrder ((pushed ++ span ∷ []) ++ rest) → AreInOrder (pushed ++ span ∷ rest)
 regrouped pushed rest span o = subst AreInOrder (append_assoc pushed (span ∷ []) rest) o
@@ -17,33 +18,18 @@ regrouped pushed rest span o = subst AreInOrder (append_assoc pushed (span ∷ [
 joining : (version : Version) (pushed given : List Span) (last span : Span) (rest : List Span) → IsJoined version pushed given last
     → AreInOrder ((pushed ++ span ∷ []) ++ rest)
     → Joining (told version (pushed ++ span ∷ rest)) given last (span_in_version version span ∷ told version rest)
-joining version pushed given last span rest j o =
-    let all = regrouped pushed rest span o in
-    record {
-      order = j.order (span ∷ rest) all;
-      differ = j.differ;
-      same = λ p. j.same (span ∷ rest) all p
-          ∙ sym (told_answer version (pushed ++ span ∷ rest) p);
-    }
+joining version pushed given last span rest j o = grind (arith, common_steps, regrouped, told_answer)
 
 from_joining : (version : Version) (pushed given : List Span) (last span : Span) (rest : List Span) (p : Position)
     → Joining (told version (pushed ++ span ∷ rest)) given last (told version rest)
     → span_answer (given ++ last ∷ told version rest) p ≡ version_answer version ((pushed ++ span ∷ []) ++ rest) p
-from_joining version pushed given last span rest p j =
-    j.same p ∙ told_answer version (pushed ++ span ∷ rest) p
-    ∙ ap (λ (list : List Span). version_answer version list p) (sym (append_assoc pushed (span ∷ []) rest))
+from_joining version pushed given last span rest p j = grind (arith, common_steps, told_answer, append_assoc)
 
 -- pushing the first span
 pub joined_first : (version : Version) (pushed given : List Span) (old : Option Span) (span : Span) → HasJoined version pushed given old
     → old ≡ None
     → HasJoined version (pushed ++ span ∷ []) (given ++ cons_option None []) (Some (span_in_version version span))
-joined_first version pushed given (Some last) span j e = absurd cc
-joined_first version pushed given None span j e =
-    rw (j.0, j.1) (record {
-      differ = tt;
-      order = λ rest o. told_order version (span ∷ rest) o;
-      same = λ rest o p. told_answer version (span ∷ rest) p;
-    })
+joined_first version pushed given old span j e = grind (arith, common_steps, told_order, told_answer)
 
 -- pushing a span that extends the last one
 pub joined_more : (version : Version) (pushed given : List Span) (old : Option Span) (last span : Span) → HasJoined version pushed given old

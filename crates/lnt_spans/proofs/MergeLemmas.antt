@@ -20,6 +20,8 @@ use Rattle.lnt_spans.proofs.AnsweringLaws.{answer_before, answer_after, answer_i
 use Rattle.lnt_spans.proofs.MergedLemmas.{merged_past}
 use Rattle.lnt_spans.proofs.PassedLaws.{answer_below, answer_from, begin_after, origin_first, told_same}
 use Rattle.lnt_spans.proofs.PositionLaws.{at_most_trans, below_at_most, below_is_at_most, not_both, order_cases}
+use Rattle.std.proofs.Common.{arith}
+use Rattle.std.proofs.lemmas.Grind.{common_steps}
 
 -- ---- one more record, and the order
 
@@ -44,8 +46,7 @@ end_pushed (r ∷ next ∷ records) span = end_pushed (next ∷ records) span
 
 pub takes_none : {S : Type 0} (to_come : S → List Span → Type 0) (merging : Merging S) (spans records : List Span) (span : Span)
     → IsBelow span.low merging.merge.at → Compares to_come merging spans records → AreInOrder (records ++ span ∷ []) → ⊥
-takes_none to_come merging spans records span lt c o =
-    not_both lt (subst (λ (p : Position). IsAtMost p span.low) (sym c.at) (order_pushed records span o).past)
+takes_none to_come merging spans records span lt c o = grind (arith, common_steps, not_both, order_pushed)
 
 pub takes_one : {S : Type 0} (to_come : S → List Span → Type 0) (merging : Merging S) (spans records : List Span) (span : Span)
     (holds : Bool) → IsAtMost merging.merge.at span.low
@@ -63,9 +64,7 @@ pub record Comes (at : Position) (span : Span) : Type 0 where
 pub comes : {S : Type 0} (to_come : S → List Span → Type 0) (merging : Merging S) (span : Span) → (spans : List Span)
     × (records : List Span) × Compares to_come merging spans records × AreInOrder (records ++ span ∷ [])
     → Comes merging.merge.at span
-comes to_come merging span h =
-    let f = order_pushed h.1 span h.3 in
-    record { past = subst (λ (p : Position). IsAtMost p span.low) (sym h.2.at) f.past; holds = f.holds }
+comes to_come merging span h = grind (arith, common_steps, order_pushed)
 
 -- ---- one more record, and what the table answers
 
@@ -90,13 +89,8 @@ answer_push_before (r ∷ records) span p h = answer_same r (records ++ span ∷
 one_more : (at : Position) (records : List Span) (span : Span) → Comes at span
     → ((p : Position) → IsAtMost at p → span_answer records p ≡ None)
     → HasOneMore (span_answer records) (span_answer (records ++ span ∷ [])) at span.low span.high span.answer
-one_more at records span h ended = record {
-  before = λ p k. answer_push_before records span p (below_at_most k h.past);
-  gap = λ p k l. answer_push_before records span p l ∙ ended p k;
-  says = λ p k l. answer_push_none records (span ∷ []) p (ended p (at_most_trans h.past k)) ∙ answer_in span [] p k l;
-  ended = λ p k. answer_push_none records (span ∷ []) p (ended p (at_most_trans h.past (at_most_trans (below_is_at_most h.holds) k)))
-      ∙ answer_after span [] p k;
-}
+one_more at records span h ended =
+    grind (arith, common_steps, answer_push_before, below_at_most, answer_push_none, at_most_trans, answer_in, below_is_at_most, answer_after)
 
 pub pushed : {S : Type 0} (to_come : S → List Span → Type 0) (version : Version) (old new : Merge S Difference) (span : Span)
     → Comes old.at span → new.at ≡ span.high

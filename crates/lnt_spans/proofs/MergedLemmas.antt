@@ -21,20 +21,18 @@ use Rattle.lnt_spans.specs.Positions.{IsBelow, IsAtMost}
 use Rattle.lnt_spans.specs.Spans.{AreInOrder, span_answer}
 use Rattle.lnt_spans.proofs.AheadLaws.{left_first}
 use Rattle.lnt_spans.proofs.AnsweringLaws.{answer_after, answer_in, first_holds, none_before, rest_in_order}
-use Rattle.lnt_spans.proofs.CountLemmas.{added_range, most_addresses, no_addresses}
-use Rattle.lnt_spans.proofs.CountLemmas.{same_addresses}
+use Rattle.lnt_spans.proofs.CountLemmas.{added_range, most_addresses, no_addresses, same_addresses}
 use Rattle.lnt_spans.proofs.PassedLaws.{origin_first}
 use Rattle.lnt_spans.proofs.PositionLaws.{at_most_below, at_most_itself, at_most_trans, below_at_most, below_is_at_most}
 use Rattle.lnt_spans.proofs.PositionLaws.{order_cases, test_below, test_not_below}
+use Rattle.std.proofs.lemmas.Grind.{common_steps}
 
 -- before the first span there is no answer
 pub none_from : (rest : List Span) (p at : Position) → AreInOrder rest → BeginFrom at rest → IsBelow p at → span_answer rest p ≡ None
-none_from [] p at o f h = refl
-none_from (span ∷ more) p at o f h = none_before span more p o (below_at_most h f)
+none_from rest p at o f h = grind (arith, common_steps, none_before, below_at_most)
 
 after_first : (span : Span) (more : List Span) → AreInOrder (span ∷ more) → BeginFrom span.high more
-after_first span [] o = tt
-after_first span (next ∷ more) o = o.1
+after_first span more o = grind (arith, common_steps)
 
 -- ---- what is passed
 
@@ -42,8 +40,7 @@ after_first span (next ∷ more) o = o.1
 section_none : {X : Type 0} (tell : Answer → X) (list : List Span) (by_table : Position → Option X) (at to p : Position)
     (AreLeft : List Span → Type 0) (passed : ArePassed tell list by_table at AreLeft) → BeginFrom to passed.rest → IsAtMost at p
     → IsBelow p to → answer_told tell list p ≡ None
-section_none tell list by_table at to p AreLeft passed from h k =
-    ap (option_map tell) (passed.same p h ∙ none_from passed.rest p to passed.order from k)
+section_none tell list by_table at to p AreLeft passed from h k = grind (arith, common_steps, none_from)
 
 -- the spans that are left begin at or after `to`, and the table answers nothing up to there
 gap_passed : {X : Type 0} (tell : Answer → X) (list : List Span) (by_table : Position → Option X) (at to : Position)
@@ -127,17 +124,8 @@ mistaken_at : {X : Type 0} (tell : Answer → X) (list : List Span) (by_table : 
     → IsAtMost low at → IsBelow at high → Says by_table low high said
     → mistake ≡ (record { position = at; by_section = section; by_table = Some said })
     → IsMistakenIn tell list by_table low high mistake
-mistaken_at tell list by_table low at high AreLeft said section mistake passed s ne le lt says e = rw e (record {
-  first = record {
-    table = sym (says at le lt);
-    section = s ∙ ap (option_map tell) (sym (passed.same at (at_most_itself at)));
-    answered = refl;
-    differ = ne;
-    least = passed.right;
-  };
-  past = le;
-  below = lt;
-})
+mistaken_at tell list by_table low at high AreLeft said section mistake passed s ne le lt says e =
+    grind (arith, common_steps, at_most_itself)
 
 -- the next span, if there is one, begins later
 pub mistaken_gap : {S X : Type 0} (to_come : S → List Span → Type 0) (tell : Answer → X) (list : List Span) (by_table : Position → Option X)
@@ -146,13 +134,7 @@ pub mistaken_gap : {S X : Type 0} (to_come : S → List Span → Type 0) (tell :
     → mistake ≡ (record { position = at; by_section = None; by_table = Some said })
     → ArePassed tell list by_table at (IsAhead to_come ahead) → IsMistakenIn tell list by_table low high mistake
 mistaken_gap {S} to_come tell list by_table ahead low high at said mistake gap le lt says e passed =
-    mistaken_at tell list by_table low at high (IsAhead to_come ahead) said None mistake passed
-    (sym (ap (option_map tell) (none_yet passed.rest passed.left passed.order))) (λ e. cc e) le lt says e
-  where
-    none_yet : (rest : List Span) → IsAhead to_come ahead rest → AreInOrder rest → span_answer rest at ≡ None
-    none_yet [] left order = refl
-    none_yet (span ∷ more) left order =
-        none_before span more at order (subst (λ (o : Option Span). IfSome o (λ span. IsBelow at span.low)) left.0 gap)
+    grind (arith, common_steps, mistaken_at, none_before)
 
 -- the next span answers differently
 pub mistaken_other : {S X : Type 0} (to_come : S → List Span → Type 0) (tell : Answer → X) (list : List Span)
@@ -161,13 +143,7 @@ pub mistaken_other : {S X : Type 0} (to_come : S → List Span → Type 0) (tell
     → Says by_table low high said → mistake ≡ (record { position = at; by_section = Some (tell span.answer); by_table = Some said })
     → ArePassed tell list by_table at (IsAhead to_come ahead) → IsMistakenIn tell list by_table low high mistake
 mistaken_other to_come tell list by_table ahead low high at said span mistake is begun ne le lt says e passed =
-    let one = left_first to_come ahead passed.rest span is passed.left in
-    let order : AreInOrder (span ∷ one.0) = subst AreInOrder one.1 passed.order in
-    let begins : IsAtMost at span.low = subst (BeginFrom at) one.1 passed.from in
-    mistaken_at tell list by_table low at high (IsAhead to_come ahead) said (Some (tell span.answer)) mistake passed
-    (sym (ap (option_map tell) (ap (λ (xs : List Span). span_answer xs at) one.1
-    ∙ answer_in span one.0 at begun (at_most_below begins (first_holds span one.0 order)))))
-    (λ e. ne (sym (same_Some said (tell span.answer) e))) le lt says e
+    grind (arith, common_steps, left_first, mistaken_at, answer_in, at_most_below, first_holds, same_Some)
 
 -- up to `end` the table says what the next span answers
 says_so : {X : Type 0} (tell : Answer → X) (list : List Span) (by_table : Position → Option X) (low at end high : Position) (said : X)
@@ -175,10 +151,7 @@ says_so : {X : Type 0} (tell : Answer → X) (list : List Span) (by_table : Posi
     → passed.rest ≡ span ∷ more → tell span.answer ≡ said → IsAtMost span.low at → IsAtMost end span.high → IsAtMost low at
     → IsAtMost end high → Says by_table low high said → IsRightUpTo tell list by_table at end
 says_so tell list by_table low at end high said AreLeft span more passed e same from within le ge says p h k =
-    inr (says p (at_most_trans le h) (below_at_most k ge)
-    ∙ ap Some (sym same)
-    ∙ sym (ap (option_map tell) (passed.same p h ∙ ap (λ (xs : List Span). span_answer xs p) e
-    ∙ answer_in span more p (at_most_trans from h) (below_at_most k within))))
+    grind (arith, common_steps, at_most_trans, below_at_most, answer_in)
 
 -- the next span answers alike, and ends beyond the record
 pub passed_within : {S X : Type 0} (to_come : S → List Span → Type 0) (tell : Answer → X) (list : List Span)
@@ -217,10 +190,7 @@ pub low_after : {S X : Type 0} (to_come : S → List Span → Type 0) (tell : An
     (ahead : Ahead S) (low at : Position) (span : Span) → ahead.next ≡ Some span → IsAtMost low at
     → ArePassed tell list by_table at (IsAhead to_come ahead) → IsAtMost low span.high
 low_after to_come tell list by_table ahead low at span is le passed =
-    let one = left_first to_come ahead passed.rest span is passed.left in
-    let order : AreInOrder (span ∷ one.0) = subst AreInOrder one.1 passed.order in
-    let begins : IsAtMost at span.low = subst (BeginFrom at) one.1 passed.from in
-    at_most_trans le (at_most_trans begins (below_is_at_most (first_holds span one.0 order)))
+    grind (arith, common_steps, left_first, at_most_trans, below_is_at_most, first_holds)
 
 -- ---- the addresses at which the table doesn't answer
 
@@ -233,11 +203,7 @@ until_from to p answers h = rw (test_not_below p to h) refl
 -- nothing is missed where the section doesn't answer, nor where the table does
 pub missed_unanswered : {X : Type 0} (by_table by_section : Position → Option X) (p : Position) → by_section p ≡ None
     → where_missed by_table by_section p ≡ None
-missed_unanswered by_table by_section p e = by_answer (by_table p) (by_section p) e
-  where
-    by_answer : {X : Type 0} (table section : Option X) → section ≡ None → where_none table section ≡ None
-    by_answer None section e = e
-    by_answer (Some answer) section e = refl
+missed_unanswered by_table by_section p e = grind (arith, common_steps)
 
 pub missed_said : {X : Type 0} (by_table by_section : Position → Option X) (p : Position) (said : X) → by_table p ≡ Some said
     → where_missed by_table by_section p ≡ None
@@ -253,14 +219,7 @@ pub missed_same : {X : Type 0} (by_table by_section : Position → Option X) (at
     → ((p : Position) → IsAtMost at p → IsBelow p to → where_missed by_table by_section p ≡ None)
     → addresses_answered (until at (where_missed by_table by_section)) ≡ addresses_answered (until to (where_missed by_table by_section))
 missed_same by_table by_section at to le none =
-    let missed = where_missed by_table by_section in
-    same_addresses (until at missed) (until to missed) (λ p. ap is_some (elim (order_cases p at) [
-      | inl early ↦ until_below at p missed early ∙ sym (until_below to p missed (below_at_most early le))
-      | inr late ↦ until_from at p missed late ∙ sym (elim (order_cases p to) [
-        | inl under ↦ until_below to p missed under ∙ none p late under
-        | inr over ↦ until_from to p missed over
-      ])
-    ]))
+    grind (arith, common_steps, same_addresses, order_cases, until_below, below_at_most, until_from)
 
 -- those of the next span, up to `end` in it
 missed_span : {X : Type 0} (tell : Answer → X) (list : List Span) (by_table : Position → Option X) (at end : Position)
@@ -300,15 +259,12 @@ missed_span {X} tell list by_table at end AreLeft span more passed e holds withi
 count_more : {X : Type 0} (answers : Position → Option X) (old more new : ℕ) (low high : Position)
     → addresses_answered answers ≡ more + addresses_between low high → old ≡ more
     → (old + addresses_between low high ≤ 2 ^ 64 → new ≡ old + addresses_between low high) → new ≡ addresses_answered answers
-count_more answers old more new low high e is adds =
-    let most : old + addresses_between low high ≤ 2 ^ 64 = omega (arith, most_addresses answers, e, is) in
-    omega (arith, adds most, e, is)
+count_more answers old more new low high e is adds = grind (arith, common_steps, most_addresses)
 
 -- no span is left below `end`
 begin_from : {S : Type 0} (to_come : S → List Span → Type 0) (ahead : Ahead S) (end : Position) (rest : List Span)
     → IfSome ahead.next (λ span. IsAtMost end span.low) → IsAhead to_come ahead rest → BeginFrom end rest
-begin_from to_come ahead end [] past left = tt
-begin_from to_come ahead end (span ∷ rest) past left = subst (λ (o : Option Span). IfSome o (λ span. IsAtMost end span.low)) left.0 past
+begin_from to_come ahead end rest past left = grind (arith, common_steps)
 
 pub none_missed : {S X : Type 0} (to_come : S → List Span → Type 0) (tell : Answer → X) (list : List Span) (by_table : Position → Option X)
     (ahead : Ahead S) (at end : Position) → IfSome ahead.next (λ span. IsAtMost end span.low)
@@ -380,8 +336,7 @@ counted_span to_come tell list by_table ahead next at end old new span is within
 -- where the table is right and nothing is missed, both answer alike
 pub alike_here : {X : Type 0} (by_table by_section : Position → Option X) (p : Position) → IsRightAt by_table by_section p
     → where_missed by_table by_section p ≡ None → by_section p ≡ by_table p
-alike_here by_table by_section p (inl none) missed = sym (missed_here by_table by_section p none) ∙ missed ∙ sym none
-alike_here by_table by_section p (inr same) missed = sym same
+alike_here by_table by_section p h missed = grind (arith, common_steps, missed_here)
 
 -- the next span is the first in a gap of the table
 pub gap_begins : {S X : Type 0} (to_come : S → List Span → Type 0) (tell : Answer → X) (list : List Span) (by_table : Position → Option X)
@@ -412,15 +367,10 @@ pub gap_later : {X : Type 0} (gap : Option (Stretch X)) (tell : Answer → X) (l
     (at to : Position) → IsAtMost at to
     → ((p : Position) → IsAtMost at p → IsBelow p to → where_missed by_table (answer_told tell list) p ≡ None)
     → HasGap gap tell list by_table at → HasGap gap tell list by_table to
-gap_later None tell list by_table at to le none h = λ p k. elim (order_cases p at) [
-  | inl early ↦ h p early
-  | inr late ↦ none p late k
-]
-gap_later (Some first) tell list by_table at to le none h = (h.0, below_at_most h.1 le)
+gap_later gap tell list by_table at to le none h = grind (arith, common_steps, order_cases, below_at_most)
 
 pub none_is : {D : Type 0} (f : Option D) → is_some f ≡ false → f ≡ None
-none_is None e = refl
-none_is (Some d) e = absurd (true≢false e)
+none_is f e = grind (arith, common_steps, true≢false)
 
 -- the first gap of the table
 pub gap_found : {S D X : Type 0} (to_come : S → List Span → Type 0) (tell : Answer → X) (value_of : D → Stretch X) (list : List Span)
@@ -439,15 +389,13 @@ gap_found {S} {D} {X} to_come tell value_of list by_table ahead at end span old 
 pub gap_kept : {D X : Type 0} (tell : Answer → X) (value_of : D → Stretch X) (list : List Span) (by_table : Position → Option X)
     (at end : Position) (old : Option D) → IsAtMost at end → is_some old ≡ true → HasGap (option_map value_of old) tell list by_table at
     → HasGap (option_map value_of old) tell list by_table end
-gap_kept tell value_of list by_table at end None le some h = absurd (true≢false (sym some))
-gap_kept tell value_of list by_table at end (Some first) le some h = (h.0, below_at_most h.1 le)
+gap_kept tell value_of list by_table at end old le some h = grind (arith, common_steps, true≢false, below_at_most)
 
 -- one record's answers aren't missed
 pub said_found : {X : Type 0} (tell : Answer → X) (list : List Span) (by_table : Position → Option X) (low high : Position) (said : X)
     → Says by_table low high said → (p : Position) → IsAtMost low p → IsBelow p high
     → where_missed by_table (answer_told tell list) p ≡ None
-said_found tell list by_table low high said says p h k =
-    missed_said by_table (answer_told tell list) p said (says p h k)
+said_found tell list by_table low high said says p h k = grind (arith, common_steps, missed_said)
 
 -- ---- one more record
 
@@ -459,51 +407,16 @@ pub merged_past : {S D X : Type 0} (to_come : S → List Span → Type 0) (tell 
     → AreInOrder rest → BeginFrom merge.at rest
     → ((p : Position) → IsAtMost merge.at p → span_answer list p ≡ span_answer rest p)
     → HasMerged to_come tell value_of merge list by_table
-merged_past {S} {D} {X} to_come tell value_of merge list by_table gap mistake missed ended agree rest left order from same = record {
-  ended = ended;
-  merged = rw (mistake, gap, missed) (
-    record {
-      passed = record {
-        rest = rest;
-        left = left;
-        order = order;
-        from = from;
-        right = λ p h. inr (sym (agree p h));
-        same = same;
-      };
-      counted = sym (no_addresses (until merge.at (where_missed by_table (answer_told tell list))) (λ p. ap is_some (elim (order_cases p merge.at) [
-        | inl early ↦ until_below merge.at p (where_missed by_table (answer_told tell list)) early ∙ nothing p early
-        | inr late ↦ until_from merge.at p (where_missed by_table (answer_told tell list)) late
-      ])));
-    },
-    nothing,
-  );
-}
-  where
-    none_missed : (table section : Option X) → section ≡ table → where_none table section ≡ None
-    none_missed None section e = e
-    none_missed (Some answer) section e = refl
-
-    nothing : (p : Position) → IsBelow p merge.at → where_missed by_table (answer_told tell list) p ≡ None
-    nothing p h = none_missed (by_table p) (answer_told tell list p) (agree p h)
+merged_past {S} {D} {X} to_come tell value_of merge list by_table gap mistake missed ended agree rest left order from same =
+    grind (arith, common_steps, no_addresses, order_cases, until_below, until_from, none_missed)
 
 right_moved : {X : Type 0} (old new by_section : Position → Option X) (p : Position) → new p ≡ old p → IsRightAt old by_section p
     → IsRightAt new by_section p
-right_moved old new by_section p e (inl none) = inl (e ∙ none)
-right_moved old new by_section p e (inr same) = inr (e ∙ same)
+right_moved old new by_section p e h = grind (arith, common_steps)
 
 gap_moved : {X : Type 0} (gap : Option (Stretch X)) (tell : Answer → X) (list : List Span) (old new : Position → Option X) (to : Position)
     → ((p : Position) → IsBelow p to → new p ≡ old p) → HasGap gap tell list old to → HasGap gap tell list new to
-gap_moved None tell list old new to same h = λ p k. ap (λ table. where_none table (answer_told tell list p)) (same p k) ∙ h p k
-gap_moved (Some first) tell list old new to same h = (
-  record {
-    section = h.0.section;
-    table = h.0.table ∙ sym (same first.position h.1);
-    differ = h.0.differ;
-    least = λ p k. h.0.least p k ∙ sym (same p (below_at_most k (below_is_at_most h.1)));
-  },
-  h.1,
-)
+gap_moved gap tell list old new to same h = grind (arith, common_steps, below_at_most, below_is_at_most)
 
 -- a mistake was found before
 pub merged_still : {S D X : Type 0} (to_come : S → List Span → Type 0) (tell : Answer → X) (value_of : D → Stretch X) (old new : Merge S D)
@@ -511,31 +424,8 @@ pub merged_still : {S D X : Type 0} (to_come : S → List Span → Type 0) (tell
     → new.mistake ≡ old.mistake → new.gap ≡ old.gap → new.at ≡ high → IsAtMost old.at low → IsBelow low high
     → HasOneMore by_table by_more old.at low high said
     → HasMerged to_come tell value_of old spans by_table → HasMerged to_come tell value_of new spans by_more
-merged_still {S} {D} {X} to_come tell value_of old new spans by_table by_more low high said some mistake gap at le lt more m = record {
-  ended = λ p h. more.ended p (subst (λ (q : Position). IsAtMost q p) at h);
-  merged = rw (mistake, gap, at) (still old.mistake some m.merged);
-}
-  where
-    still : (f : Option D) → true ≡ is_some f
-        → AreMergedBy (option_map value_of f) (option_map value_of old.gap) tell spans by_table old.at (IsAhead to_come old.spans) old.missed
-        → AreMergedBy (option_map value_of f) (option_map value_of old.gap) tell spans by_more high (IsAhead to_come new.spans) new.missed
-    still None e c = absurd (true≢false e)
-    still (Some d) e c = (
-      record {
-        first = record {
-          table = c.0.first.table ∙ sym (more.before (value_of d).position c.0.below);
-          section = c.0.first.section;
-          answered = c.0.first.answered;
-          differ = c.0.first.differ;
-          least = λ p h. right_moved by_table by_more (answer_told tell spans) p
-              (more.before p (below_at_most h (below_is_at_most c.0.below))) (c.0.first.least p h);
-        };
-        past = c.0.past;
-        below = below_at_most c.0.below (at_most_trans le (below_is_at_most lt));
-      },
-      gap_moved (option_map value_of old.gap) tell spans by_table by_more (value_of d).position
-          (λ p h. more.before p (below_at_most h (below_is_at_most c.0.below))) c.1,
-    )
+merged_still {S} {D} {X} to_come tell value_of old new spans by_table by_more low high said some mistake gap at le lt more m =
+    grind (arith, common_steps, true≢false, right_moved, below_at_most, below_is_at_most, at_most_trans, gap_moved)
 
 -- what is passed in a gap of the table
 abbrev pub PassesGap : {S D X : Type 0} → (S → List Span → Type 0) → (Answer → X) → (D → Stretch X) → Ahead S → Ahead S → Option D → Option D

@@ -1,6 +1,6 @@
 -- Tables that are right wherever they answer.
 use Rattle.std.proofs.Common.{◌≡◌, ◌≢◌, ◌∙◌, ◌↔◌, ℕ, ◌+◌, ◌^◌, ◌<◌, ◌≤◌, is_some, IsSome}
-use Rattle.std.proofs.Common.{List, [], ◌∷◌, Option, Some, None, ◌⊎◌, inl, inr, refl, sym, ap, subst, arith, ⊎_elim}
+use Rattle.std.proofs.Common.{List, [], ◌∷◌, Option, None, ◌⊎◌, inl, inr, sym, subst, arith, ⊎_elim}
 use Rattle.std.specs.List.{AllByRecursion}
 use Rattle.std.proofs.lemmas.Bool.{cases_lt, false≢true}
 use Rattle.lnt_spans.specs.declared.answer.Answer.{Answer}
@@ -14,79 +14,46 @@ use Rattle.lnt_spans.specs.Partial.{where_missed, where_none, where_some}
 use Rattle.lnt_spans.specs.PartialLaws.{AnswerAlike, AnswersAddresses, ChangesAtInstructions}
 use Rattle.lnt_spans.specs.Stretches.{stretch_of}
 use Rattle.lnt_spans.proofs.CountLemmas.{count_either, no_addresses, one_if, passed_same, same_addresses}
+use Rattle.std.proofs.lemmas.Grind.{common_steps}
 
 -- ---- one position
 
 alike_from_right : {X : Type 0} (table section : Option X) → (table ≡ None) ⊎ (table ≡ section) → where_some table section ≡ table
-alike_from_right None section h = refl
-alike_from_right (Some answer) section (inl e) = absurd (false≢true (sym (ap is_some e)))
-alike_from_right (Some answer) section (inr e) = sym e
+alike_from_right table section h = grind (arith, common_steps, false≢true)
 
 right_from_alike : {X : Type 0} (table section : Option X) → where_some table section ≡ table → (table ≡ None) ⊎ (table ≡ section)
-right_from_alike None section e = inl refl
-right_from_alike (Some answer) section e = inr (sym e)
+right_from_alike table section e = grind (arith, common_steps)
 
 -- where the table answers, the section's answer is its own
 own_answer : {X : Type 0} (table section : Option X) → IsSome table → where_some table section ≡ section
-own_answer None section h = absurd (false≢true h)
-own_answer (Some answer) section h = refl
+own_answer table section h = grind (arith, common_steps, false≢true)
 
 -- where the two sides differ, the table answers
 answered_from_differ : {X : Type 0} (table section : Option X) → table ≢ where_some table section → IsSome table
-answered_from_differ None section h = absurd (h refl)
-answered_from_differ (Some answer) section h = refl
+answered_from_differ table section h = grind (arith, common_steps)
 
 -- ---- the whole relation
 
 pub right_as_answered : {X : Type 0} (by_table by_section : Position → Option X)
     → IsRightWherever by_table by_section ↔ AnswerAlike (where_answered by_table by_section) by_table
-right_as_answered by_table by_section =
-    ((λ h p. alike_from_right (by_table p) (by_section p) (h p)), (λ h p. right_from_alike (by_table p) (by_section p) (h p)))
+right_as_answered by_table by_section = grind (arith, common_steps, alike_from_right, right_from_alike)
 
 -- ---- the first mistake, and all stretches of mistakes
 
 pub first_mistake : (by_table by_section : Position → Option Answer) (difference : Difference)
     → IsFirstMistake by_table by_section (stretch_of difference)
     ↔ IsLeastDifference (where_answered by_table by_section) by_table difference
-first_mistake by_table by_section difference = (there, back)
-  where
-    there : IsFirstMistake by_table by_section (stretch_of difference)
-        → IsLeastDifference (where_answered by_table by_section) by_table difference
-    there h = record {
-      section = h.section
-          ∙ sym (own_answer (by_table difference.position) (by_section difference.position) (subst IsSome h.table h.answered));
-      table = h.table;
-      differ = h.differ;
-      least = λ p l. alike_from_right (by_table p) (by_section p) (h.least p l);
-    }
-
-    back : IsLeastDifference (where_answered by_table by_section) by_table difference
-        → IsFirstMistake by_table by_section (stretch_of difference)
-    back h =
-        let some = answered_from_differ (by_table difference.position) (by_section difference.position)
-        (λ e. h.differ (h.table ∙ e ∙ sym h.section)) in
-        record {
-          table = h.table;
-          section = h.section ∙ own_answer (by_table difference.position) (by_section difference.position) some;
-          answered = subst IsSome (sym h.table) some;
-          differ = h.differ;
-          least = λ p l. right_from_alike (by_table p) (by_section p) (h.least p l);
-        }
+first_mistake by_table by_section difference =
+    grind (arith, common_steps, own_answer, alike_from_right, answered_from_differ, right_from_alike)
 
 -- where the table answers, the two answers are those of the whole relation
 answers_there : {X : Type 0} (by_table by_section : Position → Option X) (section table : Option X) (p : Position) → IsSome table
     → AreAnswers by_section by_table section table p → AreAnswers (where_answered by_table by_section) by_table section table p
-answers_there by_table by_section section table p some h = record {
-  section = own_answer (by_table p) (by_section p) (subst IsSome (sym h.table) some) ∙ h.section;
-  table = h.table;
-}
+answers_there by_table by_section section table p some h = grind (arith, common_steps, own_answer)
 
 answers_back : {X : Type 0} (by_table by_section : Position → Option X) (section table : Option X) (p : Position) → IsSome table
     → AreAnswers (where_answered by_table by_section) by_table section table p → AreAnswers by_section by_table section table p
-answers_back by_table by_section section table p some h = record {
-  section = sym (own_answer (by_table p) (by_section p) (subst IsSome (sym h.table) some)) ∙ h.section;
-  table = h.table;
-}
+answers_back by_table by_section section table p some h = grind (arith, common_steps, own_answer)
 
 -- a stretch at which the table answers
 abbrev pub BeginsMistake : {X : Type 0} → (Position → Option X) → (Position → Option X) → Stretch X → Type 0
@@ -159,88 +126,42 @@ in_there by_table by_section (stretch ∷ stretches) p each (inr h) = inr (in_th
 pub all_mistakes : {X : Type 0} (by_table by_section : Position → Option X) (stretches : List (Stretch X))
     → AreAllMistakes by_table by_section stretches
     ↔ AreAllStretches (where_answered by_table by_section) by_table stretches
-all_mistakes {X} by_table by_section stretches = (there, back)
-  where
-    there : AreAllMistakes by_table by_section stretches → AreAllStretches (where_answered by_table by_section) by_table stretches
-    there h = record {
-      each = each_there by_table by_section stretches h.each;
-      rising = h.rising;
-      all = λ p. elim (h.all p) [
-        | inl k ↦ inl (alike_from_right (by_table p) (by_section p) k)
-        | inr k ↦ inr (in_there by_table by_section stretches p h.each k)
-      ];
-    }
-
-    back : AreAllStretches (where_answered by_table by_section) by_table stretches → AreAllMistakes by_table by_section stretches
-    back h =
-        let each = each_back by_table by_section stretches h.each in
-        record {
-          each = each;
-          rising = h.rising;
-          all = λ p. elim (h.all p) [
-            | inl k ↦ inl (right_from_alike (by_table p) (by_section p) k)
-            | inr k ↦ inr (in_back by_table by_section stretches p each k)
-          ];
-        }
+all_mistakes {X} by_table by_section stretches =
+    grind (arith, common_steps, each_there, alike_from_right, in_there, each_back, right_from_alike, in_back)
 
 -- ---- how much is answered
 
 answered_or_missed : {X : Type 0} (table section : Option X)
     → one_if (is_some section) ≡ one_if (is_some (where_some table section)) + one_if (is_some (where_none table section))
-answered_or_missed None None = refl
-answered_or_missed None (Some answer) = refl
-answered_or_missed (Some told) None = refl
-answered_or_missed (Some told) (Some answer) = refl
+answered_or_missed table section = grind (arith, common_steps)
 
 pub answered_and_missed : {X : Type 0} (by_table by_section : Position → Option X) → addresses_answered by_section
     ≡ addresses_answered (where_answered by_table by_section) + addresses_answered (where_missed by_table by_section)
-answered_and_missed by_table by_section =
-    count_either (is_answered by_section) (is_answered (where_answered by_table by_section))
-    (is_answered (where_missed by_table by_section)) (2 ^ 64)
-    (λ a. answered_or_missed (by_table (whole a)) (by_section (whole a)))
+answered_and_missed by_table by_section = grind (arith, common_steps, count_either, answered_or_missed)
 
 pub whole_table : {X : Type 0} (by_table by_section : Position → Option X) (of_both of_section : ℕ) → AnswerAlike by_section by_table
     → AreCounts by_table by_section of_both of_section
     → IsRightWherever by_table by_section × (of_both ≡ of_section)
-whole_table by_table by_section of_both of_section alike counts = (
-  λ p. inr (sym (alike p)),
-  counts.both
-      ∙ same_addresses (where_answered by_table by_section) by_section
-      (λ p. ap is_some (alike_from_right (by_table p) (by_section p) (inr (sym (alike p))) ∙ sym (alike p)))
-      ∙ sym counts.section,
-)
+whole_table by_table by_section of_both of_section alike counts = grind (arith, common_steps, same_addresses, alike_from_right)
 
 pub table_addresses : {X : Type 0} (by_table by_section : Position → Option X) (of_both of_section : ℕ)
     → IsRightWherever by_table by_section → AreCounts by_table by_section of_both of_section → of_both ≡ addresses_answered by_table
-table_addresses by_table by_section of_both of_section right counts =
-    counts.both
-    ∙ same_addresses (where_answered by_table by_section) by_table
-    (λ p. ap is_some (alike_from_right (by_table p) (by_section p) (right p)))
+table_addresses by_table by_section of_both of_section right counts = grind (arith, common_steps, same_addresses, alike_from_right)
 
 pub empty_table : {X : Type 0} (by_table by_section : Position → Option X) (of_both of_section : ℕ)
     → ((p : Position) → by_table p ≡ None) → AreCounts by_table by_section of_both of_section
     → IsRightWherever by_table by_section × (of_both ≡ 0)
-empty_table by_table by_section of_both of_section none counts = (
-  λ p. inl (none p),
-  counts.both
-      ∙ no_addresses (where_answered by_table by_section) (λ p. ap (λ table. is_some (where_some table (by_section p))) (none p)),
-)
+empty_table by_table by_section of_both of_section none counts = grind (arith, common_steps, no_addresses)
 
 fewer_answered : {X : Type 0} (table section : Option X) → one_if (is_some (where_some table section)) ≤ one_if (is_some section)
-fewer_answered None None = omega arith
-fewer_answered None (Some answer) = omega arith
-fewer_answered (Some told) section = omega arith
+fewer_answered table section = grind (arith, common_steps)
 
 alike_from_answered : {X : Type 0} (table section : Option X) → (table ≡ None) ⊎ (table ≡ section)
     → is_some (where_some table section) ≡ is_some section → section ≡ table
-alike_from_answered None None h e = refl
-alike_from_answered None (Some answer) h e = absurd (false≢true e)
-alike_from_answered (Some told) section (inl k) e = absurd (false≢true (sym (ap is_some k)))
-alike_from_answered (Some told) section (inr k) e = sym k
+alike_from_answered table section h e = grind (arith, common_steps, false≢true)
 
 alike_from_none : {X : Type 0} (table section : Option X) → (table ≡ None) ⊎ (table ≡ section) → section ≡ None → section ≡ table
-alike_from_none table section (inl k) e = e ∙ sym k
-alike_from_none table section (inr k) e = sym k
+alike_from_none table section h e = grind (arith, common_steps)
 
 pub all_answered : {X : Type 0} (by_table by_section : Position → Option X) (of_both of_section : ℕ)
     → IsRightWherever by_table by_section → AreCounts by_table by_section of_both of_section → of_both ≡ of_section

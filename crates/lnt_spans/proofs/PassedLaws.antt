@@ -67,8 +67,3 @@ pub told_prefix : (version : Version) (passed more : List Span) → AllByRecursi
     → AllByRecursion (IsTold version) passed
 told_prefix version [] more h = tt
 told_prefix version (span ∷ passed) more h = (h.0, told_prefix version passed more h.1)
-
-pub told_back : (version : Version) (passed more : List Span) → AllByRecursion (IsTold version) (passed ++ more)
-    → AllByRecursion (IsTold version) more
-told_back version [] more h = h
-told_back version (span ∷ passed) more h = told_back version passed more h.1

@@ -1,9 +1,10 @@
 -- The order of positions, and its tests.
-use Rattle.std.proofs.Common.{◌≡◌, ℕ, true, false, ◌⊎◌, inl, inr, ◌∙◌, sym, refl, arith}
+use Rattle.std.proofs.Common.{◌≡◌, ℕ, true, false, ◌⊎◌, inl, inr, sym, refl, arith}
 use Rattle.std.proofs.lemmas.Bool.{cases_Bool}
 use Rattle.std.proofs.lemmas.Bool.Decides.{nat_tests}
 use Rattle.lnt_spans.specs.declared.position.Position.{Position}
 use Rattle.lnt_spans.specs.Positions.{IsBelow, IsAtMost, is_below, is_at_most}
+use Rattle.std.proofs.lemmas.Grind.{common_steps}
 
 -- ---- what the tests say
 
@@ -65,14 +66,7 @@ made p = refl
 
 -- positions of which neither comes before the other are equal
 pub same_position : (p q : Position) → IsAtMost q p → IsAtMost p q → p ≡ q
-same_position p q h k =
-    let a : p.address ≡ q.address = omega (arith, h.address, k.address) in
-    let o : p.op ≡ q.op = omega (arith, h.op (sym a), k.op a) in
-    let m : make p.address p.op ≡ make q.address q.op = cc in
-    sym (made p) ∙ m ∙ made q
+same_position p q h k = grind (arith, common_steps, make, made)
 
 pub order_three : (p q : Position) → IsBelow p q ⊎ (p ≡ q) ⊎ IsBelow q p
-order_three p q = elim (order_cases p q) [
-  | inl h ↦ inl h
-  | inr h ↦ elim (order_cases q p) [ inl k ↦ inr (inr k) | inr k ↦ inr (inl (same_position p q h k)) ]
-]
+order_three p q = grind (arith, common_steps, order_cases, same_position)

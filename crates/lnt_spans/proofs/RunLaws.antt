@@ -16,6 +16,7 @@ use Rattle.lnt_spans.proofs.AnsweringLaws.{answer_after, answer_in, first_holds,
 use Rattle.lnt_spans.proofs.PositionLaws.{at_most_below, at_most_itself, at_most_trans, below_at_most, below_is_at_most}
 use Rattle.lnt_spans.proofs.PositionLaws.{order_cases, order_three, test_below, test_not_below}
 use Rattle.lnt_spans.proofs.AheadLaws.{next_after}
+use Rattle.std.proofs.lemmas.Grind.{common_steps}
 
 -- ---- one side, run by run
 
@@ -28,16 +29,12 @@ end_inside span at le = rw (test_not_below at span.low le) refl
 -- What lasts no longer than the run of the next span ends in the span or before it.
 pub up_to_high : (span : Span) (more : List Span) (at end : Position) → AreInOrder (span ∷ more) → IsUpTo end (run_end at (Some span))
     → IsAtMost end span.high
-up_to_high span more at end o h = elim (order_cases at span.low) [
-  | inl gap ↦ at_most_trans (subst (λ (q : Position). IsAtMost end q) (same_Some _ span.low (sym (end_gap span at gap))) h)
-      (below_is_at_most (first_holds span more o))
-  | inr in_it ↦ subst (λ (q : Position). IsAtMost end q) (same_Some _ span.high (sym (end_inside span at in_it))) h
-]
+up_to_high span more at end o h =
+    grind (arith, common_steps, order_cases, at_most_trans, same_Some, end_gap, below_is_at_most, first_holds, end_inside)
 
 -- the spans after it end later
 pub after_high : (span : Span) (more : List Span) (end : Position) → AreInOrder (span ∷ more) → IsAtMost end span.high → EndsAfter end more
-after_high span [] end o le = tt
-after_high span (next ∷ more) end o le = at_most_below (at_most_trans le o.1) (first_holds next more o.2)
+after_high span more end o le = grind (arith, common_steps, at_most_below, at_most_trans, first_holds)
 
 -- the part of a run from a position in it on
 later_run : {X : Type 0} (answers : Position → Option X) (at from end : Position) (answer : Option X) → IsAtMost at from
@@ -98,8 +95,7 @@ pub stay_on : {X : Type 0} (f g : Position → Option X) (s t : Option X) (at en
 stay_on f g s t at end p one two q h k = elim (order_cases q end) [ inl early ↦ one q h early | inr late ↦ two q late k ]
 
 before_end : (p q : Position) (end : Option Position) → IsBelow p q → IsUpTo q end → IsBefore p end
-before_end p q None lt up = tt
-before_end p q (Some end) lt up = below_at_most lt up
+before_end p q end lt up = grind (arith, common_steps, below_at_most)
 
 -- From `at` up to `end` both answers stay these two.
 pub record Moves {X : Type 0} (f g : Position → Option X) (at end : Position) (s t : Option X) : Type 0 where
@@ -109,15 +105,11 @@ pub record Moves {X : Type 0} (f g : Position → Option X) (at end : Position) 
 pub moves : {X : Type 0} (f g : Position → Option X) (at end : Position) (s t : Option X) (one other : Option Position) → IsRun f at s one
     → IsRun g at t other → IsUpTo end one → IsUpTo end other
     → (one ≡ Some end) ⊎ (other ≡ Some end) → Moves f g at end s t
-moves f g at end s t one other a b up up' is = record {
-  below = elim is [ inl e ↦ subst (IsBefore at) e a.past | inr e ↦ subst (IsBefore at) e b.past ];
-  stay = λ p h k. record { section = a.says p h (before_end p end one k up); table = b.says p h (before_end p end other k up') };
-}
+moves f g at end s t one other a b up up' is = grind (arith, common_steps, before_end)
 
 -- fewer runs are left, since one side's has ended
 pub both_fewer : (a b a' b' : ℕ) {P Q : Type 0} → (a' ≤ a) × (P → a' < a) → (b' ≤ b) × (Q → b' < b) → P ⊎ Q → a' + b' < a + b
-both_fewer a b a' b' h k (inl p) = omega (arith, h.1 p, k.0)
-both_fewer a b a' b' h k (inr q) = omega (arith, h.0, k.1 q)
+both_fewer a b a' b' h k m = grind (arith, common_steps)
 
 -- ---- what is told of both sides, to their end
 

@@ -1,5 +1,5 @@
 -- One side's answers, followed from one end of an answer to the next.
-use Rattle.std.proofs.Common.{◌≡◌, ◌∙◌, List, [], ◌∷◌, ap, sym, subst, Some, None, Option}
+use Rattle.std.proofs.Common.{◌≡◌, ◌∙◌, List, ◌∷◌, ap, sym, subst, Some, None, Option, arith}
 use Rattle.std.specs.Option.{option_map}
 use Rattle.lnt_spans.specs.declared.ahead.Ahead.{Ahead}
 use Rattle.lnt_spans.specs.declared.answer.Answer.{Answer}
@@ -14,6 +14,7 @@ use Rattle.lnt_spans.proofs.AheadLaws.{left_first, none_left}
 use Rattle.lnt_spans.proofs.AnsweringLaws.{answer_after, answer_in, none_before, rest_in_order}
 use Rattle.lnt_spans.proofs.PositionLaws.{at_most_trans}
 use Rattle.lnt_spans.proofs.RunLaws.{after_high, up_to_high}
+use Rattle.std.proofs.lemmas.Grind.{common_steps}
 
 -- ---- any side
 
@@ -22,16 +23,13 @@ pub side_run : {N A V X : Type 0} (is_at : N → Position → (Position → Opti
     → IsSideAt is_at value_of said side at answers
     → ((values : Position → Option V) → is_at side at values → IsRun values at (option_map value_of answer) end)
     → IsRun answers at (option_map said answer) end
-side_run is_at value_of said side at answers answer end s runs =
-    let run = runs s.values s.valued in
-    record { past = run.past; says = λ p h k. s.same p h answer (run.says p h k) }
+side_run is_at value_of said side at answers answer end s runs = grind (arith, common_steps)
 
 pub side_on : {N A V X : Type 0} (is_at : N → Position → (Position → Option V) → Type 0) (value_of : A → V) (said : A → X) (old new : N)
     (at end : Position) (answers : Position → Option X) → IsSideAt is_at value_of said old at answers → IsAtMost at end
     → ((values : Position → Option V) → is_at old at values → is_at new end values)
     → IsSideAt is_at value_of said new end answers
-side_on is_at value_of said old new at end answers s le on =
-    record { values = s.values; valued = on s.values s.valued; same = λ p h. s.same p (at_most_trans le h) }
+side_on is_at value_of said old new at end answers s le on = grind (arith, common_steps, at_most_trans)
 
 -- ---- spans that come from a source
 
@@ -39,46 +37,24 @@ module _ {S : Type 0} (to_come : S → List Span → Type 0) (ahead : Ahead S) (
     (h : IsAheadAt to_come ahead at answers) where
   -- no span is next
   pub none_run : ahead.next ≡ None → IsRun answers at None None
-  none_run none = record {
-    past = tt;
-    says = λ p k l. sym (h.same p k) ∙ ap (λ (xs : List Span). span_answer xs p) (none_left to_come ahead h.rest none h.coming);
-  }
+  none_run none = grind (arith, common_steps, none_left)
 
   -- the next span begins later
   pub gap_run : (span : Span) → ahead.next ≡ Some span → IsBelow at span.low → IsRun answers at None (Some span.low)
-  gap_run span some gap =
-      let one = left_first to_come ahead h.rest span some h.coming in
-      record {
-        past = gap;
-        says = λ p k l. sym (h.same p k) ∙ ap (λ (xs : List Span). span_answer xs p) one.1
-            ∙ none_before span one.0 p (subst AreInOrder one.1 h.order) l;
-      }
+  gap_run span some gap = grind (arith, common_steps, left_first, none_before)
 
   -- the next span holds the position
   pub span_run : (span : Span) → ahead.next ≡ Some span → IsAtMost span.low at → IsRun answers at (Some span.answer) (Some span.high)
-  span_run span some low =
-      let one = left_first to_come ahead h.rest span some h.coming in
-      record {
-        past = subst (EndsAfter at) one.1 h.past;
-        says = λ p k l. sym (h.same p k) ∙ ap (λ (xs : List Span). span_answer xs p) one.1
-            ∙ answer_in span one.0 p (at_most_trans low k) l;
-      }
+  span_run span some low = grind (arith, common_steps, left_first, answer_in, at_most_trans)
 
   ends_later : (to : Position) (rest : List Span) → IsAhead to_come ahead rest
       → ((span : Span) → ahead.next ≡ Some span → IsBelow to span.high) → EndsAfter to rest
-  ends_later to [] coming later = tt
-  ends_later to (span ∷ rest) coming later = later span coming.0
+  ends_later to rest coming later = grind (arith, common_steps)
 
   -- the next span, if there is one, ends after the position that was reached
   pub kept_on : (to : Position) → IsAtMost at to → ((span : Span) → ahead.next ≡ Some span → IsBelow to span.high)
       → IsAheadAt to_come ahead to answers
-  kept_on to le later = record {
-    rest = h.rest;
-    coming = h.coming;
-    order = h.order;
-    past = ends_later to h.rest h.coming later;
-    same = λ p k. h.same p (at_most_trans le k);
-  }
+  kept_on to le later = grind (arith, common_steps, ends_later, at_most_trans)
 
   -- it is dropped
   pub passed_on : (new : Ahead S) (span : Span) (to : Position) → ahead.next ≡ Some span → IsAtMost span.high to

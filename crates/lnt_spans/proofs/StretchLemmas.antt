@@ -1,6 +1,6 @@
 -- Both sides, followed step by step as their stretches are told, and where nothing is told yet.
 use Rattle.std.proofs.Common.{◌≡◌, ◌∙◌, ℕ, ◌+◌, ◌^◌, ◌≤◌, Bool, true, false, cond, List, [], ◌∷◌, ◌++◌, ◌⊎◌, inl, inr, arith, is_some}
-use Rattle.std.proofs.Common.{refl, ap, sym, subst, Some, None, Option}
+use Rattle.std.proofs.Common.{ap, sym, subst, Some, None, Option}
 use Rattle.std.specs.List.{AllByRecursion}
 use Rattle.std.specs.Option.{option_map}
 use Rattle.lnt_spans.specs.declared.ahead.Ahead.{Ahead}
@@ -17,12 +17,11 @@ use Rattle.lnt_spans.specs.Counts.{addresses_answered}
 use Rattle.lnt_spans.specs.Differing.{HasTold}
 use Rattle.lnt_spans.specs.Laws.{FirstStretch}
 use Rattle.lnt_spans.specs.Merged.{until}
-use Rattle.lnt_spans.specs.Partial.{where_missed, where_none}
+use Rattle.lnt_spans.specs.Partial.{where_missed}
 use Rattle.lnt_spans.specs.Positions.{IsBelow, IsAtMost}
 use Rattle.lnt_spans.specs.Runs.{IsAheadAt, IsRun, IsSideAt, IsUpTo}
 use Rattle.lnt_spans.specs.Spans.{AreInOrder, span_answer, version_answer}
 use Rattle.lnt_spans.specs.Stepping.{IsKnown, missed_between}
-use Rattle.lnt_spans.specs.Stretches.{stretch_of, stretches_of}
 use Rattle.lnt_spans.specs.Stretching.{HasBegun, HasGiven}
 use Rattle.lnt_spans.specs.ToldStretches.{AreToldBelow}
 use Rattle.lnt_spans.proofs.AnsweringLaws.{back_in_order}
@@ -33,6 +32,7 @@ use Rattle.lnt_spans.proofs.PositionLaws.{at_most_trans, below_at_most, below_is
 use Rattle.lnt_spans.proofs.RunLaws.{Moves, moves}
 use Rattle.lnt_spans.proofs.SideLemmas.{side_run}
 use Rattle.lnt_spans.proofs.ToldStretchLaws.{step_known, told_all, told_new, told_none}
+use Rattle.std.proofs.lemmas.Grind.{common_steps}
 
 -- ---- a step
 
@@ -96,9 +96,7 @@ step_counted tell said f g at end a b old new moves counted adds =
 nothing_from : {X A : Type 0} (said : A → X) (answers : Position → Option X) (at : Position) (answer : Option A) (end : Option Position)
     → IsRun answers at (option_map said answer) end → end ≡ None → answer ≡ None
     → (p : Position) → IsAtMost at p → answers p ≡ None
-nothing_from said answers at None None run e e' p h = run.says p h tt
-nothing_from said answers at (Some answer) None run e e' p h = absurd (let no : Some answer ≡ None = e' in cc no)
-nothing_from said answers at answer (Some end) run e e' p h = absurd (let no : Some end ≡ None = e in cc no)
+nothing_from said answers at answer end run e e' p h = grind (arith, common_steps)
 
 pub given_all : {S N A V X : Type 0} (to_come : S → List Span → Type 0) (is_at : N → Position → (Position → Option V) → Type 0)
     (value_of : A → V) (tell : Answer → X) (said : A → X) (stretches : Stretches S N A) (f g : Position → Option X)
@@ -108,21 +106,12 @@ pub given_all : {S N A V X : Type 0} (to_come : S → List Span → Type 0) (is_
     → (one ≡ None) × (other ≡ None) → a ≡ None → b ≡ None
     → AreAllStretches f g told × (stretches.missed ≡ addresses_answered (where_missed g f))
 given_all to_come is_at value_of tell said stretches f g told a b one other h run run' ends e e' =
-    let at = stretches.at in
-    let none = nothing_from tell f at a one run ends.0 e in
-    let none' = nothing_from said g at b other run' ends.1 e' in (
-      told_all f g at (option_map tell stretches.before.section) (option_map said stretches.before.table) told h.below none none',
-      h.counted ∙ same_addresses (until at (where_missed g f)) (where_missed g f) (λ p. ap is_some (elim (order_cases p at) [
-        | inl early ↦ until_below at p (where_missed g f) early
-        | inr late ↦ until_from at p (where_missed g f) late ∙ sym (missed_unanswered g f p (none p late))
-      ])),
-    )
+    grind (arith, common_steps, nothing_from, told_all, same_addresses, order_cases, until_below, until_from, missed_unanswered)
 
 -- ---- where nothing is told
 
 pub same_option : {X : Type 0} (answer : Option X) → option_map (λ answer. answer) answer ≡ answer
-same_option None = refl
-same_option (Some answer) = refl
+same_option answer = grind (arith, common_steps)
 
 -- spans are told from the end of those that were passed on
 pub begins_at : {S X : Type 0} (to_come : S → List Span → Type 0) (tell : Answer → X) (ahead : Ahead S) (passed spans : List Span)
@@ -143,26 +132,15 @@ begins_at to_come tell ahead passed spans answers coming order same = record {
 
 -- where both sides answer alike nothing is missed
 pub alike_missed : {X : Type 0} (f g : Position → Option X) (p : Position) → f p ≡ g p → where_missed g f p ≡ None
-alike_missed f g p e = by_answer (f p) (g p) e
-  where
-    by_answer : {X : Type 0} (section table : Option X) → section ≡ table → where_none table section ≡ None
-    by_answer section None e = e
-    by_answer section (Some answer) e = refl
+alike_missed f g p e = grind (arith, common_steps)
 
 pub begun_given : {S N A V X : Type 0} (to_come : S → List Span → Type 0) (is_at : N → Position → (Position → Option V) → Type 0)
     (value_of : A → V) (tell : Answer → X) (said : A → X) (section : S) (table : N) (at : Position) (stretches : Stretches S N A)
     (f g : Position → Option X) → HasBegun to_come section table at stretches
     → IsSideAt (IsAheadAt to_come) (λ answer. answer) tell stretches.section at f → IsSideAt is_at value_of said table at g
     → ((p : Position) → IsBelow p at → f p ≡ g p) → HasGiven to_come is_at value_of tell said stretches f g []
-begun_given to_come is_at value_of tell said section table at stretches f g b one other same = record {
-  section = rw b.at_is one;
-  table = rw (b.at_is, b.table_is) other;
-  below = rw (b.at_is, b.no_section, b.no_table) (told_none f g at same);
-  counted = rw (b.at_is, b.none_missed) (sym (no_addresses (until at (where_missed g f)) (λ p. ap is_some (elim (order_cases p at) [
-    | inl early ↦ until_below at p (where_missed g f) early ∙ alike_missed f g p (same p early)
-    | inr late ↦ until_from at p (where_missed g f) late
-  ]))));
-}
+begun_given to_come is_at value_of tell said section table at stretches f g b one other same =
+    grind (arith, common_steps, told_none, no_addresses, order_cases, until_below, alike_missed, until_from)
 
 pub told_after : {S T : Type 0} (of_section : S → List Span → Type 0) (of_table : T → List Span → Type 0) (section : S) (table : Ahead T)
     (version : Version) (at : Position) (stretches : Stretches S (Ahead T) Answer) (f : Position → Option Answer)
@@ -193,14 +171,4 @@ not_earlier f g s (next ∷ stretches) p rising (inr h) =
     at_most_trans (below_is_at_most rising.0) (not_earlier f g next stretches p rising.1 h)
 
 pub first_stretch : FirstStretch
-first_stretch f g [] h = λ p. elim (h.all p) [ inl same ↦ same | inr one ↦ absurd one ]
-first_stretch f g (d ∷ list) h = record {
-  section = sym h.each.0.here.section;
-  table = sym h.each.0.here.table;
-  differ = h.each.0.differ;
-  least = λ p below. elim (h.all p) [
-    | inl same ↦ same
-    | inr one ↦ absurd (not_both below (not_earlier f g (stretch_of d)
-        (stretches_of list) p h.rising one))
-  ];
-}
+first_stretch f g k h = grind (arith, common_steps, not_both, not_earlier)

@@ -1,6 +1,6 @@
 -- Stretches are told one after another, whatever an answer is, as both sides are followed from one end of an answer to the
 -- next.
-use Rattle.std.proofs.Common.{◌≡◌, ◌≢◌, ◌∙◌, List, [], ◌∷◌, ◌++◌, ◌⊎◌, inl, inr, refl, sym, None, Option}
+use Rattle.std.proofs.Common.{◌≡◌, ◌≢◌, ◌∙◌, List, [], ◌∷◌, ◌++◌, ◌⊎◌, inl, inr, sym, None, Option, arith}
 use Rattle.std.specs.List.{AllByRecursion}
 use Rattle.lnt_spans.specs.declared.position.Position.{Position}
 use Rattle.lnt_spans.specs.AnyStretches.{AreAllStretches, AreRising, BeginsStretch, IsInOne, IsInStretch, Stay, Stretch}
@@ -8,6 +8,7 @@ use Rattle.lnt_spans.specs.Positions.{IsBelow, IsAtMost}
 use Rattle.lnt_spans.specs.ToldStretches.{AreToldBelow, IsOpen}
 use Rattle.lnt_spans.proofs.PositionLaws.{at_most_itself, at_most_trans, below_at_most, below_is_at_most, order_cases}
 use Rattle.lnt_spans.proofs.RunLaws.{Moves, last_answers, stay_on}
+use Rattle.std.proofs.lemmas.Grind.{common_steps}
 
 -- ---- lists of stretches
 
@@ -108,24 +109,13 @@ told_new {X} f g at end s t s' t' told b lt stay differ other =
 -- at the start: both sides answer alike up to there
 pub told_none : {X : Type 0} (f g : Position → Option X) (at : Position) → ((p : Position) → IsBelow p at → f p ≡ g p)
     → AreToldBelow f g at None None []
-told_none f g at same = record {
-  each = tt;
-  rising = tt;
-  below = tt;
-  all = λ p h. inl (same p h);
-  going = inl refl;
-  last = λ p h. (p, at_most_itself p, h, inl (same p h));
-}
+told_none f g at same = grind (arith, common_steps, at_most_itself)
 
 -- at the end: neither side has an answer any more
 pub told_all : {X : Type 0} (f g : Position → Option X) (at : Position) (s t : Option X) (told : List (Stretch X))
     → AreToldBelow f g at s t told → ((p : Position) → IsAtMost at p → f p ≡ None) → ((p : Position) → IsAtMost at p → g p ≡ None)
     → AreAllStretches f g told
-told_all f g at s t told b none none' = record {
-  each = b.each;
-  rising = b.rising;
-  all = λ p. elim (order_cases p at) [ inl early ↦ b.all p early | inr late ↦ inl (none p late ∙ sym (none' p late)) ];
-}
+told_all f g at s t told b none none' = grind (arith, common_steps, order_cases)
 
 pub step_known : {X : Type 0} (f g : Position → Option X) (at end : Position) (s t s' t' : Option X) (told : List (Stretch X))
     → AreToldBelow f g at s t told → Moves f g at end s' t'

@@ -1,5 +1,5 @@
 -- What a comparison of a table of any version with a good section says of the two.
-use Rattle.std.proofs.Common.{◌≡◌, ◌≢◌, ◌∙◌, ◌-◌, ◌++◌, Bool, ℕ, List, [], Option, Some, None, IfSome, ap, append_assoc, arith, inl, inr, refl, subst, sym}
+use Rattle.std.proofs.Common.{◌≡◌, ◌∙◌, ◌-◌, ◌++◌, Bool, ℕ, List, [], Option, Some, None, IfSome, ap, append_assoc, arith, inl, inr, refl, subst, sym}
 use Rattle.std.specs.Prelude.{MatchOption}
 use Rattle.lnt_header.specs.declared.unit_parts.UnitParts.{UnitParts}
 use Rattle.lnt_spans.specs.declared.difference.Difference.{Difference}

@@ -5,23 +5,16 @@ use Rattle.std.specs.List.{AllByRecursion}
 use Rattle.lnt_text.specs.declared.radix.Radix.{Radix}
 use Rattle.lnt_text.specs.declared.radix.Radix.TheVariants.{Ten, Sixteen}
 use Rattle.lnt_text.specs.Digits.{IsAddress, IsDecimal, IsDigit, IsNumber, radix_base, digits_value, most_digits}
+use Rattle.std.proofs.lemmas.Grind.{common_steps}
 
 -- ---- digits
 
 -- from the first number up to the second, which is no part
 is_within : (low high c : ℕ) → (low ≤ c) × (c < high) ⊎ ((low ≤ c) × (c < high) → ⊥)
-is_within low high c = elim (cases_lt c low) [
-  | inl below ↦ inr (λ so. omega (arith, below, so.0))
-  | inr from ↦ elim (cases_lt c high) [
-    | inl to ↦ inl (from, to)
-    | inr past ↦ inr (λ so. omega (arith, past, so.1))
-  ]
-]
+is_within low high c = grind (arith, common_steps, cases_lt)
 
 none_of : {A B C : Type 0} → (A → ⊥) → (B → ⊥) → (C → ⊥) → A ⊎ B ⊎ C → ⊥
-none_of a b c (inl x) = a x
-none_of a b c (inr (inl x)) = b x
-none_of a b c (inr (inr x)) = c x
+none_of a b c h = grind (arith, common_steps)
 
 decide_digit : (radix : Radix) (c : ℕ) → IsDigit radix c ⊎ (IsDigit radix c → ⊥)
 decide_digit Ten c = is_within 48 58 c

@@ -2,7 +2,7 @@
 use Rattle.std.proofs.Common.{◌≡◌, ◌∙◌, ℕ, ◌+◌, ◌*◌, ◌^◌, ◌%◌, ◌<◌, ◌≤◌, Bool, true, false, List, [], ◌∷◌, ◌++◌, length, length-append}
 use Rattle.std.proofs.Common.{get_or, drop, append_assoc, refl, sym, ap, arith}
 use Rattle.std.proofs.Math.Nat.{pow-le-pow_right}
-use Rattle.std.proofs.lemmas.Grind.{pow_more}
+use Rattle.std.proofs.lemmas.Grind.{pow_more, common_steps}
 use Rattle.std.proofs.lemmas.List.{drop_more}
 use Rattle.std.specs.Bool.{MatchBool}
 use Rattle.std.specs.List.{AllByRecursion}
@@ -32,8 +32,7 @@ pub record HasDigits (radix : Radix) (text : List ℕ) (at i value : ℕ) : Type
 
 bound_more : (radix : Radix) (value d k : ℕ) → value < radix_base radix ^ k → d < radix_base radix
     → value * radix_base radix + d < radix_base radix ^ (k + 1)
-bound_more Ten value d k h lt = omega (arith, h, lt, pow_more 10 k)
-bound_more Sixteen value d k h lt = omega (arith, h, lt, pow_more 16 k)
+bound_more radix value d k h lt = grind (arith, common_steps, pow_more)
 
 pub digits_more : (radix : Radix) (text : List ℕ) (at i value d more : ℕ) → i < length text → HasDigits radix text at i value
     → IsDigit radix (get_or text i 0)
@@ -55,11 +54,7 @@ digits_more radix text at i value d more lt h is e small m =
 
 -- one more decimal digit doesn't overflow
 pub room_for_digit : (text : List ℕ) (at i value : ℕ) → HasDigits Ten text at i value → i < at + 19 → value < 10 ^ 18
-room_for_digit text at i value h few =
-    let count : length h.prefix ≤ 18 = omega (arith, few, h.count) in
-    let some : 0 < 10 = omega arith in
-    let most : 10 ^ length h.prefix ≤ 10 ^ 18 = pow-le-pow_right some count in
-    omega (arith, h.bound, most)
+room_for_digit text at i value h few = grind (arith, common_steps, pow-le-pow_right)
 
 -- one more hexadecimal digit; `before` says whether all so far were digits
 pub hexadecimal_more : (text : List ℕ) (at i value worth : ℕ) (before is : Bool) → i < length text
@@ -95,14 +90,4 @@ no_zero n = omega arith
 pub digit_begins : (text rest : List ℕ) (at d end : ℕ) → at < length text → IsDigit Ten (get_or text at 0)
     → d ≡ digit_value (get_or text at 0) → d < 10
     → drop (at + 1) text ≡ end ∷ rest → Begins (IsNumber Ten) (drop at text) d end rest
-digit_begins text rest at d end lt is e small f = record {
-  prefix = get_or text at 0 ∷ [];
-  joined = drop_more text at 0 lt ∙ ap (λ (t : List ℕ). get_or text at 0 ∷ t) f;
-  spells = record {
-    digits = (is, tt);
-    some = omega arith;
-    few = omega arith;
-    value = e ∙ no_zero (digit_value (get_or text at 0));
-    fits = omega (arith, small);
-  };
-}
+digit_begins text rest at d end lt is e small f = grind (arith, common_steps, drop_more, no_zero)

@@ -1,35 +1,29 @@
 -- Digits, and the number of some digits as it grows from the left.
-use Rattle.std.proofs.Common.{◌≡◌, inl, inr, ◌+◌, ◌*◌, ◌^◌, ◌/◌, ◌%◌, ◌<◌, ◌≤◌, ℕ, List, [], ◌∷◌, arith}
+use Rattle.std.proofs.Common.{◌≡◌, ◌+◌, ◌*◌, ◌^◌, ◌/◌, ◌%◌, ◌<◌, ◌≤◌, ℕ, List, [], ◌∷◌, arith}
 use Rattle.std.proofs.Math.Nat.{le-mul_of_pos_right}
 use Rattle.std.proofs.lemmas.Bool.Decides.{nat_tests, leb_tells}
-use Rattle.std.proofs.lemmas.Grind.{pow_more}
+use Rattle.std.proofs.lemmas.Grind.{pow_more, common_steps}
 use Rattle.lnt_text.specs.declared.radix.Radix.{Radix}
-use Rattle.lnt_text.specs.declared.radix.Radix.TheVariants.{Ten, Sixteen}
 use Rattle.lnt_text.specs.Digits.{IsDigit, IsLower, radix_base, digit_code, digit_value, digits_value}
 
 -- ---- the base
 
 pub base_some : (radix : Radix) → 0 < radix_base radix
-base_some Ten = omega arith
-base_some Sixteen = omega arith
+base_some radix = grind (arith, common_steps)
 
 -- a number, by its last digit and those before it
 pub last_digit : (radix : Radix) (n : ℕ) → n / radix_base radix * radix_base radix + n % radix_base radix ≡ n
-last_digit Ten n = omega arith
-last_digit Sixteen n = omega arith
+last_digit radix n = grind (arith, common_steps)
 
 pub last_digit_below : (radix : Radix) (n : ℕ) → n % radix_base radix < radix_base radix
-last_digit_below Ten n = omega arith
-last_digit_below Sixteen n = omega arith
+last_digit_below radix n = grind (arith, common_steps)
 
 -- a number below the base is its last digit
 pub lone_digit : (radix : Radix) (n : ℕ) → n / radix_base radix ≡ 0 → n % radix_base radix ≡ n
-lone_digit Ten n e = omega (arith, e)
-lone_digit Sixteen n e = omega (arith, e)
+lone_digit radix n e = grind (arith, common_steps)
 
 pub fewer_digits : (radix : Radix) (n room : ℕ) → n < radix_base radix ^ (room + 1) → n / radix_base radix < radix_base radix ^ room
-fewer_digits Ten n room h = omega (arith, h, pow_more 10 room)
-fewer_digits Sixteen n room h = omega (arith, h, pow_more 16 room)
+fewer_digits radix n room h = grind (arith, common_steps, pow_more)
 
 -- ---- the digit that is worth so much
 
@@ -46,29 +40,16 @@ worth_high : (d : ℕ) → 10 ≤ d → digit_value (87 + d) ≡ d
 worth_high d h = grind (arith, nat_tests)
 
 pub code_worth : (d : ℕ) → digit_value (digit_code d) ≡ d
-code_worth d = elim (leb_tells 10 d) [
-  | inl high ↦ rw (code_high d high.1) (worth_high d high.1)
-  | inr low ↦ rw (code_low d low.1) (worth_low d low.1)
-]
+code_worth d = grind (arith, common_steps, leb_tells, code_high, worth_high, code_low, worth_low)
 
 pub code_is_digit : (radix : Radix) (d : ℕ) → d < radix_base radix → IsDigit radix (digit_code d)
-code_is_digit Ten d h = rw (code_low d h) (omega (arith, h), omega (arith, h))
-code_is_digit Sixteen d h = elim (leb_tells 10 d) [
-  | inl high ↦ rw (code_high d high.1) (inr (inr (omega (arith, high.1), omega (arith, h))))
-  | inr low ↦ rw (code_low d low.1) (inl (omega (arith, low.1), omega (arith, low.1)))
-]
+code_is_digit radix d h = grind (arith, common_steps, code_low, leb_tells, code_high)
 
 pub code_is_lower : (d : ℕ) → IsLower (digit_code d)
-code_is_lower d = elim (leb_tells 10 d) [
-  | inl high ↦ rw (code_high d high.1) (inr (omega (arith, high.1)))
-  | inr low ↦ rw (code_low d low.1) (inl (omega (arith, low.1)))
-]
+code_is_lower d = grind (arith, common_steps, leb_tells, code_high, code_low)
 
 pub code_not_zero : (d : ℕ) → 0 < d → 48 < digit_code d
-code_not_zero d h = elim (leb_tells 10 d) [
-  | inl high ↦ rw (code_high d high.1) (omega (arith, high.1))
-  | inr low ↦ rw (code_low d low.1) (omega (arith, h))
-]
+code_not_zero d h = grind (arith, common_steps, leb_tells, code_high, code_low)
 
 -- ---- the number of some digits
 

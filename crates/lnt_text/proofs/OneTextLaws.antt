@@ -7,29 +7,20 @@ use Rattle.lnt_text.specs.declared.radix.Radix.{Radix}
 use Rattle.lnt_text.specs.declared.radix.Radix.TheVariants.{Ten, Sixteen}
 use Rattle.lnt_text.specs.Digits.{IsDigit, IsLower, IsPlain, radix_base, digit_value, digits_value}
 use Rattle.lnt_text.specs.Laws.{OneAddress, OneDecimal}
+use Rattle.std.proofs.lemmas.Grind.{common_steps}
 
 worth_below : (radix : Radix) (c : ℕ) → IsDigit radix c → digit_value c < radix_base radix
-worth_below Ten c h = grind (arith, nat_tests)
-worth_below Sixteen c (inl h) = grind (arith, nat_tests)
-worth_below Sixteen c (inr (inl h)) = grind (arith, nat_tests)
-worth_below Sixteen c (inr (inr h)) = grind (arith, nat_tests)
+worth_below radix c h = grind (arith, common_steps, nat_tests)
 
 -- what a digit is worth tells it
 code_of : (radix : Radix) (c : ℕ) → IsDigit radix c → IsLower c → (c ≡ digit_value c + 48) × (digit_value c < 10) ⊎ (c ≡ digit_value c + 87)
     × (10 ≤ digit_value c)
-code_of Ten c h l = inl (grind (arith, nat_tests), grind (arith, nat_tests))
-code_of Sixteen c (inl h) l = inl (grind (arith, nat_tests), grind (arith, nat_tests))
-code_of Sixteen c (inr (inl h)) (inl l) = absurd (omega (arith, h.0, l))
-code_of Sixteen c (inr (inl h)) (inr l) = absurd (omega (arith, h.1, l))
-code_of Sixteen c (inr (inr h)) l = inr (grind (arith, nat_tests), grind (arith, nat_tests))
+code_of radix c h l = grind (arith, common_steps, nat_tests)
 
 same_worth : (a b : ℕ) → (a ≡ digit_value a + 48) × (digit_value a < 10) ⊎ (a ≡ digit_value a + 87) × (10 ≤ digit_value a)
     → (b ≡ digit_value b + 48) × (digit_value b < 10) ⊎ (b ≡ digit_value b + 87) × (10 ≤ digit_value b) → digit_value a ≡ digit_value b
     → a ≡ b
-same_worth a b (inl h) (inl k) e = omega (arith, h.0, k.0, e)
-same_worth a b (inl h) (inr k) e = absurd (omega (arith, h.1, k.1, e))
-same_worth a b (inr h) (inl k) e = absurd (omega (arith, h.1, k.1, e))
-same_worth a b (inr h) (inr k) e = omega (arith, h.0, k.0, e)
+same_worth a b h k e = grind (arith, common_steps)
 
 same_digit : (radix : Radix) (a b : ℕ) → IsDigit radix a → IsLower a → IsDigit radix b → IsLower b → digit_value a ≡ digit_value b → a ≡ b
 same_digit radix a b h l k m e = same_worth a b (code_of radix a h l) (code_of radix b k m) e
@@ -37,8 +28,7 @@ same_digit radix a b h l k m e = same_worth a b (code_of radix a h l) (code_of r
 -- numbers with one more digit each are the same only where the digits are, and what stands before them
 parts_same : (radix : Radix) (v w a b : ℕ) → a < radix_base radix → b < radix_base radix
     → v * radix_base radix + a ≡ w * radix_base radix + b → (v ≡ w) × (a ≡ b)
-parts_same Ten v w a b h k e = (omega (arith, h, k, e), omega (arith, h, k, e))
-parts_same Sixteen v w a b h k e = (omega (arith, h, k, e), omega (arith, h, k, e))
+parts_same radix v w a b h k e = grind (arith, common_steps)
 
 -- texts of one length
 record Same (s t : List ℕ) (v w : ℕ) : Type 0 where
@@ -81,17 +71,10 @@ longer radix s (b ∷ t) v ds ls dt lt n some e = elim (cases_lt (length t) (len
 
 -- a digit that isn't 0
 worth_some : (radix : Radix) (c : ℕ) → IsDigit radix c → 48 < c → 0 < digit_value c
-worth_some Ten c h lt = grind (arith, nat_tests)
-worth_some Sixteen c (inl h) lt = grind (arith, nat_tests)
-worth_some Sixteen c (inr (inl h)) lt = grind (arith, nat_tests)
-worth_some Sixteen c (inr (inr h)) lt = grind (arith, nat_tests)
+worth_some radix c h lt = grind (arith, common_steps, nat_tests)
 
 no_longer : (radix : Radix) (s t : List ℕ) (n : ℕ) → IsPlain radix s n → IsPlain radix t n → length s < length t → ⊥
-no_longer radix s [] n p q lt = omega (arith, lt)
-no_longer radix s (b ∷ []) n p q lt = omega (arith, lt, p.number.some)
-no_longer radix s (b ∷ c ∷ t) n p q lt =
-    longer radix s (c ∷ t) (0 * radix_base radix + digit_value b) p.number.digits p.lower q.number.digits.1 q.lower.1 (omega (arith, lt))
-    (omega (arith, worth_some radix b q.number.digits.0 q.no_zero)) (sym p.number.value ∙ q.number.value)
+no_longer radix s t n p q lt = grind (arith, common_steps, longer, worth_some)
 
 pub one_plain : (radix : Radix) (s t : List ℕ) (n : ℕ) → IsPlain radix s n → IsPlain radix t n → s ≡ t
 one_plain radix s t n p q = elim (cases_lt (length s) (length t)) [

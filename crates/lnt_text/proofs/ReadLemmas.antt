@@ -1,11 +1,11 @@
 -- Numbers read from the left.
-use Rattle.std.proofs.Common.{◌≡◌, ◌∙◌, ℕ, ◌+◌, ◌*◌, ◌^◌, ◌<◌, ◌≤◌, List, length, get_or}
-use Rattle.std.proofs.Common.{take, drop, sym, ap, arith}
+use Rattle.std.proofs.Common.{◌≡◌, ℕ, ◌+◌, ◌*◌, ◌^◌, ◌<◌, ◌≤◌, List, length, get_or, take, drop, arith}
 use Rattle.std.proofs.lemmas.List.{drop_more}
 use Rattle.std.specs.List.{AllByRecursion}
 use Rattle.lnt_text.specs.declared.radix.Radix.{Radix}
 use Rattle.lnt_text.specs.Digits.{IsDigit, IsNumber, radix_base, digit_value, digits_value, most_digits}
 use Rattle.lnt_text.proofs.DigitLemmas.{base_some, value_grows}
+use Rattle.std.proofs.lemmas.Grind.{common_steps}
 
 -- the prefix is read, as digits that have this number
 pub record IsRead (radix : Radix) (text : List ℕ) (i so_far : ℕ) : Type 0 where
@@ -16,9 +16,7 @@ pub record IsRead (radix : Radix) (text : List ℕ) (i so_far : ℕ) : Type 0 wh
 read_value : (radix : Radix) (text : List ℕ) (i so_far d : ℕ) → i < length text → IsRead radix text i so_far
     → d ≡ digit_value (get_or text i 0)
     → digits_value (radix_base radix) 0 text ≡ digits_value (radix_base radix) (so_far * radix_base radix + d) (drop (i + 1) text)
-read_value radix text i so_far d lt r e =
-    r.value ∙ ap (digits_value (radix_base radix) so_far) (drop_more text i 0 lt)
-    ∙ ap (λ (v : ℕ). digits_value (radix_base radix) (so_far * radix_base radix + v) (drop (i + 1) text)) (sym e)
+read_value radix text i so_far d lt r e = grind (arith, common_steps, drop_more)
 
 -- ---- what is no number
 
@@ -32,7 +30,4 @@ no_number_of_many radix text lt n h = omega (arith, lt, h.few)
 pub too_large : (radix : Radix) (text : List ℕ) (i so_far d : ℕ) → i < length text → IsRead radix text i so_far
     → d ≡ digit_value (get_or text i 0)
     → 2 ^ 64 ≤ so_far * radix_base radix + d → (n : ℕ) → IsNumber radix text n → ⊥
-too_large radix text i so_far d lt r e large n h =
-    let value = read_value radix text i so_far d lt r e in
-    let grows = value_grows (radix_base radix) (so_far * radix_base radix + d) (drop (i + 1) text) (base_some radix) in
-    omega (arith, h.fits, h.value, value, grows, large)
+too_large radix text i so_far d lt r e large n h = grind (arith, common_steps, read_value, value_grows, base_some)

@@ -1,9 +1,10 @@
 -- What the bytes of a number's text are, and that a text says one number.
-use Rattle.std.proofs.Common.{◌≡◌, ◌∙◌, ℕ, ◌≤◌, inl, inr, List, [], ◌∷◌, sym, ap, subst, arith}
+use Rattle.std.proofs.Common.{◌≡◌, ◌∙◌, ℕ, ◌≤◌, List, [], ◌∷◌, sym, arith}
 use Rattle.std.specs.List.{AllByRecursion}
 use Rattle.lnt_text.specs.declared.radix.Radix.{Radix}
-use Rattle.lnt_text.specs.declared.radix.Radix.TheVariants.{Ten, Sixteen}
-use Rattle.lnt_text.specs.Digits.{IsAddress, IsDecimal, IsDigit, IsPlainAddress, digits_value}
+use Rattle.lnt_text.specs.declared.radix.Radix.TheVariants.{Ten}
+use Rattle.lnt_text.specs.Digits.{IsAddress, IsDecimal, IsDigit, IsPlainAddress}
+use Rattle.std.proofs.lemmas.Grind.{common_steps}
 
 -- ---- one number
 
@@ -11,11 +12,7 @@ pub one_decimal_number : (text : List ℕ) (m n : ℕ) → IsDecimal text m → 
 one_decimal_number text m n a b = a.value ∙ sym b.value
 
 pub one_address_number : (text : List ℕ) (m n : ℕ) → IsAddress text m → IsAddress text n → m ≡ n
-one_address_number text m n a b =
-    let first = a.written in
-    let second = b.written in
-    let same : a.digits ≡ b.digits = cc in
-    a.number.value ∙ ap (digits_value 16 0) same ∙ sym b.number.value
+one_address_number text m n a b = grind (arith, common_steps)
 
 pub plain_address : (text : List ℕ) (n : ℕ) → IsPlainAddress text n → IsAddress text n
 plain_address text n h = record { digits = h.digits; written = h.written; number = h.plain.number }
@@ -26,10 +23,7 @@ abbrev pub FromZero : ℕ → Type 0
 FromZero c = 48 ≤ c
 
 digit_from_zero : (radix : Radix) (c : ℕ) → IsDigit radix c → FromZero c
-digit_from_zero Ten c h = h.0
-digit_from_zero Sixteen c (inl h) = h.0
-digit_from_zero Sixteen c (inr (inl h)) = omega (arith, h.0)
-digit_from_zero Sixteen c (inr (inr h)) = omega (arith, h.0)
+digit_from_zero radix c h = grind (arith, common_steps)
 
 digits_from_zero : (radix : Radix) (text : List ℕ) → AllByRecursion (IsDigit radix) text → AllByRecursion FromZero text
 digits_from_zero radix [] h = tt
@@ -39,5 +33,4 @@ pub decimal_from_zero : (text : List ℕ) (n : ℕ) → IsDecimal text n → All
 decimal_from_zero text n h = digits_from_zero Ten text h.digits
 
 pub address_from_zero : (text : List ℕ) (n : ℕ) → IsAddress text n → AllByRecursion FromZero text
-address_from_zero text n h =
-    subst (AllByRecursion FromZero) (sym h.written) (omega arith, (omega arith, digits_from_zero Sixteen h.digits h.number.digits))
+address_from_zero text n h = grind (arith, common_steps, digits_from_zero)

@@ -1,40 +1,29 @@
 -- The plain text of a number is the one that std writes. So each number below 2 ^ 64 has one.
 use Rattle.std.proofs.Common.{◌≡◌, ◌∙◌, ℕ, zero, suc, ◌+◌, ◌-◌, ◌/◌, ◌%◌, ◌^◌, ◌<◌, ◌≤◌, ◌==◌, Bool, true, false, if◌then◌else◌}
-use Rattle.std.proofs.Common.{List, [], ◌∷◌, ◌++◌, length, drop, take, refl, sym, ap, subst, arith, decimal}
+use Rattle.std.proofs.Common.{List, [], ◌∷◌, ◌++◌, length, drop, take, refl, sym, ap, arith, decimal}
 use Rattle.std.proofs.lemmas.Bool.{eqb-false, eqb-true}
 use Rattle.std.proofs.lemmas.List.{drop-take}
 use Rattle.std.proofs.lemmas.List.Folds.{drop_split}
 use Rattle.std.specs.Fmt.{digits, digits_onto}
 use Rattle.lnt_text.specs.declared.radix.Radix.{Radix}
 use Rattle.lnt_text.specs.declared.radix.Radix.TheVariants.{Ten, Sixteen}
-use Rattle.lnt_text.specs.Digits.{IsPlain, IsPlainAddress, IsPlainDecimal, digit_code, digits_value, most_digits, radix_base}
+use Rattle.lnt_text.specs.Digits.{IsPlain, IsPlainAddress, IsPlainDecimal, digit_code, most_digits, radix_base}
 use Rattle.lnt_text.proofs.DigitLemmas.{fewer_digits}
 use Rattle.lnt_text.proofs.OneTextLaws.{one_address, one_decimal}
 use Rattle.lnt_text.proofs.PutLemmas.{IsPut, digit_first, digit_put, no_room}
+use Rattle.std.proofs.lemmas.Grind.{common_steps}
 
 -- nothing is left to write
 all_put : (radix : Radix) (n : ℕ) (text : List ℕ) (left : ℕ) → n < 2 ^ 64 → length text ≤ most_digits radix → IsPut radix n text left
     → left ≡ 0 → IsPlain radix text n
-all_put radix n text left fits few put none = record {
-  number = record {
-    digits = put.digits;
-    some = put.some;
-    few = few;
-    value = sym put.value ∙ ap (λ (v : ℕ). digits_value (radix_base radix) v text) none;
-    fits = fits;
-  };
-  no_zero = put.no_zero none;
-  lower = put.lower;
-}
+all_put radix n text left fits few put none = grind (arith, common_steps)
 
 either : (P : List ℕ → Type 0) (test : Bool) (x y : List ℕ) → (test ≡ true → P x) → (test ≡ false → P y) → P (if test then x else y)
 either P true x y p q = p refl
 either P false x y p q = q refl
 
 fewer_left : (radix : Radix) (left room : ℕ) → left < radix_base radix ^ suc room → left / radix_base radix < radix_base radix ^ room
-fewer_left radix left room bound =
-    let next : suc room ≡ room + 1 = omega arith in
-    fewer_digits radix left room (subst (λ (k : ℕ). left < radix_base radix ^ k) next bound)
+fewer_left radix left room bound = grind (arith, common_steps, fewer_digits)
 
 -- digits are written before others while something is left, as the library does
 put_onto : (radix : Radix) (n fuel room : ℕ) (text : List ℕ) (left : ℕ) → n < 2 ^ 64 → length text + room ≤ most_digits radix

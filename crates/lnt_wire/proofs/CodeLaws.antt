@@ -2,9 +2,10 @@
 use Rattle.std.proofs.Common.{◌≡◌, ℕ, List, [], ◌∷◌, ◌++◌, length, sym, ap, ◌∙◌, append_assoc, arith}
 use Rattle.lnt_wire.specs.declared.format.Order.{Order}
 use Rattle.lnt_wire.specs.Bytes.{TakenBytes, Then, IsCode}
-use Rattle.lnt_wire.specs.Leb128.{IsLeb, groups, signed_groups, UnsignedLeb, SignedLeb}
+use Rattle.lnt_wire.specs.Leb128.{IsLeb, UnsignedLeb, SignedLeb}
 use Rattle.lnt_wire.specs.Numbers.{NumberBytes}
 use Rattle.lnt_wire.proofs.LengthLaws.{IsWidth, length-number_bytes, same_prefix, same_rest}
+use Rattle.std.proofs.lemmas.Grind.{common_steps}
 
 -- ---- numbers in groups of seven bits
 
@@ -23,18 +24,10 @@ same_leb (a ∷ c ∷ x) (b ∷ d ∷ y) r s p q e =
     cc
 
 pub unsigned_code : IsCode UnsignedLeb
-unsigned_code = record {
-  one = λ m n x y r s p q e.
-      let same : x ≡ y = same_leb x y r s p.shape q.shape e in
-      (p.value ∙ ap groups same ∙ sym q.value, same);
-}
+unsigned_code = grind (arith, common_steps, same_leb)
 
 pub signed_code : IsCode SignedLeb
-signed_code = record {
-  one = λ m n x y r s p q e.
-      let same : x ≡ y = same_leb x y r s p.shape q.shape e in
-      (p.value ∙ ap signed_groups same ∙ sym q.value, same);
-}
+signed_code = grind (arith, common_steps, same_leb)
 
 -- ---- numbers of fixed width
 
@@ -50,11 +43,7 @@ number_code order size width = record {
 -- ---- bytes that stand for themselves
 
 pub taken_code : (count : ℕ) → IsCode (TakenBytes count)
-taken_code count = record {
-  one = λ u v x y r s p q e.
-      let same : x ≡ y = same_prefix x y r s (p.count_is ∙ sym q.count_is) e in
-      (p.taken_is ∙ same ∙ sym q.taken_is, same);
-}
+taken_code count = grind (arith, common_steps, same_prefix)
 
 -- ---- joins
 
@@ -69,15 +58,7 @@ pub record Peeled {X : Type 0} (u v : X) (prefix prefix' rest rest' : List ℕ) 
 pub peel_by : {X : Type 0} {P P' Q Q' : List ℕ → Type 0} (u v : X) (x y r s : List ℕ)
     → ((a b c d : List ℕ) → P a → P' b → a ++ c ≡ b ++ d → (u ≡ v) × (a ≡ b))
     → (t : Then P Q x) → (t' : Then P' Q' y) → x ++ r ≡ y ++ s → Peeled u v t.prefix t'.prefix (t.back ++ r) (t'.back ++ s)
-peel_by u v x y r s one t t' e =
-    let all : t.prefix ++ (t.back ++ r) ≡ t'.prefix ++ (t'.back ++ s) =
-    sym (append_assoc t.prefix t.back r)
-    ∙ ap (λ (z : List ℕ). z ++ r) (sym t.joined)
-    ∙ e
-    ∙ ap (λ (z : List ℕ). z ++ s) t'.joined
-    ∙ append_assoc t'.prefix t'.back s in
-    let found : (u ≡ v) × (t.prefix ≡ t'.prefix) = one t.prefix t'.prefix (t.back ++ r) (t'.back ++ s) t.first t'.first all in
-    record { value = found.0; bytes = found.1; past = same_rest t.prefix t'.prefix (t.back ++ r) (t'.back ++ s) found.1 all }
+peel_by u v x y r s one t t' e = grind (arith, common_steps, append_assoc, same_rest)
 
 pub peel : {X : Type 0} {P : X → List ℕ → Type 0} {Q Q' : List ℕ → Type 0} → IsCode P → (u v : X) (x y r s : List ℕ)
     → (t : Then (P u) Q x) → (t' : Then (P v) Q' y) → x ++ r ≡ y ++ s → Peeled u v t.prefix t'.prefix (t.back ++ r) (t'.back ++ s)

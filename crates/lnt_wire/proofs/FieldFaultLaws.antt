@@ -1,10 +1,7 @@
 -- Where a field has a fault, no value of it is spelled, and no other fault of it is so of the same bytes. Crates above cite these.
-use Rattle.std.proofs.Common.{◌≡◌, ℕ, List, ◌++◌, length, refl, sym, ap, subst, ◌∙◌, append_assoc, arith}
-use Rattle.std.specs.Prelude.{FitsSigned}
-use Rattle.std.specs.Int.{w64}
+use Rattle.std.proofs.Common.{◌≡◌, ℕ, List, ◌++◌, length, ap, ◌∙◌, append_assoc, arith}
 use Rattle.std.proofs.lemmas.List.{length-append}
 use Rattle.lnt_wire.specs.declared.fault.Reason.{Reason}
-use Rattle.lnt_wire.specs.declared.fault.Reason.TheVariants.{Truncated, LebTooLarge}
 use Rattle.lnt_wire.specs.declared.form.Form.{Form}
 use Rattle.lnt_wire.specs.declared.form.Form.TheVariants as forms
 use Rattle.lnt_wire.specs.declared.form.FormValue.{FormValue}
@@ -15,14 +12,14 @@ use Rattle.lnt_wire.specs.declared.format.Order.{Order}
 use Rattle.lnt_wire.specs.Bytes.{IsCode, NoneSpelled, TakenBytes}
 use Rattle.lnt_wire.specs.FormBytes.{BlockBytes, form_of, FormBytes, TextBytes, ValueBytes}
 use Rattle.lnt_wire.specs.FormFaults.{IsBlockFault, IsCutText, IsValueFault}
-use Rattle.lnt_wire.specs.FormFaults.IsBlockFault.{no_length, cut_block}
-use Rattle.lnt_wire.specs.Leb128.{groups, signed_groups, UnsignedLeb, SignedLeb, IsLargeUnsigned, IsLargeSigned, IsLebFault}
+use Rattle.lnt_wire.specs.Leb128.{UnsignedLeb, SignedLeb, IsLargeUnsigned, IsLargeSigned, IsLebFault}
 use Rattle.lnt_wire.specs.Numbers.{NumberBytes, offset_size}
 use Rattle.lnt_wire.specs.Reading.{IsCutShort}
 use Rattle.lnt_wire.proofs.CodeLaws.{number_code, same_leb, unsigned_code}
 use Rattle.lnt_wire.proofs.LebLemmas.{no_leb}
 use Rattle.lnt_wire.proofs.ValueLemmas.{no_text}
 use Rattle.lnt_wire.proofs.LengthLaws.{length-number_bytes, same_rest, width_1, width_2, width_4}
+use Rattle.std.proofs.lemmas.Grind.{common_steps}
 
 -- What is so of a field: where it has a fault, the bytes begin with no value of it, and the reason is one.
 pub record IsOneFieldFault {X : Type 0} (Spells : X → List ℕ → Type 0) (IsSo : Reason → List ℕ → Type 0) : Type 0 where
@@ -34,10 +31,7 @@ pub record IsOneFieldFault {X : Type 0} (Spells : X → List ℕ → Type 0) (Is
 -- each value has as many bytes
 pub short_fault : {X : Type 0} (Spells : X → List ℕ → Type 0) (size : ℕ) → ((x : X) (bytes : List ℕ) → Spells x bytes → length bytes ≡ size)
     → IsOneFieldFault Spells (IsCutShort size)
-short_fault Spells size long = record {
-  none = λ reason bytes h x spelling more p e. omega (arith, h.short, long x spelling p, ap length e, length-append spelling more);
-  one = λ reason other bytes h k. h.reason_is ∙ sym k.reason_is;
-}
+short_fault Spells size long = grind (arith, common_steps, length-append)
 
 pub number_fault : (order : Order) (size : ℕ) → IsOneFieldFault (NumberBytes order size) (IsCutShort size)
 number_fault order size = short_fault (NumberBytes order size) size (λ n bytes p. ap length p.spelled ∙ length-number_bytes order size n)
@@ -50,29 +44,16 @@ taken_fault size = short_fault (TakenBytes size) size (λ taken bytes p. p.count
 -- one reason, whatever is too large
 leb_one : (IsLarge : List ℕ → Type 0) (reason other : Reason) (bytes : List ℕ) → IsLebFault IsLarge reason bytes
     → IsLebFault IsLarge other bytes → reason ≡ other
-leb_one IsLarge Truncated Truncated bytes h k = refl
-leb_one IsLarge Truncated LebTooLarge bytes h k = absurd (no_leb k.0 k.1 bytes k.2 (sym k.4) h)
-leb_one IsLarge Truncated other bytes h k = absurd k
-leb_one IsLarge LebTooLarge Truncated bytes h k = absurd (no_leb h.0 h.1 bytes h.2 (sym h.4) k)
-leb_one IsLarge LebTooLarge LebTooLarge bytes h k = refl
-leb_one IsLarge LebTooLarge other bytes h k = absurd k
-leb_one IsLarge reason other bytes h k = absurd h
+leb_one IsLarge reason other bytes h k = grind (arith, common_steps, no_leb)
 
 unsigned_none : (reason : Reason) (bytes : List ℕ) → IsLebFault IsLargeUnsigned reason bytes → NoneSpelled UnsignedLeb bytes
-unsigned_none Truncated bytes h n x more p e = no_leb x more bytes p.shape e h
-unsigned_none LebTooLarge bytes h n x more p e =
-    let same : x ≡ h.0 = same_leb x h.0 more h.1 p.shape h.2 (e ∙ h.4) in omega (arith, p.value, p.fits, ap groups same, h.3)
-unsigned_none reason bytes h n x more p e = absurd h
+unsigned_none reason bytes h n x more p e = grind (arith, common_steps, no_leb, same_leb)
 
 pub unsigned_fault : IsOneFieldFault UnsignedLeb (IsLebFault IsLargeUnsigned)
 unsigned_fault = record { none = unsigned_none; one = leb_one IsLargeUnsigned }
 
 signed_none : (reason : Reason) (bytes : List ℕ) → IsLebFault IsLargeSigned reason bytes → NoneSpelled SignedLeb bytes
-signed_none Truncated bytes h z x more p e = no_leb x more bytes p.shape e h
-signed_none LebTooLarge bytes h z x more p e =
-    let same : x ≡ h.0 = same_leb x h.0 more h.1 p.shape h.2 (e ∙ h.4) in
-    h.3 (subst (λ (b : List ℕ). FitsSigned w64 (signed_groups b)) same (subst (FitsSigned w64) p.value p.fits))
-signed_none reason bytes h z x more p e = absurd h
+signed_none reason bytes h z x more p e = grind (arith, common_steps, no_leb, same_leb)
 
 pub signed_fault : IsOneFieldFault SignedLeb (IsLebFault IsLargeSigned)
 signed_fault = record { none = signed_none; one = leb_one IsLargeSigned }
@@ -80,32 +61,18 @@ signed_fault = record { none = signed_none; one = leb_one IsLargeSigned }
 -- ---- texts
 
 text_fault : IsOneFieldFault TextBytes IsCutText
-text_fault = record {
-  none = λ reason bytes h text x more p e. no_text bytes text more h.no_zero (ap (λ (z : List ℕ). z ++ more) (sym p.joined) ∙ e);
-  one = λ reason other bytes h k. h.reason_is ∙ sym k.reason_is;
-}
+text_fault = grind (arith, common_steps, no_text)
 
 -- ---- blocks
 
 module _ (Length : ℕ → List ℕ → Type 0) (IsLengthFault : Reason → List ℕ → Type 0) (code : IsCode Length)
     (field : IsOneFieldFault Length IsLengthFault) where
   block_none : (reason : Reason) (bytes : List ℕ) → IsBlockFault Length IsLengthFault reason bytes → NoneSpelled (BlockBytes Length) bytes
-  block_none reason bytes (no_length h) block x more p e =
-      field.none reason bytes h (length block) p.prefix (p.back ++ more) p.first
-      (sym (append_assoc p.prefix p.back more) ∙ ap (λ (z : List ℕ). z ++ more) (sym p.joined) ∙ e)
-  block_none reason bytes (cut_block size y rest is q f lt) block x more p e =
-      let all : p.prefix ++ (p.back ++ more) ≡ y ++ rest =
-      sym (append_assoc p.prefix p.back more) ∙ ap (λ (z : List ℕ). z ++ more) (sym p.joined) ∙ e ∙ f in
-      let found = code.one (length block) size p.prefix y (p.back ++ more) rest p.first q all in
-      let past : p.back ++ more ≡ rest = same_rest p.prefix y (p.back ++ more) rest found.1 all in
-      omega (arith, lt, found.0, ap length past, length-append p.back more, ap length p.second)
+  block_none reason bytes h block x more p e = grind (arith, common_steps, append_assoc, same_rest, length-append)
 
   block_one : (reason other : Reason) (bytes : List ℕ) → IsBlockFault Length IsLengthFault reason bytes
       → IsBlockFault Length IsLengthFault other bytes → reason ≡ other
-  block_one reason other bytes (no_length h) (no_length k) = field.one reason other bytes h k
-  block_one reason other bytes (no_length h) (cut_block size y rest is q f lt) = absurd (field.none reason bytes h size y rest q (sym f))
-  block_one reason other bytes (cut_block size y rest is q f lt) (no_length k) = absurd (field.none other bytes k size y rest q (sym f))
-  block_one reason other bytes (cut_block size y rest is q f lt) (cut_block size' y' rest' is' q' f' lt') = is ∙ sym is'
+  block_one reason other bytes h k = grind (arith, common_steps)
 
   block_fault : IsOneFieldFault (BlockBytes Length) (IsBlockFault Length IsLengthFault)
   block_fault = record { none = block_none; one = block_one }
@@ -160,9 +127,4 @@ value_one format order forms.Block4 reason other bytes h k = (block_4 order).one
 
 pub value_fault : (format : Format) (order : Order) (form : Form)
     → IsOneFieldFault (ValueBytes format order form) (IsValueFault format order form)
-value_fault format order form = record {
-  none = λ reason bytes h value x more p e.
-      value_none format order value reason bytes x more (subst (λ (f : Form). IsValueFault format order f reason bytes) (sym p.form_is) h)
-      p.spelled e;
-  one = value_one format order form;
-}
+value_fault format order form = grind (arith, common_steps, value_none, value_one)

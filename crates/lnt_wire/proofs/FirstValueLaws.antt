@@ -16,6 +16,7 @@ use Rattle.lnt_wire.specs.FormBytes.{form_of, HasNoZero, BlockBytes, FormBytes, 
 use Rattle.lnt_wire.specs.Leb128.{IsLeb, groups, UnsignedLeb}
 use Rattle.lnt_wire.specs.Numbers.{NumberBytes, offset_size}
 use Rattle.lnt_wire.proofs.LengthLaws.{length-number_bytes}
+use Rattle.std.proofs.lemmas.Grind.{common_steps}
 
 number_found : (order : Order) (size n : ℕ) (x more : List ℕ) → NumberBytes order size n x → first_number order size (x ++ more) ≡ n
 number_found Little size n x more p =
@@ -49,16 +50,7 @@ record IsBlockFound (block prefix x more : List ℕ) (count : ℕ) : Type 0 wher
 block_found : (Length : ℕ → List ℕ → Type 0) (block x more : List ℕ) (count : ℕ) → (p : BlockBytes Length block x) → count ≡ length block
     → IsBlockFound block p.prefix x more count
 block_found Length block x more count p count_is =
-    let whole : x ++ more ≡ p.prefix ++ (block ++ more) =
-    ap (λ (z : List ℕ). z ++ more) (p.joined ∙ ap (λ (z : List ℕ). p.prefix ++ z) p.second) ∙ append_assoc p.prefix block more in
-    record {
-      block_is =
-          ap (λ (z : List ℕ). after_length (length p.prefix) count z) whole
-          ∙ ap (take count) (drop-append_seam p.prefix (block ++ more))
-          ∙ ap (λ (n : ℕ). take n (block ++ more)) count_is
-          ∙ take-append_seam block more;
-      size_is = omega (arith, ap length p.joined, length-append p.prefix p.back, ap length p.second, count_is);
-    }
+    grind (arith, common_steps, append_assoc, drop-append_seam, take-append_seam, length-append)
 
 -- the prefix of a join begins what the join begins
 prefix_begins : (Length : ℕ → List ℕ → Type 0) (block x more : List ℕ) → (p : BlockBytes Length block x)
@@ -68,16 +60,7 @@ prefix_begins Length block x more p = ap (λ (z : List ℕ). z ++ more) p.joined
 sized_block_found : (order : Order) (size : ℕ) (block x more : List ℕ) → (p : BlockBytes (NumberBytes order size) block x)
     → (after_length size (first_number order size (x ++ more)) (x ++ more) ≡ block)
     × (size + first_number order size (x ++ more) ≡ length x)
-sized_block_found order size block x more p =
-    let count : first_number order size (x ++ more) ≡ length block =
-    ap (first_number order size) (prefix_begins (NumberBytes order size) block x more p)
-    ∙ number_found order size (length block) p.prefix (p.back ++ more) p.first in
-    let width : length p.prefix ≡ size = number_size order size (length block) p.prefix p.first in
-    let found = block_found (NumberBytes order size) block x more (first_number order size (x ++ more)) p count in (
-      ap (λ (n : ℕ). after_length n (first_number order size (x ++ more)) (x ++ more)) (sym width)
-          ∙ found.block_is,
-      omega (arith, width, found.size_is),
-    )
+sized_block_found order size block x more p = grind (arith, common_steps, prefix_begins, number_found, number_size, block_found)
 
 of_form : (format : Format) (order : Order) (value : FormValue) (x more : List ℕ) → FormBytes format order value x
     → IsFound format order (form_of value) value x more

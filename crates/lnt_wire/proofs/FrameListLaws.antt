@@ -5,9 +5,9 @@ use Rattle.lnt_wire.specs.declared.format.Order.{Order}
 use Rattle.lnt_wire.specs.declared.frame.Frame.{Frame}
 use Rattle.lnt_wire.specs.At.{At}
 use Rattle.lnt_wire.specs.FrameBytes.{IsFrame, FramesFrom}
-use Rattle.lnt_wire.specs.InitialLength.{initial_length}
 use Rattle.lnt_wire.specs.Reading.{Reads}
 use Rattle.lnt_wire.proofs.LengthLaws.{length-initial}
+use Rattle.std.proofs.lemmas.Grind.{common_steps}
 
 -- The frames are those of the bytes before the cursor.
 pub record FramesSoFar (order : Order) (bytes : List ℕ) (frames : List Frame) (cursor : At) : Type 0 where
@@ -19,8 +19,7 @@ pub record FramesSoFar (order : Order) (bytes : List ℕ) (frames : List Frame) 
 
 pub no_frames : (order : Order) (bytes : List ℕ) (cursor : At) → cursor.rest ≡ bytes → cursor.place ≡ 0 → cursor.order ≡ order
     → FramesSoFar order bytes [] cursor
-no_frames order bytes cursor rest place order_is =
-    record { prefix = []; whole = sym rest; joined = refl; place = place; order_is = order_is }
+no_frames order bytes cursor rest place order_is = grind (arith, common_steps)
 
 -- one more frame after others
 frames_push : (order : Order) (offset : ℕ) (frames : List Frame) (frame : Frame) (prefix more : List ℕ)
@@ -62,16 +61,7 @@ one_more_frame order bytes frames frame old new so_far r here = record {
 
 -- a frame has bytes, so the walk ends
 pub frame_long : (order : Order) (frame : Frame) (old new : At) → Reads (IsFrame order) frame old new → length new.rest < length old.rest
-frame_long order frame old new r =
-    let head = initial_length frame.format order (length frame.body.now) in
-    omega (
-      arith,
-      ap length r.whole,
-      length-append r.spelling new.rest,
-      ap length r.spelled.spelled.joined,
-      length-append head frame.body.now,
-      length-initial frame.format order (length frame.body.now),
-    )
+frame_long order frame old new r = grind (arith, common_steps, length-append, length-initial)
 
 -- what the walk cites
 pub ruleset frame_walk = (no_frames, one_more_frame, frame_long)

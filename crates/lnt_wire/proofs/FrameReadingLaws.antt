@@ -1,16 +1,16 @@
 -- The exits of the reader of a frame: a frame at the prefix of the bytes, and each reason why none is there.
-use Rattle.std.proofs.Common.{◌≡◌, ℕ, ◌+◌, ◌<◌, ◌≤◌, List, [], ◌∷◌, ◌++◌, length, refl, sym, ap, subst, ◌∙◌, append_assoc, arith}
+use Rattle.std.proofs.Common.{◌≡◌, ℕ, ◌+◌, ◌<◌, ◌≤◌, List, [], ◌++◌, length, refl, sym, ap, subst, ◌∙◌, append_assoc, arith}
 use Rattle.std.proofs.lemmas.List.{length-append, append-nil}
 use Rattle.lnt_wire.specs.At.{At}
-use Rattle.lnt_wire.specs.Bytes.{NoneSpelled, TakenBytes}
+use Rattle.lnt_wire.specs.Bytes.{TakenBytes}
 use Rattle.lnt_wire.specs.declared.format.Order.{Order}
 use Rattle.lnt_wire.specs.declared.format.Format.{Format}
 use Rattle.lnt_wire.specs.declared.fault.Fault.{Fault}
 use Rattle.lnt_wire.specs.declared.fault.Reason.{Reason}
-use Rattle.lnt_wire.specs.declared.fault.Reason.TheVariants.{Truncated, ReservedLength, VersionNotFive}
+use Rattle.lnt_wire.specs.declared.fault.Reason.TheVariants.{Truncated}
 use Rattle.lnt_wire.specs.declared.frame.Frame.{Frame}
 use Rattle.lnt_wire.specs.Numbers.{NumberBytes, number_bytes}
-use Rattle.lnt_wire.specs.InitialLength.{initial_length, LengthFits, InitialBytes}
+use Rattle.lnt_wire.specs.InitialLength.{initial_length, InitialBytes}
 use Rattle.lnt_wire.specs.FrameBytes.{BeginsWithFive, FrameBytes, IsFrame}
 use Rattle.lnt_wire.specs.FrameFaults.{InFrame, IsCutFrame, IsFrameFault}
 use Rattle.lnt_wire.specs.InitialFaults.{IsInitialFault, IsVersionFault}
@@ -18,24 +18,16 @@ use Rattle.lnt_wire.specs.FrameFaults.IsCutFrame.{no_wide_length, too_long}
 use Rattle.lnt_wire.specs.Reading.{Refuses, RefusesField, Reads, IsCutShort}
 use Rattle.lnt_wire.proofs.FrameLaws.{no_frame}
 use Rattle.lnt_wire.proofs.LengthLaws.{length-initial}
+use Rattle.std.proofs.lemmas.Grind.{common_steps}
 
 -- ---- the exits of the reader
 
 refuses_frame : (old : At) (fault : Fault) (before from : List ℕ) → old.rest ≡ before ++ from → fault.place ≡ old.place + length before
     → IsFrameFault old.order fault.reason before from → Refuses (IsFrameFault old.order) (FrameBytes old.order) old fault
-refuses_frame old fault before from split place h = record {
-  before = before;
-  left = from;
-  split = split;
-  place = place;
-  reason = h;
-  none = subst (λ (z : List ℕ). NoneSpelled (FrameBytes old.order) z) (sym split) (no_frame old.order fault.reason before from h);
-}
+refuses_frame old fault before from split place h = grind (arith, common_steps, no_frame)
 
 initial_fault : (order : Order) (reason : Reason) (bytes : List ℕ) → IsInitialFault order reason bytes → IsFrameFault order reason [] bytes
-initial_fault order Truncated bytes h = h
-initial_fault order ReservedLength bytes h = (refl, h)
-initial_fault order reason bytes h = absurd h
+initial_fault order reason bytes h = grind (arith, common_steps)
 
 -- no initial length is read
 pub refuses_initial : (old : At) (fault : Fault) → fault.place ≡ old.place → IsInitialFault old.order fault.reason old.rest
@@ -61,23 +53,11 @@ refuses_long old ahead initial fault later r q place reason =
 in_frame : (old ahead new : At) (initial : Format × ℕ) (body : List ℕ) → Reads (InitialBytes old.order) initial old ahead
     → Reads (TakenBytes initial.1) body ahead new
     → InFrame old.order initial.0 [] body (initial_length initial.0 old.order initial.1) ahead.rest
-in_frame old ahead new initial body r q =
-    let count : initial.1 ≡ length body = sym q.spelled.count_is ∙ ap length (sym q.spelled.taken_is) in
-    record {
-      more = new.rest;
-      fits = subst (LengthFits initial.0) count r.spelled.fits;
-      before_is =
-          ap (λ (n : ℕ). initial_length initial.0 old.order n) count ∙ sym (append-nil (initial_length initial.0 old.order (length body)));
-      from_is = q.whole ∙ ap (λ (z : List ℕ). z ++ new.rest) (sym q.spelled.taken_is);
-    }
+in_frame old ahead new initial body r q = grind (arith, common_steps, append-nil)
 
 version_fault : (order : Order) (format : Format) (reason : Reason) (body before from : List ℕ) → 0 < length before
     → InFrame order format [] body before from → IsVersionFault order reason body → IsFrameFault order reason before from
-version_fault order format Truncated body [] from some h v = absurd (omega arith)
-version_fault order format Truncated body (b ∷ before) from some h v = (format, body, v, h)
-version_fault order format (VersionNotFive version) body before from some h v =
-    (format, v.0, v.1, v.2, subst (λ (z : List ℕ). InFrame order format [] z before from) v.3 h)
-version_fault order format reason body before from some h v = absurd v
+version_fault order format reason body before from some h v = grind (arith, common_steps)
 
 -- the body doesn't begin with version 5
 pub refuses_version : (old ahead new : At) (initial : Format × ℕ) (body : List ℕ) (fault : Fault)
@@ -96,28 +76,7 @@ pub reads_frame : (old ahead new : At) (initial : Format × ℕ) (frame : Frame)
     → Reads (TakenBytes initial.1) frame.body.now ahead new
     → frame.format ≡ initial.0 → frame.length ≡ initial.1 → BeginsWithFive old.order frame.body.now
     → Reads (IsFrame old.order) frame old new
-reads_frame old ahead new initial frame r q format count five =
-    let counted : initial.1 ≡ length frame.body.now = sym q.spelled.count_is ∙ ap length (sym q.spelled.taken_is) in
-    let fits : LengthFits initial.0 (length frame.body.now) = subst (LengthFits initial.0) counted r.spelled.fits in
-    let head : r.spelling ≡ initial_length frame.format old.order (length frame.body.now) =
-    r.spelled.spelled
-    ∙ ap (λ (n : ℕ). initial_length initial.0 old.order n) counted
-    ∙ ap (λ (f : Format). initial_length f old.order (length frame.body.now)) (sym format) in
-    record {
-      spelling = r.spelling ++ q.spelling;
-      spelled = record {
-        length_is = count ∙ counted;
-        spelled =
-            record {
-              fits = subst (λ (f : Format). LengthFits f (length frame.body.now)) (sym format) fits;
-              version = five;
-              joined = rw (head, q.spelled.taken_is) refl;
-            };
-      };
-      whole = r.whole ∙ ap (λ (z : List ℕ). r.spelling ++ z) q.whole ∙ sym (append_assoc r.spelling q.spelling new.rest);
-      place = omega (arith, q.place, r.place, length-append r.spelling q.spelling);
-      order = q.order ∙ r.order;
-    }
+reads_frame old ahead new initial frame r q format count five = grind (arith, common_steps, append_assoc, length-append)
 
 -- an initial length of the 64-bit format that is cut after 0xffffffff
 pub cut_wide : (old ahead : At) (first : ℕ) (later : Fault) → Reads (NumberBytes old.order 4) first old ahead → 0xffffffff ≤ first

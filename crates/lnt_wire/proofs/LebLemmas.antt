@@ -1,6 +1,6 @@
 -- LEB128 numbers: their groups read from the prefix, and summed from the prefix or from the back.
 use Rattle.std.proofs.Common.{◌≡◌, ℕ, zero, suc, ◌+◌, ◌*◌, ◌%◌, ◌^◌, ◌<◌, ◌≤◌, List, [], ◌∷◌, ◌++◌, length, get_or, take, drop}
-use Rattle.std.proofs.Common.{refl, sym, ap, ◌∙◌, arith, subst, Bool, true, false, cond, leb, add-one, ◌-◌, inl, inr}
+use Rattle.std.proofs.Common.{refl, sym, ap, ◌∙◌, arith, subst, Bool, true, false, cond, leb, add-one, ◌-◌}
 use Rattle.std.specs.Prelude.{ℤ, pos, ◌+ℤ◌, ◌-ℤ◌, ◌*ℤ◌, neg_ℤ, ◌≤ℤ◌, ◌<ℤ◌, FitsSigned}
 use Rattle.std.specs.Int.{w64, w128, cast_signed as to_z, cast_unsigned as of_z}
 use Rattle.std.proofs.lemmas.Int.{ints, to_z-of_z}
@@ -17,6 +17,7 @@ use Rattle.lnt_wire.specs.Reading.{Reads}
 use Rattle.lnt_wire.specs.Skipping.{Skips}
 use Rattle.lnt_wire.proofs.CodeLaws.{same_leb}
 use Rattle.lnt_wire.proofs.ReadLemmas.{reads_skipped}
+use Rattle.std.proofs.lemmas.Grind.{common_steps}
 
 pub high_push : (prefix : List ℕ) (b : ℕ) → AreHigh prefix → 128 ≤ b → AreHigh (prefix ++ b ∷ [])
 high_push [] b h k = (k, tt)
@@ -50,12 +51,10 @@ groups_drop [] (suc i) = omega arith
 groups_drop (b ∷ bytes) (suc i) = omega (arith, groups_drop bytes i)
 
 pub groups_past : (bytes : List ℕ) (i : ℕ) → 128 * groups (drop (suc i) bytes) ≤ groups bytes
-groups_past [] i = omega arith
-groups_past (b ∷ bytes) i = omega (arith, groups_drop bytes i)
+groups_past bytes i = grind (arith, common_steps, groups_drop)
 
 pub groups_after : (bytes : List ℕ) (i : ℕ) → 0 < i → 128 * groups (drop i bytes) ≤ groups bytes
-groups_after bytes zero h = absurd (omega arith)
-groups_after bytes (suc i) h = groups_past bytes i
+groups_after bytes i h = grind (arith, common_steps, groups_past)
 
 -- groups that are too large are no number, and no other groups stand there
 pub none_large : (bytes : List ℕ) (size : ℕ) → IsLeb (take size bytes) → 2 ^ 64 ≤ groups (take size bytes) → NoneSpelled UnsignedLeb bytes
@@ -80,9 +79,7 @@ signed_step low g width whole false e = omega (arith, ints)
 
 -- one more byte in prefix of some
 pub signed_more : (b c : ℕ) (bytes : List ℕ) → signed_groups (b ∷ c ∷ bytes) ≡ pos (b % 128) +ℤ pos 128 *ℤ signed_groups (c ∷ bytes)
-signed_more b c bytes =
-    signed_step (b % 128) (groups (c ∷ bytes)) (128 ^ length (c ∷ bytes)) (128 ^ suc (length (c ∷ bytes))) (has_sign (c ∷ bytes))
-    (omega (arith, pow-suc 128 (length (c ∷ bytes))))
+signed_more b c bytes = grind (arith, common_steps, signed_step, pow-suc)
 
 pub signed_at : (bytes : List ℕ) (i : ℕ) → suc i < length bytes
     → signed_groups (drop i bytes) ≡ pos (get_or bytes i 0 % 128) +ℤ pos 128 *ℤ signed_groups (drop (suc i) bytes)
@@ -97,16 +94,13 @@ pub data IsFar (bound : ℕ) (z : ℤ) : Type 0 where
   under : z <ℤ neg_ℤ (pos bound) → IsFar bound z
 
 far_more : (z : ℤ) (low : ℕ) → low < 128 → IsFar (2 ^ 56) z → IsFar (2 ^ 63) (pos low +ℤ pos 128 *ℤ z)
-far_more z low lt (above h) = above (omega (arith, ints))
-far_more z low lt (under h) = under (omega (arith, ints))
+far_more z low lt h = grind (arith, common_steps, ints)
 
 far_less : (z : ℤ) → IsFar (2 ^ 63) z → IsFar (2 ^ 56) z
-far_less z (above h) = above (omega (arith, ints))
-far_less z (under h) = under (omega (arith, ints))
+far_less z h = grind (arith, common_steps, ints)
 
 far_is_large : (z : ℤ) → IsFar (2 ^ 63) z → FitsSigned w64 z → ⊥
-far_is_large z (above h) fits = omega (arith, ints)
-far_is_large z (under h) fits = omega (arith, ints)
+far_is_large z h fits = grind (arith, common_steps, ints)
 
 pub far_whole : (bytes : List ℕ) (i : ℕ) → suc i < length bytes → IsFar (2 ^ 56) (signed_groups (drop (suc i) bytes))
     → IsFar (2 ^ 63) (signed_groups bytes)
@@ -160,9 +154,7 @@ pub one_low : (b : ℕ) → b < 64 → signed_groups (b ∷ []) ≡ pos b
 one_low b lt = let small : b % 128 ≡ b = omega arith in rw (lt-leb 64 b lt, small) (omega (arith, ints))
 
 pub one_high : (b : ℕ) → 64 ≤ b → b < 128 → signed_groups (b ∷ []) ≡ pos b -ℤ pos 128
-one_high b le lt =
-    let same : b % 128 + 128 * 0 ≡ b = omega arith in
-    ap (λ (s : Bool). pos (b % 128 + 128 * 0) -ℤ pos (cond s (128 ^ 1) 0)) (le-leb 64 b le) ∙ ap (λ (n : ℕ). pos n -ℤ pos 128) same
+one_high b le lt = grind (arith, common_steps, le-leb)
 
 -- ---- at most 9 groups, from the prefix
 
@@ -181,14 +173,7 @@ groups_bound (a ∷ prefix) = omega (arith, groups_bound prefix, pow-suc 128 (le
 -- one more group of a few
 pub sum_more : (bytes : List ℕ) (i sum scale : ℕ) → i < length bytes → sum ≡ groups (take i bytes) → scale ≡ 128 ^ i
     → sum + get_or bytes i 0 % 128 * scale ≡ groups (take (i + 1) bytes)
-sum_more bytes i sum scale lt s k =
-    let size : length (take i bytes) ≡ i = length-take-le i bytes (omega arith) in
-    let step = groups_push (take i bytes) (get_or bytes i 0) in
-    let power : 128 ^ length (take i bytes) ≡ scale = ap (λ (n : ℕ). 128 ^ n) size ∙ sym k in
-    ap (λ (n : ℕ). n + get_or bytes i 0 % 128 * scale) s
-    ∙ ap (λ (n : ℕ). groups (take i bytes) + get_or bytes i 0 % 128 * n) (sym power)
-    ∙ sym step
-    ∙ ap groups (sym (take_more bytes i 0 lt))
+sum_more bytes i sum scale lt s k = grind (arith, common_steps, length-take-le, groups_push, take_more)
 
 pub scale_more : (i scale : ℕ) → scale ≡ 128 ^ i → scale * 128 ≡ 128 ^ (i + 1)
 scale_more i scale k = rw (add-one, pow-suc 128 i, k) refl
@@ -204,12 +189,7 @@ pub scale_fits : (i scale : ℕ) → i < 9 → scale ≡ 128 ^ i → scale ≤ 2
 scale_fits i scale lt k = let le = pow-le-pow_right {n = 128} (omega arith) {i = i} {j = 8} (omega arith) in omega (arith, le)
 
 pub sum_fits : (bytes : List ℕ) (i sum scale : ℕ) → i < 9 → i < length bytes → sum ≡ groups (take i bytes) → scale ≡ 128 ^ i → sum < 2 ^ 56
-sum_fits bytes i sum scale lt within s k =
-    let bound = groups_bound (take i bytes) in
-    let size : length (take i bytes) ≡ i = length-take-le i bytes (omega arith) in
-    let power : 128 ^ length (take i bytes) ≡ 128 ^ i = ap (λ (n : ℕ). 128 ^ n) size in
-    let le = pow-le-pow_right {n = 128} (omega arith) {i = i} {j = 8} (omega arith) in
-    omega (arith, bound, power, le)
+sum_fits bytes i sum scale lt within s k = grind (arith, common_steps, groups_bound, length-take-le, pow-le-pow_right)
 
 pub sum_room : (low sum scale : ℕ) → low < 128 → sum < 2 ^ 56 → scale ≤ 2 ^ 56 → sum + low * scale < 2 ^ 64
 sum_room low sum scale lt s k = let most : low * scale ≤ 127 * scale = mul-le-mul_right scale (omega arith) in omega (arith, most)
@@ -220,39 +200,22 @@ no_groups bytes = record { few = omega arith; high = tt; sum_is = refl; scale_is
 pub one_more_group : (bytes : List ℕ) (i sum scale more wider : ℕ) → FewGroups bytes i sum scale → i < 9 → i < length bytes
     → 128 ≤ get_or bytes i 0 → more ≡ sum + get_or bytes i 0 % 128 * scale → wider ≡ scale * 128
     → FewGroups bytes (i + 1) more wider
-one_more_group bytes i sum scale more wider g lt within high m w = record {
-  few = omega arith;
-  high = high_more bytes i within g.high high;
-  sum_is = m ∙ sum_more bytes i sum scale within g.sum_is g.scale_is;
-  scale_is = w ∙ scale_more i scale g.scale_is;
-}
+one_more_group bytes i sum scale more wider g lt within high m w = grind (arith, common_steps, high_more, sum_more, scale_more)
 
 pub last_group_found : (bytes : List ℕ) (i sum scale more wider : ℕ) → FewGroups bytes i sum scale → i < 9 → i < length bytes
     → get_or bytes i 0 < 128 → more ≡ sum + get_or bytes i 0 % 128 * scale → wider ≡ scale * 128
     → IsShortLeb (i + 1) more wider bytes
-last_group_found bytes i sum scale more wider g lt within low m w = record {
-  within = omega arith;
-  few = omega arith;
-  shape = leb_more bytes i within g.high low;
-  sum_is = m ∙ sum_more bytes i sum scale within g.sum_is g.scale_is;
-  scale_is = w ∙ scale_more i scale g.scale_is;
-}
+last_group_found bytes i sum scale more wider g lt within low m w = grind (arith, common_steps, leb_more, sum_more, scale_more)
 
 -- what the reader of a few groups cites
 pub ruleset few_groups = (no_groups, one_more_group, last_group_found, scale_fits, sum_fits)
 
 -- a few groups are in range
 pub short_fits : (size sum scale : ℕ) (bytes : List ℕ) → IsShortLeb size sum scale bytes → (sum < scale) × (scale ≤ 2 ^ 63)
-short_fits size sum scale bytes s =
-    let bound = groups_bound (take size bytes) in
-    let is : length (take size bytes) ≡ size = length-take-le size bytes s.within in
-    let power : 128 ^ length (take size bytes) ≡ scale = ap (λ (n : ℕ). 128 ^ n) is ∙ sym s.scale_is in
-    let le = pow-le-pow_right {n = 128} (omega arith) {i = size} {j = 9} s.few in
-    (omega (arith, bound, power, s.sum_is), omega (arith, le, s.scale_is))
+short_fits size sum scale bytes s = grind (arith, common_steps, groups_bound, length-take-le, pow-le-pow_right)
 
 pub short_unsigned : (size sum scale : ℕ) (bytes : List ℕ) → IsShortLeb size sum scale bytes → UnsignedLeb sum (take size bytes)
-short_unsigned size sum scale bytes s =
-    let fits = short_fits size sum scale bytes s in record { shape = s.shape; value = s.sum_is; fits = omega (arith, fits.0, fits.1) }
+short_unsigned size sum scale bytes s = grind (arith, common_steps, short_fits)
 
 -- ---- the same in two's complement
 
@@ -270,19 +233,7 @@ pub record ShortEnd (size scale : ℕ) (bytes : List ℕ) : Type 0 where
   pub power : 128 ^ length (take size bytes) ≡ scale
 
 pub short_end : (size sum scale : ℕ) (bytes : List ℕ) → IsShortLeb size sum scale bytes → ShortEnd size scale bytes
-short_end zero sum scale bytes s = absurd s.shape
-short_end (suc size) sum scale bytes s =
-    let is : length (take (suc size) bytes) ≡ suc size = length-take-le (suc size) bytes s.within in
-    let last : get_or (take (suc size) bytes) (suc size - 1) 0 ≡ get_or bytes (suc size - 1) 0 =
-    get_or-take (suc size) bytes (suc size - 1) 0 (omega arith) in
-    record {
-      some = omega arith;
-      sign =
-          has_sign_last (take (suc size) bytes) s.shape
-          ∙ ap (λ (n : ℕ). leb 64 (get_or (take (suc size) bytes) (n - 1) 0)) is
-          ∙ ap (leb 64) last;
-      power = ap (λ (n : ℕ). 128 ^ n) is ∙ sym s.scale_is;
-    }
+short_end size sum scale bytes s = grind (arith, common_steps, length-take-le, get_or-take, has_sign_last, leb)
 
 pub short_low : (size sum scale : ℕ) (bytes : List ℕ) → IsShortLeb size sum scale bytes → get_or bytes (size - 1) 0 < 64
     → SignedLeb (pos sum) (take size bytes)
@@ -315,23 +266,17 @@ high_computed sum scale a b lt le p q = rw (p, q) (omega (arith, ints))
 -- ---- numbers of one byte
 
 one_taken : (bytes : List ℕ) → 0 < length bytes → take 1 bytes ≡ get_or bytes 0 0 ∷ []
-one_taken [] some = absurd (omega arith)
-one_taken (b ∷ bytes) some = refl
+one_taken bytes some = grind (arith, common_steps)
 
 one_unsigned : (bytes : List ℕ) → 0 < length bytes → get_or bytes 0 0 < 128 → UnsignedLeb (get_or bytes 0 0) (take 1 bytes)
-one_unsigned bytes some low =
-    let small : get_or bytes 0 0 % 128 ≡ get_or bytes 0 0 = omega arith in
-    rw (one_taken bytes some) (record { shape = low; value = omega (arith, small); fits = omega arith })
+one_unsigned bytes some low = grind (arith, common_steps, one_taken)
 
 pub reads_one : (old new : At) (bytes : List ℕ) (n : ℕ) → bytes ≡ old.rest → 0 < length bytes → get_or bytes 0 0 < 128
     → n ≡ get_or bytes 0 0 → Skips 1 old new → Reads UnsignedLeb n old new
-reads_one old new bytes n same some low is s =
-    let spelled : UnsignedLeb n (take 1 old.rest) = rw (← same, is) (one_unsigned bytes some low) in
-    reads_skipped UnsignedLeb n 1 old new (omega (arith, ap length same)) spelled s
+reads_one old new bytes n same some low is s = grind (arith, common_steps, one_unsigned, reads_skipped)
 
 one_byte_fits : (b : ℕ) → b < 128 → FitsSigned w64 (signed_groups (b ∷ []))
-one_byte_fits b lt =
-    elim (cases_lt b 64) [ inl low ↦ rw (one_low b low) (omega (arith, ints)) | inr high ↦ rw (one_high b high lt) (omega (arith, ints)) ]
+one_byte_fits b lt = grind (arith, common_steps, cases_lt, one_low, ints, one_high)
 
 pub reads_one_signed : (old new : At) (bytes : List ℕ) (z : ℤ) → bytes ≡ old.rest → 0 < length bytes → get_or bytes 0 0 < 128
     → z ≡ signed_groups (get_or bytes 0 0 ∷ []) → Skips 1 old new

@@ -1,15 +1,14 @@
 -- Numbers of a fixed width and initial lengths have one spelling each, which is the prefix of no other's. Crates above cite these.
-use Rattle.std.proofs.Common.{◌≡◌, ℕ, zero, suc, ◌%◌, ◌^◌, ◌<◌, ◌≤◌, List, [], ◌∷◌, ◌++◌, length, refl, sym, ap, ◌∙◌, append_assoc, arith}
+use Rattle.std.proofs.Common.{◌≡◌, ℕ, zero, suc, ◌^◌, ◌<◌, ◌≤◌, List, [], ◌∷◌, ◌++◌, length, refl, sym, ap, ◌∙◌, append_assoc, arith}
 use Rattle.std.proofs.lemmas.List.{append_cancel_left, length-append}
 use Rattle.std.proofs.lemmas.Nat.{from_le_bytes-to_le_bytes_2, from_be_bytes-to_be_bytes_2, from_le_bytes-to_le_bytes_4}
 use Rattle.std.proofs.lemmas.Nat.{from_be_bytes-to_be_bytes_4, from_le_bytes-to_le_bytes_8, from_be_bytes-to_be_bytes_8}
-use Rattle.std.specs.Int.{w16, w32, w64, from_le_bytes, from_be_bytes, bytes_low_first, bytes_high_first}
+use Rattle.std.specs.Int.{bytes_low_first, bytes_high_first}
 use Rattle.lnt_wire.specs.declared.format.Order.{Order}
-use Rattle.lnt_wire.specs.declared.format.Order.TheVariants.{Little, Big}
 use Rattle.lnt_wire.specs.declared.format.Format.{Format}
-use Rattle.lnt_wire.specs.declared.format.Format.TheVariants.{D32, D64}
 use Rattle.lnt_wire.specs.Numbers.{number_bytes}
 use Rattle.lnt_wire.specs.InitialLength.{initial_length, LengthFits}
+use Rattle.std.proofs.lemmas.Grind.{common_steps}
 
 -- ---- prefixes of one length
 
@@ -39,28 +38,23 @@ length-high zero n = refl
 length-high (suc size) n = ap suc (length-high size n)
 
 pub length-number_bytes : (order : Order) (size n : ℕ) → length (number_bytes order size n) ≡ size
-length-number_bytes Little size n = length-low 0 size n
-length-number_bytes Big size n = length-high size n
+length-number_bytes order size n = grind (arith, common_steps, length-low, length-high)
 
 -- a width at which the bytes determine the number
 pub record IsWidth (size : ℕ) : Type 0 where
   pub same : (order : Order) (m n : ℕ) → m < 256 ^ size → n < 256 ^ size → number_bytes order size m ≡ number_bytes order size n → m ≡ n
 
 same_1 : (order : Order) (m n : ℕ) → m < 256 → n < 256 → number_bytes order 1 m ≡ number_bytes order 1 n → m ≡ n
-same_1 Little m n p q e = let digits : m % 256 ≡ n % 256 = cc in omega arith
-same_1 Big m n p q e = let digits : m % 256 ≡ n % 256 = cc in omega arith
+same_1 order m n p q e = grind (arith, common_steps)
 
 same_2 : (order : Order) (m n : ℕ) → m < 2 ^ 16 → n < 2 ^ 16 → number_bytes order 2 m ≡ number_bytes order 2 n → m ≡ n
-same_2 Little m n p q e = sym (from_le_bytes-to_le_bytes_2 m p) ∙ ap (from_le_bytes w16) e ∙ from_le_bytes-to_le_bytes_2 n q
-same_2 Big m n p q e = sym (from_be_bytes-to_be_bytes_2 m p) ∙ ap (from_be_bytes w16) e ∙ from_be_bytes-to_be_bytes_2 n q
+same_2 order m n p q e = grind (arith, common_steps, from_le_bytes-to_le_bytes_2, from_be_bytes-to_be_bytes_2)
 
 same_4 : (order : Order) (m n : ℕ) → m < 2 ^ 32 → n < 2 ^ 32 → number_bytes order 4 m ≡ number_bytes order 4 n → m ≡ n
-same_4 Little m n p q e = sym (from_le_bytes-to_le_bytes_4 m p) ∙ ap (from_le_bytes w32) e ∙ from_le_bytes-to_le_bytes_4 n q
-same_4 Big m n p q e = sym (from_be_bytes-to_be_bytes_4 m p) ∙ ap (from_be_bytes w32) e ∙ from_be_bytes-to_be_bytes_4 n q
+same_4 order m n p q e = grind (arith, common_steps, from_le_bytes-to_le_bytes_4, from_be_bytes-to_be_bytes_4)
 
 same_8 : (order : Order) (m n : ℕ) → m < 2 ^ 64 → n < 2 ^ 64 → number_bytes order 8 m ≡ number_bytes order 8 n → m ≡ n
-same_8 Little m n p q e = sym (from_le_bytes-to_le_bytes_8 m p) ∙ ap (from_le_bytes w64) e ∙ from_le_bytes-to_le_bytes_8 n q
-same_8 Big m n p q e = sym (from_be_bytes-to_be_bytes_8 m p) ∙ ap (from_be_bytes w64) e ∙ from_be_bytes-to_be_bytes_8 n q
+same_8 order m n p q e = grind (arith, common_steps, from_le_bytes-to_le_bytes_8, from_be_bytes-to_be_bytes_8)
 
 pub width_1 : IsWidth 1
 width_1 = record { same = same_1 }
@@ -92,30 +86,8 @@ pub record SameLength (f g : Format) (m n : ℕ) (r s : List ℕ) : Type 0 where
   pub past : r ≡ s
 
 pub length-initial : (format : Format) (order : Order) (n : ℕ) → 4 ≤ length (initial_length format order n)
-length-initial D32 order n = omega (arith, length-number_bytes order 4 n)
-length-initial D64 order n =
-    omega (arith, length-append (number_bytes order 4 0xffffffff) (number_bytes order 8 n), length-number_bytes order 4 0xffffffff)
+length-initial format order n = grind (arith, common_steps, length-number_bytes, length-append)
 
 pub same_length : (order : Order) (f g : Format) (m n : ℕ) (r s : List ℕ) → LengthFits f m → LengthFits g n
     → initial_length f order m ++ r ≡ initial_length g order n ++ s → SameLength f g m n r s
-same_length order D32 D32 m n r s p q e =
-    let found = same_number_prefix order 4 width_4 m n r s (omega arith) (omega arith) e in
-    record { format = refl; number = found.0; past = found.1 }
-same_length order D32 D64 m n r s p q e =
-    let found =
-    same_number_prefix order 4 width_4 m 0xffffffff r (number_bytes order 8 n ++ s) (omega arith) (omega arith)
-    (e ∙ append_assoc (number_bytes order 4 0xffffffff) (number_bytes order 8 n) s) in
-    absurd (omega (arith, found.0))
-same_length order D64 D32 m n r s p q e =
-    let found =
-    same_number_prefix order 4 width_4 0xffffffff n (number_bytes order 8 m ++ r) s (omega arith) (omega arith)
-    (sym (append_assoc (number_bytes order 4 0xffffffff) (number_bytes order 8 m) r) ∙ e) in
-    absurd (omega (arith, found.0))
-same_length order D64 D64 m n r s p q e =
-    let tails : number_bytes order 8 m ++ r ≡ number_bytes order 8 n ++ s =
-    append_cancel_left (number_bytes order 4 0xffffffff) (number_bytes order 8 m ++ r) (number_bytes order 8 n ++ s)
-    (sym (append_assoc (number_bytes order 4 0xffffffff) (number_bytes order 8 m) r)
-    ∙ e
-    ∙ append_assoc (number_bytes order 4 0xffffffff) (number_bytes order 8 n) s) in
-    let found = same_number_prefix order 8 width_8 m n r s p q tails in
-    record { format = refl; number = found.0; past = found.1 }
+same_length order f g m n r s p q e = grind (arith, common_steps, same_number_prefix, width_4, append_assoc, append_cancel_left, width_8)

@@ -1,8 +1,7 @@
 -- What is put is the shortest spelling.
 use Rattle.std.proofs.Common.{◌≡◌, ℕ, suc, ◌+◌, ◌/◌, ◌%◌, ◌^◌, ◌-◌, ◌<◌, ◌≤◌, List, [], ◌∷◌, ◌++◌, length, take, refl, sym, ap}
-use Rattle.std.proofs.Common.{subst, ◌∙◌, append_assoc, append-nil, arith, inl, inr, ◌↔◌}
-use Rattle.std.proofs.Common.{Result, Ok, Err, IsErr, IsErrAnd, IsErrOf, OnOk, OnErr}
-use Rattle.std.specs.Prelude.{ℤ, pos, negsuc, ◌+ℤ◌, ◌*ℤ◌, neg_ℤ, ◌≤ℤ◌, ◌<ℤ◌, FitsSigned}
+use Rattle.std.proofs.Common.{subst, ◌∙◌, append_assoc, append-nil, arith, ◌↔◌, Result, Ok, IsErr, IsErrAnd, IsErrOf, OnOk, OnErr}
+use Rattle.std.specs.Prelude.{ℤ, pos, ◌+ℤ◌, ◌*ℤ◌, neg_ℤ, ◌≤ℤ◌, ◌<ℤ◌, FitsSigned}
 use Rattle.std.specs.Int.{w64, int_div_euclid, int_rem_euclid}
 use Rattle.std.proofs.lemmas.Int.{ints}
 use Rattle.std.proofs.lemmas.Bool.{cases_lt}
@@ -19,6 +18,7 @@ use Rattle.lnt_wire.specs.Numbers.{NumberBytes, IsLargeOffset}
 use Rattle.lnt_wire.proofs.LebLemmas.{signed_more, one_low, one_high}
 use Rattle.lnt_wire.proofs.NumberLaws.{one_byte}
 use Rattle.lnt_wire.proofs.LengthLaws.{length-number_bytes}
+use Rattle.std.proofs.lemmas.Grind.{common_steps}
 
 -- ---- groups put one after another
 
@@ -35,8 +35,7 @@ pub record IsGroup {X : Type 0} (Spells : X → List ℕ → Type 0) (rest after
   pub same : (other : List ℕ) → Spells rest other → (tail : List ℕ) × Spells after tail × (length other ≡ suc (length tail))
 
 begun : {X : Type 0} (Spells : X → List ℕ → Type 0) (whole : X) (old : List ℕ) → Begun Spells whole whole old old
-begun Spells whole old =
-    record { prefix = []; joined = sym (append-nil old); completes = λ tail p. p; same = λ other p. (other, p, omega arith) }
+begun Spells whole old = grind (arith, common_steps, append-nil)
 
 group_put : {X : Type 0} (Spells : X → List ℕ → Type 0) (whole rest after : X) (old new : List ℕ) (byte : ℕ)
     → Begun Spells whole rest old new → IsGroup Spells rest after byte
@@ -67,8 +66,7 @@ last_put Spells whole rest old new byte b p some = record {
 }
 
 some_leb : (bytes : List ℕ) → IsLeb bytes → 0 < length bytes
-some_leb [] p = absurd p
-some_leb (b ∷ bytes) p = omega arith
+some_leb bytes p = grind (arith, common_steps)
 
 -- ---- unsigned numbers
 
@@ -77,8 +75,7 @@ begun_unsigned n old = begun UnsignedLeb n old
 
 completes_unsigned : (rest : ℕ) (tail : List ℕ) → rest < 2 ^ 64 → UnsignedLeb (rest / 128) tail
     → UnsignedLeb rest ((rest % 128 + 128) ∷ tail)
-completes_unsigned rest [] fits p = absurd p.shape
-completes_unsigned rest (b ∷ tail) fits p = record { shape = (omega arith, p.shape); value = omega (arith, p.value); fits = fits }
+completes_unsigned rest tail fits p = grind (arith, common_steps)
 
 same_unsigned : (rest : ℕ) (other : List ℕ) → 128 ≤ rest → rest < 2 ^ 64 → UnsignedLeb rest other
     → (tail : List ℕ) × UnsignedLeb (rest / 128) tail × (length other ≡ suc (length tail))
@@ -111,8 +108,7 @@ pub record IsDivided (z d : ℤ) (m : ℕ) : Type 0 where
   pub low : m < 128
 
 pub divided : (z : ℤ) (m : ℕ) → int_rem_euclid z (pos 128) ≡ pos m → IsDivided z (int_div_euclid z (pos 128)) m
-divided (pos a) m e = let r : m ≡ a % 128 = omega (arith, ints) in record { whole = omega (arith, ints); low = omega arith }
-divided (negsuc a) m e = let r : m ≡ 127 - a % 128 = omega (arith, ints) in record { whole = omega (arith, ints); low = omega arith }
+divided z m e = grind (arith, common_steps, ints)
 
 -- a number that one group can't say
 pub data IsWide (z : ℤ) : Type 0 where
@@ -120,20 +116,7 @@ pub data IsWide (z : ℤ) : Type 0 where
   above : pos 64 ≤ℤ z → IsWide z
 
 one_group_near : (b : ℕ) (z : ℤ) → b < 128 → z ≡ signed_groups (b ∷ []) → IsWide z → ⊥
-one_group_near b z lt e (under h) =
-    elim (cases_lt b 64) [
-      | inl low ↦ let is = one_low b low in
-          omega (arith, ints, h, e, is)
-      | inr high ↦ let is = one_high b high lt in
-          omega (arith, ints, h, e, is)
-    ]
-one_group_near b z lt e (above h) =
-    elim (cases_lt b 64) [
-      | inl low ↦ let is = one_low b low in
-          omega (arith, ints, h, e, is)
-      | inr high ↦ let is = one_high b high lt in
-          omega (arith, ints, h, e, is)
-    ]
+one_group_near b z lt e h = grind (arith, common_steps, cases_lt, one_low, ints, one_high)
 
 completes_signed : (z d : ℤ) (m : ℕ) (tail : List ℕ) → IsDivided z d m → FitsSigned w64 z → SignedLeb d tail
     → SignedLeb z ((m + 128) ∷ tail)
@@ -172,11 +155,7 @@ put_signed z rest d m old new b wide is fits =
     (record { completes = λ tail p. completes_signed rest d m tail is fits p; same = λ other p. same_signed rest d m other is fits wide p })
 
 near_value : (z d : ℤ) (m : ℕ) → IsDivided z d m → neg_ℤ (pos 64) ≤ℤ z → z <ℤ pos 64 → z ≡ signed_groups (m ∷ [])
-near_value z d m is low high =
-    elim (cases_lt m 64) [
-      | inl lt ↦ let e = one_low m lt in omega (arith, ints, is.whole, low, high, e)
-      | inr le ↦ let e = one_high m le is.low in omega (arith, ints, is.whole, is.low, low, high, e)
-    ]
+near_value z d m is low high = grind (arith, common_steps, cases_lt, one_low, ints, one_high)
 
 pub last_signed : (z rest d : ℤ) (m : ℕ) (old new : List ℕ) → Begun SignedLeb z rest old new → IsDivided rest d m → neg_ℤ (pos 64) ≤ℤ rest
     → rest <ℤ pos 64 → FitsSigned w64 rest → Appends SignedLeb z old (new ++ m ∷ [])
@@ -200,38 +179,26 @@ taken_back old new start is e = rw (is, e.joined) (take-append_seam old e.more)
 
 -- one byte is the only spelling of a number in one byte
 pub put_byte : (order : Order) (n : ℕ) (old new : List ℕ) → n < 256 → new ≡ old ++ n ∷ [] → Appends (NumberBytes order 1) n old new
-put_byte order n old new lt joined = record {
-  spelling = n ∷ [];
-  spelled = record {
-    spelled = one_byte order (n ∷ []) refl lt;
-    shortest = λ other p. omega (arith, ap length p.spelled, length-number_bytes order 1 n);
-  };
-  joined = joined;
-}
+put_byte order n old new lt joined = grind (arith, common_steps, one_byte, length-number_bytes)
 
 -- ---- how a call ended
 
 pub after_err : {T E : Type 0} (r : Result T E) (P : Type 0) → P → OnErr r P
-after_err (Ok x) P p = tt
-after_err (Err e) P p = p
+after_err r P p = grind (arith, common_steps)
 
 pub not_ok : {T E : Type 0} (r : Result T E) (P : Type 0) → IsErr r → OnOk r P
-not_ok (Ok x) P p = absurd (cc)
-not_ok (Err e) P p = tt
+not_ok r P p = grind (arith, common_steps)
 
 -- What isn't large is refused only where memory ran out.
 pub only_memory : {T : Type 0} (r : Result T EncodeFault) (Large : Type 0) → (Large → ⊥) → IsErrAnd r (λ fault. fault ≡ Memory)
     → IsErrOf r TooLarge ↔ Large
-only_memory (Ok x) Large small p = absurd p
-only_memory (Err e) Large small p = (λ q. absurd (cc), λ q. absurd (small q))
+only_memory r Large small p = grind (arith, common_steps)
 
 pub all_put : {T : Type 0} (x : T) (Large : Type 0) → (Large → ⊥) → IsErrOf {T = T} {E = EncodeFault} (Ok x) TooLarge ↔ Large
 all_put x Large small = (λ q. absurd (cc), λ q. absurd (small q))
 
 pub not_large_narrow : (format : Format) (n : ℕ) → format ≡ D32 → n < 2 ^ 32 → IsLargeOffset format n → ⊥
-not_large_narrow format n is small large =
-    let le : 2 ^ 32 ≤ n = subst (λ (f : Format). IsLargeOffset f n) is large in
-    omega (arith, small, le)
+not_large_narrow format n is small large = grind (arith, common_steps)
 
 pub not_large_wide : (format : Format) (n : ℕ) → format ≡ D64 → IsLargeOffset format n → ⊥
 not_large_wide format n is large = subst (λ (f : Format). IsLargeOffset f n) is large

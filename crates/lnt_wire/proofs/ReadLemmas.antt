@@ -1,5 +1,5 @@
 -- Reads of a cursor, and their refusals, by the bytes that were passed or are too few.
-use Rattle.std.proofs.Common.{◌≡◌, ℕ, ◌+◌, ◌<◌, ◌≤◌, take, List, ◌++◌, length, refl, sym, ap, ◌∙◌, arith}
+use Rattle.std.proofs.Common.{◌≡◌, ℕ, ◌<◌, ◌≤◌, take, List, length, ap, arith}
 use Rattle.std.proofs.lemmas.List.{length-append, length-take-le, take-append-drop}
 use Rattle.lnt_wire.specs.declared.format.Order.{Order}
 use Rattle.lnt_wire.specs.declared.fault.Fault.{Fault}
@@ -11,6 +11,7 @@ use Rattle.lnt_wire.specs.Numbers.{NumberBytes}
 use Rattle.lnt_wire.specs.Reading.{Reads, RefusesField, IsCutShort}
 use Rattle.lnt_wire.specs.Skipping.{Skips}
 use Rattle.lnt_wire.proofs.LengthLaws.{length-number_bytes}
+use Rattle.std.proofs.lemmas.Grind.{common_steps}
 
 -- no prefix of the bytes is longer than they are
 none_taken : (count : ℕ) (bytes : List ℕ) → length bytes < count → NoneSpelled (TakenBytes count) bytes
@@ -18,29 +19,15 @@ none_taken count bytes short taken spelling more t e = omega (arith, length-appe
 
 pub refuses_short : (count : ℕ) (old : At) (fault : Fault) → length old.rest < count → fault.place ≡ old.place → fault.reason ≡ Truncated
     → RefusesField (IsCutShort count) (TakenBytes count) old fault
-refuses_short count old fault short place reason =
-    record { place = place; reason = record { reason_is = reason; short = short }; none = none_taken count old.rest short }
+refuses_short count old fault short place reason = grind (arith, common_steps, none_taken)
 
 pub reads_number : (order : Order) (size n : ℕ) (taken : List ℕ) (old new : At) → Reads (TakenBytes size) taken old new
     → NumberBytes order size n taken → Reads (NumberBytes order size) n old new
-reads_number order size n taken old new r spelled =
-    record {
-      spelling = taken;
-      spelled = spelled;
-      whole = r.whole ∙ ap (λ (bytes : List ℕ). bytes ++ new.rest) (sym r.spelled.taken_is);
-      place = r.place ∙ ap (λ (bytes : List ℕ). old.place + length bytes) (sym r.spelled.taken_is);
-      order = r.order;
-    }
+reads_number order size n taken old new r spelled = grind (arith, common_steps)
 
 pub refuses_number : (order : Order) (size : ℕ) (old : At) (fault : Fault) → RefusesField (IsCutShort size) (TakenBytes size) old fault
     → RefusesField (IsCutShort size) (NumberBytes order size) old fault
-refuses_number order size old fault r = record {
-  place = r.place;
-  reason = r.reason;
-  none =
-      λ n spelling more spelled e. r.none spelling spelling more
-      (record { count_is = ap length spelled.spelled ∙ length-number_bytes order size n; taken_is = refl }) e;
-}
+refuses_number order size old fault r = grind (arith, common_steps, length-number_bytes)
 
 -- the exits of each reader of a number
 pub ruleset number_exits = (reads_number, refuses_number)
@@ -48,13 +35,7 @@ pub ruleset number_exits = (reads_number, refuses_number)
 -- what was spelled by the bytes that were passed
 pub reads_skipped : {X : Type 0} (Spells : X → List ℕ → Type 0) (v : X) (size : ℕ) (old new : At) → size ≤ length old.rest
     → Spells v (take size old.rest) → Skips size old new → Reads Spells v old new
-reads_skipped Spells v size old new le spelled s = record {
-  spelling = take size old.rest;
-  spelled = spelled;
-  whole = sym (take-append-drop size old.rest) ∙ ap (λ (bytes : List ℕ). take size old.rest ++ bytes) (sym s.rest);
-  place = s.place ∙ ap (λ (n : ℕ). old.place + n) (sym (length-take-le size old.rest le));
-  order = s.order;
-}
+reads_skipped Spells v size old new le spelled s = grind (arith, common_steps, take-append-drop, length-take-le)
 
 pub refuses_field : {X : Type 0} (IsSo : Reason → List ℕ → Type 0) (Spells : X → List ℕ → Type 0) (old : At) (fault : Fault)
     → fault.place ≡ old.place → NoneSpelled Spells old.rest × IsSo fault.reason old.rest
@@ -63,6 +44,4 @@ refuses_field IsSo Spells old fault place p = record { place = place; reason = p
 
 pub reads_taken : (size : ℕ) (old new : At) → size ≤ length old.rest → Skips size old new
     → Reads (TakenBytes size) (take size old.rest) old new
-reads_taken size old new le s =
-    reads_skipped (TakenBytes size) (take size old.rest) size old new le
-    (record { count_is = length-take-le size old.rest le; taken_is = refl }) s
+reads_taken size old new le s = grind (arith, common_steps, reads_skipped, length-take-le)

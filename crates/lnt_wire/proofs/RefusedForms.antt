@@ -1,5 +1,5 @@
 -- Where no field of the kind that a form has is read, no value in the form is, for the same reason; and where one is, a value is.
-use Rattle.std.proofs.Common.{◌≡◌, ℕ, List, sym, subst, Result, Ok, Err, IsErr, IsErrAnd, IfOk, IfErr, OnErr}
+use Rattle.std.proofs.Common.{◌≡◌, ℕ, List, Result, IsErr, IsErrAnd, IfOk, IfErr, OnErr, arith}
 use Rattle.lnt_wire.specs.At.{At}
 use Rattle.lnt_wire.specs.Bytes.{TakenBytes}
 use Rattle.lnt_wire.specs.declared.format.Order.{Order}
@@ -20,28 +20,22 @@ use Rattle.lnt_wire.specs.Leb128.{UnsignedLeb, IsLargeUnsigned, IsLebFault}
 use Rattle.lnt_wire.specs.Numbers.{NumberBytes, OffsetBytes, offset_size}
 use Rattle.lnt_wire.specs.BlockLengths.{LengthBytes, IsBlockValueFault}
 use Rattle.lnt_wire.specs.Reading.{Reads, RefusesField, IsCutShort}
+use Rattle.std.proofs.lemmas.Grind.{common_steps}
 
 -- no value of one kind, where there is none of another that each has
 refused_as : {X Y : Type 0} (IsSo : Reason → List ℕ → Type 0) (P : X → List ℕ → Type 0) (Q : Y → List ℕ → Type 0) (old : At) (fault : Fault)
     → ((y : Y) (bytes : List ℕ) → Q y bytes → (x : X) × P x bytes) → RefusesField IsSo P old fault → RefusesField IsSo Q old fault
-refused_as IsSo P Q old fault part r =
-    record {
-      place = r.place;
-      reason = r.reason;
-      none = λ y spelling more q e. let found = part y spelling q in r.none found.0 spelling more found.1 e;
-    }
+refused_as IsSo P Q old fault part r = grind (arith, common_steps)
 
 -- what was refused in one form
 refused_in : (format : Format) (form known : Form) (old : At) (fault : Fault) → form ≡ known
     → RefusesField (IsValueFault format old.order known) (ValueBytes format old.order known) old fault
     → RefusesField (IsValueFault format old.order form) (ValueBytes format old.order form) old fault
-refused_in format form known old fault is r =
-    subst (λ (f : Form). RefusesField (IsValueFault format old.order f) (ValueBytes format old.order f) old fault) (sym is) r
+refused_in format form known old fault is r = grind (arith, common_steps)
 
 data1_part : (format : Format) (order : Order) (value : FormValue) (bytes : List ℕ) → ValueBytes format order forms.Data1 value bytes
     → (n : ℕ) × NumberBytes order 1 n bytes
-data1_part format order (Data1 n) bytes p = (n, p.spelled)
-data1_part format order value bytes p = let other = p.form_is in absurd cc
+data1_part format order value bytes p = grind (arith, common_steps)
 
 pub refuses_data1 : (format : Format) (form : Form) (old : At) (fault : Fault) → form ≡ forms.Data1
     → RefusesField (IsCutShort 1) (NumberBytes old.order 1) old fault
@@ -53,8 +47,7 @@ refuses_data1 format form old fault is r =
 
 data2_part : (format : Format) (order : Order) (value : FormValue) (bytes : List ℕ) → ValueBytes format order forms.Data2 value bytes
     → (n : ℕ) × NumberBytes order 2 n bytes
-data2_part format order (Data2 n) bytes p = (n, p.spelled)
-data2_part format order value bytes p = let other = p.form_is in absurd cc
+data2_part format order value bytes p = grind (arith, common_steps)
 
 pub refuses_data2 : (format : Format) (form : Form) (old : At) (fault : Fault) → form ≡ forms.Data2
     → RefusesField (IsCutShort 2) (NumberBytes old.order 2) old fault
@@ -66,8 +59,7 @@ refuses_data2 format form old fault is r =
 
 data4_part : (format : Format) (order : Order) (value : FormValue) (bytes : List ℕ) → ValueBytes format order forms.Data4 value bytes
     → (n : ℕ) × NumberBytes order 4 n bytes
-data4_part format order (Data4 n) bytes p = (n, p.spelled)
-data4_part format order value bytes p = let other = p.form_is in absurd cc
+data4_part format order value bytes p = grind (arith, common_steps)
 
 pub refuses_data4 : (format : Format) (form : Form) (old : At) (fault : Fault) → form ≡ forms.Data4
     → RefusesField (IsCutShort 4) (NumberBytes old.order 4) old fault
@@ -79,8 +71,7 @@ refuses_data4 format form old fault is r =
 
 data8_part : (format : Format) (order : Order) (value : FormValue) (bytes : List ℕ) → ValueBytes format order forms.Data8 value bytes
     → (n : ℕ) × NumberBytes order 8 n bytes
-data8_part format order (Data8 n) bytes p = (n, p.spelled)
-data8_part format order value bytes p = let other = p.form_is in absurd cc
+data8_part format order value bytes p = grind (arith, common_steps)
 
 pub refuses_data8 : (format : Format) (form : Form) (old : At) (fault : Fault) → form ≡ forms.Data8
     → RefusesField (IsCutShort 8) (NumberBytes old.order 8) old fault
@@ -92,8 +83,7 @@ refuses_data8 format form old fault is r =
 
 data16_part : (format : Format) (order : Order) (value : FormValue) (bytes : List ℕ) → ValueBytes format order forms.Data16 value bytes
     → (b : List ℕ) × TakenBytes 16 b bytes
-data16_part format order (Data16 b) bytes p = (b, p.spelled)
-data16_part format order value bytes p = let other = p.form_is in absurd cc
+data16_part format order value bytes p = grind (arith, common_steps)
 
 pub refuses_data16 : (format : Format) (form : Form) (old : At) (fault : Fault) → form ≡ forms.Data16
     → RefusesField (IsCutShort 16) (TakenBytes 16) old fault
@@ -104,8 +94,7 @@ refuses_data16 format form old fault is r =
 
 strp_part : (format : Format) (order : Order) (value : FormValue) (bytes : List ℕ) → ValueBytes format order forms.Strp value bytes
     → (n : ℕ) × OffsetBytes format order n bytes
-strp_part format order (Strp n) bytes p = (n, p.spelled)
-strp_part format order value bytes p = let other = p.form_is in absurd cc
+strp_part format order value bytes p = grind (arith, common_steps)
 
 pub refuses_strp : (format : Format) (form : Form) (old : At) (fault : Fault) → form ≡ forms.Strp
     → RefusesField (IsCutShort (offset_size format)) (OffsetBytes format old.order) old fault
@@ -117,8 +106,7 @@ refuses_strp format form old fault is r =
 
 line_strp_part : (format : Format) (order : Order) (value : FormValue) (bytes : List ℕ)
     → ValueBytes format order forms.LineStrp value bytes → (n : ℕ) × OffsetBytes format order n bytes
-line_strp_part format order (LineStrp n) bytes p = (n, p.spelled)
-line_strp_part format order value bytes p = let other = p.form_is in absurd cc
+line_strp_part format order value bytes p = grind (arith, common_steps)
 
 pub refuses_line_strp : (format : Format) (form : Form) (old : At) (fault : Fault) → form ≡ forms.LineStrp
     → RefusesField (IsCutShort (offset_size format)) (OffsetBytes format old.order) old fault
@@ -130,21 +118,16 @@ refuses_line_strp format form old fault is r =
 
 udata_part : (format : Format) (order : Order) (value : FormValue) (bytes : List ℕ) → ValueBytes format order forms.Udata value bytes
     → (n : ℕ) × UnsignedLeb n bytes
-udata_part format order (Udata n) bytes p = (n, p.spelled)
-udata_part format order value bytes p = let other = p.form_is in absurd cc
+udata_part format order value bytes p = grind (arith, common_steps)
 
 pub refuses_udata : (format : Format) (form : Form) (old : At) (fault : Fault) → form ≡ forms.Udata
     → RefusesField (IsLebFault IsLargeUnsigned) UnsignedLeb old fault
     → RefusesField (IsValueFault format old.order form) (ValueBytes format old.order form) old fault
-refuses_udata format form old fault is r =
-    refused_in format form forms.Udata old fault is
-    (refused_as (IsLebFault IsLargeUnsigned) UnsignedLeb (ValueBytes format old.order forms.Udata) old fault
-    (udata_part format old.order) r)
+refuses_udata format form old fault is r = grind (arith, common_steps, refused_in, refused_as, udata_part)
 
 string_part : (format : Format) (order : Order) (value : FormValue) (bytes : List ℕ) → ValueBytes format order forms.Text value bytes
     → (b : List ℕ) × TextBytes b bytes
-string_part format order (Text b) bytes p = (b, p.spelled)
-string_part format order value bytes p = let other = p.form_is in absurd cc
+string_part format order value bytes p = grind (arith, common_steps)
 
 pub refuses_string : (format : Format) (form : Form) (old : At) (fault : Fault) → form ≡ forms.Text
     → RefusesField IsCutText TextBytes old fault
@@ -155,8 +138,7 @@ refuses_string format form old fault is r =
 
 block_part : (format : Format) (order : Order) (value : FormValue) (bytes : List ℕ) → ValueBytes format order forms.Block value bytes
     → (b : List ℕ) × BlockBytes (LengthBytes order Leb) b bytes
-block_part format order (Block b) bytes p = (b, p.spelled)
-block_part format order value bytes p = let other = p.form_is in absurd cc
+block_part format order value bytes p = grind (arith, common_steps)
 
 pub refuses_block : (format : Format) (form : Form) (old : At) (fault : Fault) → form ≡ forms.Block
     → RefusesField (IsBlockValueFault old.order Leb) (BlockBytes (LengthBytes old.order Leb)) old fault
@@ -168,8 +150,7 @@ refuses_block format form old fault is r =
 
 block1_part : (format : Format) (order : Order) (value : FormValue) (bytes : List ℕ) → ValueBytes format order forms.Block1 value bytes
     → (b : List ℕ) × BlockBytes (LengthBytes order One) b bytes
-block1_part format order (Block1 b) bytes p = (b, p.spelled)
-block1_part format order value bytes p = let other = p.form_is in absurd cc
+block1_part format order value bytes p = grind (arith, common_steps)
 
 pub refuses_block1 : (format : Format) (form : Form) (old : At) (fault : Fault) → form ≡ forms.Block1
     → RefusesField (IsBlockValueFault old.order One) (BlockBytes (LengthBytes old.order One)) old fault
@@ -181,8 +162,7 @@ refuses_block1 format form old fault is r =
 
 block2_part : (format : Format) (order : Order) (value : FormValue) (bytes : List ℕ) → ValueBytes format order forms.Block2 value bytes
     → (b : List ℕ) × BlockBytes (LengthBytes order Two) b bytes
-block2_part format order (Block2 b) bytes p = (b, p.spelled)
-block2_part format order value bytes p = let other = p.form_is in absurd cc
+block2_part format order value bytes p = grind (arith, common_steps)
 
 pub refuses_block2 : (format : Format) (form : Form) (old : At) (fault : Fault) → form ≡ forms.Block2
     → RefusesField (IsBlockValueFault old.order Two) (BlockBytes (LengthBytes old.order Two)) old fault
@@ -194,8 +174,7 @@ refuses_block2 format form old fault is r =
 
 block4_part : (format : Format) (order : Order) (value : FormValue) (bytes : List ℕ) → ValueBytes format order forms.Block4 value bytes
     → (b : List ℕ) × BlockBytes (LengthBytes order Four) b bytes
-block4_part format order (Block4 b) bytes p = (b, p.spelled)
-block4_part format order value bytes p = let other = p.form_is in absurd cc
+block4_part format order value bytes p = grind (arith, common_steps)
 
 pub refuses_block4 : (format : Format) (form : Form) (old : At) (fault : Fault) → form ≡ forms.Block4
     → RefusesField (IsBlockValueFault old.order Four) (BlockBytes (LengthBytes old.order Four)) old fault
@@ -226,46 +205,31 @@ pub ruleset value_refusals = (
 
 -- a refusal, handed on
 pub passed_on : {T E : Type 0} (r : Result T E) (e : E) (P : E → Type 0) → IsErrAnd r (λ other. other ≡ e) → P e → IfErr r P
-passed_on (Ok x) e P is p = tt
-passed_on (Err other) e P is p = subst P (sym is) p
+passed_on r e P is p = grind (arith, common_steps)
 
 pub hands_on : {T : Type 0} (r : Result T Fault) (format : Format) (form : Form) (old : At) (fault : Fault)
     → IsErrAnd r (λ other. other ≡ fault) → RefusesField (IsValueFault format old.order form) (ValueBytes format old.order form) old fault
     → IfErr r (λ other. RefusesField (IsValueFault format old.order form) (ValueBytes format old.order form) old other)
-hands_on r format form old fault is refuses =
-    passed_on r fault
-    (λ (other : Fault). RefusesField (IsValueFault format old.order form) (ValueBytes format old.order form) old other)
-    is refuses
+hands_on r format form old fault is refuses = grind (arith, common_steps, passed_on)
 
 pub gives_none : {T E : Type 0} (r : Result T E) (P : T → Type 0) → IsErr r → IfOk r P
-gives_none (Ok x) P p = absurd (cc)
-gives_none (Err e) P p = tt
+gives_none r P p = grind (arith, common_steps)
 
 pub leaves_it : {T E : Type 0} (r : Result T E) (old new : At) → new ≡ old → OnErr r (new ≡ old)
-leaves_it (Ok x) old new same = tt
-leaves_it (Err e) old new same = same
+leaves_it r old new same = grind (arith, common_steps)
 
 -- the field that was read, as a value in its form
 pub reads_value : {X : Type 0} (Spells : X → List ℕ → Type 0) (x : X) (format : Format) (form : Form) (value : FormValue) (old new : At)
     → form ≡ form_of value → ((bytes : List ℕ) → Spells x bytes → FormBytes format old.order value bytes)
     → Reads Spells x old new → Reads (ValueBytes format old.order form) value old new
-reads_value Spells x format form value old new is there read = record {
-  spelling = read.spelling;
-  spelled = record { form_is = sym is; spelled = there read.spelling read.spelled };
-  whole = read.whole;
-  place = read.place;
-  order = read.order;
-}
+reads_value Spells x format form value old new is there read = grind (arith, common_steps)
 
 -- a refusal for another reason that follows from it
 pub refuses_as : {T E : Type 0} (r : Result T E) (P Q : E → Type 0) → ((e : E) → P e → Q e) → IfErr r P → IfErr r Q
-refuses_as (Ok x) P Q f p = tt
-refuses_as (Err e) P Q f p = f e p
+refuses_as r P Q f p = grind (arith, common_steps)
 
 -- a value read in one form, and in any format
 pub reads_in : (r : Result ValueView Fault) (format : Format) (form known : Form) (old new : At) → form ≡ known
     → IfOk r (λ view. (any : Format) → Reads (ValueBytes any old.order known) (value_of view) old new)
     → IfOk r (λ view. Reads (ValueBytes format old.order form) (value_of view) old new)
-reads_in (Ok view) format form known old new is p =
-    subst (λ (f : Form). Reads (ValueBytes format old.order f) (value_of view) old new) (sym is) (p format)
-reads_in (Err fault) format form known old new is p = tt
+reads_in r format form known old new is p = grind (arith, common_steps)

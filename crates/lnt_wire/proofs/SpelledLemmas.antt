@@ -1,5 +1,5 @@
 -- Numbers and values in range have a spelling, and one than which none is shorter.
-use Rattle.std.proofs.Common.{ℕ, zero, suc, ◌+◌, ◌-◌, ◌/◌, ◌%◌, ◌^◌, ◌<◌, ◌≤◌, List, [], ◌∷◌, ◌++◌, length, refl, ap, ◌∙◌, arith, ⊎_elim}
+use Rattle.std.proofs.Common.{ℕ, zero, suc, ◌+◌, ◌-◌, ◌/◌, ◌%◌, ◌^◌, ◌<◌, ◌≤◌, List, [], ◌∷◌, ◌++◌, length, refl, ap, arith, ⊎_elim}
 use Rattle.std.specs.Prelude.{ℤ, pos, negsuc, FitsSigned}
 use Rattle.std.specs.Int.{w64}
 use Rattle.std.proofs.lemmas.Int.{ints}
@@ -7,7 +7,6 @@ use Rattle.std.proofs.lemmas.Bool.{cases_lt}
 use Rattle.std.proofs.lemmas.List.{length-append}
 use Rattle.lnt_wire.specs.declared.format.Order.{Order}
 use Rattle.lnt_wire.specs.declared.format.Format.{Format}
-use Rattle.lnt_wire.specs.declared.format.Format.TheVariants.{D32, D64}
 use Rattle.lnt_wire.specs.declared.form.FormValue.{FormValue}
 use Rattle.lnt_wire.specs.declared.form.FormValue.TheVariants.{Text, LineStrp, Strp, Udata, Data1, Data2, Data4, Data8}
 use Rattle.lnt_wire.specs.declared.form.FormValue.TheVariants.{Data16, Block, Block1, Block2, Block4}
@@ -20,6 +19,7 @@ use Rattle.lnt_wire.specs.Spelled.{FitsForm, HasShortest}
 use Rattle.lnt_wire.proofs.PutLemmas.{Begun, begun_signed, begun_unsigned, IsDivided, last_signed, last_unsigned}
 use Rattle.lnt_wire.proofs.PutLemmas.{put_signed, put_unsigned, quotient_fits}
 use Rattle.lnt_wire.proofs.PutLemmas.IsWide.{above, under}
+use Rattle.std.proofs.lemmas.Grind.{common_steps}
 
 put_shortest : {X : Type 0} (Spells : X → List ℕ → Type 0) (x : X) (old new : List ℕ) → Appends Spells x old new → HasShortest Spells x
 put_shortest Spells x old new p = (p.spelling, p.spelled)
@@ -98,9 +98,7 @@ fixed order size n fits = (
 
 offset : (format : Format) (order : Order) (n : ℕ) → n < 2 ^ 64 → (IsLargeOffset format n → ⊥)
     → HasShortest (NumberBytes order (offset_size format)) n
-offset D32 order n fits small =
-    fixed order 4 n (⊎_elim (λ (lt : n < 2 ^ 32). omega (arith, lt)) (λ (le : 2 ^ 32 ≤ n). absurd (small le)) (cases_lt n (2 ^ 32)))
-offset D64 order n fits small = fixed order 8 n (omega (arith, fits))
+offset format order n fits small = grind (arith, common_steps, fixed, cases_lt)
 
 block : (Length : ℕ → List ℕ → Type 0) (bytes : List ℕ) → HasShortest Length (length bytes) → HasShortest (BlockBytes Length) bytes
 block Length bytes (prefix, is) = (
@@ -162,24 +160,11 @@ spelled format order (Block4 b) is fits small =
 
 offset_small : (format : Format) (order : Order) (n : ℕ) (x : List ℕ) → NumberBytes order (offset_size format) n x → (n < 2 ^ 64)
     × (IsLargeOffset format n → ⊥)
-offset_small D32 order n x p = (omega (arith, p.fits), λ le. omega (arith, p.fits, le))
-offset_small D64 order n x p = (omega (arith, p.fits), λ no. no)
+offset_small format order n x p = grind (arith, common_steps)
 
 allowed : (format : Format) (order : Order) (value : FormValue) (x : List ℕ) → FormBytes format order value x → HasSpelling value
     × FitsForm value × (IsTooLarge format value → ⊥)
-allowed format order (Text t) x p = (p.no_zero, tt, λ no. no)
-allowed format order (LineStrp n) x p = let o = offset_small format order n x p in (tt, o.0, o.1)
-allowed format order (Strp n) x p = let o = offset_small format order n x p in (tt, o.0, o.1)
-allowed format order (Udata n) x p = (tt, p.fits, λ no. no)
-allowed format order (Data1 n) x p = (tt, omega (arith, p.fits), λ no. no)
-allowed format order (Data2 n) x p = (tt, omega (arith, p.fits), λ no. no)
-allowed format order (Data4 n) x p = (tt, omega (arith, p.fits), λ no. no)
-allowed format order (Data8 n) x p = (tt, omega (arith, p.fits), λ no. no)
-allowed format order (Data16 t) x p = (tt, ap length p.taken_is ∙ p.count_is, λ no. no)
-allowed format order (Block b) x p = (tt, p.first.fits, λ no. no)
-allowed format order (Block1 b) x p = (omega (arith, p.first.fits), tt, λ no. no)
-allowed format order (Block2 b) x p = (omega (arith, p.first.fits), tt, λ no. no)
-allowed format order (Block4 b) x p = (omega (arith, p.first.fits), tt, λ no. no)
+allowed format order value x p = grind (arith, common_steps, offset_small)
 
 pub spelled_values : SpelledValues
 spelled_values = record { unsigned = unsigned; signed = signed; value = spelled; allowed = allowed }

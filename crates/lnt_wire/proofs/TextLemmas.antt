@@ -1,10 +1,11 @@
 -- Texts up to the first zero byte.
 use Rattle.std.proofs.Common.{◌≡◌, ◌≢◌, ℕ, zero, suc, ◌+◌, ◌<◌, List, [], ◌∷◌, ◌++◌, length, get_or, take, Option, Some, None}
-use Rattle.std.proofs.Common.{refl, sym, ap, subst, arith}
+use Rattle.std.proofs.Common.{refl, ap, arith}
 use Rattle.std.specs.Option.{option_map}
 use Rattle.std.proofs.lemmas.List.{take_more}
 use Rattle.lnt_wire.specs.FormBytes.{HasNoZero}
 use Rattle.lnt_wire.specs.Texts.{up_to_zero}
+use Rattle.std.proofs.lemmas.Grind.{common_steps}
 
 no_zero_push : (prefix : List ℕ) (b : ℕ) → HasNoZero prefix → 0 < b → HasNoZero (prefix ++ b ∷ [])
 no_zero_push [] b h k = (k, tt)
@@ -12,8 +13,7 @@ no_zero_push (a ∷ prefix) b h k = (h.0, no_zero_push prefix b h.1 k)
 
 pub no_zero_more : (bytes : List ℕ) (i : ℕ) → i < length bytes → HasNoZero (take i bytes) → get_or bytes i 0 ≢ 0
     → HasNoZero (take (i + 1) bytes)
-no_zero_more bytes i lt h k =
-    subst HasNoZero (sym (take_more bytes i 0 lt)) (no_zero_push (take i bytes) (get_or bytes i 0) h (omega (arith, k)))
+no_zero_more bytes i lt h k = grind (arith, common_steps, take_more, no_zero_push)
 
 -- no zero byte follows
 pub no_end : (bytes : List ℕ) → HasNoZero bytes → up_to_zero bytes ≡ None

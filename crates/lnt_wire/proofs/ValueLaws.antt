@@ -2,7 +2,6 @@
 use Rattle.std.proofs.Common.{◌≡◌, ℕ, List, [], ◌∷◌, ◌++◌, length, refl, sym, ap, ◌∙◌, arith}
 use Rattle.lnt_wire.specs.declared.format.Order.{Order}
 use Rattle.lnt_wire.specs.declared.format.Format.{Format}
-use Rattle.lnt_wire.specs.declared.format.Format.TheVariants.{D32, D64}
 use Rattle.lnt_wire.specs.declared.form.Form.{Form}
 use Rattle.lnt_wire.specs.declared.form.Form.TheVariants as forms
 use Rattle.lnt_wire.specs.declared.form.FormValue.{FormValue}
@@ -17,16 +16,13 @@ use Rattle.lnt_wire.specs.Laws.{OneNumber, OneLeb, OneValue}
 use Rattle.lnt_wire.specs.Numbers.{offset_size}
 use Rattle.lnt_wire.proofs.CodeLaws.{number_code, unsigned_code, signed_code, taken_code, peel, same_join}
 use Rattle.lnt_wire.proofs.LengthLaws.{IsWidth, width_1, width_2, width_4, width_8, same_prefix}
+use Rattle.std.proofs.lemmas.Grind.{common_steps}
 
 pub offset_width : (format : Format) → IsWidth (offset_size format)
-offset_width D32 = width_4
-offset_width D64 = width_8
+offset_width format = grind (arith, common_steps, width_4, width_8)
 
 pub length_code : (order : Order) (encoding : BlockLength) → IsCode (LengthBytes order encoding)
-length_code order Leb = unsigned_code
-length_code order One = number_code order 1 width_1
-length_code order Two = number_code order 2 width_2
-length_code order Four = number_code order 4 width_4
+length_code order encoding = grind (arith, common_steps, unsigned_code, number_code, width_1, width_2, width_4)
 
 -- texts that end at the same zero byte
 same_text : (t t' r s : List ℕ) → HasNoZero t → HasNoZero t' → (t ++ 0 ∷ []) ++ r ≡ (t' ++ 0 ∷ []) ++ s → t ≡ t'
@@ -90,35 +86,15 @@ same_value format order u v x y r s same p q e = absurd cc
 
 -- no two forms have one code
 pub same_code : (a b : Form) → form_code a ≡ form_code b → a ≡ b
-same_code forms.Data1 forms.Data1 e = refl
-same_code forms.Data2 forms.Data2 e = refl
-same_code forms.Data4 forms.Data4 e = refl
-same_code forms.Data8 forms.Data8 e = refl
-same_code forms.Data16 forms.Data16 e = refl
-same_code forms.Text forms.Text e = refl
-same_code forms.Block forms.Block e = refl
-same_code forms.Block1 forms.Block1 e = refl
-same_code forms.Block2 forms.Block2 e = refl
-same_code forms.Block4 forms.Block4 e = refl
-same_code forms.Strp forms.Strp e = refl
-same_code forms.LineStrp forms.LineStrp e = refl
-same_code forms.Udata forms.Udata e = refl
-same_code a b e = absurd (omega arith)
+same_code a b e = grind (arith, common_steps)
 
 -- ---- the laws
 
 pub one_number : OneNumber
-one_number = record {
-  one_byte = λ order. number_code order 1 width_1;
-  two_bytes = λ order. number_code order 2 width_2;
-  four_bytes = λ order. number_code order 4 width_4;
-  eight_bytes = λ order. number_code order 8 width_8;
-  offset = λ format order. number_code order (offset_size format) (offset_width format);
-}
+one_number = grind (arith, common_steps, number_code, width_1, width_2, width_4, width_8, offset_width)
 
 pub one_leb : OneLeb
 one_leb = record { unsigned = unsigned_code; signed = signed_code }
 
 pub one_value : OneValue
-one_value format order form =
-    record { one = λ u v x y r s p q e. same_value format order u v x y r s (p.form_is ∙ sym q.form_is) p.spelled q.spelled e }
+one_value format order form = grind (arith, common_steps, same_value)

@@ -9,11 +9,12 @@ use Rattle.lnt_wire.specs.declared.form.BlockLength.{BlockLength}
 use Rattle.lnt_wire.specs.FormBytes.{HasNoZero, TextBytes, BlockBytes}
 use Rattle.lnt_wire.specs.FormFaults.{IsCutText}
 use Rattle.lnt_wire.specs.BlockLengths.{LengthBytes, IsLengthFault, IsBlockValueFault}
-use Rattle.lnt_wire.specs.FormFaults.IsBlockFault.{no_length, cut_block}
+use Rattle.lnt_wire.specs.FormFaults.IsBlockFault.{cut_block}
 use Rattle.lnt_wire.specs.Reading.{Reads, RefusesField}
 use Rattle.lnt_wire.specs.Skipping.{Skips}
 use Rattle.lnt_wire.proofs.LengthLaws.{same_rest}
 use Rattle.lnt_wire.proofs.ValueLaws.{length_code}
+use Rattle.std.proofs.lemmas.Grind.{common_steps}
 
 -- ---- texts
 
@@ -25,42 +26,18 @@ no_text (a ∷ bytes) (b ∷ text) more h e = let tails : (text ++ 0 ∷ []) ++ 
 
 pub refuses_text : (old : At) (fault : Fault) (bytes : List ℕ) → bytes ≡ old.rest → HasNoZero bytes → fault.place ≡ old.place
     → fault.reason ≡ Truncated → RefusesField IsCutText TextBytes old fault
-refuses_text old fault bytes same no_zero place reason =
-    let here : HasNoZero old.rest = subst HasNoZero same no_zero in
-    record {
-      place = place;
-      reason = record { reason_is = reason; no_zero = here };
-      none = λ text spelling more p e. no_text old.rest text more here (ap (λ (z : List ℕ). z ++ more) (sym p.joined) ∙ e);
-    }
+refuses_text old fault bytes same no_zero place reason = grind (arith, common_steps, no_text)
 
 pub reads_text : (old new : At) (bytes text : List ℕ) (size : ℕ) → bytes ≡ old.rest → size < length bytes → HasNoZero (take size bytes)
     → get_or bytes size 0 ≡ 0 → text ≡ take size bytes → Skips (size + 1) old new → Reads TextBytes text old new
-reads_text old new bytes text size same lt no_zero zero_is is s =
-    let joined : take (size + 1) bytes ≡ text ++ 0 ∷ [] =
-    take_more bytes size 0 lt ∙ ap (λ (b : ℕ). take size bytes ++ b ∷ []) zero_is ∙ ap (λ (z : List ℕ). z ++ 0 ∷ []) (sym is) in
-    record {
-      spelling = take (size + 1) old.rest;
-      spelled = record { no_zero = rw is no_zero; joined = rw (← same) joined };
-      whole = sym (take-append-drop (size + 1) old.rest) ∙ ap (λ (z : List ℕ). take (size + 1) old.rest ++ z) (sym s.rest);
-      place = s.place ∙ ap (λ (n : ℕ). old.place + n) (sym (length-take-le (size + 1) old.rest (omega (arith, lt, ap length same))));
-      order = s.order;
-    }
+reads_text old new bytes text size same lt no_zero zero_is is s = grind (arith, common_steps, take_more, take-append-drop, length-take-le)
 
 -- ---- blocks
 
 pub refuses_no_length : (encoding : BlockLength) (old at : At) (fault : Fault) → at ≡ old
     → RefusesField (IsLengthFault encoding) (LengthBytes at.order encoding) at fault
     → RefusesField (IsBlockValueFault old.order encoding) (BlockBytes (LengthBytes old.order encoding)) old fault
-refuses_no_length encoding old at fault same there =
-    let r : RefusesField (IsLengthFault encoding) (LengthBytes old.order encoding) old fault =
-    subst (λ (a : At). RefusesField (IsLengthFault encoding) (LengthBytes a.order encoding) a fault) same there in
-    record {
-      place = r.place;
-      reason = no_length r.reason;
-      none = λ block spelling more p e.
-          r.none (length block) p.prefix (p.back ++ more) p.first
-          (sym (append_assoc p.prefix p.back more) ∙ ap (λ (z : List ℕ). z ++ more) (sym p.joined) ∙ e);
-    }
+refuses_no_length encoding old at fault same there = grind (arith, common_steps, append_assoc)
 
 pub refuses_cut_block : (encoding : BlockLength) (old at ahead : At) (size : ℕ) (bytes : List ℕ) (fault : Fault) → at ≡ old
     → Reads (LengthBytes at.order encoding) size at ahead → bytes ≡ ahead.rest → length bytes < size

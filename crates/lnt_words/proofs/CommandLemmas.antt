@@ -1,54 +1,40 @@
 -- The rules of arguments and commands after a step of clap's builders.
-use Rattle.std.proofs.Common.{◌≡◌, ◌∙◌, ◌&&◌, ◌||◌, ◌++◌, ◌∷◌, ◌<◌, ◌≤◌, ◌+◌, [], ℕ, Bool, List, Option, Some, None}
-use Rattle.std.proofs.Common.{ap, ap₂, codes, false, fold, get_or, length, not, refl, rules, subst, sym, take, true}
+use Rattle.std.proofs.Common.{◌≡◌, ◌<◌, ◌≤◌, ◌+◌, [], ℕ, List, Option, Some}
+use Rattle.std.proofs.Common.{ap₂, codes, false, fold, get_or, length, subst, sym, take, true, arith}
 use Rattle.std.proofs.lemmas.List.{take_all}
 use Rattle.std.proofs.lemmas.List.Sums.{fold_more}
 use Rattle.std.specs.Prelude.{IsSomeAnd}
 use Rattle.std.specs.Borrow.{Bor}
 use Rattle.clap.specs.Lexer.{usize_max}
-use Rattle.clap.specs.Simple.{app_of_fields, new_shape}
-use Rattle.clap.specs.Words.{AddsArg, AddsSubcommand}
-use Rattle.clap.specs.Words.{App, Rule, app_of, new_app, rule_of, with_rule, with_subcommand}
+use Rattle.clap.specs.Simple.{new_shape}
+use Rattle.clap.specs.Words.{AddsArg, AddsSubcommand, App, Rule, app_of, new_app, with_rule, with_subcommand}
 use Rattle.clap.specs.declared.builder.action.ArgAction.TheVariants.{Append}
 use Rattle.clap.specs.declared.builder.arg.Arg.{Arg}
 use Rattle.clap.specs.declared.builder.command.Command.{Command}
-use Rattle.clap.specs.declared.builder.command.Command.TheOpen.{Command-F}
 use Rattle.clap.specs.declared.builder.command.Command.TheViews.{out-Command as fields_of}
 use Rattle.clap.specs.declared.builder.range.ValueRange.{ValueRange}
 use Rattle.lnt_words.specs.Described.{IsArgument, IsCommand}
 use Rattle.lnt_words.specs.Words.{several}
+use Rattle.std.proofs.lemmas.Grind.{common_steps}
 
 several_range : (range : Option ValueRange) (wanted : ValueRange) → IsSomeAnd range (λ r. r ≡ wanted) → range ≡ Some wanted
-several_range None wanted is = absurd is
-several_range (Some r) wanted is = ap Some is
+several_range range wanted is = grind (arith, common_steps)
 
 -- An argument that takes one word or more.
 pub several_taken : (rule : Rule) (old ranged new : Arg) → IsArgument rule old → ranged ≡ record old { num_vals = ranged.num_vals }
     → IsSomeAnd ranged.num_vals (λ r. r ≡ record { start_inclusive = 1; end_inclusive = usize_max })
     → new ≡ record ranged { action = Some Append } → IsArgument (several rule) new
-several_taken rule old ranged new is range_alone range action =
-    let so : ranged ≡ record old { num_vals = Some (record { start_inclusive = 1; end_inclusive = usize_max }) } =
-    range_alone ∙ ap (λ (r : Option ValueRange). record old { num_vals = r }) (several_range ranged.num_vals _ range) in
-    record {
-      rule_is = ap rule_of action ∙ ap (λ (a : Arg). record (rule_of a) { action = Some Append }) so ∙ ap several is.rule_is;
-      local = ap (λ (a : Arg). a.global) action ∙ ap (λ (a : Arg). a.global) so ∙ is.local;
-    }
+several_taken rule old ranged new is range_alone range action = grind (arith, common_steps, several_range)
 
 -- A command with one more argument.
 pub argument_added : (app : App) (rule : Rule) (old new : Command) (argument : Arg) → IsCommand app old → IsArgument rule argument
     → AddsArg old argument new → IsCommand (with_rule app rule) new
-argument_added app rule old new argument is of adds = record {
-  app_is = adds.shape of.local ∙ ap₂ with_rule is.app_is of.rule_is;
-  local = adds.globals ∙ ap₂ (λ (a b : Bool). a || b) is.local of.local;
-}
+argument_added app rule old new argument is of adds = grind (arith, common_steps, ap₂)
 
 -- A command with one more subcommand.
 pub subcommand_added : (app sub : App) (old new below : Command) → IsCommand app old → IsCommand sub below
     → AddsSubcommand old below new → IsCommand (with_subcommand app sub.top) new
-subcommand_added app sub old new below is of adds = record {
-  app_is = adds.shape of.local ∙ ap₂ with_subcommand is.app_is (ap (λ (a : App). a.top) of.app_is);
-  local = adds.globals ∙ ap₂ (λ (a b : Bool). a || b) is.local of.local;
-}
+subcommand_added app sub old new below is of adds = grind (arith, common_steps, ap₂)
 
 -- ---- loops
 
@@ -72,12 +58,4 @@ pub alone_made : (named described versioned_is made : Command) (about version : 
     → (fields_of named).has_globals ≡ false → fields_of described ≡ record (fields_of named) { about = Some about }
     → fields_of versioned_is ≡ record (fields_of described) { version = Some version }
     → fields_of made ≡ record (fields_of versioned_is) { subcommand_required = true } → IsCommand alone made
-alone_made named described with_version made about version app local first second third =
-    let fields : fields_of made ≡ record (fields_of named) { about = Some about; version = Some version; subcommand_required = true } =
-    third ∙ ap (λ (f : Command-F Command). record f { subcommand_required = true }) second
-    ∙ ap (λ (f : Command-F Command). record f { version = Some version; subcommand_required = true }) first in
-    record {
-      app_is = ap app_of_fields fields
-          ∙ ap (λ (a : App). record a { top = record a.top { has_version = true; subcommand_required = true } }) app;
-      local = ap (λ (f : Command-F Command). f.has_globals) fields ∙ local;
-    }
+alone_made named described with_version made about version app local first second third = grind (arith, common_steps)

@@ -1,37 +1,32 @@
 -- Words that ask for nothing: no request fits them.
-use Rattle.std.proofs.Common.{◌≡◌, ◌<◌, ℕ, zero, suc, arith, List, [], ◌∷◌, Option, Some, None, Result, Ok, Err, codes, get_or}
-use Rattle.std.proofs.Common.{ap, inl, inr, true, false, length, subst, sym}
+use Rattle.std.proofs.Common.{◌≡◌, ◌<◌, ℕ, zero, suc, arith, List, [], ◌∷◌, Option, Some, None, Result, codes, get_or}
+use Rattle.std.proofs.Common.{ap, length, subst, sym}
 use Rattle.std.specs.Prelude.{◌≢◌, IfErr}
 use Rattle.std.specs.Borrow.{Bor}
 use Rattle.clap.specs.Words.{HasKind, IsAmong, Kinds, Row, Text, first_of, kind_of}
 use Rattle.clap.specs.declared.error.Error.{Error}
 use Rattle.clap.specs.declared.error.kind.ErrorKind.TheVariants.{OutOfMemory}
 use Rattle.lnt_text.specs.Digits.{IsAddress}
-use Rattle.lnt_spans.specs.declared.answer.Version.TheVariants.{One, Two}
 use Rattle.lnt_words.specs.declared.request.AddressSize.{AddressSize}
-use Rattle.lnt_words.specs.declared.request.Question.TheVariants.{Verify, Lookup, Files, Table, TableByPath, Md5}
-use Rattle.lnt_words.specs.declared.request.Reading.TheVariants.{Units, Dump, Convert}
 use Rattle.lnt_words.specs.declared.request.Request.{Request}
 use Rattle.lnt_words.specs.declared.request.Request.TheVariants as requests
 use Rattle.lnt_words.specs.Asking.{AreAddresses, IsAskedIn, IsMarker, IsSize, IsWord}
 use Rattle.lnt_words.proofs.WordLemmas.{texts_of}
+use Rattle.std.proofs.lemmas.Grind.{common_steps}
 
 -- what is true of each stop
 pub err_all : {T E : Type 0} (ended : Result T E) (P : E → Type 0) → ((stop : E) → P stop) → IfErr ended P
-err_all (Ok given) P so = tt
-err_all (Err stop) P so = so stop
+err_all ended P so = grind (arith, common_steps)
 
 -- an error that doesn't say that memory ran out has a kind that clap's rules allow
 pub kind_among : (kinds : Kinds) (error : Error) → HasKind kinds error → (kind_of error ≢ OutOfMemory) → IsAmong (kind_of error) kinds
-kind_among kinds error (inl memory) other = absurd (other memory)
-kind_among kinds error (inr among) other = among
+kind_among kinds error h other = grind (arith, common_steps)
 
 -- ---- words that are no addresses
 
 address_of_first : (word : Text) (words : List Text) (addresses : List ℕ) → AreAddresses (word ∷ words) addresses
     → (address : ℕ) × IsAddress word address
-address_of_first word words [] so = absurd so
-address_of_first word words (address ∷ addresses) so = (address, so.0)
+address_of_first word words addresses so = grind (arith, common_steps)
 
 -- a word that is no address is none of words that spell addresses
 pub no_addresses : (given : List (Bor Text)) (i : ℕ) (d : Bor Text) (addresses : List ℕ) → i < length given
@@ -59,18 +54,4 @@ other_name : (name : Text) → codes "upgrade" ≡ name → get_or name 1 0 ≡ 
 other_name name e = ap (λ (n : Text). get_or n 1 0) (sym e)
 
 pub no_size : (rows : List Row) → ((size : AddressSize) → IsSize rows size → ⊥) → (request : Request) → IsAskedIn (codes "upgrade") rows request → ⊥
-no_size rows none (requests.Help text) so = so
-no_size rows none (requests.Read section order Units) so = omega (arith, other_name (codes "units") so.2)
-no_size rows none (requests.Read section order (Dump ops shown)) so = omega (arith, other_name (codes "dump") so.2.0)
-no_size rows none (requests.Read section order (Convert format to)) so = omega (arith, other_name (codes "convert") so.2.0)
-no_size rows none (requests.Upgrade from) so = none from.address_size so.3
-no_size rows none (requests.Judge from Verify) so = omega (arith, other_name (codes "verify") so.1)
-no_size rows none (requests.Judge from (Lookup positions)) so = omega (arith, other_name (codes "lookup") so.1.0)
-no_size rows none (requests.Judge from Files) so = omega (arith, other_name (codes "files") so.1)
-no_size rows none (requests.Judge from (Table One)) so = omega (arith, other_name (codes "table") so.1.0)
-no_size rows none (requests.Judge from (Table Two)) so = omega (arith, other_name (codes "table") so.1.0)
-no_size rows none (requests.Judge from (TableByPath true)) so = omega (arith, other_name (codes "table") so.1.0)
-no_size rows none (requests.Judge from (TableByPath false)) so = omega (arith, other_name (codes "table") so.1.0)
-no_size rows none (requests.Judge from Md5) so = omega (arith, other_name (codes "md5") so.1)
-no_size rows none (requests.Addresses from file op) so = omega (arith, other_name (codes "lookup") so.0)
-no_size rows none (requests.Check from table all partial) so = omega (arith, other_name (codes "check") so.0)
+no_size rows none request so = grind (arith, common_steps, other_name, codes)

@@ -1,6 +1,6 @@
 -- clap's matches of the words, in terms of their rows.
-use Rattle.std.proofs.Common.{◌≡◌, ◌∙◌, ◌⊎◌, inl, inr, ◌<◌, ◌≤◌, ◌+◌, ◌++◌, ◌∷◌, [], ℕ, List, Option, Some, None, ap, get_or}
-use Rattle.std.proofs.Common.{length, map, option_map, refl, subst, sym, take, true}
+use Rattle.std.proofs.Common.{◌≡◌, ◌∙◌, ◌⊎◌, ◌<◌, ◌≤◌, ◌+◌, ◌++◌, ◌∷◌, [], ℕ, List, Option, Some, ap, get_or}
+use Rattle.std.proofs.Common.{length, map, option_map, refl, take, true, arith}
 use Rattle.std.specs.Borrow.{Bor}
 use Rattle.std.proofs.lemmas.List.{map-append, take_all, take_more}
 use Rattle.clap.proofs.OnLiterals.{clap_on_literals}
@@ -14,9 +14,10 @@ use Rattle.clap.specs.declared.parser.matches.ArgMatches.TheViews.{out-ArgMatche
 use Rattle.lnt_text.specs.Digits.{IsAddress}
 use Rattle.lnt_spans.specs.declared.position.Position.{Position}
 use Rattle.lnt_words.specs.Asking.{AreAddresses, IsAskedOf, position_at}
-use Rattle.lnt_words.specs.Described.{IsAskedOfMatches, rows_in}
+use Rattle.lnt_words.specs.Described.{IsAskedOfMatches}
 use Rattle.lnt_words.specs.Words.{linetab}
 use Rattle.lnt_words.specs.declared.request.Asked.{Asked}
+use Rattle.std.proofs.lemmas.Grind.{common_steps}
 
 -- for this command clap's matches and the kinds of its errors are known for all words
 pub linetab_is_simple : is_simple linetab ≡ true
@@ -30,8 +31,7 @@ linetab_is_free = refl
 paired : {X A B : Type 0} (f : X → A) (g : X → B) (found : Option X) (a : A) (b : B) → Some a ≡ option_map f found
     → Some b ≡ option_map (λ (p : A × B). p.1) (option_map {U = A × B} (λ x. (f x, g x)) found)
     → option_map {U = A × B} (λ x. (f x, g x)) found ≡ Some (a, b)
-paired f g None a b is_a is_b = cc
-paired f g (Some x) a b is_a is_b = cc
+paired f g found a b is_a is_b = grind (arith, common_steps)
 
 -- the subcommand that was found, from its name and its rows
 pub found_pair : (matches : ArgMatches) (name : Text) (rows : List Row) → Some name ≡ subcommand_name_of matches
@@ -40,13 +40,7 @@ pub found_pair : (matches : ArgMatches) (name : Text) (rows : List Row) → Some
 found_pair matches name rows is_name is_rows = paired _ _ (out-ArgMatches matches).subcommand name rows is_name is_rows
 
 pub by_rows : (matches : ArgMatches) (asked : Asked) → IsAskedOfMatches matches asked → IsAskedOf (subcommand_rows_of matches) asked
-by_rows matches asked so = record {
-  name = so.name;
-  rows = rows_in so.words;
-  found_is = found_pair matches so.name (rows_in so.words) so.name_is so.words_are;
-  request = so.request;
-  quiet = so.quiet;
-}
+by_rows matches asked so = grind (arith, common_steps, found_pair)
 
 -- ---- addresses
 
@@ -64,17 +58,12 @@ texts_of = map (λ word. word.now)
 pub one_address_more : (given : List (Bor Text)) (i : ℕ) (d : Bor Text) (addresses more : List ℕ) (address : ℕ) → i < length given
     → AreAddresses (texts_of (take i given)) addresses → IsAddress (get_or given i d).now address → more ≡ addresses ++ address ∷ []
     → AreAddresses (texts_of (take (i + 1) given)) more
-one_address_more given i d addresses more address lt so is more_is =
-    subst (AreAddresses (texts_of (take (i + 1) given))) (sym more_is)
-    (subst (λ (words : List Text). AreAddresses words (addresses ++ address ∷ []))
-    (sym (ap texts_of (take_more given i d lt) ∙ map-append (λ (word : Bor Text). word.now) (take i given) (get_or given i d ∷ [])))
-    (addresses_more (texts_of (take i given)) addresses (get_or given i d).now address so is))
+one_address_more given i d addresses more address lt so is more_is = grind (arith, common_steps, take_more, map-append, addresses_more)
 
 -- with those of all words
 pub all_addresses : (given : List (Bor Text)) (i : ℕ) (addresses : List ℕ) → length given ≤ i
     → AreAddresses (texts_of (take i given)) addresses → AreAddresses (texts_of given) addresses
-all_addresses given i addresses past so =
-    subst (λ (words : List (Bor Text)). AreAddresses (texts_of words) addresses) (take_all i given past) so
+all_addresses given i addresses past so = grind (arith, common_steps, take_all)
 
 -- ---- positions
 
@@ -83,10 +72,7 @@ pub one_position_more : (op : ℕ) (addresses : List ℕ) (i : ℕ) (positions m
     → positions ≡ map (position_at op) (take i addresses)
     → more ≡ positions ++ record { address = get_or addresses i 0; op = op } ∷ []
     → more ≡ map (position_at op) (take (i + 1) addresses)
-one_position_more op addresses i positions more lt so more_is =
-    more_is ∙ ap (λ (all : List Position). all ++ record { address = get_or addresses i 0; op = op } ∷ []) so
-    ∙ sym (ap (map (position_at op)) (take_more addresses i 0 lt)
-    ∙ map-append (position_at op) (take i addresses) (get_or addresses i 0 ∷ []))
+one_position_more op addresses i positions more lt so more_is = grind (arith, common_steps, take_more, map-append)
 
 -- with those of all addresses
 pub all_positions : (op : ℕ) (addresses : List ℕ) (i : ℕ) (positions : List Position) → length addresses ≤ i
@@ -99,7 +85,4 @@ all_positions op addresses i positions past so = so ∙ ap (map (position_at op)
 pub help_among : (kinds : Kinds) (error : Error) → HasKind kinds error
     → (kind_of error ≡ kind.DisplayHelp) ⊎ (kind_of error ≡ kind.DisplayVersion)
     → IsAmong kind.DisplayHelp kinds ⊎ IsAmong kind.DisplayVersion kinds
-help_among kinds error (inl memory) (inl help) = cc
-help_among kinds error (inl memory) (inr version) = cc
-help_among kinds error (inr among) (inl help) = inl (subst (λ (k : ErrorKind). IsAmong k kinds) help among)
-help_among kinds error (inr among) (inr version) = inr (subst (λ (k : ErrorKind). IsAmong k kinds) version among)
+help_among kinds error h k = grind (arith, common_steps)

@@ -1,7 +1,7 @@
 use Rattle.std.proofs.Common.{◌≡◌, ◌∙◌, true, length, sym, ap, arith, rules}
 use Rattle.std.specs.Result.{is_ok}
 use Rattle.std.proofs.lemmas.Bool.{eqb-true}
-use Rattle.lnt_older.proofs.SectionLemmas.{five_long, five_passed, older_found, older_long, older_passed}
+use Rattle.lnt_older.proofs.SectionLemmas.{five_passed, older_found, older_long, older_passed}
 use Rattle.lnt_older.proofs.section.older_units.Goals as goal
 
 pub loop-cursor-preserved-in-Ok-Five : goal.loop-cursor-preserved-in-Ok-Five

@@ -1,8 +1,6 @@
-use Rattle.std.proofs.Common.{◌^◌, ◌<◌, ◌+◌, ◌++◌, ℕ, List, [], arith, ap, length, length-append}
+use Rattle.std.proofs.Common.{arith, ap, length, length-append}
 use Rattle.std.proofs.lemmas.Option.{IfSome_then}
 use Rattle.std.proofs.lemmas.Result.{IfOk-weaker}
-use Rattle.lnt_spans.specs.declared.span.Span.{Span}
-use Rattle.lnt_spans.specs.Spans.{AreInOrder}
 use Rattle.lnt_records.specs.Written.{line_text}
 use Rattle.lnt_records.proofs.PassingLemmas.{few_passed, longer_from_start}
 use Rattle.lnt_records.proofs.StreamLemmas.{all_taken}

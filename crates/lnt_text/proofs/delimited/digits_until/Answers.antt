@@ -1,7 +1,7 @@
-use Rattle.std.proofs.Common.{◌<◌, ◌+◌, ◌*◌, length, refl, arith}
-use Rattle.lnt_text.specs.declared.radix.Radix.TheVariants.{Ten}
+use Rattle.std.proofs.Common.{◌<◌, ◌+◌, arith}
 use Rattle.lnt_text.proofs.DelimitedLemmas.{digits_more, room_for_digit}
 use Rattle.lnt_text.proofs.delimited.digits_until.Goals as goal
+use Rattle.std.proofs.lemmas.Grind.{common_steps}
 
 pub overflow_mul-value : goal.overflow_mul-value
 overflow_mul-value c =
@@ -16,8 +16,4 @@ overflow_add-value c =
     omega (arith, room, c.in-Some.ensures.2)
 
 pub loop-i-preserved : goal.loop-i-preserved
-loop-i-preserved c =
-    let least : c.loop-i.i < length c.args.text.now = omega (arith, c.loop-i-test.true, c.min-i-end.ensures) in
-    digits_more Ten c.args.text.now c.args.at c.loop-i.i c.loop-i.value c.in-Some.digit (c.loop-i.value * 10 + c.in-Some.digit) least
-    c.loop-i.invariant c.in-Some.ensures.0 c.in-Some.ensures.1
-    c.in-Some.ensures.2 refl
+loop-i-preserved c = grind (arith, common_steps, digits_more)

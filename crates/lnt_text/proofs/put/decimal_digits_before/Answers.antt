@@ -19,10 +19,7 @@ overflow_sub-start-in-loop-left c =
     c.loop-left-test.true
 
 pub loop-left-preserved : goal.loop-left-preserved
-loop-left-preserved c =
-    rw (c.decimal_byte-in-loop-left.ensures, c.decimal_byte-in-loop-left-2.ensures)
-    (two_digits_more c.args.n c.args.end c.args.text.now c.loop-left.text c.loop-left.start c.loop-left.left c.loop-left.invariant
-    c.loop-left-test.true)
+loop-left-preserved c = grind (arith, common_steps, two_digits_more)
 
 pub returns-clause-written : goal.returns-clause-written
 returns-clause-written c =
