@@ -18,8 +18,7 @@ use Rattle.lnt_io.specs.Pulling.{Pulls, IsAtEnd}
 use Rattle.lnt_io.specs.declared.status.Status.{Status}
 use Rattle.lnt_io.specs.declared.status.Status.TheVariants.{Done}
 use Rattle.lnt_spans.specs.declared.position.Position.{Position}
-use Rattle.lnt_header.specs.declared.unit_parts.UnitParts.{UnitParts}
-use Rattle.lnt_lines.specs.Indexed.{Indexed, IsIndexOf}
+use Rattle.lnt_lines.specs.Indexed.{Indexed, OfUnits}
 use Rattle.lnt_answers.specs.AddressBlocks.{AreFirstTold, BeginsWithLine, HasNo, IsCut}
 use Rattle.lnt_answers.proofs.RoomLaws.{text_in_room}
 use Rattle.lnt_answers.specs.AddressLines.{AreAddressesTold, AreLinesTold, Tells, line_status, lines_status, told_line}
@@ -71,20 +70,18 @@ texts_append (told ∷ a) b = ap (λ (z : List (List ℕ)). told.0 ∷ z) (texts
 module _ {index : Indexed} {op : ℕ} where
   pub told_none : (old : Option (List ℕ)) (status : Status) → AreLinesTold index op [] old old status status
   told_none old status =
-      record { told = []; lines_are = refl; so = tt; printed = λ dead skip units is. Appends-nil old; status_is = refl }
+      record { told = []; lines_are = refl; so = tt; printed = λ selection is. Appends-nil old; status_is = refl }
 
   -- one line
   pub told_one : {line : List ℕ} {old new : Option (List ℕ)} {before after : Status} (position : Option Position)
-      → Tells op (line, position)
-      → ((dead : Option ℕ) (skip : Bool) (units : List (ℕ × UnitParts)) → IsIndexOf dead skip units index
-      → Appends old new (told_line index dead skip units (line, position)))
+      → Tells op (line, position) → OfUnits index (λ selection. Appends old new (told_line index selection (line, position)))
       → after ≡ line_status before position → AreLinesTold index op (line ∷ []) old new before after
   told_one {line} {old} {new} position tells printed status = record {
     told = (line, position) ∷ [];
     lines_are = refl;
     so = (tells, tt);
-    printed = λ dead skip units is. subst (Appends old new) (sym (append-nil (told_line index dead skip units (line, position))))
-        (printed dead skip units is);
+    printed = λ selection is. subst (Appends old new) (sym (append-nil (told_line index selection (line, position))))
+        (printed selection is);
     status_is = status;
   }
 
@@ -96,11 +93,11 @@ module _ {index : Indexed} {op : ℕ} where
     lines_are = texts_append a.told b.told ∙ ap (λ (z : List (List ℕ)). z ++ map (λ line. line.0) b.told) a.lines_are
         ∙ ap (λ (z : List (List ℕ)). xs ++ z) b.lines_are;
     so = all_append (Tells op) a.told b.told a.so b.so;
-    printed = λ dead skip units is.
-        let text = told_line index dead skip units in
+    printed = λ selection is.
+        let text = told_line index selection in
         subst (Appends old new) (sym (flat_map-append text a.told b.told))
-        (Appends-trans old now new (flat_map text a.told) (flat_map text b.told) (a.printed dead skip units is)
-        (b.printed dead skip units is));
+        (Appends-trans old now new (flat_map text a.told) (flat_map text b.told) (a.printed selection is)
+        (b.printed selection is));
     status_is = b.status_is ∙ ap (λ (z : Status). lines_status z b.told) a.status_is ∙ sym (status_append s a.told b.told);
   }
 
@@ -111,8 +108,8 @@ module _ {index : Indexed} {op : ℕ} where
     told = all.told;
     lines_are = all.lines_are;
     so = all.so;
-    printed = λ dead skip units is. subst (Appends old new) (text_in_room none made made
-        (flat_map (told_line index dead skip units) all.told) empty (all.printed dead skip units is) refl) appended;
+    printed = λ selection is. subst (Appends old new) (text_in_room none made made
+        (flat_map (told_line index selection) all.told) empty (all.printed selection is) refl) appended;
     status_is = all.status_is;
   }
 
@@ -151,8 +148,7 @@ module _ {index : Indexed} {op : ℕ} where
 
   -- the first one, in which a position was found
   pub first_found : {text rest : List ℕ} {place : Position} {old new : List ℕ} {s : Status} → BeginsWithLine op text place rest
-      → ((dead : Option ℕ) (skip : Bool) (units : List (ℕ × UnitParts)) → IsIndexOf dead skip units index
-      → new ≡ old ++ lookup_line index dead skip units place)
+      → OfUnits index (λ selection. new ≡ old ++ lookup_line index selection place)
       → AreFirstTold index op text rest (Some old) (Some new) s s
   first_found {place = place} begins printed = first_line begins.line begins.cut refl (told_one (Some place) begins.tells printed refl)
 
@@ -288,8 +284,8 @@ module _ {index : Indexed} {op : ℕ} {start old : Option (List ℕ)} where
         told = before.told.told;
         lines_are = before.told.lines_are;
         so = before.told.so;
-        printed = λ dead skip units is. appends_kept old then new (flat_map (told_line index dead skip units) before.told.told)
-            (before.told.printed dead skip units is) kept;
+        printed = λ selection is. appends_kept old then new (flat_map (told_line index selection) before.told.told)
+            (before.told.printed selection is) kept;
         status_is = before.told.status_is;
       };
       cut = before.cut;

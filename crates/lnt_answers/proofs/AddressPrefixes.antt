@@ -27,7 +27,7 @@ module _ {index : Indexed} {op : ℕ} where
     told = all.told;
     lines_are = all.lines_are;
     so = all.so;
-    prefix = λ dead skip units is. prefix_all old new (flat_map (told_line index dead skip units) all.told) (all.printed dead skip units is);
+    prefix = λ selection is. prefix_all old new (flat_map (told_line index selection) all.told) (all.printed selection is);
   }
 
   -- those before some of which a prefix was written
@@ -38,10 +38,10 @@ module _ {index : Indexed} {op : ℕ} where
     lines_are = texts_append a.told b.told ∙ ap (λ (z : List (List ℕ)). z ++ map (λ line. line.0) b.told) a.lines_are
         ∙ ap (λ (z : List (List ℕ)). xs ++ z) b.lines_are;
     so = all_append (Tells op) a.told b.told a.so b.so;
-    prefix = λ dead skip units is.
-        let text = told_line index dead skip units in
+    prefix = λ selection is.
+        let text = told_line index selection in
         prefix_same old new _ _ (sym (flat_map-append text a.told b.told))
-        (prefix_after old now new (flat_map text a.told) (flat_map text b.told) (a.printed dead skip units is) (b.prefix dead skip units is));
+        (prefix_after old now new (flat_map text a.told) (flat_map text b.told) (a.printed selection is) (b.prefix selection is));
   }
 
   -- Others follow, whatever they tell: what was appended of these is a prefix of what is printed of all of them.
@@ -54,16 +54,16 @@ module _ {index : Indexed} {op : ℕ} where
         lines_are = texts_append begun.told others.0 ∙ ap (λ (z : List (List ℕ)). z ++ map (λ line. line.0) others.0) begun.lines_are
             ∙ ap (λ (z : List (List ℕ)). xs ++ z) others.1.0;
         so = all_append (Tells op) begun.told others.0 begun.so others.1.1;
-        prefix = λ dead skip units is.
-            let text = told_line index dead skip units in
+        prefix = λ selection is.
+            let text = told_line index selection in
             prefix_same old new _ _ (sym (flat_map-append text begun.told others.0))
-            (prefix_before old new (flat_map text begun.told) (flat_map text others.0) (begun.prefix dead skip units is));
+            (prefix_before old new (flat_map text begun.told) (flat_map text others.0) (begun.prefix selection is));
       }
 
   -- nothing was written
   pub begun_nothing : (texts : List (List ℕ)) (old : Option (List ℕ)) → AreLinesBegun index op texts old old
   begun_nothing texts old =
-      begun_before {xs = []} texts (record { told = []; lines_are = refl; so = tt; prefix = λ dead skip units is. prefix_none old [] })
+      begun_before {xs = []} texts (record { told = []; lines_are = refl; so = tt; prefix = λ selection is. prefix_none old [] })
 
   -- within their lines, which were made in an empty buffer
   begun_sending : {texts : List (List ℕ)} {none made : List ℕ} {old new : Option (List ℕ)} {s t : Status}
@@ -72,8 +72,8 @@ module _ {index : Indexed} {op : ℕ} where
     told = all.told;
     lines_are = all.lines_are;
     so = all.so;
-    prefix = λ dead skip units is. prefix_same old new made _
-        (text_in_room none made made (flat_map (told_line index dead skip units) all.told) empty (all.printed dead skip units is) refl) prefix;
+    prefix = λ selection is. prefix_same old new made _
+        (text_in_room none made made (flat_map (told_line index selection) all.told) empty (all.printed selection is) refl) prefix;
   }
 
   -- ---- the first lines of a text

@@ -1,11 +1,10 @@
 -- The stretches at which a table by path answers otherwise than the rows of units, given one after another.
 use Rattle.std.proofs.Common.{◌≡◌, ◌∙◌, Bool, ℕ, List, [], map, Option, Some, None, IfSome, is_some, refl, subst}
 use Rattle.std.specs.Option.{option_map}
-use Rattle.lnt_header.specs.declared.unit_parts.UnitParts.{UnitParts}
 use Rattle.lnt_spans.specs.declared.position.Position.{Position}
 use Rattle.lnt_spans.specs.declared.span.Span.{Span}
 use Rattle.lnt_spans.specs.Counts.{addresses_answered}
-use Rattle.lnt_sequences.specs.Sequences.{line_answer}
+use Rattle.lnt_sequences.specs.Sequences.{line_answer, Selection}
 use Rattle.lnt_lines.specs.Indexed.{Indexed}
 use Rattle.lnt_records.specs.Faults.{IsUnnumbered}
 use Rattle.lnt_paths.specs.declared.answer.AnswerByPath.{AnswerByPath}
@@ -39,28 +38,26 @@ ForPathDifferences to_come path differences all IsSo =
     (f g : Position → Option PathAnswer) → HasToldByPath to_come path differences f g [] → all ≡ addresses_answered f → IsSo f g
 
 -- No stretch was given yet, of a table with these spans.
-abbrev pub HasStarted : {S : Type 0} → (S → List Span → Type 0) → Indexed → DifferencesByPath S → PathVersion → Option ℕ → Bool
-    → List (ℕ × UnitParts) → List HeldSpan → Type 0
-HasStarted to_come index differences version dead skip units spans = StandInOrder (map held_span spans)
-    → HasToldByPath to_come (indexed_path index) differences (told_path version index dead skip units)
-    (path_span_answer (map held_span spans)) []
+abbrev pub HasStarted : {S : Type 0} → (S → List Span → Type 0) → Indexed → DifferencesByPath S → PathVersion → Selection
+    → List HeldSpan → Type 0
+HasStarted to_come index differences version selection spans = StandInOrder (map held_span spans)
+    → HasToldByPath to_come (indexed_path index) differences (told_path version index selection) (path_span_answer (map held_span spans)) []
 
 -- The slice has the held spans, and the paths are those of the index. So it holds of the differences from the units' rows.
 pub for_path_units : {S : Type 0} (to_come : S → List Span → Type 0) (index : Indexed) (path : ℕ → ℕ → List ℕ)
-    (differences : DifferencesByPath S) (version : PathVersion) (spans slice : List HeldSpan) (dead : Option ℕ) (skip : Bool)
-    (units : List (ℕ × UnitParts)) (table : Option (List ℕ))
-    (IsSo : (Position → Option PathAnswer) → (Position → Option PathAnswer) → Type 0) → slice ≡ spans → path ≡ indexed_path index
-    → IfSome table (λ text. IsUnnumbered text × IsPathTableOf version text (map held_span spans))
-    → StandInOrder (map held_span spans) → HasStarted to_come index differences version dead skip units slice
-    → ForPathDifferences to_come path differences (addresses_answered (line_answer dead skip units)) IsSo
-    → IfSome table (λ text. IsSoByPath index dead skip units text IsSo)
-for_path_units to_come index path differences version spans slice dead skip units None IsSo same by is order started p = tt
-for_path_units to_come index path differences version spans slice dead skip units (Some text) IsSo same by is order started p = record {
+    (differences : DifferencesByPath S) (version : PathVersion) (spans slice : List HeldSpan) (selection : Selection)
+    (table : Option (List ℕ)) (IsSo : (Position → Option PathAnswer) → (Position → Option PathAnswer) → Type 0) → slice ≡ spans
+    → path ≡ indexed_path index → IfSome table (λ text. IsUnnumbered text × IsPathTableOf version text (map held_span spans))
+    → StandInOrder (map held_span spans) → HasStarted to_come index differences version selection slice
+    → ForPathDifferences to_come path differences (addresses_answered (line_answer selection)) IsSo
+    → IfSome table (λ text. IsSoByPath index selection text IsSo)
+for_path_units to_come index path differences version spans slice selection None IsSo same by is order started p = tt
+for_path_units to_come index path differences version spans slice selection (Some text) IsSo same by is order started p = record {
   version = version;
   table = map held_span spans;
   is_table = is.1;
-  so = subst (λ (q : ℕ → ℕ → List ℕ). ForPathDifferences to_come q differences (addresses_answered (line_answer dead skip units)) IsSo) by
-      p (told_path version index dead skip units) (path_span_answer (map held_span spans))
-      (subst (HasStarted to_come index differences version dead skip units) same started order)
-      (told_addresses (path_answer version (path_at index.line index.general units)) (line_answer dead skip units));
+  so = subst (λ (q : ℕ → ℕ → List ℕ). ForPathDifferences to_come q differences (addresses_answered (line_answer selection)) IsSo) by
+      p (told_path version index selection) (path_span_answer (map held_span spans))
+      (subst (HasStarted to_come index differences version selection) same started order)
+      (told_addresses (path_answer version (path_at index.line index.general selection.units)) (line_answer selection));
 }

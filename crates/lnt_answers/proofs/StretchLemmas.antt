@@ -1,8 +1,7 @@
 -- The lines of the stretches at which a table answers otherwise than the rows of units.
-use Rattle.std.proofs.Common.{◌≡◌, ◌≢◌, Bool, ℕ, List, [], ◌++◌, inl, inr, Option, Some, None, IfSome, ap, codes, map, subst}
+use Rattle.std.proofs.Common.{◌≡◌, ◌≢◌, ℕ, List, [], ◌++◌, inl, inr, Option, Some, None, IfSome, ap, codes, map, subst}
 use Rattle.std.proofs.lemmas.List.{map-append}
 use Rattle.lnt_io.specs.Prefixes.{AppendsPrefix}
-use Rattle.lnt_header.specs.declared.unit_parts.UnitParts.{UnitParts}
 use Rattle.lnt_spans.specs.declared.answer.Answer.{Answer}
 use Rattle.lnt_spans.specs.declared.difference.Difference.{Difference}
 use Rattle.lnt_spans.specs.declared.listed.SpanList.{SpanList}
@@ -25,7 +24,7 @@ use Rattle.lnt_records.specs.Differing.{IsDiffering}
 use Rattle.lnt_records.specs.Faults.{IsFault, IsUnnumbered}
 use Rattle.lnt_records.proofs.ComparedLaws.{where_so}
 use Rattle.lnt_lines.specs.Indexed.{Indexed}
-use Rattle.lnt_sequences.specs.Sequences.{line_answer}
+use Rattle.lnt_sequences.specs.Sequences.{line_answer, Selection}
 use Rattle.lnt_table.specs.declared.within.Scope.{Scope}
 use Rattle.lnt_table.specs.Verdicts.{no_of_fault}
 use Rattle.lnt_table.proofs.CheckLemmas.{each_known, told_addresses}
@@ -50,19 +49,18 @@ ForDifferences of_section of_table differences all IsSo =
 
 -- So it holds of the differences from the units' rows.
 pub for_units : {S : Type 0} (of_section : Remaining S → List Span → Type 0) (of_table : SpanList → List Span → Type 0)
-    (differences given : Differences (Remaining S) SpanList) (dead : Option ℕ) (skip : Bool) (units : List (ℕ × UnitParts))
-    (table : Option (List ℕ)) (IsSo : (Position → Option Answer) → (Position → Option Answer) → Type 0) → given ≡ differences
-    → IfSome table (λ text. IsDiffering of_section of_table text (line_answer dead skip units) (Table differences)
-    × (Table differences ≢ Fault fault.Header))
-    → ForDifferences of_section of_table given (addresses_answered (line_answer dead skip units)) IsSo
-    → IfSome table (λ text. IsSoOfRows dead skip units text IsSo)
-for_units of_section of_table differences given dead skip units None IsSo same d p = tt
-for_units {S} of_section of_table differences given dead skip units (Some text) IsSo same d p =
-    where_so tables_by_number (in_versions (line_answer dead skip units)) (in_versions (line_answer dead skip units)) text
+    (differences given : Differences (Remaining S) SpanList) (selection : Selection) (table : Option (List ℕ))
+    (IsSo : (Position → Option Answer) → (Position → Option Answer) → Type 0) → given ≡ differences
+    → IfSome table (λ text. IsDiffering of_section of_table text (line_answer selection) (Table differences)
+    × (Table differences ≢ Fault fault.Header)) → ForDifferences of_section of_table given (addresses_answered (line_answer selection)) IsSo
+    → IfSome table (λ text. IsSoOfRows selection text IsSo)
+for_units of_section of_table differences given selection None IsSo same d p = tt
+for_units {S} of_section of_table differences given selection (Some text) IsSo same d p =
+    where_so tables_by_number (in_versions (line_answer selection)) (in_versions (line_answer selection)) text
     (λ by_section by_table. HasTold of_section of_table differences by_section by_table []) IsSo
     (λ version by_table told. subst (λ (list : Differences (Remaining S) SpanList).
-    ForDifferences of_section of_table list (addresses_answered (line_answer dead skip units)) IsSo) same p
-    (in_versions (line_answer dead skip units) version) by_table told (told_addresses (in_version version) (line_answer dead skip units)))
+    ForDifferences of_section of_table list (addresses_answered (line_answer selection)) IsSo) same p
+    (in_versions (line_answer selection) version) by_table told (told_addresses (in_version version) (line_answer selection)))
     d.0
 
 -- Others may follow the differences that were given.
@@ -79,12 +77,12 @@ IsNoHeader found = found ≢ Fault fault.Header
 
 -- ---- a writer that was stopped
 
-module _ (scope : Scope) (index : Indexed) (dead : Option ℕ) (skip : Bool) (units : List (ℕ × UnitParts)) where
+module _ (scope : Scope) (index : Indexed) (selection : Selection) where
   -- within the line of the fault of a table of version 1 or 2
   pub fault_begun : (S : Type 0) (table : Option (List ℕ)) {old new : Option (List ℕ)} (told : TableFault)
       → IfSome table (λ text. IsFault text told × IsNoHeader {S = S} (Fault told))
       → AppendsPrefix old new (table_no_text (no_of_fault told) ++ codes "\n")
-      → IfSome table (λ text. AreStretchesBegun scope index dead skip units text old new)
+      → IfSome table (λ text. AreStretchesBegun scope index selection text old new)
   fault_begun S None told is prefix = tt
   fault_begun S (Some text) told is prefix =
       inl (record { told = told; is_so = (is.0, λ e. is.1 (ap (λ (t : TableFault). Fault t) e)); prefix = prefix })
@@ -92,29 +90,29 @@ module _ (scope : Scope) (index : Indexed) (dead : Option ℕ) (skip : Bool) (un
   -- within the line of the fault of a table by path
   pub path_fault_begun : (table : Option (List ℕ)) {old new : Option (List ℕ)} (told : TableFault)
       → IfSome table (λ text. IsFaultByPath text told) → AppendsPrefix old new (table_no_text (no_of_fault told) ++ codes "\n")
-      → IfSome table (λ text. AreStretchesBegun scope index dead skip units text old new)
+      → IfSome table (λ text. AreStretchesBegun scope index selection text old new)
   path_fault_begun None told is prefix = tt
   path_fault_begun (Some text) told is prefix = inr (inr (inl (record { told = told; is_so = is; prefix = prefix })))
 
   -- within the lines of stretches, by number
   pub numbered_begun : {S : Type 0} (of_section : Remaining S → List Span → Type 0) (of_table : SpanList → List Span → Type 0)
       (table old new : Option (List ℕ)) {differences given : Differences (Remaining S) SpanList} → given ≡ differences
-      → IfSome table (λ text. IsDiffering of_section of_table text (line_answer dead skip units) (Table differences)
+      → IfSome table (λ text. IsDiffering of_section of_table text (line_answer selection) (Table differences)
       × (Table differences ≢ Fault fault.Header))
-      → ForDifferences of_section of_table given (addresses_answered (line_answer dead skip units))
+      → ForDifferences of_section of_table given (addresses_answered (line_answer selection))
       (λ f g. AreDifferencesBegun stretch_line scope f g old new)
-      → IfSome table (λ text. AreStretchesBegun scope index dead skip units text old new)
+      → IfSome table (λ text. AreStretchesBegun scope index selection text old new)
   numbered_begun of_section of_table table old new {differences} {given} same d p =
-      each_known table _ _ (for_units of_section of_table differences given dead skip units table _ same d p) (λ text is. inr (inl is))
+      each_known table _ _ (for_units of_section of_table differences given selection table _ same d p) (λ text is. inr (inl is))
 
   -- and by path
   pub path_begun : {S : Type 0} (to_come : S → List Span → Type 0) (differences : DifferencesByPath S) (version : PathVersion)
       (table old new : Option (List ℕ)) {path : ℕ → ℕ → List ℕ} {spans slice : List HeldSpan} → slice ≡ spans → path ≡ indexed_path index
       → IfSome table (λ text. IsUnnumbered text × IsPathTableOf version text (map held_span spans))
-      → StandInOrder (map held_span spans) → HasStarted to_come index differences version dead skip units slice
-      → ForPathDifferences to_come path differences (addresses_answered (line_answer dead skip units))
+      → StandInOrder (map held_span spans) → HasStarted to_come index differences version selection slice
+      → ForPathDifferences to_come path differences (addresses_answered (line_answer selection))
       (λ f g. AreDifferencesBegun path_stretch_line scope f g old new)
-      → IfSome table (λ text. AreStretchesBegun scope index dead skip units text old new)
+      → IfSome table (λ text. AreStretchesBegun scope index selection text old new)
   path_begun to_come differences version table old new {path} {spans} {slice} same by is order started p =
-      each_known table _ _ (for_path_units to_come index path differences version spans slice dead skip units table _ same by is order
+      each_known table _ _ (for_path_units to_come index path differences version spans slice selection table _ same by is order
       started p) (λ text told. inr (inr (inr told)))

@@ -1,5 +1,5 @@
 -- What is printed for a text whose lines contain positions.
-use Rattle.std.specs.Prelude.{◌≡◌, Bool, ℕ, List, [], ◌∷◌, ◌++◌, Option, Some, None, IfSome, codes, map}
+use Rattle.std.specs.Prelude.{◌≡◌, ℕ, List, [], ◌∷◌, ◌++◌, Option, Some, None, IfSome, codes, map}
 use Rattle.std.specs.List.{AllByRecursion, flat_map}
 use Rattle.std.specs.Io.KnownBytes.{Appends}
 use Rattle.std.specs.Str.Lines.{lines}
@@ -7,8 +7,8 @@ use Rattle.lnt_io.specs.Prefixes.{AppendsPrefix}
 use Rattle.lnt_io.specs.declared.status.Status.{Status}
 use Rattle.lnt_io.specs.declared.status.Status.TheVariants.{Done, No}
 use Rattle.lnt_spans.specs.declared.position.Position.{Position}
-use Rattle.lnt_header.specs.declared.unit_parts.UnitParts.{UnitParts}
-use Rattle.lnt_lines.specs.Indexed.{Indexed, IsIndexOf}
+use Rattle.lnt_sequences.specs.Sequences.{Selection}
+use Rattle.lnt_lines.specs.Indexed.{Indexed, OfUnits}
 use Rattle.lnt_text.specs.Quotes.{quoted_text}
 use Rattle.lnt_answers.specs.Lines.{TellsPosition, lookup_line}
 
@@ -18,9 +18,9 @@ Tells op (line, Some position) = TellsPosition op line position
 Tells op (line, None) = (position : Position) → TellsPosition op line position → ⊥
 
 -- what is printed for a line: the answer at its position; or that it is bad
-abbrev pub told_line : Indexed → Option ℕ → Bool → List (ℕ × UnitParts) → List ℕ × Option Position → List ℕ
-told_line index dead skip units (line, Some position) = lookup_line index dead skip units position
-told_line index dead skip units (line, None) = codes "bad " ++ (quoted_text line ++ codes "\n")
+abbrev pub told_line : Indexed → Selection → List ℕ × Option Position → List ℕ
+told_line index selection (line, Some position) = lookup_line index selection position
+told_line index selection (line, None) = codes "bad " ++ (quoted_text line ++ codes "\n")
 
 -- the status after a line
 abbrev pub line_status : Status → Option Position → Status
@@ -39,8 +39,7 @@ pub record AreLinesTold (index : Indexed) (op : ℕ) (texts : List (List ℕ)) (
   pub told : List (List ℕ × Option Position)
   pub lines_are : map (λ line. line.0) told ≡ texts
   pub so : AllByRecursion (Tells op) told
-  pub printed : (dead : Option ℕ) (skip : Bool) (units : List (ℕ × UnitParts)) → IsIndexOf dead skip units index
-      → Appends old new (flat_map (told_line index dead skip units) told)
+  pub printed : OfUnits index (λ selection. Appends old new (flat_map (told_line index selection) told))
   pub status_is : after ≡ lines_status before told
 
 -- If the source's bytes are known (text), this holds for the text's lines. A line ends with a line feed, which includes one
@@ -56,8 +55,7 @@ pub record AreLinesBegun (index : Indexed) (op : ℕ) (texts : List (List ℕ)) 
   pub told : List (List ℕ × Option Position)
   pub lines_are : map (λ line. line.0) told ≡ texts
   pub so : AllByRecursion (Tells op) told
-  pub prefix : (dead : Option ℕ) (skip : Bool) (units : List (ℕ × UnitParts)) → IsIndexOf dead skip units index
-      → AppendsPrefix old new (flat_map (told_line index dead skip units) told)
+  pub prefix : OfUnits index (λ selection. AppendsPrefix old new (flat_map (told_line index selection) told))
 
 -- If the source's bytes are known (text), this holds for all the text's lines, including those that weren't read yet. Their
 -- positions are a function of the lines (`laws::one_answer`): so a text has one whole answer, of which this is a prefix.

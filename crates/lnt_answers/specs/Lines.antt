@@ -1,5 +1,5 @@
 -- The lines that are printed about a section: why it isn't good, and its answers at positions.
-use Rattle.std.specs.Prelude.{◌≡◌, ◌==◌, ◌+◌, Bool, ℕ, List, ◌++◌, drop, take, if◌then◌else◌, None, Option, Some, codes, decimal}
+use Rattle.std.specs.Prelude.{◌≡◌, ◌==◌, ◌+◌, ℕ, List, ◌++◌, drop, take, if◌then◌else◌, None, Option, Some, codes, decimal}
 use Rattle.std.specs.List.{position}
 use Rattle.std.specs.Io.KnownBytes.{Appends, Keeps}
 use Rattle.lnt_spans.specs.declared.answer.Answer.{Answer}
@@ -7,9 +7,8 @@ use Rattle.lnt_spans.specs.declared.position.Position.{Position}
 use Rattle.lnt_lines.specs.declared.no.No.{No}
 use Rattle.lnt_lines.specs.declared.section.JudgedIndex.{JudgedIndex}
 use Rattle.lnt_lines.specs.declared.section.JudgedIndex.TheVariants.{Good, Bad}
-use Rattle.lnt_header.specs.declared.unit_parts.UnitParts.{UnitParts}
 use Rattle.lnt_io.specs.Prefixes.{AppendsPrefix}
-use Rattle.lnt_sequences.specs.Sequences.{line_answer}
+use Rattle.lnt_sequences.specs.Sequences.{line_answer, Selection}
 use Rattle.lnt_lines.specs.Indexed.{file_path_in, Indexed}
 use Rattle.lnt_text.specs.Digits.{IsAddress, IsDecimal}
 use Rattle.lnt_text.specs.Quotes.{quoted_text}
@@ -68,8 +67,8 @@ answer_line index position (Some answer) =
     (place_text position answer ++ row_text answer) ++ path_end (file_path_in index answer.unit answer.file)
 
 -- the line of the answer that the kept sequences of these units give at a position
-abbrev pub lookup_line : Indexed → Option ℕ → Bool → List (ℕ × UnitParts) → Position → List ℕ
-lookup_line index dead skip units position = answer_line index position (line_answer dead skip units position)
+abbrev pub lookup_line : Indexed → Selection → Position → List ℕ
+lookup_line index selection position = answer_line index position (line_answer selection position)
 
 -- The position in a line whose first comma is at this index: an address before the comma, and an operation index after it.
 -- A line without a comma is an address, with the operation index `op`.

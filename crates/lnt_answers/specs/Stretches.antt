@@ -1,12 +1,11 @@
 -- What is printed if all positions in a scope are reported at which a table and a good section answer differently.
-use Rattle.std.specs.Prelude.{◌≢◌, ◌++◌, ◌⊎◌, Bool, ℕ, List, IfSome, Option, codes}
+use Rattle.std.specs.Prelude.{◌≢◌, ◌++◌, ◌⊎◌, ℕ, List, IfSome, Option, codes}
 use Rattle.std.specs.Io.KnownBytes.{Appends, Keeps}
 use Rattle.lnt_io.specs.Prefixes.{AppendsPrefix}
-use Rattle.lnt_header.specs.declared.unit_parts.UnitParts.{UnitParts}
 use Rattle.lnt_spans.specs.declared.answer.Answer.{Answer}
 use Rattle.lnt_spans.specs.declared.position.Position.{Position}
 use Rattle.lnt_spans.specs.Spans.{span_answer}
-use Rattle.lnt_sequences.specs.Sequences.{line_answer}
+use Rattle.lnt_sequences.specs.Sequences.{line_answer, Selection}
 use Rattle.lnt_records.specs.declared.fault.TableFault.{TableFault}
 use Rattle.lnt_records.specs.declared.fault.TableFault.TheVariants as fault
 use Rattle.lnt_records.specs.Comparisons.{IsTableWhere, in_versions}
@@ -23,20 +22,17 @@ use Rattle.lnt_answers.specs.declared.stretches.Stretches.{Stretches}
 use Rattle.lnt_answers.specs.declared.stretches.Stretches.TheVariants.{Faulty, FaultyByPath, Told, ToldByPath}
 use Rattle.lnt_table.specs.Verdicts.{no_of_fault}
 use Rattle.lnt_table.specs.FaultTexts.{table_no_text}
-use Rattle.lnt_lines.specs.Indexed.{Indexed, IsIndexOf}
+use Rattle.lnt_lines.specs.Indexed.{Indexed, OfUnits}
 use Rattle.lnt_io.specs.declared.status.Status.{Status}
 use Rattle.lnt_io.specs.declared.status.Status.TheVariants as ending
 
 -- What is so of a table and the rows of the units, in the fields of the table's version.
-abbrev pub IsSoOfRows : Option ℕ → Bool → List (ℕ × UnitParts) → List ℕ → ((Position → Option Answer) → (Position → Option Answer) → Type 0)
-    → Type 0
-IsSoOfRows dead skip units table IsSo = IsTableWhere by_number span_answer (in_versions (line_answer dead skip units)) table IsSo
+abbrev pub IsSoOfRows : Selection → List ℕ → ((Position → Option Answer) → (Position → Option Answer) → Type 0) → Type 0
+IsSoOfRows selection table IsSo = IsTableWhere by_number span_answer (in_versions (line_answer selection)) table IsSo
 
 -- The same for a table by path, and for what the rows answer with the full path of each file.
-abbrev pub IsSoByPath : Indexed → Option ℕ → Bool → List (ℕ × UnitParts) → List ℕ
-    → ((Position → Option PathAnswer) → (Position → Option PathAnswer) → Type 0) → Type 0
-IsSoByPath index dead skip units table IsSo =
-    IsTableWhere by_path path_span_answer (λ version. told_path version index dead skip units) table IsSo
+abbrev pub IsSoByPath : Indexed → Selection → List ℕ → ((Position → Option PathAnswer) → (Position → Option PathAnswer) → Type 0) → Type 0
+IsSoByPath index selection table IsSo = IsTableWhere by_path path_span_answer (λ version. told_path version index selection) table IsSo
 
 -- The bytes begin with the header of neither version 1 nor 2, and this is their first fault as a table by path: `Header` if
 -- they begin with the header of neither version 3 nor 4.
@@ -45,19 +41,18 @@ IsFaultByPath table told = IsUnnumbered table × IsPathFault table told
 
 -- What is reported is true of the bytes: the stretches in the scope at which the answers differ, or its first fault. Of bytes with the
 -- header of version 1 or 2 it is Faulty or Told, of all others FaultyByPath or ToldByPath.
-abbrev pub AreStretchesOf : Scope → Indexed → Option ℕ → Bool → List (ℕ × UnitParts) → List ℕ → Option (List ℕ) → Option (List ℕ)
-    → Stretches → Type 0
-AreStretchesOf scope index dead skip units table old new (Faulty told) = IsFault table told × (told ≢ fault.Header)
-AreStretchesOf scope index dead skip units table old new (Told status) = IsSoOfRows dead skip units table
+abbrev pub AreStretchesOf : Scope → Indexed → Selection → List ℕ → Option (List ℕ) → Option (List ℕ) → Stretches → Type 0
+AreStretchesOf scope index selection table old new (Faulty told) = IsFault table told × (told ≢ fault.Header)
+AreStretchesOf scope index selection table old new (Told status) = IsSoOfRows selection table
     (λ by_section by_table. AreStretchesTold stretch_line scope by_section by_table old new status)
-AreStretchesOf scope index dead skip units table old new (FaultyByPath told) = IsFaultByPath table told
-AreStretchesOf scope index dead skip units table old new (ToldByPath status) = IsSoByPath index dead skip units table
+AreStretchesOf scope index selection table old new (FaultyByPath told) = IsFaultByPath table told
+AreStretchesOf scope index selection table old new (ToldByPath status) = IsSoByPath index selection table
     (λ by_section by_table. AreStretchesTold path_stretch_line scope by_section by_table old new status)
 
 -- it is true whatever the units are that the index was made of, where the table's bytes are known
 abbrev pub TellsStretches : Scope → Indexed → Option (List ℕ) → Option (List ℕ) → Option (List ℕ) → Stretches → Type 0
-TellsStretches scope index table old new told = (dead : Option ℕ) (skip : Bool) (units : List (ℕ × UnitParts))
-    → IsIndexOf dead skip units index → IfSome table (λ text. AreStretchesOf scope index dead skip units text old new told)
+TellsStretches scope index table old new told = OfUnits index (λ selection. IfSome table (λ text.
+    AreStretchesOf scope index selection text old new told))
 
 -- What was appended to a writer that held these bytes is the line of what is wrong with the table, if something is.
 abbrev pub IsFaultTold : Stretches → Option (List ℕ) → Option (List ℕ) → Type 0
@@ -85,15 +80,14 @@ pub record IsFaultBegun (IsSo : TableFault → Type 0) (old new : Option (List �
 
 -- What was written is a prefix of what is reported of the table, by its version: of the line of its first fault, or of the lines of
 -- the stretches.
-abbrev pub AreStretchesBegun : Scope → Indexed → Option ℕ → Bool → List (ℕ × UnitParts) → List ℕ → Option (List ℕ) → Option (List ℕ)
-    → Type 0
-AreStretchesBegun scope index dead skip units table old new =
+abbrev pub AreStretchesBegun : Scope → Indexed → Selection → List ℕ → Option (List ℕ) → Option (List ℕ) → Type 0
+AreStretchesBegun scope index selection table old new =
     IsFaultBegun (λ told. IsFault table told × (told ≢ fault.Header)) old new
-    ⊎ (IsSoOfRows dead skip units table (λ by_section by_table. AreDifferencesBegun stretch_line scope by_section by_table old new)
-    ⊎ (IsFaultBegun (IsFaultByPath table) old new ⊎ IsSoByPath index dead skip units table
+    ⊎ (IsSoOfRows selection table (λ by_section by_table. AreDifferencesBegun stretch_line scope by_section by_table old new)
+    ⊎ (IsFaultBegun (IsFaultByPath table) old new ⊎ IsSoByPath index selection table
     (λ by_section by_table. AreDifferencesBegun path_stretch_line scope by_section by_table old new)))
 
 -- it is, whatever the units are that the index was made of, where the table's bytes are known; or nothing was written
 abbrev pub BeginsStretches : Scope → Indexed → Option (List ℕ) → Option (List ℕ) → Option (List ℕ) → Type 0
-BeginsStretches scope index table old new = Keeps old new ⊎ ((dead : Option ℕ) (skip : Bool) (units : List (ℕ × UnitParts))
-    → IsIndexOf dead skip units index → IfSome table (λ text. AreStretchesBegun scope index dead skip units text old new))
+BeginsStretches scope index table old new = Keeps old new ⊎ OfUnits index (λ selection. IfSome table (λ text.
+    AreStretchesBegun scope index selection text old new))

@@ -1,12 +1,11 @@
 //! Prints the answer at a position.
-ghost use Rattle.std.specs.Prelude.{◌≡◌, Bool, ℕ, List, [], ◌++◌, Option, IfErr, IfOk, OnErr, OnOk};
+ghost use Rattle.std.specs.Prelude.{◌≡◌, [], ◌++◌, IfErr, IfOk, OnErr, OnOk};
 ghost use Rattle.std.specs.Io.KnownBytes.{Appends};
 ghost use Rattle.lnt_io.specs.declared.status.Status.TheVariants.{Done};
-ghost use Rattle.lnt_header.specs.declared.unit_parts.UnitParts.{UnitParts};
-ghost use Rattle.lnt_lines.specs.Indexed.{IsIndexOf};
 ghost use Rattle.lnt_io.specs.Prefixes.{AppendsPrefix};
 ghost use Rattle.lnt_io.specs.Halts.{IsPrinting};
 ghost use Rattle.std.specs.List.{flat_map};
+ghost use Rattle.lnt_lines.specs.Indexed.{OfUnits};
 ghost use Rattle.lnt_answers.specs.Lines.{lookup_line};
 
 use crate::answer_line::{put_answer, put_none};
@@ -61,8 +60,8 @@ pub(crate) fn put_lookup(
     line: &mut Vec<u8>,
 ) -> Result<(), AllocError>
     ensures index { lookups.new ≡ lookups.old }
-    ensures line { (dead : Option ℕ) (skip : Bool) (units : List (ℕ × UnitParts)) → IsIndexOf dead skip units lookups.old
-        → OnOk result (line.new.items ≡ line.old.items ++ lookup_line lookups.old dead skip units position) }
+    ensures line { OfUnits lookups.old (λ selection.
+        OnOk result (line.new.items ≡ line.old.items ++ lookup_line lookups.old selection position)) }
 {
     let found = lookups.lookups.lookup(alloc, position, &mut Probes::new())?;
     let Some(answer) = found else {
@@ -102,11 +101,10 @@ pub fn print_lookups<W: Write>(
 ) -> Result<Status, Halt>
     ensures done { IfOk result (λ status. status ≡ Done) }
     ensures err { IfErr result (λ halt. IsPrinting halt) }
-    ensures lines { (dead : Option ℕ) (skip : Bool) (units : List (ℕ × UnitParts)) → IsIndexOf dead skip units index.now
-        → OnOk result (Appends (W.contents out.old) (W.contents out.new) (flat_map (lookup_line index.now dead skip units) positions.now)) }
-    ensures prefix { (dead : Option ℕ) (skip : Bool) (units : List (ℕ × UnitParts)) → IsIndexOf dead skip units index.now
-        → OnErr result (AppendsPrefix (W.contents out.old) (W.contents out.new)
-        (flat_map (lookup_line index.now dead skip units) positions.now)) }
+    ensures lines { OfUnits index.now (λ selection.
+        OnOk result (Appends (W.contents out.old) (W.contents out.new) (flat_map (lookup_line index.now selection) positions.now))) }
+    ensures prefix { OfUnits index.now (λ selection. OnErr result (AppendsPrefix (W.contents out.old) (W.contents out.new)
+        (flat_map (lookup_line index.now selection) positions.now))) }
 {
     let mut lookups = CachedLookups::new(alloc, index, KeepsFrom::Second)?;
     let mut line = Vec::new(alloc);

@@ -1,12 +1,11 @@
 //! All stretches of positions in a scope at which a table and a good section answer differently.
-ghost use Rattle.std.specs.Prelude.{◌≡◌, ◌-◌, ◌^◌, ◌<◌, ◌+◌, ◌++◌, [], Bool, ℕ, List, Option, IfErr, IfOk, IsErrOf};
+ghost use Rattle.std.specs.Prelude.{◌≡◌, ◌-◌, ◌^◌, ◌<◌, ◌+◌, ◌++◌, [], Option, IfErr, IfOk, IsErrOf};
 ghost use Rattle.std.specs.Prelude.{OnErr, OnOk, codes};
 ghost use Rattle.std.specs.Io.KnownBytes.{Appends};
 ghost use Rattle.lnt_answers.specs.DifferenceLines.{AreDifferencesBegun, path_stretch_line};
 ghost use Rattle.lnt_answers.specs.Stepping.{ArePrinted, answer_of, end_status, end_text};
 ghost use Rattle.lnt_answers.specs.Stretches.{BeginsStretches, IsFaultTold, TellsStretches};
 ghost use Rattle.lnt_table.specs.FaultTexts.{table_no_text};
-ghost use Rattle.lnt_lines.specs.Indexed.{IsIndexOf};
 ghost use Rattle.lnt_paths.specs.PathAnswers.{PathAnswer};
 ghost use Rattle.lnt_paths.specs.Stretching.{HasToldByPath};
 ghost use Rattle.lnt_io.specs.Prefixes.{AppendsPrefix};
@@ -15,7 +14,7 @@ ghost use Rattle.lnt_sequences.specs.Sequences.{line_answer};
 ghost use Rattle.lnt_spans.specs.Counts.{addresses_answered};
 ghost use Rattle.lnt_spans.specs.declared.position.Position.{Position};
 ghost use Rattle.lnt_table.specs.Verdicts.{no_of_fault};
-ghost use Rattle.lnt_header.specs.declared.unit_parts.UnitParts.{UnitParts};
+ghost use Rattle.lnt_lines.specs.Indexed.{OfUnits};
 
 use crate::differences::print_differences;
 use crate::stretch_lines::StretchLines;
@@ -116,12 +115,10 @@ fn print_end<W: Write>(
 ) -> Result<Status, Halt>
     ensures err { IfErr result IsPrinting }
     ensures status { IfOk result (λ status. status ≡ end_status missed) }
-    ensures text { (dead : Option ℕ) (skip : Bool) (units : List (ℕ × UnitParts)) → IsIndexOf dead skip units index.now
-        → OnOk result (Appends (W.contents out.old) (W.contents out.new)
-        (end_text scope (addresses_answered (line_answer dead skip units)) missed)) }
-    ensures prefix { (dead : Option ℕ) (skip : Bool) (units : List (ℕ × UnitParts)) → IsIndexOf dead skip units index.now
-        → OnErr result (AppendsPrefix (W.contents out.old) (W.contents out.new)
-        (end_text scope (addresses_answered (line_answer dead skip units)) missed)) }
+    ensures text { OfUnits index.now (λ selection. OnOk result (Appends (W.contents out.old) (W.contents out.new)
+        (end_text scope (addresses_answered (line_answer selection)) missed))) }
+    ensures prefix { OfUnits index.now (λ selection. OnErr result (AppendsPrefix (W.contents out.old) (W.contents out.new)
+        (end_text scope (addresses_answered (line_answer selection)) missed))) }
 {
     let Some(missed) = missed else {
         return Ok(Status::No);
@@ -132,8 +129,7 @@ fn print_end<W: Write>(
 
 // The answer if there is no stretch in the scope, and the table doesn't answer at this many of the section's addresses.
 fn answer_if_none(scope: Scope, missed: u128, index: &Index<'_>) -> CheckedWithin
-    ensures { (dead : Option ℕ) (skip : Bool) (units : List (ℕ × UnitParts)) → IsIndexOf dead skip units index.now
-        → result ≡ answer_of scope (addresses_answered (line_answer dead skip units)) missed }
+    ensures { OfUnits index.now (λ selection. result ≡ answer_of scope (addresses_answered (line_answer selection)) missed) }
 {
     match scope {
         Scope::All => CheckedWithin::Checked(OfKind::Numbered(Verdict::Yes)),

@@ -1,13 +1,12 @@
 //! The address table of a good section.
-ghost use Rattle.std.specs.Prelude.{◌≡◌, Bool, ℕ, List, Option, IfErr, IfOk, OnErr, OnOk};
+ghost use Rattle.std.specs.Prelude.{◌≡◌, ℕ, List, IfErr, IfOk, OnErr, OnOk};
 ghost use Rattle.std.specs.Io.KnownBytes.{Appends};
-ghost use Rattle.lnt_lines.specs.Indexed.{IsIndexOf};
 ghost use Rattle.lnt_io.specs.Prefixes.{AppendsPrefix};
 ghost use Rattle.lnt_io.specs.Halts.{IsPrinting};
 ghost use Rattle.lnt_io.specs.declared.status.Status.TheVariants.{Done};
 ghost use Rattle.lnt_table.specs.ByPath.{told_path};
 ghost use Rattle.lnt_table.specs.Written.{BeginsTableOfUnits, IsTableOfUnits};
-ghost use Rattle.lnt_header.specs.declared.unit_parts.UnitParts.{UnitParts};
+ghost use Rattle.lnt_lines.specs.Indexed.{OfUnits};
 ghost use Rattle.lnt_answers.specs.PathTables.{BeginsPrintedTable, IsPrintedTable, operation_line};
 ghost use Rattle.lnt_answers.specs.Stepping.{halt_of_write};
 
@@ -33,10 +32,9 @@ pub fn print_table<W: Write>(
     ensures done { IfOk result (λ status. status ≡ Done) }
     ensures err { IfErr result IsPrinting }
     ensures table { OnOk result ((bytes : List ℕ) × Appends (W.contents out.old) (W.contents out.new) bytes
-        × ((dead : Option ℕ) (skip : Bool) (units : List (ℕ × UnitParts)) → IsIndexOf dead skip units index.now
-        → IsTableOfUnits version dead skip units bytes)) }
-    ensures begun { OnErr result ((dead : Option ℕ) (skip : Bool) (units : List (ℕ × UnitParts)) → IsIndexOf dead skip units index.now
-        → BeginsTableOfUnits version dead skip units (W.contents out.old) (W.contents out.new)) }
+        × OfUnits index.now (λ selection. IsTableOfUnits version selection bytes)) }
+    ensures begun { OnErr result (OfUnits index.now (λ selection.
+        BeginsTableOfUnits version selection (W.contents out.old) (W.contents out.new))) }
 {
     match write_index(alloc, index, version, out) {
         Ok(()) => Ok(Status::Done),
@@ -56,11 +54,10 @@ pub fn print_path_table<W: Write>(
     out: &mut W,
 ) -> Result<Status, Halt>
     ensures err { IfErr result IsPrinting }
-    ensures table { IfOk result (λ status. (dead : Option ℕ) (skip : Bool) (units : List (ℕ × UnitParts))
-        → IsIndexOf dead skip units index.now
-        → IsPrintedTable version (told_path version index.now dead skip units) (W.contents out.old) (W.contents out.new) status) }
-    ensures begun { OnErr result ((dead : Option ℕ) (skip : Bool) (units : List (ℕ × UnitParts)) → IsIndexOf dead skip units index.now
-        → BeginsPrintedTable version (told_path version index.now dead skip units) (W.contents out.old) (W.contents out.new)) }
+    ensures table { IfOk result (λ status. OfUnits index.now (λ selection.
+        IsPrintedTable version (told_path version index.now selection) (W.contents out.old) (W.contents out.new) status)) }
+    ensures begun { OnErr result (OfUnits index.now (λ selection.
+        BeginsPrintedTable version (told_path version index.now selection) (W.contents out.old) (W.contents out.new))) }
 {
     match write_paths(alloc, index, version, out) {
         Ok(PathTable::Written) => Ok(Status::Done),

@@ -3,7 +3,6 @@ use Rattle.std.proofs.Common.{ℕ, List, Option, Result, Ok, Err, IfOk, IfSome, 
 use Rattle.std.specs.Io.KnownBytes.{Appends}
 use Rattle.lnt_io.specs.Files.{FileState, Readable, TellsNoMore}
 use Rattle.lnt_io.specs.declared.status.Status.{Status}
-use Rattle.lnt_lines.specs.declared.options.Options.{Options}
 use Rattle.lnt_lines.specs.declared.section.JudgedIndex.{JudgedIndex}
 use Rattle.lnt_lines.specs.declared.section.JudgedIndex.TheVariants.{Good, Bad}
 use Rattle.lnt_lines.specs.Indexed.{Indexed}
@@ -22,25 +21,22 @@ use Rattle.lnt_cli.specs.Stepping.{IsJudgedSo}
 use Rattle.lnt_cli.specs.declared.inputs.Texts.{Texts}
 
 -- an answer stays true where more may be told of the files
-good_later : (tells tells' : List ℕ → FileState → Type 0) (options : Options) (question : Question) (index : Indexed)
-    (old new : Option (List ℕ)) (status : Status) → TellsNoMore tells tells' → AnswersGood tells' options question index old new status
-    → AnswersGood tells options question index old new status
-good_later tells tells' options Verify index old new status later so = so
-good_later tells tells' options (Lookup positions) index old new status later so = so
-good_later tells tells' options Files index old new status later so = so
-good_later tells tells' options (Table version) index old new status later so = so
-good_later tells tells' options (TableByPath true) index old new status later so = so
-good_later tells tells' options (TableByPath false) index old new status later so = so
-good_later tells tells' options Md5 index old new status later so =
-    sums_later tells tells' index (listed_files index) old new status later so
+good_later : (tells tells' : List ℕ → FileState → Type 0) (question : Question) (index : Indexed)
+    (old new : Option (List ℕ)) (status : Status) → TellsNoMore tells tells' → AnswersGood tells' question index old new status
+    → AnswersGood tells question index old new status
+good_later tells tells' Verify index old new status later so = so
+good_later tells tells' (Lookup positions) index old new status later so = so
+good_later tells tells' Files index old new status later so = so
+good_later tells tells' (Table version) index old new status later so = so
+good_later tells tells' (TableByPath true) index old new status later so = so
+good_later tells tells' (TableByPath false) index old new status later so = so
+good_later tells tells' Md5 index old new status later so = sums_later tells tells' index (listed_files index) old new status later so
 
-judged_later : (tells tells' : List ℕ → FileState → Type 0) (options : Options) (question : Question) (old new : Option (List ℕ))
-    (status : Status) (judged : JudgedIndex) → TellsNoMore tells tells'
-    → AnswersJudged (AnswersGood tells' options question) old new status judged
-    → AnswersJudged (AnswersGood tells options question) old new status judged
-judged_later tells tells' options question old new status (Good index) later so =
-    good_later tells tells' options question index old new status later so
-judged_later tells tells' options question old new status (Bad reason) later so = so
+judged_later : (tells tells' : List ℕ → FileState → Type 0) (question : Question) (old new : Option (List ℕ)) (status : Status)
+    (judged : JudgedIndex) → TellsNoMore tells tells' → AnswersJudged (AnswersGood tells' question) old new status judged
+    → AnswersJudged (AnswersGood tells question) old new status judged
+judged_later tells tells' question old new status (Good index) later so = good_later tells tells' question index old new status later so
+judged_later tells tells' question old new status (Bad reason) later so = so
 
 -- What is told of a judged section is told of the section in its file.
 pub told_of_section : (tells : List ℕ → FileState → Type 0) (from : Judging) (IsTold : JudgedIndex → Type 0) (texts : Texts)
@@ -60,14 +56,12 @@ told_of_section tells from IsTold texts section are_texts of_section so = record
 -- An answer for a judged section, from a time when less might be told of the files, is the answer to the question.
 pub question_of : {T E : Type 0} (tells tells' : List ℕ → FileState → Type 0) (from : Judging) (question : Question)
     (old new : Option (List ℕ)) (texts : Texts) (section : Option (List ℕ)) (ended : Result T E) (status_of : T → Status)
-    → AreTextsOf tells from texts.line.items texts.general.items → tells from.section.now (Readable section)
-    → TellsNoMore tells tells'
-    → IfOk ended (λ answered. IsJudgedSo texts from section
-    (AnswersJudged (AnswersGood tells' (options_in from) question) old new (status_of answered)))
+    → AreTextsOf tells from texts.line.items texts.general.items → tells from.section.now (Readable section) → TellsNoMore tells tells'
+    → IfOk ended (λ answered. IsJudgedSo texts from section (AnswersJudged (AnswersGood tells' question) old new (status_of answered)))
     → IfOk ended (λ answered. AnswersQuestion tells from question old new (status_of answered))
 question_of tells tells' from question old new texts section (Ok answered) status_of are_texts of_section later so =
-    told_of_section tells from (AnswersJudged (AnswersGood tells (options_in from) question) old new (status_of answered)) texts section
-    are_texts of_section (so.0, so.1, judged_later tells tells' (options_in from) question old new (status_of answered) so.0 later so.2)
+    told_of_section tells from (AnswersJudged (AnswersGood tells question) old new (status_of answered)) texts section
+    are_texts of_section (so.0, so.1, judged_later tells tells' question old new (status_of answered) so.0 later so.2)
 question_of tells tells' from question old new texts section (Err stop) status_of are_texts of_section later so = so
 
 -- What is told of a judged section and of the bytes of a file is told of that file.

@@ -7,7 +7,6 @@ use Rattle.lnt_io.specs.Prefixes.{AppendsPrefix, HasBegun}
 use Rattle.lnt_io.proofs.PrefixLaws.{appends_known}
 use Rattle.lnt_io.specs.Files.{FileState, Readable, TellsNoMore}
 use Rattle.lnt_lines.specs.declared.no.No.{No}
-use Rattle.lnt_lines.specs.declared.options.Options.{Options}
 use Rattle.lnt_lines.specs.declared.section.JudgedIndex.{JudgedIndex}
 use Rattle.lnt_lines.specs.declared.section.JudgedIndex.TheVariants.{Good, Bad}
 use Rattle.lnt_lines.specs.Indexed.{Indexed}
@@ -22,7 +21,7 @@ use Rattle.lnt_lines.specs.FaultTexts.{no_text}
 use Rattle.lnt_answers.proofs.SumLaws.{begun_later}
 use Rattle.lnt_answers.specs.Stretches.{BeginsStretches}
 use Rattle.lnt_answers.specs.Verdicts.{checked_line, checked_status}
-use Rattle.lnt_cli.specs.Answered.{AnswersCheck, AreTextsOf, IsChecked, IsOfFile, options_in}
+use Rattle.lnt_cli.specs.Answered.{AnswersCheck, AreTextsOf, IsChecked, IsOfFile}
 use Rattle.lnt_cli.specs.Stepping.{IsJudgedSo, IsTrueOf}
 use Rattle.lnt_cli.specs.Stopped.{BeginsGood, BeginsGoodFile, BeginsJudged, BeginsQuestion}
 use Rattle.lnt_cli.specs.declared.inputs.Texts.{Texts}
@@ -74,37 +73,33 @@ begins_bad texts from section HasBegunOf old new (Err stop) of_bad (inr line) =
 -- ---- questions
 
 -- a prefix of an answer stays true where more may be told of the files
-good_begun_later : (tells tells' : List ℕ → FileState → Type 0) (options : Options) (question : Question) (index : Indexed)
-    (old new : Option (List ℕ)) → TellsNoMore tells tells' → BeginsGood tells' options question index old new
-    → BeginsGood tells options question index old new
-good_begun_later tells tells' options Verify index old new later begun = begun
-good_begun_later tells tells' options (Lookup positions) index old new later begun = begun
-good_begun_later tells tells' options Files index old new later begun = begun
-good_begun_later tells tells' options (Table version) index old new later begun = begun
-good_begun_later tells tells' options (TableByPath true) index old new later begun = begun
-good_begun_later tells tells' options (TableByPath false) index old new later begun = begun
-good_begun_later tells tells' options Md5 index old new later begun =
-    begun_later tells tells' index (listed_files index) old new later begun
+good_begun_later : (tells tells' : List ℕ → FileState → Type 0) (question : Question) (index : Indexed) (old new : Option (List ℕ))
+    → TellsNoMore tells tells' → BeginsGood tells' question index old new → BeginsGood tells question index old new
+good_begun_later tells tells' Verify index old new later begun = begun
+good_begun_later tells tells' (Lookup positions) index old new later begun = begun
+good_begun_later tells tells' Files index old new later begun = begun
+good_begun_later tells tells' (Table version) index old new later begun = begun
+good_begun_later tells tells' (TableByPath true) index old new later begun = begun
+good_begun_later tells tells' (TableByPath false) index old new later begun = begun
+good_begun_later tells tells' Md5 index old new later begun = begun_later tells tells' index (listed_files index) old new later begun
 
-judged_begun_later : (tells tells' : List ℕ → FileState → Type 0) (options : Options) (question : Question)
+judged_begun_later : (tells tells' : List ℕ → FileState → Type 0) (question : Question)
     (old new : Option (List ℕ)) (judged : JudgedIndex) → TellsNoMore tells tells'
-    → BeginsJudged (BeginsGood tells' options question) old new judged → BeginsJudged (BeginsGood tells options question) old new judged
-judged_begun_later tells tells' options question old new (Good index) later begun =
-    good_begun_later tells tells' options question index old new later begun
-judged_begun_later tells tells' options question old new (Bad reason) later begun = begun
+    → BeginsJudged (BeginsGood tells' question) old new judged → BeginsJudged (BeginsGood tells question) old new judged
+judged_begun_later tells tells' question old new (Good index) later begun = good_begun_later tells tells' question index old new later begun
+judged_begun_later tells tells' question old new (Bad reason) later begun = begun
 
 -- A prefix of an answer for a judged section, from a time when less might be told of the files, is one to the question.
 pub question_stopped : {T E : Type 0} (tells tells' : List ℕ → FileState → Type 0) (from : Judging) (question : Question)
     (old new : Option (List ℕ)) (texts : Texts) (section : Option (List ℕ)) (ended : Result T E)
-    → AreTextsOf tells from texts.line.items texts.general.items → tells from.section.now (Readable section)
-    → TellsNoMore tells tells'
-    → OnErr ended (Keeps old new ⊎ IsJudgedSo texts from section (BeginsJudged (BeginsGood tells' (options_in from) question) old new))
+    → AreTextsOf tells from texts.line.items texts.general.items → tells from.section.now (Readable section) → TellsNoMore tells tells'
+    → OnErr ended (Keeps old new ⊎ IsJudgedSo texts from section (BeginsJudged (BeginsGood tells' question) old new))
     → OnErr ended (Keeps old new ⊎ BeginsQuestion tells from question old new)
 question_stopped tells tells' from question old new texts section (Ok answered) are_texts of_section later begun = tt
 question_stopped tells tells' from question old new texts section (Err stop) are_texts of_section later (inl kept) = inl kept
 question_stopped tells tells' from question old new texts section (Err stop) are_texts of_section later (inr begun) =
-    inr (told_of_section tells from (BeginsJudged (BeginsGood tells (options_in from) question) old new) texts section are_texts
-    of_section (begun.0, begun.1, judged_begun_later tells tells' (options_in from) question old new begun.0 later begun.2))
+    inr (told_of_section tells from (BeginsJudged (BeginsGood tells question) old new) texts section are_texts
+    of_section (begun.0, begun.1, judged_begun_later tells tells' question old new begun.0 later begun.2))
 
 -- ---- a section and another file
 
@@ -125,11 +120,8 @@ of_file_stopped tells from file HasBegunOf old new texts section bytes (Err stop
 
 -- The printing of the places stopped the run.
 pub places_stopped : {R T S E : Type 0} (scope : Scope) (index : Indexed) (table old new : Option (List ℕ)) (worked : Result R E)
-    (ended : Result T S)
-    → OnErr ended (IsErr worked) → OnErr worked (BeginsStretches scope index table old new)
-    → OnErr ended (Keeps old new ⊎ ((options : Options) → BeginsGoodFile (Places scope) options table index old new))
+    (ended : Result T S) → OnErr ended (IsErr worked) → OnErr worked (BeginsStretches scope index table old new)
+    → OnErr ended (Keeps old new ⊎ BeginsGoodFile (Places scope) table index old new)
 places_stopped scope index table old new worked (Ok told) is begun = tt
 places_stopped scope index table old new (Ok value) (Err stop) is begun = absurd (false≢true is)
-places_stopped scope index table old new (Err halt) (Err stop) is (inl kept) = inl kept
-places_stopped scope index table old new (Err halt) (Err stop) is (inr begun) =
-    inr (λ options units of_index. begun options.dead options.skip_copies units of_index)
+places_stopped scope index table old new (Err halt) (Err stop) is begun = begun

@@ -83,8 +83,7 @@ pub record IsOfSection (tells : List ℕ → FileState → Type 0) (from : Judgi
 -- The answer to the question was written.
 abbrev pub AnswersQuestion : (List ℕ → FileState → Type 0) → Judging → Question → Option (List ℕ) → Option (List ℕ) → Status
     → Type 0
-AnswersQuestion tells from question old new status =
-    IsOfSection tells from (AnswersJudged (AnswersGood tells (options_in from) question) old new status)
+AnswersQuestion tells from question old new status = IsOfSection tells from (AnswersJudged (AnswersGood tells question) old new status)
 
 -- The same for a statement about the bytes of another file and the judgement.
 pub record IsOfFile (tells : List ℕ → FileState → Type 0) (from : Judging) (file : List ℕ)
@@ -97,7 +96,7 @@ pub record IsOfFile (tells : List ℕ → FileState → Type 0) (from : Judging)
 abbrev pub AnswersFile : (List ℕ → FileState → Type 0) → Judging → List ℕ → FileQuestion → Option (List ℕ) → Option (List ℕ) → Status
     → Type 0
 AnswersFile tells from file question old new status =
-    IsOfFile tells from file (λ bytes. AnswersJudged (AnswersGoodFile question (options_in from) bytes) old new status)
+    IsOfFile tells from file (λ bytes. AnswersJudged (AnswersGoodFile question bytes) old new status)
 
 -- ---- sections that are read
 

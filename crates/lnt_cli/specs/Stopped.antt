@@ -7,10 +7,9 @@ use Rattle.std.specs.Option.{option_copied}
 use Rattle.std.specs.Io.KnownBytes.{Keeps}
 use Rattle.lnt_io.specs.Prefixes.{AppendsPrefix, HasBegun}
 use Rattle.lnt_wire.specs.declared.format.Order.{Order}
-use Rattle.lnt_lines.specs.declared.options.Options.{Options}
 use Rattle.lnt_lines.specs.declared.section.JudgedIndex.{JudgedIndex}
 use Rattle.lnt_lines.specs.declared.section.JudgedIndex.TheVariants.{Good, Bad}
-use Rattle.lnt_lines.specs.Indexed.{Indexed}
+use Rattle.lnt_lines.specs.Indexed.{Indexed, OfUnits}
 use Rattle.lnt_paths.specs.declared.version.PathVersion.{PathVersion}
 use Rattle.lnt_paths.specs.declared.version.PathVersion.TheVariants.{Three, Four}
 use Rattle.lnt_table.specs.ByPath.{told_path}
@@ -35,36 +34,33 @@ use Rattle.lnt_words.specs.Sizes.{size_bytes}
 use Rattle.lnt_dump.specs.Upgraded.{IsUpgradeBegun}
 use Rattle.lnt_cli.specs.declared.question.FileQuestion.{FileQuestion}
 use Rattle.lnt_cli.specs.declared.question.FileQuestion.TheVariants.{Lines, Places}
-use Rattle.lnt_cli.specs.Answered.{AnswersCheck, IsOfFile, IsOfSection, IsTextOf, options_in}
-use Rattle.lnt_cli.specs.Questions.{ForUnitsOf}
+use Rattle.lnt_cli.specs.Answered.{AnswersCheck, IsOfFile, IsOfSection, IsTextOf}
 use Rattle.lnt_cli.specs.Readings.{BeginsReading}
 
 -- ---- sections that are judged
 
 -- a prefix of the table by path of the units' answers, or of the line that says that there can't be one
-abbrev pub BeginsPathTableText : PathVersion → Options → Indexed → Option (List ℕ) → Option (List ℕ) → Type 0
-BeginsPathTableText version options index old new =
-    ForUnitsOf options index (λ units. BeginsPrintedTable version (told_path version index options.dead options.skip_copies units) old new)
+abbrev pub BeginsPathTableText : PathVersion → Indexed → Option (List ℕ) → Option (List ℕ) → Type 0
+BeginsPathTableText version index old new =
+    OfUnits index (λ selection. BeginsPrintedTable version (told_path version index selection) old new)
 
 -- A prefix of the answer for a good section with this index.
-abbrev pub BeginsGood : (List ℕ → FileState → Type 0) → Options → Question → Indexed → Option (List ℕ) → Option (List ℕ) → Type 0
-BeginsGood tells options Verify index old new = AppendsPrefix old new (codes "yes\n")
-BeginsGood tells options (Lookup positions) index old new =
-    ForUnitsOf options index
-    (λ units. AppendsPrefix old new (flat_map (lookup_line index options.dead options.skip_copies units) positions.items))
-BeginsGood tells options Files index old new = AppendsPrefix old new (files_text index)
-BeginsGood tells options Md5 index old new = AreSumsBegun tells index (listed_files index) old new
-BeginsGood tells options (Table version) index old new =
-    ForUnitsOf options index (λ units. BeginsTableOfUnits version options.dead options.skip_copies units old new)
-BeginsGood tells options (TableByPath true) index old new = BeginsPathTableText Three options index old new
-BeginsGood tells options (TableByPath false) index old new = BeginsPathTableText Four options index old new
+abbrev pub BeginsGood : (List ℕ → FileState → Type 0) → Question → Indexed → Option (List ℕ) → Option (List ℕ) → Type 0
+BeginsGood tells Verify index old new = AppendsPrefix old new (codes "yes\n")
+BeginsGood tells (Lookup positions) index old new =
+    OfUnits index (λ selection. AppendsPrefix old new (flat_map (lookup_line index selection) positions.items))
+BeginsGood tells Files index old new = AppendsPrefix old new (files_text index)
+BeginsGood tells Md5 index old new = AreSumsBegun tells index (listed_files index) old new
+BeginsGood tells (Table version) index old new = OfUnits index (λ selection. BeginsTableOfUnits version selection old new)
+BeginsGood tells (TableByPath true) index old new = BeginsPathTableText Three index old new
+BeginsGood tells (TableByPath false) index old new = BeginsPathTableText Four index old new
 
 -- A prefix of the answer for a good section with this index and another file, of these bytes. Lines that weren't read yet count among
 -- those of that file.
-abbrev pub BeginsGoodFile : FileQuestion → Options → Option (List ℕ) → Indexed → Option (List ℕ) → Option (List ℕ) → Type 0
-BeginsGoodFile (Lines op) options bytes index old new = AreAddressesBegun index op bytes old new
-BeginsGoodFile (Places scope) options bytes index old new = ForUnitsOf options index (λ units. IfSome bytes
-    (λ text. AreStretchesBegun scope index options.dead options.skip_copies units text old new))
+abbrev pub BeginsGoodFile : FileQuestion → Option (List ℕ) → Indexed → Option (List ℕ) → Option (List ℕ) → Type 0
+BeginsGoodFile (Lines op) bytes index old new = AreAddressesBegun index op bytes old new
+BeginsGoodFile (Places scope) bytes index old new = OfUnits index (λ selection. IfSome bytes
+    (λ text. AreStretchesBegun scope index selection text old new))
 
 -- A prefix of the answer for a section with this judgement.
 abbrev pub BeginsJudged : (Indexed → Option (List ℕ) → Option (List ℕ) → Type 0) → Option (List ℕ) → Option (List ℕ) → JudgedIndex
@@ -74,12 +70,11 @@ BeginsJudged BeginsOfGood old new (Bad reason) = AppendsPrefix old new (no_text 
 
 -- The judgement of the section in the named file is true, and a prefix of the answer to the question was written.
 abbrev pub BeginsQuestion : (List ℕ → FileState → Type 0) → Judging → Question → Option (List ℕ) → Option (List ℕ) → Type 0
-BeginsQuestion tells from question old new = IsOfSection tells from (BeginsJudged (BeginsGood tells (options_in from) question) old new)
+BeginsQuestion tells from question old new = IsOfSection tells from (BeginsJudged (BeginsGood tells question) old new)
 
 -- The same of the answer to a question about the section and the file with this name.
 abbrev pub BeginsFile : (List ℕ → FileState → Type 0) → Judging → List ℕ → FileQuestion → Option (List ℕ) → Option (List ℕ) → Type 0
-BeginsFile tells from file question old new =
-    IsOfFile tells from file (λ bytes. BeginsJudged (BeginsGoodFile question (options_in from) bytes) old new)
+BeginsFile tells from file question old new = IsOfFile tells from file (λ bytes. BeginsJudged (BeginsGoodFile question bytes) old new)
 
 -- ---- sections that are read
 

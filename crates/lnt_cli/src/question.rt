@@ -9,7 +9,6 @@ ghost use Rattle.lnt_cli.specs.Questions.{AnswersGood, AnswersGoodFile, AnswersJ
 ghost use Rattle.lnt_cli.specs.Stepping.{IsJudgedSo, IsTrueOf};
 ghost use Rattle.lnt_cli.specs.Stopped.{BeginsFile, BeginsGood, BeginsGoodFile, BeginsJudged, BeginsQuestion};
 ghost use Rattle.lnt_cli.specs.Stops.{AnswersUnreadable, IsFileOf, IsFileOfBoth, IsUnreadable, NamesOneOf, StopsIfRefused};
-ghost use Rattle.lnt_lines.specs.declared.options.Options.{Options as OptionsSpec};
 
 use crate::inputs::{Opened, OpenedBoth, Texts, of_file, open_both, open_judged};
 use crate::notes::{Answered, Occasion};
@@ -129,11 +128,11 @@ fn answer_opened<'t, S: Source, O: Opener, W: Write>(
     requires { S.failures files.old.section < 2 ^ 64 - 1 }
     ensures named { IfErr result (NamesOneOf (IsFileOf from.now)) }
     ensures answer { IfOk result (λ answered. IsJudgedSo files.old.texts from.now (S.remaining files.old.section)
-        (AnswersJudged (AnswersGood (O.tells opener.old) (options_in from.now) question.now)
+        (AnswersJudged (AnswersGood (O.tells opener.old) question.now)
         (W.contents out.old) (W.contents out.new) answered.status)) }
     ensures stopped { OnErr result (Keeps (W.contents out.old) (W.contents out.new)
         ⊎ IsJudgedSo files.old.texts from.now (S.remaining files.old.section)
-        (BeginsJudged (BeginsGood (O.tells opener.old) (options_in from.now) question.now)
+        (BeginsJudged (BeginsGood (O.tells opener.old) question.now)
         (W.contents out.old) (W.contents out.new))) }
     ensures refused { RefusesOnly (λ _. question.now ≡ Md5) (O.refused opener.old) (O.refused opener.new) }
 {
@@ -154,10 +153,9 @@ fn answer_good<'t, O: Opener, W: Write>(
     out: &mut W,
 ) -> Result<Answered<'t>, FileStop>
     ensures named { IfErr result (NamesOneOf (λ name. string_bytes section ≡ name)) }
-    ensures answer { IfOk result (λ answered. (options : OptionsSpec)
-        → AnswersGood (O.tells opener.old) options question.now index.now (W.contents out.old) (W.contents out.new) answered.status) }
-    ensures stopped { OnErr result ((options : OptionsSpec)
-        → BeginsGood (O.tells opener.old) options question.now index.now (W.contents out.old) (W.contents out.new)) }
+    ensures answer { IfOk result (λ answered.
+        AnswersGood (O.tells opener.old) question.now index.now (W.contents out.old) (W.contents out.new) answered.status) }
+    ensures stopped { OnErr result (BeginsGood (O.tells opener.old) question.now index.now (W.contents out.old) (W.contents out.new)) }
     ensures refused { RefusesOnly (λ _. question.now ≡ Md5) (O.refused opener.old) (O.refused opener.new) }
 {
     let printed = print_answer(alloc, index, question, opener, out);
@@ -201,11 +199,11 @@ fn answer_both_of<'f, S: Source, F: Source, W: Write>(
     requires file { F.failures files.old.file < 2 ^ 64 - 1 }
     ensures named { IfErr result (NamesOneOf (IsFileOfBoth from.now file.now)) }
     ensures answer { IfOk result (λ answered. IsJudgedSo files.old.texts from.now (S.remaining files.old.section)
-        (AnswersJudged (AnswersGoodFile question (options_in from.now) (F.remaining files.old.file))
+        (AnswersJudged (AnswersGoodFile question (F.remaining files.old.file))
         (W.contents out.old) (W.contents out.new) answered.status)) }
     ensures stopped { OnErr result (Keeps (W.contents out.old) (W.contents out.new)
         ⊎ IsJudgedSo files.old.texts from.now (S.remaining files.old.section)
-        (BeginsJudged (BeginsGoodFile question (options_in from.now) (F.remaining files.old.file))
+        (BeginsJudged (BeginsGoodFile question (F.remaining files.old.file))
         (W.contents out.old) (W.contents out.new))) }
 {
     match judge(alloc, &mut files.section, &files.texts, from, out)? {
@@ -227,10 +225,10 @@ fn answer_good_file<'f, F: Source, W: Write>(
 ) -> Result<Answered<'f>, FileStop>
     requires { F.failures bytes.old < 2 ^ 64 - 1 }
     ensures named { IfErr result (NamesOneOf (λ name. file.now ≡ name)) }
-    ensures answer { IfOk result (λ answered. (options : OptionsSpec) → AnswersGoodFile question options (F.remaining bytes.old)
+    ensures answer { IfOk result (λ answered. AnswersGoodFile question (F.remaining bytes.old)
         index.now (W.contents out.old) (W.contents out.new) answered.status) }
-    ensures stopped { OnErr result (Keeps (W.contents out.old) (W.contents out.new) ⊎ ((options : OptionsSpec)
-        → BeginsGoodFile question options (F.remaining bytes.old) index.now (W.contents out.old) (W.contents out.new))) }
+    ensures stopped { OnErr result (Keeps (W.contents out.old) (W.contents out.new)
+        ⊎ BeginsGoodFile question (F.remaining bytes.old) index.now (W.contents out.old) (W.contents out.new)) }
 {
     let name = String::from_str(alloc, file)?;
     match question {
@@ -290,10 +288,9 @@ fn print_answer<O: Opener, W: Write>(
     opener: &mut O,
     out: &mut W,
 ) -> Result<Status, Halt>
-    ensures answer { IfOk result (λ status. (options : OptionsSpec)
-        → AnswersGood (O.tells opener.old) options question.now index.now (W.contents out.old) (W.contents out.new) status) }
-    ensures stopped { OnErr result ((options : OptionsSpec)
-        → BeginsGood (O.tells opener.old) options question.now index.now (W.contents out.old) (W.contents out.new)) }
+    ensures answer { IfOk result (λ status.
+        AnswersGood (O.tells opener.old) question.now index.now (W.contents out.old) (W.contents out.new) status) }
+    ensures stopped { OnErr result (BeginsGood (O.tells opener.old) question.now index.now (W.contents out.old) (W.contents out.new)) }
     ensures refused { RefusesOnly (λ _. question.now ≡ Md5) (O.refused opener.old) (O.refused opener.new) }
 {
     match question {

@@ -11,7 +11,7 @@ use Rattle.lnt_spans.specs.declared.span.Span.{Span}
 use Rattle.lnt_spans.specs.Spans.{AreInOrder, span_answer}
 use Rattle.lnt_lines.specs.declared.no.No.{No}
 use Rattle.lnt_lines.specs.Drafts.{IsIndexOfSection}
-use Rattle.lnt_lines.specs.Good.{IsGood}
+use Rattle.lnt_lines.specs.Good.{IsGood, selected}
 use Rattle.lnt_lines.specs.Indexed.{file_count_in, file_path_in, Indexed}
 use Rattle.lnt_lines.specs.Nos.{IsTrueNo}
 use Rattle.lnt_table.specs.declared.within.CheckedWithin.{CheckedWithin}
@@ -48,9 +48,9 @@ pub data IsRefused (section : FlatSection) (told : FlatVerdict) : Type 0 where
 pub record AreSpansOf (section : FlatSection) (spans : List Span) : Type 0 where
   pub units : List (ℕ × UnitParts)
   pub good : IsGood section.line_str.now section.general.now (options_of section) section.line.now units
-  pub spans_are : IsPermutation (spans_of (kept_sequences (options_of section).dead section.skip_copies units)) spans
+  pub spans_are : IsPermutation (spans_of (kept_sequences (selected (options_of section) units))) spans
   pub in_order : AreInOrder spans
-  pub answers : (p : Position) → span_answer spans p ≡ line_answer (options_of section).dead section.skip_copies units p
+  pub answers : (p : Position) → span_answer spans p ≡ line_answer (selected (options_of section) units) p
 
 -- The section is good, and this is its index.
 abbrev pub IsIndexOfFlat : FlatSection → Indexed → Type 0
@@ -60,7 +60,7 @@ IsIndexOfFlat section index = IsIndexOfSection section.line_str.now section.gene
 pub record IsTableOfFlat (section : FlatSection) (version : Version) (bytes : List ℕ) : Type 0 where
   pub units : List (ℕ × UnitParts)
   pub good : IsGood section.line_str.now section.general.now (options_of section) section.line.now units
-  pub table : IsTableOfUnits version (options_of section).dead section.skip_copies units bytes
+  pub table : IsTableOfUnits version (selected (options_of section) units) bytes
 
 -- ---- each call
 

@@ -1,5 +1,5 @@
 -- The spans of an index, one after another.
-use Rattle.std.proofs.Common.{◌≡◌, ◌∙◌, Bool, ℕ, suc, ◌+◌, ◌^◌, ◌<◌, List, [], ◌∷◌, ◌++◌, Option, Some, None, refl, sym, ap, subst}
+use Rattle.std.proofs.Common.{◌≡◌, ◌∙◌, ℕ, suc, ◌+◌, ◌^◌, ◌<◌, List, [], ◌∷◌, ◌++◌, Option, Some, None, refl, sym, ap, subst}
 use Rattle.std.proofs.Common.{arith, get_or, length}
 use Rattle.std.specs.Prelude.{IfSome, IsSomeAnd, map}
 use Rattle.std.specs.List.{AllByRecursion, AllZip}
@@ -19,7 +19,7 @@ use Rattle.lnt_sequences.specs.InTurn.{EntriesInTurn, IsExtentOf}
 use Rattle.lnt_sequences.proofs.FittingLaws.{kept_spans_fit}
 use Rattle.lnt_sequences.proofs.KeptLaws.{kept_ordered}
 use Rattle.lnt_sequences.specs.RowSpans.{row_spans, spans_of}
-use Rattle.lnt_sequences.specs.Sequences.{kept_sequences, live_sequences, Placed}
+use Rattle.lnt_sequences.specs.Sequences.{kept_sequences, live_sequences, Placed, Selection}
 use Rattle.lnt_sequences.specs.Spanning.{GivesSpan, HasSpans, rows_left}
 use Rattle.lnt_lines.specs.Cursors.{AreToCome, ComeLater, Cursor, GivesAllOf, room_for, room_of, rows_here}
 use Rattle.lnt_lines.specs.Stepping.{GivesHere}
@@ -116,16 +116,14 @@ begun_fewer programs all entries entry (Some walk) is left = rw is (omega (arith
 
 -- ---- all of them
 
-entries_found : (dead : Option ℕ) (skip : Bool) (units : List (ℕ × UnitParts)) (index : Indexed) (entries : List Extent)
-    (in_turn : List Placed)
-    → IsIndexOf dead skip units index
-    → AllZip (IsExtentOf (kept_sequences dead skip units)) entries in_turn → AllZip (IsEntry index.units index.programs) entries in_turn
-entries_found dead skip units index [] [] is each = tt
-entries_found dead skip units index (entry ∷ entries) (placed ∷ in_turn) is each = (
-  (each.0.id_is, sequence_in dead skip units index entry.id placed is each.0.contained each.0.id_is),
-  entries_found dead skip units index entries in_turn is each.1,
+entries_found : (selection : Selection) (index : Indexed) (entries : List Extent) (in_turn : List Placed) → IsIndexOf selection index
+    → AllZip (IsExtentOf (kept_sequences selection)) entries in_turn → AllZip (IsEntry index.units index.programs) entries in_turn
+entries_found selection index [] [] is each = tt
+entries_found selection index (entry ∷ entries) (placed ∷ in_turn) is each = (
+  (each.0.id_is, sequence_in selection index entry.id placed is each.0.contained each.0.id_is),
+  entries_found selection index entries in_turn is each.1,
 )
-entries_found dead skip units index _ _ is each = absurd each
+entries_found selection index _ _ is each = absurd each
 
 -- numbers that fit, each by its index
 pub all_small : (offsets : List ℕ) → ((k : ℕ) → get_or offsets k 0 < 2 ^ 64) → AllByRecursion (λ offset. offset < 2 ^ 64) offsets
@@ -137,23 +135,21 @@ small_units : (units : List (ℕ × UnitParts)) → AllByRecursion (λ offset. o
 small_units [] small = tt
 small_units (unit ∷ units) small = (small.0, small_units units small.1)
 
-fitting_spans : (dead : Option ℕ) (skip : Bool) (units : List (ℕ × UnitParts)) (index : Indexed) (spans : List Span)
-    → IsIndexOf dead skip units index → AllByRecursion HasNumbers index.programs
-    → AllByRecursion (λ offset. offset < 2 ^ 64) index.units
-    → IsPermutation (spans_of (kept_sequences dead skip units)) spans → FitSpans spans
-fitting_spans dead skip units index spans is numbers small same =
-    let all = spans_of (kept_sequences dead skip units) in
-    let offsets = small_units units (subst (AllByRecursion (λ offset. offset < 2 ^ 64)) is.offsets small) in
+fitting_spans : (selection : Selection) (index : Indexed) (spans : List Span) → IsIndexOf selection index
+    → AllByRecursion HasNumbers index.programs → AllByRecursion (λ offset. offset < 2 ^ 64) index.units
+    → IsPermutation (spans_of (kept_sequences selection)) spans → FitSpans spans
+fitting_spans selection index spans is numbers small same =
+    let all = spans_of (kept_sequences selection) in
+    let offsets = small_units selection.units (subst (AllByRecursion (λ offset. offset < 2 ^ 64)) is.offsets small) in
     recursion_from_All FitsSpan spans
-    (All-permutation FitsSpan all spans same (kept_spans_fit dead skip units index.programs is.programs numbers offsets))
+    (All-permutation FitsSpan all spans same (kept_spans_fit selection index.programs is.programs numbers offsets))
 
-pub gives_all : (dead : Option ℕ) (skip : Bool) (units : List (ℕ × UnitParts)) (index : Indexed) → EntriesInTurn
-    → AllByRecursion HasNumbers index.programs → AllByRecursion (λ offset. offset < 2 ^ 64) index.units → IsIndexOf dead skip units index
-    → GivesAllOf dead skip units (length index.entries)
+pub gives_all : (selection : Selection) (index : Indexed) → EntriesInTurn → AllByRecursion HasNumbers index.programs
+    → AllByRecursion (λ offset. offset < 2 ^ 64) index.units → IsIndexOf selection index → GivesAllOf selection (length index.entries)
     (record { units = index.units; programs = index.programs; entries = index.entries; unit = 0; rows = None; last = None })
-gives_all dead skip units index law numbers small is =
-    let all = law (kept_sequences dead skip units) index.entries is.settled is.entries is.apart
-    (kept_ordered skip (live_sequences dead units) is.ordered) in
+gives_all selection index law numbers small is =
+    let all = law (kept_sequences selection) index.entries is.settled is.entries is.apart
+    (kept_ordered selection.skip (live_sequences selection.dead selection.units) is.ordered) in
     record {
       spans = spans_of all.in_turn;
       to_come = record {
@@ -162,7 +158,7 @@ gives_all dead skip units index law numbers small is =
         come_here = refl;
         come_later = record {
           sequences = all.in_turn;
-          each = entries_found dead skip units index index.entries all.in_turn is all.each;
+          each = entries_found selection index index.entries all.in_turn is all.each;
           spans_are = refl;
         };
         spans_are = refl;
@@ -170,7 +166,7 @@ gives_all dead skip units index law numbers small is =
       spans_are = all.permuted;
       in_order = all.in_order;
       answers = all.answers;
-      whole = whole_spans dead skip units (spans_of all.in_turn) all.in_order all.answers;
+      whole = whole_spans selection (spans_of all.in_turn) all.in_order all.answers;
       enough = all.count;
-      fits = fitting_spans dead skip units index (spans_of all.in_turn) is numbers small all.permuted;
+      fits = fitting_spans selection index (spans_of all.in_turn) is numbers small all.permuted;
     }

@@ -1,5 +1,5 @@
 -- Units added to a draft, one at a time.
-use Rattle.std.proofs.Common.{◌≡◌, Bool, ℕ, ◌+◌, ◌<◌, ◌≤◌, List, [], ◌∷◌, ◌++◌, map, length, sym, ap, subst, ◌∙◌, arith}
+use Rattle.std.proofs.Common.{◌≡◌, ℕ, ◌+◌, ◌<◌, ◌≤◌, List, [], ◌∷◌, ◌++◌, map, length, sym, ap, subst, ◌∙◌, arith}
 use Rattle.std.specs.Prelude.{Option}
 use Rattle.std.specs.List.{All, AllByRecursion, AllZip}
 use Rattle.std.proofs.lemmas.List.{map-append}
@@ -20,7 +20,7 @@ use Rattle.lnt_header.specs.Joins.{AreRising}
 use Rattle.lnt_sequences.specs.declared.extent.Extent.{Extent}
 use Rattle.lnt_sequences.specs.Extents.{AreSettled, extents_of}
 use Rattle.lnt_sequences.specs.Rules.{AreApart, AreDistinct, AreOrdered, HaveFiles}
-use Rattle.lnt_sequences.specs.Sequences.{kept_sequences, live_in, live_sequences}
+use Rattle.lnt_sequences.specs.Sequences.{kept_sequences, live_in, live_sequences, Selection}
 use Rattle.lnt_spans.proofs.EachTwoLaws.{pairs_cons, pairs_nil}
 use Rattle.lnt_lines.specs.declared.draft.Draft.{Draft}
 use Rattle.lnt_lines.specs.Stepping.{HasAdded, IsDraftOf}
@@ -117,23 +117,23 @@ kept_numbers (unit ∷ units) [] keeps all = tt
 kept_numbers (unit ∷ units) (kept ∷ programs) keeps all =
     (subst HasHeaderNumbers (sym keeps.0.header_is) all.0, kept_numbers units programs keeps.1 all.1)
 
-pub index_of_draft : (text general : List ℕ) (dead : Option ℕ) (skip : Bool) (units : List (ℕ × UnitParts)) (draft : Draft)
-    (entries : List Extent) → IsDraftOf text general dead units draft → AreRising draft.units.items
-    → AreSettled entries → IsPermutation (extents_of (kept_sequences dead skip units)) entries → AreApart (kept_sequences dead skip units)
-    → IsIndexOf dead skip units (record {
+pub index_of_draft : (text general : List ℕ) (selection : Selection) (draft : Draft)
+    (entries : List Extent) → IsDraftOf text general selection.dead selection.units draft → AreRising draft.units.items
+    → AreSettled entries → IsPermutation (extents_of (kept_sequences selection)) entries → AreApart (kept_sequences selection)
+    → IsIndexOf selection (record {
       line = text;
       general = general;
       entries = entries;
       units = draft.units.items;
       programs = draft.programs.items;
     })
-index_of_draft text general dead skip units draft entries d rising settled permuted apart = record {
+index_of_draft text general selection draft entries d rising settled permuted apart = record {
   settled = settled;
   entries = permuted;
   apart = apart;
-  ordered = all_ordered text general dead units d.sound;
+  ordered = all_ordered text general selection.dead selection.units d.sound;
   rising = rising;
   offsets = d.offsets;
   programs = d.programs;
-  tables = usable_tables text general dead units d.sound;
+  tables = usable_tables text general selection.dead selection.units d.sound;
 }

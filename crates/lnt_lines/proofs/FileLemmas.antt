@@ -1,5 +1,5 @@
 -- The files that are held of a unit.
-use Rattle.std.proofs.Common.{◌≡◌, ◌≢◌, Bool, ℕ, ◌==◌, ◌<◌, false, List, [], ◌∷◌, map, length, get_or, refl, sym, ap, subst, ◌∙◌}
+use Rattle.std.proofs.Common.{◌≡◌, ◌≢◌, ℕ, ◌==◌, ◌<◌, false, List, [], ◌∷◌, map, length, get_or, refl, sym, ap, subst, ◌∙◌}
 use Rattle.std.proofs.Common.{arith}
 use Rattle.std.specs.Prelude.{None, Option, Some}
 use Rattle.std.specs.List.{All, Contains, position, position_or_len, slice_get}
@@ -12,6 +12,7 @@ use Rattle.lnt_header.specs.declared.header.HeaderParts.{HeaderParts}
 use Rattle.lnt_header.specs.declared.unit_parts.UnitParts.{UnitParts}
 use Rattle.lnt_machine.specs.Walking.{KeptProgram}
 use Rattle.lnt_unit.specs.UnitBytes.{SectionBytes}
+use Rattle.lnt_sequences.specs.Sequences.{Selection}
 use Rattle.lnt_files.specs.Files.{AreFilesOf, KeptFile, kept_path, kept_sum}
 use Rattle.lnt_lines.specs.Contents.{Contents, files_at, files_of, TellsOf}
 use Rattle.lnt_lines.specs.Indexed.{header_in, Indexed, IsIndexOf}
@@ -25,28 +26,26 @@ abbrev FilesOf : List ℕ → List ℕ → ℕ × UnitParts → List KeptFile �
 FilesOf text general unit files = AreFilesOf text general unit.1.header files
 
 -- its files are held
-held : (text general : List ℕ) (dead : Option ℕ) (skip : Bool) (order : Order) (section : List ℕ) (units : List (ℕ × UnitParts))
-    (contents : Contents) (unit : ℕ × UnitParts)
-    → SectionBytes order units section → TellsOf text general dead skip units contents → Contains units unit
+held : (text general : List ℕ) (selection : Selection) (order : Order) (section : List ℕ) (contents : Contents) (unit : ℕ × UnitParts)
+    → SectionBytes order selection.units section → TellsOf text general selection contents → Contains selection.units unit
     → (files : List KeptFile) × (files_of contents unit.0 ≡ Some files) × AreFilesOf text general unit.1.header files
-held text general dead skip order section units contents unit spelled tells (k, lt, same) =
+held text general selection order section contents unit spelled tells (k, lt, same) =
     let files = get_or contents.files k [] in
-    let kept = zip_at (FilesOf text general) units contents.files k unit [] tells.files_are lt in
-    let at = offset_at units k unit lt in
-    let place : Some k ≡ position (λ offset. offset == unit.0) (map (λ (u : ℕ × UnitParts). u.0) units) =
-    place_found (map (λ (u : ℕ × UnitParts). u.0) units) unit.0 k (rising_from order 0 units section spelled) at.1
+    let kept = zip_at (FilesOf text general) selection.units contents.files k unit [] tells.files_are lt in
+    let at = offset_at selection.units k unit lt in
+    let place : Some k ≡ position (λ offset. offset == unit.0) (map (λ (u : ℕ × UnitParts). u.0) selection.units) =
+    place_found (map (λ (u : ℕ × UnitParts). u.0) selection.units) unit.0 k (rising_from order 0 selection.units section spelled) at.1
     (at.0 ∙ ap (λ (u : ℕ × UnitParts). u.0) same) in
     let there : files_of contents unit.0 ≡ Some files =
     ap (λ (list : List ℕ). files_at list contents.files unit.0) tells.units_are
     ∙ ap (λ (o : Option ℕ). option_and_then (slice_get contents.files) o) (sym place) ∙ slice_get-get_or contents.files k [] kept.1 in
     (files, there, subst (λ (u : ℕ × UnitParts). AreFilesOf text general u.1.header files) same kept.0)
 
-listed : (text general : List ℕ) (dead : Option ℕ) (skip : Bool) (order : Order) (section : List ℕ) (units : List (ℕ × UnitParts))
-    (contents : Contents) (unit : ℕ × UnitParts)
-    → SectionBytes order units section → TellsOf text general dead skip units contents → Contains units unit
+listed : (text general : List ℕ) (selection : Selection) (order : Order) (section : List ℕ) (contents : Contents) (unit : ℕ × UnitParts)
+    → SectionBytes order selection.units section → TellsOf text general selection contents → Contains selection.units unit
     → ListsFilesOf text general unit contents
-listed text general dead skip order section units contents unit spelled tells within =
-    let found = held text general dead skip order section units contents unit spelled tells within in
+listed text general selection order section contents unit spelled tells within =
+    let found = held text general selection order section contents unit spelled tells within in
     let files = found.2 in
     record {
       count = ap (λ (o : Option (List KeptFile)). option_map_or length o 0) found.1 ∙ files.count;
@@ -74,11 +73,11 @@ no_place units offset all =
 
 pub files_of_units : FilesOfUnits
 files_of_units = record {
-  listed = λ text general dead skip order section units contents unit spelled tells within. listed text general dead skip order section
-      units contents unit spelled tells within;
-  none = λ text general dead skip units contents offset tells all.
+  listed = λ text general selection order section contents unit spelled tells within. listed text general selection order section
+      contents unit spelled tells within;
+  none = λ text general selection contents offset tells all.
       ap (λ (list : List ℕ). files_at list contents.files offset) tells.units_are
-      ∙ ap (λ (o : Option ℕ). option_and_then (slice_get contents.files) o) (no_place units offset all);
+      ∙ ap (λ (o : Option ℕ). option_and_then (slice_get contents.files) o) (no_place selection.units offset all);
 }
 
 -- ---- the headers of an index
@@ -86,15 +85,15 @@ files_of_units = record {
 abbrev say_header : Option KeptProgram → Option HeaderParts
 say_header found = option_map (λ (kept : KeptProgram). kept.header) found
 
-header_found : (dead : Option ℕ) (skip : Bool) (units : List (ℕ × UnitParts)) (index : Indexed) (unit : ℕ × UnitParts)
-    → IsIndexOf dead skip units index → Contains units unit → header_in index unit.0 ≡ Some unit.1.header
-header_found dead skip units index unit is (k, lt, same) =
-    subst (λ (u : ℕ × UnitParts). header_in index u.0 ≡ Some u.1.header) same (header_at index dead skip units k unit is lt)
+header_found : (selection : Selection) (index : Indexed) (unit : ℕ × UnitParts)
+    → IsIndexOf selection index → Contains selection.units unit → header_in index unit.0 ≡ Some unit.1.header
+header_found selection index unit is (k, lt, same) =
+    subst (λ (u : ℕ × UnitParts). header_in index u.0 ≡ Some u.1.header) same (header_at index selection k unit is lt)
 
 pub headers_of_units : HeadersOfUnits
 headers_of_units = record {
   found = header_found;
-  none = λ dead skip units index offset is all.
+  none = λ selection index offset is all.
       ap (λ (list : List ℕ). say_header (option_and_then (slice_get index.programs) (position (λ (n : ℕ). n == offset) list))) is.offsets
-      ∙ ap (λ (o : Option ℕ). say_header (option_and_then (slice_get index.programs) o)) (no_place units offset all);
+      ∙ ap (λ (o : Option ℕ). say_header (option_and_then (slice_get index.programs) o)) (no_place selection.units offset all);
 }

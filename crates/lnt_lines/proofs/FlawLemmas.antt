@@ -23,7 +23,7 @@ use Rattle.lnt_sequences.specs.Sequences.{kept_sequences, placed_in}
 use Rattle.lnt_lines.specs.declared.no.No.{No}
 use Rattle.lnt_lines.specs.declared.no.No.TheVariants as no
 use Rattle.lnt_lines.specs.declared.options.Options.{Options}
-use Rattle.lnt_lines.specs.Good.{IsGood, IsSoundUnit}
+use Rattle.lnt_lines.specs.Good.{IsGood, IsSoundUnit, selected}
 use Rattle.lnt_lines.specs.Laws.{GoodHasNoFlaw}
 use Rattle.lnt_lines.specs.Nos.{IsFirstFlaw, IsFlaw}
 
@@ -104,9 +104,9 @@ pub no_flaw : FallIsNotOrdered → MissingFileIsNotThere → OverlapIsNotApart �
 no_flaw falls missing overlaps text general options section units (no.Malformed fault) good f = f.broken.none units good.spelled
 no_flaw falls missing overlaps text general options section units (no.Overlap first second position) good f =
     let same : f.units ≡ units = one_section.units options.order f.units units section f.spelled good.spelled in
-    overlaps (kept_sequences options.dead options.skip_copies f.units) (record { first = first; second = second; position = position })
+    overlaps (kept_sequences (selected options f.units)) (record { first = first; second = second; position = position })
     f.first
-    (subst (λ (list : List (ℕ × UnitParts)). AreApart (kept_sequences options.dead options.skip_copies list)) (sym same) good.apart)
+    (subst (λ (list : List (ℕ × UnitParts)). AreApart (kept_sequences (selected options list))) (sym same) good.apart)
 no_flaw falls missing overlaps text general options section units (no.Run unit fault) good f =
     no_first_flaw falls missing text general options section units (no.Run unit fault) good f
 no_flaw falls missing overlaps text general options section units (no.EntryFormat unit which) good f =

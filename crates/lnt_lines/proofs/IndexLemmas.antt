@@ -22,7 +22,7 @@ use Rattle.lnt_sequences.specs.declared.sequence.SeqId.{SeqId}
 use Rattle.lnt_sequences.specs.Extents.{HolderAnswers, IsHolder, IsHolderAt, NoneHolds}
 use Rattle.lnt_sequences.proofs.FoundLaws.{live_placed}
 use Rattle.lnt_sequences.proofs.KeptLaws.{kept_live}
-use Rattle.lnt_sequences.specs.Sequences.{answer_of, kept_sequences, line_answer, live_sequences, Placed, row_at}
+use Rattle.lnt_sequences.specs.Sequences.{answer_of, kept_sequences, line_answer, live_sequences, Placed, row_at, Selection}
 use Rattle.lnt_sequences.specs.Rules.{IsOrdered}
 use Rattle.lnt_sequences.specs.Spanning.{rows_left}
 use Rattle.lnt_lines.specs.Cursors.{room_of}
@@ -43,11 +43,12 @@ zip_at R (u ∷ xs) [] k x y all few = absurd all
 zip_at R (u ∷ xs) (v ∷ ys) zero x y all few = (all.0, omega arith)
 zip_at R (u ∷ xs) (v ∷ ys) (suc k) x y all few = let more = zip_at R xs ys k x y all.1 (omega arith) in (more.0, omega (arith, more.1))
 
-pub sequence_in : (dead : Option ℕ) (skip : Bool) (units : List (ℕ × UnitParts)) (index : Indexed) (id : SeqId) (placed : Placed)
-    → IsIndexOf dead skip units index → Contains (kept_sequences dead skip units) placed → placed.id ≡ id
-    → IsSequenceIn index.units index.programs id placed.rows
-sequence_in dead skip units index id placed is contained same =
-    let one = live_placed dead units placed (kept_live skip (live_sequences dead units) placed contained) in
+pub sequence_in : (selection : Selection) (index : Indexed) (id : SeqId) (placed : Placed) → IsIndexOf selection index
+    → Contains (kept_sequences selection) placed → placed.id ≡ id → IsSequenceIn index.units index.programs id placed.rows
+sequence_in selection index id placed is contained same =
+    let units = selection.units in
+    let live = kept_live selection.skip (live_sequences selection.dead units) placed contained in
+    let one = live_placed selection.dead units placed live in
     let at = offset_at units one.place one.unit one.within in
     let offset : get_or index.units one.place 0 ≡ id.unit =
     ap (λ (list : List ℕ). get_or list one.place 0) is.offsets ∙ at.0 ∙ ap (λ (u : ℕ × UnitParts). u.0) (one.unit_at one.unit)
@@ -67,32 +68,31 @@ sequence_in dead skip units index id placed is contained same =
       rows_are = λ d. one.rows_are d ∙ ap (λ (i : SeqId). (get_or (sequences one.unit.1) i.index d).rows) same;
     }
 
-pub found_answer : (dead : Option ℕ) (skip : Bool) (units : List (ℕ × UnitParts)) (index : Indexed) (p : spans.Position) (extent : Extent)
-    → HolderAnswers → IsIndexOf dead skip units index
-    → IsHolder index.entries p extent → Answers dead skip units index p extent.id
-found_answer dead skip units index p extent law is holder =
-    let answers = law.some (kept_sequences dead skip units) index.entries p extent is.entries is.apart holder in
+pub found_answer : (selection : Selection) (index : Indexed) (p : spans.Position) (extent : Extent) → HolderAnswers
+    → IsIndexOf selection index → IsHolder index.entries p extent → Answers selection index p extent.id
+found_answer selection index p extent law is holder =
+    let answers = law.some (kept_sequences selection) index.entries p extent is.entries is.apart holder in
     record {
       rows = answers.placed.rows;
-      sequence_is = sequence_in dead skip units index extent.id answers.placed is answers.contained answers.id_is;
+      sequence_is = sequence_in selection index extent.id answers.placed is answers.contained answers.id_is;
       ordered =
-          let live = kept_live skip (live_sequences dead units) answers.placed answers.contained in
+          let all = live_sequences selection.dead selection.units in
+          let live = kept_live selection.skip all answers.placed answers.contained in
           subst (λ (placed : Placed). IsOrdered placed.rows) live.2
-          (all_at (λ (placed : Placed). IsOrdered placed.rows) (live_sequences dead units) live.0 answers.placed live.1 is.ordered);
+          (all_at (λ (placed : Placed). IsOrdered placed.rows) all live.0 answers.placed live.1 is.ordered);
       answer_is = answers.answer_is ∙ ap (λ (i : SeqId). option_map (answer_of i.unit) (row_at p answers.placed.rows)) answers.id_is;
     }
 
 -- the sequence of the entry that holds the position
-pub held_answers : (dead : Option ℕ) (skip : Bool) (units : List (ℕ × UnitParts)) (index : Indexed) (p : spans.Position) (k : ℕ)
-    (entry : Extent) → HolderAnswers → IsIndexOf dead skip units index → IsHolderAt index.entries p k
-    → entry ≡ get_or index.entries k entry → Answers dead skip units index p entry.id
-held_answers dead skip units index p k entry law is holder at =
-    subst (λ (e : Extent). Answers dead skip units index p e.id) (sym at)
-    (found_answer dead skip units index p (get_or index.entries k entry) law is (holder.1 entry))
+pub held_answers : (selection : Selection) (index : Indexed) (p : spans.Position) (k : ℕ) (entry : Extent) → HolderAnswers
+    → IsIndexOf selection index → IsHolderAt index.entries p k → entry ≡ get_or index.entries k entry → Answers selection index p entry.id
+held_answers selection index p k entry law is holder at =
+    subst (λ (e : Extent). Answers selection index p e.id) (sym at)
+    (found_answer selection index p (get_or index.entries k entry) law is (holder.1 entry))
 
-pub found_none : (dead : Option ℕ) (skip : Bool) (units : List (ℕ × UnitParts)) (index : Indexed) (p : spans.Position) → HolderAnswers
-    → IsIndexOf dead skip units index → NoneHolds index.entries p → None ≡ line_answer dead skip units p
-found_none dead skip units index p law is none = sym (law.none (kept_sequences dead skip units) index.entries p is.entries none)
+pub found_none : (selection : Selection) (index : Indexed) (p : spans.Position) → HolderAnswers
+    → IsIndexOf selection index → NoneHolds index.entries p → None ≡ line_answer selection p
+found_none selection index p law is none = sym (law.none (kept_sequences selection) index.entries p is.entries none)
 
 -- ---- the rows of a sequence
 

@@ -1,5 +1,5 @@
 -- Where no instruction has more than one operation, each row stands at operation index 0, and so does each border of a span.
-use Rattle.std.proofs.Common.{◌≡◌, ◌∙◌, ℕ, ◌%◌, Bool, List, [], ◌∷◌, Option, ap, sym}
+use Rattle.std.proofs.Common.{◌≡◌, ◌∙◌, ℕ, ◌%◌, List, [], ◌∷◌, ap, sym}
 use Rattle.std.specs.List.{All, AllByRecursion, AllZip, cons_option}
 use Rattle.std.specs.List.Sorted.{IsPermutation}
 use Rattle.std.proofs.lemmas.List.Elements.{recursion_from_All}
@@ -16,7 +16,7 @@ use Rattle.lnt_machine.specs.Walking.{KeepsProgram, KeptProgram}
 use Rattle.lnt_machine.proofs.SequenceLaws.{each_cut}
 use Rattle.lnt_spans.specs.declared.span.Span.{Span}
 use Rattle.lnt_sequences.specs.RowSpans.{spans_of}
-use Rattle.lnt_sequences.specs.Sequences.{kept_sequences}
+use Rattle.lnt_sequences.specs.Sequences.{kept_sequences, Selection}
 use Rattle.lnt_sequences.proofs.EachLaws.{each_kept_span, EachIn}
 use Rattle.lnt_lines.specs.Indexed.{HasOneOperation, Indexed, IsIndexOf}
 use Rattle.lnt_spans.specs.Instructions.{IsOfInstructions}
@@ -59,10 +59,9 @@ of_units (unit ∷ units) (kept ∷ programs) keeps one =
 
 -- ---- spans
 
-pub spans_of_instructions : (index : Indexed) (dead : Option ℕ) (skip : Bool) (units : List (ℕ × UnitParts)) (spans : List Span)
-    → All HasOneOperation index.programs → IsIndexOf dead skip units index
-    → IsPermutation (spans_of (kept_sequences dead skip units)) spans → AllByRecursion IsOfInstructions spans
-spans_of_instructions index dead skip units spans one is same =
-    let first = of_units units index.programs is.programs (recursion_from_All HasOneOperation index.programs one) in
-    let all = each_kept_span IsAny IsFirst IsOfInstructions dead skip units (λ unit row next any low high. (low, high)) first in
-    recursion_from_All IsOfInstructions spans (All-permutation IsOfInstructions (spans_of (kept_sequences dead skip units)) spans same all)
+pub spans_of_instructions : (index : Indexed) (selection : Selection) (spans : List Span) → All HasOneOperation index.programs
+    → IsIndexOf selection index → IsPermutation (spans_of (kept_sequences selection)) spans → AllByRecursion IsOfInstructions spans
+spans_of_instructions index selection spans one is same =
+    let first = of_units selection.units index.programs is.programs (recursion_from_All HasOneOperation index.programs one) in
+    let all = each_kept_span IsAny IsFirst IsOfInstructions selection (λ unit row next any low high. (low, high)) first in
+    recursion_from_All IsOfInstructions spans (All-permutation IsOfInstructions (spans_of (kept_sequences selection)) spans same all)

@@ -1,10 +1,9 @@
 -- What lookups answer, the files that they name, and what they keep.
-use Rattle.std.proofs.Common.{◌≡◌, ℕ, ◌<◌, Bool, List, [], ◌∷◌, ◌++◌, length, get_or, Option, sym, ap, ◌∙◌, subst}
+use Rattle.std.proofs.Common.{◌≡◌, ℕ, ◌<◌, List, [], ◌∷◌, ◌++◌, length, get_or, Option, sym, ap, ◌∙◌, subst}
 use Rattle.std.specs.Prelude.{IfSome, IsSome}
 use Rattle.std.specs.List.{All}
 use Rattle.std.specs.Option.{option_map}
 use Rattle.std.proofs.lemmas.List.Elements.{All-append, All-cons, All-nil}
-use Rattle.lnt_header.specs.declared.unit_parts.UnitParts.{UnitParts}
 use Rattle.lnt_machine.specs.declared.row.Row.{Row}
 use Rattle.lnt_spans.specs.declared.answer.Answer.{Answer}
 use Rattle.lnt_spans.specs.declared.position.Position.{Position}
@@ -13,27 +12,23 @@ use Rattle.lnt_sequences.specs.Rules.{IsOrdered}
 use Rattle.lnt_sequences.specs.Sequences.{answer_of, line_answer, row_at}
 use Rattle.lnt_lines.specs.declared.lookups.Cached.{Cached}
 use Rattle.lnt_lines.specs.Finding.{Answers, IsCachedOf}
-use Rattle.lnt_lines.specs.Indexed.{file_path_in, Indexed, IsIndex, IsIndexOf, IsSequenceIn}
+use Rattle.lnt_lines.specs.Indexed.{file_path_in, Indexed, IsIndex, IsSequenceIn, OfUnits}
 use Rattle.lnt_lines.proofs.NamedLemmas.{answer_named}
 
 -- what is answered of some units
 abbrev pub AnswersIn : Indexed → Position → Option Answer → Type 0
-AnswersIn index p answer = (dead : Option ℕ) (skip : Bool) (units : List (ℕ × UnitParts)) → IsIndexOf dead skip units index
-    → answer ≡ line_answer dead skip units p
+AnswersIn index p answer = OfUnits index (λ selection. answer ≡ line_answer selection p)
 
 pub answered : (index : Indexed) (p : Position) (id : SeqId) (answer : Option Answer)
-    → ((dead : Option ℕ) (skip : Bool) (units : List (ℕ × UnitParts)) → IsIndexOf dead skip units index
-    → Answers dead skip units index p id)
-    → ((rows : List Row) → IsSequenceIn index.units index.programs id rows → IsOrdered rows
-    → answer ≡ option_map (answer_of id.unit) (row_at p rows))
-    → AnswersIn index p answer
-answered index p id answer has found dead skip units is =
-    let of = has dead skip units is in
+    → OfUnits index (λ selection. Answers selection index p id) → ((rows : List Row) → IsSequenceIn index.units index.programs id rows
+    → IsOrdered rows → answer ≡ option_map (answer_of id.unit) (row_at p rows)) → AnswersIn index p answer
+answered index p id answer has found selection is =
+    let of = has selection is in
     found of.rows of.sequence_is of.ordered ∙ sym of.answer_is
 
 pub named : (index : Indexed) (p : Position) (answer : Option Answer) → IsIndex index → AnswersIn index p answer
     → IfSome answer (λ (a : Answer). IsSome (file_path_in index a.unit a.file))
-named index p answer is answers = answer_named index p answer is (answers is.dead is.skip is.units is.index_is)
+named index p answer is answers = answer_named index p answer is (answers is.selection is.index_is)
 
 -- ---- what is kept
 

@@ -1,5 +1,5 @@
 -- What an index answers names a file that has a path.
-use Rattle.std.proofs.Common.{◌≡◌, ℕ, ◌<◌, ◌==◌, Bool, List, [], length, get_or, Option, None, Some, sym, ap, ◌∙◌, subst, arith}
+use Rattle.std.proofs.Common.{◌≡◌, ℕ, ◌<◌, ◌==◌, List, [], length, get_or, Option, None, Some, sym, ap, ◌∙◌, subst, arith}
 use Rattle.std.specs.Prelude.{IfSome, IsSome}
 use Rattle.std.specs.List.{position, slice_get}
 use Rattle.std.specs.Option.{option_and_then, option_map, option_map_or}
@@ -15,23 +15,24 @@ use Rattle.lnt_files.proofs.PathLaws.{has_path}
 use Rattle.lnt_spans.specs.declared.answer.Answer.{Answer}
 use Rattle.lnt_spans.specs.declared.position.Position.{Position}
 use Rattle.lnt_sequences.specs.Rules.{HaveFiles}
-use Rattle.lnt_sequences.specs.Sequences.{line_answer, live_in}
+use Rattle.lnt_sequences.specs.Sequences.{line_answer, live_in, Selection}
 use Rattle.lnt_sequences.proofs.NamedLaws.{line_names, NamesFiles}
 use Rattle.lnt_lines.specs.Indexed.{file_count_in, file_path_in, header_in, Indexed, IsIndex, IsIndexOf}
 use Rattle.lnt_lines.proofs.IndexLemmas.{offset_at, zip_at}
 use Rattle.lnt_lines.proofs.PlaceLemmas.{place_found}
 
 -- the header that is found by the offset of a unit
-pub header_at : (index : Indexed) (dead : Option ℕ) (skip : Bool) (units : List (ℕ × UnitParts)) (k : ℕ) (d : ℕ × UnitParts)
-    → IsIndexOf dead skip units index → k < length units → header_in index (get_or units k d).0 ≡ Some (get_or units k d).1.header
-header_at index dead skip units k d is few =
-    let unit : ℕ × UnitParts = get_or units k d in
+pub header_at : (index : Indexed) (selection : Selection) (k : ℕ) (d : ℕ × UnitParts) → IsIndexOf selection index
+    → k < length selection.units → header_in index (get_or selection.units k d).0 ≡ Some (get_or selection.units k d).1.header
+header_at index selection k d is few =
+    let unit : ℕ × UnitParts = get_or selection.units k d in
     let none : KeptProgram = record { header = unit.1.header; program = []; places = [] } in
-    let at = offset_at units k d few in
+    let at = offset_at selection.units k d few in
     let place : Some k ≡ position (λ offset. offset == unit.0) index.units =
     place_found index.units unit.0 k is.rising (omega (arith, at.1, ap length is.offsets))
     (ap (λ (offsets : List ℕ). get_or offsets k 0) is.offsets ∙ at.0) in
-    let kept = zip_at (λ (u : ℕ × UnitParts) (p : KeptProgram). KeepsProgram p u.1) units index.programs k d none is.programs few in
+    let kept =
+    zip_at (λ (u : ℕ × UnitParts) (p : KeptProgram). KeepsProgram p u.1) selection.units index.programs k d none is.programs few in
     ap (λ (found : Option ℕ). option_map (λ (p : KeptProgram). p.header) (option_and_then (slice_get index.programs) found)) (sym place)
     ∙ ap (option_map (λ (p : KeptProgram). p.header)) (slice_get-get_or index.programs k none kept.1)
     ∙ ap Some kept.0.header_is
@@ -39,27 +40,27 @@ header_at index dead skip units k d is few =
 abbrev HasPathIn : Indexed → ℕ → ℕ → Type 0
 HasPathIn index unit file = IsSome (file_path_in index unit file)
 
-path_at : (index : Indexed) (dead : Option ℕ) (skip : Bool) (units : List (ℕ × UnitParts)) (k : ℕ) (d : ℕ × UnitParts)
-    → IsIndexOf dead skip units index → k < length units → (file : ℕ) → file < length (get_or units k d).1.header.files
-    → HasPathIn index (get_or units k d).0 file
-path_at index dead skip units k d is few file there =
+path_at : (index : Indexed) (selection : Selection) (k : ℕ) (d : ℕ × UnitParts) → IsIndexOf selection index → k < length selection.units
+    → (file : ℕ) → file < length (get_or selection.units k d).1.header.files → HasPathIn index (get_or selection.units k d).0 file
+path_at index selection k d is few file there =
     subst
     (λ (header : Option HeaderParts). IsSome (option_and_then (λ (h : HeaderParts). path_bytes index.line index.general h file) header))
-    (sym (header_at index dead skip units k d is few))
-    (has_path index.line index.general (get_or units k d).1.header file
-    (all_at (λ (unit : ℕ × UnitParts). AreUsableTables index.line index.general unit.1.header) units k d few is.tables) there)
+    (sym (header_at index selection k d is few))
+    (has_path index.line index.general (get_or selection.units k d).1.header file
+    (all_at (λ (unit : ℕ × UnitParts). AreUsableTables index.line index.general unit.1.header) selection.units k d few is.tables) there)
 
 -- The file of what the index answers has a path.
-pub answer_named : (index : Indexed) (p : Position) (answer : Option Answer) (is : IsIndex index)
-    → answer ≡ line_answer is.dead is.skip is.units p
+pub answer_named : (index : Indexed) (p : Position) (answer : Option Answer) (is : IsIndex index) → answer ≡ line_answer is.selection p
     → IfSome answer (λ (a : Answer). IsSome (file_path_in index a.unit a.file))
 answer_named index p answer is same =
+    let dead = is.selection.dead in
+    let units = is.selection.units in
     subst (λ (o : Option Answer). IfSome o (λ (a : Answer). HasPathIn index a.unit a.file)) (sym same)
-    (line_names (HasPathIn index) is.dead is.skip is.units p
-    (recursion_from_All (NamesFiles (HasPathIn index) is.dead) is.units
+    (line_names (HasPathIn index) is.selection p
+    (recursion_from_All (NamesFiles (HasPathIn index) dead) units
     (λ k d few. record {
-      have = all_at (λ (unit : ℕ × UnitParts). HaveFiles (length unit.1.header.files) (live_in is.dead unit)) is.units k d few is.files;
-      there = path_at index is.dead is.skip is.units k d is.index_is few;
+      have = all_at (λ (unit : ℕ × UnitParts). HaveFiles (length unit.1.header.files) (live_in dead unit)) units k d few is.files;
+      there = path_at index is.selection k d is.index_is few;
     })))
 
 -- Each file that is counted has a path.

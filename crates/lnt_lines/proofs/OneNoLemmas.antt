@@ -18,7 +18,7 @@ use Rattle.lnt_sequences.specs.Sequences.{kept_sequences, live_sequences}
 use Rattle.lnt_lines.specs.declared.no.No.{No}
 use Rattle.lnt_lines.specs.declared.no.No.TheVariants as no
 use Rattle.lnt_lines.specs.declared.options.Options.{Options}
-use Rattle.lnt_lines.specs.Good.{IsSoundUnit}
+use Rattle.lnt_lines.specs.Good.{IsSoundUnit, selected}
 use Rattle.lnt_lines.specs.Laws.{OneNo}
 use Rattle.lnt_lines.specs.Nos.{IsFirstFlaw, IsFlaw, IsMalformed, IsOverlap, IsTrueNo}
 use Rattle.lnt_lines.proofs.DraftLemmas.{distinct}
@@ -125,10 +125,10 @@ two_overlaps : (text general : List ℕ) (options : Options) (section : List ℕ
     → IsOverlap text general options section b → a ≡ b
 two_overlaps text general options section a b o q =
     let same : q.units ≡ o.units = one_section.units options.order q.units o.units section q.spelled o.spelled in
-    one_overlap (kept_sequences options.dead options.skip_copies o.units) a b
+    one_overlap (kept_sequences (selected options o.units)) a b
     (kept_distinct options.skip_copies (live_sequences options.dead o.units)
     (distinct options.order options.dead o.units section o.spelled)) o.first
-    (subst (λ (units : List (ℕ × UnitParts)). IsFirstOverlap (kept_sequences options.dead options.skip_copies units) b) same q.first)
+    (subst (λ (units : List (ℕ × UnitParts)). IsFirstOverlap (kept_sequences (selected options units)) b) same q.first)
 
 two_flaws : FallIsNotOrdered → MissingFileIsNotThere → (text general : List ℕ) (options : Options) (section : List ℕ) (r s : No)
     → IsFirstFlaw text general options section r

@@ -206,11 +206,10 @@ whole_draft text general options section draft all = record {
 }
 
 pub indexed : (text general : List ℕ) (options : Options) (section : Option (List ℕ)) (draft : Draft) (index : Indexed)
-    → IsDraftOfSection text general options section draft
-    → ((sequences : List Placed) → Collects draft.collected sequences → AreApart (kept_of options.skip_copies sequences))
-    → ((dead : Option ℕ) (units : List (ℕ × UnitParts)) → IsDraftOf text general dead units draft
-    → IsIndexOf dead options.skip_copies units index) → index.line ≡ text → index.general ≡ general
-    → IfSome section (λ bytes. IsIndexOfSection text general options bytes index)
+    → IsDraftOfSection text general options section draft → ((sequences : List Placed) → Collects draft.collected sequences
+    → AreApart (kept_of options.skip_copies sequences)) → ((dead : Option ℕ) (units : List (ℕ × UnitParts))
+    → IsDraftOf text general dead units draft → IsIndexOf (record { dead = dead; skip = options.skip_copies; units = units }) index)
+    → index.line ≡ text → index.general ≡ general → IfSome section (λ bytes. IsIndexOfSection text general options bytes index)
 indexed text general options section draft index all apart is line_is general_is =
     weaker section (λ bytes. all.bytes ≡ bytes) (λ bytes. IsIndexOfSection text general options bytes index)
     (λ bytes whole. record {

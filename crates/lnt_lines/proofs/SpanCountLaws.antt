@@ -1,5 +1,5 @@
 -- A section has no more spans than bytes.
-use Rattle.std.proofs.Common.{ℕ, ◌+◌, ◌≤◌, Bool, List, [], ◌∷◌, Option, length, ap, arith}
+use Rattle.std.proofs.Common.{ℕ, ◌+◌, ◌≤◌, List, [], ◌∷◌, length, ap, arith}
 use Rattle.std.specs.List.Sorted.{IsPermutation}
 use Rattle.std.proofs.lemmas.List.{length-append}
 use Rattle.std.proofs.lemmas.List.Sorted.{length_permutation}
@@ -11,7 +11,7 @@ use Rattle.lnt_machine.specs.Matrix.{rows}
 use Rattle.lnt_machine.proofs.RowLaws.{few_rows}
 use Rattle.lnt_spans.specs.declared.span.Span.{Span}
 use Rattle.lnt_sequences.specs.RowSpans.{spans_of}
-use Rattle.lnt_sequences.specs.Sequences.{kept_sequences}
+use Rattle.lnt_sequences.specs.Sequences.{kept_sequences, Selection}
 use Rattle.lnt_sequences.proofs.CountLaws.{rows_of_units, spans_within_rows}
 
 -- A unit makes a row for each of some operations, and each operation is spelled by a byte or more.
@@ -30,18 +30,17 @@ rows_within order offset (unit ∷ units) bytes (prefix, back, at, first, joined
     )
 
 -- The kept sequences of a section have no more spans than the section has bytes.
-pub spans_within_section : (order : Order) (dead : Option ℕ) (skip : Bool) (units : List (ℕ × UnitParts)) (section : List ℕ)
-    → SectionBytes order units section → length (spans_of (kept_sequences dead skip units)) ≤ length section
-spans_within_section order dead skip units section spelled =
-    omega (arith, spans_within_rows dead skip units, rows_within order 0 units section spelled)
+pub spans_within_section : (order : Order) (selection : Selection) (section : List ℕ)
+    → SectionBytes order selection.units section → length (spans_of (kept_sequences selection)) ≤ length section
+spans_within_section order selection section spelled =
+    omega (arith, spans_within_rows selection, rows_within order 0 selection.units section spelled)
 
 -- So it is of the same spans in any order.
-pub permuted_within_section : (order : Order) (dead : Option ℕ) (skip : Bool) (units : List (ℕ × UnitParts)) (section : List ℕ)
-    (spans : List Span) → SectionBytes order units section → IsPermutation (spans_of (kept_sequences dead skip units)) spans
-    → length spans ≤ length section
-permuted_within_section order dead skip units section spans spelled same =
+pub permuted_within_section : (order : Order) (selection : Selection) (section : List ℕ) (spans : List Span)
+    → IsPermutation (spans_of (kept_sequences selection)) spans → SectionBytes order selection.units section → length spans ≤ length section
+permuted_within_section order selection section spans same spelled =
     omega (
       arith,
-      spans_within_section order dead skip units section spelled,
-      length_permutation (spans_of (kept_sequences dead skip units)) spans same,
+      spans_within_section order selection section spelled,
+      length_permutation (spans_of (kept_sequences selection)) spans same,
     )

@@ -1,5 +1,5 @@
 -- What rows answer tells everything, so the spans that answer as they do hold whole answers.
-use Rattle.std.proofs.Common.{◌≡◌, ◌∙◌, Bool, ℕ, List, [], ◌∷◌, Option, Some, None, refl, sym, subst}
+use Rattle.std.proofs.Common.{◌≡◌, ◌∙◌, ℕ, List, [], ◌∷◌, Option, Some, None, refl, sym, subst}
 use Rattle.std.specs.List.{find}
 use Rattle.std.specs.Option.{option_map, option_and_then}
 use Rattle.lnt_machine.specs.declared.row.Row.{Row}
@@ -11,8 +11,7 @@ use Rattle.lnt_spans.proofs.AnsweringLaws.{answer_after, answer_in, first_holds}
 use Rattle.lnt_spans.proofs.PositionLaws.{at_most_itself, at_most_trans, below_is_at_most}
 use Rattle.lnt_spans.specs.Positions.{IsAtMost}
 use Rattle.lnt_spans.specs.Spans.{AreInOrder, span_answer}
-use Rattle.lnt_header.specs.declared.unit_parts.UnitParts.{UnitParts}
-use Rattle.lnt_sequences.specs.Sequences.{answer_of, holds, kept_sequences, line_answer, Placed, row_at}
+use Rattle.lnt_sequences.specs.Sequences.{answer_of, holds, kept_sequences, line_answer, Placed, row_at, Selection}
 use Rattle.lnt_lines.specs.Contents.{AreWhole}
 
 abbrev IsWhole : Answer → Type 0
@@ -57,8 +56,8 @@ all_are_whole : (spans : List Span) (answers : Position → Option Answer) → A
 all_are_whole [] answers o h same = tt
 all_are_whole (span ∷ spans) answers o h same = each_is_whole span spans answers o h (λ p k. same p)
 
-pub whole_spans : (dead : Option ℕ) (skip : Bool) (units : List (ℕ × UnitParts)) (spans : List Span) → AreInOrder spans
-    → ((p : Position) → span_answer spans p ≡ line_answer dead skip units p) → AreWhole spans
-whole_spans dead skip units spans o answers =
-    all_are_whole spans (line_answer dead skip units) o
-    (λ p. found_is_whole p (find (λ (placed : Placed). holds p placed.rows) (kept_sequences dead skip units))) answers
+pub whole_spans : (selection : Selection) (spans : List Span) → AreInOrder spans
+    → ((p : Position) → span_answer spans p ≡ line_answer selection p) → AreWhole spans
+whole_spans selection spans o answers =
+    all_are_whole spans (line_answer selection) o
+    (λ p. found_is_whole p (find (λ (placed : Placed). holds p placed.rows) (kept_sequences selection))) answers

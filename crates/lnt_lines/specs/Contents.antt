@@ -1,13 +1,12 @@
 -- What is held of a good section, and what it answers.
-use Rattle.std.specs.Prelude.{◌≡◌, Bool, ℕ, ◌==◌, List, map, length, Option, Some}
+use Rattle.std.specs.Prelude.{◌≡◌, ℕ, ◌==◌, List, map, length, Option, Some}
 use Rattle.std.specs.List.{AllByRecursion, AllZip, position, slice_get}
 use Rattle.std.specs.List.Sorted.{IsPermutation}
 use Rattle.std.specs.Option.{option_and_then, option_map_or}
 use Rattle.lnt_header.specs.Joins.{AreRising}
-use Rattle.lnt_header.specs.declared.unit_parts.UnitParts.{UnitParts}
 use Rattle.lnt_files.specs.Files.{AreFilesOf, KeptFile, kept_path, kept_sum}
 use Rattle.lnt_sequences.specs.RowSpans.{spans_of}
-use Rattle.lnt_sequences.specs.Sequences.{kept_sequences, line_answer}
+use Rattle.lnt_sequences.specs.Sequences.{kept_sequences, line_answer, Selection}
 use Rattle.lnt_spans.specs.declared.answer.More.{More}
 use Rattle.lnt_spans.specs.declared.position.Position.{Position}
 use Rattle.lnt_spans.specs.declared.span.Span.{Span}
@@ -51,10 +50,9 @@ sum_in contents unit file = option_and_then (λ files. kept_sum files file) (fil
 
 -- The contents are those of the units: the spans of their kept sequences, each once and in order, which answer at each position as
 -- the rows do; the units' offsets; and their files.
-pub record TellsOf (line general : List ℕ) (dead : Option ℕ) (skip : Bool) (units : List (ℕ × UnitParts)) (contents : Contents)
-    : Type 0 where
-  pub spans_are : IsPermutation (spans_of (kept_sequences dead skip units)) contents.spans
+pub record TellsOf (line general : List ℕ) (selection : Selection) (contents : Contents) : Type 0 where
+  pub spans_are : IsPermutation (spans_of (kept_sequences selection)) contents.spans
   pub in_order : AreInOrder contents.spans
-  pub answers : (p : Position) → span_answer contents.spans p ≡ line_answer dead skip units p
-  pub units_are : contents.units ≡ map (λ unit. unit.0) units
-  pub files_are : AllZip (λ unit files. AreFilesOf line general unit.1.header files) units contents.files
+  pub answers : (p : Position) → span_answer contents.spans p ≡ line_answer selection p
+  pub units_are : contents.units ≡ map (λ unit. unit.0) selection.units
+  pub files_are : AllZip (λ unit files. AreFilesOf line general unit.1.header files) selection.units contents.files

@@ -1,8 +1,7 @@
 -- All spans of an index, one after another: a sequence is decoded when its spans come next.
-use Rattle.std.specs.Prelude.{◌≡◌, Bool, ℕ, ◌+◌, ◌≤◌, List, [], ◌∷◌, ◌++◌, length, Option, Some, None}
+use Rattle.std.specs.Prelude.{◌≡◌, ℕ, ◌+◌, ◌≤◌, List, [], ◌∷◌, ◌++◌, length, Option, Some, None}
 use Rattle.std.specs.List.{AllZip}
 use Rattle.std.specs.List.Sorted.{IsPermutation}
-use Rattle.lnt_header.specs.declared.unit_parts.UnitParts.{UnitParts}
 use Rattle.lnt_machine.specs.declared.row.Row.{Row}
 use Rattle.lnt_machine.specs.Walking.{KeptProgram, SequenceWalk}
 use Rattle.lnt_spans.specs.declared.position.Position.{Position}
@@ -11,7 +10,7 @@ use Rattle.lnt_spans.specs.Fitting.{FitSpans}
 use Rattle.lnt_spans.specs.Spans.{AreInOrder, span_answer}
 use Rattle.lnt_sequences.specs.declared.extent.Extent.{Extent}
 use Rattle.lnt_sequences.specs.RowSpans.{spans_of}
-use Rattle.lnt_sequences.specs.Sequences.{kept_sequences, line_answer, Placed}
+use Rattle.lnt_sequences.specs.Sequences.{kept_sequences, line_answer, Placed, Selection}
 use Rattle.lnt_sequences.specs.Spanning.{HasSpans, rows_left}
 use Rattle.lnt_lines.specs.Contents.{AreWhole}
 use Rattle.lnt_lines.specs.Indexed.{IsSequenceIn}
@@ -47,12 +46,12 @@ pub record AreToCome (cursor : Cursor) (spans : List Span) : Type 0 where
 
 -- What is to come are the spans of the kept sequences of these units, each once: they are in order, answer as the rows do at
 -- every position, have all parts of an answer, and are no fewer than this many. Each of their numbers has at most 64 bits.
-pub record GivesAllOf (dead : Option ℕ) (skip : Bool) (units : List (ℕ × UnitParts)) (count : ℕ) (cursor : Cursor) : Type 0 where
+pub record GivesAllOf (selection : Selection) (count : ℕ) (cursor : Cursor) : Type 0 where
   pub spans : List Span
   pub to_come : AreToCome cursor spans
-  pub spans_are : IsPermutation (spans_of (kept_sequences dead skip units)) spans
+  pub spans_are : IsPermutation (spans_of (kept_sequences selection)) spans
   pub in_order : AreInOrder spans
-  pub answers : (p : Position) → span_answer spans p ≡ line_answer dead skip units p
+  pub answers : (p : Position) → span_answer spans p ≡ line_answer selection p
   pub whole : AreWhole spans
   pub enough : count ≤ length spans
   pub fits : FitSpans spans

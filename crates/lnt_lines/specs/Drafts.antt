@@ -9,7 +9,7 @@ use Rattle.lnt_lines.specs.declared.section.Judged.TheVariants.{Good, Bad}
 use Rattle.lnt_lines.specs.declared.section.JudgedIndex.{JudgedIndex}
 use Rattle.lnt_lines.specs.declared.section.JudgedIndex.TheVariants as index
 use Rattle.lnt_lines.specs.Contents.{Contents, TellsOf}
-use Rattle.lnt_lines.specs.Good.{IsGood}
+use Rattle.lnt_lines.specs.Good.{IsGood, selected}
 use Rattle.lnt_lines.specs.Indexed.{Indexed, IsIndexOf}
 use Rattle.lnt_lines.specs.Nos.{IsTrueNo}
 
@@ -17,13 +17,13 @@ use Rattle.lnt_lines.specs.Nos.{IsTrueNo}
 pub record AreLinesOf (line general : List ℕ) (options : Options) (section : List ℕ) (lines : Contents) : Type 0 where
   pub units : List (ℕ × UnitParts)
   pub good : IsGood line general options section units
-  pub tells : TellsOf line general options.dead options.skip_copies units lines
+  pub tells : TellsOf line general (selected options units) lines
 
 -- The section is good, and this is the index of its units.
 pub record IsIndexOfSection (line general : List ℕ) (options : Options) (section : List ℕ) (index : Indexed) : Type 0 where
   pub units : List (ℕ × UnitParts)
   pub good : IsGood line general options section units
-  pub index_is : IsIndexOf options.dead options.skip_copies units index
+  pub index_is : IsIndexOf (selected options units) index
   pub line_is : index.line ≡ line
   pub general_is : index.general ≡ general
 

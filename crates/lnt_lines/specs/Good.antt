@@ -8,7 +8,7 @@ use Rattle.lnt_unit.specs.UnitBytes.{SectionBytes}
 use Rattle.lnt_machine.specs.Matrix.{Runs}
 use Rattle.lnt_files.specs.Tables.{AreUsableTables}
 use Rattle.lnt_sequences.specs.Rules.{AreApart, AreOrdered, HaveFiles}
-use Rattle.lnt_sequences.specs.Sequences.{kept_sequences, live_in}
+use Rattle.lnt_sequences.specs.Sequences.{kept_sequences, live_in, Selection}
 use Rattle.lnt_lines.specs.declared.options.Options.{Options}
 
 -- A unit whose program runs, and whose tables are usable: each file's directory exists, and each path has its text.
@@ -23,9 +23,13 @@ pub record IsSoundUnit (line general : List ℕ) (dead : Option ℕ) (unit : ℕ
   pub files : HaveFiles (length unit.1.header.files) (live_in dead unit)
   pub ordered : AreOrdered (live_in dead unit)
 
+-- the sequences that the options select of units
+abbrev pub selected : Options → List (ℕ × UnitParts) → Selection
+selected options units = record { dead = options.dead; skip = options.skip_copies; units = units }
+
 -- The section is the bytes of these units. Each of them is valid, and no position is held by two of their kept sequences:
 -- the live ones, without the copies if these are skipped.
 pub record IsGood (line general : List ℕ) (options : Options) (section : List ℕ) (units : List (ℕ × UnitParts)) : Type 0 where
   pub spelled : SectionBytes options.order units section
   pub sound : AllByRecursion (IsSoundUnit line general options.dead) units
-  pub apart : AreApart (kept_sequences options.dead options.skip_copies units)
+  pub apart : AreApart (kept_sequences (selected options units))

@@ -1,5 +1,5 @@
 -- What is kept of a good section by its sequences: the place of each, the programs of their units, and the string sections.
-use Rattle.std.specs.Prelude.{◌≡◌, ◌<◌, ◌==◌, Bool, ℕ, List, length, map, get_or, Option, Some}
+use Rattle.std.specs.Prelude.{◌≡◌, ◌<◌, ◌==◌, ℕ, List, length, map, get_or, Option, Some}
 use Rattle.std.specs.List.{AllByRecursion, AllZip, position, slice_get}
 use Rattle.std.specs.List.Sorted.{IsPermutation}
 use Rattle.std.specs.Option.{option_and_then, option_map, option_map_or}
@@ -17,7 +17,7 @@ use Rattle.lnt_sequences.specs.declared.extent.Extent.{Extent}
 use Rattle.lnt_sequences.specs.declared.sequence.SeqId.{SeqId}
 use Rattle.lnt_sequences.specs.Extents.{AreSettled, extents_of}
 use Rattle.lnt_sequences.specs.Rules.{AreApart, AreOrdered, HaveFiles}
-use Rattle.lnt_sequences.specs.Sequences.{kept_sequences, live_in, live_sequences}
+use Rattle.lnt_sequences.specs.Sequences.{kept_sequences, live_in, live_sequences, Selection}
 
 -- the bytes of .debug_line_str and of .debug_str, an entry for each nonempty sequence, and the offset and the program of
 -- each unit
@@ -30,23 +30,25 @@ pub record Indexed : Type 0 where
 
 -- The index is that of the kept sequences of these units, no two of which hold the same position. Positions fall in no live
 -- sequence. The units are in order, and the tables of each are usable.
-pub record IsIndexOf (dead : Option ℕ) (skip : Bool) (units : List (ℕ × UnitParts)) (index : Indexed) : Type 0 where
+pub record IsIndexOf (selection : Selection) (index : Indexed) : Type 0 where
   pub settled : AreSettled index.entries
-  pub entries : IsPermutation (extents_of (kept_sequences dead skip units)) index.entries
-  pub apart : AreApart (kept_sequences dead skip units)
-  pub ordered : AreOrdered (live_sequences dead units)
+  pub entries : IsPermutation (extents_of (kept_sequences selection)) index.entries
+  pub apart : AreApart (kept_sequences selection)
+  pub ordered : AreOrdered (live_sequences selection.dead selection.units)
   pub rising : AreRising index.units
-  pub offsets : index.units ≡ map (λ unit. unit.0) units
-  pub programs : AllZip (λ unit kept. KeepsProgram kept unit.1) units index.programs
-  pub tables : AllByRecursion (λ unit. AreUsableTables index.line index.general unit.1.header) units
+  pub offsets : index.units ≡ map (λ unit. unit.0) selection.units
+  pub programs : AllZip (λ unit kept. KeepsProgram kept unit.1) selection.units index.programs
+  pub tables : AllByRecursion (λ unit. AreUsableTables index.line index.general unit.1.header) selection.units
+
+-- This is so of the units that the index is of, whichever they are.
+abbrev pub OfUnits : Indexed → (Selection → Type 0) → Type 0
+OfUnits index IsSo = (selection : Selection) → IsIndexOf selection index → IsSo selection
 
 -- It is that of some units. The rows of their live sequences name existing files, and the numbers of their headers can be read.
 pub record IsIndex (index : Indexed) : Type 0 where
-  pub dead : Option ℕ
-  pub skip : Bool
-  pub units : List (ℕ × UnitParts)
-  pub index_is : IsIndexOf dead skip units index
-  pub files : AllByRecursion (λ unit. HaveFiles (length unit.1.header.files) (live_in dead unit)) units
+  pub selection : Selection
+  pub index_is : IsIndexOf selection index
+  pub files : AllByRecursion (λ unit. HaveFiles (length unit.1.header.files) (live_in selection.dead unit)) selection.units
   pub numbers : AllByRecursion (λ kept. HasHeaderNumbers kept.header) index.programs
 
 -- ---- the headers of units

@@ -1,7 +1,7 @@
 -- What the laws of judged sections say.
 --     line, general   the bytes of .debug_line_str and of .debug_str
 --     dead            the address at which sequences of dead code begin, if one is given
-use Rattle.std.specs.Prelude.{◌≡◌, ◌≢◌, Bool, ℕ, List, length, None, Option, Some}
+use Rattle.std.specs.Prelude.{◌≡◌, ◌≢◌, ℕ, List, length, None, Some}
 use Rattle.std.specs.List.{All, Contains}
 use Rattle.lnt_wire.specs.declared.format.Order.{Order}
 use Rattle.lnt_header.specs.declared.unit_parts.UnitParts.{UnitParts}
@@ -9,12 +9,12 @@ use Rattle.lnt_unit.specs.UnitBytes.{SectionBytes}
 use Rattle.lnt_machine.specs.declared.row.Row.{Row}
 use Rattle.lnt_spans.specs.declared.position.Position.{Position}
 use Rattle.lnt_sequences.specs.Laws.{IsLastAt}
-use Rattle.lnt_sequences.specs.Sequences.{answer_of, Holds, kept_sequences, line_answer, Placed}
+use Rattle.lnt_sequences.specs.Sequences.{answer_of, Holds, kept_sequences, line_answer, Placed, Selection}
 use Rattle.lnt_files.specs.Paths.{listed_sum, path_bytes}
 use Rattle.lnt_lines.specs.declared.no.No.{No}
 use Rattle.lnt_lines.specs.declared.options.Options.{Options}
 use Rattle.lnt_lines.specs.Contents.{Contents, count_in, files_of, path_in, sum_in, TellsOf}
-use Rattle.lnt_lines.specs.Good.{IsGood}
+use Rattle.lnt_lines.specs.Good.{IsGood, selected}
 use Rattle.lnt_lines.specs.Indexed.{header_in, Indexed, IsIndexOf}
 use Rattle.lnt_lines.specs.Nos.{IsTrueNo}
 
@@ -31,37 +31,31 @@ pub record ListsFilesOf (line general : List ℕ) (unit : ℕ × UnitParts) (con
 
 -- The same for each unit of the section, and no files are held for an offset without a unit.
 pub record FilesOfUnits : Type 0 where
-  pub listed : (line general : List ℕ) (dead : Option ℕ) (skip : Bool) (order : Order) (section : List ℕ) (units : List (ℕ × UnitParts))
-      (contents : Contents) (unit : ℕ × UnitParts)
-      → SectionBytes order units section → TellsOf line general dead skip units contents → Contains units unit
-      → ListsFilesOf line general unit contents
-  pub none : (line general : List ℕ) (dead : Option ℕ) (skip : Bool) (units : List (ℕ × UnitParts)) (contents : Contents) (offset : ℕ)
-      → TellsOf line general dead skip units contents → All (λ unit. unit.0 ≢ offset) units → files_of contents offset ≡ None
+  pub listed : (line general : List ℕ) (selection : Selection) (order : Order) (section : List ℕ) (contents : Contents)
+      (unit : ℕ × UnitParts) → SectionBytes order selection.units section → TellsOf line general selection contents
+      → Contains selection.units unit → ListsFilesOf line general unit contents
+  pub none : (line general : List ℕ) (selection : Selection) (contents : Contents) (offset : ℕ)
+      → TellsOf line general selection contents → All (λ unit. unit.0 ≢ offset) selection.units → files_of contents offset ≡ None
 
 -- The header that an index finds at the offset of a unit is that of the unit, and it finds none at an offset without a
 -- unit.
 pub record HeadersOfUnits : Type 0 where
-  pub found : (dead : Option ℕ) (skip : Bool) (units : List (ℕ × UnitParts)) (index : Indexed) (unit : ℕ × UnitParts)
-      → IsIndexOf dead skip units index → Contains units unit → header_in index unit.0 ≡ Some unit.1.header
-  pub none : (dead : Option ℕ) (skip : Bool) (units : List (ℕ × UnitParts)) (index : Indexed) (offset : ℕ) → IsIndexOf dead skip units index
-      → All (λ unit. unit.0 ≢ offset) units → header_in index offset ≡ None
+  pub found : (selection : Selection) (index : Indexed) (unit : ℕ × UnitParts)
+      → IsIndexOf selection index → Contains selection.units unit → header_in index unit.0 ≡ Some unit.1.header
+  pub none : (selection : Selection) (index : Indexed) (offset : ℕ) → IsIndexOf selection index
+      → All (λ unit. unit.0 ≢ offset) selection.units → header_in index offset ≡ None
 
 -- At most one kept sequence of a good section holds p, and the section answers at p what its last row at or before p says. If none
 -- holds p, there is no answer.
 pub record AnswersAsHolder : Type 0 where
   pub one_alone : (line general : List ℕ) (options : Options) (section : List ℕ) (units : List (ℕ × UnitParts)) (one other : Placed)
-      (p : Position) → IsGood line general options section units
-      → Contains (kept_sequences options.dead options.skip_copies units) one
-      → Contains (kept_sequences options.dead options.skip_copies units) other → Holds one.rows p
-      → Holds other.rows p → one ≡ other
+      (p : Position) → IsGood line general options section units → Contains (kept_sequences (selected options units)) one
+      → Contains (kept_sequences (selected options units)) other → Holds one.rows p → Holds other.rows p → one ≡ other
   pub held : (line general : List ℕ) (options : Options) (section : List ℕ) (units : List (ℕ × UnitParts)) (placed : Placed) (p : Position)
-      → IsGood line general options section units
-      → Contains (kept_sequences options.dead options.skip_copies units) placed → Holds placed.rows p
-      → (row : Row) × IsLastAt p placed.rows row
-      × (line_answer options.dead options.skip_copies units p ≡ Some (answer_of placed.id.unit row))
-  pub none : (dead : Option ℕ) (skip : Bool) (units : List (ℕ × UnitParts)) (p : Position)
-      → ((placed : Placed) → Contains (kept_sequences dead skip units) placed → Holds placed.rows p → ⊥)
-      → line_answer dead skip units p ≡ None
+      → IsGood line general options section units → Contains (kept_sequences (selected options units)) placed → Holds placed.rows p
+      → (row : Row) × IsLastAt p placed.rows row × (line_answer (selected options units) p ≡ Some (answer_of placed.id.unit row))
+  pub none : (selection : Selection) (p : Position)
+      → ((placed : Placed) → Contains (kept_sequences selection) placed → Holds placed.rows p → ⊥) → line_answer selection p ≡ None
 
 -- At most one reason is true of a section, under one choice of options. If the bytes are malformed, that is one fault, at one
 -- place.

@@ -19,7 +19,7 @@ use Rattle.lnt_sequences.specs.Sequences.{kept_sequences, live_in, placed_in}
 use Rattle.lnt_lines.specs.declared.no.No.{No}
 use Rattle.lnt_lines.specs.declared.no.No.TheVariants as no
 use Rattle.lnt_lines.specs.declared.options.Options.{Options}
-use Rattle.lnt_lines.specs.Good.{IsSoundUnit, IsWellFormed}
+use Rattle.lnt_lines.specs.Good.{IsSoundUnit, IsWellFormed, selected}
 
 -- The unit at this offset has the flaw that is reported, and none of a lower number; and it is the first of its number. A
 -- reason that isn't about one unit isn't a flaw.
@@ -61,7 +61,7 @@ pub record IsOverlap (line general : List ℕ) (options : Options) (section : Li
   pub units : List (ℕ × UnitParts)
   pub spelled : SectionBytes options.order units section
   pub sound : AllByRecursion (IsSoundUnit line general options.dead) units
-  pub first : IsFirstOverlap (kept_sequences options.dead options.skip_copies units) overlap
+  pub first : IsFirstOverlap (kept_sequences (selected options units)) overlap
 
 -- What is reported is wrong with the section, and it is the first thing that is.
 abbrev pub IsTrueNo : List ℕ → List ℕ → Options → List ℕ → No → Type 0

@@ -86,7 +86,8 @@ impl Draft {
     ) -> Result<Index<'a>, Overlap>
         requires { IsWholeDraft strings.now.line.now strings.now.general.now self }
         ensures index { IfOk result (λ index. (dead : Option ℕ) (units : List (ℕ × UnitParts))
-            → IsDraftOf strings.now.line.now strings.now.general.now dead units self → IsIndexOf dead skip_copies units index) }
+            → IsDraftOf strings.now.line.now strings.now.general.now dead units self
+            → IsIndexOf (record { dead = dead; skip = skip_copies; units = units }) index) }
         ensures line { IfOk result (λ index. index.line ≡ strings.now.line.now) }
         ensures general { IfOk result (λ index. index.general ≡ strings.now.general.now) }
         ensures apart { OnOk result ((sequences : List Placed) → Collects self.collected sequences

@@ -1,11 +1,10 @@
 //! What a good section answers, with its rows decoded again when they are needed.
-ghost use Rattle.std.specs.Prelude.{◌≡◌, ◌↔◌, ◌+◌, ◌-◌, ◌^◌, ◌<◌, ◌≤◌, Bool, ℕ, List, length, Option, None, IfNone, IfOk, IfSome};
+ghost use Rattle.std.specs.Prelude.{◌≡◌, ◌↔◌, ◌+◌, ◌-◌, ◌^◌, ◌<◌, ◌≤◌, ℕ, List, length, Option, None, IfNone, IfOk, IfSome};
 ghost use Rattle.std.specs.Prelude.{IsSome, IsSomeAnd, IsTrue};
 ghost use Rattle.std.specs.List.{All, AllByRecursion, AllZip};
 ghost use Rattle.std.specs.List.Sorted.{IsPermutation};
 ghost use Rattle.std.specs.Option.{option_map};
 ghost use Rattle.lnt_header.specs.Joins.{AreRising};
-ghost use Rattle.lnt_header.specs.declared.unit_parts.UnitParts.{UnitParts};
 ghost use Rattle.lnt_machine.specs.declared.row.Row.{Row};
 ghost use Rattle.lnt_machine.specs.Walking.{WillGive};
 ghost use Rattle.lnt_files.specs.Files.{AreFilesOf};
@@ -17,8 +16,8 @@ ghost use Rattle.lnt_spans.specs.declared.span.Span.{Span};
 ghost use Rattle.lnt_lines.specs.Contents.{TellsOf};
 ghost use Rattle.lnt_lines.specs.Cursors.{GivesAllOf, room_of};
 ghost use Rattle.lnt_lines.specs.Finding.{Answers};
-ghost use Rattle.lnt_lines.specs.Indexed.{HasOneOperation, IsIndex, IsIndexOf, IsSequenceIn};
-ghost use Rattle.lnt_lines.specs.Indexed.{file_count_in, file_path_in, file_sum_in, header_in};
+ghost use Rattle.lnt_lines.specs.Indexed.{HasOneOperation, IsIndex, IsSequenceIn};
+ghost use Rattle.lnt_lines.specs.Indexed.{file_count_in, file_path_in, file_sum_in, header_in, OfUnits};
 ghost use Rattle.lnt_spans.specs.Instructions.{IsOfInstructions};
 
 use crate::lines::place_of;
@@ -117,8 +116,7 @@ impl<'a> Index<'a> {
     /// number of comparisons is added to `probes`. The caller ensures that `probes` is at most 2^63.
     pub fn lookup(&self, position: Position, probes: &mut Probes) -> Option<Answer>
         requires { probes.old ≤ 2 ^ 63 }
-        ensures answer { (dead : Option ℕ) (skip : Bool) (units : List (ℕ × UnitParts)) → IsIndexOf dead skip units self.now
-            → result ≡ line_answer dead skip units position }
+        ensures answer { OfUnits self.now (λ selection. result ≡ line_answer selection position) }
         ensures named { IfSome result (λ answer. IsSome (file_path_in self.now answer.unit answer.file)) }
         ensures rises { probes.old ≤ probes.new }
         ensures counted { (digits : ℕ) → length self.now.entries < 2 ^ digits → probes.new ≤ probes.old + digits }
@@ -136,10 +134,8 @@ impl<'a> Index<'a> {
     pub(crate) fn held(&self, position: Position, probes: &mut Probes) -> Option<Held>
         requires { probes.old ≤ 2 ^ 63 }
         ensures is_index { IsIndex self.now }
-        ensures none { IfNone result ((dead : Option ℕ) (skip : Bool) (units : List (ℕ × UnitParts)) → IsIndexOf dead skip units self.now
-            → None ≡ line_answer dead skip units position) }
-        ensures answers { IfSome result (λ held. (dead : Option ℕ) (skip : Bool) (units : List (ℕ × UnitParts))
-            → IsIndexOf dead skip units self.now → Answers dead skip units self.now position held.id) }
+        ensures none { IfNone result (OfUnits self.now (λ selection. None ≡ line_answer selection position)) }
+        ensures answers { IfSome result (λ held. OfUnits self.now (λ selection. Answers selection self.now position held.id)) }
         ensures rises { probes.old ≤ probes.new }
         ensures counted { (digits : ℕ) → length self.now.entries < 2 ^ digits → probes.new ≤ probes.old + digits }
     {
@@ -171,8 +167,7 @@ impl<'a> Index<'a> {
     /// as many spans as nonempty sequences. Allocates nothing.
     pub fn spans(&self) -> Spans<'_>
         ensures is_index { IsIndex self.now }
-        ensures gives { (dead : Option ℕ) (skip : Bool) (units : List (ℕ × UnitParts)) → IsIndexOf dead skip units self.now
-            → GivesAllOf dead skip units (length self.now.entries) result }
+        ensures gives { OfUnits self.now (λ selection. GivesAllOf selection (length self.now.entries) result) }
     {
         lnt_sequences::laws::entries_in_turn();
         offsets_fit(&self.units);
@@ -183,9 +178,8 @@ impl<'a> Index<'a> {
     /// header of each (DWARF 5, section 6.2.4). Then each span begins and ends at operation index 0. The rows aren't walked.
     pub fn has_single_operations(&self) -> bool
         ensures single { IsTrue result ↔ All HasOneOperation self.now.programs }
-        ensures spans { IsTrue result → (dead : Option ℕ) (skip : Bool) (units : List (ℕ × UnitParts)) (spans : List Span)
-            → IsIndexOf dead skip units self.now → IsPermutation (spans_of (kept_sequences dead skip units)) spans
-            → AllByRecursion IsOfInstructions spans }
+        ensures spans { IsTrue result → OfUnits self.now (λ selection. (spans : List Span)
+            → IsPermutation (spans_of (kept_sequences selection)) spans → AllByRecursion IsOfInstructions spans) }
     {
         are_single(&self.programs)
     }

@@ -1,13 +1,9 @@
 //! Lookups in an index, one after another.
-ghost use Rattle.std.specs.Prelude.{◌≡◌, ◌+◌, ◌^◌, ◌<◌, ◌≤◌, Bool, ℕ, List, length, Option, IfOk, IfSome, IsSome, slice_index_or};
-ghost use Rattle.std.specs.Option.{option_map};
-ghost use Rattle.lnt_header.specs.declared.unit_parts.UnitParts.{UnitParts};
-ghost use Rattle.lnt_machine.specs.declared.row.Row.{Row};
-ghost use Rattle.lnt_sequences.specs.Rules.{IsOrdered};
-ghost use Rattle.lnt_sequences.specs.Sequences.{answer_of, line_answer, row_at};
+ghost use Rattle.std.specs.Prelude.{◌≡◌, ◌+◌, ◌^◌, ◌<◌, ◌≤◌, ℕ, length, Option, IfOk, IfSome, IsSome, slice_index_or};
+ghost use Rattle.lnt_sequences.specs.Sequences.{line_answer};
 ghost use Rattle.lnt_lines.specs.declared.lookups.Cached.{Cached};
-ghost use Rattle.lnt_lines.specs.Finding.{AreKnownOf, IsCachedOf};
-ghost use Rattle.lnt_lines.specs.Indexed.{Indexed, IsIndexOf, IsSequenceIn, file_path_in};
+ghost use Rattle.lnt_lines.specs.Finding.{AreKnownOf, IsCachedOf, TellsAt};
+ghost use Rattle.lnt_lines.specs.Indexed.{Indexed, file_path_in, OfUnits};
 
 use crate::index::{Held, Index};
 use lnt_sequences::{RowCache, SeqId, answer_at};
@@ -81,8 +77,7 @@ impl<'i, 'a> Lookups<'i, 'a> {
     ) -> Result<Option<Answer>, AllocError>
         requires { probes.old ≤ 2 ^ 63 }
         ensures same { self.new ≡ self.old }
-        ensures answer { IfOk result (λ answer. (dead : Option ℕ) (skip : Bool) (units : List (ℕ × UnitParts))
-            → IsIndexOf dead skip units self.old → answer ≡ line_answer dead skip units position) }
+        ensures answer { IfOk result (λ answer. OfUnits self.old (λ selection. answer ≡ line_answer selection position)) }
         ensures named { IfOk result (λ found. IfSome found (λ answer. IsSome (file_path_in self.old answer.unit answer.file))) }
         ensures rises { probes.old ≤ probes.new }
         ensures counted { (digits : ℕ) → length self.old.entries < 2 ^ digits → probes.new ≤ probes.old + digits }
@@ -138,9 +133,7 @@ impl<'i> Known<'i> {
         position: Position,
     ) -> Result<Option<Answer>, AllocError>
         ensures known { AreKnownOf index.entry.now self.old → AreKnownOf index.entry.now self.new }
-        ensures answer { IfOk result (λ answer. (rows : List Row) → AreKnownOf index.entry.now self.old
-            → IsSequenceIn index.entry.now.units index.entry.now.programs held.id rows → IsOrdered rows
-            → answer ≡ option_map (answer_of held.id.unit) (row_at position rows)) }
+        ensures answer { IfOk result (TellsAt index.entry.now self.old held.id position) }
     {
         match self.said_at(held, position) {
             Some(answer) => Ok(answer),
@@ -151,9 +144,7 @@ impl<'i> Known<'i> {
     // The same, where rows that are kept in brief say it.
     #[inline(always)]
     fn said_at(&self, held: Held, position: Position) -> Option<Option<Answer>>
-        ensures { IfSome result (λ answer. (index : Indexed) (rows : List Row) → AreKnownOf index self.now
-            → IsSequenceIn index.units index.programs held.id rows → IsOrdered rows
-            → answer ≡ option_map (answer_of held.id.unit) (row_at position rows)) }
+        ensures { IfSome result (λ answer. (index : Indexed) → TellsAt index self.now held.id position answer) }
     {
         let known = place_in(&self.sequences, &self.places, held.place, held.id)?;
         self.sequences[known].cache.said_at(held.id.unit, position)
@@ -169,9 +160,7 @@ impl<'i> Known<'i> {
         position: Position,
     ) -> Result<Option<Answer>, AllocError>
         ensures known { AreKnownOf index.entry.now self.old → AreKnownOf index.entry.now self.new }
-        ensures answer { IfOk result (λ answer. (rows : List Row) → AreKnownOf index.entry.now self.old
-            → IsSequenceIn index.entry.now.units index.entry.now.programs held.id rows → IsOrdered rows
-            → answer ≡ option_map (answer_of held.id.unit) (row_at position rows)) }
+        ensures answer { IfOk result (TellsAt index.entry.now self.old held.id position) }
     {
         let Held { place, id } = held;
         let Some(rows) = index.rows(id) else {

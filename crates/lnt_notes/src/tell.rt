@@ -1,11 +1,10 @@
 //! Prints the notes to an answer.
-ghost use Rattle.std.specs.Prelude.{◌≡◌, ◌↔◌, Bool, IsTrue, List, OnOk, Option, [], false, ℕ};
+ghost use Rattle.std.specs.Prelude.{◌≡◌, ◌↔◌, IsTrue, OnOk, Option, [], false};
 ghost use Rattle.std.specs.Io.KnownBytes.{Appends};
-ghost use Rattle.lnt_header.specs.declared.unit_parts.UnitParts.{UnitParts};
 ghost use Rattle.lnt_sequences.specs.RowSpans.{spans_of};
 ghost use Rattle.lnt_sequences.specs.Sequences.{kept_sequences};
-ghost use Rattle.lnt_lines.specs.Indexed.{IsIndexOf};
 ghost use Rattle.lnt_text.specs.Notes.{note_line};
+ghost use Rattle.lnt_lines.specs.Indexed.{OfUnits};
 ghost use Rattle.lnt_notes.specs.Told.{AddsNotes};
 
 use crate::ends::end_alike;
@@ -56,8 +55,7 @@ pub struct Hints {
 
 /// The hints of a good section with this index, if sums weren't asked for.
 pub fn hints_of(index: &Index<'_>) -> Hints
-    ensures nothing { (dead : Option ℕ) (skip : Bool) (units : List (ℕ × UnitParts)) → IsIndexOf dead skip units index.now
-        → IsTrue result.holds_nothing ↔ spans_of (kept_sequences dead skip units) ≡ [] }
+    ensures nothing { OfUnits index.now (λ selection. IsTrue result.holds_nothing ↔ spans_of (kept_sequences selection) ≡ []) }
     ensures sums { result.lists_no_sum ≡ false }
 {
     let first = index.spans().next_span();

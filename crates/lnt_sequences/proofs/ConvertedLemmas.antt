@@ -178,12 +178,14 @@ said_alike : (units others : List (ℕ × UnitParts)) (p : Position) (one two : 
 said_alike units others p one two t = grind (arith, common_steps, row_alike)
 
 pub converted_answers : SameMatrix → ConvertedAnswers
-converted_answers law order section format to result c dead skip p =
-    said_alike c.units c.others p (find (λ (s : Placed). holds p s.rows) (kept_sequences dead skip c.units))
-    (find (λ (s : Placed). holds p s.rows) (kept_sequences dead skip c.others))
+converted_answers law order section format to result c selection p =
+    let dead = selection.dead in
+    let kept = kept_sequences (record selection { units = c.units }) in
+    let others = kept_sequences (record selection { units = c.others }) in
+    said_alike c.units c.others p (find (λ (s : Placed). holds p s.rows) kept) (find (λ (s : Placed). holds p s.rows) others)
     (zip_find (AreTwins c.units c.others) (λ (s : Placed). holds p s.rows) (λ (s : Placed). holds p s.rows)
-    (λ one two t. ap (holds p) t.rows_are) (kept_sequences dead skip c.units) (kept_sequences dead skip c.others)
-    (kept_alike (AreTwins c.units c.others) (λ one two t. t.rows_are) skip (live_sequences dead c.units) (live_sequences dead c.others)
-    (rising_sequences dead c.units (offsets_rise order 0 c.units section c.sound))
+    (λ one two t. ap (holds p) t.rows_are) kept others
+    (kept_alike (AreTwins c.units c.others) (λ one two t. t.rows_are) selection.skip (live_sequences dead c.units)
+    (live_sequences dead c.others) (rising_sequences dead c.units (offsets_rise order 0 c.units section c.sound))
     (rising_sequences dead c.others (offsets_rise to 0 c.others result c.spelled))
     (section_twins law dead format to c.units c.others c.same)))

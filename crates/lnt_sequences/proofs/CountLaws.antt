@@ -10,6 +10,7 @@ use Rattle.lnt_machine.specs.Matrix.{joined_rows, rows}
 use Rattle.lnt_machine.proofs.SequenceLaws.{joined_within}
 use Rattle.lnt_sequences.specs.RowSpans.{row_spans, span_between, spans_after, spans_of}
 use Rattle.lnt_sequences.specs.Sequences.{is_copy, kept_of, kept_sequences, live_in, live_sequences, Placed}
+use Rattle.lnt_sequences.specs.Sequences.{Selection}
 use Rattle.lnt_sequences.proofs.WalkLaws.{placed_from}
 use Rattle.std.proofs.lemmas.Grind.{common_steps}
 
@@ -90,6 +91,7 @@ live_within dead (unit ∷ units) =
     )
 
 -- The kept sequences have no more spans than the units have rows.
-pub spans_within_rows : (dead : Option ℕ) (skip : Bool) (units : List (ℕ × UnitParts))
-    → length (spans_of (kept_sequences dead skip units)) ≤ length (rows_of_units units)
-spans_within_rows dead skip units = omega (arith, kept_within skip (live_sequences dead units), live_within dead units)
+pub spans_within_rows : (selection : Selection) → length (spans_of (kept_sequences selection)) ≤ length (rows_of_units selection.units)
+spans_within_rows selection =
+    let live = live_sequences selection.dead selection.units in
+    omega (arith, kept_within selection.skip live, live_within selection.dead selection.units)

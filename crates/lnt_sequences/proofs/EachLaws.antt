@@ -10,7 +10,7 @@ use Rattle.lnt_machine.proofs.SequenceLaws.{EachRow}
 use Rattle.lnt_spans.specs.declared.span.Span.{Span}
 use Rattle.lnt_sequences.specs.RowSpans.{row_spans, span_between, spans_after, spans_of}
 use Rattle.lnt_sequences.specs.Sequences.{answer_of, is_copy, is_live, kept_of, kept_sequences, live_in, live_sequences, Placed}
-use Rattle.lnt_sequences.specs.Sequences.{placed_in, position_of}
+use Rattle.lnt_sequences.specs.Sequences.{placed_in, position_of, Selection}
 use Rattle.lnt_sequences.proofs.WalkLaws.{placed_from}
 use Rattle.std.proofs.lemmas.Grind.{common_steps}
 
@@ -76,8 +76,9 @@ each_span U P Q (s ∷ ss) between all =
     (each_span U P Q ss between all.1)
 
 -- the spans of the kept sequences of units
-pub each_kept_span : (U : ℕ → Type 0) (P : Row → Type 0) (Q : Span → Type 0) (dead : Option ℕ) (skip : Bool) (units : List (ℕ × UnitParts))
-    → Between U P Q → AllByRecursion (EachIn U P) units → All Q (spans_of (kept_sequences dead skip units))
-each_kept_span U P Q dead skip units between all =
-    let kept = each_kept U P skip (live_sequences dead units) (each_live U P dead units all) in
-    each_span U P Q (kept_sequences dead skip units) between (recursion_from_All (EachOf U P) (kept_sequences dead skip units) kept)
+pub each_kept_span : (U : ℕ → Type 0) (P : Row → Type 0) (Q : Span → Type 0) (selection : Selection) → Between U P Q
+    → AllByRecursion (EachIn U P) selection.units → All Q (spans_of (kept_sequences selection))
+each_kept_span U P Q selection between all =
+    let live = each_live U P selection.dead selection.units all in
+    let kept = each_kept U P selection.skip (live_sequences selection.dead selection.units) live in
+    each_span U P Q (kept_sequences selection) between (recursion_from_All (EachOf U P) (kept_sequences selection) kept)

@@ -18,7 +18,7 @@ use Rattle.lnt_spans.proofs.PositionLaws.{not_both}
 use Rattle.lnt_sequences.specs.Laws.{IsLastAt}
 use Rattle.lnt_sequences.specs.Rules.{FilesExist, HaveFiles}
 use Rattle.lnt_sequences.specs.Sequences.{answer_in, answer_of, holds, Holds, is_copy, is_live, kept_of, kept_sequences}
-use Rattle.lnt_sequences.specs.Sequences.{line_answer, live_in, live_sequences, Placed, placed_in, row_at}
+use Rattle.lnt_sequences.specs.Sequences.{line_answer, live_in, live_sequences, Placed, placed_in, row_at, Selection}
 use Rattle.lnt_sequences.proofs.EvidenceLemmas.{each_at, last_row-push}
 use Rattle.lnt_sequences.proofs.ExtentLemmas.{holds_from_test}
 use Rattle.lnt_sequences.proofs.LastRowLemmas.{AreAbove, last_found}
@@ -108,9 +108,10 @@ answer_names Q p (s ∷ ss) all = by_test (holds p s.rows) refl (answer_names Q 
     by_test true e rest = said Q p s (row_at p s.rows) refl (holds_from_test s.rows p e) all.0
     by_test false e rest = rest
 
-pub line_names : (Q : ℕ → ℕ → Type 0) (dead : Option ℕ) (skip : Bool) (units : List (ℕ × UnitParts)) (p : Position)
-    → AllByRecursion (NamesFiles Q dead) units → IfSome (line_answer dead skip units p) (λ (answer : Answer). Q answer.unit answer.file)
-line_names Q dead skip units p all =
-    let kept = kept_sequences dead skip units in
-    let named = kept_names Q p skip (live_sequences dead units) (live_names Q p dead units all) in
+pub line_names : (Q : ℕ → ℕ → Type 0) (selection : Selection) (p : Position) → AllByRecursion (NamesFiles Q selection.dead) selection.units
+    → IfSome (line_answer selection p) (λ (answer : Answer). Q answer.unit answer.file)
+line_names Q selection p all =
+    let kept = kept_sequences selection in
+    let live = live_names Q p selection.dead selection.units all in
+    let named = kept_names Q p selection.skip (live_sequences selection.dead selection.units) live in
     answer_names Q p kept (recursion_from_All (Names Q p) kept named)

@@ -1,5 +1,5 @@
 -- What the laws of sequences, their spans and their extents say.
-use Rattle.std.specs.Prelude.{◌≡◌, ◌≢◌, ℕ, ◌^◌, ◌<◌, Bool, true, false, List, ◌∷◌, ◌++◌, get_or, length, None, Some, Option}
+use Rattle.std.specs.Prelude.{◌≡◌, ◌≢◌, ℕ, ◌^◌, ◌<◌, true, false, List, ◌∷◌, ◌++◌, get_or, length, None, Some, Option}
 use Rattle.std.specs.List.{AllByRecursion, AllPairs, Contains}
 use Rattle.std.specs.Option.{option_map}
 use Rattle.lnt_wire.specs.declared.format.Format.{Format}
@@ -20,7 +20,7 @@ use Rattle.lnt_sequences.specs.Extents.{IsFirstOverlap}
 use Rattle.lnt_sequences.specs.RowSpans.{row_spans, spans_of}
 use Rattle.lnt_sequences.specs.Rules.{AreApart, AreDistinct, AreOrdered, HaveFiles, IsOrdered}
 use Rattle.lnt_sequences.specs.Sequences.{Placed, Holds, answer_in, answer_of, hold_alike, kept_sequences, line_answer}
-use Rattle.lnt_sequences.specs.Sequences.{live_in, live_of, live_sequences, position_of, row_at}
+use Rattle.lnt_sequences.specs.Sequences.{live_in, live_of, live_sequences, position_of, row_at, Selection}
 use Rattle.lnt_sequences.specs.Watching.{Collects, CollectsRows}
 
 -- The spans of ordered sequences answer as their rows do.
@@ -58,14 +58,14 @@ abbrev pub DistinctSequences : Type 0
 DistinctSequences = (dead : Option ℕ) (units : List (ℕ × UnitParts)) → AllPairs (λ one other. one.0 ≢ other.0) units
     → AreDistinct (live_sequences dead units)
 
--- If copies aren't skipped, the kept sequences are the live ones. If they are, the kept ones are live, and of units at
+-- The kept sequences are live. If copies aren't skipped, they are all of the live ones. If copies are skipped, of units at
 -- different offsets no two that hold a position begin and end at the same ones.
 pub record KeptSequences : Type 0 where
-  pub all : (dead : Option ℕ) (units : List (ℕ × UnitParts)) → kept_sequences dead false units ≡ live_sequences dead units
-  pub live : (dead : Option ℕ) (units : List (ℕ × UnitParts)) (placed : Placed) → Contains (kept_sequences dead true units) placed
-      → Contains (live_sequences dead units) placed
-  pub differ : (dead : Option ℕ) (units : List (ℕ × UnitParts)) → AllPairs (λ one other. one.0 ≢ other.0) units
-      → AllPairs (λ (one : Placed) (other : Placed). hold_alike one.rows other.rows ≡ false) (kept_sequences dead true units)
+  pub all : (selection : Selection) → kept_sequences (record selection { skip = false }) ≡ live_sequences selection.dead selection.units
+  pub live : (selection : Selection) (placed : Placed) → Contains (kept_sequences selection) placed
+      → Contains (live_sequences selection.dead selection.units) placed
+  pub differ : (selection : Selection) → AllPairs (λ one other. one.0 ≢ other.0) selection.units → AllPairs (λ (one : Placed)
+      (other : Placed). hold_alike one.rows other.rows ≡ false) (kept_sequences (record selection { skip = true }))
 
 -- The row is the last of the rows, in their order, at or before p: those after it are above p.
 pub record IsLastAt (p : Position) (rows : List Row) (row : Row) : Type 0 where
@@ -107,5 +107,5 @@ AreAlike units others _ _ = ⊥
 abbrev pub ConvertedAnswers : Type 0
 ConvertedAnswers =
     (order : Order) (section : List ℕ) (format : Format) (to : Order) (result : List ℕ) → (c : IsConverted order section format to result)
-    → (dead : Option ℕ) (skip : Bool) (p : Position)
-    → AreAlike c.units c.others (line_answer dead skip c.units p) (line_answer dead skip c.others p)
+    → (selection : Selection) (p : Position) → AreAlike c.units c.others (line_answer (record selection { units = c.units }) p)
+    (line_answer (record selection { units = c.others }) p)

@@ -112,9 +112,16 @@ abbrev pub kept_of : Bool → List Placed → List Placed
 kept_of false sequences = sequences
 kept_of true sequences = filter (λ placed. not (is_copy sequences placed)) sequences
 
+-- the units of a section, each with its offset, and which of their sequences count: the marker of the dead ones, if there is one,
+-- and whether copies are skipped
+pub record Selection : Type 0 where
+  pub dead : Option ℕ
+  pub skip : Bool
+  pub units : List (ℕ × UnitParts)
+
 -- the kept sequences among the live ones of a section
-abbrev pub kept_sequences : Option ℕ → Bool → List (ℕ × UnitParts) → List Placed
-kept_sequences dead skip units = kept_of skip (live_sequences dead units)
+abbrev pub kept_sequences : Selection → List Placed
+kept_sequences selection = kept_of selection.skip (live_sequences selection.dead selection.units)
 
 -- ---- what rows answer
 
@@ -139,5 +146,5 @@ answer_in sequences p = option_and_then (λ (placed : Placed). option_map (answe
     (find (λ placed. holds p placed.rows) sequences)
 
 -- What the rows of a section answer at p: those of its kept sequences.
-abbrev pub line_answer : Option ℕ → Bool → List (ℕ × UnitParts) → Position → Option Answer
-line_answer dead skip units p = answer_in (kept_sequences dead skip units) p
+abbrev pub line_answer : Selection → Position → Option Answer
+line_answer selection p = answer_in (kept_sequences selection) p

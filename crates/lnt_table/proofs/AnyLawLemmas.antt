@@ -20,7 +20,7 @@ use Rattle.lnt_paths.specs.PathTables as pathed
 use Rattle.lnt_paths.specs.PathTables.{path_column_names}
 use Rattle.lnt_paths.specs.Written.{IsCanonicalPathTable}
 use Rattle.lnt_lines.specs.declared.options.Options.{Options}
-use Rattle.lnt_lines.specs.Good.{IsGood}
+use Rattle.lnt_lines.specs.Good.{IsGood, selected}
 use Rattle.lnt_lines.specs.Laws.{GoodHasNoFlaw}
 use Rattle.lnt_table.specs.Verdicts.{Checked}
 use Rattle.lnt_table.specs.declared.kinds.OfKind.TheVariants.{Numbered, ByPath}
@@ -76,7 +76,7 @@ names_differ Two Four e = let count = ap length e in omega (arith, count)
 
 own : (line general : List ℕ) (options : Options) (section table : List ℕ) (units : List (ℕ × UnitParts)) (version : PathVersion)
     → IsGood line general options section units
-    → IsCanonicalPathTable version (answer_by_path version line general options.dead options.skip_copies units) table
+    → IsCanonicalPathTable version (answer_by_path version line general (selected options units)) table
     → IsTrueCheck line general options section table (ByPath Same)
 own line general options section table units version good w = (
   λ v begins.

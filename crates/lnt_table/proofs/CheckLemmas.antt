@@ -1,7 +1,6 @@
 -- What a comparison of a table with the lines of a good section says of the two.
-use Rattle.std.proofs.Common.{◌≡◌, Bool, ℕ, List, Option, Some, None, IfSome, ap, is_some, refl}
+use Rattle.std.proofs.Common.{◌≡◌, ℕ, List, Option, Some, None, IfSome, ap, is_some, refl}
 use Rattle.std.specs.Option.{option_map}
-use Rattle.lnt_header.specs.declared.unit_parts.UnitParts.{UnitParts}
 use Rattle.lnt_spans.specs.declared.answer.Version.{Version}
 use Rattle.lnt_spans.specs.declared.difference.Difference.{Difference}
 use Rattle.lnt_spans.specs.declared.position.Position.{Position}
@@ -10,7 +9,7 @@ use Rattle.lnt_spans.specs.Answers.{in_version}
 use Rattle.lnt_spans.specs.Counts.{addresses_answered}
 use Rattle.lnt_spans.specs.Spans.{span_answer, version_answer}
 use Rattle.lnt_spans.proofs.CountLemmas.{same_addresses}
-use Rattle.lnt_sequences.specs.Sequences.{line_answer}
+use Rattle.lnt_sequences.specs.Sequences.{line_answer, Selection}
 use Rattle.lnt_records.specs.declared.fault.TableFault.TheVariants as fault
 use Rattle.lnt_records.specs.declared.outcome.Compared.{Compared}
 use Rattle.lnt_records.specs.declared.outcome.Compared.TheVariants.{Same, Fault, Differs}
@@ -19,17 +18,17 @@ use Rattle.lnt_records.proofs.ComparedLaws.{comparison_so}
 use Rattle.lnt_lines.specs.declared.no.No.{No as SectionNo}
 use Rattle.lnt_lines.specs.declared.options.Options.{Options}
 use Rattle.lnt_lines.specs.Drafts.{IsIndexOfSection}
-use Rattle.lnt_lines.specs.Indexed.{Indexed, IsIndexOf}
+use Rattle.lnt_lines.specs.Good.{selected}
+use Rattle.lnt_lines.specs.Indexed.{Indexed, OfUnits}
 use Rattle.lnt_table.specs.declared.verdict.TableNo.TheVariants as no
 use Rattle.lnt_table.specs.declared.verdict.Verdict.TheVariants.{No}
 use Rattle.lnt_table.specs.Headline.{IsTrueByNumber, IsTrueOfSection, IsTrueVerdict, told_answer}
 use Rattle.lnt_table.specs.Verdicts.{verdict_of}
 
 -- Spans that answer as the rows do also answer so as each version tells answers.
-pub told_so : (version : Version) (dead : Option ℕ) (skip : Bool) (units : List (ℕ × UnitParts)) (spans : List Span)
-    → ((p : Position) → span_answer spans p ≡ line_answer dead skip units p)
-    → (p : Position) → version_answer version spans p ≡ told_answer version dead skip units p
-told_so version dead skip units spans same p = ap (option_map (in_version version)) (same p)
+pub told_so : (version : Version) (selection : Selection) (spans : List Span) → ((p : Position)
+    → span_answer spans p ≡ line_answer selection p) → (p : Position) → version_answer version spans p ≡ told_answer version selection p
+told_so version selection spans same p = ap (option_map (in_version version)) (same p)
 
 -- what a table contains of answers is answered at as many addresses
 pub told_addresses : {X Y : Type 0} (tell : Y → X) (answers : Position → Option Y)
@@ -84,29 +83,27 @@ each_known None P Q h step = tt
 each_known (Some text) P Q h step = step text h
 
 -- the comparison is true of the table and of the rows of some units
-abbrev pub IsOfRows : Option ℕ → Bool → List (ℕ × UnitParts) → Compared Difference → List ℕ → Type 0
-IsOfRows dead skip units compared table =
-    IsComparisonOf tables_by_number (in_versions (line_answer dead skip units)) table compared
+abbrev pub IsOfRows : Selection → Compared Difference → List ℕ → Type 0
+IsOfRows selection compared table = IsComparisonOf tables_by_number (in_versions (line_answer selection)) table compared
 
 -- a comparison with the spans of an index is one with the rows of its units
-pub found_with : (table : Option (List ℕ)) (dead : Option ℕ) (skip : Bool) (units : List (ℕ × UnitParts)) (spans : List Span)
-    (compared : Compared Difference) → ((p : Position) → span_answer spans p ≡ line_answer dead skip units p)
-    → IfSome table (λ bytes. IsComparison bytes spans compared) → IfSome table (IsOfRows dead skip units compared)
-found_with table dead skip units spans compared answers h =
-    each_known table (λ bytes. IsComparison bytes spans compared) (IsOfRows dead skip units compared) h
-    (λ bytes is. comparison_so tables_by_number bytes (in_versions (span_answer spans)) (in_versions (line_answer dead skip units)) compared
-    (λ version. told_so version dead skip units spans answers) is)
+pub found_with : (table : Option (List ℕ)) (selection : Selection) (spans : List Span)
+    (compared : Compared Difference) → ((p : Position) → span_answer spans p ≡ line_answer selection p)
+    → IfSome table (λ bytes. IsComparison bytes spans compared) → IfSome table (IsOfRows selection compared)
+found_with table selection spans compared answers h =
+    each_known table (λ bytes. IsComparison bytes spans compared) (IsOfRows selection compared) h
+    (λ bytes is. comparison_so tables_by_number bytes (in_versions (span_answer spans)) (in_versions (line_answer selection)) compared
+    (λ version. told_so version selection spans answers) is)
 
 pub verdict_told : (line general : List ℕ) (options : Options) (section table : Option (List ℕ)) (index : Indexed)
     (compared : Compared Difference) → IfSome section (λ bytes. IsIndexOfSection line general options bytes index)
-    → ((dead : Option ℕ) (skip : Bool) (units : List (ℕ × UnitParts)) → IsIndexOf dead skip units index
-    → IfSome table (IsOfRows dead skip units compared))
+    → OfUnits index (λ selection. IfSome table (IsOfRows selection compared))
     → IfSome section (λ bytes. IfSome table (λ text. IsTrueVerdict line general options bytes text (verdict_of compared)))
 verdict_told line general options section table index compared i h =
     both_known section table (λ bytes. IsIndexOfSection line general options bytes index)
     (λ bytes text. IsTrueVerdict line general options bytes text (verdict_of compared)) i
-    (λ bytes is. each_known table (IsOfRows options.dead options.skip_copies is.units compared)
-    (λ text. IsTrueVerdict line general options bytes text (verdict_of compared)) (h options.dead options.skip_copies is.units is.index_is)
+    (λ bytes is. each_known table (IsOfRows (selected options is.units) compared)
+    (λ text. IsTrueVerdict line general options bytes text (verdict_of compared)) (h (selected options is.units) is.index_is)
     (λ text told. compared_told line general options bytes text compared
     (record { units = is.units; good = is.good; told = told })))
 

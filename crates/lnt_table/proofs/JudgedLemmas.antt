@@ -1,7 +1,6 @@
 -- What a comparison of a table of any version with a good section says of the two.
-use Rattle.std.proofs.Common.{◌≡◌, ◌∙◌, ◌-◌, ◌++◌, Bool, ℕ, List, [], Option, Some, None, IfSome, ap, append_assoc, arith, inl, inr, refl, subst, sym}
+use Rattle.std.proofs.Common.{◌≡◌, ◌∙◌, ◌-◌, ◌++◌, ℕ, List, [], Option, Some, None, IfSome, ap, append_assoc, arith, inl, inr, refl, subst, sym}
 use Rattle.std.specs.Prelude.{MatchOption}
-use Rattle.lnt_header.specs.declared.unit_parts.UnitParts.{UnitParts}
 use Rattle.lnt_spans.specs.declared.difference.Difference.{Difference}
 use Rattle.lnt_spans.specs.declared.found.Found.{Found as FoundSpec}
 use Rattle.lnt_spans.specs.declared.position.Position.{Position}
@@ -12,7 +11,7 @@ use Rattle.lnt_spans.specs.Merged.{missed_of, unless}
 use Rattle.lnt_spans.specs.Partial.{AreCounts, IsFirstMistake, IsRightWherever, where_missed}
 use Rattle.lnt_spans.specs.Spans.{span_answer}
 use Rattle.lnt_spans.proofs.PartialLemmas.{answered_and_missed}
-use Rattle.lnt_sequences.specs.Sequences.{line_answer}
+use Rattle.lnt_sequences.specs.Sequences.{line_answer, Selection}
 use Rattle.lnt_records.specs.declared.fault.TableFault.TheVariants as fault
 use Rattle.lnt_records.specs.Outcomes.{IsHeadedOutcome, IsOutcomeOf, Outcome, compared_of, part_of, whole_of}
 use Rattle.lnt_records.specs.declared.outcome.TableRead.TheVariants.{Fault, Table}
@@ -33,7 +32,8 @@ use Rattle.lnt_paths.proofs.CanonicalLemmas.{header_begins}
 use Rattle.lnt_lines.specs.declared.no.No.{No as SectionNo}
 use Rattle.lnt_lines.specs.declared.options.Options.{Options}
 use Rattle.lnt_lines.specs.Drafts.{IsIndexOfSection}
-use Rattle.lnt_lines.specs.Indexed.{Indexed, IsIndexOf}
+use Rattle.lnt_lines.specs.Good.{selected}
+use Rattle.lnt_lines.specs.Indexed.{Indexed, IsIndexOf, OfUnits}
 use Rattle.lnt_table.specs.Verdicts.{Checked}
 use Rattle.lnt_table.specs.declared.kinds.OfKind.TheVariants.{Numbered, ByPath}
 use Rattle.lnt_table.specs.Judged.{Judged}
@@ -58,51 +58,50 @@ use Rattle.lnt_table.proofs.UnitPathLemmas.{told_by_units}
 -- ---- the comparison with an index
 
 -- a table with the header of version 1 or 2
-pub numbered_with : (bytes : List ℕ) (index : Indexed) (dead : Option ℕ) (skip : Bool) (units : List (ℕ × UnitParts)) (spans : List Span)
-    (outcome : Outcome Difference) → ((p : Position) → span_answer spans p ≡ line_answer dead skip units p)
-    → IsHeadedOutcome bytes spans outcome → IsJudgedWith index dead skip units bytes (judged.Numbered outcome)
-numbered_with bytes index dead skip units spans outcome answers is = (
-  outcome_so tables_by_number bytes (in_versions (span_answer spans)) (in_versions (line_answer dead skip units)) outcome
-      (λ version. told_so version dead skip units spans answers) is.0,
+pub numbered_with : (bytes : List ℕ) (index : Indexed) (selection : Selection) (spans : List Span)
+    (outcome : Outcome Difference) → ((p : Position) → span_answer spans p ≡ line_answer selection p)
+    → IsHeadedOutcome bytes spans outcome → IsJudgedWith index selection bytes (judged.Numbered outcome)
+numbered_with bytes index selection spans outcome answers is = (
+  outcome_so tables_by_number bytes (in_versions (span_answer spans)) (in_versions (line_answer selection)) outcome
+      (λ version. told_so version selection spans answers) is.0,
   is.1,
 )
 
 -- one with neither header
-pub pathed_with : (bytes : List ℕ) (index : Indexed) (dead : Option ℕ) (skip : Bool) (units : List (ℕ × UnitParts)) (spans : List Span)
-    (outcome : Outcome DifferenceByPath) → IsIndexOf dead skip units index → IsUnnumbered bytes
-    → ((p : Position) → span_answer spans p ≡ line_answer dead skip units p)
+pub pathed_with : (bytes : List ℕ) (index : Indexed) (selection : Selection) (spans : List Span) (outcome : Outcome DifferenceByPath)
+    → IsIndexOf selection index → IsUnnumbered bytes → ((p : Position) → span_answer spans p ≡ line_answer selection p)
     → IsPathOutcome bytes (λ version. spans_by_path version (indexed_path index) spans) outcome
-    → IsJudgedWith index dead skip units bytes (judged.ByPath outcome)
-pathed_with bytes index dead skip units spans outcome is other answers h = (
+    → IsJudgedWith index selection bytes (judged.ByPath outcome)
+pathed_with bytes index selection spans outcome is other answers h = (
   other,
   outcome_so tables_by_path bytes (λ version. spans_by_path version (indexed_path index) spans)
-      (λ version. told_path version index dead skip units) outcome
-      (λ version. told_by_units version index dead skip units spans is answers) h,
+      (λ version. told_path version index selection) outcome
+      (λ version. told_by_units version index selection spans is answers) h,
 )
 
 -- The table's first line is a header of version 3 or 4, and this holds of its other bytes.
 pub begun_by_path : (text more : Option (List ℕ)) (may_give may_still : ℕ) (first window : List ℕ) (version : PathVersion) (index : Indexed)
-    (dead : Option ℕ) (skip : Bool) (units : List (ℕ × UnitParts)) (spans : List Span) (outcome : Outcome DifferenceByPath)
-    → IsIndexOf dead skip units index → Passes text more may_give may_still [] first [] → first ≡ line_text (path_column_names version) ++ window
-    → ((p : Position) → span_answer spans p ≡ line_answer dead skip units p)
+    (selection : Selection) (spans : List Span) (outcome : Outcome DifferenceByPath)
+    → IsIndexOf selection index → Passes text more may_give may_still [] first [] → first ≡ line_text (path_column_names version) ++ window
+    → ((p : Position) → span_answer spans p ≡ line_answer selection p)
     → IfSome more (λ rest. IsPathOutcome (line_text (path_column_names version) ++ (window ++ rest))
     (λ version. spans_by_path version (indexed_path index) spans) outcome)
-    → IfSome text (λ bytes. IsJudgedWith index dead skip units bytes (judged.ByPath outcome))
-begun_by_path text more may_give may_still first window version index dead skip units spans outcome is passes here answers h =
+    → IfSome text (λ bytes. IsJudgedWith index selection bytes (judged.ByPath outcome))
+begun_by_path text more may_give may_still first window version index selection spans outcome is passes here answers h =
     let line : List ℕ = line_text (path_column_names version) in
-    first_taken text more may_give may_still first [] (λ bytes. IsJudgedWith index dead skip units bytes (judged.ByPath outcome)) passes
+    first_taken text more may_give may_still first [] (λ bytes. IsJudgedWith index selection bytes (judged.ByPath outcome)) passes
     (each_known more (λ rest. IsPathOutcome (line ++ (window ++ rest)) (λ version. spans_by_path version (indexed_path index) spans) outcome)
-    (λ rest. IsJudgedWith index dead skip units (first ++ rest) (judged.ByPath outcome)) h
-    (λ rest o. subst (λ (bytes : List ℕ). IsJudgedWith index dead skip units bytes (judged.ByPath outcome))
+    (λ rest. IsJudgedWith index selection (first ++ rest) (judged.ByPath outcome)) h
+    (λ rest o. subst (λ (bytes : List ℕ). IsJudgedWith index selection bytes (judged.ByPath outcome))
     (sym (append_assoc line window rest) ∙ ap (λ (bytes : List ℕ). bytes ++ rest) (sym here))
-    (pathed_with (line ++ (window ++ rest)) index dead skip units spans outcome is
+    (pathed_with (line ++ (window ++ rest)) index selection spans outcome is
     (λ v begins. names_differ v version (one_beginning (line ++ (window ++ rest)) (column_names v) (path_column_names version) begins
     (header_begins version (window ++ rest)))) answers o)))
 
 -- the answers of the index are those of the units in the section
 own_path : (line general : List ℕ) (options : Options) (section table : List ℕ) (index : Indexed) (outcome : Outcome DifferenceByPath)
     → (i : IsIndexOfSection line general options section index)
-    → IsPathOutcome table (λ version. told_path version index options.dead options.skip_copies i.units) outcome
+    → IsPathOutcome table (λ version. told_path version index (selected options i.units)) outcome
     → IsPathOutcome table (told_paths line general options i.units) outcome
 own_path line general options section table index outcome i h =
     subst (λ (l : List ℕ). IsPathOutcome table (told_paths l general options i.units) outcome) i.line_is
@@ -123,7 +122,7 @@ header_found (Table found) e = absurd (by_first _ e)
     by_first (Some difference) e = cc e
 
 check_told : (line general : List ℕ) (options : Options) (section table : List ℕ) (index : Indexed) (told : Judged)
-    → (i : IsIndexOfSection line general options section index) → IsJudgedWith index options.dead options.skip_copies i.units table told
+    → (i : IsIndexOfSection line general options section index) → IsJudgedWith index (selected options i.units) table told
     → IsTrueCheck line general options section table (whole_checked told)
 check_told line general options section table index (judged.Numbered outcome) i h = (
   compared_told line general options section table (whole_of outcome) (record {
@@ -177,9 +176,9 @@ part_found {V} {X} {Y} {D} kind section table found all checked IsSo addresses r
         mistaken mistake (record { version = h.version; table = h.table; is_table = h.is_table; so = subst Mistakes e h.so.mistake })
 
 within_told : (scope : Scope) (line general : List ℕ) (options : Options) (section table : List ℕ) (index : Indexed) (told : Judged)
-    → (i : IsIndexOfSection line general options section index) → IsJudgedWith index options.dead options.skip_copies i.units table told
+    → (i : IsIndexOfSection line general options section index) → IsJudgedWith index (selected options i.units) table told
     → IsTrueWithin scope line general options section table
-    (within_scope scope told (addresses_answered (line_answer options.dead options.skip_copies i.units)))
+    (within_scope scope told (addresses_answered (line_answer (selected options i.units))))
 within_told All line general options section table index told i h = check_told line general options section table index told i h
 within_told Answered line general options section table index (judged.Numbered (Fault fault.Header)) i h = absurd (h.1 refl)
 within_told Answered line general options section table index (judged.Numbered (Fault (fault.Fields k))) i h =
@@ -189,7 +188,7 @@ within_told Answered line general options section table index (judged.Numbered (
 within_told Answered line general options section table index (judged.Numbered (Fault (fault.Order k))) i h =
     (record { units = i.units; good = i.good; told = h.0 }, λ e. cc e)
 within_told Answered line general options section table index (judged.Numbered (Table found)) i h =
-    let answers = line_answer options.dead options.skip_copies i.units in
+    let answers = line_answer (selected options i.units) in
     part_found tables_by_number (told_rows options i.units) table found (addresses_answered answers)
     (λ mistake. Numbered (verdict_of (compared_of mistake))) (IsTrueWithin Answered line general options section table)
     (λ version. told_addresses (in_version version) answers)
@@ -198,7 +197,7 @@ within_told Answered line general options section table index (judged.Numbered (
 within_told Answered line general options section table index (judged.ByPath (Fault told)) i h =
     (h.0, record { units = i.units; good = i.good; told = h.1 })
 within_told Answered line general options section table index (judged.ByPath (Table found)) i h =
-    let answers = line_answer options.dead options.skip_copies i.units in
+    let answers = line_answer (selected options i.units) in
     part_found tables_by_path (told_paths line general options i.units) table found (addresses_answered answers)
     (λ mistake. ByPath (compared_of mistake)) (IsTrueWithin Answered line general options section table)
     (λ version. told_addresses (path_answer version (path_at line general i.units)) answers)
@@ -210,8 +209,7 @@ within_told Answered line general options section table index (judged.ByPath (Ta
 
 -- what was judged of an index is true of the table
 abbrev pub Judges : Option (List ℕ) → Indexed → Judged → Type 0
-Judges table index told = (dead : Option ℕ) (skip : Bool) (units : List (ℕ × UnitParts)) → IsIndexOf dead skip units index
-    → IfSome table (λ text. IsJudgedWith index dead skip units text told)
+Judges table index told = OfUnits index (λ selection. IfSome table (λ text. IsJudgedWith index selection text told))
 
 pub any_told : (line general : List ℕ) (options : Options) (section table : Option (List ℕ)) (index : Indexed) (told : Judged)
     → IfSome section (λ bytes. IsIndexOfSection line general options bytes index) → Judges table index told
@@ -219,22 +217,20 @@ pub any_told : (line general : List ℕ) (options : Options) (section table : Op
 any_told line general options section table index told i h =
     both_known section table (λ bytes. IsIndexOfSection line general options bytes index)
     (λ bytes text. IsTrueCheck line general options bytes text (whole_checked told)) i
-    (λ bytes is. each_known table (λ text. IsJudgedWith index options.dead options.skip_copies is.units text told)
-    (λ text. IsTrueCheck line general options bytes text (whole_checked told)) (h options.dead options.skip_copies is.units is.index_is)
+    (λ bytes is. each_known table (λ text. IsJudgedWith index (selected options is.units) text told)
+    (λ text. IsTrueCheck line general options bytes text (whole_checked told)) (h (selected options is.units) is.index_is)
     (λ text j. check_told line general options bytes text index told is j))
 
 pub scope_told : (scope : Scope) (line general : List ℕ) (options : Options) (section table : Option (List ℕ)) (index : Indexed)
     (told : Judged) (checked : CheckedWithin) → IfSome section (λ bytes. IsIndexOfSection line general options bytes index)
-    → Judges table index told
-    → ((dead : Option ℕ) (skip : Bool) (units : List (ℕ × UnitParts)) → IsIndexOf dead skip units index
-    → checked ≡ within_scope scope told (addresses_answered (line_answer dead skip units)))
+    → Judges table index told → OfUnits index (λ selection. checked ≡ within_scope scope told (addresses_answered (line_answer selection)))
     → IfSome section (λ bytes. IfSome table (λ text. IsTrueWithin scope line general options bytes text checked))
 scope_told scope line general options section table index told checked i h is_within =
     both_known section table (λ bytes. IsIndexOfSection line general options bytes index)
     (λ bytes text. IsTrueWithin scope line general options bytes text checked) i
-    (λ bytes is. each_known table (λ text. IsJudgedWith index options.dead options.skip_copies is.units text told)
-    (λ text. IsTrueWithin scope line general options bytes text checked) (h options.dead options.skip_copies is.units is.index_is)
-    (λ text j. rw (is_within options.dead options.skip_copies is.units is.index_is)
+    (λ bytes is. each_known table (λ text. IsJudgedWith index (selected options is.units) text told)
+    (λ text. IsTrueWithin scope line general options bytes text checked) (h (selected options is.units) is.index_is)
+    (λ text j. rw (is_within (selected options is.units) is.index_is)
     (within_told scope line general options bytes text index told is j)))
 
 -- ---- what an answer says of the section

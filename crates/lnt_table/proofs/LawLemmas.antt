@@ -1,5 +1,6 @@
 -- Where the section is good and the table answers as it does, no verdict but Yes is true.
 use Rattle.std.proofs.Common.{◌∙◌, sym}
+use Rattle.lnt_lines.specs.Good.{selected}
 use Rattle.lnt_table.specs.declared.verdict.Verdict.TheVariants.{Yes}
 use Rattle.lnt_table.specs.Laws.{OneVerdict, OnlyYes, OwnTable, OwnTableOfUnits}
 use Rattle.lnt_table.proofs.CheckLemmas.{told_so}
@@ -22,6 +23,6 @@ own_table own line general options bytes table lines version verdict l w v =
       spans = w.spans;
       canonical = w.canonical;
       same =
-          λ p. w.same p ∙ told_so version options.dead options.skip_copies l.units lines.spans l.tells.answers p;
+          λ p. w.same p ∙ told_so version (selected options l.units) lines.spans l.tells.answers p;
       written = w.written;
     }) v

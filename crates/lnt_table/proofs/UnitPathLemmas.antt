@@ -15,7 +15,7 @@ use Rattle.lnt_spans.specs.declared.answer.Answer.{Answer}
 use Rattle.lnt_spans.specs.declared.position.Position.{Position}
 use Rattle.lnt_spans.specs.declared.span.Span.{Span}
 use Rattle.lnt_spans.specs.Spans.{span_answer}
-use Rattle.lnt_sequences.specs.Sequences.{line_answer}
+use Rattle.lnt_sequences.specs.Sequences.{line_answer, Selection}
 use Rattle.lnt_paths.specs.declared.version.PathVersion.{PathVersion}
 use Rattle.lnt_paths.specs.PathAnswers.{path_answer, spans_by_path}
 use Rattle.lnt_lines.specs.Indexed.{header_in, Indexed, IsIndexOf}
@@ -72,32 +72,31 @@ at_position xs test ns e = of_case (nat_lt (position_or_len test ns) (length ns)
     of_case true is = rw is refl
     of_case false is = rw is (sym (slice_get_past xs (position_or_len test ns) (past is)))
 
-header_is : (dead : Option ℕ) (skip : Bool) (units : List (ℕ × UnitParts)) (index : Indexed) (offset : ℕ) → IsIndexOf dead skip units index
-    → header_in index offset ≡ header_at units offset
-header_is dead skip units index offset is =
+header_is : (selection : Selection) (index : Indexed) (offset : ℕ) → IsIndexOf selection index
+    → header_in index offset ≡ header_at selection.units offset
+header_is selection index offset is =
     ap (λ (list : List ℕ). header_of (option_and_then (slice_get index.programs) (position (λ (n : ℕ). n == offset) list))) is.offsets
-    ∙ ap header_of (at_position index.programs (λ n. n == offset) (offsets units) (as_many units index.programs is.programs))
-    ∙ header_first units index.programs offset is.programs
+    ∙ ap header_of (at_position index.programs (λ n. n == offset) (offsets selection.units)
+    (as_many selection.units index.programs is.programs))
+    ∙ header_first selection.units index.programs offset is.programs
 
 -- What an index of units answers by path is what the units answer.
-pub same_answer : (version : PathVersion) (index : Indexed) (dead : Option ℕ) (skip : Bool) (units : List (ℕ × UnitParts))
-    → IsIndexOf dead skip units index → (found : Option Answer)
+pub same_answer : (version : PathVersion) (index : Indexed) (selection : Selection) → IsIndexOf selection index → (found : Option Answer)
     → option_map (path_answer version (indexed_path index)) found
-    ≡ option_map (path_answer version (path_at index.line index.general units)) found
-same_answer version index dead skip units is None = refl
-same_answer version index dead skip units is (Some answer) =
-    let path : indexed_path index answer.unit answer.file ≡ path_at index.line index.general units answer.unit answer.file =
+    ≡ option_map (path_answer version (path_at index.line index.general selection.units)) found
+same_answer version index selection is None = refl
+same_answer version index selection is (Some answer) =
+    let path : indexed_path index answer.unit answer.file ≡ path_at index.line index.general selection.units answer.unit answer.file =
     ap
     (λ (h : Option HeaderParts). path_or_empty
     (option_and_then (λ (header : HeaderParts). path_bytes index.line index.general header answer.file) h))
-    (header_is dead skip units index answer.unit is) in
+    (header_is selection index answer.unit is) in
     rw path refl
 
 -- So is it of spans that answer as the units' rows do.
-pub told_by_units : (version : PathVersion) (index : Indexed) (dead : Option ℕ) (skip : Bool) (units : List (ℕ × UnitParts))
-    (spans : List Span) → IsIndexOf dead skip units index
-    → ((p : Position) → span_answer spans p ≡ line_answer dead skip units p) → (p : Position)
-    → spans_by_path version (indexed_path index) spans p ≡ told_path version index dead skip units p
-told_by_units version index dead skip units spans is answers p =
+pub told_by_units : (version : PathVersion) (index : Indexed) (selection : Selection) (spans : List Span) → IsIndexOf selection index
+    → ((p : Position) → span_answer spans p ≡ line_answer selection p) → (p : Position)
+    → spans_by_path version (indexed_path index) spans p ≡ told_path version index selection p
+told_by_units version index selection spans is answers p =
     ap (option_map (path_answer version (indexed_path index))) (answers p)
-    ∙ same_answer version index dead skip units is (line_answer dead skip units p)
+    ∙ same_answer version index selection is (line_answer selection p)

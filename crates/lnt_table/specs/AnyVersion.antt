@@ -12,6 +12,7 @@ use Rattle.lnt_paths.specs.declared.version.PathVersion.{PathVersion}
 use Rattle.lnt_paths.specs.PathAnswers.{PathAnswer}
 use Rattle.lnt_paths.specs.PathOutcomes.{tables_by_path}
 use Rattle.lnt_lines.specs.declared.options.Options.{Options}
+use Rattle.lnt_lines.specs.Good.{selected}
 use Rattle.lnt_table.specs.Verdicts.{Checked}
 use Rattle.lnt_table.specs.declared.kinds.OfKind.TheVariants.{Numbered, ByPath}
 use Rattle.lnt_table.specs.declared.verdict.TableNo.TheVariants as no
@@ -21,7 +22,7 @@ use Rattle.lnt_table.specs.Headline.{IsGoodSection, IsGoodWith, IsTrueOfSection,
 
 -- the answers of a section's rows by path, with the full path of each file, for the options
 abbrev pub told_paths : List ℕ → List ℕ → Options → List (ℕ × UnitParts) → PathVersion → Position → Option PathAnswer
-told_paths line general options units version = answer_by_path version line general options.dead options.skip_copies units
+told_paths line general options units version = answer_by_path version line general (selected options units)
 
 -- The section is good. The table begins with the header of neither version 1 nor 2. `compared` is true of the table and of the answers
 -- of the section's rows by path, in the fields of versions 3 and 4: `Fault` of the header if the table begins with that of neither of

@@ -1,13 +1,13 @@
 -- The answers of a section by path.
 --     line, general   the bytes of .debug_line_str and of .debug_str
-use Rattle.std.specs.Prelude.{◌==◌, Bool, ℕ, List, Option}
+use Rattle.std.specs.Prelude.{◌==◌, ℕ, List, Option}
 use Rattle.std.specs.List.{find}
 use Rattle.std.specs.Option.{option_and_then, option_map}
 use Rattle.lnt_header.specs.declared.header.HeaderParts.{HeaderParts}
 use Rattle.lnt_header.specs.declared.unit_parts.UnitParts.{UnitParts}
 use Rattle.lnt_spans.specs.declared.position.Position.{Position}
 use Rattle.lnt_files.specs.Paths.{path_bytes, path_or_empty}
-use Rattle.lnt_sequences.specs.Sequences.{line_answer}
+use Rattle.lnt_sequences.specs.Sequences.{line_answer, Selection}
 use Rattle.lnt_lines.specs.Indexed.{Indexed, file_path_in}
 use Rattle.lnt_paths.specs.declared.version.PathVersion.{PathVersion}
 use Rattle.lnt_paths.specs.PathAnswers.{PathAnswer, path_answer}
@@ -22,14 +22,14 @@ path_at line general units unit file =
     path_or_empty (option_and_then (λ header. path_bytes line general header file) (header_at units unit))
 
 -- the answer of the units' rows at a position, by path, in the fields of this version
-abbrev pub answer_by_path : PathVersion → List ℕ → List ℕ → Option ℕ → Bool → List (ℕ × UnitParts) → Position → Option PathAnswer
-answer_by_path version line general dead skip units p =
-    option_map (path_answer version (path_at line general units)) (line_answer dead skip units p)
+abbrev pub answer_by_path : PathVersion → List ℕ → List ℕ → Selection → Position → Option PathAnswer
+answer_by_path version line general selection p =
+    option_map (path_answer version (path_at line general selection.units)) (line_answer selection p)
 
 -- the full path of a file of a unit, as an index of the units gives it
 abbrev pub indexed_path : Indexed → ℕ → ℕ → List ℕ
 indexed_path index unit file = path_or_empty (file_path_in index unit file)
 
 -- the answers of the units of an index
-abbrev pub told_path : PathVersion → Indexed → Option ℕ → Bool → List (ℕ × UnitParts) → Position → Option PathAnswer
+abbrev pub told_path : PathVersion → Indexed → Selection → Position → Option PathAnswer
 told_path version index = answer_by_path version index.line index.general

@@ -11,14 +11,14 @@ use Rattle.lnt_spans.specs.declared.difference.Difference.{Difference}
 use Rattle.lnt_spans.specs.declared.position.Position.{Position}
 use Rattle.lnt_spans.specs.Answers.{in_version}
 use Rattle.lnt_spans.specs.Spans.{span_answer}
-use Rattle.lnt_sequences.specs.Sequences.{line_answer}
+use Rattle.lnt_sequences.specs.Sequences.{line_answer, Selection}
 use Rattle.lnt_records.specs.declared.fault.TableFault.TheVariants as fault
 use Rattle.lnt_records.specs.declared.outcome.Compared.{Compared}
 use Rattle.lnt_records.specs.declared.outcome.Compared.TheVariants.{Fault, Differs}
 use Rattle.lnt_records.specs.Comparisons.{IsComparisonOf, IsTableWhere, in_versions, tables_by_number}
 use Rattle.lnt_records.specs.Table.{by_number}
 use Rattle.lnt_lines.specs.declared.options.Options.{Options}
-use Rattle.lnt_lines.specs.Good.{IsGood}
+use Rattle.lnt_lines.specs.Good.{IsGood, selected}
 use Rattle.lnt_lines.specs.Nos.{IsTrueNo}
 use Rattle.lnt_table.specs.declared.verdict.TableNo.{TableNo}
 use Rattle.lnt_table.specs.declared.verdict.TableNo.TheVariants as no
@@ -26,12 +26,12 @@ use Rattle.lnt_table.specs.declared.verdict.Verdict.{Verdict}
 use Rattle.lnt_table.specs.declared.verdict.Verdict.TheVariants.{Yes, No}
 
 -- the answer of a section's rows at a position, in the fields of this version of the address table
-abbrev pub told_answer : Version → Option ℕ → Bool → List (ℕ × UnitParts) → Position → Option Answer
-told_answer version dead skip units p = option_map (in_version version) (line_answer dead skip units p)
+abbrev pub told_answer : Version → Selection → Position → Option Answer
+told_answer version selection p = option_map (in_version version) (line_answer selection p)
 
 -- the same in the fields of each version, for the address of dead code and the copies that options name
 abbrev pub told_rows : Options → List (ℕ × UnitParts) → Version → Position → Option Answer
-told_rows options units = in_versions (line_answer options.dead options.skip_copies units)
+told_rows options units = in_versions (line_answer (selected options units))
 
 -- The section is good, and this is so of its units.
 pub record IsGoodWith (line general : List ℕ) (options : Options) (section : List ℕ) (IsSo : List (ℕ × UnitParts) → Type 0) : Type 0 where

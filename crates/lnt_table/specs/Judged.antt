@@ -1,9 +1,8 @@
 -- What the bodies of this crate say of a comparison of a table of any version with a good section. No public contract speaks of it.
-use Rattle.std.specs.Prelude.{◌≢◌, ℕ, ◌-◌, Bool, List, None, Option, Some}
-use Rattle.lnt_header.specs.declared.unit_parts.UnitParts.{UnitParts}
+use Rattle.std.specs.Prelude.{◌≢◌, ℕ, ◌-◌, List, None, Option, Some}
 use Rattle.lnt_spans.specs.declared.difference.Difference.{Difference}
 use Rattle.lnt_spans.specs.Merged.{missed_of}
-use Rattle.lnt_sequences.specs.Sequences.{line_answer}
+use Rattle.lnt_sequences.specs.Sequences.{line_answer, Selection}
 use Rattle.lnt_records.specs.declared.fault.TableFault.TheVariants as fault
 use Rattle.lnt_records.specs.Outcomes.{IsOutcomeOf, Outcome, part_of, whole_of}
 use Rattle.lnt_records.specs.declared.outcome.TableRead.TheVariants.{Fault, Table}
@@ -29,11 +28,11 @@ Judged = OfKind (Outcome Difference) (Outcome DifferenceByPath)
 
 -- The outcome is true of the table and of the answers of the units' rows: by number, and the header isn't at fault; or by path, and the
 -- table begins with the header of neither version 1 nor 2.
-abbrev pub IsJudgedWith : Indexed → Option ℕ → Bool → List (ℕ × UnitParts) → List ℕ → Judged → Type 0
-IsJudgedWith index dead skip units table (judged.Numbered outcome) =
-    IsOutcomeOf tables_by_number (in_versions (line_answer dead skip units)) table outcome × (outcome ≢ Fault fault.Header)
-IsJudgedWith index dead skip units table (judged.ByPath outcome) =
-    IsUnnumbered table × IsOutcomeOf tables_by_path (λ version. told_path version index dead skip units) table outcome
+abbrev pub IsJudgedWith : Indexed → Selection → List ℕ → Judged → Type 0
+IsJudgedWith index selection table (judged.Numbered outcome) =
+    IsOutcomeOf tables_by_number (in_versions (line_answer selection)) table outcome × (outcome ≢ Fault fault.Header)
+IsJudgedWith index selection table (judged.ByPath outcome) =
+    IsUnnumbered table × IsOutcomeOf tables_by_path (λ version. told_path version index selection) table outcome
 
 -- ---- what is told of it
 

@@ -1,12 +1,13 @@
 -- The laws of verdicts and of answers of `check_any`.
-use Rattle.std.specs.Prelude.{◌≡◌, Bool, ℕ, List, Option}
+use Rattle.std.specs.Prelude.{◌≡◌, ℕ, List, Option}
 use Rattle.lnt_header.specs.declared.unit_parts.UnitParts.{UnitParts}
 use Rattle.lnt_spans.specs.declared.answer.Version.{Version}
 use Rattle.lnt_spans.specs.declared.position.Position.{Position}
+use Rattle.lnt_sequences.specs.Sequences.{Selection}
 use Rattle.lnt_lines.specs.declared.options.Options.{Options}
 use Rattle.lnt_lines.specs.Contents.{Contents}
 use Rattle.lnt_lines.specs.Drafts.{AreLinesOf}
-use Rattle.lnt_lines.specs.Good.{IsGood}
+use Rattle.lnt_lines.specs.Good.{IsGood, selected}
 use Rattle.lnt_records.specs.declared.outcome.Compared.TheVariants.{Same}
 use Rattle.lnt_records.specs.Comparisons.{stretch_told}
 use Rattle.lnt_paths.specs.declared.version.PathVersion.{PathVersion}
@@ -44,13 +45,13 @@ abbrev pub OwnTableOfUnits : Type 0
 OwnTableOfUnits =
     (line general : List ℕ) (options : Options) (section table : List ℕ) (units : List (ℕ × UnitParts)) (version : Version)
     (verdict : Verdict)
-    → IsGood line general options section units → IsTableOfUnits version options.dead options.skip_copies units table
+    → IsGood line general options section units → IsTableOfUnits version (selected options units) table
     → IsTrueVerdict line general options section table verdict → verdict ≡ Yes
 
 -- The rows of some units have one table of each version, byte for byte, and so have answers by path.
 pub record OneWritten : Type 0 where
-  pub of_units : (version : Version) (dead : Option ℕ) (skip : Bool) (units : List (ℕ × UnitParts)) (one other : List ℕ)
-      → IsTableOfUnits version dead skip units one → IsTableOfUnits version dead skip units other → one ≡ other
+  pub of_units : (version : Version) (selection : Selection) (one other : List ℕ)
+      → IsTableOfUnits version selection one → IsTableOfUnits version selection other → one ≡ other
   pub by_path : (version : PathVersion) (answers : Position → Option PathAnswer) (one other : List ℕ)
       → IsCanonicalPathTable version answers one → IsCanonicalPathTable version answers other → one ≡ other
 
@@ -77,10 +78,9 @@ pub record OneCheck : Type 0 where
 pub record OwnTableByPath : Type 0 where
   pub same : (line general : List ℕ) (options : Options) (section table : List ℕ) (units : List (ℕ × UnitParts)) (version : PathVersion)
       → IsGood line general options section units
-      → IsCanonicalPathTable version (answer_by_path version line general options.dead options.skip_copies units) table
+      → IsCanonicalPathTable version (answer_by_path version line general (selected options units)) table
       → IsTrueCheck line general options section table (ByPath Same)
   pub no_verdict : (line general : List ℕ) (options : Options) (section table : List ℕ) (units : List (ℕ × UnitParts))
-      (version : PathVersion) (verdict : Verdict)
-      → IsGood line general options section units
-      → IsCanonicalPathTable version (answer_by_path version line general options.dead options.skip_copies units) table
+      (version : PathVersion) (verdict : Verdict) → IsGood line general options section units
+      → IsCanonicalPathTable version (answer_by_path version line general (selected options units)) table
       → IsTrueCheck line general options section table (Numbered verdict) → ⊥

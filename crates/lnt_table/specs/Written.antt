@@ -1,11 +1,11 @@
 -- The tables that are written from a section's lines.
-use Rattle.std.specs.Prelude.{◌≡◌, ◌⊎◌, Bool, ℕ, List, Option}
+use Rattle.std.specs.Prelude.{◌≡◌, ◌⊎◌, ℕ, List, Option}
 use Rattle.lnt_io.specs.Prefixes.{AppendsPrefix}
-use Rattle.lnt_header.specs.declared.unit_parts.UnitParts.{UnitParts}
 use Rattle.lnt_spans.specs.declared.answer.Version.{Version}
 use Rattle.lnt_spans.specs.declared.position.Position.{Position}
 use Rattle.lnt_spans.specs.declared.span.Span.{Span}
 use Rattle.lnt_spans.specs.Spans.{IsCanonical, span_answer, version_answer}
+use Rattle.lnt_sequences.specs.Sequences.{Selection}
 use Rattle.lnt_records.specs.Written.{IsWrittenTable}
 use Rattle.lnt_paths.specs.declared.version.PathTable.TheVariants.{OperationIndex}
 use Rattle.lnt_paths.specs.declared.version.PathVersion.{PathVersion}
@@ -22,20 +22,19 @@ pub record IsTableOfLines (version : Version) (section : List Span) (bytes : Lis
   pub written : IsWrittenTable version bytes spans
 
 -- The same for the canonical spans that answer as the rows of some units do.
-pub record IsTableOfUnits (version : Version) (dead : Option ℕ) (skip : Bool) (units : List (ℕ × UnitParts)) (bytes : List ℕ) : Type 0 where
+pub record IsTableOfUnits (version : Version) (selection : Selection) (bytes : List ℕ) : Type 0 where
   pub spans : List Span
   pub canonical : IsCanonical spans
-  pub same : (p : Position) → span_answer spans p ≡ told_answer version dead skip units p
+  pub same : (p : Position) → span_answer spans p ≡ told_answer version selection p
   pub written : IsWrittenTable version bytes spans
 
 -- ---- tables whose writing stopped
 --     old, new    the known bytes that the writer holds before and afterwards
 
 -- What was written is a prefix of a table of these units. There is one such table, by the law `one_written`.
-pub record BeginsTableOfUnits (version : Version) (dead : Option ℕ) (skip : Bool) (units : List (ℕ × UnitParts)) (old new : Option (List ℕ))
-    : Type 0 where
+pub record BeginsTableOfUnits (version : Version) (selection : Selection) (old new : Option (List ℕ)) : Type 0 where
   pub whole : List ℕ
-  pub is_table : IsTableOfUnits version dead skip units whole
+  pub is_table : IsTableOfUnits version selection whole
   pub prefix : AppendsPrefix old new whole
 
 -- What was written is a prefix of the table by path with these answers. There is one such table, by the same law.

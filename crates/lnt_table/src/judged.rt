@@ -1,7 +1,6 @@
 //! What the comparison of a table of any version with a good section comes to.
-ghost use Rattle.std.specs.Prelude.{◌≡◌, ◌≢◌, ◌+◌, ◌-◌, ◌^◌, ◌<◌, Bool, ℕ, List, Option, IfOk, IfSome, IsErrOf};
-ghost use Rattle.lnt_header.specs.declared.unit_parts.UnitParts.{UnitParts};
-ghost use Rattle.lnt_lines.specs.Indexed.{IsIndexOf};
+ghost use Rattle.std.specs.Prelude.{◌≡◌, ◌≢◌, ◌+◌, ◌-◌, ◌^◌, ◌<◌, Option, IfOk, IfSome, IsErrOf};
+ghost use Rattle.lnt_lines.specs.Indexed.{OfUnits};
 ghost use Rattle.lnt_table.specs.Headline.{IsFoundTooLong};
 ghost use Rattle.lnt_table.specs.Judged.{IsJudgedWith, missed_in, part_checked, whole_checked};
 
@@ -61,9 +60,8 @@ pub(crate) fn judge_index<T: Source>(
     index: &Index<'_>,
 ) -> Result<Judged, Stop>
     requires { T.failures table.old < 2 ^ 64 - 1 }
-    ensures ok { IfOk result (λ judged. (dead : Option ℕ) (skip : Bool) (units : List (ℕ × UnitParts))
-        → IsIndexOf dead skip units index.now
-        → IfSome (T.remaining table.old) (λ text. IsJudgedWith index.now dead skip units text judged)) }
+    ensures ok { IfOk result (λ judged. OfUnits index.now (λ selection. IfSome (T.remaining table.old) (λ text.
+        IsJudgedWith index.now selection text judged))) }
     ensures read { IsErrOf result Stop.Read → T.failures table.new ≡ T.failures table.old + 1 }
     ensures no_failure { result ≢ Err Stop.Read → T.failures table.new ≡ T.failures table.old }
     ensures too_long { IsErrOf result Stop.TooLong → IsFoundTooLong (T.too_long table.new) (T.remaining table.old) (T.left table.old) }
@@ -85,8 +83,7 @@ pub(crate) fn judge_index<T: Source>(
 
 // Does the same for a table whose bytes are all in memory.
 fn judge_text(alloc: Global, text: &[u8], index: &Index<'_>) -> Result<Judged, AllocError>
-    ensures { IfOk result (λ judged. (dead : Option ℕ) (skip : Bool) (units : List (ℕ × UnitParts))
-        → IsIndexOf dead skip units index.now → IsJudgedWith index.now dead skip units text.now judged) }
+    ensures { IfOk result (λ judged. OfUnits index.now (λ selection. IsJudgedWith index.now selection text.now judged)) }
 {
     match header_of::<Version>(alloc, text)? {
         Some(_) => {

@@ -1,8 +1,7 @@
 //! Writes the table by path of a section's units.
-ghost use Rattle.std.specs.Prelude.{◌≡◌, Bool, ℕ, List, Option, IfOk, OnErr};
-ghost use Rattle.lnt_header.specs.declared.unit_parts.UnitParts.{UnitParts};
-ghost use Rattle.lnt_lines.specs.Indexed.{IsIndexOf};
+ghost use Rattle.std.specs.Prelude.{◌≡◌, IfOk, OnErr};
 ghost use Rattle.lnt_paths.specs.Written.{HasBecome};
+ghost use Rattle.lnt_lines.specs.Indexed.{OfUnits};
 ghost use Rattle.lnt_table.specs.ByPath.{indexed_path, told_path};
 ghost use Rattle.lnt_table.specs.Written.{BeginsPaths};
 
@@ -56,11 +55,10 @@ pub fn write_paths<W: Write>(
     version: PathVersion,
     out: &mut W,
 ) -> Result<PathTable, WriteStop>
-    ensures table { IfOk result (λ table. (dead : Option ℕ) (skip : Bool) (units : List (ℕ × UnitParts))
-        → IsIndexOf dead skip units index.now
-        → HasBecome version (told_path version index.now dead skip units) (W.contents out.old) (W.contents out.new) table) }
-    ensures begun { OnErr result ((dead : Option ℕ) (skip : Bool) (units : List (ℕ × UnitParts)) → IsIndexOf dead skip units index.now
-        → BeginsPaths version (told_path version index.now dead skip units) (W.contents out.old) (W.contents out.new)) }
+    ensures table { IfOk result (λ table. OfUnits index.now (λ selection.
+        HasBecome version (told_path version index.now selection) (W.contents out.old) (W.contents out.new) table)) }
+    ensures begun { OnErr result (OfUnits index.now (λ selection.
+        BeginsPaths version (told_path version index.now selection) (W.contents out.old) (W.contents out.new))) }
 {
     let paths = IndexPaths { index };
     if index.has_single_operations() {

@@ -1,6 +1,5 @@
 //! Compares a table with a good section at every position.
-ghost use Rattle.std.specs.Prelude.{◌≡◌, ◌≢◌, ◌+◌, ◌-◌, ◌^◌, ◌<◌, Bool, ℕ, List, [], map, Option, IfOk, IfSome, IsErrOf};
-ghost use Rattle.lnt_lines.specs.Indexed.{IsIndexOf};
+ghost use Rattle.std.specs.Prelude.{◌≡◌, ◌≢◌, ◌+◌, ◌-◌, ◌^◌, ◌<◌, [], map, Option, IfOk, IfSome, IsErrOf};
 ghost use Rattle.lnt_io.specs.declared.stop.Stop.TheVariants.{Read, TooLong};
 ghost use Rattle.lnt_spans.specs.declared.position.Position.{Position};
 ghost use Rattle.lnt_records.specs.Differing.{IsDiffering, IsStarted};
@@ -9,10 +8,10 @@ ghost use Rattle.lnt_paths.specs.Held.{held_span};
 ghost use Rattle.lnt_paths.specs.PathAnswers.{PathAnswer};
 ghost use Rattle.lnt_paths.specs.PathSpans.{StandInOrder, path_span_answer};
 ghost use Rattle.lnt_paths.specs.Stretching.{HasToldByPath};
+ghost use Rattle.lnt_lines.specs.Indexed.{OfUnits};
 ghost use Rattle.lnt_table.specs.ByPath.{indexed_path, told_path};
 ghost use Rattle.lnt_table.specs.Headline.{IsFoundTooLong};
 ghost use Rattle.lnt_table.specs.Stretches.{IsAnyDiffering, IsStartedAny};
-ghost use Rattle.lnt_header.specs.declared.unit_parts.UnitParts.{UnitParts};
 
 use crate::kinds::OfKind;
 use lnt_io::{Source, Stop};
@@ -39,10 +38,9 @@ pub fn differences<'i, T: Source>(
     index: &'i Index<'_>,
 ) -> Result<Differing<Spans<'i>>, Stop>
     requires { T.failures table.old < 2 ^ 64 - 1 }
-    ensures ok { IfOk result (λ differing. (dead : Option ℕ) (skip : Bool) (units : List (ℕ × UnitParts))
-        → IsIndexOf dead skip units index.entry.now → IfSome (T.remaining table.old) (λ text.
-        IsDiffering ⟦<Remaining<Spans<'i>> as SpanSource>⟧.to_come ⟦<SpanList as SpanSource>⟧.to_come text (line_answer dead skip units)
-        differing)) }
+    ensures ok { IfOk result (λ differing. OfUnits index.entry.now (λ selection. IfSome (T.remaining table.old) (λ text.
+        IsDiffering ⟦<Remaining<Spans<'i>> as SpanSource>⟧.to_come ⟦<SpanList as SpanSource>⟧.to_come text (line_answer selection)
+        differing))) }
     ensures started { IfOk result (λ differing. IsStarted ⟦<Remaining<Spans<'i>> as SpanSource>⟧.to_come ⟦<SpanList as SpanSource>⟧.to_come
         differing) }
     ensures read { IsErrOf result Stop.Read → T.failures table.new ≡ T.failures table.old + 1 }
@@ -72,9 +70,8 @@ pub fn differences_any<'i, T: Source>(
     index: &'i Index<'_>,
 ) -> Result<AnyDiffering<Spans<'i>>, Stop>
     requires { T.failures table.old < 2 ^ 64 - 1 }
-    ensures ok { IfOk result (λ any. (dead : Option ℕ) (skip : Bool) (units : List (ℕ × UnitParts))
-        → IsIndexOf dead skip units index.entry.now → IfSome (T.remaining table.old) (λ text.
-        IsAnyDiffering ⟦<Remaining<Spans<'i>> as SpanSource>⟧.to_come ⟦<SpanList as SpanSource>⟧.to_come dead skip units text any)) }
+    ensures ok { IfOk result (λ any. OfUnits index.entry.now (λ selection. IfSome (T.remaining table.old) (λ text.
+        IsAnyDiffering ⟦<Remaining<Spans<'i>> as SpanSource>⟧.to_come ⟦<SpanList as SpanSource>⟧.to_come selection text any))) }
     ensures started { IfOk result (λ any. IsStartedAny ⟦<Remaining<Spans<'i>> as SpanSource>⟧.to_come ⟦<SpanList as SpanSource>⟧.to_come
         any) }
     ensures read { IsErrOf result Stop.Read → T.failures table.new ≡ T.failures table.old + 1 }
@@ -95,9 +92,8 @@ fn differ_text<'i>(
     text: &[u8],
     index: &'i Index<'_>,
 ) -> Result<AnyDiffering<Spans<'i>>, AllocError>
-    ensures any { IfOk result (λ any. (dead : Option ℕ) (skip : Bool) (units : List (ℕ × UnitParts))
-        → IsIndexOf dead skip units index.entry.now
-        → IsAnyDiffering ⟦<Remaining<Spans<'i>> as SpanSource>⟧.to_come ⟦<SpanList as SpanSource>⟧.to_come dead skip units text.now any) }
+    ensures any { IfOk result (λ any. OfUnits index.entry.now (λ selection.
+        IsAnyDiffering ⟦<Remaining<Spans<'i>> as SpanSource>⟧.to_come ⟦<SpanList as SpanSource>⟧.to_come selection text.now any)) }
     ensures started { IfOk result (λ any. IsStartedAny ⟦<Remaining<Spans<'i>> as SpanSource>⟧.to_come ⟦<SpanList as SpanSource>⟧.to_come
         any) }
 {
@@ -122,10 +118,9 @@ pub fn differences_by_path<'t, 'i>(
     spans: &'t [HeldSpan],
     version: PathVersion,
 ) -> DifferencesByPath<'t, Spans<'i>>
-    ensures told { (dead : Option ℕ) (skip : Bool) (units : List (ℕ × UnitParts)) → IsIndexOf dead skip units index.entry.now
-        → StandInOrder (map held_span spans.entry.now)
+    ensures told { OfUnits index.entry.now (λ selection. StandInOrder (map held_span spans.entry.now)
         → HasToldByPath ⟦<Spans<'i> as SpanSource>⟧.to_come (indexed_path index.entry.now) result
-        (told_path version index.entry.now dead skip units) (path_span_answer (map held_span spans.entry.now)) [] }
+        (told_path version index.entry.now selection) (path_span_answer (map held_span spans.entry.now)) []) }
     ensures started { StandInOrder (map held_span spans.entry.now)
         → (by_section : Position → Option PathAnswer) × (by_table : Position → Option PathAnswer)
         × HasToldByPath ⟦<Spans<'i> as SpanSource>⟧.to_come (indexed_path index.entry.now) result by_section by_table [] }

@@ -1,9 +1,8 @@
 //! Checks a section against an address table at all positions, or at those at which the table answers.
-ghost use Rattle.std.specs.Prelude.{◌≡◌, ◌≢◌, ◌+◌, ◌-◌, ◌^◌, ◌<◌, ◌⊎◌, Bool, ℕ, List, Option, IfOk, IfSome, IsErrOf, Some};
+ghost use Rattle.std.specs.Prelude.{◌≡◌, ◌≢◌, ◌+◌, ◌-◌, ◌^◌, ◌<◌, ◌⊎◌, ℕ, IfOk, IfSome, IsErrOf, Some};
 ghost use Rattle.lnt_lines.specs.declared.no.No.{No as SectionNo};
+ghost use Rattle.lnt_lines.specs.Indexed.{OfUnits};
 ghost use Rattle.lnt_io.specs.declared.stop.Stop.TheVariants.{Read, TooLong};
-ghost use Rattle.lnt_header.specs.declared.unit_parts.UnitParts.{UnitParts};
-ghost use Rattle.lnt_lines.specs.Indexed.{IsIndexOf};
 ghost use Rattle.lnt_sequences.specs.Sequences.{line_answer};
 ghost use Rattle.lnt_spans.specs.Counts.{addresses_answered};
 ghost use Rattle.lnt_table.specs.FaultTexts.{within_text};
@@ -126,8 +125,7 @@ pub fn check_within<R: Source, T: Source>(
 
 // The answer in this scope.
 fn within(judged: Judged, scope: Scope, index: &Index<'_>) -> CheckedWithin
-    ensures within { (dead : Option ℕ) (skip : Bool) (units : List (ℕ × UnitParts)) → IsIndexOf dead skip units index.now
-        → result ≡ within_scope scope judged (addresses_answered (line_answer dead skip units)) }
+    ensures within { OfUnits index.now (λ selection. result ≡ within_scope scope judged (addresses_answered (line_answer selection))) }
     ensures some { (all : ℕ) × (result ≡ within_scope scope judged all) }
 {
     match scope {
@@ -138,8 +136,7 @@ fn within(judged: Judged, scope: Scope, index: &Index<'_>) -> CheckedWithin
 
 // The answer at the positions at which the table answers.
 fn part_of(judged: Judged, index: &Index<'_>) -> CheckedWithin
-    ensures part { (dead : Option ℕ) (skip : Bool) (units : List (ℕ × UnitParts)) → IsIndexOf dead skip units index.now
-        → result ≡ part_check judged (addresses_answered (line_answer dead skip units)) }
+    ensures part { OfUnits index.now (λ selection. result ≡ part_check judged (addresses_answered (line_answer selection))) }
     ensures some { (all : ℕ) × (result ≡ part_check judged all) }
 {
     let Some(missed) = judged.missed() else {

@@ -1,9 +1,8 @@
 //! Writes the table of a section's lines.
-ghost use Rattle.std.specs.Prelude.{◌⊎◌, Bool, ℕ, List, Option, OnErr, OnOk};
+ghost use Rattle.std.specs.Prelude.{◌⊎◌, ℕ, List, OnErr, OnOk};
 ghost use Rattle.std.specs.Io.KnownBytes.{Appends, Keeps};
-ghost use Rattle.lnt_header.specs.declared.unit_parts.UnitParts.{UnitParts};
-ghost use Rattle.lnt_lines.specs.Indexed.{IsIndexOf};
 ghost use Rattle.lnt_records.specs.Written.{BeginsCanonicalTable};
+ghost use Rattle.lnt_lines.specs.Indexed.{OfUnits};
 ghost use Rattle.lnt_table.specs.Written.{BeginsTableOfUnits, IsTableOfLines, IsTableOfUnits};
 
 use lnt_lines::{Index, Lines};
@@ -49,10 +48,9 @@ pub fn write_index<W: Write>(
     out: &mut W,
 ) -> Result<(), WriteStop>
     ensures table { OnOk result ((bytes : List ℕ) × Appends (W.contents out.old) (W.contents out.new) bytes
-        × ((dead : Option ℕ) (skip : Bool) (units : List (ℕ × UnitParts)) → IsIndexOf dead skip units index.now
-        → IsTableOfUnits version dead skip units bytes)) }
-    ensures begun { OnErr result ((dead : Option ℕ) (skip : Bool) (units : List (ℕ × UnitParts)) → IsIndexOf dead skip units index.now
-        → BeginsTableOfUnits version dead skip units (W.contents out.old) (W.contents out.new)) }
+        × OfUnits index.now (λ selection. IsTableOfUnits version selection bytes)) }
+    ensures begun { OnErr result (OfUnits index.now (λ selection.
+        BeginsTableOfUnits version selection (W.contents out.old) (W.contents out.new))) }
 {
     write_canonical(alloc, index.spans(), version, out)
 }

@@ -1,8 +1,7 @@
-use Rattle.std.proofs.Common.{◌≡◌, ◌++◌, Bool, ℕ, [], List, Option, take}
+use Rattle.std.proofs.Common.{◌≡◌, ◌++◌, [], take}
 use Rattle.std.specs.Io.KnownBytes.{Appends}
 use Rattle.std.specs.List.{flat_map}
-use Rattle.lnt_header.specs.declared.unit_parts.UnitParts.{UnitParts}
-use Rattle.lnt_lines.specs.Indexed.{IsIndexOf}
+use Rattle.lnt_lines.specs.Indexed.{OfUnits}
 use Rattle.lnt_answers.specs.Lines.{lookup_line}
 use Rattle.lnt_answers.proofs.lookup.print_lookups.Given as goal
 
@@ -10,7 +9,6 @@ abbrev pub invariant-loop-position : goal.invariant-loop-position
 invariant-loop-position g l = record {
   index : l.lookups ≡ l.index;
   none : l.line.items ≡ [];
-  lines : (dead : Option ℕ) (skip : Bool) (units : List (ℕ × UnitParts)) → IsIndexOf dead skip units l.index
-      → Appends (g.W.Write.contents l.fn.out) (g.W.Write.contents l.out)
-      ([] ++ flat_map (lookup_line l.index dead skip units) (take l.position-index l.positions));
+  lines : OfUnits l.index (λ selection. Appends (g.W.Write.contents l.fn.out) (g.W.Write.contents l.out)
+      ([] ++ flat_map (lookup_line l.index selection) (take l.position-index l.positions)));
 }

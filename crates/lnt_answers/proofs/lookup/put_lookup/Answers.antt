@@ -5,6 +5,6 @@ use Rattle.lnt_lines.specs.Indexed.{IsIndexOf}
 use Rattle.lnt_answers.proofs.lookup.put_lookup.Goals as goal
 
 pub returns-in_default-clause-line : goal.returns-in_default-clause-line
-returns-in_default-clause-line c dead skip units is =
+returns-in_default-clause-line c selection is =
     c.in_ok-put_none.ensures ∙ ap (λ (o : Option Answer). c.args.line.now.items ++ answer_line c.args.lookups.now c.args.position o)
-    (sym c.in_default.is ∙ c.in_ok-found.ensures.answer dead skip units (subst (IsIndexOf dead skip units) (sym c.lookups.view_is) is))
+    (sym c.in_default.is ∙ c.in_ok-found.ensures.answer selection (subst (IsIndexOf selection) (sym c.lookups.view_is) is))

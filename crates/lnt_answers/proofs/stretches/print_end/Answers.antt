@@ -11,22 +11,22 @@ use Rattle.lnt_answers.specs.Verdicts.{checked_line}
 use Rattle.lnt_answers.proofs.stretches.print_end.Goals as goal
 
 pub returns-in_default-clause-text : goal.returns-in_default-clause-text
-returns-in_default-clause-text g c dead skip units is =
+returns-in_default-clause-text g c selection is =
     subst (λ (missed : Option ℕ). Appends (g.W.Write.contents c.args.out.now) (g.W.Write.contents c.args.out.now)
-    (end_text c.args.scope (addresses_answered (line_answer dead skip units)) missed)) (sym c.in_default.is)
+    (end_text c.args.scope (addresses_answered (line_answer selection)) missed)) (sym c.in_default.is)
     (Appends-nil (g.W.Write.contents c.args.out.now))
 
 pub returns-clause-text : goal.returns-clause-text
-returns-clause-text g c dead skip units is =
+returns-clause-text g c selection is =
     subst (λ (missed : Option ℕ). Appends (g.W.Write.contents c.args.out.now) (g.W.Write.contents c.print_line.new.out)
-    (end_text c.args.scope (addresses_answered (line_answer dead skip units)) missed)) (sym c.in-Some.is)
+    (end_text c.args.scope (addresses_answered (line_answer selection)) missed)) (sym c.in-Some.is)
     (subst (λ (checked : CheckedWithin). Appends (g.W.Write.contents c.args.out.now) (g.W.Write.contents c.print_line.new.out)
-    (checked_line checked)) (c.answer_if_none.ensures dead skip units is) c.in_ok-print_line.ensures.line)
+    (checked_line checked)) (c.answer_if_none.ensures selection is) c.in_ok-print_line.ensures.line)
 
 pub returns-in_err-print_line-clause-prefix : goal.returns-in_err-print_line-clause-prefix
-returns-in_err-print_line-clause-prefix g c dead skip units is =
+returns-in_err-print_line-clause-prefix g c selection is =
     so_stopped c.from_residual.result _
     (subst (λ (missed : Option ℕ). AppendsPrefix (g.W.Write.contents c.args.out.now) (g.W.Write.contents c.print_line.new.out)
-    (end_text c.args.scope (addresses_answered (line_answer dead skip units)) missed)) (sym c.in-Some.is)
+    (end_text c.args.scope (addresses_answered (line_answer selection)) missed)) (sym c.in-Some.is)
     (subst (λ (checked : CheckedWithin). AppendsPrefix (g.W.Write.contents c.args.out.now) (g.W.Write.contents c.print_line.new.out)
-    (checked_line checked)) (c.answer_if_none.ensures dead skip units is) c.in_err-print_line.ensures.prefix))
+    (checked_line checked)) (c.answer_if_none.ensures selection is) c.in_err-print_line.ensures.prefix))

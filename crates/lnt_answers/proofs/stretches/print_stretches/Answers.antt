@@ -6,71 +6,71 @@ use Rattle.lnt_answers.proofs.StretchLemmas.{fault_begun, for_units, numbered_be
 use Rattle.lnt_answers.proofs.stretches.print_stretches.Goals as goal
 
 pub returns-in_ok-status-in-Ok-Numbered-Table-clause-told : goal.returns-in_ok-status-in-Ok-Numbered-Table-clause-told
-returns-in_ok-status-in-Ok-Numbered-Table-clause-told g c dead skip units is =
-    for_units _ _ _ _ dead skip units _ _ c.in-Ok-Numbered-Table.differences-is
-    (rw (c.in-Ok-Numbered-Table.field-0-is, c.in-Ok-Numbered-Table.field-0-0-is) at (c.in-Ok-Numbered-Table.ensures.ok dead skip units is))
+returns-in_ok-status-in-Ok-Numbered-Table-clause-told g c selection is =
+    for_units _ _ _ _ selection _ _ c.in-Ok-Numbered-Table.differences-is
+    (rw (c.in-Ok-Numbered-Table.field-0-is, c.in-Ok-Numbered-Table.field-0-0-is) at (c.in-Ok-Numbered-Table.ensures.ok selection is))
     (λ f f' h all. end_told (c.in_ok-missed-in-Ok-Numbered-Table.ensures.lines f f' h) all
-    (c.in_ok-status-in-Ok-Numbered-Table.ensures.text dead skip units is) c.in_ok-status-in-Ok-Numbered-Table.ensures.status)
+    (c.in_ok-status-in-Ok-Numbered-Table.ensures.text selection is) c.in_ok-status-in-Ok-Numbered-Table.ensures.status)
 
 pub returns-in_ok-status-in-Ok-ByPath-Table-clause-told : goal.returns-in_ok-status-in-Ok-ByPath-Table-clause-told
-returns-in_ok-status-in-Ok-ByPath-Table-clause-told g c dead skip units is =
-    for_path_units _ c.args.index.now _ _ _ _ _ dead skip units _ _ c.deref.ensures.value c.of-paths.ensures
-    (rw (c.in-Ok-ByPath-Table.field-0-is, c.in-Ok-ByPath-Table.field-0-0-is) at (c.in-Ok-ByPath-Table.ensures.ok dead skip units is))
+returns-in_ok-status-in-Ok-ByPath-Table-clause-told g c selection is =
+    for_path_units _ c.args.index.now _ _ _ _ _ selection _ _ c.deref.ensures.value c.of-paths.ensures
+    (rw (c.in-Ok-ByPath-Table.field-0-is, c.in-Ok-ByPath-Table.field-0-0-is) at (c.in-Ok-ByPath-Table.ensures.ok selection is))
     (rw (c.in-Ok-ByPath-Table.field-0-is, c.in-Ok-ByPath-Table.field-0-0-is) at c.in-Ok-ByPath-Table.ensures.started)
-    (c.differences_by_path-differences.ensures.told dead skip units is)
+    (c.differences_by_path-differences.ensures.told selection is)
     (λ f f' h all. end_told (c.in_ok-missed-in-Ok-ByPath-Table.ensures.lines f f' h) all
-    (c.in_ok-status-in-Ok-ByPath-Table.ensures.text dead skip units is) c.in_ok-status-in-Ok-ByPath-Table.ensures.status)
+    (c.in_ok-status-in-Ok-ByPath-Table.ensures.text selection is) c.in_ok-status-in-Ok-ByPath-Table.ensures.status)
 
 pub returns-in_err-missed-in-Ok-Numbered-Table-clause-begun : goal.returns-in_err-missed-in-Ok-Numbered-Table-clause-begun
 returns-in_err-missed-in-Ok-Numbered-Table-clause-begun g c =
     so_stopped c.from_residual.result _
-    (inr (λ dead skip units is.
-    numbered_begun _ c.args.index.now dead skip units _ _ _ _ _ c.in-Ok-Numbered-Table.differences-is
-    (rw (c.in-Ok-Numbered-Table.field-0-is, c.in-Ok-Numbered-Table.field-0-0-is) at (c.in-Ok-Numbered-Table.ensures.ok dead skip units is))
+    (inr (λ selection is.
+    numbered_begun _ c.args.index.now selection _ _ _ _ _ c.in-Ok-Numbered-Table.differences-is
+    (rw (c.in-Ok-Numbered-Table.field-0-is, c.in-Ok-Numbered-Table.field-0-0-is) at (c.in-Ok-Numbered-Table.ensures.ok selection is))
     (λ f f' h all. c.in_err-missed-in-Ok-Numbered-Table.ensures.begun f f' h)))
 
 pub returns-in_err-status-in-Ok-Numbered-Table-clause-begun : goal.returns-in_err-status-in-Ok-Numbered-Table-clause-begun
 returns-in_err-status-in-Ok-Numbered-Table-clause-begun g c =
     so_stopped c.from_residual-in_err-status-in-Ok-Numbered-Table.result _
-    (inr (λ dead skip units is.
-    numbered_begun _ c.args.index.now dead skip units _ _ _ _ _ c.in-Ok-Numbered-Table.differences-is
-    (rw (c.in-Ok-Numbered-Table.field-0-is, c.in-Ok-Numbered-Table.field-0-0-is) at (c.in-Ok-Numbered-Table.ensures.ok dead skip units is))
+    (inr (λ selection is.
+    numbered_begun _ c.args.index.now selection _ _ _ _ _ c.in-Ok-Numbered-Table.differences-is
+    (rw (c.in-Ok-Numbered-Table.field-0-is, c.in-Ok-Numbered-Table.field-0-0-is) at (c.in-Ok-Numbered-Table.ensures.ok selection is))
     (λ f f' h all. end_begun (c.in_ok-missed-in-Ok-Numbered-Table.ensures.lines f f' h) all
-    (c.in_err-status-in-Ok-Numbered-Table.ensures.prefix dead skip units is))))
+    (c.in_err-status-in-Ok-Numbered-Table.ensures.prefix selection is))))
 
 pub returns-in_err-missed-in-Ok-ByPath-Table-clause-begun : goal.returns-in_err-missed-in-Ok-ByPath-Table-clause-begun
 returns-in_err-missed-in-Ok-ByPath-Table-clause-begun g c =
     so_stopped c.from_residual-in_err-missed-in-Ok-ByPath-Table.result _
-    (inr (λ dead skip units is.
-    path_begun _ c.args.index.now dead skip units _ _ _ _ _ _ c.deref.ensures.value c.of-paths.ensures
-    (rw (c.in-Ok-ByPath-Table.field-0-is, c.in-Ok-ByPath-Table.field-0-0-is) at (c.in-Ok-ByPath-Table.ensures.ok dead skip units is))
+    (inr (λ selection is.
+    path_begun _ c.args.index.now selection _ _ _ _ _ _ c.deref.ensures.value c.of-paths.ensures
+    (rw (c.in-Ok-ByPath-Table.field-0-is, c.in-Ok-ByPath-Table.field-0-0-is) at (c.in-Ok-ByPath-Table.ensures.ok selection is))
     (rw (c.in-Ok-ByPath-Table.field-0-is, c.in-Ok-ByPath-Table.field-0-0-is) at c.in-Ok-ByPath-Table.ensures.started)
-    (c.differences_by_path-differences.ensures.told dead skip units is)
+    (c.differences_by_path-differences.ensures.told selection is)
     (λ f f' h all. c.in_err-missed-in-Ok-ByPath-Table.ensures.begun f f' h)))
 
 pub returns-in_err-status-in-Ok-ByPath-Table-clause-begun : goal.returns-in_err-status-in-Ok-ByPath-Table-clause-begun
 returns-in_err-status-in-Ok-ByPath-Table-clause-begun g c =
     so_stopped c.from_residual-in_err-status-in-Ok-ByPath-Table.result _
-    (inr (λ dead skip units is.
-    path_begun _ c.args.index.now dead skip units _ _ _ _ _ _ c.deref.ensures.value c.of-paths.ensures
-    (rw (c.in-Ok-ByPath-Table.field-0-is, c.in-Ok-ByPath-Table.field-0-0-is) at (c.in-Ok-ByPath-Table.ensures.ok dead skip units is))
+    (inr (λ selection is.
+    path_begun _ c.args.index.now selection _ _ _ _ _ _ c.deref.ensures.value c.of-paths.ensures
+    (rw (c.in-Ok-ByPath-Table.field-0-is, c.in-Ok-ByPath-Table.field-0-0-is) at (c.in-Ok-ByPath-Table.ensures.ok selection is))
     (rw (c.in-Ok-ByPath-Table.field-0-is, c.in-Ok-ByPath-Table.field-0-0-is) at c.in-Ok-ByPath-Table.ensures.started)
-    (c.differences_by_path-differences.ensures.told dead skip units is)
+    (c.differences_by_path-differences.ensures.told selection is)
     (λ f f' h all. end_begun (c.in_ok-missed-in-Ok-ByPath-Table.ensures.lines f f' h) all
-    (c.in_err-status-in-Ok-ByPath-Table.ensures.prefix dead skip units is))))
+    (c.in_err-status-in-Ok-ByPath-Table.ensures.prefix selection is))))
 
 pub returns-in_err-print_fault-in-Ok-Numbered-Fault-clause-begun : goal.returns-in_err-print_fault-in-Ok-Numbered-Fault-clause-begun
 returns-in_err-print_fault-in-Ok-Numbered-Fault-clause-begun g c =
     so_stopped c.from_residual-in_err-print_fault-in-Ok-Numbered-Fault.result _
-    (inr (λ dead skip units is.
-    fault_begun _ c.args.index.now dead skip units _ _ c.in-Ok-Numbered-Fault.fault
-    (rw (c.in-Ok-Numbered-Fault.field-0-is, c.in-Ok-Numbered-Fault.field-0-0-is) at (c.in-Ok-Numbered-Fault.ensures.ok dead skip units is))
+    (inr (λ selection is.
+    fault_begun _ c.args.index.now selection _ _ c.in-Ok-Numbered-Fault.fault
+    (rw (c.in-Ok-Numbered-Fault.field-0-is, c.in-Ok-Numbered-Fault.field-0-0-is) at (c.in-Ok-Numbered-Fault.ensures.ok selection is))
     c.in_err-print_fault-in-Ok-Numbered-Fault.ensures.prefix))
 
 pub returns-in_err-print_fault-in-Ok-ByPath-Fault-clause-begun : goal.returns-in_err-print_fault-in-Ok-ByPath-Fault-clause-begun
 returns-in_err-print_fault-in-Ok-ByPath-Fault-clause-begun g c =
     so_stopped c.from_residual-in_err-print_fault-in-Ok-ByPath-Fault.result _
-    (inr (λ dead skip units is.
-    path_fault_begun _ c.args.index.now dead skip units _ c.in-Ok-ByPath-Fault.fault
-    (rw (c.in-Ok-ByPath-Fault.field-0-is, c.in-Ok-ByPath-Fault.field-0-0-is) at (c.in-Ok-ByPath-Fault.ensures.ok dead skip units is))
+    (inr (λ selection is.
+    path_fault_begun _ c.args.index.now selection _ c.in-Ok-ByPath-Fault.fault
+    (rw (c.in-Ok-ByPath-Fault.field-0-is, c.in-Ok-ByPath-Fault.field-0-0-is) at (c.in-Ok-ByPath-Fault.ensures.ok selection is))
     c.in_err-print_fault-in-Ok-ByPath-Fault.ensures.prefix))

@@ -1,4 +1,3 @@
-use Rattle.lnt_cli.specs.Answered.{options_in}
 use Rattle.lnt_cli.specs.Stopped.{BeginsGoodFile, BeginsJudged}
 use Rattle.lnt_cli.proofs.StopLemmas.{begins_bad}
 use Rattle.lnt_cli.proofs.question.answer_both_of.Goals as goal
@@ -8,5 +7,5 @@ returns-in_err-index-clause-stopped g c =
     let old = g.W.Write.contents c.args.out.now in
     let new = g.W.Write.contents c.judge.new.out in
     begins_bad c.args.files.now.texts c.args.from.now (g.S.Source.remaining c.args.files.now.section)
-    (BeginsJudged (BeginsGoodFile c.args.question (options_in c.args.from.now) (g.F.Source.remaining c.args.files.now.file)) old new) old
+    (BeginsJudged (BeginsGoodFile c.args.question (g.F.Source.remaining c.args.files.now.file)) old new) old
     new c.from_residual.result (λ reason prefix. prefix) c.in_err-index.ensures.stopped

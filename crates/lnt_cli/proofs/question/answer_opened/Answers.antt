@@ -1,4 +1,3 @@
-use Rattle.lnt_cli.specs.Answered.{options_in}
 use Rattle.lnt_cli.specs.Stopped.{BeginsGood, BeginsJudged}
 use Rattle.lnt_cli.proofs.StopLemmas.{begins_bad}
 use Rattle.lnt_cli.proofs.question.answer_opened.Goals as goal
@@ -8,5 +7,5 @@ returns-in_err-index-clause-stopped g c =
     let old = g.W.Write.contents c.args.out.now in
     let new = g.W.Write.contents c.judge.new.out in
     begins_bad c.args.files.now.texts c.args.from.now (g.S.Source.remaining c.args.files.now.section)
-    (BeginsJudged (BeginsGood (g.O.Opener.tells c.args.opener.now) (options_in c.args.from.now) c.args.question.now) old new)
+    (BeginsJudged (BeginsGood (g.O.Opener.tells c.args.opener.now) c.args.question.now) old new)
     old new c.from_residual-in_err-index.result (λ reason prefix. prefix) c.in_err-index.ensures.stopped

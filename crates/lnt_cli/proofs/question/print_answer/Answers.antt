@@ -1,5 +1,4 @@
 use Rattle.std.proofs.Common.{◌∙◌, rules, sym}
-use Rattle.std.proofs.lemmas.Result.{on_err_weaker}
 use Rattle.lnt_cli.proofs.question.print_answer.Goals as goal
 
 pub returns-in_err-write_whole-in-Verify-clause-stopped : goal.returns-in_err-write_whole-in-Verify-clause-stopped
@@ -11,11 +10,9 @@ returns-in_ok-write_whole-in-Verify-clause-answer g c = search rules
 pub returns-in-TableByPath-true-clause-stopped : goal.returns-in-TableByPath-true-clause-stopped
 returns-in-TableByPath-true-clause-stopped g c =
     rw (c.in-TableByPath-true.is, ← sym c.in-TableByPath-true.columns-test ∙ c.in-TableByPath-true.columns-is)
-    (on_err_weaker c.print_path_table.result
-    (λ begun options units is. begun options.dead options.skip_copies units is) c.print_path_table.ensures.begun)
+    c.print_path_table.ensures.begun
 
 pub returns-in-TableByPath-false-clause-stopped : goal.returns-in-TableByPath-false-clause-stopped
 returns-in-TableByPath-false-clause-stopped g c =
     rw (c.in-TableByPath-false.is, ← sym c.in-TableByPath-false.columns-test ∙ c.in-TableByPath-false.columns-is)
-    (on_err_weaker c.print_path_table-in-TableByPath-false.result
-    (λ begun options units is. begun options.dead options.skip_copies units is) c.print_path_table-in-TableByPath-false.ensures.begun)
+    c.print_path_table-in-TableByPath-false.ensures.begun

@@ -9,14 +9,14 @@ returns-in-Err-clause-told c = IsToldOfSpans.refused c.in-Err.ensures.refused re
 pub put_spans-requires : goal.put_spans-requires
 put_spans-requires c =
     let is = c.in-Ok.ensures.good in
-    let all = c.spans.ensures.gives _ _ is.units is.index_is in
-    let few = permuted_within_section _ _ _ is.units _ all.spans is.good.spelled all.spans_are in
+    let all = c.spans.ensures.gives _ is.index_is in
+    let few = permuted_within_section _ _ _ all.spans all.spans_are is.good.spelled in
     record { few = (all.spans, all.to_come, omega (arith, few)) }
 
 pub returns-clause-told : goal.returns-clause-told
 returns-clause-told c =
     let is = c.in-Ok.ensures.good in
-    let all = c.spans.ensures.gives _ _ is.units is.index_is in
+    let all = c.spans.ensures.gives _ is.index_is in
     IsToldOfSpans.good all.spans
     (record { units = is.units; good = is.good; spans_are = all.spans_are; in_order = all.in_order; answers = all.answers })
     (c.put_spans.ensures.count all.spans all.to_come)

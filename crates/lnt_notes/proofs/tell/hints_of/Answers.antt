@@ -6,7 +6,7 @@ use Rattle.lnt_notes.proofs.HintLemmas.{no_first_of_none}
 use Rattle.lnt_notes.proofs.tell.hints_of.Goals as goal
 
 pub returns-clause-nothing : goal.returns-clause-nothing
-returns-clause-nothing c dead skip units is =
-    let all = c.spans.ensures.gives dead skip units is in
-    no_first_of_none (AreToCome c.next_span-first.new.self) all.spans (spans_of (kept_sequences dead skip units)) c.next_span-first.result
+returns-clause-nothing c selection is =
+    let all = c.spans.ensures.gives selection is in
+    no_first_of_none (AreToCome c.next_span-first.new.self) all.spans (spans_of (kept_sequences selection)) c.next_span-first.result
     c.is_none.result (c.next_span-first.ensures.gives all.spans all.to_come) all.spans_are (search rules)

@@ -11,14 +11,14 @@ use Rattle.lnt_table.proofs.judged.judge_index.Goals as goal
 pub compare_lines-requires-clause-spans : goal.compare_lines-requires-clause-spans
 compare_lines-requires-clause-spans g c =
     let known = c.spans.ensures.is_index in
-    let all = c.spans.ensures.gives known.dead known.skip known.units known.index_is in
+    let all = c.spans.ensures.gives known.selection known.index_is in
     (all.spans, all.to_come, all.in_order)
 
 pub returns-in-Compared-clause-ok : goal.returns-in-Compared-clause-ok
-returns-in-Compared-clause-ok g c dead skip units is =
-    let all = c.spans.ensures.gives dead skip units is in
+returns-in-Compared-clause-ok g c selection is =
+    let all = c.spans.ensures.gives selection is in
     IfSome_then (g.T.Source.remaining c.args.table.now) (rw c.in-Compared.is at c.in_ok-outcome.ensures.ok all.spans all.to_come all.in_order)
-    (λ bytes told. numbered_with bytes c.args.index.now dead skip units all.spans c.in-Compared.outcome all.answers told)
+    (λ bytes told. numbered_with bytes c.args.index.now selection all.spans c.in-Compared.outcome all.answers told)
 
 pub compare_lines_by_path-requires-clause-few : goal.compare_lines_by_path-requires-clause-few
 compare_lines_by_path-requires-clause-few g c =
@@ -36,14 +36,14 @@ pub compare_lines_by_path-requires-clause-spans : goal.compare_lines_by_path-req
 compare_lines_by_path-requires-clause-spans g c =
     let begun = rw c.in-Other.is at c.in_ok-outcome.ensures.begun in
     let known = c.spans.ensures.is_index in
-    let all = c.spans.ensures.gives known.dead known.skip known.units known.index_is in
+    let all = c.spans.ensures.gives known.selection known.index_is in
     (all.spans, rw begun.1 all.to_come, all.in_order)
 
 pub returns-in-Some-clause-ok : goal.returns-in-Some-clause-ok
-returns-in-Some-clause-ok g c dead skip units is =
+returns-in-Some-clause-ok g c selection is =
     let begun = rw c.in-Other.is at c.in_ok-outcome.ensures.begun in
-    let all = c.spans.ensures.gives dead skip units is in
-    begun_by_path _ _ _ _ c.in-Other.window c.pass_header.new.window c.in-Some.version c.args.index.now dead skip units all.spans
+    let all = c.spans.ensures.gives selection is in
+    begun_by_path _ _ _ _ c.in-Other.window c.pass_header.new.window c.in-Some.version c.args.index.now selection all.spans
     c.in_ok-outcome-2.outcome is begun.0 c.in-Some.ensures all.answers
     (c.in_ok-outcome-2.ensures.ok all.spans (rw begun.1 all.to_come) all.in_order)
 
@@ -65,6 +65,6 @@ returns-clause-ok g c =
     let ends = rw c.in_default.ensures at c.in_ok-text.ensures.ok in
     let found = rw c.deref.ensures.value at c.judge_text.ensures in
     IfOk-weaker c.told.result _ _
-    (λ judged is dead skip units index.
-    all_taken _ _ _ _ c.in-Other.window c.in_ok-text.text.items _ begun.0 ends ((rw is at found) dead skip units index))
+    (λ judged is selection index.
+    all_taken _ _ _ _ c.in-Other.window c.in_ok-text.text.items _ begun.0 ends ((rw is at found) selection index))
     c.told.ensures.ok

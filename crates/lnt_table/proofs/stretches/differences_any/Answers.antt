@@ -9,15 +9,15 @@ use Rattle.lnt_table.proofs.stretches.differences_any.Goals as goal
 pub differ_lines-requires-clause-spans : goal.differ_lines-requires-clause-spans
 differ_lines-requires-clause-spans g c =
     let known = c.spans.ensures.is_index in
-    let all = c.spans.ensures.gives known.dead known.skip known.units known.index_is in
+    let all = c.spans.ensures.gives known.selection known.index_is in
     (all.spans, all.to_come, all.in_order)
 
 pub returns-in-Compared-clause-ok : goal.returns-in-Compared-clause-ok
-returns-in-Compared-clause-ok g c dead skip units is =
-    let all = c.spans.ensures.gives dead skip units is in
-    headed_in _ _ (line_answer dead skip units) (g.T.Source.remaining c.args.table.now) c.in_ok-differing.field-0 c.in-Compared.differing
+returns-in-Compared-clause-ok g c selection is =
+    let all = c.spans.ensures.gives selection is in
+    headed_in _ _ (line_answer selection) (g.T.Source.remaining c.args.table.now) c.in_ok-differing.field-0 c.in-Compared.differing
     c.in-Compared.is
-    (c.in_ok-differing.ensures.ok all.spans (line_answer dead skip units) all.to_come all.in_order all.answers)
+    (c.in_ok-differing.ensures.ok all.spans (line_answer selection) all.to_come all.in_order all.answers)
 
 pub returns-in-Compared-clause-started : goal.returns-in-Compared-clause-started
 returns-in-Compared-clause-started g c = if_compared c.in_ok-differing.field-0 c.in-Compared.differing _ c.in-Compared.is c.in_ok-differing.ensures.started
@@ -27,8 +27,8 @@ returns-clause-ok g c =
     let begun = rw c.in-Other.is at c.in_ok-differing.ensures.begun in
     let found = rw c.deref.ensures.value at c.differ_text.ensures.any in
     IfOk-weaker c.told.result _ _
-    (λ any is dead skip units index.
-    all_taken _ _ _ _ c.in-Other.window c.in_ok-text.text.items _ begun.0 c.in_ok-text.ensures.ok ((rw is at found) dead skip units index))
+    (λ any is selection index.
+    all_taken _ _ _ _ c.in-Other.window c.in_ok-text.text.items _ begun.0 c.in_ok-text.ensures.ok ((rw is at found) selection index))
     c.told.ensures.ok
 
 pub returns-in_err-text-clause-too_long : goal.returns-in_err-text-clause-too_long

@@ -5,15 +5,15 @@ use Rattle.lnt_table.proofs.UnitPathLemmas.{told_by_units}
 use Rattle.lnt_table.proofs.stretches.differences_by_path.Goals as goal
 
 pub returns-clause-told : goal.returns-clause-told
-returns-clause-told c dead skip units is order =
-    let all = c.spans.ensures.gives dead skip units is in
-    c.of.ensures (indexed_path c.args.index.now) all.spans (told_path c.args.version c.args.index.now dead skip units) all.to_come all.in_order
-    (told_by_units c.args.version c.args.index.now dead skip units all.spans is all.answers) order
+returns-clause-told c selection is order =
+    let all = c.spans.ensures.gives selection is in
+    c.of.ensures (indexed_path c.args.index.now) all.spans (told_path c.args.version c.args.index.now selection) all.to_come all.in_order
+    (told_by_units c.args.version c.args.index.now selection all.spans is all.answers) order
 
 pub returns-clause-started : goal.returns-clause-started
 returns-clause-started c order =
     let known = c.spans.ensures.is_index in
-    let all = c.spans.ensures.gives known.dead known.skip known.units known.index_is in (
+    let all = c.spans.ensures.gives known.selection known.index_is in (
       spans_by_path c.args.version (indexed_path c.args.index.now) all.spans,
       _,
       c.of.ensures (indexed_path c.args.index.now) all.spans (spans_by_path c.args.version (indexed_path c.args.index.now) all.spans) all.to_come

@@ -7,7 +7,7 @@ use Rattle.lnt_table.proofs.write.write_index.Goals as goal
 pub write_canonical-requires : goal.write_canonical-requires
 write_canonical-requires g c =
     let known = c.spans.ensures.is_index in
-    let all = c.spans.ensures.gives known.dead known.skip known.units known.index_is in
+    let all = c.spans.ensures.gives known.selection known.index_is in
     (all.spans, all.to_come, all.in_order, all.whole)
 
 pub returns-clause-table : goal.returns-clause-table
@@ -16,13 +16,13 @@ returns-clause-table g c =
     (λ done. (
       done.0,
       done.1,
-      λ dead skip units is.
-          let all = c.spans.ensures.gives dead skip units is in
+      λ selection is.
+          let all = c.spans.ensures.gives selection is in
           let table = done.2 all.spans all.to_come all.in_order in
           record {
             spans = table.spans;
             canonical = table.canonical;
-            same = λ p. table.same p ∙ told_so c.args.version dead skip units all.spans all.answers p;
+            same = λ p. table.same p ∙ told_so c.args.version selection all.spans all.answers p;
             written = table.written;
           },
     ))
@@ -31,8 +31,8 @@ returns-clause-table g c =
 pub returns-clause-begun : goal.returns-clause-begun
 returns-clause-begun g c =
     on_err_weaker c.write_canonical.result
-    (λ done dead skip units is.
-    let all = c.spans.ensures.gives dead skip units is in
+    (λ done selection is.
+    let all = c.spans.ensures.gives selection is in
     let begun = done all.spans all.to_come all.in_order in
     let table = whole_canonical c.args.version all.spans all.in_order all.whole all.fits in
     record {
@@ -40,7 +40,7 @@ returns-clause-begun g c =
       is_table = record {
         spans = table.1.spans;
         canonical = table.1.canonical;
-        same = λ p. table.1.same p ∙ told_so c.args.version dead skip units all.spans all.answers p;
+        same = λ p. table.1.same p ∙ told_so c.args.version selection all.spans all.answers p;
         written = table.1.written;
       };
       prefix = begun.of_whole table.0 table.1;

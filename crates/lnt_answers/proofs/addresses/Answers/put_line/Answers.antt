@@ -11,4 +11,4 @@ pub returns-in_ok-put_text-in-None-clause-told : goal.returns-in_ok-put_text-in-
 returns-in_ok-put_text-in-None-clause-told c =
     let bad : c.put_text.new.text.items
     ≡ c.args.self.now.lines.items ++ (codes "bad " ++ (quoted_text c.args.line.now ++ codes "\n")) = search rules in
-    told_one None (rw c.in-None.is at c.position_in.ensures) (λ dead skip units is. bad) refl
+    told_one None (rw c.in-None.is at c.position_in.ensures) (λ selection is. bad) refl

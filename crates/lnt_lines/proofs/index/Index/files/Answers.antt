@@ -11,7 +11,7 @@ files_of-requires c =
     let general = c.self.inside.strings.general.now in
     let is = c.self.invariant.index_is in
     subst (λ (ks : List KeptProgram). All (λ (kept : KeptProgram). AreUsableTables line general kept.header) ks) (sym c.deref.ensures.value)
-    (λ k d few. usable_at line general c.self.invariant.units c.self.inside.programs.items k d is.programs is.tables few)
+    (λ k d few. usable_at line general c.self.invariant.selection.units c.self.inside.programs.items k d is.programs is.tables few)
 
 pub returns : goal.returns
 returns c =

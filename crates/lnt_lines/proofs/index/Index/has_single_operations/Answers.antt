@@ -10,7 +10,7 @@ returns-clause-single c =
     subst (λ (i : Indexed). IsTrue c.are_single.result ↔ All HasOneOperation i.programs) c.self.view_is programs
 
 pub returns-clause-spans : goal.returns-clause-spans
-returns-clause-spans c single dead skip units spans is same =
+returns-clause-spans c single selection is spans same =
     let programs = rw c.deref.ensures.value at c.are_single.ensures.0 single in
     let all = subst (λ (i : Indexed). All HasOneOperation i.programs) c.self.view_is programs in
-    spans_of_instructions c.args.self.now dead skip units spans all is same
+    spans_of_instructions c.args.self.now selection spans all is same

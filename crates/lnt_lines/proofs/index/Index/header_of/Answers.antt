@@ -20,7 +20,7 @@ returns-clause-usable c =
     found.1 kept ∙ ap (λ (ks : List KeptProgram). get_or ks c.in_ok-place.place kept) c.deref-2.ensures.value in
     subst (λ (i : Indexed). AreUsableTables i.line i.general c.header.result) c.self.view_is
     (subst (AreUsableTables line general) (ap (λ (k : KeptProgram). k.header) (sym at) ∙ sym c.header.ensures)
-    (usable_at line general c.self.invariant.units programs c.in_ok-place.place kept is.programs is.tables few))
+    (usable_at line general c.self.invariant.selection.units programs c.in_ok-place.place kept is.programs is.tables few))
 
 pub returns-clause-header : goal.returns-clause-header
 returns-clause-header c = grind (arith, elements)

@@ -4,7 +4,7 @@ use Rattle.lnt_lines.proofs.index.Index.lookup.Goals as goal
 pub unreachable-requires : goal.unreachable-requires
 unreachable-requires c =
     let is = c.in-Some.ensures.is_index in
-    let found = c.in-Some.ensures.answers is.dead is.skip is.units is.index_is in
+    let found = c.in-Some.ensures.answers is.selection is.index_is in
     absurd (c.in_default-rows.ensures found.rows found.sequence_is)
 
 pub returns-clause-answer : goal.returns-clause-answer
