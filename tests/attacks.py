@@ -1,5 +1,5 @@
 """Makes good sections of shapes that cost a careless reader much, looks up an address in each, and lists its files. A section
-of twice the size has to take at most 2.3 times the processor time, and many addresses a few times that of one. The memory of each
+of four times the size has to take at most 5.3 times the processor time, and many addresses a few times that of one. The memory of each
 word has to stay within four times the bytes that are given and 8 MB, or within what docs/LIMITS.md says of the shape. With the word
 --figures it also prints what each took. The last line is 'N passed, M failed'."""
 
@@ -16,8 +16,8 @@ PROGRAM = "crates/linetab/out/linetab"
 # The least time of each of the two sizes counts. Where these are too far apart, and not by twice as much, more turns are taken, since
 # other work on the machine slows some of them.
 TURNS, MOST_TURNS = 5, 25
-# Twice the size takes at most 2.3 times as long, also where it no longer fits a cache, and four times the size that squared; what grows
-# with the square takes sixteen times as long.
+# Four times the size takes at most as long as two doublings of 2.3 times each, also where it no longer fits a cache; what grows with the
+# square takes sixteen times as long.
 MOST_GROWTH = 2.3**2
 MOST_COPIES, OWN_MEMORY = 4, 8 << 20
 
