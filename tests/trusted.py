@@ -22,9 +22,9 @@ YES = [
     ("Rattle.lnt_lines.specs.Good", "IsGood"),
     ("Rattle.lnt_records.specs.Table", "BeginsWith"),
     ("Rattle.lnt_records.specs.Table", "column_names"),
-    ("Rattle.lnt_records.specs.Comparisons", "IsTableWhere"),
-    ("Rattle.lnt_paths.specs.PathTables", "by_path"),
-    ("Rattle.lnt_paths.specs.PathSpans", "path_span_answer"),
+    ("Rattle.lnt_compare.specs.Comparisons", "IsTableWhere"),
+    ("Rattle.lnt_records.specs.PathTables", "by_path"),
+    ("Rattle.lnt_records.specs.PathSpans", "path_span_answer"),
     ("Rattle.lnt_table.specs.AnyVersion", "told_paths"),
 ]
 UPGRADE = [

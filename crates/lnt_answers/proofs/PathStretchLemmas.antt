@@ -7,17 +7,17 @@ use Rattle.lnt_spans.specs.Counts.{addresses_answered}
 use Rattle.lnt_sequences.specs.Sequences.{line_answer, Selection}
 use Rattle.lnt_lines.specs.Indexed.{Indexed}
 use Rattle.lnt_records.specs.Faults.{IsUnnumbered}
-use Rattle.lnt_paths.specs.declared.answer.AnswerByPath.{AnswerByPath}
-use Rattle.lnt_paths.specs.declared.answer.DifferenceByPath.{DifferenceByPath}
-use Rattle.lnt_paths.specs.declared.held.HeldSpan.{HeldSpan}
-use Rattle.lnt_paths.specs.declared.stretches.DifferencesByPath.{DifferencesByPath}
-use Rattle.lnt_paths.specs.declared.version.PathVersion.{PathVersion}
-use Rattle.lnt_paths.specs.Held.{held_span}
-use Rattle.lnt_paths.specs.PathAnswers.{PathAnswer, path_answer, told_path_answer}
-use Rattle.lnt_paths.specs.PathSpans.{StandInOrder, path_span_answer}
-use Rattle.lnt_paths.specs.PathStretches.{stretch_of}
-use Rattle.lnt_paths.specs.PathTables.{IsPathTableOf}
-use Rattle.lnt_paths.specs.Stretching.{HasToldByPath}
+use Rattle.lnt_compare.specs.declared.by_path.answer.AnswerByPath.{AnswerByPath}
+use Rattle.lnt_compare.specs.declared.by_path.answer.DifferenceByPath.{DifferenceByPath}
+use Rattle.lnt_compare.specs.declared.by_path.held.HeldSpan.{HeldSpan}
+use Rattle.lnt_compare.specs.declared.by_path.stretches.DifferencesByPath.{DifferencesByPath}
+use Rattle.lnt_records.specs.declared.by_path.version.PathVersion.{PathVersion}
+use Rattle.lnt_compare.specs.Held.{held_span}
+use Rattle.lnt_records.specs.PathAnswers.{PathAnswer, path_answer}
+use Rattle.lnt_compare.specs.PathStretches.{stretch_of, told_path_answer}
+use Rattle.lnt_records.specs.PathSpans.{StandInOrder, path_span_answer}
+use Rattle.lnt_records.specs.PathTables.{IsPathTableOf}
+use Rattle.lnt_compare.specs.Stretching.{HasToldByPath}
 use Rattle.lnt_table.specs.ByPath.{indexed_path, path_at, told_path}
 use Rattle.lnt_table.proofs.CheckLemmas.{told_addresses}
 use Rattle.lnt_answers.specs.Stretches.{IsSoByPath}

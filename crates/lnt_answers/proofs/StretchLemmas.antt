@@ -14,15 +14,14 @@ use Rattle.lnt_spans.specs.Differing.{HasTold}
 use Rattle.lnt_spans.specs.AnyStretches.{AreAllStretches}
 use Rattle.lnt_spans.specs.Stretches.{stretch_of}
 use Rattle.lnt_spans.proofs.StretchLaws.{stretches_on}
-use Rattle.lnt_records.specs.Differing.{Differing}
-use Rattle.lnt_records.specs.declared.outcome.TableRead.TheVariants.{Fault, Table}
+use Rattle.lnt_compare.specs.Differing.{Differing, IsDiffering}
+use Rattle.lnt_compare.specs.declared.outcome.TableRead.TheVariants.{Fault, Table}
 use Rattle.lnt_records.specs.declared.fault.TableFault.{TableFault}
 use Rattle.lnt_records.specs.declared.fault.TableFault.TheVariants as fault
-use Rattle.lnt_records.specs.declared.remaining.Remaining.{Remaining}
-use Rattle.lnt_records.specs.Comparisons.{in_versions, tables_by_number}
-use Rattle.lnt_records.specs.Differing.{IsDiffering}
+use Rattle.lnt_compare.specs.declared.remaining.Remaining.{Remaining}
+use Rattle.lnt_compare.specs.Comparisons.{in_versions, tables_by_number}
 use Rattle.lnt_records.specs.Faults.{IsFault, IsUnnumbered}
-use Rattle.lnt_records.proofs.ComparedLaws.{where_so}
+use Rattle.lnt_compare.proofs.ComparedLaws.{where_so}
 use Rattle.lnt_lines.specs.Indexed.{Indexed}
 use Rattle.lnt_sequences.specs.Sequences.{line_answer, Selection}
 use Rattle.lnt_table.specs.declared.within.Scope.{Scope}
@@ -31,12 +30,12 @@ use Rattle.lnt_table.proofs.CheckLemmas.{each_known, told_addresses}
 use Rattle.lnt_answers.proofs.ScopeLemmas.{HasMore}
 use Rattle.lnt_answers.proofs.PathStretchLemmas.{ForPathDifferences, for_path_units, HasStarted}
 use Rattle.lnt_answers.specs.DifferenceLines.{AreDifferencesBegun, path_stretch_line, stretch_line}
-use Rattle.lnt_paths.specs.declared.held.HeldSpan.{HeldSpan}
-use Rattle.lnt_paths.specs.declared.stretches.DifferencesByPath.{DifferencesByPath}
-use Rattle.lnt_paths.specs.declared.version.PathVersion.{PathVersion}
-use Rattle.lnt_paths.specs.Held.{held_span}
-use Rattle.lnt_paths.specs.PathSpans.{StandInOrder}
-use Rattle.lnt_paths.specs.PathTables.{IsPathTableOf}
+use Rattle.lnt_compare.specs.declared.by_path.held.HeldSpan.{HeldSpan}
+use Rattle.lnt_compare.specs.declared.by_path.stretches.DifferencesByPath.{DifferencesByPath}
+use Rattle.lnt_records.specs.declared.by_path.version.PathVersion.{PathVersion}
+use Rattle.lnt_compare.specs.Held.{held_span}
+use Rattle.lnt_records.specs.PathSpans.{StandInOrder}
+use Rattle.lnt_records.specs.PathTables.{IsPathTableOf}
 use Rattle.lnt_table.specs.ByPath.{indexed_path}
 use Rattle.lnt_answers.specs.Stretches.{AreStretchesBegun, IsFaultByPath, IsSoOfRows}
 use Rattle.lnt_table.specs.FaultTexts.{table_no_text}

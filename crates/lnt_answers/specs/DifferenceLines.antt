@@ -11,7 +11,7 @@ use Rattle.lnt_spans.specs.declared.position.Position.{Position}
 use Rattle.lnt_spans.specs.AnyStretches.{AreAllStretches, Stretch}
 use Rattle.lnt_spans.specs.Counts.{addresses_answered}
 use Rattle.lnt_spans.specs.Partial.{AreAllMistakes, where_answered}
-use Rattle.lnt_paths.specs.PathAnswers.{PathAnswer}
+use Rattle.lnt_records.specs.PathAnswers.{PathAnswer}
 use Rattle.lnt_table.specs.declared.kinds.OfKind.TheVariants.{Numbered}
 use Rattle.lnt_table.specs.declared.verdict.Verdict.TheVariants.{Yes}
 use Rattle.lnt_table.specs.declared.within.CheckedWithin.{CheckedWithin}

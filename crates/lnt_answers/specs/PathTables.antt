@@ -4,9 +4,9 @@ use Rattle.std.specs.Io.KnownBytes.{Appends}
 use Rattle.lnt_io.specs.Prefixes.{HasBegun}
 use Rattle.lnt_io.specs.declared.status.Status.{Status}
 use Rattle.lnt_io.specs.declared.status.Status.TheVariants.{Done, No}
-use Rattle.lnt_paths.specs.declared.version.PathVersion.{PathVersion}
-use Rattle.lnt_paths.specs.PathAnswers.{PathAnswer}
-use Rattle.lnt_paths.specs.Written.{HasOperationIndex, IsCanonicalPathTable}
+use Rattle.lnt_records.specs.declared.by_path.version.PathVersion.{PathVersion}
+use Rattle.lnt_records.specs.PathAnswers.{PathAnswer}
+use Rattle.lnt_compare.specs.Canonical.{HasOperationIndex, IsCanonicalPathTable}
 use Rattle.lnt_spans.specs.declared.position.Position.{Position}
 use Rattle.lnt_table.specs.PathTexts.{operation_text}
 

@@ -8,13 +8,13 @@ use Rattle.lnt_spans.specs.Spans.{span_answer}
 use Rattle.lnt_sequences.specs.Sequences.{line_answer, Selection}
 use Rattle.lnt_records.specs.declared.fault.TableFault.{TableFault}
 use Rattle.lnt_records.specs.declared.fault.TableFault.TheVariants as fault
-use Rattle.lnt_records.specs.Comparisons.{IsTableWhere, in_versions}
+use Rattle.lnt_compare.specs.Comparisons.{IsTableWhere, in_versions}
 use Rattle.lnt_records.specs.Faults.{IsFault, IsUnnumbered}
 use Rattle.lnt_records.specs.Table.{by_number}
-use Rattle.lnt_paths.specs.PathAnswers.{PathAnswer}
-use Rattle.lnt_paths.specs.PathFaults.{IsPathFault}
-use Rattle.lnt_paths.specs.PathSpans.{path_span_answer}
-use Rattle.lnt_paths.specs.PathTables.{by_path}
+use Rattle.lnt_records.specs.PathAnswers.{PathAnswer}
+use Rattle.lnt_records.specs.PathFaults.{IsPathFault}
+use Rattle.lnt_records.specs.PathSpans.{path_span_answer}
+use Rattle.lnt_records.specs.PathTables.{by_path}
 use Rattle.lnt_table.specs.ByPath.{told_path}
 use Rattle.lnt_table.specs.declared.within.Scope.{Scope}
 use Rattle.lnt_answers.specs.DifferenceLines.{AreDifferencesBegun, AreStretchesTold, path_stretch_line, stretch_line}

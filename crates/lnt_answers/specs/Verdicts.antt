@@ -2,9 +2,9 @@
 use Rattle.std.specs.Prelude.{ℕ, List, ◌++◌, codes}
 use Rattle.lnt_io.specs.declared.status.Status.{Status}
 use Rattle.lnt_io.specs.declared.status.Status.TheVariants as status
-use Rattle.lnt_records.specs.declared.outcome.Compared.{Compared}
-use Rattle.lnt_records.specs.declared.outcome.Compared.TheVariants.{Same, Fault, Differs}
-use Rattle.lnt_paths.specs.declared.answer.DifferenceByPath.{DifferenceByPath}
+use Rattle.lnt_compare.specs.declared.outcome.Compared.{Compared}
+use Rattle.lnt_compare.specs.declared.outcome.Compared.TheVariants.{Same, Fault, Differs}
+use Rattle.lnt_compare.specs.declared.by_path.answer.DifferenceByPath.{DifferenceByPath}
 use Rattle.lnt_table.specs.declared.kinds.OfKind.TheVariants.{Numbered, ByPath}
 use Rattle.lnt_table.specs.declared.verdict.Verdict.{Verdict}
 use Rattle.lnt_table.specs.declared.verdict.Verdict.TheVariants.{Yes, No}

@@ -6,8 +6,8 @@ ghost use Rattle.lnt_answers.specs.DifferenceLines.{AreDifferencesBegun, path_st
 ghost use Rattle.lnt_answers.specs.Stepping.{ArePrinted, answer_of, end_status, end_text};
 ghost use Rattle.lnt_answers.specs.Stretches.{BeginsStretches, IsFaultTold, TellsStretches};
 ghost use Rattle.lnt_table.specs.FaultTexts.{table_no_text};
-ghost use Rattle.lnt_paths.specs.PathAnswers.{PathAnswer};
-ghost use Rattle.lnt_paths.specs.Stretching.{HasToldByPath};
+ghost use Rattle.lnt_records.specs.PathAnswers.{PathAnswer};
+ghost use Rattle.lnt_compare.specs.Stretching.{HasToldByPath};
 ghost use Rattle.lnt_io.specs.Prefixes.{AppendsPrefix};
 ghost use Rattle.lnt_io.specs.Halts.{IsPrinting};
 ghost use Rattle.lnt_sequences.specs.Sequences.{line_answer};
@@ -18,10 +18,10 @@ ghost use Rattle.lnt_lines.specs.Indexed.{OfUnits};
 
 use crate::differences::print_differences;
 use crate::stretch_lines::StretchLines;
+use lnt_compare::{DifferencesByPath, TableRead};
 use lnt_io::{Halt, Source, Status, print_line};
 use lnt_lines::Index;
-use lnt_paths::{DifferencesByPath, Paths};
-use lnt_records::{TableFault, TableRead};
+use lnt_records::{Paths, TableFault};
 use lnt_spans::{SpanSource, count_all};
 use lnt_table::{
     CheckedWithin, Coverage, IndexPaths, OfKind, PathDifferenceLine, Scope, TableNo, Verdict,

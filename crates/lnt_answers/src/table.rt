@@ -10,10 +10,10 @@ ghost use Rattle.lnt_lines.specs.Indexed.{OfUnits};
 ghost use Rattle.lnt_answers.specs.PathTables.{BeginsPrintedTable, IsPrintedTable, operation_line};
 ghost use Rattle.lnt_answers.specs.Stepping.{halt_of_write};
 
+use lnt_compare::PathTable;
 use lnt_io::{Halt, Status, print_line};
 use lnt_lines::Index;
-use lnt_paths::{PathTable, PathVersion};
-use lnt_records::WriteStop;
+use lnt_records::{PathVersion, WriteStop};
 use lnt_spans::{Position, Version};
 use lnt_table::{OperationLine, write_index, write_paths};
 use std::alloc::Global;

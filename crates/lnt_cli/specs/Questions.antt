@@ -14,8 +14,8 @@ use Rattle.lnt_lines.specs.declared.section.JudgedIndex.TheVariants.{Good, Bad}
 use Rattle.lnt_lines.specs.Indexed.{Indexed, OfUnits}
 use Rattle.lnt_words.specs.declared.request.Question.{Question}
 use Rattle.lnt_words.specs.declared.request.Question.TheVariants.{Verify, Lookup, Files, Table, TableByPath, Md5}
-use Rattle.lnt_paths.specs.declared.version.PathVersion.{PathVersion}
-use Rattle.lnt_paths.specs.declared.version.PathVersion.TheVariants.{Three, Four}
+use Rattle.lnt_records.specs.declared.by_path.version.PathVersion.{PathVersion}
+use Rattle.lnt_records.specs.declared.by_path.version.PathVersion.TheVariants.{Three, Four}
 use Rattle.lnt_table.specs.declared.within.Scope.{Scope}
 use Rattle.lnt_table.specs.ByPath.{told_path}
 use Rattle.lnt_table.specs.Written.{IsTableOfUnits}

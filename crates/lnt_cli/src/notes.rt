@@ -5,10 +5,11 @@ ghost use Rattle.lnt_answers.specs.Verdicts.{checked_status};
 
 use crate::session::Session;
 use lnt_answers::Stretches;
+use lnt_compare::Compared;
 use lnt_io::{Opener, Status};
 use lnt_lines::No;
 use lnt_notes::{Columns, Given, Hints, Seen, tell_agreed, tell_bad, tell_good, tell_table};
-use lnt_records::{Compared, TableFault};
+use lnt_records::TableFault;
 use lnt_table::{Checked, CheckedWithin, OfKind, TableNo, Verdict};
 use lnt_words::Judging;
 use std::io::Write;

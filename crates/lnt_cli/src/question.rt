@@ -21,7 +21,7 @@ use lnt_answers::{
 use lnt_io::{Halt, Opener, Source, Status, write_whole};
 use lnt_lines::{Index, JudgedIndex, Options};
 use lnt_notes::{Hints, Seen, hints_of};
-use lnt_paths::PathVersion;
+use lnt_records::PathVersion;
 use lnt_table::Scope;
 use lnt_words::{Judging, Question};
 use std::alloc::Global;

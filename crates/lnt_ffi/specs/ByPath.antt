@@ -1,9 +1,9 @@
 -- The verdict that C sees of a check of a table of any version, and the paths beside it.
 use Rattle.std.specs.Prelude.{ℕ, Bool, ◌/◌, ◌%◌, ◌^◌, ◌||◌, if◌then◌else◌, false, is_some, List, [], Option, Some, None, length, unwrap_or}
-use Rattle.lnt_paths.specs.declared.answer.AnswerByPath.{AnswerByPath}
-use Rattle.lnt_records.specs.declared.outcome.Compared.{Compared}
-use Rattle.lnt_records.specs.declared.outcome.Compared.TheVariants.{Same, Fault, Differs}
-use Rattle.lnt_paths.specs.declared.answer.DifferenceByPath.{DifferenceByPath}
+use Rattle.lnt_compare.specs.declared.by_path.answer.AnswerByPath.{AnswerByPath}
+use Rattle.lnt_compare.specs.declared.outcome.Compared.{Compared}
+use Rattle.lnt_compare.specs.declared.outcome.Compared.TheVariants.{Same, Fault, Differs}
+use Rattle.lnt_compare.specs.declared.by_path.answer.DifferenceByPath.{DifferenceByPath}
 use Rattle.lnt_table.specs.declared.kinds.OfKind.TheVariants.{Numbered, ByPath}
 use Rattle.lnt_table.specs.declared.verdict.Verdict.TheVariants.{No}
 use Rattle.lnt_table.specs.declared.within.CheckedWithin.{CheckedWithin}

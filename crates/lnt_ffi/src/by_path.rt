@@ -5,8 +5,7 @@ ghost use Rattle.lnt_ffi.specs.ByPath.{tells_column, verdict_of_check, verdict_o
 
 use crate::flat::{FlatAnswer, NOTHING};
 use crate::verdict::{FlatVerdict, YES, at, verdict_of_table};
-use lnt_paths::{AnswerByPath, DifferenceByPath};
-use lnt_records::Compared;
+use lnt_compare::{AnswerByPath, Compared, DifferenceByPath};
 use lnt_table::{CheckedWithin, Coverage, OfKind, TableNo, Verdict};
 
 // What a check finds, but for the paths.

@@ -1,9 +1,10 @@
 -- Tables of any format on plain lines: `csv` reads them back, spans have one of them, and they are written block by block.
-use Rattle.std.proofs.Common.{◌≡◌, ◌∙◌, ℕ, ◌+◌, ◌<◌, ◌≤◌, List, [], ◌∷◌, ◌++◌, Option, Some, length, refl, sym, ap, subst, append-nil, append_assoc}
-use Rattle.std.proofs.Common.{arith, if◌then◌else◌, length-append}
+use Rattle.std.proofs.Common.{◌≡◌, ◌∙◌, ℕ, ◌+◌, ◌<◌, ◌≤◌, List, [], ◌∷◌, ◌++◌, Option, Some, length, refl, sym, ap, subst, append-nil}
+use Rattle.std.proofs.Common.{append_assoc, arith, if◌then◌else◌, length-append, ◌-◌, drop, length-drop, take}
 use Rattle.std.proofs.KnownBytes.{Appends-nil, Appends-trans}
 use Rattle.std.specs.Io.KnownBytes.{Appends}
 use Rattle.std.specs.List.{AllByRecursion, AllZip}
+use Rattle.std.proofs.lemmas.List.{take_all}
 use Rattle.csv.specs.Machine.{Read, next_record}
 use Rattle.csv.specs.Reading.{Reached, default_config, strip_bom}
 use Rattle.csv.specs.Writing.{default_writer, is_blank, row_body, row_text}
@@ -14,10 +15,14 @@ use Rattle.lnt_io.specs.Prefixes.{AppendsPrefix}
 use Rattle.lnt_io.proofs.PrefixLaws.{prefix_after, prefix_before, prefix_none, prefix_same}
 use Rattle.lnt_records.specs.Passing.{AreLinesIn, IsCutAfter}
 use Rattle.lnt_records.specs.Progress.{AddsLine, AddsLines, HasBegunLines, HasWrittenLines}
-use Rattle.lnt_records.specs.Table.{Fields, IsTableOfIn, TableFormat}
-use Rattle.lnt_records.specs.Written.{BeginsTableIn, IsPlainTableIn, LineFormat, lines_of}
+use Rattle.lnt_records.specs.Table.{BeginsWith, Fields, IsTableOfIn, TableFormat}
+use Rattle.lnt_records.specs.Written.{BeginsTableIn, IsPlainTableIn, LineFormat, following, line_text, lines_of}
 use Rattle.lnt_records.proofs.QuotingLaws.{none_left, same_back}
 use Rattle.lnt_records.proofs.TableLaws.{zip_push}
+use Rattle.lnt_spans.specs.declared.answer.Version.{Version}
+use Rattle.lnt_spans.specs.declared.span.Span.{Span}
+use Rattle.lnt_records.specs.Lines.{IsPlainLine, IsTextLine}
+use Rattle.lnt_records.proofs.SaidLemmas.{record_plain}
 
 -- ---- a line is read back
 
@@ -354,3 +359,29 @@ table_begun plain version one_record old new first rest spans begun e = record {
       sym (lines_append plain.line (plain.names version ∷ begun.records) more.0) ∙ ap (text_of plain version) (sym more.1) ∙ sym whole.lines in
       prefix_same old new _ bytes same (prefix_before old new text (lines_of plain.line more.0) begun.prefix);
 }
+
+-- ---- the rest of a table of any format, after its header
+
+pub header_begins : {V X : Type 0} (format : TableFormat V X) (plain : LineFormat V X) → LineLaws format plain → (version : V)
+    (rest : List ℕ) → BeginsWith (plain.line (plain.names version) ++ rest) (plain.names version ∷ [])
+header_begins format plain laws version rest = (st.StartRecord, rest, header_reached format plain laws version rest)
+
+-- ---- a line has bytes
+
+some_end : (field fields : List ℕ) → 0 < length (field ++ fields ++ 10 ∷ [])
+some_end field fields = omega (arith, length-append (field ++ fields) (10 ∷ []))
+
+pub line_some : (fields : Fields) → 0 < length (line_text fields)
+line_some [] = omega arith
+line_some (field ∷ fields) = some_end field (following fields)
+
+-- the bytes of the room from an index on
+pub room_from : (room : List ℕ) (start : ℕ) → length room ≡ 256 → take (256 - start) (drop start room) ≡ drop start room
+room_from room start long = take_all (256 - start) (drop start room) (omega (arith, length-drop start room, long))
+
+-- ---- a line
+
+-- a plain line is a line
+pub line_said : (version : Version) (span : Span) (bytes rest : List ℕ) → IsPlainLine version span bytes rest
+    → IsTextLine version span bytes rest
+line_said version span bytes rest is = record { fields = is.fields; joined = is.joined; says = record_plain version is.fields span is.says }

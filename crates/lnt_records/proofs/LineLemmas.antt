@@ -1,6 +1,5 @@
 -- Lines that are parsed are the records that `csv` reads.
-use Rattle.std.proofs.Common.{◌≡◌, ◌∙◌, ℕ, ◌<◌, List, [], ◌∷◌, ◌++◌, Option, Some, None, length, length-append, refl, sym, ap}
-use Rattle.std.proofs.Common.{append_assoc, arith}
+use Rattle.std.proofs.Common.{◌≡◌, ◌∙◌, ℕ, List, [], ◌∷◌, ◌++◌, Option, Some, None, length, refl, sym, ap, append_assoc}
 use Rattle.std.proofs.lemmas.List.{append-nil}
 use Rattle.lnt_spans.specs.declared.answer.Answer.{Answer}
 use Rattle.lnt_spans.specs.declared.answer.More.{More}
@@ -11,7 +10,7 @@ use Rattle.lnt_spans.specs.declared.span.Span.{Span}
 use Rattle.lnt_text.specs.Delimited.{Begins}
 use Rattle.lnt_records.specs.Lines.{AreMoreFields, IsAnswer, IsFlagBefore, IsMore, IsPosition, SaysLine}
 use Rattle.lnt_records.specs.Table.{AreMore, Fields, column_count}
-use Rattle.lnt_records.specs.Written.{following, line_text}
+use Rattle.lnt_records.specs.Written.{following}
 
 -- ---- parts of a line
 
@@ -123,12 +122,3 @@ line_taken Address Number version span s0 s1 s2 s3 low high answer =
         more = more.1;
       };
     }
-
--- ---- a line has bytes
-
-some_end : (field fields : List ℕ) → 0 < length (field ++ fields ++ 10 ∷ [])
-some_end field fields = omega (arith, length-append (field ++ fields) (10 ∷ []))
-
-pub line_some : (fields : Fields) → 0 < length (line_text fields)
-line_some [] = omega arith
-line_some (field ∷ fields) = some_end field (following fields)

@@ -1,19 +1,17 @@
 -- A line is written backwards, from its end.
-use Rattle.std.proofs.Common.{◌≡◌, ◌∙◌, ℕ, ◌+◌, ◌-◌, ◌<◌, ◌≤◌, Bool, true, false, List, [], ◌∷◌, ◌++◌, Some, None, drop, length}
-use Rattle.std.proofs.Common.{length-drop, slice_set, take, refl, ap, sym, arith}
-use Rattle.std.proofs.lemmas.List.{drop-append-le, drop-set, drop_all, length-take-le, take-append-drop, take_all}
+use Rattle.std.proofs.Common.{◌≡◌, ◌∙◌, ℕ, ◌+◌, ◌-◌, ◌<◌, ◌≤◌, Bool, true, false, List, [], ◌∷◌, ◌++◌, Some, None, drop, length, slice_set}
+use Rattle.std.proofs.Common.{take, refl, ap, sym, arith}
+use Rattle.std.proofs.lemmas.List.{drop-append-le, drop-set, drop_all, length-take-le, take-append-drop}
 use mir.Val.{bool_byte}
 use Rattle.lnt_text.specs.Digits.{IsPlainDecimal}
 use Rattle.lnt_spans.specs.declared.answer.Answer.{Answer}
 use Rattle.lnt_spans.specs.declared.answer.More.{More}
 use Rattle.lnt_spans.specs.declared.answer.Version.{Version}
 use Rattle.lnt_spans.specs.declared.answer.Version.TheVariants.{One, Two}
-use Rattle.lnt_spans.specs.declared.span.Span.{Span}
 use Rattle.lnt_text.specs.Delimited.{Begins}
-use Rattle.lnt_records.specs.Lines.{IsFlagBefore, IsTextLine, IsMore, IsPlainLine}
+use Rattle.lnt_records.specs.Lines.{IsFlagBefore, IsMore}
 use Rattle.lnt_records.specs.Written.{IsOfVersion}
 use Rattle.lnt_records.proofs.LineLemmas.{more_taken, no_more_taken}
-use Rattle.lnt_records.proofs.SaidLemmas.{record_plain}
 
 split_before : (text : List ℕ) (start end : ℕ) → start ≤ end → end ≤ length text
     → drop start text ≡ drop start (take end text) ++ drop end text
@@ -60,10 +58,6 @@ flag_put false room end k e some long = record {
 pub room_ends : (room : List ℕ) → length room ≡ 256 → drop 256 room ≡ []
 room_ends room long = drop_all 256 room (omega (arith, long))
 
--- the bytes of the room from an index on
-pub room_from : (room : List ℕ) (start : ℕ) → length room ≡ 256 → take (256 - start) (drop start room) ≡ drop start room
-room_from room start long = take_all (256 - start) (drop start room) (omega (arith, length-drop start room, long))
-
 -- ---- what only version 2 has
 
 -- nothing more, in version 1
@@ -78,10 +72,3 @@ pub more_put : (version : Version) (answer : Answer) (more : More) (bytes s1 s2 
     → IsMore IsPlainDecimal version answer.more bytes []
 more_put One answer more bytes s1 s2 some e a b is = let none : Some more ≡ None = sym some ∙ is in absurd cc
 more_put Two answer more bytes s1 s2 some e a b is = rw some (more_taken IsPlainDecimal more bytes s1 s2 [] e a b)
-
--- ---- a line
-
--- a plain line is a line
-pub line_said : (version : Version) (span : Span) (bytes rest : List ℕ) → IsPlainLine version span bytes rest
-    → IsTextLine version span bytes rest
-line_said version span bytes rest is = record { fields = is.fields; joined = is.joined; says = record_plain version is.fields span is.says }

@@ -1,9 +1,6 @@
--- What the laws of tables of any format and kind say.
-use Rattle.std.specs.Prelude.{◌≡◌, ℕ, List, Option}
-use Rattle.lnt_spans.specs.declared.position.Position.{Position}
+-- What the laws of tables of any format say.
+use Rattle.std.specs.Prelude.{◌≡◌, ℕ, List}
 use Rattle.lnt_records.specs.declared.fault.TableFault.{TableFault}
-use Rattle.lnt_records.specs.declared.outcome.Compared.{Compared}
-use Rattle.lnt_records.specs.Comparisons.{IsComparisonOf, TableKind, stretch_told}
 use Rattle.lnt_records.specs.Faults.{IsFaultIn}
 use Rattle.lnt_records.specs.Table.{IsTableOfIn, TableFormat}
 
@@ -20,9 +17,3 @@ NoFault {V} {X} format = (bytes : List ℕ) (version : V) (spans : List X) (told
 -- At most one fault is the first of the bytes.
 abbrev pub OneFault : {V X : Type 0} → TableFormat V X → Type 0
 OneFault format = (bytes : List ℕ) (told other : TableFault) → IsFaultIn format bytes told → IsFaultIn format bytes other → told ≡ other
-
--- For given bytes, and what a section answers, all true comparisons say the same, wherever their differences are held.
-abbrev pub OneComparison : {V X Y D : Type 0} → TableKind V X Y D → Type 0
-OneComparison {V} {X} {Y} {D} kind = (bytes : List ℕ) (section : V → Position → Option Y) (one other : Compared D)
-    → IsComparisonOf kind section bytes one → IsComparisonOf kind section bytes other
-    → stretch_told kind.stretch one ≡ stretch_told kind.stretch other

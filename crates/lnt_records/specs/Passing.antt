@@ -1,34 +1,11 @@
--- How far the lines of a table from a source were passed. No public contract speaks of it.
-use Rattle.std.specs.Prelude.{◌≡◌, ℕ, ◌+◌, ◌≤◌, List, ◌∷◌, ◌++◌, Option, IfSome, length}
-use Rattle.std.specs.List.{AllByRecursion, AllZip}
+-- Lines of a table that were passed.
+use Rattle.std.specs.Prelude.{◌≡◌, ℕ, ◌+◌, List, ◌∷◌, ◌++◌, length}
+use Rattle.std.specs.List.{AllZip}
 use Rattle.csv.specs.Reading.{Reached, default_config, strip_bom}
 use Rattle.csv.specs.declared.parser.State.{State}
 use Rattle.csv.specs.declared.parser.State.TheVariants as state
-use Rattle.lnt_spans.specs.declared.answer.Version.{Version}
-use Rattle.lnt_spans.specs.declared.position.Position.{Position}
-use Rattle.lnt_spans.specs.declared.span.Span.{Span}
-use Rattle.lnt_spans.specs.Comparing.{Compares, IsTold, Merging, end_of}
-use Rattle.lnt_spans.specs.Spans.{AreInOrder, version_answer}
-use Rattle.lnt_io.specs.Pulling.{Pulls}
-use Rattle.lnt_records.specs.Table.{Fields, TableFormat, by_number, column_names}
-use Rattle.lnt_records.specs.Written.{LineFormat, lines_of, plain_by_number}
-
--- ---- the bytes
-
--- Bytes were taken from a source into a window, and the ones in `passed` were skipped: the window had `before` and has
--- `after`, the source had `old` and has `new`, and it may give `may_still` bytes of the `may_give` before.
-pub record Passes (old new : Option (List ℕ)) (may_give may_still : ℕ) (before after passed : List ℕ) : Type 0 where
-  pub given : List ℕ
-  pub joined : before ++ given ≡ passed ++ after
-  pub pulls : Pulls old new given
-  pub count : may_still + length given ≡ may_give
-
--- `all` consists of the bytes before and all from the source.
-pub record Ends (old : Option (List ℕ)) (may_give : ℕ) (before all : List ℕ) : Type 0 where
-  pub given : List ℕ
-  pub joined : all ≡ before ++ given
-  pub whole : IfSome old (λ bytes. given ≡ bytes)
-  pub few : length given ≤ may_give
+use Rattle.lnt_records.specs.Table.{Fields, TableFormat}
+use Rattle.lnt_records.specs.Written.{LineFormat, lines_of}
 
 -- ---- the lines
 
@@ -40,41 +17,6 @@ pub record AreLinesIn {V X : Type 0} (format : TableFormat V X) (plain : LineFor
   pub each : AllZip (format.Says version) records spans
   pub count_is : count ≡ length records + 1
 
--- the same of a table by number
-abbrev pub AreLines : Version → List ℕ → List Span → ℕ → Type 0
-AreLines version text table count = AreLinesIn by_number plain_by_number version text table count
-
--- The merge has compared spans that answer as the section does, in the fields of the version, with the records in `table`.
-pub record Follows {S : Type 0} (to_come : S → List Span → Type 0) (merge : Merging S) (version : Version)
-    (section table : List Span) : Type 0 where
-  pub spans : List Span
-  pub same : (p : Position) → version_answer version spans p ≡ version_answer version section p
-  pub version_is : merge.version ≡ version
-  pub compares : Compares to_come merge spans table
-
--- After the header these lines were passed, and the merge has compared their records.
-pub record HasPassed {S : Type 0} (to_come : S → List Span → Type 0) (merge : Merging S) (version : Version) (section : List Span)
-    (text : List ℕ) (count : ℕ) : Type 0 where
-  pub table : List Span
-  pub order : AreInOrder table
-  pub lines : AreLines version text table count
-  pub follows : Follows to_come merge version section table
-
--- ---- where the lines of canonical spans end
-
--- The lines in `text` are the first spans of a list in order that answers as the section does, in the fields of the
--- version. The list's other spans are to come, and the last span of the lines ends at `end`.
-pub record LeavesOff (ToCome : List Span → Type 0) (version : Version) (section : List Span) (text : List ℕ) (count : ℕ)
-    (end : Position) : Type 0 where
-  pub table : List Span
-  pub rest : List Span
-  pub lines : AreLines version text table count
-  pub left : ToCome rest
-  pub order : AreInOrder (table ++ rest)
-  pub same : (p : Position) → version_answer version (table ++ rest) p ≡ version_answer version section p
-  pub told : AllByRecursion (IsTold version) table
-  pub end_is : end ≡ end_of table
-
 -- ---- a text with the lines that were passed cut out
 
 -- Whatever records `csv` reads from the text after its first one, `first`, it also reads from the bytes after those in `passed`.
@@ -82,7 +24,3 @@ abbrev pub IsCutAfter : Fields → List ℕ → List ℕ → List Fields → Typ
 IsCutAfter first text bytes passed = (more : List Fields) (after : State) (rest : List ℕ)
     → Reached default_config state.StartRecord (strip_bom text) (first ∷ more) after rest
     → Reached default_config state.StartRecord (strip_bom bytes) (passed ++ more) after rest
-
--- The same for a text that begins with the header: the bytes have the records in `passed` after it.
-abbrev pub IsCut : Version → List ℕ → List ℕ → List Fields → Type 0
-IsCut version text bytes passed = IsCutAfter (column_names version) text bytes (column_names version ∷ passed)

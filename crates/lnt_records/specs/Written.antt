@@ -7,9 +7,7 @@ use Rattle.lnt_spans.specs.declared.answer.Answer.{Answer}
 use Rattle.lnt_spans.specs.declared.answer.More.{More}
 use Rattle.lnt_spans.specs.declared.answer.Version.{Version}
 use Rattle.lnt_spans.specs.declared.answer.Version.TheVariants.{One, Two}
-use Rattle.lnt_spans.specs.declared.position.Position.{Position}
 use Rattle.lnt_spans.specs.declared.span.Span.{Span}
-use Rattle.lnt_spans.specs.Spans.{IsCanonical, span_answer, version_answer}
 use Rattle.lnt_records.specs.Table.{Fields, IsTableOf, SaysSpan, column_names}
 
 -- The answer has exactly the fields of the version.
@@ -78,26 +76,5 @@ pub record IsWrittenTable (version : Version) (bytes : List ℕ) (spans : List S
   pub table : IsTableOf version bytes spans
   pub plain : IsPlainTable version bytes spans
 
--- The answer has an instruction set and a discriminator.
-abbrev pub TellsAll : Span → Type 0
-TellsAll span = IsOfVersion Two span.answer
-
--- The bytes are a table, on plain lines, of the canonical spans that answer as the given ones do, in the fields of the
--- version.
-pub record IsCanonicalTable (version : Version) (given : List Span) (bytes : List ℕ) : Type 0 where
-  pub spans : List Span
-  pub canonical : IsCanonical spans
-  pub same : (p : Position) → span_answer spans p ≡ version_answer version given p
-  pub written : IsWrittenTable version bytes spans
-
 abbrev pub BeginsTable : Version → List Span → Option (List ℕ) → Option (List ℕ) → Type 0
 BeginsTable version spans old new = BeginsTableIn plain_by_number version spans old new
-
--- What was written is such a prefix for the canonical spans that answer as the given ones do, in the fields of the version: every table of them on plain lines
--- begins with what was written.
-pub record BeginsCanonicalTable (version : Version) (given : List Span) (old new : Option (List ℕ)) : Type 0 where
-  pub spans : List Span
-  pub canonical : IsCanonical spans
-  pub same : (p : Position) → span_answer spans p ≡ version_answer version given p
-  pub begun : BeginsTable version spans old new
-  pub of_whole : (bytes : List ℕ) → IsCanonicalTable version given bytes → AppendsPrefix old new bytes

@@ -1,46 +1,37 @@
-//! Address tables: comma-separated values, each record a span of positions with its answer. They are read, compared with the
-//! spans of a section, and written.
+//! Address tables: comma-separated values, each record a span of positions with its answer. Their records and lines are read and
+//! written here.
 //!
-//! Record 0 is the header: `low,low_op,high,high_op,unit,file,line,column,is_stmt` in version 1, and the same with
-//! `,isa,discriminator` in version 2. Each later record is a span: `low` and `high` are addresses, `is_stmt` is `0` or `1`,
-//! and the other fields are decimal numbers. The spans are in order, and none is empty. Records are counted from 0, so the
-//! first span is record 1; columns are counted from 0 too.
+//! Record 0 is the header. It names the columns, and so tells the version: `low,low_op,high,high_op,unit,file,line,column,is_stmt`
+//! in version 1, and the same with `,isa,discriminator` in version 2, the tables *by number*; `low,high,path,line,column` in version
+//! 3, and the same without `,column` in version 4, the tables *by path*. Each later record is a span: `low` and `high` are addresses,
+//! by path for the positions at operation index 0, `is_stmt` is `0` or `1`, `path` is any bytes, quoted if necessary, and the other
+//! fields are decimal numbers. The spans are in order, and none is empty. Records are counted from 0, so the first span is record 1;
+//! columns are counted from 0 too.
 #![tactic(auto)]
 
-mod canonical;
+mod by_path;
 mod column;
-mod comparison;
-mod differing;
 mod fault;
-mod gather;
 mod header;
 pub mod laws;
 mod lines;
-mod outcome;
-mod passing;
 mod reading;
 mod record;
-mod remaining;
-mod stream;
 mod taking;
 mod text;
 mod wide;
-mod window;
 mod write;
 
-pub use canonical::write_canonical;
+pub use by_path::{
+    FileText, FileTexts, PathFields, PathRecord, PathVersion, Paths, SaidPath, ToldFiles,
+    addresses_before, line_at, place_before, put_line, record_after,
+};
 pub use column::{Columns, address_at, decimal_at, field, is_field};
-pub use comparison::{compare, compare_records};
-pub use differing::{Differing, compare_all, differ_lines, differ_records};
 pub use fault::{TableFault, WriteStop, told};
 pub use header::{TableVersion, header_of};
-pub use lines::pass_header;
-pub use outcome::{Compared, Outcome, TableRead};
+pub use lines::span_at;
 pub use reading::{read_next, reader_of};
-pub use record::RecordFault;
-pub use remaining::Remaining;
-pub use stream::{TableStart, compare_lines, compare_table};
+pub use record::{RecordFault, span_of};
 pub use taking::{TakesRecords, take_records};
-pub use text::{ROOM, address_field_before, number_before};
-pub use window::Window;
-pub use write::{put_header, send, send_full, write_spans};
+pub use text::{ROOM, address_field_before, line_of, number_before};
+pub use write::{put_header, put_span, send, send_full, write_spans};

@@ -20,8 +20,8 @@ pub enum RecordFault {
     Number(u64),
 }
 
-// The span of a record, or why it has none.
-pub(crate) fn span_of(row: &ByteRecord, version: Version) -> Result<Span, RecordFault>
+/// The span of a record, or why it has none.
+pub fn span_of(row: &ByteRecord, version: Version) -> Result<Span, RecordFault>
     ensures ok { IfOk result (λ span. IsSpanRecord version (fields_of row.now) span) }
     ensures err { IfErr result (λ fault. IsRecordFault kinds (column_count version) (fields_of row.now) fault) }
 {

@@ -12,9 +12,9 @@ use lnt_text::{address_before, decimal_before};
 /// More bytes than there are in any line that is written here or parsed as a line.
 pub const ROOM: usize = 256;
 
-// Writes the line of a span, without leading zeros, so that it ends where `room` does; gives the index at which it begins.
+/// Writes the line of a span, without leading zeros, so that it ends where `room` does; gives the index at which it begins.
 #[inline(always)]
-pub(crate) fn line_of(room: &mut [u8; ROOM], span: &Span) -> usize
+pub fn line_of(room: &mut [u8; ROOM], span: &Span) -> usize
     ensures begins { result < 256 }
     ensures written { (version : Version) → IsOfVersion version span.now.answer → IsPlainLine version span.now (drop result room.new) [] }
 {

@@ -83,13 +83,9 @@ pub fn put_header<V: TableVersion>(block: &mut Vec<u8>, version: &V) -> Result<(
     block.extend_from_slice(version.header_line())
 }
 
-// Adds the line of a span, which is written into `room` first.
+/// Adds the line of a span, which is written into `room` first.
 #[inline(always)]
-pub(crate) fn put_span(
-    block: &mut Vec<u8>,
-    room: &mut [u8; ROOM],
-    span: &Span,
-) -> Result<(), AllocError>
+pub fn put_span(block: &mut Vec<u8>, room: &mut [u8; ROOM], span: &Span) -> Result<(), AllocError>
     ensures { (version : Version) → IsOfVersion version span.now.answer
         → OnOk result (AddsLine plain_by_number version span.now block.old.items block.new.items) }
 {

@@ -7,18 +7,18 @@ use Rattle.lnt_spans.specs.declared.answer.Version.TheVariants.{One, Two}
 use Rattle.lnt_spans.specs.declared.difference.Difference.{Difference}
 use Rattle.lnt_spans.specs.declared.position.Position.{Position}
 use Rattle.lnt_records.specs.declared.fault.TableFault.TheVariants as fault
-use Rattle.lnt_records.specs.declared.outcome.Compared.{Compared}
-use Rattle.lnt_records.specs.declared.outcome.Compared.TheVariants.{Same, Fault, Differs}
-use Rattle.lnt_records.specs.Comparisons.{IsComparisonOf, tables_by_number}
+use Rattle.lnt_compare.specs.declared.outcome.Compared.{Compared}
+use Rattle.lnt_compare.specs.declared.outcome.Compared.TheVariants.{Same, Fault, Differs}
+use Rattle.lnt_compare.specs.Comparisons.{IsComparisonOf, tables_by_number}
 use Rattle.lnt_records.specs.Faults.{IsUnnumbered}
 use Rattle.lnt_records.proofs.BeginningLaws.{faulty_begins, one_beginning, table_begins}
 use Rattle.lnt_records.specs.Table as numbered
 use Rattle.lnt_records.specs.Table.{column_names}
-use Rattle.lnt_paths.specs.declared.version.PathVersion.{PathVersion}
-use Rattle.lnt_paths.specs.declared.version.PathVersion.TheVariants.{Three, Four}
-use Rattle.lnt_paths.specs.PathTables as pathed
-use Rattle.lnt_paths.specs.PathTables.{path_column_names}
-use Rattle.lnt_paths.specs.Written.{IsCanonicalPathTable}
+use Rattle.lnt_records.specs.declared.by_path.version.PathVersion.{PathVersion}
+use Rattle.lnt_records.specs.declared.by_path.version.PathVersion.TheVariants.{Three, Four}
+use Rattle.lnt_records.specs.PathTables as pathed
+use Rattle.lnt_records.specs.PathTables.{path_column_names}
+use Rattle.lnt_compare.specs.Canonical.{IsCanonicalPathTable}
 use Rattle.lnt_lines.specs.declared.options.Options.{Options}
 use Rattle.lnt_lines.specs.Good.{IsGood, selected}
 use Rattle.lnt_lines.specs.Laws.{GoodHasNoFlaw}

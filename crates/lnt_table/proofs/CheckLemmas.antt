@@ -11,10 +11,10 @@ use Rattle.lnt_spans.specs.Spans.{span_answer, version_answer}
 use Rattle.lnt_spans.proofs.CountLemmas.{same_addresses}
 use Rattle.lnt_sequences.specs.Sequences.{line_answer, Selection}
 use Rattle.lnt_records.specs.declared.fault.TableFault.TheVariants as fault
-use Rattle.lnt_records.specs.declared.outcome.Compared.{Compared}
-use Rattle.lnt_records.specs.declared.outcome.Compared.TheVariants.{Same, Fault, Differs}
-use Rattle.lnt_records.specs.Comparisons.{IsComparison, IsComparisonOf, in_versions, tables_by_number}
-use Rattle.lnt_records.proofs.ComparedLaws.{comparison_so}
+use Rattle.lnt_compare.specs.declared.outcome.Compared.{Compared}
+use Rattle.lnt_compare.specs.declared.outcome.Compared.TheVariants.{Same, Fault, Differs}
+use Rattle.lnt_compare.specs.Comparisons.{IsComparison, IsComparisonOf, in_versions, tables_by_number}
+use Rattle.lnt_compare.proofs.ComparedLaws.{comparison_so}
 use Rattle.lnt_lines.specs.declared.no.No.{No as SectionNo}
 use Rattle.lnt_lines.specs.declared.options.Options.{Options}
 use Rattle.lnt_lines.specs.Drafts.{IsIndexOfSection}

@@ -13,22 +13,22 @@ use Rattle.lnt_spans.specs.Spans.{span_answer}
 use Rattle.lnt_spans.proofs.PartialLemmas.{answered_and_missed}
 use Rattle.lnt_sequences.specs.Sequences.{line_answer, Selection}
 use Rattle.lnt_records.specs.declared.fault.TableFault.TheVariants as fault
-use Rattle.lnt_records.specs.Outcomes.{IsHeadedOutcome, IsOutcomeOf, Outcome, compared_of, part_of, whole_of}
-use Rattle.lnt_records.specs.declared.outcome.TableRead.TheVariants.{Fault, Table}
-use Rattle.lnt_records.specs.Comparisons.{TableKind, in_versions, tables_by_number}
+use Rattle.lnt_compare.specs.Outcomes.{IsHeadedOutcome, IsOutcomeOf, Outcome, compared_of, part_of, whole_of}
+use Rattle.lnt_compare.specs.declared.outcome.TableRead.TheVariants.{Fault, Table}
+use Rattle.lnt_compare.specs.Comparisons.{TableKind, in_versions, tables_by_number}
 use Rattle.lnt_records.specs.Faults.{IsUnnumbered}
-use Rattle.lnt_records.specs.Passing.{Passes}
+use Rattle.lnt_compare.specs.Passing.{Passes}
 use Rattle.lnt_records.specs.Table.{column_names}
 use Rattle.lnt_records.specs.Written.{line_text}
 use Rattle.lnt_records.proofs.BeginningLaws.{one_beginning}
-use Rattle.lnt_records.proofs.ComparedLaws.{compared_whole, outcome_so}
-use Rattle.lnt_records.proofs.StreamLemmas.{first_taken}
-use Rattle.lnt_paths.specs.declared.answer.DifferenceByPath.{DifferenceByPath}
-use Rattle.lnt_paths.specs.declared.version.PathVersion.{PathVersion}
-use Rattle.lnt_paths.specs.PathAnswers.{path_answer, spans_by_path}
-use Rattle.lnt_paths.specs.PathOutcomes.{IsPathOutcome, tables_by_path}
-use Rattle.lnt_paths.specs.PathTables.{path_column_names}
-use Rattle.lnt_paths.proofs.CanonicalLemmas.{header_begins}
+use Rattle.lnt_compare.proofs.ComparedLaws.{compared_whole, outcome_so}
+use Rattle.lnt_compare.proofs.StreamLaws.{first_taken}
+use Rattle.lnt_compare.specs.declared.by_path.answer.DifferenceByPath.{DifferenceByPath}
+use Rattle.lnt_records.specs.declared.by_path.version.PathVersion.{PathVersion}
+use Rattle.lnt_records.specs.PathAnswers.{path_answer, spans_by_path}
+use Rattle.lnt_compare.specs.PathOutcomes.{IsPathOutcome, tables_by_path}
+use Rattle.lnt_records.specs.PathTables.{path_column_names}
+use Rattle.lnt_records.proofs.PathLineLaws.{header_begins}
 use Rattle.lnt_lines.specs.declared.no.No.{No as SectionNo}
 use Rattle.lnt_lines.specs.declared.options.Options.{Options}
 use Rattle.lnt_lines.specs.Drafts.{IsIndexOfSection}

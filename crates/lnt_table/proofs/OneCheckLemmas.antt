@@ -1,9 +1,9 @@
 -- All true answers of `check_any` for one section and one table say the same.
 use Rattle.std.proofs.Common.{◌≡◌, ℕ, List}
-use Rattle.lnt_records.specs.declared.outcome.Compared.{Compared}
-use Rattle.lnt_records.specs.Laws.{OneComparison}
-use Rattle.lnt_paths.specs.declared.answer.DifferenceByPath.{DifferenceByPath}
-use Rattle.lnt_paths.specs.PathOutcomes.{tables_by_path}
+use Rattle.lnt_compare.specs.declared.outcome.Compared.{Compared}
+use Rattle.lnt_compare.specs.Laws.{OneComparison}
+use Rattle.lnt_compare.specs.declared.by_path.answer.DifferenceByPath.{DifferenceByPath}
+use Rattle.lnt_compare.specs.PathOutcomes.{tables_by_path}
 use Rattle.lnt_lines.specs.declared.options.Options.{Options}
 use Rattle.lnt_table.specs.Verdicts.{Checked}
 use Rattle.lnt_table.specs.declared.kinds.OfKind.TheVariants.{Numbered, ByPath}

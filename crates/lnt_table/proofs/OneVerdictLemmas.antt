@@ -8,10 +8,10 @@ use Rattle.lnt_spans.specs.declared.position.Position.{Position}
 use Rattle.lnt_spans.specs.AnyStretches.{Stretch}
 use Rattle.lnt_spans.specs.Stretches.{stretch_of}
 use Rattle.lnt_records.specs.declared.fault.TableFault.TheVariants as fault
-use Rattle.lnt_records.specs.declared.outcome.Compared.{Compared}
-use Rattle.lnt_records.specs.declared.outcome.Compared.TheVariants.{Same, Fault, Differs}
-use Rattle.lnt_records.specs.Comparisons.{IsComparisonOf, TableKind, stretch_told, tables_by_number}
-use Rattle.lnt_records.specs.Laws.{OneComparison}
+use Rattle.lnt_compare.specs.declared.outcome.Compared.{Compared}
+use Rattle.lnt_compare.specs.declared.outcome.Compared.TheVariants.{Same, Fault, Differs}
+use Rattle.lnt_compare.specs.Comparisons.{IsComparisonOf, TableKind, stretch_told, tables_by_number}
+use Rattle.lnt_compare.specs.Laws.{OneComparison}
 use Rattle.lnt_lines.specs.declared.no.No as section
 use Rattle.lnt_lines.specs.declared.options.Options.{Options}
 use Rattle.lnt_lines.specs.Laws.{GoodHasNoFlaw, OneNo}

@@ -2,14 +2,14 @@
 use Rattle.std.proofs.Common.{◌≡◌, ◌∙◌, inl, inr, ℕ, List, Option}
 use Rattle.std.specs.Io.KnownBytes.{Keeps}
 use Rattle.std.specs.List.{AllByRecursion}
-use Rattle.lnt_paths.specs.declared.version.PathTable.{PathTable}
-use Rattle.lnt_paths.specs.declared.version.PathTable.TheVariants.{OperationIndex, Written}
-use Rattle.lnt_paths.specs.declared.version.PathVersion.{PathVersion}
-use Rattle.lnt_paths.specs.Borders.{IsPathSpanOfInstructions, IsLeastOperation}
-use Rattle.lnt_paths.specs.PathAnswers.{PathAnswer, spans_by_path}
-use Rattle.lnt_paths.specs.PathSpans.{AreCanonicalOf, PathSpan}
-use Rattle.lnt_paths.specs.Written.{BeginsPathTable, HasBecome, IsCanonicalPathTable}
-use Rattle.lnt_paths.proofs.WrittenLaws.{no_operation_or_least, whole_or_none}
+use Rattle.lnt_compare.specs.declared.by_path.write.PathTable.{PathTable}
+use Rattle.lnt_compare.specs.declared.by_path.write.PathTable.TheVariants.{OperationIndex, Written}
+use Rattle.lnt_records.specs.declared.by_path.version.PathVersion.{PathVersion}
+use Rattle.lnt_compare.specs.Borders.{IsPathSpanOfInstructions, IsLeastOperation}
+use Rattle.lnt_records.specs.PathAnswers.{PathAnswer, spans_by_path}
+use Rattle.lnt_records.specs.PathSpans.{AreCanonicalOf, PathSpan}
+use Rattle.lnt_compare.specs.Canonical.{BeginsPathTable, HasBecome, IsCanonicalPathTable}
+use Rattle.lnt_compare.proofs.PathWrittenLaws.{no_operation_or_least, whole_or_none}
 use Rattle.lnt_spans.specs.declared.position.Position.{Position}
 use Rattle.lnt_spans.specs.declared.span.Span.{Span}
 use Rattle.lnt_spans.specs.Fitting.{FitSpans}

@@ -9,8 +9,8 @@ use Rattle.lnt_spans.specs.declared.position.Position.{Position}
 use Rattle.lnt_files.specs.Paths.{path_bytes, path_or_empty}
 use Rattle.lnt_sequences.specs.Sequences.{line_answer, Selection}
 use Rattle.lnt_lines.specs.Indexed.{Indexed, file_path_in}
-use Rattle.lnt_paths.specs.declared.version.PathVersion.{PathVersion}
-use Rattle.lnt_paths.specs.PathAnswers.{PathAnswer, path_answer}
+use Rattle.lnt_records.specs.declared.by_path.version.PathVersion.{PathVersion}
+use Rattle.lnt_records.specs.PathAnswers.{PathAnswer, path_answer}
 
 -- the header of the unit at an offset in the section, if one stands there
 abbrev pub header_at : List (ℕ × UnitParts) → ℕ → Option HeaderParts

@@ -13,10 +13,10 @@ use Rattle.lnt_table.specs.Verdicts.{no_of_fault}
 use Rattle.lnt_lines.specs.FaultTexts.{no_text}
 use Rattle.lnt_records.specs.FaultTexts.{table_fault_text}
 use Rattle.lnt_records.specs.declared.fault.TableFault.TheVariants as fault
-use Rattle.lnt_records.specs.declared.outcome.Compared.{Compared}
-use Rattle.lnt_records.specs.declared.outcome.Compared.TheVariants.{Same, Fault, Differs}
-use Rattle.lnt_paths.specs.declared.answer.DifferenceByPath.{DifferenceByPath}
-use Rattle.lnt_paths.specs.PathStretches.{stretch_of}
+use Rattle.lnt_compare.specs.declared.outcome.Compared.{Compared}
+use Rattle.lnt_compare.specs.declared.outcome.Compared.TheVariants.{Same, Fault, Differs}
+use Rattle.lnt_compare.specs.declared.by_path.answer.DifferenceByPath.{DifferenceByPath}
+use Rattle.lnt_compare.specs.PathStretches.{stretch_of}
 use Rattle.lnt_text.specs.Texts.{difference_text}
 
 -- why a table doesn't answer as the section does

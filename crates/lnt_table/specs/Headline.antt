@@ -13,9 +13,9 @@ use Rattle.lnt_spans.specs.Answers.{in_version}
 use Rattle.lnt_spans.specs.Spans.{span_answer}
 use Rattle.lnt_sequences.specs.Sequences.{line_answer, Selection}
 use Rattle.lnt_records.specs.declared.fault.TableFault.TheVariants as fault
-use Rattle.lnt_records.specs.declared.outcome.Compared.{Compared}
-use Rattle.lnt_records.specs.declared.outcome.Compared.TheVariants.{Fault, Differs}
-use Rattle.lnt_records.specs.Comparisons.{IsComparisonOf, IsTableWhere, in_versions, tables_by_number}
+use Rattle.lnt_compare.specs.declared.outcome.Compared.{Compared}
+use Rattle.lnt_compare.specs.declared.outcome.Compared.TheVariants.{Fault, Differs}
+use Rattle.lnt_compare.specs.Comparisons.{IsComparisonOf, IsTableWhere, in_versions, tables_by_number}
 use Rattle.lnt_records.specs.Table.{by_number}
 use Rattle.lnt_lines.specs.declared.options.Options.{Options}
 use Rattle.lnt_lines.specs.Good.{IsGood, selected}

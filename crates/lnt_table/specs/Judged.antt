@@ -4,12 +4,12 @@ use Rattle.lnt_spans.specs.declared.difference.Difference.{Difference}
 use Rattle.lnt_spans.specs.Merged.{missed_of}
 use Rattle.lnt_sequences.specs.Sequences.{line_answer, Selection}
 use Rattle.lnt_records.specs.declared.fault.TableFault.TheVariants as fault
-use Rattle.lnt_records.specs.Outcomes.{IsOutcomeOf, Outcome, part_of, whole_of}
-use Rattle.lnt_records.specs.declared.outcome.TableRead.TheVariants.{Fault, Table}
-use Rattle.lnt_records.specs.Comparisons.{in_versions, tables_by_number}
+use Rattle.lnt_compare.specs.Outcomes.{IsOutcomeOf, Outcome, part_of, whole_of}
+use Rattle.lnt_compare.specs.declared.outcome.TableRead.TheVariants.{Fault, Table}
+use Rattle.lnt_compare.specs.Comparisons.{in_versions, tables_by_number}
 use Rattle.lnt_records.specs.Faults.{IsUnnumbered}
-use Rattle.lnt_paths.specs.declared.answer.DifferenceByPath.{DifferenceByPath}
-use Rattle.lnt_paths.specs.PathOutcomes.{tables_by_path}
+use Rattle.lnt_compare.specs.declared.by_path.answer.DifferenceByPath.{DifferenceByPath}
+use Rattle.lnt_compare.specs.PathOutcomes.{tables_by_path}
 use Rattle.lnt_lines.specs.Indexed.{Indexed}
 use Rattle.lnt_table.specs.Verdicts.{Checked}
 use Rattle.lnt_table.specs.declared.kinds.OfKind.TheVariants.{Numbered, ByPath}

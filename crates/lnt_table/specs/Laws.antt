@@ -8,12 +8,12 @@ use Rattle.lnt_lines.specs.declared.options.Options.{Options}
 use Rattle.lnt_lines.specs.Contents.{Contents}
 use Rattle.lnt_lines.specs.Drafts.{AreLinesOf}
 use Rattle.lnt_lines.specs.Good.{IsGood, selected}
-use Rattle.lnt_records.specs.declared.outcome.Compared.TheVariants.{Same}
-use Rattle.lnt_records.specs.Comparisons.{stretch_told}
-use Rattle.lnt_paths.specs.declared.version.PathVersion.{PathVersion}
-use Rattle.lnt_paths.specs.PathAnswers.{PathAnswer}
-use Rattle.lnt_paths.specs.PathStretches.{stretch_of}
-use Rattle.lnt_paths.specs.Written.{IsCanonicalPathTable}
+use Rattle.lnt_compare.specs.declared.outcome.Compared.TheVariants.{Same}
+use Rattle.lnt_compare.specs.Comparisons.{stretch_told}
+use Rattle.lnt_records.specs.declared.by_path.version.PathVersion.{PathVersion}
+use Rattle.lnt_records.specs.PathAnswers.{PathAnswer}
+use Rattle.lnt_compare.specs.PathStretches.{stretch_of}
+use Rattle.lnt_compare.specs.Canonical.{IsCanonicalPathTable}
 use Rattle.lnt_table.specs.Verdicts.{Checked}
 use Rattle.lnt_table.specs.declared.kinds.OfKind.TheVariants.{Numbered, ByPath}
 use Rattle.lnt_table.specs.AnyVersion.{IsTrueCheck}

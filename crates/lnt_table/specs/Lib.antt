@@ -17,19 +17,20 @@ pub use Rattle.lnt_lines.specs.Good
 pub use Rattle.lnt_lines.specs.Indexed
 pub use Rattle.lnt_lines.specs.Nos
 -- and of tables: their records, their spans, and what differs
-pub use Rattle.lnt_paths.specs.Held
-pub use Rattle.lnt_paths.specs.PathAnswers
-pub use Rattle.lnt_paths.specs.PathOutcomes
-pub use Rattle.lnt_paths.specs.PathSpans
-pub use Rattle.lnt_paths.specs.PathStretches
-pub use Rattle.lnt_paths.specs.Stretching
-pub use Rattle.lnt_paths.specs.Written as WrittenByPath
-pub use Rattle.lnt_records.specs.Comparisons
-pub use Rattle.lnt_records.specs.Differing
+pub use Rattle.lnt_compare.specs.Canonical
+pub use Rattle.lnt_compare.specs.Comparisons
+pub use Rattle.lnt_compare.specs.Differing
+pub use Rattle.lnt_compare.specs.Held
+pub use Rattle.lnt_compare.specs.PathOutcomes
+pub use Rattle.lnt_compare.specs.PathStretches
+pub use Rattle.lnt_compare.specs.Stretching
 pub use Rattle.lnt_records.specs.FaultTexts as TableTexts
 pub use Rattle.lnt_records.specs.Faults
+pub use Rattle.lnt_records.specs.PathAnswers
+pub use Rattle.lnt_records.specs.PathLines
+pub use Rattle.lnt_records.specs.PathSpans
 pub use Rattle.lnt_records.specs.Table
-pub use Rattle.lnt_records.specs.Written as WrittenByNumber
+pub use Rattle.lnt_records.specs.Written as TableLines
 pub use Rattle.lnt_spans.specs.AnyStretches
 pub use Rattle.lnt_spans.specs.Differences
 pub use Rattle.lnt_spans.specs.Spans

@@ -1,6 +1,6 @@
 -- The lines that are printed for tables by path, as their types print them.
 use Rattle.std.specs.Prelude.{ℕ, List, [], ◌++◌, Option, None, Some, codes, decimal}
-use Rattle.lnt_paths.specs.PathAnswers.{PathAnswer}
+use Rattle.lnt_records.specs.PathAnswers.{PathAnswer}
 use Rattle.lnt_spans.specs.AnyStretches.{Stretch}
 use Rattle.lnt_spans.specs.declared.position.Position.{Position}
 use Rattle.lnt_text.specs.Quotes.{quoted_text}

@@ -3,12 +3,12 @@ use Rattle.std.specs.Prelude.{◌≢◌, ℕ, List}
 use Rattle.lnt_spans.specs.declared.listed.SpanList.{SpanList}
 use Rattle.lnt_spans.specs.declared.span.Span.{Span}
 use Rattle.lnt_sequences.specs.Sequences.{line_answer, Selection}
-use Rattle.lnt_records.specs.declared.outcome.TableRead.TheVariants.{Fault}
+use Rattle.lnt_compare.specs.declared.outcome.TableRead.TheVariants.{Fault}
 use Rattle.lnt_records.specs.declared.fault.TableFault.TheVariants as fault
-use Rattle.lnt_records.specs.declared.remaining.Remaining.{Remaining}
-use Rattle.lnt_records.specs.Differing.{Differing, IsDiffering, IsStarted}
+use Rattle.lnt_compare.specs.declared.remaining.Remaining.{Remaining}
+use Rattle.lnt_compare.specs.Differing.{Differing, IsDiffering, IsStarted}
 use Rattle.lnt_records.specs.Faults.{IsUnnumbered}
-use Rattle.lnt_paths.specs.Held.{HeldTable, HoldsInOrder, IsHeld}
+use Rattle.lnt_compare.specs.Held.{HeldTable, HoldsInOrder, IsHeld}
 use Rattle.lnt_table.specs.declared.kinds.OfKind.{OfKind}
 use Rattle.lnt_table.specs.declared.kinds.OfKind.TheVariants.{ByPath, Numbered}
 

@@ -4,10 +4,10 @@
 use Rattle.std.specs.Prelude.{◌≢◌, ◌⊎◌, Bool, false, true, ℕ, List, Option}
 use Rattle.lnt_spans.specs.declared.position.Position.{Position}
 use Rattle.lnt_spans.specs.Partial.{AreCounts, IsFirstMistake, IsRightWherever}
-use Rattle.lnt_records.specs.declared.outcome.Compared.TheVariants.{Same, Fault, Differs}
-use Rattle.lnt_records.specs.Comparisons.{IsTableWhere, TableKind, tables_by_number}
+use Rattle.lnt_compare.specs.declared.outcome.Compared.TheVariants.{Same, Fault, Differs}
+use Rattle.lnt_compare.specs.Comparisons.{IsTableWhere, TableKind, tables_by_number}
 use Rattle.lnt_records.specs.Faults.{IsUnnumbered}
-use Rattle.lnt_paths.specs.PathOutcomes.{tables_by_path}
+use Rattle.lnt_compare.specs.PathOutcomes.{tables_by_path}
 use Rattle.lnt_lines.specs.declared.options.Options.{Options}
 use Rattle.lnt_table.specs.Verdicts.{Checked}
 use Rattle.lnt_table.specs.declared.kinds.OfKind.TheVariants.{Numbered, ByPath}

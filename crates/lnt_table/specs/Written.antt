@@ -7,10 +7,10 @@ use Rattle.lnt_spans.specs.declared.span.Span.{Span}
 use Rattle.lnt_spans.specs.Spans.{IsCanonical, span_answer, version_answer}
 use Rattle.lnt_sequences.specs.Sequences.{Selection}
 use Rattle.lnt_records.specs.Written.{IsWrittenTable}
-use Rattle.lnt_paths.specs.declared.version.PathTable.TheVariants.{OperationIndex}
-use Rattle.lnt_paths.specs.declared.version.PathVersion.{PathVersion}
-use Rattle.lnt_paths.specs.PathAnswers.{PathAnswer}
-use Rattle.lnt_paths.specs.Written.{HasBecome, IsCanonicalPathTable}
+use Rattle.lnt_compare.specs.declared.by_path.write.PathTable.TheVariants.{OperationIndex}
+use Rattle.lnt_records.specs.declared.by_path.version.PathVersion.{PathVersion}
+use Rattle.lnt_records.specs.PathAnswers.{PathAnswer}
+use Rattle.lnt_compare.specs.Canonical.{HasBecome, IsCanonicalPathTable}
 use Rattle.lnt_table.specs.Headline.{told_answer}
 
 -- The bytes are a table of this version, on plain lines, of the canonical spans that answer as the section's spans do, in

@@ -3,14 +3,14 @@ ghost use Rattle.std.specs.Prelude.{◌≡◌, ◌≢◌, ◌+◌, ◌-◌, ◌^
 ghost use Rattle.lnt_lines.specs.declared.no.No.{No as SectionNo};
 ghost use Rattle.lnt_lines.specs.Indexed.{OfUnits};
 ghost use Rattle.lnt_io.specs.declared.stop.Stop.TheVariants.{Read, TooLong};
-ghost use Rattle.lnt_records.specs.Comparisons.{IsComparisonOf, in_versions, tables_by_number};
+ghost use Rattle.lnt_compare.specs.Comparisons.{IsComparisonOf, in_versions, tables_by_number};
 ghost use Rattle.lnt_sequences.specs.Sequences.{line_answer};
 ghost use Rattle.lnt_table.specs.Headline.{IsFoundTooLong, IsTrueOfSection, IsTrueVerdict};
 
 use crate::verdict::{TableNo, Verdict, verdict_of};
+use lnt_compare::{Compared, compare_table};
 use lnt_io::{Source, Stop};
 use lnt_lines::{Index, JudgedIndex, Options, index_section};
-use lnt_records::{Compared, compare_table};
 use lnt_spans::Difference;
 use lnt_wire::Strings;
 use std::alloc::Global;

@@ -8,12 +8,13 @@ use crate::by_path::Checked;
 use crate::kinds::OfKind;
 use crate::paths::IndexPaths;
 use crate::verdict::verdict_of;
+use lnt_compare::{
+    DifferenceByPath, Outcome, TableRead, TableStart, compare_by_path, compare_lines,
+    compare_lines_by_path, compare_records, pass_header,
+};
 use lnt_io::{Source, Stop};
 use lnt_lines::Index;
-use lnt_paths::{DifferenceByPath, PathVersion, compare_by_path, compare_lines_by_path};
-use lnt_records::{
-    Outcome, TableRead, TableStart, compare_lines, compare_records, header_of, pass_header, told,
-};
+use lnt_records::{PathVersion, header_of, told};
 use lnt_spans::{Difference, Version};
 use std::alloc::{AllocError, Global};
 

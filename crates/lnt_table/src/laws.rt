@@ -20,7 +20,7 @@ pub fn one_verdict()
 {
     lnt_lines::laws::good_has_no_flaw();
     lnt_lines::laws::one_no();
-    lnt_records::laws::one_comparison();
+    lnt_compare::laws::one_comparison();
 }
 
 /// For a good section, and a table that answers as it does at every position, Yes is the only true verdict. So if `check`
@@ -80,5 +80,5 @@ pub fn one_check()
 {
     one_verdict();
     one_numbered();
-    lnt_paths::laws::one_comparison();
+    lnt_compare::laws::one_comparison();
 }

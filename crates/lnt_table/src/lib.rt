@@ -24,21 +24,20 @@ mod write;
 pub use by_path::{Checked, check_any};
 pub use checking::check;
 pub use kinds::OfKind;
+pub use lnt_compare::{AnswerByPath, Compared, DifferenceByPath};
 pub use lnt_lines::{No, Options, Stop};
-pub use lnt_paths::{AnswerByPath, DifferenceByPath};
-pub use lnt_records::{Compared, TableFault};
+pub use lnt_records::TableFault;
 pub use path_lines::{OperationLine, PathDifferenceLine};
 pub use verdict::{TableNo, Verdict};
 pub use within::{CheckedWithin, Coverage, Scope, check_within};
 
 // Every difference.
-pub use lnt_paths::{DifferencesByPath, HeldSpan, HeldTable};
-pub use lnt_records::{Differing, Remaining};
+pub use lnt_compare::{DifferencesByPath, Differing, HeldSpan, HeldTable, Remaining};
 pub use lnt_spans::{Differences, SpanList};
 pub use stretches::{AnyDiffering, differences, differences_any, differences_by_path};
 
 // Writing.
-pub use lnt_paths::{PathTable, PathVersion, Paths};
-pub use lnt_records::WriteStop;
+pub use lnt_compare::PathTable;
+pub use lnt_records::{PathVersion, Paths, WriteStop};
 pub use paths::{IndexPaths, write_paths};
 pub use write::{write_index, write_table};

@@ -2,24 +2,25 @@
 ghost use Rattle.std.specs.Prelude.{◌≡◌, ◌≢◌, ◌+◌, ◌-◌, ◌^◌, ◌<◌, [], map, Option, IfOk, IfSome, IsErrOf};
 ghost use Rattle.lnt_io.specs.declared.stop.Stop.TheVariants.{Read, TooLong};
 ghost use Rattle.lnt_spans.specs.declared.position.Position.{Position};
-ghost use Rattle.lnt_records.specs.Differing.{IsDiffering, IsStarted};
+ghost use Rattle.lnt_compare.specs.Differing.{IsDiffering, IsStarted};
 ghost use Rattle.lnt_sequences.specs.Sequences.{line_answer};
-ghost use Rattle.lnt_paths.specs.Held.{held_span};
-ghost use Rattle.lnt_paths.specs.PathAnswers.{PathAnswer};
-ghost use Rattle.lnt_paths.specs.PathSpans.{StandInOrder, path_span_answer};
-ghost use Rattle.lnt_paths.specs.Stretching.{HasToldByPath};
+ghost use Rattle.lnt_compare.specs.Held.{held_span};
+ghost use Rattle.lnt_records.specs.PathAnswers.{PathAnswer};
+ghost use Rattle.lnt_records.specs.PathSpans.{StandInOrder, path_span_answer};
+ghost use Rattle.lnt_compare.specs.Stretching.{HasToldByPath};
 ghost use Rattle.lnt_lines.specs.Indexed.{OfUnits};
 ghost use Rattle.lnt_table.specs.ByPath.{indexed_path, told_path};
 ghost use Rattle.lnt_table.specs.Headline.{IsFoundTooLong};
 ghost use Rattle.lnt_table.specs.Stretches.{IsAnyDiffering, IsStartedAny};
 
 use crate::kinds::OfKind;
+use lnt_compare::{
+    DifferencesByPath, Differing, HeldSpan, HeldTable, Remaining, TableStart, compare_all,
+    differ_lines, differ_records, hold_table,
+};
 use lnt_io::{Source, Stop};
 use lnt_lines::{Index, Spans};
-use lnt_paths::{DifferencesByPath, HeldSpan, HeldTable, PathVersion, hold_table};
-use lnt_records::{
-    Differing, Remaining, TableStart, compare_all, differ_lines, differ_records, header_of, told,
-};
+use lnt_records::{PathVersion, header_of, told};
 use lnt_spans::{SpanList, SpanSource, Version};
 use std::alloc::{AllocError, Global};
 

@@ -4,8 +4,9 @@ ghost use Rattle.lnt_records.specs.declared.fault.TableFault.{TableFault as Tabl
 ghost use Rattle.lnt_table.specs.FaultTexts.{table_no_text, verdict_text};
 ghost use Rattle.lnt_table.specs.Verdicts.{no_of_fault, verdict_of};
 
+use lnt_compare::Compared;
 use lnt_lines::No;
-use lnt_records::{Compared, TableFault};
+use lnt_records::TableFault;
 use lnt_spans::{Answer, Difference, Position};
 use lnt_text::DifferenceLine;
 use std::fmt;

@@ -1,9 +1,10 @@
 //! Sections checked against tables by path.
 use crate::samples::{PLAIN, TABLE, whole};
 use crate::tables::lines::{OPTIONS, STRINGS};
+use lnt_compare::TableRead;
 use lnt_io::Counted;
 use lnt_lines::{JudgedIndex, index_section};
-use lnt_records::{TableFault, TableRead};
+use lnt_records::TableFault;
 use lnt_table::{Checked, Compared, DifferenceByPath, OfKind, Verdict, check_any, differences_any};
 use std::alloc::Global;
 

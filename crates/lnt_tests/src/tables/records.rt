@@ -7,7 +7,8 @@ ghost use Rattle.lnt_records.specs.Written.{IsOfVersion};
 
 use crate::samples::{Refusing, TABLE};
 use crate::tables::worked::{at, narrow, wide};
-use lnt_records::{Compared, WriteStop, compare, write_spans};
+use lnt_compare::{Compared, compare};
+use lnt_records::{WriteStop, write_spans};
 use lnt_spans::{Answer, Span, Version};
 use std::alloc::Global;
 

@@ -2,9 +2,9 @@
 use crate::samples::{PLAIN, Reader, Refusing, TABLE, failing, whole};
 use crate::tables::lines::{OPTIONS, STRINGS, lines_of};
 use crate::tables::worked::{at, narrow};
+use lnt_compare::TableRead;
 use lnt_io::Counted;
 use lnt_lines::{JudgedIndex, index_section};
-use lnt_records::TableRead;
 use lnt_spans::{Difference, Version};
 use lnt_table::{No, Stop, TableNo, Verdict, WriteStop, check, differences, write_table};
 use std::alloc::Global;

@@ -1,7 +1,7 @@
 use Rattle.std.proofs.Common.{◌∙◌}
 use Rattle.lnt_io.proofs.PrefixLaws.{so_stopped}
-use Rattle.lnt_paths.specs.PathStretches.{stretches_of}
-use Rattle.lnt_paths.proofs.CompletionLaws.{path_stretches_on}
+use Rattle.lnt_compare.specs.PathStretches.{stretches_of}
+use Rattle.lnt_compare.proofs.CompletionLaws.{path_stretches_on}
 use Rattle.lnt_answers.proofs.PathStretchLemmas.{answered_so}
 use Rattle.lnt_answers.proofs.ScopeLemmas.{all_printed, printed_more, printed_none, stopped_between, stopped_within}
 use Rattle.lnt_answers.proofs.stretches.print_path_differences.Goals as goal

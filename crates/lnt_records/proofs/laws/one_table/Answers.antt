@@ -1,7 +1,12 @@
+use Rattle.lnt_records.specs.PathTables.{by_path}
 use Rattle.lnt_records.specs.Table.{by_number}
-use Rattle.lnt_records.proofs.LawLemmas.{numbered}
+use Rattle.lnt_records.proofs.NumberLaws.{numbered}
+use Rattle.lnt_records.proofs.PathLaws.{pathed}
 use Rattle.lnt_records.proofs.TableLaws.{one_table}
 use Rattle.lnt_records.proofs.laws.one_table.Goals as goal
 
-pub returns : goal.returns
-returns c = one_table by_number numbered
+pub returns-clause-by_number : goal.returns-clause-by_number
+returns-clause-by_number c = one_table by_number numbered
+
+pub returns-clause-by_path : goal.returns-clause-by_path
+returns-clause-by_path c = one_table by_path pathed

@@ -1,7 +1,7 @@
 use Rattle.std.proofs.Common.{◌∙◌, ap, ◌++◌, ℕ, List}
 use Rattle.std.proofs.lemmas.Result.{on_ok_weaker}
-use Rattle.lnt_records.proofs.TextLemmas.{room_from}
-use Rattle.lnt_records.proofs.WriteLemmas.{line_put, on_added}
+use Rattle.lnt_records.proofs.LineLaws.{room_from}
+use Rattle.lnt_records.proofs.WriteLaws.{line_put, on_added}
 use Rattle.lnt_records.proofs.write.put_span.Goals as goal
 
 pub returns : goal.returns

@@ -1,6 +1,6 @@
 use Rattle.std.proofs.lemmas.Result.{on_err_weaker, on_ok_weaker}
 use Rattle.lnt_io.proofs.PrefixLaws.{so_stopped}
-use Rattle.lnt_records.proofs.WriteLemmas.{all_lines, begun_all, begun_more, begun_none, begun_until, line_more, no_span}
+use Rattle.lnt_records.proofs.WriteLaws.{all_lines, begun_all, begun_more, begun_none, begun_until, line_more, no_span}
 use Rattle.lnt_records.proofs.write.write_spans.Goals as goal
 
 pub loop-span-preserved : goal.loop-span-preserved

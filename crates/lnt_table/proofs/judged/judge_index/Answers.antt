@@ -2,9 +2,9 @@ use Rattle.std.proofs.Common.{arith, ap, length, length-append}
 use Rattle.std.proofs.lemmas.Option.{IfSome_then}
 use Rattle.std.proofs.lemmas.Result.{IfOk-weaker}
 use Rattle.lnt_records.specs.Written.{line_text}
-use Rattle.lnt_records.proofs.PassingLemmas.{few_passed, longer_from_start}
-use Rattle.lnt_records.proofs.StreamLemmas.{all_taken}
-use Rattle.lnt_paths.specs.PathTables.{path_column_names}
+use Rattle.lnt_compare.proofs.WindowLaws.{few_passed, longer_from_start}
+use Rattle.lnt_compare.proofs.StreamLaws.{all_taken}
+use Rattle.lnt_records.specs.PathTables.{path_column_names}
 use Rattle.lnt_table.proofs.JudgedLemmas.{begun_by_path, numbered_with}
 use Rattle.lnt_table.proofs.judged.judge_index.Goals as goal
 

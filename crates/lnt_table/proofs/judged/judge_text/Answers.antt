@@ -1,4 +1,4 @@
-use Rattle.lnt_records.proofs.StreamLemmas.{not_header}
+use Rattle.lnt_compare.proofs.StreamLaws.{not_header}
 use Rattle.lnt_table.proofs.JudgedLemmas.{numbered_with, pathed_with}
 use Rattle.lnt_table.proofs.judged.judge_text.Goals as goal
 

@@ -1,5 +1,5 @@
 use Rattle.lnt_sequences.specs.Sequences.{line_answer}
-use Rattle.lnt_records.proofs.GatherLemmas.{no_header_fault}
+use Rattle.lnt_compare.proofs.StreamLaws.{no_header_fault}
 use Rattle.lnt_table.proofs.stretches.differ_text.Goals as goal
 
 pub differ_records-requires : goal.differ_records-requires

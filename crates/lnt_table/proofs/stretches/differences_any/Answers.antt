@@ -1,9 +1,8 @@
 use Rattle.std.proofs.Common.{arith}
 use Rattle.std.proofs.lemmas.Result.{IfOk-weaker}
 use Rattle.lnt_sequences.specs.Sequences.{line_answer}
-use Rattle.lnt_records.proofs.GatherLemmas.{headed_in}
-use Rattle.lnt_records.proofs.PassingLemmas.{longer_from_start}
-use Rattle.lnt_records.proofs.StreamLemmas.{all_taken, if_compared}
+use Rattle.lnt_compare.proofs.StreamLaws.{all_taken, headed_in, if_compared}
+use Rattle.lnt_compare.proofs.WindowLaws.{longer_from_start}
 use Rattle.lnt_table.proofs.stretches.differences_any.Goals as goal
 
 pub differ_lines-requires-clause-spans : goal.differ_lines-requires-clause-spans

@@ -1,6 +1,6 @@
 use Rattle.std.proofs.Common.{◌∙◌}
 use Rattle.std.proofs.lemmas.Result.{on_err_weaker, on_ok_weaker}
-use Rattle.lnt_records.proofs.WrittenLaws.{whole_canonical}
+use Rattle.lnt_compare.proofs.WrittenLaws.{whole_canonical}
 use Rattle.lnt_table.proofs.CheckLemmas.{told_so}
 use Rattle.lnt_table.proofs.write.write_index.Goals as goal
 

@@ -1,0 +1,94 @@
+-- Joined spans that begin or end inside an instruction.
+use Rattle.std.proofs.Common.{◌≡◌, ◌≢◌, suc, List, [], ◌∷◌, ◌++◌, map, inl, inr, Some, sym, subst, arith}
+use Rattle.std.specs.List.{AllByRecursion, Contains}
+use Rattle.lnt_spans.specs.declared.answer.Answer.{Answer}
+use Rattle.lnt_spans.specs.declared.position.Position.{Position}
+use Rattle.lnt_spans.specs.declared.span.Span.{Span}
+use Rattle.lnt_spans.specs.Coming.{GivesFirstSpan}
+use Rattle.lnt_spans.specs.Positions.{IsAtMost}
+use Rattle.lnt_spans.proofs.ComingLaws.{HasGiven}
+use Rattle.lnt_spans.proofs.PositionLaws.{at_most_itself, at_most_trans, below_is_at_most}
+use Rattle.lnt_spans.specs.Instructions.{IsOfInstructions}
+use Rattle.lnt_compare.specs.Borders.{IsLeastOperation, path_borders}
+use Rattle.lnt_compare.specs.Joining.{IsFirstOperation, tell_span}
+use Rattle.lnt_records.specs.PathAnswers.{PathAnswer}
+use Rattle.lnt_records.specs.PathSpans.{PathSpan, StandInOrder}
+use Rattle.lnt_compare.proofs.PathSpanLemmas.{first_holds, rest_in_order}
+
+-- ---- found in turn
+
+past : (done rest : List Span) (p : Position) → AllByRecursion IsOfInstructions done → IsFirstOperation p rest
+    → IsFirstOperation p (done ++ rest)
+past [] rest p h f = f
+past (s ∷ done) rest p h f = inr (inr (h.0, past done rest p h.1 f))
+
+pub found : (joined given : List Span) (span : Span) (p : Position) (Left New : List Span → Type 0) → HasGiven joined given Left
+    → ((spans : List Span) → Left spans → GivesFirstSpan New spans (Some span))
+    → AllByRecursion IsOfInstructions given → ((more : List Span) → IsFirstOperation p (span ∷ more)) → IsFirstOperation p joined
+found joined given span p Left New h gives none first = by h.rest h.list_is (gives h.rest h.left)
+  where
+    by : (rest : List Span) → joined ≡ given ++ rest → GivesFirstSpan New rest (Some span) → IsFirstOperation p joined
+    by [] e g = absurd g
+    by (s ∷ more) e g = subst (IsFirstOperation p) (sym e)
+        (past given (s ∷ more) p none (subst (λ (t : Span). IsFirstOperation p (t ∷ more)) g.0 (first more)))
+
+pub none_more : (given : List Span) (span : Span) → AllByRecursion IsOfInstructions given → IsOfInstructions span
+    → AllByRecursion IsOfInstructions (given ++ span ∷ [])
+none_more [] span h one = (one, tt)
+none_more (s ∷ given) span h one = (h.0, none_more given span h.1 one)
+
+-- ---- the least one
+
+abbrev IsAfter : Position → Position → Type 0
+IsAfter p q = q.op ≢ 0 → IsAtMost p q
+
+abbrev FirstIsAfter : Position → List PathSpan → Type 0
+FirstIsAfter p [] = Unit {0}
+FirstIsAfter p (s ∷ rest) = IsAtMost p s.low
+
+next_after : (p : Position) (s : PathSpan) (rest : List PathSpan) → StandInOrder (s ∷ rest) → IsAtMost p s.high → FirstIsAfter p rest
+next_after p s [] o h = tt
+next_after p s (t ∷ rest) o h = at_most_trans h o.1
+
+all_after : (p : Position) (list : List PathSpan) → StandInOrder list → FirstIsAfter p list
+    → AllByRecursion (IsAfter p) (path_borders list)
+all_after p [] o h = tt
+all_after p (s ∷ rest) o h =
+    let end = at_most_trans h (below_is_at_most (first_holds s rest o)) in
+    (λ op. h, (λ op. end, all_after p rest (rest_in_order s rest o) (next_after p s rest o end)))
+
+further : (xs : List Position) (x y p : Position) → Contains xs p → Contains (x ∷ y ∷ xs) p
+further xs x y p (k, lt, same) = (suc (suc k), omega (arith, lt), same)
+
+pub first_least : (tell : Answer → PathAnswer) (joined : List Span) (p : Position) → StandInOrder (map (tell_span tell) joined)
+    → IsFirstOperation p joined → IsLeastOperation (map (tell_span tell) joined) p
+first_least tell [] p o f = absurd f
+first_least tell (s ∷ rest) p o (inl f) = record {
+  border = (0, omega arith, sym f.1);
+  op = subst (λ (q : Position). q.op ≢ 0) (sym f.1) f.0;
+  least = subst (λ (q : Position). AllByRecursion (IsAfter q) (path_borders (map (tell_span tell) (s ∷ rest)))) (sym f.1)
+      (all_after s.low (map (tell_span tell) (s ∷ rest)) o (at_most_itself s.low));
+}
+first_least tell (s ∷ rest) p o (inr (inl f)) =
+    let list : List PathSpan = map (tell_span tell) rest in
+    let back = all_after s.high list (rest_in_order (tell_span tell s) list o)
+    (next_after s.high (tell_span tell s) list o (at_most_itself s.high)) in
+    record {
+      border = (1, omega arith, sym f.2);
+      op = subst (λ (q : Position). q.op ≢ 0) (sym f.2) f.1;
+      least = (
+        λ op. absurd (op f.0),
+        (
+          λ op. subst (λ (q : Position). IsAtMost q s.high) (sym f.2) (at_most_itself s.high),
+          subst (λ (q : Position). AllByRecursion (IsAfter q) (path_borders list)) (sym f.2) back,
+        ),
+      );
+    }
+first_least tell (s ∷ rest) p o (inr (inr f)) =
+    let list : List PathSpan = map (tell_span tell) rest in
+    let more = first_least tell rest p (rest_in_order (tell_span tell s) list o) f.1 in
+    record {
+      border = further (path_borders list) s.low s.high p more.border;
+      op = more.op;
+      least = (λ op. absurd (op f.0.0), (λ op. absurd (op f.0.1), more.least));
+    }

@@ -1,0 +1,134 @@
+-- Laws of what comparisons of tables of any kind come to.
+use Rattle.std.proofs.Common.{◌≡◌, ◌∙◌, ℕ, List, Option, None, Some, ap, inl, inr, refl, subst, sym}
+use Rattle.std.specs.Prelude.{MatchOption}
+use Rattle.lnt_spans.specs.declared.position.Position.{Position}
+use Rattle.lnt_spans.specs.AnyStretches.{Stretch, stretch_at}
+use Rattle.lnt_spans.specs.Differences.{IsFirstDifference}
+use Rattle.lnt_spans.specs.Merged.{AreFound, first_of}
+use Rattle.lnt_spans.specs.PartialLaws.{AnswerAlike}
+use Rattle.lnt_spans.specs.Positions.{IsBelow}
+use Rattle.lnt_spans.proofs.FoundLaws.{found_so}
+use Rattle.lnt_spans.proofs.PositionLaws.{order_three}
+use Rattle.lnt_compare.specs.declared.outcome.Compared.{Compared}
+use Rattle.lnt_compare.specs.declared.outcome.Compared.TheVariants.{Same, Fault, Differs}
+use Rattle.lnt_compare.specs.Outcomes.{IsOutcomeOf, Outcome, compared_of, whole_of}
+use Rattle.lnt_compare.specs.declared.outcome.TableRead.TheVariants as outcome
+use Rattle.lnt_compare.specs.Comparisons.{IsComparisonOf, IsTableWhere, TableKind}
+use Rattle.lnt_compare.specs.Laws.{OneComparison}
+use Rattle.lnt_records.proofs.TableLaws.{FormatLaws, no_fault, one_fault, one_table}
+
+-- ---- the first difference
+
+not_lower : {X : Type 0} (by_section by_table : Position → Option X) (one other : Stretch X) → IsFirstDifference by_section by_table one
+    → IsFirstDifference by_section by_table other → IsBelow one.position other.position → ⊥
+not_lower by_section by_table one other d e below = d.differ (d.table ∙ sym (e.least one.position below) ∙ sym d.section)
+
+pub one_difference : {X : Type 0} (by_section by_table : Position → Option X) (one other : Stretch X)
+    → IsFirstDifference by_section by_table one → IsFirstDifference by_section by_table other → one ≡ other
+one_difference {X} by_section by_table one other d e =
+    let same : one.position ≡ other.position = elim (order_three one.position other.position) [
+      | inl below ↦ absurd (not_lower by_section by_table one other d e below)
+      | inr (inl is) ↦ is
+      | inr (inr above) ↦ absurd (not_lower by_section by_table other one e d above)
+    ] in
+    ap (λ (p : Position). stretch_at p one.by_section one.by_table) same
+    ∙ ap (λ (o : Option X). stretch_at other.position o one.by_table) (d.section ∙ ap by_section same ∙ sym e.section)
+    ∙ ap (stretch_at other.position other.by_section) (d.table ∙ ap by_table same ∙ sym e.table)
+
+difference_so : {X : Type 0} (by_table one other : Position → Option X) (first : Stretch X) → AnswerAlike one other
+    → IsFirstDifference one by_table first → IsFirstDifference other by_table first
+difference_so by_table one other first same d = record {
+  section = d.section ∙ same first.position;
+  table = d.table;
+  differ = d.differ;
+  least = λ p below. sym (same p) ∙ d.least p below;
+}
+
+-- ---- what is so of a table and of a section's answers
+
+-- what follows from it, for what is known to be answered
+pub where_so : {V X Y D : Type 0} (kind : TableKind V X Y D) (f g : V → Position → Option Y) (bytes : List ℕ)
+    (P Q : (Position → Option Y) → (Position → Option Y) → Type 0)
+    → ((version : V) (by_table : Position → Option Y) → P (f version) by_table → Q (g version) by_table)
+    → IsTableWhere kind.format kind.answers f bytes P → IsTableWhere kind.format kind.answers g bytes Q
+where_so kind f g bytes P Q step h =
+    record { version = h.version; table = h.table; is_table = h.is_table; so = step h.version (kind.answers h.table) h.so }
+
+-- what follows from both of two such facts, as bytes are one table
+where_both : {V X Y D : Type 0} (kind : TableKind V X Y D) → FormatLaws kind.format → (bytes : List ℕ) (section : V → Position → Option Y)
+    (P Q : (Position → Option Y) → (Position → Option Y) → Type 0) (R : Type 0)
+    → ((by_section by_table : Position → Option Y) → P by_section by_table → Q by_section by_table → R)
+    → IsTableWhere kind.format kind.answers section bytes P → IsTableWhere kind.format kind.answers section bytes Q → R
+where_both {V} {X} kind laws bytes section P Q R step h k =
+    let tables = one_table kind.format laws bytes h.version k.version h.table k.table h.is_table k.is_table in
+    let in_version : P (section k.version) (kind.answers h.table) =
+    subst (λ (v : V). P (section v) (kind.answers h.table)) tables.0 h.so in
+    step (section k.version) (kind.answers k.table)
+    (subst (λ (xs : List X). P (section k.version) (kind.answers xs)) tables.1 in_version) k.so
+
+-- ---- sections with the same answers
+
+pub outcome_so : {V X Y D : Type 0} (kind : TableKind V X Y D) (bytes : List ℕ) (f g : V → Position → Option Y) (told : Outcome D)
+    → ((version : V) → AnswerAlike (f version) (g version)) → IsOutcomeOf kind f bytes told → IsOutcomeOf kind g bytes told
+outcome_so kind bytes f g (outcome.Fault told) same h = h
+outcome_so kind bytes f g (outcome.Table found) same h =
+    where_so kind f g bytes (λ by_section by_table. AreFound kind.stretch by_section by_table found)
+    (λ by_section by_table. AreFound kind.stretch by_section by_table found)
+    (λ version by_table is. found_so kind.stretch by_table (f version) (g version) found (same version) is) h
+
+pub comparison_so : {V X Y D : Type 0} (kind : TableKind V X Y D) (bytes : List ℕ) (f g : V → Position → Option Y) (compared : Compared D)
+    → ((version : V) → AnswerAlike (f version) (g version)) → IsComparisonOf kind f bytes compared → IsComparisonOf kind g bytes compared
+comparison_so kind bytes f g Same same h =
+    where_so kind f g bytes (λ by_section by_table. AnswerAlike by_section by_table)
+    (λ by_section by_table. AnswerAlike by_section by_table) (λ version by_table agree p. sym (same version p) ∙ agree p) h
+comparison_so kind bytes f g (Fault told) same h = h
+comparison_so kind bytes f g (Differs difference) same h =
+    where_so kind f g bytes (λ by_section by_table. IsFirstDifference by_section by_table (kind.stretch difference))
+    (λ by_section by_table. IsFirstDifference by_section by_table (kind.stretch difference))
+    (λ version by_table first. difference_so by_table (f version) (g version) (kind.stretch difference) (same version) first) h
+
+-- ---- an outcome at all positions
+
+pub compared_whole : {V X Y D : Type 0} (kind : TableKind V X Y D) (bytes : List ℕ) (section : V → Position → Option Y)
+    (told : Outcome D) → IsOutcomeOf kind section bytes told → IsComparisonOf kind section bytes (whole_of told)
+compared_whole kind bytes section (outcome.Fault told) h = h
+compared_whole {V} {X} {Y} {D} kind bytes section (outcome.Table found) h = by_first (first_of found) h.so.first
+  where
+    by_first : (first : Option D) → MatchOption first (AnswerAlike (section h.version) (kind.answers h.table))
+        (λ difference. IsFirstDifference (section h.version) (kind.answers h.table) (kind.stretch difference))
+        → IsComparisonOf kind section bytes (compared_of first)
+    by_first None agree = record { version = h.version; table = h.table; is_table = h.is_table; so = agree }
+    by_first (Some difference) least = record { version = h.version; table = h.table; is_table = h.is_table; so = least }
+
+-- ---- one comparison
+
+no_difference : {V X Y D : Type 0} (kind : TableKind V X Y D) → FormatLaws kind.format → (bytes : List ℕ)
+    (section : V → Position → Option Y) (difference : D) → IsComparisonOf kind section bytes Same
+    → IsComparisonOf kind section bytes (Differs difference) → ⊥
+no_difference kind laws bytes section difference h d =
+    where_both kind laws bytes section (λ by_section by_table. AnswerAlike by_section by_table)
+    (λ by_section by_table. IsFirstDifference by_section by_table (kind.stretch difference)) ⊥
+    (λ by_section by_table agree first.
+    first.differ (first.table ∙ sym (agree (kind.stretch difference).position) ∙ sym first.section)) h d
+
+two_differences : {V X Y D : Type 0} (kind : TableKind V X Y D) → FormatLaws kind.format → (bytes : List ℕ)
+    (section : V → Position → Option Y) (a b : D) → IsComparisonOf kind section bytes (Differs a)
+    → IsComparisonOf kind section bytes (Differs b) → kind.stretch a ≡ kind.stretch b
+two_differences kind laws bytes section a b d e =
+    where_both kind laws bytes section (λ by_section by_table. IsFirstDifference by_section by_table (kind.stretch a))
+    (λ by_section by_table. IsFirstDifference by_section by_table (kind.stretch b)) (kind.stretch a ≡ kind.stretch b)
+    (λ by_section by_table one other. one_difference by_section by_table (kind.stretch a) (kind.stretch b) one other) d e
+
+-- All true comparisons of some bytes with a section say the same.
+pub one_comparison : {V X Y D : Type 0} (kind : TableKind V X Y D) → FormatLaws kind.format → OneComparison kind
+one_comparison kind laws bytes section Same Same h k = refl
+one_comparison kind laws bytes section Same (Fault told) h k = absurd (no_fault kind.format laws bytes h.version h.table told h.is_table k)
+one_comparison kind laws bytes section Same (Differs b) h k = absurd (no_difference kind laws bytes section b h k)
+one_comparison kind laws bytes section (Fault told) Same h k = absurd (no_fault kind.format laws bytes k.version k.table told k.is_table h)
+one_comparison kind laws bytes section (Fault told) (Fault other) h k = ap Fault (one_fault kind.format laws bytes told other h k)
+one_comparison kind laws bytes section (Fault told) (Differs b) h k =
+    absurd (no_fault kind.format laws bytes k.version k.table told k.is_table h)
+one_comparison kind laws bytes section (Differs a) Same h k = absurd (no_difference kind laws bytes section a k h)
+one_comparison kind laws bytes section (Differs a) (Fault other) h k =
+    absurd (no_fault kind.format laws bytes h.version h.table other h.is_table k)
+one_comparison kind laws bytes section (Differs a) (Differs b) h k = ap Differs (two_differences kind laws bytes section a b h k)

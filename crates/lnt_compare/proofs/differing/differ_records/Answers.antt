@@ -1,0 +1,44 @@
+use Rattle.std.proofs.Common.{[], map, refl}
+use Rattle.std.proofs.lemmas.Result.{IfOk-weaker}
+use Rattle.lnt_spans.specs.Spans.{span_answer, span_in_version}
+use Rattle.lnt_compare.proofs.GatherLemmas.{all_to_come, gathered_is, judges_none, started}
+use Rattle.lnt_compare.proofs.differing.differ_records.Goals as goal
+
+pub gather_after-gathered-requires-clause-judged : goal.gather_after-gathered-requires-clause-judged
+gather_after-gathered-requires-clause-judged g c = (
+  [],
+  [],
+  (judges_none _ c.new-merge.result c.in-Some.version c.new-merge.ensures.version (c.new-merge.ensures.compares [] c.of.ensures tt)).0,
+)
+
+pub returns-clause-differing : goal.returns-clause-differing
+returns-clause-differing g c =
+    let version = c.in-Some.version in
+    let j = judges_none _ c.new-merge.result version c.new-merge.ensures.version (c.new-merge.ensures.compares [] c.of.ensures tt) in
+    IfOk-weaker c.differ_after.result _ _
+    (λ differing h list section coming order answers.
+    h c.args.text.now section [] (map (span_in_version version) list)
+    (gathered_is _ (record { merge = c.new-merge.result; version = version; count = 1 }) [] [] [] c.args.text.now version c.args.text.now
+    c.gather_after-gathered.result j.0 j.1 (λ more after rest r. r) c.gather_after-gathered.ensures)
+    (all_to_come version list section order answers) (list, coming, refl))
+    c.differ_after.ensures
+
+pub returns-clause-started : goal.returns-clause-started
+returns-clause-started g c =
+    let version = c.in-Some.version in
+    let known = c.requires in
+    let j = judges_none _ c.new-merge.result version c.new-merge.ensures.version (c.new-merge.ensures.compares [] c.of.ensures tt) in
+    IfOk-weaker c.differ_after.result _ _
+    (λ differing h.
+    started _ _ c.args.text.now (span_answer known.0) differing
+    (h c.args.text.now (span_answer known.0) [] (map (span_in_version version) known.0)
+    (gathered_is _ (record { merge = c.new-merge.result; version = version; count = 1 }) [] [] [] c.args.text.now version c.args.text.now
+    c.gather_after-gathered.result j.0 j.1 (λ more after rest r. r) c.gather_after-gathered.ensures)
+    (all_to_come version known.0 (span_answer known.0) known.2 (λ p. refl)) (known.0, known.1, refl)))
+    c.differ_after.ensures
+
+pub gather_after-gathered-requires-clause-begins : goal.gather_after-gathered-requires-clause-begins
+gather_after-gathered-requires-clause-begins g c = rw c.in-Some.is at c.in_ok-version.ensures
+
+pub returns-in_default-clause-differing : goal.returns-in_default-clause-differing
+returns-in_default-clause-differing g c list section coming order answers = rw c.in_default.is at c.in_ok-version.ensures

@@ -1,0 +1,17 @@
+pub mod Borders
+pub mod Canonical
+pub mod Comparisons
+pub mod Differing
+pub mod Held
+pub mod Joining
+pub mod Laws
+pub mod Merging
+pub mod Outcomes
+pub mod Passing
+pub mod PathOutcomes
+pub mod PathPassing
+pub mod PathStretches
+pub mod Progress
+pub mod Remaining
+pub mod Stretching
+pub mod TableRuns

@@ -1,0 +1,28 @@
+-- All stretches at which a section and a table by path answer differently, each as a difference: its first position, and the
+-- two answers that stay the same from there on.
+use Rattle.std.specs.Prelude.{List, Option, map}
+use Rattle.std.specs.Option.{option_map}
+use Rattle.lnt_compare.specs.declared.by_path.answer.AnswerByPath.{AnswerByPath}
+use Rattle.lnt_records.specs.PathAnswers.{PathAnswer}
+use Rattle.lnt_spans.specs.declared.position.Position.{Position}
+use Rattle.lnt_spans.specs.AnyStretches.{AreAllStretches, Stretch}
+use Rattle.lnt_compare.specs.declared.by_path.answer.DifferenceByPath.{DifferenceByPath}
+
+-- the value of an answer that is held
+abbrev pub told_path_answer : AnswerByPath → PathAnswer
+told_path_answer answer = record { path = answer.path.items; line = answer.line; column = answer.column }
+
+-- a difference as a stretch
+abbrev pub stretch_of : DifferenceByPath → Stretch PathAnswer
+stretch_of difference = record {
+  position = difference.position;
+  by_section = option_map told_path_answer difference.by_section;
+  by_table = option_map told_path_answer difference.by_table;
+}
+
+abbrev pub stretches_of : List DifferenceByPath → List (Stretch PathAnswer)
+stretches_of differences = map stretch_of differences
+
+-- The differences are exactly the stretches, in ascending order.
+abbrev pub ArePathStretches : (Position → Option PathAnswer) → (Position → Option PathAnswer) → List DifferenceByPath → Type 0
+ArePathStretches by_section by_table differences = AreAllStretches by_section by_table (stretches_of differences)

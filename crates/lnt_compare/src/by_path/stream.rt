@@ -1,0 +1,55 @@
+//! Compares a table by path with the spans of a section, both as they come.
+ghost use Rattle.std.specs.Prelude.{◌≡◌, ◌≢◌, ◌+◌, ◌-◌, ◌^◌, ◌<◌, ◌++◌, List, length, IfOk, IfSome, IsErrOf, IsTrue};
+ghost use Rattle.lnt_io.specs.Pulling.{HasMoreThan};
+ghost use Rattle.lnt_records.specs.Written.{line_text};
+ghost use Rattle.lnt_spans.specs.declared.span.Span as spec;
+ghost use Rattle.lnt_spans.specs.Spans.{AreInOrder};
+ghost use Rattle.lnt_records.specs.PathAnswers.{spans_by_path};
+ghost use Rattle.lnt_compare.specs.PathOutcomes.{IsPathOutcome};
+ghost use Rattle.lnt_records.specs.PathTables.{path_column_names};
+
+use crate::by_path::answer::DifferenceByPath;
+use crate::by_path::canonical::pass_spans;
+use crate::by_path::comparison::{PathComparison, compare_text};
+use crate::outcome::Outcome;
+use crate::window::Window;
+use lnt_io::{Source, Stop};
+use lnt_records::{PathVersion, Paths, TableVersion, told};
+use lnt_spans::SpanSource;
+use std::alloc::Global;
+
+/// Compares a table by path of this version with the spans of a section, as both come. The header, a line of its own, was passed;
+/// `window` has the bytes after it that were taken from the source so far.
+///
+/// The outcome is that of `compare_by_path` for all bytes of the table. As long as its lines are those that `write_by_path` writes
+/// for the spans, they are compared as text and not parsed, and neither the table nor the spans are held. The bytes from the first
+/// other line on are held all at once.
+///
+/// The caller makes sure that the spans are in order and none is empty, that the number of the source's failures is below `u64::MAX`,
+/// and that the table has fewer than 2^64 bytes as far as the source may give them. Stops with `Memory`; with `Read` only if the
+/// source failed; and with `TooLong` only if the source has more bytes than it may give.
+pub fn compare_lines_by_path<S: SpanSource + Drop, P: Paths, T: Source>(
+    alloc: Global,
+    table: &mut T,
+    mut window: Window,
+    version: PathVersion,
+    spans: S,
+    paths: &P,
+) -> Result<Outcome<DifferenceByPath>, Stop>
+    requires failures { T.failures table.old < 2 ^ 64 - 1 }
+    requires few { length (line_text (path_column_names version)) + length window + T.left table.old < 2 ^ 64 }
+    requires spans { (list : List spec.Span) × S.to_come spans list × AreInOrder list }
+    ensures ok { IfOk result (λ outcome. (list : List spec.Span) → S.to_come spans list → AreInOrder list
+        → IfSome (T.remaining table.old) (λ more. IsPathOutcome (line_text (path_column_names version) ++ (window ++ more))
+        (λ version. spans_by_path version (P.bytes_of paths.now) list) outcome)) }
+    ensures read { IsErrOf result Stop.Read → T.failures table.new ≡ T.failures table.old + 1 }
+    ensures no_failure { result ≢ Err Stop.Read → T.failures table.new ≡ T.failures table.old }
+    ensures too_long { IsErrOf result Stop.TooLong → IsTrue (T.too_long table.new) }
+    ensures more { IsErrOf result Stop.TooLong → HasMoreThan (T.remaining table.old) (T.left table.old) }
+{
+    let passed = pass_spans(alloc, spans, paths, version, table, &mut window)?;
+    let text = window.rest_after(alloc, version.header_line(), table)?;
+    let made = PathComparison::past(alloc, passed.spans, passed.end, passed.count);
+    let comparison = told(made)?;
+    told(compare_text(alloc, &text, version, comparison, paths))
+}

@@ -1,0 +1,28 @@
+//! Compares address tables with the spans of a section, by number and by path, and writes the one shortest table for the spans of
+//! a source.
+#![tactic(auto)]
+
+mod by_path;
+mod canonical;
+mod comparison;
+mod differing;
+mod gather;
+pub mod laws;
+mod lines;
+mod outcome;
+mod passing;
+mod remaining;
+mod stream;
+mod window;
+
+pub use by_path::{
+    AnswerByPath, DifferenceByPath, DifferencesByPath, HeldSpan, HeldTable, PathTable,
+    compare_by_path, compare_lines_by_path, hold_table, write_by_path, write_instructions_by_path,
+};
+pub use canonical::write_canonical;
+pub use comparison::{compare, compare_records};
+pub use differing::{Differing, compare_all, differ_lines, differ_records};
+pub use outcome::{Compared, Outcome, TableRead};
+pub use remaining::Remaining;
+pub use stream::{TableStart, compare_lines, compare_table};
+pub use window::{Window, pass_header};

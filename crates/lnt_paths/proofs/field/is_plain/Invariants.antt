@@ -1,7 +1,0 @@
-use Rattle.std.specs.Prelude.{take}
-use Rattle.std.specs.List.{All}
-use Rattle.lnt_paths.specs.PathLines.{IsPlainByte}
-use Rattle.lnt_paths.proofs.field.is_plain.Given as goal
-
-abbrev pub invariant-loop-byte : goal.invariant-loop-byte
-invariant-loop-byte l = All IsPlainByte (take l.byte-index l.field)

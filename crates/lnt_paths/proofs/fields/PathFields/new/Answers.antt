@@ -1,6 +1,0 @@
-use Rattle.std.proofs.Common.{rules}
-use Rattle.lnt_paths.specs.PathLines.{path_field}
-use Rattle.lnt_paths.proofs.fields.PathFields.new.Goals as goal
-
-pub returns : goal.returns
-returns c path = record { texts = c.in_ok-texts.ensures (path_field path); pairs = search rules }

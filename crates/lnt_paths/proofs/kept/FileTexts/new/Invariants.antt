@@ -1,7 +1,0 @@
-use Rattle.std.specs.Prelude.{ℕ, List, IfSome}
-use Rattle.std.specs.List.{All}
-use Rattle.lnt_paths.specs.Compared.{IsTextOf}
-use Rattle.lnt_paths.proofs.kept.FileTexts.new.Given as goal
-
-abbrev pub invariant-loop : goal.invariant-loop
-invariant-loop l = (text_of : ℕ → ℕ → List ℕ) → All (λ slot. IfSome slot (IsTextOf text_of)) l.slots.items

@@ -1,7 +1,0 @@
-use Rattle.lnt_records.proofs.TableLaws.{one_fault}
-use Rattle.lnt_paths.specs.PathTables.{by_path}
-use Rattle.lnt_paths.proofs.OneTableLemmas.{pathed}
-use Rattle.lnt_paths.proofs.laws.one_fault.Goals as goal
-
-pub returns : goal.returns
-returns c = one_fault by_path pathed

@@ -1,7 +1,0 @@
-use Rattle.std.specs.Prelude.{take}
-use Rattle.std.specs.List.{All}
-use Rattle.lnt_paths.specs.PathLines.{IsPlainByte}
-use Rattle.lnt_paths.proofs.plain.plain_field.Given as goal
-
-abbrev pub invariant-loop-i : goal.invariant-loop-i
-invariant-loop-i l = All IsPlainByte (take l.i l.text)

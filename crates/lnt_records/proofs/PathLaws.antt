@@ -1,0 +1,168 @@
+-- The laws of tables by path.
+use Rattle.std.proofs.Common.{arith, ◌≡◌, ◌∙◌, ℕ, zero, suc, ◌<◌, ◌≤◌, List, [], ◌∷◌, ◌++◌, Option, Some, None, get_or, length, refl, sym}
+use Rattle.std.proofs.Common.{ap, subst, ⊎_elim}
+use Rattle.std.proofs.lemmas.Bool.{cases_lt}
+use Rattle.lnt_spans.specs.declared.position.Position.{Position}
+use Rattle.lnt_spans.specs.Positions.{IsAtMost, IsBelow}
+use Rattle.lnt_records.specs.PathSpans.{PathSpan, StandInOrder, path_end, whole}
+use Rattle.lnt_text.specs.Digits.{IsAddress, IsDecimal}
+use Rattle.lnt_text.proofs.TextLaws.{one_address_number, one_decimal_number}
+use Rattle.lnt_records.proofs.TableLaws as any
+use Rattle.lnt_records.proofs.TableLaws.{FormatLaws, table_order}
+use Rattle.lnt_records.specs.declared.fault.TableFault.{TableFault}
+use Rattle.lnt_records.specs.Reading.{IsNarrow, IsReadAs}
+use Rattle.lnt_records.specs.Table.{BeginsWith, Fields, IsOfColumn}
+use Rattle.lnt_records.specs.declared.by_path.version.PathVersion.{PathVersion}
+use Rattle.lnt_records.specs.declared.by_path.version.PathVersion.TheVariants.{Four, Three}
+use Rattle.lnt_records.specs.PathAnswers.{PathAnswer}
+use Rattle.lnt_records.specs.PathFaults.{IsFaultyRecord, IsPathFault}
+use Rattle.lnt_records.specs.PathTables.{IsPathRecord, IsPathTable, SaysColumn, SaysPath, by_path, path_column_count, path_column_names}
+use Rattle.lnt_records.specs.PathTables.{path_kinds}
+use Rattle.lnt_records.specs.declared.fault.TableFault.TheVariants as fault
+use Rattle.lnt_records.specs.declared.by_path.record.PathRecord.{PathRecord}
+use Rattle.lnt_records.specs.PathRecords.{record_answer, record_span}
+
+pub origin_first : (p : Position) → IsAtMost (whole 0) p
+origin_first p = record { address = omega arith; op = λ e. omega arith }
+
+-- ---- a record is of one span
+
+one_column : (version : PathVersion) (fields : Fields) (m n : Option ℕ) → SaysColumn IsDecimal version fields m
+    → SaysColumn IsDecimal version fields n → m ≡ n
+one_column Three fields None n a b = absurd a
+one_column Three fields (Some m) None a b = absurd b
+one_column Three fields (Some m) (Some n) a b = ap Some (one_decimal_number _ m n a b)
+one_column Four fields m n a b = a ∙ sym b
+
+make : ℕ → ℕ → ℕ → ℕ → List ℕ → ℕ → Option ℕ → PathSpan
+make a b c d path line column =
+    record {
+      low = record { address = a; op = b };
+      high = record { address = c; op = d };
+      answer = record { path = path; line = line; column = column };
+    }
+
+made : (s : PathSpan) → make s.low.address s.low.op s.high.address s.high.op s.answer.path s.answer.line s.answer.column ≡ s
+unfolding make
+made s = refl
+
+one_span : (version : PathVersion) (fields : Fields) (s t : PathSpan) → IsPathRecord version fields s → IsPathRecord version fields t
+    → s ≡ t
+one_span version fields s t a b =
+    let low = one_address_number _ _ _ a.says.low_is b.says.low_is in
+    let low_op = a.low_op ∙ sym b.low_op in
+    let high = one_address_number _ _ _ a.says.high_is b.says.high_is in
+    let high_op = a.high_op ∙ sym b.high_op in
+    let path = sym a.says.path ∙ b.says.path in
+    let line = one_decimal_number _ _ _ a.says.line b.says.line in
+    let column = one_column version fields _ _ a.says.column b.says.column in
+    let left = made s in
+    let right = made t in
+    cc
+
+-- ---- each column of it is of its kind
+
+column_sound : (version : PathVersion) (fields : Fields) (column : Option ℕ) → SaysColumn IsDecimal version fields column
+    → 4 < path_column_count version → (n : ℕ) × IsDecimal (get_or fields 4 []) n
+column_sound Three fields None s lt = absurd s
+column_sound Three fields (Some column) s lt = (column, s)
+column_sound Four fields column s lt = absurd (omega (arith, lt))
+
+few_columns : (version : PathVersion) (i : ℕ) → i < path_column_count version → i < 5
+few_columns Three i lt = lt
+few_columns Four i lt = omega (arith, lt)
+
+sound_field : (version : PathVersion) (fields : Fields) (span : PathSpan) → IsPathRecord version fields span → (i : ℕ)
+    → i < path_column_count version → IsOfColumn path_kinds fields i
+sound_field version fields span s zero lt = (span.low.address, s.says.low_is)
+sound_field version fields span s (suc zero) lt = (span.high.address, s.says.high_is)
+sound_field version fields span s (suc (suc zero)) lt = tt
+sound_field version fields span s (suc (suc (suc zero))) lt = (span.answer.line, s.says.line)
+sound_field version fields span s (suc (suc (suc (suc zero)))) lt = column_sound version fields span.answer.column s.says.column lt
+sound_field version fields span s (suc (suc (suc (suc (suc i))))) lt = absurd (omega (arith, few_columns version _ lt))
+
+-- ---- one table
+
+one_version : (v w : PathVersion) → path_column_names v ≡ path_column_names w → v ≡ w
+one_version Three Three e = refl
+one_version Four Four e = refl
+one_version Three Four e = let lengths : 5 ≡ 4 = ap length e in absurd (omega (arith, lengths))
+one_version Four Three e = let lengths : 4 ≡ 5 = ap length e in absurd (omega (arith, lengths))
+
+few_names : (version : PathVersion) → path_column_count version ≤ 11
+few_names Three = omega arith
+few_names Four = omega arith
+
+prefix_in_order : (xs ys : List PathSpan) → StandInOrder (xs ++ ys) → StandInOrder xs
+prefix_in_order [] ys h = tt
+prefix_in_order (x ∷ []) [] h = h
+prefix_in_order (x ∷ []) (y ∷ ys) h = h.0
+prefix_in_order (x ∷ next ∷ xs) ys h = (h.0, h.1, prefix_in_order (next ∷ xs) ys h.2)
+
+pub pathed : FormatLaws by_path
+pathed = record {
+  one_version = one_version;
+  narrow = few_names;
+  one_span = one_span;
+  count = λ version fields span says. says.says.count;
+  sound = sound_field;
+  prefix = prefix_in_order;
+}
+
+pub says_narrow : (version : PathVersion) (fields : Fields) (low high : ℕ) (answer : PathAnswer)
+    → SaysPath IsAddress IsDecimal version fields low high answer → IsNarrow fields
+says_narrow version fields low high answer s = let few = few_names version in omega (arith, few, s.count)
+
+-- the fault of a record, as `TakesRecords` tells it
+pub path_refused : (version : PathVersion) (records : List Fields) (table : List PathSpan) (fields : Fields) (told : TableFault)
+    → IsPathTable version records table → IsFaultyRecord version table (length records) fields told → (whole : Fields) (bytes : List ℕ)
+    → IsReadAs fields whole → BeginsWith bytes (records ++ whole ∷ []) → IsPathFault bytes told
+path_refused = any.refused by_path pathed
+
+-- ---- the order
+
+order_push : (table : List PathSpan) (span : PathSpan) → StandInOrder table → IsAtMost (path_end table) span.low
+    → IsBelow span.low span.high
+    → StandInOrder (table ++ span ∷ [])
+order_push [] span o le lt = lt
+order_push (r ∷ []) span o le lt = (o, le, lt)
+order_push (r ∷ next ∷ table) span o le lt = (o.0, o.1, order_push (next ∷ table) span o.2 le lt)
+
+order_pushed : (table : List PathSpan) (span : PathSpan) → StandInOrder (table ++ span ∷ [])
+    → IsAtMost (path_end table) span.low × IsBelow span.low span.high
+order_pushed [] span o = (origin_first span.low, o)
+order_pushed (r ∷ []) span o = (o.1, o.2)
+order_pushed (r ∷ next ∷ table) span o = order_pushed (next ∷ table) span o.2
+
+holds_some : (low high : ℕ) → IsBelow (whole low) (whole high) → low < high
+holds_some low high b = ⊎_elim (λ (h : low < high). h) (λ (h : high ≤ low). absurd (let le = b.address in
+    let z = b.op (omega (arith, h, le)) in omega (arith, z))) (cases_lt low high)
+
+-- ---- one more record
+
+pub table_push : (version : PathVersion) (records : List Fields) (table : List PathSpan) (fields : Fields) (span : PathSpan)
+    → IsPathTable version records table → IsPathRecord version fields span → IsAtMost (path_end table) span.low
+    → IsBelow span.low span.high → IsPathTable version (records ++ fields ∷ []) (table ++ span ∷ [])
+table_push version records table fields span t s le lt =
+    any.table_push by_path version records table fields span t s
+    (order_push table span (table_order by_path version records table t) le lt)
+
+pub says_span : (version : PathVersion) (fields : Fields) (said : PathRecord)
+    → SaysPath IsAddress IsDecimal version fields said.low said.high (record_answer said)
+    → IsPathRecord version fields (record_span said)
+says_span version fields said h = record { says = h; low_op = refl; high_op = refl }
+
+-- the record begins too early, or is empty
+pub order_fault : (version : PathVersion) (table : List PathSpan) (at number : ℕ) (fields : Fields) (said : PathRecord)
+    → whole at ≡ path_end table → SaysPath IsAddress IsDecimal version fields said.low said.high (record_answer said)
+    → (at ≤ said.low → said.low < said.high → ⊥) → IsFaultyRecord version table number fields (fault.Order number)
+order_fault version table at number fields said end says not = (
+  refl,
+  record_span said,
+  says_span version fields said says,
+  λ o.
+      let both = order_pushed table (record_span said) o in
+      let past : IsAtMost (whole at) (whole said.low) =
+      subst (λ (p : Position). IsAtMost p (whole said.low)) (sym end) both.0 in
+      not past.address (holds_some said.low said.high both.1),
+)

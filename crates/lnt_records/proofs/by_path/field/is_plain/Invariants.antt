@@ -1,0 +1,7 @@
+use Rattle.std.specs.Prelude.{take}
+use Rattle.std.specs.List.{All}
+use Rattle.lnt_records.specs.PathLines.{IsPlainByte}
+use Rattle.lnt_records.proofs.by_path.field.is_plain.Given as goal
+
+abbrev pub invariant-loop-byte : goal.invariant-loop-byte
+invariant-loop-byte l = All IsPlainByte (take l.byte-index l.field)

@@ -1,0 +1,7 @@
+use Rattle.std.specs.Prelude.{ℕ, List, IfSome}
+use Rattle.std.specs.List.{All}
+use Rattle.lnt_records.specs.KeptPaths.{IsTextOf}
+use Rattle.lnt_records.proofs.by_path.kept.FileTexts.new.Given as goal
+
+abbrev pub invariant-loop : goal.invariant-loop
+invariant-loop l = (text_of : ℕ → ℕ → List ℕ) → All (λ slot. IfSome slot (IsTextOf text_of)) l.slots.items

@@ -1,0 +1,7 @@
+use Rattle.std.specs.Prelude.{take}
+use Rattle.std.specs.List.{All}
+use Rattle.lnt_records.specs.PathLines.{IsPlainByte}
+use Rattle.lnt_records.proofs.by_path.plain.plain_field.Given as goal
+
+abbrev pub invariant-loop-i : goal.invariant-loop-i
+invariant-loop-i l = All IsPlainByte (take l.i l.text)

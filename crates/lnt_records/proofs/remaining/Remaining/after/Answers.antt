@@ -1,6 +1,0 @@
-use Rattle.lnt_records.proofs.PassingLemmas.{left_after}
-use Rattle.lnt_records.proofs.remaining.Remaining.after.Goals as goal
-
-pub returns : goal.returns
-returns g c rest left =
-    left_after g.S.SpanSource.to_come c.args.first c.args.next c.args.spans c.is_none.result c.is_none.ensures rest left

@@ -1,0 +1,21 @@
+//! Records and lines of tables by path: with the full path of a file, instead of a unit and a file number.
+
+mod field;
+mod fields;
+mod header;
+mod kept;
+mod line;
+mod paths;
+mod plain;
+mod record;
+mod told;
+mod version;
+
+pub use fields::PathFields;
+pub use kept::{FileText, FileTexts};
+pub use line::{addresses_before, place_before, put_line};
+pub use paths::Paths;
+pub use plain::line_at;
+pub use record::{PathRecord, SaidPath, record_after};
+pub use told::ToldFiles;
+pub use version::PathVersion;

@@ -1,0 +1,144 @@
+//! Reads the span of a record of a table by path.
+ghost use Rattle.std.specs.Prelude.{◌≡◌, ◌<◌, ◌≤◌, List, length, IfOk, IfErr};
+ghost use Rattle.std.specs.Bool.{MatchBool};
+ghost use Rattle.csv.specs.Records.{fields_of};
+ghost use Rattle.lnt_text.specs.Digits.{IsAddress, IsDecimal};
+ghost use Rattle.lnt_records.specs.PathSpans.{PathSpan, path_end, whole};
+ghost use Rattle.lnt_records.specs.PathFaults.{IsFaultyRecord};
+ghost use Rattle.lnt_records.specs.PathTables.{SaysColumn, SaysPath, path_column_count, path_kinds};
+ghost use Rattle.lnt_records.specs.PathRecords.{record_answer, said_answer};
+ghost use Rattle.lnt_records.specs.Progress.{AreSoundBefore, IsColumnFault, IsRecordFault};
+
+use crate::by_path::header::columns;
+use crate::by_path::version::PathVersion;
+use crate::column::{Columns, address_at, decimal_at, field};
+use crate::fault::TableFault;
+use crate::record::RecordFault;
+use csv::ByteRecord;
+
+/// The answer of a record; the path is borrowed.
+#[derive(Clone, Copy)]
+pub struct SaidPath<'r> {
+    /// The full path of the file, as bytes.
+    pub path: &'r [u8],
+    /// The line in the file.
+    pub line: u64,
+    /// The column in the line; `None` if the version has no columns.
+    pub column: Option<u64>,
+}
+
+/// The fields of a record, as values; the path is borrowed from the record.
+#[derive(Clone, Copy)]
+pub struct PathRecord<'r> {
+    /// The address where the span begins.
+    pub low: u64,
+    /// The first address after it.
+    pub high: u64,
+    /// The full path of the file, as bytes.
+    pub path: &'r [u8],
+    /// The line in the file.
+    pub line: u64,
+    /// The column in the line; `None` if the version has no columns.
+    pub column: Option<u64>,
+}
+
+impl<'r> PathRecord<'r> {
+    /// The answer, with the path borrowed.
+    #[inline(always)]
+    pub fn answer(&self) -> SaidPath<'r>
+        ensures { said_answer result ≡ record_answer self.now }
+    {
+        SaidPath {
+            path: self.path,
+            line: self.line,
+            column: self.column,
+        }
+    }
+
+    /// Whether the record begins at or above this address, and isn't empty.
+    pub fn holds_from(&self, at: u64) -> bool
+        ensures { MatchBool result ((at ≤ self.now.low) × (self.now.low < self.now.high))
+            (at ≤ self.now.low → self.now.low < self.now.high → ⊥) }
+    {
+        at <= self.low && self.low < self.high
+    }
+}
+
+// The columns of a table by path.
+pub(crate) enum ByPath {}
+
+impl Columns for ByPath {
+    ghost use Rattle.lnt_records.specs.PathTables.{path_kinds};
+
+    ghost columns = { path_kinds };
+}
+
+/// The values of the record with this number, or its fault, if the records before it end at this address.
+pub fn record_after<'r>(
+    row: &'r ByteRecord,
+    version: PathVersion,
+    at: u64,
+    number: u64,
+) -> Result<PathRecord<'r>, TableFault>
+    ensures ok { IfOk result (λ said. SaysPath IsAddress IsDecimal version (fields_of row.now) said.low said.high (record_answer said)) }
+    ensures order { IfOk result (λ said. (at ≤ said.low) × (said.low < said.high)) }
+    ensures err { IfErr result (λ fault. (table : List PathSpan) → whole at ≡ path_end table
+        → IsFaultyRecord version table number (fields_of row.now) fault) }
+{
+    let said = match record_of(row, version) {
+        Ok(said) => said,
+        Err(RecordFault::Fields) => return Err(TableFault::Fields(number)),
+        Err(RecordFault::Number(column)) => return Err(TableFault::Number(number, column)),
+    };
+    if !said.holds_from(at) {
+        return Err(TableFault::Order(number));
+    }
+    Ok(said)
+}
+
+// The values of a record, or why it has none.
+fn record_of<'r>(row: &'r ByteRecord, version: PathVersion) -> Result<PathRecord<'r>, RecordFault>
+    ensures ok { IfOk result (λ said. SaysPath IsAddress IsDecimal version (fields_of row.now) said.low said.high (record_answer said)) }
+    ensures err { IfErr result (λ fault. IsRecordFault path_kinds (path_column_count version) (fields_of row.now) fault) }
+{
+    if row.len() != columns(version) {
+        return Err(RecordFault::Fields);
+    }
+    record_in(row, version)
+}
+
+#[tactic(auto, using(crate::proofs::PathRecordLemmas::four_columns, crate::proofs::RecordLemmas::none_before, crate::proofs::PathRecordLemmas::path_is_sound, crate::proofs::PathRecordLemmas::says_path, crate::proofs::RecordLemmas::column_fault))]
+fn record_in<'r>(row: &'r ByteRecord, version: PathVersion) -> Result<PathRecord<'r>, RecordFault>
+    requires { length (fields_of row.now) ≡ path_column_count version }
+    ensures ok { IfOk result (λ said. SaysPath IsAddress IsDecimal version (fields_of row.now) said.low said.high (record_answer said)) }
+    ensures err { IfErr result (λ fault. IsRecordFault path_kinds (path_column_count version) (fields_of row.now) fault) }
+{
+    let low = address_at::<ByPath>(row, 0)?;
+    let high = address_at::<ByPath>(row, 1)?;
+    let path = field(row, 2);
+    let line = decimal_at::<ByPath>(row, 3)?;
+    let column = column_in(row, version)?;
+    Ok(PathRecord {
+        low,
+        high,
+        path,
+        line,
+        column,
+    })
+}
+
+// The column, which only version 3 has.
+fn column_in(row: &ByteRecord, version: PathVersion) -> Result<Option<u64>, RecordFault>
+    requires count { length (fields_of row.now) ≡ path_column_count version }
+    requires before { AreSoundBefore path_kinds (fields_of row.now) 4 }
+    ensures ok { IfOk result (λ column. SaysColumn IsDecimal version (fields_of row.now) column) }
+    ensures err { IfErr result (λ fault. IsColumnFault path_kinds (fields_of row.now) fault) }
+{
+    match version {
+        PathVersion::Three => {
+            let column = decimal_at::<ByPath>(row, 4)?;
+            Ok(Some(column))
+        }
+        PathVersion::Four => Ok(None),
+    }
+}
