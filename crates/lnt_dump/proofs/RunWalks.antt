@@ -6,19 +6,17 @@ use Rattle.lnt_wire.specs.declared.fault.Fault.{Fault}
 use Rattle.std.specs.List.{cons_option}
 use Rattle.std.proofs.lemmas.List.{length-append, length-take-le}
 use Rattle.lnt_io.specs.Prefixes.{AppendsPrefix}
-use Rattle.lnt_header.specs.HeaderNumbers.{without_entries}
+use Rattle.lnt_header.specs.HeaderNumbers.{HeaderNumbers, numbers_of}
 use Rattle.lnt_header.specs.HeaderRules.{IsHeader}
 use Rattle.lnt_header.specs.OpRules.{Admits, StandsFor}
-use Rattle.lnt_header.specs.declared.header.HeaderParts.{HeaderParts}
 use Rattle.lnt_header.specs.declared.op.Op.{Op}
 use Rattle.lnt_header.specs.declared.op.OpView.{OpView}
 use Rattle.lnt_header.specs.declared.unit_parts.UnitParts.{UnitParts}
 use Rattle.lnt_ops.specs.Walks.{Ends, Fails, GivesOperation, Walk}
-use Rattle.lnt_unit.proofs.NumberLaws.{given_all_by_numbers, given_broken_by_numbers}
-use Rattle.lnt_unit.proofs.ViewLaws.{given_more, given_none}
+use Rattle.lnt_unit.proofs.ViewLaws.{given_all, given_broken, given_more, given_none}
 use Rattle.lnt_unit.specs.BrokenUnits.{BrokenUnit}
 use Rattle.lnt_unit.specs.Stepping.{HasGiven}
-use Rattle.lnt_unit.specs.Views.{by_numbers, IsUnitView, View, with_ops}
+use Rattle.lnt_unit.specs.Views.{IsUnitView, View, with_ops}
 use Rattle.lnt_machine.specs.declared.fault.RunFault.{RunFault}
 use Rattle.lnt_machine.specs.declared.fault.RunFault.TheVariants.{LineOutOfRange, OpenSequence}
 use Rattle.lnt_machine.specs.declared.row.Row.{Row}
@@ -26,7 +24,6 @@ use Rattle.lnt_machine.specs.Matrix.{IsRunFault, row_made, rows, rows_after, Run
 use Rattle.lnt_machine.specs.Registers.{line}
 use Rattle.lnt_machine.specs.Running.{HasDone, RunsOn, RunState}
 use Rattle.lnt_machine.specs.Steps.{LeavesRange}
-use Rattle.lnt_machine.proofs.NumberLaws.{same_by_numbers}
 use Rattle.lnt_machine.proofs.RanLaws.{may_step, no_row, out_taken, ran_all, ran_first, ran_open, ran_taken, ran_whole, rows_taken}
 use Rattle.lnt_machine.proofs.RowLaws.{cons_option-append, few_rows}
 use Rattle.lnt_machine.specs.Parts.{rows_of_ops}
@@ -36,7 +33,7 @@ use Rattle.lnt_dump.specs.Rows.{row_line}
 use Rattle.lnt_machine.specs.declared.fault.RowFault.TheVariants.{Run}
 use Rattle.lnt_dump.specs.Stepping.{IsFaultOf, IsPaged, IsSound, IsUnitOf}
 use Rattle.lnt_dump.proofs.Pages.{paged_none, told_cut, told_more}
-use Rattle.lnt_dump.proofs.UnitWalks.{IsNextAt, StandsAt, stands_last, stands_first, stands_next, stands_room, unit_of}
+use Rattle.lnt_dump.proofs.UnitWalks.{IsNextAt, StandsAt, stands_last, stands_first, stands_next, stands_room}
 
 -- ---- the run
 
@@ -44,10 +41,10 @@ use Rattle.lnt_dump.proofs.UnitWalks.{IsNextAt, StandsAt, stands_last, stands_fi
 pub record IsRunning (view : View) (ops : List Op) (walk : Walk) (run : RunState) : Type 0 where
   pub k : ℕ
   pub at : StandsAt view ops k walk
-  pub ran : HasRan (without_entries view.header) (take k ops) run
+  pub ran : HasRan (numbers_of view.header) (take k ops) run
 
 pub running_first : {view : View} {ops : List Op} {walk : Walk} {run : RunState} → StandsAt view ops 0 walk
-    → run.machine.header ≡ without_entries view.header → HasDone run [] → run.machine.count ≡ 0 → IsRunning view ops walk run
+    → run.machine.header ≡ numbers_of view.header → HasDone run [] → run.machine.count ≡ 0 → IsRunning view ops walk run
 running_first {view} {ops} {walk} {run} s header has count =
     record { k = 0; at = s; ran = ran_first header has count }
 
@@ -59,7 +56,7 @@ no_fault unit fault k is runs out =
 
 -- the rows of the first k operations
 abbrev so_far : View → List Op → ℕ → List Row
-so_far view ops k = rows_of_ops (without_entries view.header) (take k ops)
+so_far view ops k = rows_of_ops (numbers_of view.header) (take k ops)
 
 -- the next operation
 module _ {view : View} {ops : List Op} {walk walk' : Walk} {run : RunState} {item : OpView} (header : IsHeader view.header)
@@ -75,15 +72,15 @@ module _ {view : View} {ops : List Op} {walk walk' : Walk} {run : RunState} {ite
   running_next is on = record {
     k = r.k + 1;
     at = next.at;
-    ran = ran_taken (unit_of view ops) r.k item next.op r.ran next.more next.is next.stands on (stands_room is r.at step);
+    ran = ran_taken (with_ops view ops) r.k item next.op r.ran next.more next.is next.stands on (stands_room is r.at step);
   }
 
   -- it leads out of the range of lines
   pub running_out : {fault : RunFault} → LeavesRange item run.machine → fault ≡ LineOutOfRange run.machine.count
       → IsRunFault (with_ops view ops) fault
-  running_out {fault} leaves out =
-      (same_by_numbers.faults (with_ops view ops) fault).0 (subst (IsRunFault (unit_of view ops)) (sym out)
-      (out_taken (unit_of view ops) r.k item next.op r.ran next.more next.is next.stands leaves))
+  running_out leaves out =
+      subst (IsRunFault (with_ops view ops)) (sym out)
+      (out_taken (with_ops view ops) r.k item next.op r.ran next.more next.is next.stands leaves)
 
   pub running_in : {fault : RunFault} → Runs (with_ops view ops) → LeavesRange item run.machine → fault ≡ LineOutOfRange run.machine.count
       → ⊥
@@ -91,18 +88,16 @@ module _ {view : View} {ops : List Op} {walk walk' : Walk} {run : RunState} {ite
 
   rows_next : {run' : RunState} {made : Option Row} → RunsOn item run run' made
       → so_far view ops (r.k + 1) ≡ so_far view ops r.k ++ cons_option made []
-  rows_next on = sym (rows_taken (unit_of view ops) r.k item next.op r.ran next.more next.is next.stands on)
+  rows_next on = sym (rows_taken (with_ops view ops) r.k item next.op r.ran next.more next.is next.stands on)
 
 -- all were run
 module _ {view : View} {ops : List Op} {walk walk' : Walk} {run : RunState} (r : IsRunning view ops walk run) (ends : Ends walk walk') where
   pub running_whole : run.is_open ≡ false → Runs (with_ops view ops)
-  running_whole closed =
-      (same_by_numbers.runs (with_ops view ops)).0 (ran_whole (ran_all (unit_of view ops) r.k r.ran (stands_last r.at ends)) closed)
+  running_whole closed = ran_whole (ran_all (with_ops view ops) r.k r.ran (stands_last r.at ends)) closed
 
   pub running_open : {fault : RunFault} → run.is_open ≡ true → fault ≡ OpenSequence → IsRunFault (with_ops view ops) fault
   running_open opens is =
-      subst (IsRunFault (with_ops view ops)) (sym is) ((same_by_numbers.faults (with_ops view ops) OpenSequence).0
-      (ran_open (ran_all (unit_of view ops) r.k r.ran (stands_last r.at ends)) opens))
+      subst (IsRunFault (with_ops view ops)) (sym is) (ran_open (ran_all (with_ops view ops) r.k r.ran (stands_last r.at ends)) opens)
 
 -- ---- the lines of rows
 
@@ -114,7 +109,7 @@ pub record RowsTold (view : View) (ops : List Op) (index : ℕ) (walk : Walk) (r
   pub told : IsPaged (before ++ numbered row_line 0 (so_far view ops running.k)) old now page
 
 pub rows_none : {view : View} {ops : List Op} {walk : Walk} {run : RunState} (page : List ℕ) (out : Option (List ℕ))
-    → StandsAt view ops 0 walk → run.machine.header ≡ without_entries view.header → HasDone run [] → run.machine.count ≡ 0
+    → StandsAt view ops 0 walk → run.machine.header ≡ numbers_of view.header → HasDone run [] → run.machine.count ≡ 0
     → RowsTold view ops 0 walk run page page out out
 unfolding running_first
 rows_none {view} {ops} {walk} {run} page out s header has count = record {
@@ -124,7 +119,7 @@ rows_none {view} {ops} {walk} {run} page out s header has count = record {
 }
 
 -- the rows of the first operations begin those of all
-rows_prefix : (h : HeaderParts) (back xs ys : List Op) → (more : List Row) × (rows_after h back (xs ++ ys) ≡ rows_after h back xs ++ more)
+rows_prefix : (h : HeaderNumbers) (back xs ys : List Op) → (more : List Row) × (rows_after h back (xs ++ ys) ≡ rows_after h back xs ++ more)
 rows_prefix h back [] ys = (rows_after h back ys, refl)
 rows_prefix h back (op ∷ xs) ys =
     let prefix = rows_prefix h (op ∷ back) xs ys in
@@ -172,7 +167,7 @@ module _ {view : View} {ops : List Op} {index : ℕ} {walk walk' : Walk} {run ru
       omega (
         arith,
         t.index_is,
-        few_rows (without_entries view.header) [] (take k ops),
+        few_rows (numbers_of view.header) [] (take k ops),
         length-take-le k ops t.running.at.within,
         stands_room is t.running.at step,
       )
@@ -182,11 +177,11 @@ module _ {view : View} {ops : List Op} {index : ℕ} {walk walk' : Walk} {run ru
       → AppendsPrefix old new (before ++ numbered row_line 0 (rows (with_ops view ops)))
   rows_cut {row} some line =
       let k = t.running.k in
-      let h = without_entries view.header in
+      let h = numbers_of view.header in
       let list = so_far view ops k in
       let later = rows_prefix h [] (take (k + 1) ops) (drop (k + 1) ops) in
       let all : rows (with_ops view ops) ≡ (list ++ row ∷ []) ++ later.0 =
-      sym (same_by_numbers.same_rows (with_ops view ops)) ∙ ap (rows_after h []) (sym (take-append-drop (k + 1) ops)) ∙ later.1
+      ap (rows_after h []) (sym (take-append-drop (k + 1) ops)) ∙ later.1
       ∙ ap (λ (z : List Row). z ++ later.0) (row_next some) in
       told_cut row_line before list later.0 row t.index_is all t.told line
 
@@ -196,8 +191,7 @@ pub rows_all : {view : View} {ops : List Op} {index : ℕ} {walk walk' : Walk} {
 rows_all {view} {ops} {index} {walk} {walk'} {run} {before} {page} {old} {now} t ends =
     let r = t.running in
     let all : so_far view ops r.k ≡ rows (with_ops view ops) =
-    ap (rows_after (without_entries view.header) []) (take_all r.k ops (stands_last r.at ends))
-    ∙ same_by_numbers.same_rows (with_ops view ops) in
+    ap (rows_after (numbers_of view.header) []) (take_all r.k ops (stands_last r.at ends)) in
     subst (λ (list : List Row). IsPaged (before ++ numbered row_line 0 list) old now page) all t.told
 
 -- ---- a unit that is judged while it is run
@@ -205,16 +199,16 @@ rows_all {view} {ops} {index} {walk} {walk'} {run} {before} {page} {old} {now} t
 -- The operations that were given are valid. If the bytes encode a unit, its program was run as far.
 pub record IsJudging (view : View) (walk : Walk) (run : RunState) : Type 0 where
   pub ops : List Op
-  pub given : HasGiven (by_numbers view) ops walk
+  pub given : HasGiven view ops walk
   pub header : run.machine.header ≡ walk.header
   pub running : (all : List Op) → IsUnitOf view all → IsRunning view all walk run
 
-pub judging_first : {view : View} {walk : Walk} {run : RunState} → IsUnitView view → walk.header ≡ without_entries view.header
+pub judging_first : {view : View} {walk : Walk} {run : RunState} → IsUnitView view → walk.header ≡ numbers_of view.header
     → walk.failed ≡ false → walk.at.place ≡ view.place → walk.at.rest ≡ view.program → walk.at.order ≡ view.header.order
-    → run.machine.header ≡ without_entries view.header → HasDone run [] → run.machine.count ≡ 0 → IsJudging view walk run
+    → run.machine.header ≡ numbers_of view.header → HasDone run [] → run.machine.count ≡ 0 → IsJudging view walk run
 judging_first {view} {walk} {run} is header going place rest order same has count = record {
   ops = [];
-  given = given_none (by_numbers view) walk header going place rest order;
+  given = given_none view walk header going place rest order;
   header = same ∙ sym header;
   running = λ all p. running_first (stands_first view all walk is p header rest going) same has count;
 }
@@ -225,20 +219,20 @@ module _ {view : View} {walk walk' : Walk} {run : RunState} (header : IsHeader v
       → IsJudging view walk' run'
   judging_next {item = item} step on = record {
     ops = j.ops ++ step.gives.op ∷ [];
-    given = given_more (by_numbers view) j.ops step.gives.op item walk walk' j.given step step.gives.stands;
+    given = given_more view j.ops step.gives.op item walk walk' j.given step step.gives.stands;
     header = on.machine.header ∙ j.header ∙ sym step.header_is;
     running = λ all p. running_next header (j.running all p) step is on;
   }
 
   -- an operation is refused, and so the bytes encode no unit
   pub judging_fails : {fault : Fault} → Fails fault walk walk' → BrokenUnit view.unit.order fault view.unit.offset view.unit.bytes
-  judging_fails {fault} fails = given_broken_by_numbers view j.ops fault walk walk' header is j.given fails
+  judging_fails {fault} fails = given_broken view j.ops fault walk walk' header is j.given fails
 
 -- all were run
 module _ {view : View} {walk walk' : Walk} {run : RunState} (is : IsUnitView view) (j : IsJudging view walk run) (ends : Ends walk walk')
   where
     judged : IsUnitOf view j.ops
-    judged = given_all_by_numbers view j.ops walk walk' is j.given ends
+    judged = given_all view j.ops walk walk' is j.given ends
 
     pub judging_whole : run.is_open ≡ false → IsSound view true
     judging_whole closed = (j.ops, judged, λ asked. running_whole (j.running j.ops judged) ends closed)

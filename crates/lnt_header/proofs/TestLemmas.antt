@@ -13,6 +13,7 @@ use Rattle.lnt_header.specs.declared.header.HeaderParts.{HeaderParts}
 use Rattle.lnt_header.specs.declared.header.Pair.{Pair}
 use Rattle.lnt_header.specs.declared.header.EntryTable.TheVariants.{Directories, Files}
 use Rattle.lnt_header.proofs.FirstLaws.{first_is_wrong}
+use Rattle.lnt_header.specs.HeaderNumbers.{numbers_of}
 use Rattle.lnt_header.specs.HeaderRules.{IsAddressSize, AreStandardLengths, six_bytes, HasHeaderNumbers}
 use Rattle.lnt_header.specs.OpRules.{known_lengths, last_known}
 use Rattle.lnt_header.specs.HeaderRules.{IsEntryOf, IsEntryTable, IsHeader}
@@ -84,7 +85,7 @@ bytes_join [] ys h k = k
 bytes_join (x ∷ xs) ys h k = (h.0, bytes_join xs ys h.1 k)
 
 pub header_numbers : (h : HeaderParts) → IsAddressSize h.address_size → FitsSigned w8 h.line_base
-    → AllByRecursion (λ byte. byte < 256) (six_bytes h) → AllByRecursion (λ byte. byte < 256) h.standard_lengths
+    → AllByRecursion (λ byte. byte < 256) (six_bytes (numbers_of h)) → AllByRecursion (λ byte. byte < 256) h.standard_lengths
     → 0 < h.max_ops → 0 < h.line_range → h.opcode_base ≡ length h.standard_lengths + 1 → AreStandardLengths h.standard_lengths
     → HasHeaderNumbers h
 header_numbers h size fits six lengths max_ops line_range opcode_base known = grind (arith, common_steps, bytes_join, standard_lengths)

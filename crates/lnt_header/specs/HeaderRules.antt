@@ -6,6 +6,7 @@ use Rattle.lnt_wire.specs.FormBytes.{form_of, HasSpelling}
 use Rattle.lnt_header.specs.declared.header.Entry.{Entry}
 use Rattle.lnt_header.specs.declared.header.HeaderParts.{HeaderParts}
 use Rattle.lnt_header.specs.declared.header.Pair.{Pair}
+use Rattle.lnt_header.specs.HeaderNumbers.{HeaderNumbers, numbers_of}
 use Rattle.lnt_header.specs.OpRules.{known_lengths, last_known}
 
 -- An address has 2, 4 or 8 bytes.
@@ -17,16 +18,16 @@ abbrev pub AreStandardLengths : List ℕ → Type 0
 AreStandardLengths lengths = take last_known lengths ≡ take (length lengths) known_lengths
 
 -- the fields of one byte from minimum_instruction_length to opcode_base
-abbrev pub six_bytes : HeaderParts → List ℕ
+abbrev pub six_bytes : HeaderNumbers → List ℕ
 six_bytes h =
     h.minimum_instruction_length ∷ h.max_ops ∷ h.default_is_stmt ∷ cast_unsigned w8 h.line_base ∷ h.line_range ∷ h.opcode_base ∷ []
 
 -- the same, and the standard opcode lengths
-abbrev pub single_bytes : HeaderParts → List ℕ
+abbrev pub single_bytes : HeaderNumbers → List ℕ
 single_bytes h = six_bytes h ++ h.standard_lengths
 
 -- The numbers of a header that can be read.
-pub record HasHeaderNumbers (h : HeaderParts) : Type 0 where
+pub record AreHeaderNumbers (h : HeaderNumbers) : Type 0 where
   pub address_size : IsAddressSize h.address_size
   pub line_base : FitsSigned w8 h.line_base
   pub bytes : AllByRecursion (λ byte. byte < 256) (single_bytes h)
@@ -34,6 +35,9 @@ pub record HasHeaderNumbers (h : HeaderParts) : Type 0 where
   pub line_range : 0 < h.line_range
   pub opcode_base : h.opcode_base ≡ length h.standard_lengths + 1
   pub lengths : AreStandardLengths h.standard_lengths
+
+abbrev pub HasHeaderNumbers : HeaderParts → Type 0
+HasHeaderNumbers h = AreHeaderNumbers (numbers_of h)
 
 -- An entry with one value for each pair, of the pair's form. Each value has an encoding: a text has no zero byte, and the size of
 -- a block fits its length.

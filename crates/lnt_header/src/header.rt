@@ -81,11 +81,12 @@ pub struct HeaderParts {
 }
 
 impl HeaderParts {
+    ghost use Rattle.lnt_header.specs.HeaderNumbers.{numbers_of};
     ghost use Rattle.lnt_header.specs.HeaderRules.{six_bytes};
 
     /// The six numbers of one byte before the standard opcode lengths, in the order of a unit (DWARF 5, section 6.2.4).
     pub fn single_fields(&self) -> [u8; 6]
-        ensures { result ≡ six_bytes self.now }
+        ensures { result ≡ six_bytes (numbers_of self.now) }
     {
         [
             self.minimum_instruction_length,

@@ -2,6 +2,7 @@
 //! which of them a header admits.
 ghost use Rattle.std.specs.Prelude.{◌≡◌, ◌-◌, ◌^◌, ◌<◌, ◌≤◌, ◌↔◌, IsTrue, length, slice_index};
 ghost use Rattle.lnt_header.specs.HeaderRules.{IsAddressSize, IsHeader};
+ghost use Rattle.lnt_header.specs.HeaderNumbers.{numbers_of};
 ghost use Rattle.lnt_header.specs.OpRules.{Admits, IsUnknownOf, known_lengths, last_known};
 
 use crate::header::Header;
@@ -188,7 +189,7 @@ impl Header {
     /// `opcode_base`, and a standard one is. An unknown standard operation has as many operands as the header lists. An
     /// address fits the address size. The code of an unknown extended operation isn't 1, 2 or 4. Allocates nothing.
     pub fn admits(&self, op: &Op) -> bool
-        ensures { IsTrue result ↔ Admits self.now op.now }
+        ensures { IsTrue result ↔ Admits (numbers_of self.now) op.now }
     {
         let base = self.opcode_base();
         match op {
@@ -216,7 +217,7 @@ impl Header {
 
     // Whether the opcode is a standard one that DWARF 5 doesn't know, and the header gives it `count` operands.
     fn admits_unknown(&self, opcode: u8, count: usize) -> bool
-        ensures { IsTrue result ↔ IsUnknownOf self.now opcode count }
+        ensures { IsTrue result ↔ IsUnknownOf (numbers_of self.now) opcode count }
     {
         let parts = self.parts();
         let lengths = parts.standard_lengths.as_slice();

@@ -1,6 +1,7 @@
 //! A unit: a header and its operations (DWARF 5, section 6.2.4).
 ghost use Rattle.std.specs.Prelude.{◌≡◌, IfOk, IfErr, MatchOption};
 ghost use Rattle.std.specs.List.{AllByRecursion};
+ghost use Rattle.lnt_header.specs.HeaderNumbers.{numbers_of};
 ghost use Rattle.lnt_header.specs.HeaderTests.{IsFirstNot};
 ghost use Rattle.lnt_header.specs.OpRules.{Admits};
 
@@ -31,6 +32,7 @@ impl Model for Unit {
 
 impl Unit {
     ghost use Rattle.std.specs.List.{AllByRecursion};
+    ghost use Rattle.lnt_header.specs.HeaderNumbers.{numbers_of};
     ghost use Rattle.lnt_header.specs.OpRules.{Admits};
     ghost use Rattle.lnt_header.specs.UnitRules.{IsUnit};
     ghost use Rattle.lnt_header.specs.Conversion.{unit_in_format};
@@ -84,7 +86,7 @@ impl Unit {
     /// The unit of a header and operations. The caller ensures that the header admits them; they aren't checked again. Allocates
     /// nothing.
     pub fn of(header: Header, ops: Items<Op>) -> Unit
-        requires { AllByRecursion (Admits header) ops }
+        requires { AllByRecursion (Admits (numbers_of header)) ops }
         ensures { result ≡ record { header = header; ops = ops } }
     {
         Unit { header, ops }
@@ -109,7 +111,7 @@ impl Unit {
 // The index of the first operation that the header doesn't admit.
 #[tactic(auto, using(crate::proofs::FirstLaws::all_more, crate::proofs::FirstLaws::all_taken, crate::proofs::FirstLaws::first_not))]
 fn first_not_admitted(header: &Header, ops: &[Op]) -> Option<u64>
-    ensures { MatchOption result (AllByRecursion (Admits header.now) ops.now) (λ index. IsFirstNot (Admits header.now) ops.now index) }
+    ensures { MatchOption result (AllByRecursion (Admits (numbers_of header.now)) ops.now) (λ index. IsFirstNot (Admits (numbers_of header.now)) ops.now index) }
 {
     for (index, op) in ops.iter().enumerate() {
         if !header.admits(op) {

@@ -13,7 +13,7 @@ use Rattle.lnt_header_bytes.specs.Borrowed.{first_values, first_values_size, fir
 use Rattle.lnt_header.specs.declared.header.Entry.{Entry}
 use Rattle.lnt_header.specs.declared.header.Pair.{Pair}
 use Rattle.lnt_header.specs.declared.header.HeaderParts.{HeaderParts}
-use Rattle.lnt_header.specs.HeaderRules.{HasHeaderNumbers, IsEntryTable, IsHeader}
+use Rattle.lnt_header.specs.HeaderRules.{IsEntryTable, IsHeader}
 use Rattle.lnt_header.specs.Joins.{Each}
 use Rattle.lnt_header_bytes.proofs.TableLaws.{entry_code}
 use Rattle.lnt_header_bytes.specs.TableBytes.{ValuesBytes, EntryBytes}
@@ -90,8 +90,9 @@ length_found format order pairs (suc count) x =
 no_entries : (pairs : List Pair) (entries : List Entry) → IsEntryTable pairs entries → IsEntryTable pairs []
 no_entries pairs entries is = record { few_pairs = is.few_pairs; none_without_pairs = λ e. refl; of_format = tt }
 
-same_numbers : (h : HeaderParts) → HasHeaderNumbers h → HasHeaderNumbers (without_entries h)
-same_numbers h n = grind (arith, common_steps)
-
 pub header_without_entries : (h : HeaderParts) → IsHeader h → IsHeader (without_entries h)
-header_without_entries h is = grind (arith, common_steps, same_numbers, no_entries)
+header_without_entries h is = record {
+  numbers = is.numbers;
+  directories = no_entries h.directory_format h.directories is.directories;
+  files = no_entries h.file_format h.files is.files;
+}

@@ -8,6 +8,7 @@ use Rattle.lnt_wire.specs.At.{At}
 use Rattle.lnt_wire.specs.Reading.{Reads}
 use Rattle.lnt_wire.specs.declared.format.Format.{Format}
 use Rattle.lnt_wire.specs.declared.format.Order.{Order}
+use Rattle.lnt_header.specs.HeaderNumbers.{numbers_of}
 use Rattle.lnt_header.specs.declared.header.HeaderParts.{HeaderParts}
 use Rattle.lnt_header_bytes.specs.declared.numbers.Singles.{Singles}
 use Rattle.lnt_header_bytes.specs.FieldsBytes.{Table, FieldsBytes}
@@ -55,7 +56,7 @@ fields_found format order size bytes s lengths d f old new h format_is order_is 
     let low : s.line_base < 256 = subst (λ (n : ℕ). n < 256) byte (small 3) in
     let line_base : h.line_base ≡ cast_signed w8 s.line_base = are.line_base ∙ ap (cast_signed w8) (of_z-to_z w8 s.line_base low) in
     let line_base_byte : cast_unsigned w8 h.line_base ≡ s.line_base = ap (cast_unsigned w8) line_base ∙ of_z-to_z w8 s.line_base low in
-    let singles : single_bytes h ≡ p1.prefix ++ p2.prefix =
+    let singles : single_bytes (numbers_of h) ≡ p1.prefix ++ p2.prefix =
     let six = p1.first.spelled in
     let rest = p2.first.2 in
     cc (six, rest, are.minimum, are.max_ops, are.default_is_stmt, line_base_byte, are.line_range, are.opcode_base, are.lengths_are) in
@@ -63,17 +64,17 @@ fields_found format order size bytes s lengths d f old new h format_is order_is 
     sym rest_is ∙ r.whole ∙ ap (λ (z : List ℕ). z ++ new.rest)
     (p1.joined ∙ ap (λ (z : List ℕ). p1.prefix ++ z) (p2.joined ∙ ap (λ (z : List ℕ). p2.prefix ++ z) p3.joined))
     ∙ joined_fields p1.prefix p2.prefix p3.prefix p3.back new.rest in
-    let joined : bytes ≡ single_bytes h ++ p3.prefix ++ p3.back ++ h.extra =
+    let joined : bytes ≡ single_bytes (numbers_of h) ++ p3.prefix ++ p3.back ++ h.extra =
     whole ∙ ap (λ (z : List ℕ). z ++ p3.prefix ++ p3.back ++ new.rest) (sym singles)
-    ∙ ap (λ (z : List ℕ). single_bytes h ++ p3.prefix ++ p3.back ++ z) (sym are.extra_is) in
-    let nested : bytes ≡ single_bytes h ++ (p3.prefix ++ (p3.back ++ h.extra)) =
-    joined ∙ to_right (single_bytes h) p3.prefix p3.back h.extra in
-    let all : AllByRecursion (λ byte. byte < 256) (single_bytes h ++ (p3.prefix ++ (p3.back ++ h.extra))) =
+    ∙ ap (λ (z : List ℕ). single_bytes (numbers_of h) ++ p3.prefix ++ p3.back ++ z) (sym are.extra_is) in
+    let nested : bytes ≡ single_bytes (numbers_of h) ++ (p3.prefix ++ (p3.back ++ h.extra)) =
+    joined ∙ to_right (single_bytes (numbers_of h)) p3.prefix p3.back h.extra in
+    let all : AllByRecursion (λ byte. byte < 256) (single_bytes (numbers_of h) ++ (p3.prefix ++ (p3.back ++ h.extra))) =
     subst (λ (z : List ℕ). AllByRecursion (λ byte. byte < 256) z) nested (are_bytes bytes small) in
     let numbers : HasHeaderNumbers h = record {
       address_size = subst IsAddressSize (sym size_is) is;
       line_base = subst (FitsSigned w8) (sym line_base) (fits_byte s.line_base low);
-      bytes = prefix_bytes (single_bytes h) (p3.prefix ++ (p3.back ++ h.extra)) all;
+      bytes = prefix_bytes (single_bytes (numbers_of h)) (p3.prefix ++ (p3.back ++ h.extra)) all;
       max_ops = omega (arith, are.max_ops, p1.first.max_ops);
       line_range = omega (arith, are.line_range, p1.first.line_range);
       opcode_base = are.opcode_base ∙ p2.first.0 ∙ ap (λ (z : List ℕ). length z + 1) (sym are.lengths_are);

@@ -15,6 +15,7 @@ use Rattle.lnt_wire.specs.Leb128.{UnsignedLeb}
 use Rattle.lnt_wire.specs.FrameBytes.{frame_bytes}
 use Rattle.lnt_wire.specs.InitialLength.{initial_length, LengthFits}
 use Rattle.lnt_wire.specs.Numbers.{NumberBytes, OffsetBytes, IsLargeOffset, offset_size}
+use Rattle.lnt_header.specs.HeaderNumbers.{numbers_of}
 use Rattle.lnt_header.specs.declared.header.Entry.{Entry}
 use Rattle.lnt_header.specs.declared.header.HeaderParts.{HeaderParts}
 use Rattle.lnt_header_bytes.specs.HeaderBytes.{HeaderFieldsBytes, HeaderBytesIn, unit_body}
@@ -138,7 +139,7 @@ length-four : (a b c d : List ℕ) → length (a ++ b ++ c ++ d) ≡ length a + 
 length-four a b c d = simp length-append refl
 
 pub fields_put : (h : HeaderParts) (o0 o1 o2 o3 o4 o5 lengths extra : List ℕ) (d_pairs f_pairs : List Pair)
-    (d_entries f_entries : List Entry) → IsHeader h → o0 ≡ [] → o1 ≡ o0 ++ six_bytes h
+    (d_entries f_entries : List Entry) → IsHeader h → o0 ≡ [] → o1 ≡ o0 ++ six_bytes (numbers_of h)
     → lengths ≡ h.standard_lengths → o2 ≡ o1 ++ lengths → d_pairs ≡ h.directory_format → d_entries ≡ h.directories
     → Appends (TableOf h.format h.order) (d_pairs, d_entries) o2 o3
     → f_pairs ≡ h.file_format → f_entries ≡ h.files → Appends (TableOf h.format h.order) (f_pairs, f_entries) o3 o4 → extra ≡ h.extra
@@ -149,9 +150,9 @@ fields_put h o0 o1 o2 o3 o4 o5 lengths extra d_pairs f_pairs d_entries f_entries
     let last : o5 ≡ o4 ++ h.extra = last_put ∙ ap (λ (z : List ℕ). o4 ++ z) extra_is in
     let d : Appends (TableOf h.format h.order) (h.directory_format, h.directories) o2 o3 = rw (← dp, ← de) d_put in
     let f : Appends (TableOf h.format h.order) (h.file_format, h.files) o3 o4 = rw (← fp, ← fe) f_put in
-    let prefix : o2 ≡ single_bytes h =
-    second ∙ ap (λ (z : List ℕ). z ++ h.standard_lengths) (first ∙ ap (λ (z : List ℕ). z ++ six_bytes h) begun) in
-    let whole : o5 ≡ single_bytes h ++ d.spelling ++ f.spelling ++ h.extra = last ∙ ap (λ (z : List ℕ). z ++ h.extra) (f.joined
+    let prefix : o2 ≡ single_bytes (numbers_of h) =
+    second ∙ ap (λ (z : List ℕ). z ++ h.standard_lengths) (first ∙ ap (λ (z : List ℕ). z ++ six_bytes (numbers_of h)) begun) in
+    let whole : o5 ≡ single_bytes (numbers_of h) ++ d.spelling ++ f.spelling ++ h.extra = last ∙ ap (λ (z : List ℕ). z ++ h.extra) (f.joined
     ∙ ap (λ (z : List ℕ). z ++ f.spelling) (d.joined ∙ ap (λ (z : List ℕ). z ++ d.spelling) prefix)) in
     record {
       spelled = record {
@@ -166,9 +167,9 @@ fields_put h o0 o1 o2 o3 o4 o5 lengths extra d_pairs f_pairs d_entries f_entries
           omega (
             arith,
             ap length whole,
-            length-four (single_bytes h) d.spelling f.spelling h.extra,
+            length-four (single_bytes (numbers_of h)) d.spelling f.spelling h.extra,
             ap length p.joined,
-            length-four (single_bytes h) p.directories p.files h.extra,
+            length-four (single_bytes (numbers_of h)) p.directories p.files h.extra,
             d.spelled.shortest p.directories p.directory_table,
             f.spelled.shortest p.files p.file_table,
           );

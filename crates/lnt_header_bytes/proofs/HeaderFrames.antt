@@ -13,6 +13,7 @@ use Rattle.lnt_wire.specs.Reading.{Reads, Refuses}
 use Rattle.lnt_wire.specs.declared.fault.Fault.{Fault}
 use Rattle.lnt_wire.specs.declared.format.Format.{Format}
 use Rattle.lnt_wire.specs.declared.format.Order.{Order}
+use Rattle.lnt_header.specs.HeaderNumbers.{numbers_of}
 use Rattle.lnt_header.specs.declared.header.HeaderParts.{HeaderParts}
 use Rattle.lnt_header_bytes.specs.declared.numbers.Singles.{Singles}
 use Rattle.lnt_header_bytes.specs.Broken.{InHeader, sound_start, IsFirstField, BrokenHeader}
@@ -176,8 +177,8 @@ no_fields order format body size counted program offset place unit at none c =
     rw (← c.format_is, ← c.order_is) p.directory_table in
     let files : TableOf format order (h.file_format, h.files) p.files = rw (← c.format_is, ← c.order_is) p.file_table in
     none (singles_of h, (h.standard_lengths, ((h.directory_format, h.directories), (h.file_format, h.files))))
-    (six_bytes h ++ (h.standard_lengths ++ (p.directories ++ p.files))) h.extra
-    (joins (six_bytes h) (h.standard_lengths ++ (p.directories ++ p.files))
+    (six_bytes (numbers_of h) ++ (h.standard_lengths ++ (p.directories ++ p.files))) h.extra
+    (joins (six_bytes (numbers_of h)) (h.standard_lengths ++ (p.directories ++ p.files))
     (record {
       spelled = refl;
       max_ops = p.numbers.max_ops;
@@ -185,7 +186,7 @@ no_fields order format body size counted program offset place unit at none c =
       opcode_base = omega (arith, p.numbers.opcode_base);
     }) (joins h.standard_lengths (p.directories ++ p.files) (p.numbers.opcode_base, p.numbers.lengths, refl)
     (joins p.directories p.files directories files)))
-    (joined_fields (six_bytes h) h.standard_lengths p.directories p.files h.extra ∙ sym p.joined ∙ sym same.header)
+    (joined_fields (six_bytes (numbers_of h)) h.standard_lengths p.directories p.files h.extra ∙ sym p.joined ∙ sym same.header)
 
 pub refuses_fields : (order : Order) (format : Format) (offset : ℕ) (body : List ℕ) (size zero_size place : ℕ) (counted : List ℕ)
     (old new : At) (fault : Fault) → LengthFits format (length body)

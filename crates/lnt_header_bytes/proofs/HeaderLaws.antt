@@ -11,6 +11,7 @@ use Rattle.lnt_wire.specs.Numbers.{offset_size}
 use Rattle.lnt_wire.specs.InitialLength.{initial_length, LengthFits}
 use Rattle.lnt_wire.proofs.ValueLaws.{offset_width}
 use Rattle.lnt_wire.proofs.LengthLaws.{same_prefix, same_rest, same_number_prefix, same_length}
+use Rattle.lnt_header.specs.HeaderNumbers.{numbers_of}
 use Rattle.lnt_header.specs.declared.header.Entry.{Entry}
 use Rattle.lnt_header.specs.declared.header.HeaderParts.{HeaderParts}
 use Rattle.lnt_header.specs.declared.header.Pair.{Pair}
@@ -75,9 +76,9 @@ same_fields h h' x y format order address_size left right same =
     let numbers' = right.numbers in
     let directories' : TableBytes h.format h.order h'.directory_format h'.directories d' = rw (format, order) right.directory_table in
     let files' : TableBytes h.format h.order h'.file_format h'.files f' = rw (format, order) right.file_table in
-    let e : single_bytes h ++ d ++ f ++ h.extra ≡ single_bytes h' ++ d' ++ f' ++ h'.extra = sym left.joined ∙ same ∙ right.joined in
-    let six = six_bytes h in
-    let six' = six_bytes h' in
+    let e : single_bytes (numbers_of h) ++ d ++ f ++ h.extra ≡ single_bytes (numbers_of h') ++ d' ++ f' ++ h'.extra = sym left.joined ∙ same ∙ right.joined in
+    let six = six_bytes (numbers_of h) in
+    let six' = six_bytes (numbers_of h') in
     let all : six ++ (h.standard_lengths ++ (d ++ (f ++ h.extra))) ≡ six' ++ (h'.standard_lengths ++ (d' ++ (f' ++ h'.extra))) =
     sym (regroup six h.standard_lengths d f h.extra) ∙ e ∙ regroup six' h'.standard_lengths d' f' h'.extra in
     let minimum : h.minimum_instruction_length ≡ h'.minimum_instruction_length = cc in

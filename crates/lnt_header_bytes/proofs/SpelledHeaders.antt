@@ -14,6 +14,7 @@ use Rattle.lnt_wire.specs.FrameBytes.{frame_bytes}
 use Rattle.lnt_wire.specs.Laws as wire
 use Rattle.lnt_wire.specs.Leb128.{UnsignedLeb}
 use Rattle.lnt_wire.specs.Spelled.{FitsForm, HasShortest}
+use Rattle.lnt_header.specs.HeaderNumbers.{numbers_of}
 use Rattle.lnt_header.specs.declared.header.Entry.{Entry}
 use Rattle.lnt_header.specs.declared.header.HeaderParts.{HeaderParts}
 use Rattle.lnt_header.specs.declared.header.Pair.{Pair}
@@ -98,7 +99,7 @@ fields_spelled : wire.SpelledValues → (h : HeaderParts) → IsHeader h → Fit
 fields_spelled law h is fits small =
     let d = table_spelled law h.format h.order h.directory_format h.directories is.directories fits.directories small.directories in
     let f = table_spelled law h.format h.order h.file_format h.files is.files fits.files small.files in
-    let o1 : List ℕ = [] ++ six_bytes h in
+    let o1 : List ℕ = [] ++ six_bytes (numbers_of h) in
     let o2 : List ℕ = o1 ++ h.standard_lengths in
     let o3 : List ℕ = o2 ++ d.0 in
     let o4 : List ℕ = o3 ++ f.0 in (

@@ -4,6 +4,7 @@ use Rattle.lnt_wire.specs.declared.format.Order.{Order}
 use Rattle.lnt_wire.specs.Numbers.{number_bytes, offset_size}
 use Rattle.lnt_wire.specs.FrameBytes.{version_five, frame_bytes}
 use Rattle.lnt_wire.specs.InitialLength.{LengthFits}
+use Rattle.lnt_header.specs.HeaderNumbers.{numbers_of}
 use Rattle.lnt_header.specs.declared.header.HeaderParts.{HeaderParts}
 use Rattle.lnt_header.specs.HeaderRules.{HasHeaderNumbers, single_bytes}
 use Rattle.lnt_header_bytes.specs.TableBytes.{TableBytes}
@@ -15,7 +16,7 @@ pub record HeaderFieldsBytes (h : HeaderParts) (bytes : List ℕ) : Type 0 where
   pub numbers : HasHeaderNumbers h
   pub directory_table : TableBytes h.format h.order h.directory_format h.directories directories
   pub file_table : TableBytes h.format h.order h.file_format h.files files
-  pub joined : bytes ≡ single_bytes h ++ directories ++ files ++ h.extra
+  pub joined : bytes ≡ single_bytes (numbers_of h) ++ directories ++ files ++ h.extra
 
 -- what unit_length counts: the fields after it, and the program
 abbrev pub unit_body : HeaderParts → List ℕ → List ℕ → List ℕ

@@ -1,9 +1,10 @@
 -- A unit's program, run operation by operation. No public contract speaks of it.
 use Rattle.std.specs.Prelude.{◌≡◌, ◌≢◌, ℕ, ◌+◌, ◌^◌, ◌<◌, ◌≤◌, List, ◌++◌, length, Option}
+use Rattle.lnt_header.specs.HeaderNumbers.{numbers_of}
 use Rattle.lnt_header.specs.declared.op.Op.{Op}
 use Rattle.lnt_header.specs.declared.op.OpView.{OpView}
 use Rattle.lnt_ops.specs.Walks.{GivesOperation, Walk}
-use Rattle.lnt_unit.specs.Views.{by_numbers, View, with_ops}
+use Rattle.lnt_unit.specs.Views.{View, with_ops}
 use Rattle.lnt_unit.specs.Stepping.{HasGiven}
 use Rattle.lnt_machine.specs.declared.fault.RunFault.{RunFault}
 use Rattle.lnt_machine.specs.declared.fault.RunFault.TheVariants.{Memory}
@@ -21,26 +22,21 @@ use Rattle.lnt_io.specs.declared.stop.Stop.TheVariants as stop
 use Rattle.lnt_lines.specs.Judging.{IsRefusalOfRun}
 
 -- What was run so far: the operations that the walk has given, whose rows the watch has seen. For each ended sequence the place where
--- it begins in the program is known. The machine's header needn't list the unit's files, so their number is given: files.
-pub record RanSoFar (dead : Option ℕ) (view : View) (files : ℕ) (old now : Collected) (walk : Walk) (run : RunState) (watch : Watch)
+-- it begins in the program is known.
+pub record RanSoFar (dead : Option ℕ) (view : View) (old now : Collected) (walk : Walk) (run : RunState) (watch : Watch)
     (places : List ℕ) (place : ℕ) : Type 0 where
   pub ops : List Op
   pub given : HasGiven view ops walk
   pub few : length ops + length walk.at.rest ≤ length view.program
-  pub ran : HasRan view.header ops run
-  pub seen : HasSeen dead view.unit.offset files watch (rows (with_ops view ops))
+  pub ran : HasRan (numbers_of view.header) ops run
+  pub seen : HasSeen dead view.unit.offset (length view.header.files) watch (rows (with_ops view ops))
   pub collects : (sequences : List Placed) → Collects old sequences
       → CollectsRows dead view.unit.offset now sequences (rows (with_ops view ops))
-  pub known : HasPlaces view.header view.program (length (sequences_of (rows (with_ops view ops)))) places place
+  pub known : HasPlaces (numbers_of view.header) view.program (length (sequences_of (rows (with_ops view ops)))) places place
 
 -- the same of a program that is run and watched
-abbrev pub RunsSoFar : Option ℕ → View → ℕ → Watched → Collected → Collected → Walk → List ℕ → Type 0
-RunsSoFar dead view files watched old now walk places = RanSoFar dead view files old now walk watched.run watched.watch places watched.place
-
--- the same of the program of a unit, by the numbers of its header
-abbrev pub RunsByNumbers : Option ℕ → View → Watched → Collected → Collected → Walk → List ℕ → Type 0
-RunsByNumbers dead view watched old now walk places =
-    RunsSoFar dead (by_numbers view) (length view.header.files) watched old now walk places
+abbrev pub RunsSoFar : Option ℕ → View → Watched → Collected → Collected → Walk → List ℕ → Type 0
+RunsSoFar dead view watched old now walk places = RanSoFar dead view old now walk watched.run watched.watch places watched.place
 
 -- the program, whose number of bytes is known, ends below 2^64
 abbrev pub HasRoom : View → Watched → Type 0
@@ -49,17 +45,17 @@ HasRoom view watched = (view.place + length view.program < 2 ^ 64) × (watched.l
 -- Whatever was run so far, the run continues with an operation that the walk gives, after which this many bytes are left.
 abbrev pub RunsOnBy : OpView → ℕ → Watched → Watched → Collected → Collected → List ℕ → List ℕ → Type 0
 RunsOnBy item left watched watched' now now' places places' =
-    (dead : Option ℕ) (view : View) (files : ℕ) (old : Collected) (walk walk' : Walk)
-    → RunsSoFar dead view files watched old now walk places → GivesOperation item walk walk'
+    (dead : Option ℕ) (view : View) (old : Collected) (walk walk' : Walk)
+    → RunsSoFar dead view watched old now walk places → GivesOperation item walk walk'
     → HasRoom view watched → left ≡ length walk'.at.rest
-    → RunsSoFar dead view files watched' old now' walk' places'
+    → RunsSoFar dead view watched' old now' walk' places'
 
 -- Whatever was run so far, the run continues up to the new place of the walk.
 abbrev pub GoesOnTo : Walk → Walk → Watched → Watched → Collected → Collected → List ℕ → List ℕ → Type 0
 GoesOnTo walk walk' watched watched' now now' places places' =
-    (dead : Option ℕ) (view : View) (files : ℕ) (old : Collected) → RunsSoFar dead view files watched old now walk places
+    (dead : Option ℕ) (view : View) (old : Collected) → RunsSoFar dead view watched old now walk places
     → HasRoom view watched
-    → RunsSoFar dead view files watched' old now' walk' places'
+    → RunsSoFar dead view watched' old now' walk' places'
 
 -- Whatever operations follow those that the walk has given, the program doesn't run for this reason.
 pub record IsOut (view : View) (fault : RunFault) : Type 0 where
@@ -72,13 +68,13 @@ pub record IsOut (view : View) (fault : RunFault) : Type 0 where
 -- leads out of the range of lines.
 abbrev pub StopsAt : OpView → Watched → Collected → List ℕ → RunFault → Type 0
 StopsAt item watched now places fault =
-    fault ≢ Memory → (dead : Option ℕ) (view : View) (files : ℕ) (old : Collected) (walk walk' : Walk)
-    → RunsSoFar dead view files watched old now walk places
+    fault ≢ Memory → (dead : Option ℕ) (view : View) (old : Collected) (walk walk' : Walk)
+    → RunsSoFar dead view watched old now walk places
     → GivesOperation item walk walk' → IsOut view fault
 
 abbrev pub StopsAfter : Walk → Watched → Collected → List ℕ → RunFault → Type 0
 StopsAfter walk watched now places fault =
-    fault ≢ Memory → (dead : Option ℕ) (view : View) (files : ℕ) (old : Collected) → RunsSoFar dead view files watched old now walk places
+    fault ≢ Memory → (dead : Option ℕ) (view : View) (old : Collected) → RunsSoFar dead view watched old now walk places
     → HasRoom view watched → IsOut view fault
 
 -- What is reported for the fault of a program.

@@ -6,10 +6,10 @@ use Rattle.std.specs.List.{AllByRecursion, cons_option}
 use Rattle.std.proofs.Math.Nat.{mod-lt}
 use Rattle.std.proofs.Math.Pow.{pow_pos}
 use Rattle.std.proofs.lemmas.Int.{ints}
-use Rattle.lnt_header.specs.declared.header.HeaderParts.{HeaderParts}
+use Rattle.lnt_header.specs.HeaderNumbers.{HeaderNumbers, numbers_of}
 use Rattle.lnt_header.specs.declared.op.Op.{Op}
 use Rattle.lnt_header.specs.declared.op.Op.TheVariants.{Special, Copy, EndSequence}
-use Rattle.lnt_header.specs.HeaderRules.{HasHeaderNumbers, IsAddressSize}
+use Rattle.lnt_header.specs.HeaderRules.{AreHeaderNumbers, HasHeaderNumbers, IsAddressSize}
 use Rattle.lnt_header.specs.Joins.{Each}
 use Rattle.lnt_ops.proofs.OpLaws.{op_allowed}
 use Rattle.lnt_ops.specs.OpBytes.{OpBytes}
@@ -44,14 +44,14 @@ FitsSequence = EachRow FitsRow
 -- ---- registers
 
 -- What the operations of `back` leave in the registers that operands are put in fits, and their line is in range.
-record LeaveFitting (h : HeaderParts) (back : List Op) : Type 0 where
+record LeaveFitting (h : HeaderNumbers) (back : List Op) : Type 0 where
   file : file back < 2 ^ 64
   column : column back < 2 ^ 64
   isa : isa back < 2 ^ 64
   discriminator : discriminator back < 2 ^ 64
   line : IsLine (line h back)
 
-fitting_start : (h : HeaderParts) (back : List Op) → AtStart back → LeaveFitting h back
+fitting_start : (h : HeaderNumbers) (back : List Op) → AtStart back → LeaveFitting h back
 fitting_start h [] start = record {
   file = omega arith;
   column = omega arith;
@@ -69,7 +69,7 @@ fitting_start h (EndSequence ∷ back) start = record {
 fitting_start h (op ∷ back) start = absurd start
 
 -- an operand is put in a register as it is, or not at all
-fitting_by : (h : HeaderParts) (back : List Op) (op : Op) → LeaveFitting h back → FitsOp op → IsLine (line h (op ∷ back))
+fitting_by : (h : HeaderNumbers) (back : List Op) (op : Op) → LeaveFitting h back → FitsOp op → IsLine (line h (op ∷ back))
     → LeaveFitting h (op ∷ back)
 fitting_by h back Copy f says fits = record {
   file = f.file;
@@ -95,7 +95,7 @@ fitting_by h back op f says fits = record {
 }
 
 -- what bytes spell is of at most 64 bits
-fitting_more : (h : HeaderParts) (back : List Op) (op : Op) (x : List ℕ) → LeaveFitting h back → OpBytes h op x
+fitting_more : (h : HeaderNumbers) (back : List Op) (op : Op) (x : List ℕ) → LeaveFitting h back → OpBytes h op x
     → IsLine (line h (op ∷ back)) → LeaveFitting h (op ∷ back)
 fitting_more h back op x f p fits = fitting_by h back op f (op_allowed h op x p).1 fits
 
@@ -104,7 +104,7 @@ size_fits size (inl is) = rw is (omega arith)
 size_fits size (inr (inl is)) = rw is (omega arith)
 size_fits size (inr (inr is)) = rw is (omega arith)
 
-registers_fit : (h : HeaderParts) (back : List Op) → HasHeaderNumbers h → LeaveFitting h back → FitsRow (registers_after h back)
+registers_fit : (h : HeaderNumbers) (back : List Op) → AreHeaderNumbers h → LeaveFitting h back → FitsRow (registers_after h back)
 registers_fit h back numbers f =
     let r = registers_after h back in
     let cut : r.address < 2 ^ (8 * h.address_size) = mod-lt _ (pow_pos (8 * h.address_size)) in
@@ -121,7 +121,7 @@ registers_fit h back numbers f =
 
 -- ---- rows
 
-row_fits : (h : HeaderParts) (back : List Op) (op : Op) → HasHeaderNumbers h → LeaveFitting h back → LeaveFitting h (op ∷ back)
+row_fits : (h : HeaderNumbers) (back : List Op) (op : Op) → AreHeaderNumbers h → LeaveFitting h back → LeaveFitting h (op ∷ back)
     → FitsRow (row_of h back op)
 row_fits h back op numbers before f =
     let all = registers_fit h (op ∷ back) numbers f in
@@ -135,7 +135,7 @@ row_fits h back op numbers before f =
       discriminator = before.discriminator;
     }
 
-end_row_fits : (h : HeaderParts) (back : List Op) → HasHeaderNumbers h → LeaveFitting h back → FitsRow (end_row_of h back)
+end_row_fits : (h : HeaderNumbers) (back : List Op) → AreHeaderNumbers h → LeaveFitting h back → FitsRow (end_row_of h back)
 end_row_fits h back numbers before =
     let all = registers_fit h back numbers before in
     record {
@@ -148,14 +148,14 @@ end_row_fits h back numbers before =
       discriminator = all.discriminator;
     }
 
-made_fits : (h : HeaderParts) (back : List Op) (op : Op) (later : List Row) → HasHeaderNumbers h → LeaveFitting h back
+made_fits : (h : HeaderNumbers) (back : List Op) (op : Op) (later : List Row) → AreHeaderNumbers h → LeaveFitting h back
     → LeaveFitting h (op ∷ back) → FitRows later → FitRows (cons_option (row_made h back op) later)
 made_fits h back Copy later numbers before f rest = (row_fits h back Copy numbers before f, rest)
 made_fits h back (Special c) later numbers before f rest = (row_fits h back (Special c) numbers before f, rest)
 made_fits h back EndSequence later numbers before f rest = (end_row_fits h back numbers before, rest)
 made_fits h back op later numbers before f rest = rest
 
-rows_fit : (h : HeaderParts) (back ops : List Op) (x : List ℕ) → HasHeaderNumbers h → LeaveFitting h back → Each (OpBytes h) ops x
+rows_fit : (h : HeaderNumbers) (back ops : List Op) (x : List ℕ) → AreHeaderNumbers h → LeaveFitting h back → Each (OpBytes h) ops x
     → LinesAfter h back ops → FitRows (rows_after h back ops)
 rows_fit h back [] x numbers f spelled lines = tt
 rows_fit h back (op ∷ ops) x numbers f spelled lines =
@@ -169,7 +169,7 @@ rows_fit h back (op ∷ ops) x numbers f spelled lines =
 fit_from_first : (unit : UnitParts) (program : List ℕ) (place : ℕ) → HasHeaderNumbers unit.header → IsPlaceOf unit program 0 place
     → AllByRecursion FitsSequence (sequences unit)
 fit_from_first unit program place numbers is =
-    let h = unit.header in
+    let h = numbers_of unit.header in
     let at = is.place_is in
     let later = rows_fit h (reverse is.earlier) is.later at.place_is.rest numbers (fitting_start h (reverse is.earlier) at.start)
     at.place_is.later_spelled at.lines in

@@ -3,6 +3,7 @@ ghost use Rattle.std.specs.Prelude.{◌≡◌, List, [], ◌∷◌, IfOk, IsOk, 
 ghost use Rattle.lnt_machine.specs.Registers.{IsLine, line};
 ghost use Rattle.lnt_machine.specs.State.{StandsAfter};
 ghost use Rattle.lnt_machine.specs.Steps.{LeavesRange, Steps};
+ghost use Rattle.lnt_header.specs.HeaderNumbers.{numbers_of};
 ghost use Rattle.lnt_header.specs.OpRules.{StandsFor, Admits};
 ghost use Rattle.lnt_header.specs.declared.op.Op.{Op};
 
@@ -29,20 +30,21 @@ pub struct Machine<'a> {
 
 impl<'a> Model for Machine<'a> {
     ghost use Rattle.std.specs.Prelude.{◌≡◌, ◌+◌, ◌/◌};
+    ghost use Rattle.lnt_header.specs.HeaderNumbers.{numbers_of};
     ghost use Rattle.lnt_machine.specs.State.{MachineState, IsBounded};
 
     ghost Value = { MachineState };
 
-    ghost view = { λ m. record { header = m.header.now; registers = m.registers; count = m.count } };
+    ghost view = { λ m. record { header = numbers_of m.header.now; registers = m.registers; count = m.count } };
 
-    ghost invariant = { λ m. IsBounded m.header.now m.registers × (m.reciprocal ≡ 65536 / m.header.now.line_range + 1) };
+    ghost invariant = { λ m. IsBounded (numbers_of m.header.now) m.registers × (m.reciprocal ≡ 65536 / m.header.now.line_range + 1) };
 }
 
 impl<'a> Machine<'a> {
     /// A machine before the first operation of a program with this header: it stands after the empty list. Allocates
     /// nothing.
     pub fn new(header: &'a Header) -> Machine<'a>
-        ensures header { result.header ≡ header.entry.now }
+        ensures header { result.header ≡ numbers_of header.entry.now }
         ensures stands { StandsAfter result [] }
         ensures count { result.count ≡ 0 }
     {

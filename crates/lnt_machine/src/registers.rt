@@ -4,6 +4,7 @@ ghost use Rattle.lnt_machine.specs.Changes.{advanced, Changes, initial_registers
 ghost use Rattle.lnt_machine.specs.Changes.{set_by, special_row, unmarked};
 ghost use Rattle.lnt_machine.specs.Registers.{IsLine};
 ghost use Rattle.lnt_machine.specs.State.{IsBounded};
+ghost use Rattle.lnt_header.specs.HeaderNumbers.{numbers_of};
 ghost use Rattle.lnt_header.specs.HeaderRules.{IsAddressSize};
 ghost use Rattle.lnt_header.specs.declared.op.Op.{Op};
 
@@ -18,8 +19,8 @@ pub(crate) struct OutOfRange;
 #[inline(always)]
 #[tactic(auto, using(crate::proofs::StepLemmas::bounded_initial))]
 pub(crate) fn initial(header: &Header) -> Row
-    ensures value { result ≡ initial_registers header.now }
-    ensures bounded { IsBounded header.now result }
+    ensures value { result ≡ initial_registers (numbers_of header.now) }
+    ensures bounded { IsBounded (numbers_of header.now) result }
 {
     Row {
         address: 0,
@@ -47,10 +48,10 @@ pub(crate) fn change(
     view: &OpView<'_>,
 ) -> Result<Option<Row>, OutOfRange>
     requires reciprocal { reciprocal ≡ 65536 / header.now.line_range + 1 }
-    requires allowed { IsAllowed header.now (plain view.now) }
-    requires bounded { IsBounded header.now registers.old }
-    ensures ok { IfOk result (λ row. Changes header.now (plain view.now) registers.old registers.new row) }
-    ensures err { OnErr result (IsLine (line_reached header.now registers.old (plain view.now)) → ⊥) }
+    requires allowed { IsAllowed (numbers_of header.now) (plain view.now) }
+    requires bounded { IsBounded (numbers_of header.now) registers.old }
+    ensures ok { IfOk result (λ row. Changes (numbers_of header.now) (plain view.now) registers.old registers.new row) }
+    ensures err { OnErr result (IsLine (line_reached (numbers_of header.now) registers.old (plain view.now)) → ⊥) }
     ensures unchanged { OnErr result (registers.new ≡ registers.old) }
 {
     match *view {
@@ -81,8 +82,8 @@ pub(crate) fn change(
 // Does an operation that appends no row and doesn't change the line. Does nothing for any other operation.
 #[inline(always)]
 fn set(registers: &mut Row, header: &Header, view: &OpView<'_>)
-    requires bounded { IsBounded header.now registers.old }
-    ensures { registers.new ≡ set_by header.now registers.old (plain view.now) }
+    requires bounded { IsBounded (numbers_of header.now) registers.old }
+    ensures { registers.new ≡ set_by (numbers_of header.now) registers.old (plain view.now) }
 {
     match *view {
         OpView::AdvancePc(by) => advance(registers, header, by),
@@ -125,11 +126,11 @@ fn special(
 ) -> Result<Row, OutOfRange>
     requires reciprocal { reciprocal ≡ 65536 / header.now.line_range + 1 }
     requires allowed { header.now.opcode_base ≤ opcode }
-    requires bounded { IsBounded header.now registers.old }
-    ensures line { OnOk result (IsLine (line_reached header.now registers.old (Op.Special opcode))) }
-    ensures row { IfOk result (λ row. row ≡ special_row header.now registers.old opcode) }
-    ensures after { OnOk result (registers.new ≡ unmarked (special_row header.now registers.old opcode)) }
-    ensures err { OnErr result (IsLine (line_reached header.now registers.old (Op.Special opcode)) → ⊥) }
+    requires bounded { IsBounded (numbers_of header.now) registers.old }
+    ensures line { OnOk result (IsLine (line_reached (numbers_of header.now) registers.old (Op.Special opcode))) }
+    ensures row { IfOk result (λ row. row ≡ special_row (numbers_of header.now) registers.old opcode) }
+    ensures after { OnOk result (registers.new ≡ unmarked (special_row (numbers_of header.now) registers.old opcode)) }
+    ensures err { OnErr result (IsLine (line_reached (numbers_of header.now) registers.old (Op.Special opcode)) → ⊥) }
     ensures unchanged { OnErr result (registers.new ≡ registers.old) }
 {
     let adjusted = opcode - header.opcode_base();
@@ -184,7 +185,7 @@ fn set_address(registers: &mut Row, address: u64)
 #[tactic(auto, using(crate::proofs::AdvanceLemmas::advanced_by_parts))]
 fn advance(registers: &mut Row, header: &Header, by: u64)
     requires { registers.old.op_index < header.now.max_ops }
-    ensures { registers.new ≡ advanced header.now registers.old by }
+    ensures { registers.new ≡ advanced (numbers_of header.now) registers.old by }
 {
     let max_ops = u64::from(header.max_ops());
     if max_ops == 1 {

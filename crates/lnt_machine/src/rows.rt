@@ -1,6 +1,7 @@
 //! The rows of a unit's program one by one, and the fault that ends them.
 ghost use Rattle.std.specs.Prelude.{◌≡◌, ◌+◌, ◌<◌, ◌≤◌, length, IfOk, IfErr, IfSome, if◌then◌else◌};
 ghost use Rattle.std.specs.Iterator.{at_most};
+ghost use Rattle.lnt_header.specs.HeaderNumbers.{numbers_of};
 ghost use Rattle.lnt_machine.specs.RowWalks.{Comes, RowStep, Stops};
 
 use crate::fault::{RowFault, RunFault};
@@ -45,8 +46,8 @@ impl<'a> Rows<'a> {
 
     /// The rows of these operations, which are all those of a unit with this header.
     pub fn new(header: &'a Header, ops: Ops<'a>) -> Rows<'a>
-        requires { ops.header ≡ header.now }
-        ensures header { result.run.machine.header ≡ header.entry.now }
+        requires { ops.header ≡ numbers_of header.now }
+        ensures header { result.run.machine.header ≡ numbers_of header.entry.now }
         ensures done { HasDone result.run [] }
         ensures count { result.run.machine.count ≡ 0 }
         ensures walk { result.walk ≡ ops.entry }

@@ -4,6 +4,7 @@ ghost use Rattle.lnt_machine.specs.Registers.{IsLine, line};
 ghost use Rattle.lnt_machine.specs.Running.{HasDone, RunsOn};
 ghost use Rattle.lnt_machine.specs.State.{StandsAfter};
 ghost use Rattle.lnt_machine.specs.Steps.{LeavesRange};
+ghost use Rattle.lnt_header.specs.HeaderNumbers.{numbers_of};
 ghost use Rattle.lnt_header.specs.OpRules.{StandsFor, Admits};
 ghost use Rattle.lnt_header.specs.declared.op.Op.{Op};
 
@@ -34,7 +35,7 @@ impl<'a> Model for Run<'a> {
 impl<'a> Run<'a> {
     /// A program with this header, before its first operation. Allocates nothing.
     pub fn new(header: &'a Header) -> Run<'a>
-        ensures header { result.machine.header ≡ header.entry.now }
+        ensures header { result.machine.header ≡ numbers_of header.entry.now }
         ensures done { HasDone result [] }
         ensures count { result.machine.count ≡ 0 }
     {

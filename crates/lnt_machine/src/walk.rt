@@ -1,7 +1,7 @@
 //! The rows of one sequence, from its first operation on.
 ghost use Rattle.std.specs.Prelude.{◌≡◌, ◌<◌, ◌≤◌, ℕ, List, length, reverse, false, IfSome, if◌then◌else◌};
 ghost use Rattle.std.specs.Iterator.{at_most};
-ghost use Rattle.lnt_header.specs.declared.header.HeaderParts.{HeaderParts};
+ghost use Rattle.lnt_header.specs.HeaderNumbers.{HeaderNumbers, numbers_of};
 ghost use Rattle.lnt_header.specs.declared.op.Op.{Op};
 ghost use Rattle.lnt_machine.specs.Matrix.{rows_after};
 ghost use Rattle.lnt_machine.specs.Parts.{first_sequence};
@@ -43,8 +43,8 @@ impl<'a> SequenceRows<'a> {
     pub fn at(header: &'a Header, program: &'a [u8], place: usize) -> SequenceRows<'a>
         requires within { place ≤ length program.now }
         ensures left { length result.walk.at.rest ≤ length program.entry.now }
-        ensures rows { (earlier later : List Op) → IsSequencePlace header.entry.now program.entry.now earlier later place
-            → WillGive (first_sequence (rows_after header.entry.now (reverse earlier) later)) result }
+        ensures rows { (earlier later : List Op) → IsSequencePlace (numbers_of header.entry.now) program.entry.now earlier later place
+            → WillGive (first_sequence (rows_after (numbers_of header.entry.now) (reverse earlier) later)) result }
     {
         SequenceRows {
             machine: Machine::new(header),
@@ -118,7 +118,7 @@ fn next_row(machine: &mut Machine<'_>, ops: &mut Ops<'_>) -> Option<Row>
     requires { machine.old.header ≡ ops.old.header }
     ensures same { machine.new.header ≡ ops.new.header }
     ensures shorter { IfSome result (λ row. length ops.new.at.rest < length ops.old.at.rest) }
-    ensures gives { (h : HeaderParts) (rows : List spec.Row) → HasRows h rows machine.old ops.old
+    ensures gives { (h : HeaderNumbers) (rows : List spec.Row) → HasRows h rows machine.old ops.old
         → GivesNext h rows result machine.new ops.new }
 {
     if let Some(row) = short_row(machine, ops) {
@@ -140,7 +140,7 @@ fn any_row(machine: &mut Machine<'_>, ops: &mut Ops<'_>) -> Option<Row>
     requires { machine.old.header ≡ ops.old.header }
     ensures same { machine.new.header ≡ ops.new.header }
     ensures shorter { IfSome result (λ row. length ops.new.at.rest < length ops.old.at.rest) }
-    ensures gives { (h : HeaderParts) (rows : List spec.Row) → HasRows h rows machine.old ops.old
+    ensures gives { (h : HeaderNumbers) (rows : List spec.Row) → HasRows h rows machine.old ops.old
         → GivesNext h rows result machine.new ops.new }
 {
     while let Some(op) = ops.next() {
@@ -166,7 +166,7 @@ fn short_row(machine: &mut Machine<'_>, ops: &mut Ops<'_>) -> Option<Row>
     ensures same { machine.new.header ≡ ops.new.header }
     ensures no_longer { length ops.new.at.rest ≤ length ops.old.at.rest }
     ensures shorter { IfSome result (λ row. length ops.new.at.rest < length ops.old.at.rest) }
-    ensures gives { (h : HeaderParts) (rows : List spec.Row) → HasRows h rows machine.old ops.old
+    ensures gives { (h : HeaderNumbers) (rows : List spec.Row) → HasRows h rows machine.old ops.old
         → ComesNext h rows result machine.new ops.new }
 {
     while let Some(op) = ops.next_short() {

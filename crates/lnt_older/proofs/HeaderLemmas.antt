@@ -5,6 +5,7 @@ use Rattle.lnt_wire.specs.At.{At}
 use Rattle.lnt_wire.specs.Reading.{Reads}
 use Rattle.lnt_wire.specs.declared.format.Format.{Format}
 use Rattle.lnt_wire.specs.declared.format.Order.{Order}
+use Rattle.lnt_header.specs.HeaderNumbers.{numbers_of}
 use Rattle.lnt_header.specs.HeaderRules.{HasHeaderNumbers, IsAddressSize, single_bytes}
 use Rattle.lnt_header.specs.declared.header.Entry.{Entry}
 use Rattle.lnt_header.specs.declared.header.HeaderParts.{HeaderParts}
@@ -45,7 +46,7 @@ pub singles_in : (version : OlderVersion) (h : HeaderParts)
 singles_in version h = grind (arith, common_steps)
 
 numbers_small : (version : OlderVersion) (h : HeaderParts) → SaysOperations version h.max_ops
-    → AllByRecursion (λ byte. byte < 256) (older_bytes version h) → AllByRecursion (λ byte. byte < 256) (single_bytes h)
+    → AllByRecursion (λ byte. byte < 256) (older_bytes version h) → AllByRecursion (λ byte. byte < 256) (single_bytes (numbers_of h))
 numbers_small version h says all = grind (arith, common_steps)
 
 -- the numbers of a header are sound in any format and order, and with any directories and files

@@ -9,6 +9,7 @@ use Rattle.lnt_wire.specs.Numbers.{number_bytes, offset_size}
 use Rattle.lnt_wire.specs.declared.form.Form.TheVariants as forms
 use Rattle.lnt_wire.specs.declared.format.Format.{Format}
 use Rattle.lnt_wire.specs.declared.format.Order.{Order}
+use Rattle.lnt_header.specs.HeaderNumbers.{numbers_of}
 use Rattle.lnt_header.specs.HeaderRules.{HasHeaderNumbers, single_bytes}
 use Rattle.lnt_header.specs.Joins.{Each}
 use Rattle.lnt_header.specs.declared.header.Entry.{Entry}
@@ -51,7 +52,7 @@ ListBytes format order pairs entries bytes = (Each (ListedBytes format order pai
 
 -- the fields of one byte; maximum_operations_per_instruction is among them from version 4 on
 abbrev pub older_bytes : OlderVersion → HeaderParts → List ℕ
-older_bytes Four h = single_bytes h
+older_bytes Four h = single_bytes (numbers_of h)
 older_bytes _ h =
     h.minimum_instruction_length ∷ h.default_is_stmt ∷ cast_unsigned w8 h.line_base ∷ h.line_range ∷ h.opcode_base ∷ h.standard_lengths
 

@@ -3,8 +3,6 @@ pub mod ExtendedReaders
 pub mod FaultLemmas
 pub mod LebSizes
 pub mod LeftLaws
-pub mod LikeLaws
-pub mod NumberLaws
 pub mod OpFaultLaws
 pub mod OpLaws
 pub mod OpPutLemmas

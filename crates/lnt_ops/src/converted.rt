@@ -1,6 +1,7 @@
 //! Programs in another byte order.
 ghost use Rattle.std.specs.Prelude.{◌≢◌, ◌+◌, ◌^◌, ◌<◌, length, IfErr, OnOk, OnErr};
 ghost use Rattle.lnt_wire.specs.Bytes.{Extends};
+ghost use Rattle.lnt_header.specs.HeaderNumbers.{numbers_of};
 ghost use Rattle.lnt_ops.specs.OpPuts.{AddsOps};
 ghost use Rattle.lnt_ops.specs.Programs.{BrokenProgram};
 
@@ -15,7 +16,7 @@ use lnt_wire::{Fault, Order, Reason};
 ///
 /// It refuses only where no operations spell the program, with the fault of the first operation that isn't there, or
 /// with `Memory`. Then `out` may end with the first of them, and a part of the next.
-#[tactic(auto, using(crate::proofs::ConvertedLemmas::converted_none, crate::proofs::ConvertedLemmas::converted_more, crate::proofs::ConvertedLemmas::converted_all, crate::proofs::ConvertedLemmas::view_of_header))]
+#[tactic(auto, using(crate::proofs::ConvertedLemmas::converted_none, crate::proofs::ConvertedLemmas::converted_more, crate::proofs::ConvertedLemmas::converted_all))]
 pub fn convert_ops(
     out: &mut Vec<u8>,
     header: &Header,
@@ -24,8 +25,8 @@ pub fn convert_ops(
     to: Order,
 ) -> Result<(), Fault>
     requires { place + length program.now < 2 ^ 64 }
-    ensures ok { OnOk result (AddsOps header.now program.now to out.old.items out.new.items) }
-    ensures err { IfErr result (λ fault. fault.reason ≢ Reason.Memory → BrokenProgram header.now place program.now fault) }
+    ensures ok { OnOk result (AddsOps (numbers_of header.now) program.now to out.old.items out.new.items) }
+    ensures err { IfErr result (λ fault. fault.reason ≢ Reason.Memory → BrokenProgram (numbers_of header.now) place program.now fault) }
     ensures extends { OnErr result (Extends out.old.items out.new.items) }
 {
     let size = header.address_size();

@@ -2,6 +2,7 @@
 ghost use Rattle.std.specs.Prelude.{◌≡◌, ◌↔◌, ◌+◌, ◌^◌, ◌<◌, drop, get_or, length, IfOk, IfErr, OnErr, IsTrue, MatchBool};
 ghost use Rattle.lnt_wire.specs.Leb128.{IsLeb, UnsignedLeb};
 ghost use Rattle.lnt_wire.specs.Numbers.{NumberBytes};
+ghost use Rattle.lnt_header.specs.HeaderNumbers.{numbers_of};
 ghost use Rattle.lnt_header.specs.FieldFaults.{IsWrongOperand};
 ghost use Rattle.lnt_header.specs.OpRules.{taken_by};
 ghost use Rattle.lnt_header.specs.OpRules.Taken.{takes_number};
@@ -18,8 +19,8 @@ pub(crate) fn read_extended<'a>(
     cursor: &mut Cursor<'a>,
     header: &Header,
 ) -> Result<OpView<'a>, Fault>
-    ensures ok { IfOk result (λ view. GivesAfter header.now 0 view cursor.old cursor.new) }
-    ensures err { IfErr result (λ fault. RefusesAfter header.now 0 cursor.old fault) }
+    ensures ok { IfOk result (λ view. GivesAfter (numbers_of header.now) 0 view cursor.old cursor.new) }
+    ensures err { IfErr result (λ fault. RefusesAfter (numbers_of header.now) 0 cursor.old fault) }
 {
     let length_place = cursor.place();
     let length = cursor.uleb()?;
@@ -38,7 +39,7 @@ fn read_counted<'a>(
     header: &Header,
 ) -> Result<OpView<'a>, Fault>
     requires { start + length bytes.now < 2 ^ 64 }
-    ensures ok { IfOk result (λ view. GivesCounted header.now view bytes.now) }
+    ensures ok { IfOk result (λ view. GivesCounted (numbers_of header.now) view bytes.now) }
     ensures err { IfErr result (λ fault. IsCountedOpFault header.now.address_size length_place start fault bytes.now) }
 {
     if !has_right_operand(bytes, header) {

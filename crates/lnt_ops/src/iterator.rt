@@ -1,6 +1,7 @@
 //! The operations of a program one by one.
 ghost use Rattle.std.specs.Prelude.{◌≡◌, ◌+◌, ◌^◌, ◌<◌, ◌≤◌, drop, length, false, if◌then◌else◌};
 ghost use Rattle.std.specs.Iterator.{at_most};
+ghost use Rattle.lnt_header.specs.HeaderNumbers.{numbers_of};
 ghost use Rattle.lnt_ops.specs.Walks.{WalkStep};
 
 use crate::operation::read_op;
@@ -24,12 +25,13 @@ pub struct Ops<'a> {
 
 impl<'a> Model for Ops<'a> {
     ghost use Rattle.std.specs.Prelude.{◌-◌, ◌^◌, ◌<◌, ◌≤◌, length};
+    ghost use Rattle.lnt_header.specs.HeaderNumbers.{numbers_of};
     ghost use Rattle.lnt_ops.specs.Walks.{Walk};
 
     ghost Value = { Walk };
 
     ghost view = { λ ops. record {
-      header = ops.header.now;
+      header = numbers_of ops.header.now;
       at = record { place = ops.end - length ops.rest.now; rest = ops.rest.now; order = ops.header.now.order };
       failed = ops.failed;
     } };
@@ -47,7 +49,7 @@ impl<'a> Ops<'a> {
     /// section, and the offset after its last byte is below 2^64.
     pub fn new(header: &'a Header, program: &'a [u8], place: u64) -> Ops<'a>
         requires { place + length program.now < 2 ^ 64 }
-        ensures header { result.header ≡ header.entry.now }
+        ensures header { result.header ≡ numbers_of header.entry.now }
         ensures place { result.at.place ≡ place }
         ensures rest { result.at.rest ≡ program.entry.now }
         ensures order { result.at.order ≡ header.entry.now.order }
@@ -69,7 +71,7 @@ impl<'a> Ops<'a> {
     pub fn after(header: &'a Header, program: &'a [u8], place: u64, skipped: usize) -> Ops<'a>
         requires room { place + length program.now < 2 ^ 64 }
         requires within { skipped ≤ length program.now }
-        ensures header { result.header ≡ header.entry.now }
+        ensures header { result.header ≡ numbers_of header.entry.now }
         ensures place { result.at.place ≡ place + skipped }
         ensures rest { result.at.rest ≡ drop skipped program.entry.now }
         ensures order { result.at.order ≡ header.entry.now.order }

@@ -1,6 +1,7 @@
 //! One operation: read from its first byte on, and as an owned value.
 ghost use Rattle.std.specs.Prelude.{◌≡◌, ◌<◌, ◌⊎◌, IfOk, IfErr, OnErr};
 ghost use Rattle.lnt_wire.specs.Reading.{Refuses};
+ghost use Rattle.lnt_header.specs.HeaderNumbers.{numbers_of};
 ghost use Rattle.lnt_header.specs.OpRules.{last_known, StandsFor};
 ghost use Rattle.lnt_ops.specs.OpBytes.{OpBytes};
 ghost use Rattle.lnt_ops.specs.OpFaults.{IsFirstFault, IsOpFault};
@@ -26,9 +27,9 @@ use std::alloc::{AllocError, Global};
 #[tactic(auto, using(crate::proofs::OpReaders::gives_special, crate::proofs::OpReaders::gives_after, crate::proofs::OpReaders::first_opcode, crate::proofs::OpReaders::first_after, crate::proofs::OpReaders::refuses_opcode, crate::proofs::OpReaders::refuses_after))]
 pub fn read_op<'a>(cursor: &mut Cursor<'a>, header: &Header) -> Result<OpView<'a>, Fault>
     requires { cursor.old.order ≡ header.now.order }
-    ensures ok { IfOk result (λ view. GivesOp header.now view cursor.old cursor.new) }
-    ensures err { IfErr result (λ fault. Refuses (IsOpFault header.now.address_size) (OpBytes header.now) cursor.old fault) }
-    ensures first { IfErr result (λ fault. Refuses (IsFirstFault header.now) (OpBytes header.now) cursor.old fault) }
+    ensures ok { IfOk result (λ view. GivesOp (numbers_of header.now) view cursor.old cursor.new) }
+    ensures err { IfErr result (λ fault. Refuses (IsOpFault header.now.address_size) (OpBytes (numbers_of header.now)) cursor.old fault) }
+    ensures first { IfErr result (λ fault. Refuses (IsFirstFault (numbers_of header.now)) (OpBytes (numbers_of header.now)) cursor.old fault) }
     ensures unchanged { OnErr result (cursor.new ≡ cursor.old) }
 {
     let mut ahead = Cursor::new(cursor.rest(), cursor.place(), cursor.order());
@@ -52,8 +53,8 @@ fn read_operand<'a>(
 ) -> Result<OpView<'a>, Fault>
     requires standard { opcode < header.now.opcode_base }
     requires order { cursor.old.order ≡ header.now.order }
-    ensures ok { IfOk result (λ view. GivesAfter header.now opcode view cursor.old cursor.new) }
-    ensures err { IfErr result (λ fault. RefusesAfter header.now opcode cursor.old fault) }
+    ensures ok { IfOk result (λ view. GivesAfter (numbers_of header.now) opcode view cursor.old cursor.new) }
+    ensures err { IfErr result (λ fault. RefusesAfter (numbers_of header.now) opcode cursor.old fault) }
 {
     match opcode {
         0 => read_apart(cursor, header, 0),
@@ -80,8 +81,8 @@ fn read_apart<'a>(cursor: &mut Cursor<'a>, header: &Header, opcode: u8) -> Resul
     requires standard { opcode < header.now.opcode_base }
     requires rare { (opcode ≡ 0) ⊎ (last_known < opcode) }
     requires order { cursor.old.order ≡ header.now.order }
-    ensures ok { IfOk result (λ view. GivesAfter header.now opcode view cursor.old cursor.new) }
-    ensures err { IfErr result (λ fault. RefusesAfter header.now opcode cursor.old fault) }
+    ensures ok { IfOk result (λ view. GivesAfter (numbers_of header.now) opcode view cursor.old cursor.new) }
+    ensures err { IfErr result (λ fault. RefusesAfter (numbers_of header.now) opcode cursor.old fault) }
 {
     let mut ahead = Cursor::new(cursor.rest(), cursor.place(), cursor.order());
     let view = if opcode == 0 {

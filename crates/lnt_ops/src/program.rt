@@ -1,6 +1,7 @@
 //! Whole programs.
 ghost use Rattle.std.specs.Prelude.{◌≢◌, ◌+◌, ◌^◌, ◌<◌, length, IfOk, IfErr};
 ghost use Rattle.std.specs.List.{AllByRecursion};
+ghost use Rattle.lnt_header.specs.HeaderNumbers.{numbers_of};
 ghost use Rattle.lnt_header.specs.Joins.{Each};
 ghost use Rattle.lnt_header.specs.OpRules.{Admits};
 ghost use Rattle.lnt_ops.specs.OpBytes.{OpBytes};
@@ -25,9 +26,9 @@ pub fn read_ops(
     place: u64,
 ) -> Result<Items<Op>, Fault>
     requires { place + length program.now < 2 ^ 64 }
-    ensures ok { IfOk result (λ ops. Each (OpBytes header.now) ops program.now) }
-    ensures admitted { IfOk result (λ ops. AllByRecursion (Admits header.now) ops) }
-    ensures err { IfErr result (λ fault. fault.reason ≢ Reason.Memory → BrokenProgram header.now place program.now fault) }
+    ensures ok { IfOk result (λ ops. Each (OpBytes (numbers_of header.now)) ops program.now) }
+    ensures admitted { IfOk result (λ ops. AllByRecursion (Admits (numbers_of header.now)) ops) }
+    ensures err { IfErr result (λ fault. fault.reason ≢ Reason.Memory → BrokenProgram (numbers_of header.now) place program.now fault) }
 {
     let memory = Fault {
         place,

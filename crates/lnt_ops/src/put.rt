@@ -4,6 +4,7 @@ ghost use Rattle.std.specs.List.{AllByRecursion};
 ghost use Rattle.lnt_wire.specs.Bytes.{Appends, Exactly, Extends};
 ghost use Rattle.lnt_wire.specs.Leb128.{SignedLeb, UnsignedLeb};
 ghost use Rattle.lnt_wire.specs.Numbers.{NumberBytes};
+ghost use Rattle.lnt_header.specs.HeaderNumbers.{numbers_of};
 ghost use Rattle.lnt_header.specs.HeaderRules.{IsAddressSize};
 ghost use Rattle.lnt_header.specs.Joins.{Each};
 ghost use Rattle.lnt_header.specs.OpRules.{Admits};
@@ -22,8 +23,8 @@ use std::alloc::AllocError;
 /// then leaves `out` unchanged.
 #[tactic(auto, using(crate::proofs::OpPutLemmas::taken_back))]
 pub fn put_ops(out: &mut Vec<u8>, header: &Header, ops: &[Op]) -> Result<(), AllocError>
-    requires { AllByRecursion (Admits header.now) ops.now }
-    ensures ok { OnOk result (Appends (Each (OpBytes header.now)) ops.now out.old.items out.new.items) }
+    requires { AllByRecursion (Admits (numbers_of header.now)) ops.now }
+    ensures ok { OnOk result (Appends (Each (OpBytes (numbers_of header.now))) ops.now out.old.items out.new.items) }
     ensures unchanged { OnErr result (out.new.items ≡ out.old.items) }
 {
     let start = out.len();
@@ -39,8 +40,8 @@ pub fn put_ops(out: &mut Vec<u8>, header: &Header, ops: &[Op]) -> Result<(), All
 // Appends operations. After an error a part of them may have been added.
 #[tactic(auto, using(lnt_header::proofs::PutLaws::each_begun, crate::proofs::OpPutLemmas::ops_more, lnt_header::proofs::PutLaws::each_done, lnt_header::proofs::FirstLaws::all_at))]
 fn add_ops(out: &mut Vec<u8>, header: &Header, ops: &[Op]) -> Result<(), AllocError>
-    requires { AllByRecursion (Admits header.now) ops.now }
-    ensures ok { OnOk result (Appends (Each (OpBytes header.now)) ops.now out.old.items out.new.items) }
+    requires { AllByRecursion (Admits (numbers_of header.now)) ops.now }
+    ensures ok { OnOk result (Appends (Each (OpBytes (numbers_of header.now))) ops.now out.old.items out.new.items) }
     ensures extends { OnErr result (Extends out.old.items out.new.items) }
 {
     for op in ops {
@@ -50,10 +51,10 @@ fn add_ops(out: &mut Vec<u8>, header: &Header, ops: &[Op]) -> Result<(), AllocEr
 }
 
 // Appends an operation. After an error a part of it may have been added.
-#[tactic(auto, using(crate::proofs::OpPutLemmas::is_op_of_header, crate::proofs::OpPutLemmas::op_put))]
+#[tactic(auto, using(crate::proofs::OpPutLemmas::op_put))]
 fn add_op(out: &mut Vec<u8>, header: &Header, op: &Op) -> Result<(), AllocError>
-    requires { Admits header.now op.now }
-    ensures ok { OnOk result (Appends (OpBytes header.now) op.now out.old.items out.new.items) }
+    requires { Admits (numbers_of header.now) op.now }
+    ensures ok { OnOk result (Appends (OpBytes (numbers_of header.now)) op.now out.old.items out.new.items) }
     ensures extends { OnErr result (Extends out.old.items out.new.items) }
 {
     put_view(out, op.view(), header.order(), header.address_size())

@@ -4,6 +4,7 @@
 //! of one over all, a `lookup` takes 0.57 and 0.80 of the instructions (`bench/RESULTS.md`).
 ghost use Rattle.std.specs.Prelude.{◌≡◌, ◌<◌, ◌≤◌, length, take, [], ◌∷◌, IfNone, IfSome};
 ghost use Rattle.lnt_wire.specs.Leb128.{SignedLeb, UnsignedLeb};
+ghost use Rattle.lnt_header.specs.HeaderNumbers.{numbers_of};
 ghost use Rattle.lnt_ops.specs.Short.{IsOperationPrefix, NoneShort};
 ghost use Rattle.lnt_ops.specs.Stepping.{IsGroup, NoByte, NoDiscriminator, NoTwoBytes};
 
@@ -14,8 +15,8 @@ use lnt_header::{Header, OpView};
 #[inline(always)]
 #[tactic(auto, using(crate::proofs::ShortLemmas::short_prefixes))]
 pub(crate) fn short_op<'a>(bytes: &'a [u8], header: &Header) -> Option<(OpView<'a>, usize)>
-    ensures some { IfSome result (λ found. IsOperationPrefix header.now found.0 found.1 bytes.now) }
-    ensures none { IfNone result (NoneShort header.now bytes.now) }
+    ensures some { IfSome result (λ found. IsOperationPrefix (numbers_of header.now) found.0 found.1 bytes.now) }
+    ensures none { IfNone result (NoneShort (numbers_of header.now) bytes.now) }
 {
     if bytes.is_empty() {
         return None;

@@ -1,5 +1,6 @@
 //! Standard operations that DWARF 5 doesn't know (DWARF 5, section 6.2.5.2).
 ghost use Rattle.std.specs.Prelude.{◌<◌, IfOk, IfErr, OnOk};
+ghost use Rattle.lnt_header.specs.HeaderNumbers.{numbers_of};
 ghost use Rattle.lnt_header.specs.OpRules.{last_known};
 ghost use Rattle.lnt_ops.specs.OpSteps.{GivesAfter, PassesOperands, RefusesAfter, RefusesOperands};
 
@@ -16,8 +17,8 @@ pub(crate) fn read_unknown<'a>(
 ) -> Result<OpView<'a>, Fault>
     requires unknown { last_known < opcode }
     requires standard { opcode < header.now.opcode_base }
-    ensures ok { IfOk result (λ view. GivesAfter header.now opcode view cursor.old cursor.new) }
-    ensures err { IfErr result (λ fault. RefusesAfter header.now opcode cursor.old fault) }
+    ensures ok { IfOk result (λ view. GivesAfter (numbers_of header.now) opcode view cursor.old cursor.new) }
+    ensures err { IfErr result (λ fault. RefusesAfter (numbers_of header.now) opcode cursor.old fault) }
 {
     let count = header.standard_lengths()[usize::from(opcode) - 1];
     let bytes = cursor.rest();

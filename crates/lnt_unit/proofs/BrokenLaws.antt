@@ -17,6 +17,7 @@ use Rattle.lnt_wire.specs.declared.format.Order.{Order}
 use Rattle.lnt_wire.specs.declared.format.Order.TheVariants.{Little, Big}
 use Rattle.lnt_header_bytes.specs.Broken.{Broken, IsAt, BrokenHeader}
 use Rattle.lnt_header_bytes.specs.Broken.IsFirstField.{frame}
+use Rattle.lnt_header.specs.HeaderNumbers.{numbers_of}
 use Rattle.lnt_header.specs.FieldFaults.{IsCutField, IsWrongLength}
 use Rattle.lnt_header.specs.FieldFaults.IsCutField.{number}
 use Rattle.lnt_header_bytes.specs.HeaderBytes.{unit_body, HeaderBytes, HeaderBytesIn}
@@ -116,9 +117,9 @@ op_at order format reason size initial head before left from some is w (wrong_le
 
 -- the fault of a program, where the program and its place have other names
 first_of : (h : HeaderParts) (program bytes : List ℕ) (fault : Fault) (offset place : ℕ) → HeaderBytes h program bytes
-    → place + length program ≡ offset + length bytes → BrokenProgram h place program fault
+    → place + length program ≡ offset + length bytes → BrokenProgram (numbers_of h) place program fault
     → (header : HeaderParts) (other : ℕ) (named : List ℕ) → BeginsWithHeader h.order offset bytes header other named
-    → BrokenProgram header other named fault
+    → BrokenProgram (numbers_of header) other named fault
 first_of h program bytes fault offset place p ends b header other named g =
     let found = same_header header h named program g.prefix bytes g.more [] g.spelled.order_is g.spelled.spelled p
     (sym g.joined ∙ sym (append-nil bytes)) in
@@ -127,7 +128,7 @@ first_of h program bytes fault offset place p ends b header other named g =
 
 ops_broken_in : (h : HeaderParts) (program bytes : List ℕ) (fault : Fault) (offset place : ℕ) → HeaderBytes h program bytes
     → place + length program ≡ offset + length bytes
-    → BrokenProgram h place program fault → Broken (UnitBytesIn h.order) h.order fault offset bytes
+    → BrokenProgram (numbers_of h) place program fault → Broken (UnitBytesIn h.order) h.order fault offset bytes
 unfolding fields_of
 ops_broken_in h program bytes fault offset place p ends b =
     let head = fields_of h p.fields in
@@ -147,8 +148,8 @@ ops_broken_in h program bytes fault offset place p ends b =
       none = λ unit x more q e.
           let found = same_header unit.header h q.spelled.program program x bytes more [] q.order_is q.spelled.whole p
           (e ∙ sym (append-nil bytes)) in
-          b.none unit.ops (subst (λ (g : HeaderParts). Each (OpBytes g) unit.ops program) found.header
-          (subst (λ (z : List ℕ). Each (OpBytes unit.header) unit.ops z) found.program q.spelled.operations));
+          b.none unit.ops (subst (λ (g : HeaderParts). Each (OpBytes (numbers_of g)) unit.ops program) found.header
+          (subst (λ (z : List ℕ). Each (OpBytes (numbers_of unit.header)) unit.ops z) found.program q.spelled.operations));
       before = initial ++ (head ++ b.before);
       from = b.left;
       split = split;
@@ -168,7 +169,7 @@ ops_broken_in h program bytes fault offset place p ends b =
 
 pub ops_broken : (order : Order) (h : HeaderParts) (program bytes : List ℕ) (fault : Fault) (offset place : ℕ)
     → HeaderBytesIn order (h, program) bytes → place + length program ≡ offset + length bytes
-    → BrokenProgram h place program fault → BrokenUnit order fault offset bytes
+    → BrokenProgram (numbers_of h) place program fault → BrokenUnit order fault offset bytes
 ops_broken order h program bytes fault offset place p ends b = subst (λ (o : Order). BrokenUnit o fault offset bytes) p.order_is
     (record {
       broken = ops_broken_in h program bytes fault offset place p.spelled ends b;

@@ -11,7 +11,7 @@ use Rattle.lnt_wire.specs.declared.format.Order.{Order}
 use Rattle.lnt_wire.specs.declared.frame.Frame.{Frame}
 use Rattle.lnt_wire.specs.declared.put.EncodeFault.{EncodeFault}
 use Rattle.lnt_wire.specs.declared.put.EncodeFault.TheVariants as put
-use Rattle.lnt_header.specs.HeaderNumbers.{without_entries}
+use Rattle.lnt_header.specs.HeaderNumbers.{HeaderNumbers, numbers_of}
 use Rattle.lnt_header.specs.Conversion.{in_format, unit_in_format}
 use Rattle.lnt_header.specs.Encoding.{RefusedPut}
 use Rattle.lnt_header_bytes.specs.HeaderBytes.{HeaderBytesIn}
@@ -20,14 +20,11 @@ use Rattle.lnt_header.specs.declared.header.HeaderParts.{HeaderParts}
 use Rattle.lnt_header.specs.declared.op.Op.{Op}
 use Rattle.lnt_ops.specs.OpBytes.{OpBytes}
 use Rattle.lnt_ops.specs.OpPuts.{AddsOps}
-use Rattle.lnt_ops.specs.Programs.{BrokenProgram}
 use Rattle.lnt_unit.specs.BrokenUnits.{BrokenUnit}
 use Rattle.lnt_unit.specs.ConvertedUnits.{ConvertsUnit, IsLargeUnit, IsNextStop}
 use Rattle.lnt_unit.specs.ConversionSteps.{ConvertsBytes, IsLarge, IsToldAs, IsUnitStop, JudgesUnit}
 use Rattle.lnt_unit.specs.declared.convert.ConvertFault.{ConvertFault}
 use Rattle.lnt_unit.specs.declared.convert.ConvertFault.TheVariants as convert
-use Rattle.lnt_ops.proofs.LikeLaws.{like}
-use Rattle.lnt_ops.proofs.NumberLaws.{admits_by_numbers, ops_by_numbers, broken_by_numbers}
 use Rattle.lnt_unit.proofs.UnitLaws.{unit_found}
 use Rattle.lnt_header.specs.declared.unit_parts.UnitParts.{UnitParts}
 use Rattle.lnt_unit.proofs.EncodeLaws.{unit_put, unit_refused}
@@ -41,35 +38,19 @@ parts_of : HeaderParts → List Op → UnitParts
 parts_of header ops = record { header = header; ops = ops }
 
 -- the program in the other order, which was put into an empty vector
-program_is : (h : HeaderParts) (program old converted : List ℕ) (format : Format) (to : Order) → (p : AddsOps h program to old converted)
-    → old ≡ [] → IsShortest (Each (OpBytes (in_format h format to))) p.ops converted
+program_is : (h : HeaderParts) (program old converted : List ℕ) (format : Format) (to : Order) → (p : AddsOps (numbers_of h) program to old converted)
+    → old ≡ [] → IsShortest (Each (OpBytes (numbers_of (in_format h format to)))) p.ops converted
 program_is h program old converted format to p begun =
-    let added = p.adds (in_format h format to) (like h format to) in
-    subst (IsShortest (Each (OpBytes (in_format h format to))) p.ops) (sym (added.joined ∙ ap (λ (z : List ℕ). z ++ added.spelling) begun))
-    added.spelled
+    subst (IsShortest (Each (OpBytes (numbers_of (in_format h format to)))) p.ops) (sym (p.adds.joined ∙ ap (λ (z : List ℕ). z ++ p.adds.spelling) begun))
+    p.adds.spelled
 
--- what a header's numbers tell of a program is what the header tells
-by_header : (h : HeaderParts) (program old new : List ℕ) (to : Order) → AddsOps (without_entries h) program to old new
-    → AddsOps h program to old new
-by_header h program old new to p = record {
-  ops = p.ops;
-  spelled = ops_by_numbers h p.ops program p.spelled;
-  adds = λ other like. p.adds other
-      (record { order_is = like.order_is; size_is = like.size_is; admits = λ op a. like.admits op (admits_by_numbers h op a) });
-}
-
-numbers_added : (h numbers : HeaderParts) (program old new : List ℕ) (to : Order) → numbers ≡ without_entries h
-    → AddsOps numbers program to old new → AddsOps h program to old new
-numbers_added h numbers program old new to same p =
-    by_header h program old new to (subst (λ (g : HeaderParts). AddsOps g program to old new) same p)
-
-pub frame_converted : (order : Order) (h numbers : HeaderParts) (program bytes begun converted named old new : List ℕ) (format : Format)
-    (to : Order) → HeaderBytesIn order (h, program) bytes → numbers ≡ without_entries h
+pub frame_converted : (order : Order) (h : HeaderParts) (numbers : HeaderNumbers) (program bytes begun converted named old new : List ℕ) (format : Format)
+    (to : Order) → HeaderBytesIn order (h, program) bytes → numbers ≡ numbers_of h
     → AddsOps numbers program to begun converted → begun ≡ [] → named ≡ converted
     → Appends (HeaderBytesIn to) (in_format h format to, named) old new → ConvertsBytes order format to bytes old new
 unfolding parts_of
 frame_converted order h numbers program bytes begun converted named old new format to p same added empty is r =
-    let q = numbers_added h numbers program begun converted to same added in
+    let q = subst (λ (g : HeaderNumbers). AddsOps g program to begun converted) same added in
     let unit = parts_of h q.ops in
     let here : Appends (HeaderBytesIn to) (in_format h format to, converted) old new = subst
     (λ (z : List ℕ). Appends (HeaderBytesIn to) (in_format h format to, z) old new) is r in
@@ -84,25 +65,19 @@ frame_converted order h numbers program bytes begun converted named old new form
       };
     }
 
-pub frame_large : (order : Order) (h numbers : HeaderParts) (program bytes begun converted named : List ℕ) (format : Format) (to : Order)
-    (fault : EncodeFault) → HeaderBytesIn order (h, program) bytes → numbers ≡ without_entries h
+pub frame_large : (order : Order) (h : HeaderParts) (numbers : HeaderNumbers) (program bytes begun converted named : List ℕ) (format : Format) (to : Order)
+    (fault : EncodeFault) → HeaderBytesIn order (h, program) bytes → numbers ≡ numbers_of h
     → AddsOps numbers program to begun converted → begun ≡ [] → named ≡ converted
     → RefusedPut (HeaderBytesIn to) (in_format h format to, named) fault → fault ≡ put.TooLarge → IsLarge order format to bytes
 unfolding parts_of
 frame_large order h numbers program bytes begun converted named format to fault p same added empty is r large =
-    let q = numbers_added h numbers program begun converted to same added in
+    let q = subst (λ (g : HeaderNumbers). AddsOps g program to begun converted) same added in
     let unit = parts_of h q.ops in
     let here : RefusedPut (HeaderBytesIn to) (in_format h format to, converted) fault = subst
     (λ (z : List ℕ). RefusedPut (HeaderBytesIn to) (in_format h format to, z) fault) is r in
     let whole = unit_refused to (unit_in_format unit format to) converted fault (program_is h program begun converted format to q empty)
     here in
     record { unit = unit; spelled = unit_found order unit program bytes p q.spelled; none = whole.none large }
-
--- the program of a header's numbers is the header's
-pub frame_broken_program : (h numbers : HeaderParts) (place : ℕ) (program : List ℕ) (fault : Fault) → numbers ≡ without_entries h
-    → BrokenProgram numbers place program fault → BrokenProgram h place program fault
-frame_broken_program h numbers place program fault same b =
-    broken_by_numbers h place program fault (subst (λ (g : HeaderParts). BrokenProgram g place program fault) same b)
 
 -- ---- the unit at a cursor
 

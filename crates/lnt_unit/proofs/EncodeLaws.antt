@@ -4,6 +4,7 @@ use Rattle.std.specs.Prelude.{Result, Ok, Err, IfOk, IfErr}
 use Rattle.lnt_wire.specs.declared.format.Order.{Order}
 use Rattle.lnt_wire.specs.declared.put.EncodeFault.{EncodeFault}
 use Rattle.lnt_wire.specs.Bytes.{IsShortest, Appends}
+use Rattle.lnt_header.specs.HeaderNumbers.{numbers_of}
 use Rattle.lnt_header.specs.declared.header.HeaderParts.{HeaderParts}
 use Rattle.lnt_header.specs.declared.op.Op.{Op}
 use Rattle.lnt_header.specs.Encoding.{RefusedPut}
@@ -16,7 +17,7 @@ use Rattle.lnt_unit.specs.UnitBytes.{UnitBytesIn}
 use Rattle.std.proofs.lemmas.Grind.{common_steps}
 
 -- the shortest program gives the shortest unit
-pub unit_put : (order : Order) (unit : UnitParts) (program bytes : List ℕ) → IsShortest (Each (OpBytes unit.header)) unit.ops program
+pub unit_put : (order : Order) (unit : UnitParts) (program bytes : List ℕ) → IsShortest (Each (OpBytes (numbers_of unit.header))) unit.ops program
     → IsShortest (HeaderBytesIn order) (unit.header, program) bytes → IsShortest (UnitBytesIn order) unit bytes
 unit_put order unit program bytes p q = record {
   spelled = record {
@@ -32,7 +33,7 @@ unit_put order unit program bytes p q = record {
 
 -- where the shortest program has no unit, no program has one
 pub unit_refused : (order : Order) (unit : UnitParts) (program : List ℕ) (fault : EncodeFault)
-    → IsShortest (Each (OpBytes unit.header)) unit.ops program → RefusedPut (HeaderBytesIn order) (unit.header, program) fault
+    → IsShortest (Each (OpBytes (numbers_of unit.header))) unit.ops program → RefusedPut (HeaderBytesIn order) (unit.header, program) fault
     → RefusedPut (UnitBytesIn order) unit fault
 unit_refused order unit program fault p refused = record {
   none = λ large bytes t.
@@ -45,10 +46,10 @@ unit_refused order unit program fault p refused = record {
 -- the operations of a unit, put into an empty vector
 pub record Program (unit : UnitParts) (header : HeaderParts) (program : List ℕ) : Type 0 where
   pub header_is : header ≡ unit.header
-  pub put : IsShortest (Each (OpBytes unit.header)) unit.ops program
+  pub put : IsShortest (Each (OpBytes (numbers_of unit.header))) unit.ops program
 
 pub program_put : (unit : UnitParts) (header : HeaderParts) (ops : List Op) (old new program : List ℕ) → header ≡ unit.header
-    → ops ≡ unit.ops → old ≡ [] → Appends (Each (OpBytes header)) ops old new → program ≡ new → Program unit header program
+    → ops ≡ unit.ops → old ≡ [] → Appends (Each (OpBytes (numbers_of header))) ops old new → program ≡ new → Program unit header program
 program_put unit header ops old new program same all none p is = grind (arith, common_steps)
 
 pub unit_written : (unit : UnitParts) (header : HeaderParts) (program : List ℕ) (r : Result (Vec ℕ Global) EncodeFault)

@@ -1,30 +1,12 @@
--- Operations of a unit in a buffer, which are read by its header's numbers, and counted; and where its program begins.
-use Rattle.std.proofs.Common.{◌≡◌, ℕ, ◌-◌, ◌≤◌, List, [], ◌∷◌, ◌++◌, length, drop, false, sym, ap, ◌∙◌, append_assoc, arith}
+-- The program of a unit in a buffer goes to the end of the unit.
+use Rattle.std.proofs.Common.{◌≡◌, ℕ, ◌-◌, ◌≤◌, List, [], ◌∷◌, ◌++◌, length, drop, sym, ap, ◌∙◌, append_assoc, arith}
 use Rattle.std.proofs.Math.Seq.{drop-append_seam}
 use Rattle.std.proofs.lemmas.List.{length-append}
 use Rattle.lnt_wire.specs.FrameBytes.{version_five}
 use Rattle.lnt_wire.specs.InitialLength.{initial_length}
 use Rattle.lnt_wire.specs.Numbers.{number_bytes, offset_size}
 use Rattle.lnt_header_bytes.specs.HeaderBytes.{unit_body}
-use Rattle.lnt_header.specs.HeaderNumbers.{without_entries}
-use Rattle.lnt_ops.specs.Walks.{Walk, Ends}
-use Rattle.lnt_unit.proofs.NumberLaws.{given_all_by_numbers}
-use Rattle.lnt_unit.specs.Views.{View, IsUnitView, HasCount, by_numbers}
-use Rattle.lnt_unit.proofs.ViewLemmas.{CountedTo, counted_none}
-
-pub counted_none_by_numbers : (view : View) (walk : Walk) → walk.header ≡ without_entries view.header → walk.failed ≡ false
-    → walk.at.place ≡ view.place → walk.at.rest ≡ view.program → walk.at.order ≡ view.header.order → CountedTo (by_numbers view) 0 walk
-counted_none_by_numbers view walk same going place rest order = counted_none (by_numbers view) walk same going place rest order
-
-pub counted_all_by_numbers : (view : View) (count : ℕ) (old new : Walk) → IsUnitView view → CountedTo (by_numbers view) count old
-    → Ends old new → HasCount view count
-counted_all_by_numbers view count old new is so ends = record {
-  ops = so.ops;
-  spelled = given_all_by_numbers view so.ops old new is so.given ends;
-  count_is = so.count_is;
-}
-
--- ---- the program goes to the end of the unit
+use Rattle.lnt_unit.specs.Views.{View, IsUnitView}
 
 ends_with : (view : View) → IsUnitView view → (prefix : List ℕ) × (view.unit.bytes ≡ prefix ++ view.program)
 ends_with view is =

@@ -8,7 +8,6 @@ pub mod FrameLaws
 pub mod InPlaceLemmas
 pub mod JudgeLemmas
 pub mod LargeUnits
-pub mod NumberLaws
 pub mod OneFaultLemmas
 pub mod ReadLaws
 pub mod ReaderLemmas

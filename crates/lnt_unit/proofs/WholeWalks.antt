@@ -1,13 +1,12 @@
 -- Whole walks, over the operations of a unit and over the units of a section.
-use Rattle.std.proofs.Common.{◌≡◌, ◌⊎◌, ℕ, ◌+◌, ◌<◌, ◌≤◌, List, [], ◌∷◌, ◌++◌, length, refl, sym, subst}
-use Rattle.std.proofs.Common.{append_assoc, append-nil, arith, inl, inr}
+use Rattle.std.proofs.Common.{ℕ, ◌+◌, ◌<◌, ◌≤◌, List, [], ◌∷◌, ◌++◌, length, refl, sym, subst}
+use Rattle.std.proofs.Common.{append_assoc, append-nil, arith}
 use Rattle.std.specs.List.{AllZip}
 use Rattle.std.proofs.lemmas.List.{length-append}
 use Rattle.lnt_wire.specs.declared.fault.Fault.{Fault}
 use Rattle.lnt_wire.specs.declared.format.Order.{Order}
 use Rattle.lnt_wire.specs.FrameBytes.{FrameBytes}
 use Rattle.lnt_wire.proofs.LengthLaws.{length-initial}
-use Rattle.lnt_header.specs.HeaderNumbers.{without_entries}
 use Rattle.lnt_header.specs.OpRules.{StandsFor}
 use Rattle.lnt_header.specs.declared.op.Op.{Op}
 use Rattle.lnt_header.specs.declared.op.OpView.{OpView}
@@ -18,11 +17,10 @@ use Rattle.lnt_unit.specs.BrokenUnits.{BrokenSection, BrokenUnit, IsTrueFault}
 use Rattle.lnt_unit.specs.Laws.{AreGiven, BeginsOf, FaultOfSection, WholeWalk}
 use Rattle.lnt_unit.proofs.BrokenLaws.{frame_broken}
 use Rattle.lnt_unit.proofs.FrameLaws.{broken_more}
-use Rattle.lnt_unit.proofs.NumberLaws.{given_all_by_numbers, given_broken_by_numbers}
 use Rattle.lnt_unit.proofs.UnitLaws.{no_section}
 use Rattle.lnt_unit.proofs.ViewLaws.{given_all, given_broken, given_more, given_none}
 use Rattle.lnt_unit.specs.UnitBytes.{SectionBytes}
-use Rattle.lnt_unit.specs.Views.{View, by_numbers}
+use Rattle.lnt_unit.specs.Views.{View}
 use Rattle.lnt_unit.specs.Stepping.{HasGiven}
 use Rattle.std.proofs.lemmas.Grind.{common_steps}
 
@@ -42,8 +40,8 @@ record HasWalked (view : View) (items : List OpView) (walk : Walk) : Type 0 wher
   stand : AllZip StandsFor items ops
   few : length items + length walk.at.rest ≤ length view.program
 
-walked_none : (view : View) (walk : Walk) → walk.header ≡ view.header → BeginsOf view walk → HasWalked view [] walk
-walked_none view walk same b = grind (arith, common_steps, given_none)
+walked_none : (view : View) (walk : Walk) → BeginsOf view walk → HasWalked view [] walk
+walked_none view walk b = grind (arith, common_steps, given_none)
 
 walked_more : (view : View) (items : List OpView) (item : OpView) (old new : Walk) → HasWalked view items old → GivesOperation item old new
     → HasWalked view (items ++ item ∷ []) new
@@ -67,47 +65,18 @@ walked view before (item ∷ items) old new so (next, step, more) =
 are_given : (view : View) (items : List OpView) (walk : Walk) → (so : HasWalked view items walk) → AreGiven view items so.ops
 are_given view items walk so = record { stand = so.stand; admitted = so.given.so.admitted; few = omega (arith, so.few) }
 
-by_numbers_given : (view : View) (items : List OpView) (ops : List Op) → AreGiven (by_numbers view) items ops → AreGiven view items ops
-by_numbers_given view items ops so = record { stand = so.stand; admitted = so.admitted; few = so.few }
-
-begins_by_numbers : (view : View) (walk : Walk) → walk.header ≡ without_entries view.header → BeginsOf view walk
-    → BeginsOf (by_numbers view) walk
-begins_by_numbers view walk same b = grind (arith, common_steps)
-
--- by the header, or by its numbers
 from_start : (view : View) (start now : Walk) (items : List OpView) → BeginsOf view start → GivesEach items start now
-    → HasWalked view items now ⊎ HasWalked (by_numbers view) items now
-from_start view start now items b gives = by_header b.header_is
-  where
-    by_header : (start.header ≡ view.header) ⊎ (start.header ≡ without_entries view.header) → HasWalked view items now
-        ⊎ HasWalked (by_numbers view) items now
-    by_header (inl same) = inl (walked view [] items start now (walked_none view start same b) gives)
-    by_header (inr same) =
-        inr (walked (by_numbers view) [] items start now (walked_none (by_numbers view) start same (begins_by_numbers view start same b))
-        gives)
+    → HasWalked view items now
+from_start view start now items b gives = walked view [] items start now (walked_none view start b) gives
 
 pub whole_walk : WholeWalk
 whole_walk = record {
-  given = λ view start now items b gives.
-      elim (from_start view start now items b gives) [
-        | inl so ↦ (so.ops, are_given view items now so)
-        | inr so ↦ (so.ops, by_numbers_given view items so.ops (are_given (by_numbers view) items now so))
-      ];
+  given = λ view start now items b gives. let so = from_start view start now items b gives in (so.ops, are_given view items now so);
   all = λ view start now end items is b gives ends.
-      elim (from_start view start now items b gives) [
-        | inl so ↦ (so.ops, are_given view items now so, given_all view so.ops now end is so.given ends)
-        | inr so ↦ (
-          so.ops,
-          by_numbers_given view items so.ops (are_given (by_numbers view) items now so),
-          given_all_by_numbers view so.ops
-              now end is so.given ends,
-        )
-      ];
+      let so = from_start view start now items b gives in
+      (so.ops, are_given view items now so, given_all view so.ops now end is so.given ends);
   broken = λ view start now end items fault header is b gives fails.
-      elim (from_start view start now items b gives) [
-        | inl so ↦ given_broken view so.ops fault now end header is so.given fails
-        | inr so ↦ given_broken_by_numbers view so.ops fault now end header is so.given fails
-      ];
+      let so = from_start view start now items b gives in given_broken view so.ops fault now end header is so.given fails;
 }
 
 -- ---- units

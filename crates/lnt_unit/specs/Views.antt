@@ -1,6 +1,5 @@
 -- A unit in a buffer: its header with its program, and how far its operations were read.
 use Rattle.std.specs.Prelude.{◌≡◌, ℕ, ◌+◌, ◌^◌, ◌<◌, List, length}
-use Rattle.lnt_header.specs.HeaderNumbers.{without_entries}
 use Rattle.lnt_header.specs.declared.header.HeaderParts.{HeaderParts}
 use Rattle.lnt_header.specs.declared.op.Op.{Op}
 use Rattle.lnt_header_bytes.specs.HeaderBytes.{HeaderBytesIn}
@@ -20,10 +19,6 @@ pub record IsUnitView (view : View) : Type 0 where
   pub spelled : HeaderBytesIn view.unit.order (view.header, view.program) view.unit.bytes
   pub end : view.place + length view.program ≡ view.unit.offset + length view.unit.bytes
   pub room : view.place + length view.program < 2 ^ 64
-
--- the same by the header's numbers only
-abbrev pub by_numbers : View → View
-by_numbers view = record view { header = without_entries view.header }
 
 -- the unit of these operations
 abbrev pub with_ops : View → List Op → UnitParts

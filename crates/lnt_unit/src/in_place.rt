@@ -35,7 +35,7 @@ impl<'a> Model for UnitInPlace<'a> {
 }
 
 impl<'a> UnitInPlace<'a> {
-    ghost use Rattle.lnt_header.specs.HeaderNumbers.{without_entries};
+    ghost use Rattle.lnt_header.specs.HeaderNumbers.{numbers_of, without_entries};
     ghost use Rattle.lnt_header.specs.HeaderRules.{IsHeader};
     ghost use Rattle.lnt_unit.specs.Views.{IsUnitView, HasCount};
 
@@ -69,7 +69,8 @@ impl<'a> UnitInPlace<'a> {
 
     /// The header without its directories and files: the numbers that a machine needs.
     pub fn numbers(&self) -> &Header
-        ensures { result.now ≡ without_entries self.now.header }
+        ensures value { result.now ≡ without_entries self.now.header }
+        ensures same { numbers_of result.now ≡ numbers_of self.now.header }
     {
         self.header.numbers()
     }
@@ -103,7 +104,7 @@ impl<'a> UnitInPlace<'a> {
     /// Only the header's numbers are needed to read them. If all operations are valid, the bytes encode the unit with the
     /// header and these operations; if one isn't, they encode no unit (`laws::whole_walk`).
     pub fn ops(&self) -> Ops<'_>
-        ensures header { result.header ≡ without_entries self.now.header }
+        ensures header { result.header ≡ numbers_of self.now.header }
         ensures place { result.at.place ≡ self.now.place }
         ensures rest { result.at.rest ≡ self.now.program }
         ensures order { result.at.order ≡ self.now.header.order }
@@ -116,7 +117,7 @@ impl<'a> UnitInPlace<'a> {
 
     /// The number of operations of the unit. If the bytes encode no unit, fails with the fault of the first operation that
     /// isn't valid. Allocates nothing.
-    #[tactic(auto, using(crate::proofs::InPlaceLemmas::counted_none_by_numbers, crate::proofs::InPlaceLemmas::counted_all_by_numbers, crate::proofs::ViewLemmas::counted_room))]
+    #[tactic(auto, using(crate::proofs::ViewLemmas::counted_none, crate::proofs::ViewLemmas::counted_more, crate::proofs::ViewLemmas::counted_all, crate::proofs::ViewLemmas::counted_room))]
     pub fn operation_count(&self) -> Result<u64, Fault>
         ensures ok { IfOk result (HasCount self.now) }
         ensures err { IfErr result (λ fault. BrokenUnit self.now.unit.order fault self.now.unit.offset self.now.unit.bytes) }

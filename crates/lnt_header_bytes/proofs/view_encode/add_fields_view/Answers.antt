@@ -1,6 +1,7 @@
 use Rattle.std.proofs.Common.{List, ◌++◌, ℕ, ap, ◌∙◌, rules}
 use Rattle.std.proofs.lemmas.Result.{err_from_is_err_and}
 use Rattle.lnt_header.specs.Conversion.{in_format}
+use Rattle.lnt_header.specs.HeaderNumbers.{numbers_of}
 use Rattle.lnt_header.specs.HeaderRules.{six_bytes}
 use Rattle.lnt_header.proofs.ConversionLaws.{header_in_format}
 use Rattle.lnt_header.specs.declared.header.HeaderParts.{HeaderParts}
@@ -28,7 +29,8 @@ returns-clause-ok c =
     c.add_table_view.new.out.items c.add_table_view-2.new.out.items c.extend_from_slice.new.self.items
     c.standard_lengths.result.now c.extra.result.now _ _ _ _
     (header_in_format h c.args.format c.args.order c.numbers-numbers.ensures.header) c.requires
-    (ap (λ (z : List ℕ). c.args.out.now.items ++ z) (c.single_fields.ensures ∙ ap six_bytes (c.parts.ensures.value ∙ numbers)))
+    (ap (λ (z : List ℕ). c.args.out.now.items ++ z) (c.single_fields.ensures ∙ ap (λ (g : HeaderParts). six_bytes (numbers_of g))
+    (c.parts.ensures.value ∙ numbers)))
     (c.standard_lengths.ensures.value ∙ ap (λ (g : HeaderParts). g.standard_lengths) numbers) c.in_ok-add_both.ensures.ok
     c.directories.ensures.pairs c.directories.ensures.entries c.in_ok-add_table_view.ensures.ok
     c.files.ensures.pairs c.files.ensures.entries c.in_ok-add_table_view-2.ensures.ok c.extra.ensures

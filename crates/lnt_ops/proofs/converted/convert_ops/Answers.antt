@@ -1,13 +1,14 @@
 use Rattle.std.proofs.Common.{◌≢◌, subst, Some, Result, arith}
 use Rattle.std.proofs.lemmas.Result.{err_from_is_err_and}
 use Rattle.std.proofs.lemmas.Grind.{common_steps}
+use Rattle.lnt_header.specs.HeaderNumbers.{numbers_of}
 use Rattle.lnt_wire.specs.declared.fault.Fault.{Fault}
 use Rattle.lnt_wire.specs.declared.fault.Reason.TheVariants.{Memory}
 use Rattle.lnt_header.specs.declared.op.OpView.{OpView}
 use Rattle.lnt_ops.proofs.ProgramLaws.{walk_broken}
 use Rattle.lnt_ops.specs.Programs.{BrokenProgram}
 use Rattle.lnt_ops.specs.Walks.{Fails, GivesOperation, WalkStep}
-use Rattle.lnt_ops.proofs.ConvertedLemmas.{converted_extends, converted_more}
+use Rattle.lnt_ops.proofs.ConvertedLemmas.{converted_extends, converted_more, view_of_header}
 use Rattle.lnt_ops.proofs.OpPutLemmas.{extends_more}
 use Rattle.lnt_ops.proofs.converted.convert_ops.Goals as goal
 
@@ -19,9 +20,9 @@ returns-in_err-view-clause-err c =
     let step : Fails fault c.loop-view.view-iterator c.next.new.self =
     subst (λ (r : Result OpView Fault). WalkStep c.loop-view.view-iterator (Some r) c.next.new.self) c.in_err-view.was
     c.in-Some.ensures.steps in
-    let rest : fault.reason ≢ Memory → BrokenProgram c.args.header.now c.args.place c.args.program.now fault =
-    λ _. walk_broken c.args.header.now c.args.place c.args.program.now so.ops fault c.loop-view.view-iterator c.next.new.self
-    c.new-view-items.ensures.is_header so.header_is so.so step in
+    let rest : fault.reason ≢ Memory → BrokenProgram (numbers_of c.args.header.now) c.args.place c.args.program.now fault =
+    λ _. walk_broken (numbers_of c.args.header.now) c.args.place c.args.program.now so.ops fault c.loop-view.view-iterator c.next.new.self
+    c.new-view-items.ensures.is_header.numbers so.header_is so.so step in
     rw (p.1, p.2) rest
 
 pub loop-view-preserved : goal.loop-view-preserved
@@ -29,9 +30,17 @@ loop-view-preserved c =
     let step : GivesOperation c.in_ok-view.field-0 c.loop-view.view-iterator c.next.new.self =
     subst (λ (r : Result OpView Fault). WalkStep c.loop-view.view-iterator (Some r) c.next.new.self) c.in_ok-view.was
     c.in-Some.ensures.steps in
-    converted_more c.args.header.now c.args.place c.args.program.now c.args.to c.address_size-size.result c.args.out.now.items _ _
+    converted_more (numbers_of c.args.header.now) c.args.place c.args.program.now c.args.to c.address_size-size.result c.args.out.now.items _ _
     c.in_ok-view.field-0 c.loop-view.view-iterator c.next.new.self c.loop-view.invariant step
     c.address_size-size.ensures.value c.in-Ok.ensures.ok
+
+pub put_view-requires-clause-admitted : goal.put_view-requires-clause-admitted
+put_view-requires-clause-admitted c =
+    let step : GivesOperation c.in_ok-view.field-0 c.loop-view.view-iterator c.next.new.self =
+    subst (λ (r : Result OpView Fault). WalkStep c.loop-view.view-iterator (Some r) c.next.new.self) c.in_ok-view.was
+    c.in-Some.ensures.steps in
+    view_of_header (numbers_of c.args.header.now) c.address_size-size.result c.in_ok-view.field-0 c.loop-view.view-iterator c.next.new.self
+    c.loop-view.invariant.header_is c.address_size-size.ensures.value step
 
 pub returns-clause-ok : goal.returns-clause-ok
 returns-clause-ok c = grind (arith, common_steps)

@@ -1,14 +1,16 @@
-use Rattle.std.proofs.Common.{◌≢◌, refl, subst}
+use Rattle.std.proofs.Common.{◌≢◌, ap, refl, subst}
 use Rattle.lnt_wire.specs.Bytes.{Appends}
+use Rattle.lnt_header.specs.HeaderNumbers.{HeaderNumbers, numbers_of}
 use Rattle.lnt_header.specs.Conversion.{in_format}
 use Rattle.lnt_header.specs.Encoding.{RefusedPut}
 use Rattle.lnt_header_bytes.specs.HeaderBytes.{HeaderBytesIn}
 use Rattle.lnt_header.specs.declared.header.HeaderParts.{HeaderParts}
 use Rattle.lnt_wire.specs.FrameBytes.{frame_bytes}
 use Rattle.lnt_wire.specs.declared.fault.Reason.TheVariants.{Memory}
+use Rattle.lnt_ops.specs.Programs.{BrokenProgram}
 use Rattle.lnt_unit.specs.BrokenUnits.{BrokenUnit}
 use Rattle.lnt_unit.proofs.BrokenLaws.{ops_broken}
-use Rattle.lnt_unit.proofs.ConvertedLemmas.{frame_broken_program, frame_converted, frame_large, told_stop}
+use Rattle.lnt_unit.proofs.ConvertedLemmas.{frame_converted, frame_large, told_stop}
 use Rattle.lnt_unit.proofs.converting.convert_parts.Goals as goal
 
 pub returns-in-Err-clause-err : goal.returns-in-Err-clause-err
@@ -20,7 +22,8 @@ returns-in-Err-clause-err c =
     let bytes = frame_bytes header.order frame.format frame.body.now in
     let broken : fault.reason ≢ Memory → BrokenUnit header.order fault frame.offset bytes =
     λ some. ops_broken header.order header program bytes fault frame.offset _ c.requires.spelled c.requires.place
-    (frame_broken_program header c.numbers.result.now _ program fault c.numbers.ensures.numbers (c.in-Err.ensures.err some)) in
+    (subst (λ (g : HeaderNumbers). BrokenProgram g c.args.place program fault) (ap numbers_of c.numbers.ensures.numbers)
+    (c.in-Err.ensures.err some)) in
     told_stop header.order c.args.format c.args.to frame.offset bytes fault c.told.result broken c.told.ensures
 
 pub returns-in-Ok-clause-ok : goal.returns-in-Ok-clause-ok
@@ -28,9 +31,9 @@ returns-in-Ok-clause-ok c =
     let header = c.args.header.now in
     let put = subst (λ (h : HeaderParts). Appends (HeaderBytesIn c.args.to) (in_format h c.args.format c.args.to, c.deref.result.now)
     c.args.out.now.items c.put_header_view.new.out.items) c.view.ensures c.in-Ok.ensures.ok in
-    frame_converted header.order header c.numbers.result.now c.args.program.now _ c.new-converted.result.items _
+    frame_converted header.order header (numbers_of c.numbers.result.now) c.args.program.now _ c.new-converted.result.items _
     c.deref.result.now _ _ c.args.format c.args.to
-    c.requires.spelled c.numbers.ensures.numbers c.in_default.ensures.ok c.new-converted.ensures.items c.deref.ensures.value put
+    c.requires.spelled (ap numbers_of c.numbers.ensures.numbers) c.in_default.ensures.ok c.new-converted.ensures.items c.deref.ensures.value put
 
 pub returns-in-Err-TooLarge-clause-err : goal.returns-in-Err-TooLarge-clause-err
 returns-in-Err-TooLarge-clause-err c =
@@ -39,8 +42,8 @@ returns-in-Err-TooLarge-clause-err c =
     c.in-Err-TooLarge.field-0)
     c.view.ensures c.in-Err-TooLarge.ensures.err in (
       refl,
-      frame_large header.order header c.numbers.result.now c.args.program.now _ c.new-converted.result.items _ c.deref.result.now
+      frame_large header.order header (numbers_of c.numbers.result.now) c.args.program.now _ c.new-converted.result.items _ c.deref.result.now
           c.args.format c.args.to _
-          c.requires.spelled c.numbers.ensures.numbers c.in_default.ensures.ok c.new-converted.ensures.items c.deref.ensures.value refused
+          c.requires.spelled (ap numbers_of c.numbers.ensures.numbers) c.in_default.ensures.ok c.new-converted.ensures.items c.deref.ensures.value refused
           c.in-Err-TooLarge.field-0-is,
     )

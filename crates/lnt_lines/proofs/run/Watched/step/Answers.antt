@@ -8,15 +8,15 @@ use Rattle.lnt_lines.proofs.run.Watched.step.Goals as goal
 pub returns-in_err-row-clause-err : goal.returns-in_err-row-clause-err
 returns-in_err-row-clause-err c =
     let p = err_from_is_err_and c.from_residual.result c.from_residual.ensures.1 in
-    rw (p.1, p.2) (λ other dead view files old walk walk' ran step. out_at ran step c.in_err-row.ensures.out_of_range
+    rw (p.1, p.2) (λ other dead view old walk walk' ran step. out_at ran step c.in_err-row.ensures.out_of_range
     c.in_err-row.ensures.fault)
 
 pub returns-in_default-clause-goes_on : goal.returns-in_default-clause-goes_on
-returns-in_default-clause-goes_on c dead view files old walk walk' ran step room left =
+returns-in_default-clause-goes_on c dead view old walk walk' ran step room left =
     ran_quiet ran step c.in_ok-row.ensures.ok room.0 c.in_default.not-Some
 
 pub returns-else-is_err-clause-goes_on : goal.returns-else-is_err-clause-goes_on
-returns-else-is_err-clause-goes_on c dead view files old walk walk' ran step room left =
+returns-else-is_err-clause-goes_on c dead view old walk walk' ran step room left =
     let watched = c.args.self.now in
     let items : c.push.new.self.items ≡ c.args.places.now.items ++ watched.place ∷ [] = grind (arith, common_steps) in
     let here : watched.length - c.args.left ≡ length view.program - length walk'.at.rest = omega (arith, room.1, left) in
@@ -24,6 +24,6 @@ returns-else-is_err-clause-goes_on c dead view files old walk walk' ran step roo
     (λ e. absurd (true≢false (sym c.if-row.true ∙ e)))
 
 pub returns-else-row-clause-goes_on : goal.returns-else-row-clause-goes_on
-returns-else-row-clause-goes_on c dead view files old walk walk' ran step room left =
+returns-else-row-clause-goes_on c dead view old walk walk' ran step room left =
     ran_row ran step c.in_ok-row.ensures.ok room.0 c.in-Some.is c.in-Ok.ensures.seen c.in-Ok.ensures.collects
     (λ e. absurd (true≢false (sym e ∙ c.if-row.false))) (λ e. (refl, refl))
