@@ -13,15 +13,12 @@ ghost use Rattle.lnt_spans.specs.declared.position.Position.{Position as Spec};
 
 use crate::display::put_text;
 use crate::lookup::{CachedLookups, put_lookup, send};
-use lnt_io::{Halt, Source, Status};
+use lnt_io::{BLOCK, Halt, Source, Status};
 use lnt_lines::{Index, KeepsFrom};
 use lnt_spans::Position;
 use lnt_text::{Quoted, address, address_until, decimal, decimal_until};
 use std::alloc::{AllocError, Global};
 use std::io::Write;
-
-// The number of bytes that a pull asks the source for: the size of a file's buffer, so that a pull is one read.
-const BLOCK: usize = 1 << 16;
 
 // The lines that were made are written once they have this many bytes, and at the end of a block.
 const FULL: usize = 1 << 15;
@@ -52,6 +49,7 @@ pub fn print_addresses<T: Source, W: Write>(
     ensures read { IsErrOf result halt.Read → T.failures lines.new ≡ T.failures lines.old + 1 }
     ensures too_long { IsErrOf result halt.TooLong → IsTrue (T.too_long lines.new) }
 {
+    // Of the size of a file's buffer, so that a pull is one read.
     let mut block = vec![in alloc; 0; BLOCK]?;
     let mut lookups = CachedLookups::new(alloc, index, KeepsFrom::First)?;
     let mut asked = Asked::new(alloc, op);

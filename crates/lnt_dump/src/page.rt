@@ -5,11 +5,8 @@ ghost use Rattle.lnt_io.specs.Prefixes.{AppendsPrefix};
 ghost use Rattle.lnt_io.specs.Halts.{IsPrinting};
 ghost use Rattle.lnt_dump.specs.Stepping.{IsPaged};
 
-use lnt_io::{Halt, write_whole};
+use lnt_io::{BLOCK, Halt, write_whole};
 use std::io::Write;
-
-// A page is written once it has this many bytes.
-const PAGE: usize = 1 << 16;
 
 // Writes the page if it is full, and empties it.
 #[tactic(auto, using(crate::proofs::Pages::paged_kept, crate::proofs::Pages::paged_turned))]
@@ -19,7 +16,7 @@ pub(crate) fn turn_full<W: Write>(page: &mut Vec<u8>, out: &mut W) -> Result<(),
     ensures prefix { OnErr result (AppendsPrefix (W.contents out.old) (W.contents out.new) page.old.items) }
     ensures err { IfErr result IsPrinting }
 {
-    if page.len() >= PAGE {
+    if page.len() >= BLOCK {
         return hand_on(page, out);
     }
     Ok(())

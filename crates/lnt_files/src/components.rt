@@ -9,9 +9,10 @@ ghost use Rattle.lnt_files.specs.Contents.{content_path, content_directory_index
 ghost use Rattle.lnt_files.specs.Walks.{IsUsual, ArePlaces};
 ghost use Rattle.lnt_files.specs.Stepping.{IsPair, IsComponent, AreComponents, ReadsEntry};
 
-use crate::contents::{DIRECTORY_INDEX, MD5, PATH, place_of};
+use crate::contents::place_of;
 use crate::walk::EntryView;
 use lnt_header::Pair;
+use lnt_header::content::{DIRECTORY_INDEX, MD5, PATH};
 use lnt_wire::{Cursor, Fault, Form, Format, ValueView};
 
 /// Which of the formats that compilers write a table has. Entries of the first three are read without checking the format

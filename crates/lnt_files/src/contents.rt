@@ -3,17 +3,9 @@ ghost use Rattle.std.specs.Prelude.{◌≡◌, ◌==◌};
 ghost use Rattle.std.specs.Option.{option_copied, option_map};
 ghost use Rattle.lnt_files.specs.Contents.{place_of, form_at, component, path_text, number_of, directory_number, bytes_of_sum, sum_of};
 
+use lnt_header::content::{DIRECTORY_INDEX, MD5, PATH};
 use lnt_header::{Entry, Pair};
 use lnt_wire::{Form, FormValue, Strings};
-
-/// The content type of paths.
-pub(crate) const PATH: u64 = 1;
-
-/// The content type of directory numbers.
-pub(crate) const DIRECTORY_INDEX: u64 = 2;
-
-/// The content type of MD5 sums.
-pub(crate) const MD5: u64 = 5;
 
 /// The first place of the content type in a format.
 pub(crate) fn place_of(content: u64, pairs: &[Pair]) -> Option<usize>

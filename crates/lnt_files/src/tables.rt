@@ -4,7 +4,8 @@ ghost use Rattle.lnt_files.specs.Contents.{content_path, content_directory_index
 ghost use Rattle.lnt_files.specs.FaultTexts.{entry_table_fault_text, table_text};
 ghost use Rattle.lnt_files.specs.Tables.{IsPathForm, IsNumberForm, IsSumForm, IsUsableFormat};
 
-use crate::contents::{DIRECTORY_INDEX, MD5, PATH, form_at};
+use crate::contents::form_at;
+use lnt_header::content::{DIRECTORY_INDEX, MD5, PATH};
 use lnt_header::{EntryTable, Pair};
 use lnt_wire::Form;
 use std::error::Error;

@@ -11,7 +11,7 @@ use std::marker::Model;
 /// A part of an entry's format: a content type, and the form of its values.
 #[derive(Clone, Copy, Debug, PartialEq, Eq)]
 pub struct Pair {
-    /// The content type (DWARF 5, section 6.2.4.1): 1 path, 2 directory index, 5 MD5 and others.
+    /// The content type (DWARF 5, section 6.2.4.1): one of [`content`](crate::content), or another.
     pub content: u64,
     /// The form of the values.
     pub form: Form,

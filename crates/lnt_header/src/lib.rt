@@ -2,6 +2,7 @@
 //! `lnt_header_bytes` reads and writes headers, and `lnt_unit` has the units.
 #![tactic(auto)]
 
+pub mod content;
 mod fault;
 mod header;
 mod op;

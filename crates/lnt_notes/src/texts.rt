@@ -1,15 +1,13 @@
 //! The string section that has the paths of a unit's table.
 ghost use Rattle.std.specs.Prelude.{◌-◌, ◌^◌, ◌<◌};
 
+use lnt_header::content::PATH;
 use lnt_header::{EntryTable, Header, Pair};
 use lnt_io::Source;
 use lnt_text::StringSection;
 use lnt_unit::{SectionReader, UnitBuffer, UnitInPlace};
 use lnt_wire::{Form, Order};
 use std::alloc::Global;
-
-// The content type of a path (DWARF 5, section 6.2.4.1).
-const PATH: u64 = 1;
 
 // The string section that has the paths of this table of the unit at this offset. `None` if no string section has them, or
 // the unit can't be read.

@@ -9,31 +9,32 @@ ghost use Rattle.lnt_older.specs.ListReading.{BeginsWithPath, PassesList};
 ghost use Rattle.lnt_older.specs.OlderBytes.{BeginsEntry, ListBytes};
 
 use lnt_header::Pair;
+use lnt_header::content::{DIRECTORY_INDEX, PATH, SIZE, TIMESTAMP};
 use lnt_header_bytes::EntriesInPlace;
 use lnt_wire::{Cursor, Fault, Form, Format};
 
 /// What a listed directory consists of: a path.
 pub const DIRECTORY_PAIRS: [Pair; 1] = [Pair {
-    content: 1,
+    content: PATH,
     form: Form::Text,
 }];
 
 /// What a listed file consists of: a path, the number of its directory, a time and a size.
 pub const FILE_PAIRS: [Pair; 4] = [
     Pair {
-        content: 1,
+        content: PATH,
         form: Form::Text,
     },
     Pair {
-        content: 2,
+        content: DIRECTORY_INDEX,
         form: Form::Udata,
     },
     Pair {
-        content: 3,
+        content: TIMESTAMP,
         form: Form::Udata,
     },
     Pair {
-        content: 4,
+        content: SIZE,
         form: Form::Udata,
     },
 ];

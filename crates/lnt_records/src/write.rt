@@ -11,13 +11,10 @@ ghost use Rattle.lnt_records.specs.Progress.{AddsLine};
 use crate::fault::WriteStop;
 use crate::header::TableVersion;
 use crate::text::{ROOM, line_of};
-use lnt_io::write_whole;
+use lnt_io::{BLOCK, write_whole};
 use lnt_spans::{Span, Version};
 use std::alloc::{AllocError, Global};
 use std::io::Write;
-
-// A block of lines goes to the writer once it has this many bytes.
-const BLOCK: usize = 1 << 16;
 
 /// Writes the table of some spans, block by block.
 ///

@@ -8,9 +8,10 @@ ghost use Rattle.lnt_files.specs.Seen.{EntryAt};
 ghost use Rattle.lnt_files.specs.Tables.{AreUsableTables};
 ghost use Rattle.lnt_files.specs.Walks.{Says};
 
-use crate::contents::{MD5, place_of};
+use crate::contents::place_of;
 use crate::paths::{Pieces, add_pieces, begins_with_slash};
 use crate::walk::{Entries, EntryView};
+use lnt_header::content::MD5;
 use lnt_header_bytes::{EntryTableView, HeaderView};
 use lnt_wire::Strings;
 use std::alloc::{AllocError, Global};
