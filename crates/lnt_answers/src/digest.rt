@@ -1,8 +1,8 @@
 //! The MD5 sum of a source, and its comparison with the one that is listed.
-ghost use Rattle.std.specs.Prelude.{◌≡◌, ◌≢◌, ℕ, ◌+◌, ◌-◌, ◌^◌, ◌<◌, IfOk, IfSome, IsErrOf, IsTrue, OnOk, false};
+ghost use Rattle.std.specs.Prelude.{◌≡◌, ◌-◌, ◌^◌, ◌<◌, IfOk, IfSome, IsErrOf, OnOk, false};
 ghost use Rattle.md5.specs.Md5.{md5};
-ghost use Rattle.lnt_io.specs.Pulling.{HasMoreThan};
 ghost use Rattle.lnt_answers.specs.Agreements.{Agrees};
+ghost use Rattle.lnt_io.specs.Stopping.{CountsFailure, IsTooLongOn};
 
 use lnt_io::{Source, Stop};
 use md5::{Digest, Md5};
@@ -28,12 +28,10 @@ pub fn sum_of<R: Source>(source: &mut R) -> Result<[u8; 16], Stop>
     requires { R.failures source.old < 2 ^ 64 - 1 }
     ensures ok { IfOk result (λ sum. IfSome (R.remaining source.old) (λ bytes. sum ≡ md5 bytes)) }
     ensures not_long { OnOk result (R.too_long source.new ≡ false) }
-    ensures read { IsErrOf result Stop.Read → R.failures source.new ≡ R.failures source.old + 1 }
-    ensures no_failure { result ≢ Err Stop.Read → R.failures source.new ≡ R.failures source.old }
-    ensures too_long { IsErrOf result Stop.TooLong → IsTrue (R.too_long source.new) }
+    ensures failures { CountsFailure ⟦<R as Source>⟧ source.old source.new result Stop.Read }
+    ensures too_long { IsTooLongOn ⟦<R as Source>⟧ source.old source.new result Stop.TooLong }
     ensures no_memory { IsErrOf result Stop.Memory → ⊥ }
     ensures name { R.name source.new ≡ R.name source.old }
-    ensures more { IsErrOf result Stop.TooLong → HasMoreThan (R.remaining source.old) (R.left source.old) }
 {
     let mut hasher = Md5::new();
     let mut block = [0; BLOCK];
@@ -62,12 +60,10 @@ pub fn md5_agrees<R: Source>(source: &mut R, listed: &[u8; 16]) -> Result<Agreem
     ensures ok { IfOk result (λ agreement.
         IfSome (R.remaining source.old) (λ bytes. Agrees agreement (md5 bytes) listed.now)) }
     ensures not_long { OnOk result (R.too_long source.new ≡ false) }
-    ensures read { IsErrOf result Stop.Read → R.failures source.new ≡ R.failures source.old + 1 }
-    ensures no_failure { result ≢ Err Stop.Read → R.failures source.new ≡ R.failures source.old }
-    ensures too_long { IsErrOf result Stop.TooLong → IsTrue (R.too_long source.new) }
+    ensures failures { CountsFailure ⟦<R as Source>⟧ source.old source.new result Stop.Read }
+    ensures too_long { IsTooLongOn ⟦<R as Source>⟧ source.old source.new result Stop.TooLong }
     ensures no_memory { IsErrOf result Stop.Memory → ⊥ }
     ensures name { R.name source.new ≡ R.name source.old }
-    ensures more { IsErrOf result Stop.TooLong → HasMoreThan (R.remaining source.old) (R.left source.old) }
 {
     let sum = sum_of(source)?;
     if sum == *listed {

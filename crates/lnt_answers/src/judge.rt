@@ -1,8 +1,9 @@
 //! Judges a section and prints why one isn't good.
-ghost use Rattle.std.specs.Prelude.{◌≡◌, ◌+◌, ◌-◌, ◌^◌, ◌<◌, ◌⊎◌, IfOk, IfSome, IsErrOf, IsTrue, OnErr};
+ghost use Rattle.std.specs.Prelude.{◌≡◌, ◌-◌, ◌^◌, ◌<◌, ◌⊎◌, IfOk, IfSome, OnErr};
 ghost use Rattle.std.specs.Io.KnownBytes.{Keeps};
 ghost use Rattle.lnt_lines.specs.Drafts.{IsJudgedIndex};
 ghost use Rattle.lnt_answers.specs.Lines.{HasBegunLine, IsIndexGiven, IsReasonTold};
+ghost use Rattle.lnt_io.specs.Stopping.{CountsFailure, IsTooLongOn};
 
 use lnt_io::{Halt, Source, print_line};
 use lnt_lines::{JudgedIndex, Options, index_section};
@@ -33,8 +34,8 @@ pub fn judge_section<'s, R: Source, W: Write>(
         ⊎ HasBegunLine (λ judged. IfSome (R.remaining section.old) (λ bytes.
         IsJudgedIndex strings.now.line.now strings.now.general.now options.now bytes judged))
         (W.contents out.old) (W.contents out.new)) }
-    ensures read { IsErrOf result Halt.Read → R.failures section.new ≡ R.failures section.old + 1 }
-    ensures too_long { IsErrOf result Halt.TooLong → IsTrue (R.too_long section.new) }
+    ensures failures { CountsFailure ⟦<R as Source>⟧ section.old section.new result Halt.Read }
+    ensures too_long { IsTooLongOn ⟦<R as Source>⟧ section.old section.new result Halt.TooLong }
 {
     match index_section(alloc, section, strings, options) {
         Ok(JudgedIndex::Good(index)) => Ok(JudgedIndex::Good(index)),

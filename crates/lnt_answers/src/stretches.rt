@@ -1,5 +1,5 @@
 //! All stretches of positions in a scope at which a table and a good section answer differently.
-ghost use Rattle.std.specs.Prelude.{◌≡◌, ◌-◌, ◌^◌, ◌<◌, ◌+◌, ◌++◌, [], Option, IfErr, IfOk, IsErrOf};
+ghost use Rattle.std.specs.Prelude.{◌≡◌, ◌-◌, ◌^◌, ◌<◌, ◌+◌, ◌++◌, [], Option, IfErr, IfOk};
 ghost use Rattle.std.specs.Prelude.{OnErr, OnOk, codes};
 ghost use Rattle.std.specs.Io.KnownBytes.{Appends};
 ghost use Rattle.lnt_answers.specs.DifferenceLines.{AreDifferencesBegun, path_stretch_line};
@@ -15,6 +15,7 @@ ghost use Rattle.lnt_spans.specs.Counts.{addresses_answered};
 ghost use Rattle.lnt_spans.specs.declared.position.Position.{Position};
 ghost use Rattle.lnt_table.specs.Verdicts.{no_of_fault};
 ghost use Rattle.lnt_lines.specs.Indexed.{OfUnits};
+ghost use Rattle.lnt_io.specs.Stopping.{CountsFailure};
 
 use crate::differences::print_differences;
 use crate::stretch_lines::StretchLines;
@@ -64,7 +65,7 @@ pub fn print_stretches<T: Source, W: Write>(
     requires { T.failures table.old < 2 ^ 64 - 1 }
     ensures told { IfOk result (TellsStretches scope index.now (T.remaining table.old) (W.contents out.old) (W.contents out.new)) }
     ensures faulty { IfOk result (λ told. IsFaultTold told (W.contents out.old) (W.contents out.new)) }
-    ensures read { IsErrOf result Halt.Read → T.failures table.new ≡ T.failures table.old + 1 }
+    ensures failures { CountsFailure ⟦<T as Source>⟧ table.old table.new result Halt.Read }
     ensures begun { OnErr result (BeginsStretches scope index.now (T.remaining table.old) (W.contents out.old) (W.contents out.new)) }
 {
     match differences_any(alloc, table, index) {

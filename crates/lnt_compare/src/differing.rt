@@ -1,13 +1,13 @@
 //! Compares a table with the spans of a section at every position.
-ghost use Rattle.std.specs.Prelude.{◌≡◌, ◌≢◌, ◌+◌, ◌-◌, ◌^◌, ◌<◌, ℕ, List, Option, IfOk, IfSome, IsErrOf, IsTrue};
+ghost use Rattle.std.specs.Prelude.{◌≡◌, ◌+◌, ◌-◌, ◌^◌, ◌<◌, ℕ, List, Option, IfOk, IfSome};
 ghost use Rattle.lnt_spans.specs.declared.span.Span.{Span};
 ghost use Rattle.lnt_spans.specs.declared.answer.Answer.{Answer};
 ghost use Rattle.lnt_spans.specs.declared.position.Position.{Position as Place};
 ghost use Rattle.lnt_spans.specs.Spans.{AreInOrder, span_answer};
-ghost use Rattle.lnt_io.specs.Pulling.{HasMoreThan};
 ghost use Rattle.lnt_compare.specs.Differing.{IsDiffering, IsHeadedDiffering, IsStarted};
 ghost use Rattle.lnt_compare.specs.Outcomes.{HasBegun, IfCompared, IsStartOf};
 ghost use Rattle.lnt_compare.specs.Progress.{IsContinuedBy, IsGathered};
+ghost use Rattle.lnt_io.specs.Stopping.{CountsFailure, IsTooLongOn};
 
 use crate::gather::gather_after;
 use crate::outcome::TableRead;
@@ -16,7 +16,7 @@ use crate::remaining::Remaining;
 use crate::stream::TableStart;
 use crate::window::{Window, pass_header};
 use lnt_io::{Source, Stop};
-use lnt_records::{ROOM, TableFault, TableVersion, header_of, told};
+use lnt_records::{ROOM, TableFault, TableVersion, header_of};
 use lnt_spans::{
     Differences, MergeByNumber, Position, Span, SpanList, SpanSlice, SpanSource, Version,
 };
@@ -50,17 +50,16 @@ pub fn compare_all<S: SpanSource + Drop, T: Source>(
         bytes section differing)) }
     ensures started { IfOk result (λ differing. IsStarted ⟦<Remaining<S> as SpanSource>⟧.to_come ⟦<SpanList as SpanSource>⟧.to_come
         differing) }
-    ensures read { IsErrOf result Stop.Read → T.failures table.new ≡ T.failures table.old + 1 }
-    ensures no_failure { result ≢ Err Stop.Read → T.failures table.new ≡ T.failures table.old }
-    ensures too_long { IsErrOf result Stop.TooLong → IsTrue (T.too_long table.new) }
-    ensures more { IsErrOf result Stop.TooLong → HasMoreThan (T.remaining table.old) (T.left table.old) }
+    ensures failures { CountsFailure ⟦<T as Source>⟧ table.old table.new result Stop.Read }
+    ensures too_long { IsTooLongOn ⟦<T as Source>⟧ table.old table.new result Stop.TooLong }
 {
     let (window, spans) = match differ_lines(alloc, table, spans)? {
         TableStart::Compared(differing) => return Ok(differing),
         TableStart::Other(window, spans) => (window, spans),
     };
     let text = window.rest_after(alloc, &[], table)?;
-    told(differ_records(alloc, &text, spans))
+    let all = differ_records(alloc, &text, spans)?;
+    Ok(all)
 }
 
 /// Compares a table as `compare_all` does, if its first line is the header of version 1 or 2. Otherwise it takes only the first
@@ -79,10 +78,8 @@ pub fn differ_lines<S: SpanSource + Drop, T: Source>(
         IsStarted ⟦<Remaining<S> as SpanSource>⟧.to_come ⟦<SpanList as SpanSource>⟧.to_come told)) }
     ensures begun { IfOk result (λ start. HasBegun (T.remaining table.old) (T.remaining table.new) (T.left table.old) (T.left table.new)
         spans start) }
-    ensures read { IsErrOf result Stop.Read → T.failures table.new ≡ T.failures table.old + 1 }
-    ensures no_failure { result ≢ Err Stop.Read → T.failures table.new ≡ T.failures table.old }
-    ensures too_long { IsErrOf result Stop.TooLong → IsTrue (T.too_long table.new) }
-    ensures more { IsErrOf result Stop.TooLong → HasMoreThan (T.remaining table.old) (T.left table.old) }
+    ensures failures { CountsFailure ⟦<T as Source>⟧ table.old table.new result Stop.Read }
+    ensures too_long { IsTooLongOn ⟦<T as Source>⟧ table.old table.new result Stop.TooLong }
 {
     // For the proofs: a table has no more records than its source may give bytes, so their number fits.
     let _may_give = table.left();
@@ -95,7 +92,7 @@ pub fn differ_lines<S: SpanSource + Drop, T: Source>(
     let text = window.rest_after(alloc, version.header_line(), table)?;
     let merge = MergeByNumber::past(SpanSlice::of(&[]), version, passed.end);
     let gathered = gather_after(alloc, &text, merge, version, passed.count);
-    let differing = told(differ_after(gathered, passed.spans, version, passed.end))?;
+    let differing = differ_after(gathered, passed.spans, version, passed.end)?;
     Ok(TableStart::Compared(differing))
 }
 

@@ -1,9 +1,10 @@
 //! Reads tables by number line by line: each record on a line of its own that ends in a line feed, with nothing in quotes, as
 //! `write_spans` writes them.
-ghost use Rattle.std.specs.Prelude.{◌≡◌, ◌≢◌, ◌+◌, ◌-◌, ◌^◌, ◌<◌, ◌++◌, ℕ, List, length, IsErrOf, OnOk};
+ghost use Rattle.std.specs.Prelude.{◌+◌, ◌-◌, ◌^◌, ◌<◌, ◌++◌, ℕ, List, length, IsErrOf, OnOk};
 ghost use Rattle.lnt_spans.specs.declared.span.Span as spec;
 ghost use Rattle.lnt_spans.specs.Comparing.{Compares};
 ghost use Rattle.lnt_compare.specs.Passing.{HasPassed, Passes};
+ghost use Rattle.lnt_io.specs.Stopping.{CountsFailure};
 
 use crate::window::Window;
 use lnt_io::{Source, Stop};
@@ -28,8 +29,7 @@ pub(crate) fn push_lines<S: SpanSource + Drop, T: Source>(
         (T.left source.new) window.old window.new text
         × ((section : List spec.Span) (before : List ℕ) → HasPassed S.to_come merge.old version section before count.old
         → HasPassed S.to_come merge.new version section (before ++ text) count.new)) }
-    ensures read { IsErrOf result Stop.Read → T.failures source.new ≡ T.failures source.old + 1 }
-    ensures no_failure { result ≢ Err Stop.Read → T.failures source.new ≡ T.failures source.old }
+    ensures failures { CountsFailure ⟦<T as Source>⟧ source.old source.new result Stop.Read }
     ensures not_long { IsErrOf result Stop.TooLong → ⊥ }
 {
     loop {

@@ -2,13 +2,14 @@
 //!
 //! Without it `push_lines` would parse each line and merge its span, as it does from the first other line on. A check of a section's own
 //! table takes 0.63 of the instructions of that (`bench/RESULTS.md`).
-ghost use Rattle.std.specs.Prelude.{◌≡◌, ◌≢◌, ◌+◌, ◌-◌, ◌^◌, ◌<◌, ℕ, List, length, IfOk, IsErrOf};
+ghost use Rattle.std.specs.Prelude.{◌≡◌, ◌+◌, ◌-◌, ◌^◌, ◌<◌, ℕ, List, length, IfOk, IsErrOf};
 ghost use Rattle.std.specs.Bool.{MatchBool};
 ghost use Rattle.lnt_spans.specs.declared.span.Span as spec;
 ghost use Rattle.lnt_spans.specs.Spans.{AreInOrder};
 ghost use Rattle.lnt_records.specs.Lines.{IsTextLine};
 ghost use Rattle.lnt_compare.specs.Passing.{LeavesOff, Passes};
 ghost use Rattle.lnt_records.specs.Written.{IsOfVersion};
+ghost use Rattle.lnt_io.specs.Stopping.{CountsFailure};
 
 use crate::remaining::Remaining;
 use crate::window::Window;
@@ -45,8 +46,7 @@ pub(crate) fn pass_spans<S: SpanSource + Drop, T: Source, C>(
         × Passes (T.remaining source.old) (T.remaining source.new) (T.left source.old) (T.left source.new) window.old window.new text
         × ((list : List spec.Span) → S.to_come spans list → AreInOrder list
         → LeavesOff (⟦<Remaining<S> as SpanSource>⟧.to_come passed.spans) version list text passed.count passed.end)) }
-    ensures read { IsErrOf result Stop.Read → T.failures source.new ≡ T.failures source.old + 1 }
-    ensures no_failure { result ≢ Err Stop.Read → T.failures source.new ≡ T.failures source.old }
+    ensures failures { CountsFailure ⟦<T as Source>⟧ source.old source.new result Stop.Read }
     ensures not_long { IsErrOf result Stop.TooLong → ⊥ }
 {
     let mut spans = spans;

@@ -1,11 +1,11 @@
 //! Compares a table with the spans of a section, both as they come.
-ghost use Rattle.std.specs.Prelude.{◌≡◌, ◌≢◌, ◌+◌, ◌-◌, ◌^◌, ◌<◌, ◌++◌, ℕ, List, length, IfOk, IfSome, IsErrOf, IsTrue};
+ghost use Rattle.std.specs.Prelude.{◌+◌, ◌-◌, ◌^◌, ◌<◌, ℕ, List, length, IfOk, IfSome, IsErrOf};
 ghost use Rattle.lnt_spans.specs.declared.span.Span.{Span};
 ghost use Rattle.lnt_spans.specs.Spans.{AreInOrder};
-ghost use Rattle.lnt_io.specs.Pulling.{HasMoreThan};
 ghost use Rattle.lnt_compare.specs.Comparisons.{IsComparison};
 ghost use Rattle.lnt_compare.specs.Outcomes.{HasBegun, IsHeadedOutcome, IsStartOf};
 ghost use Rattle.lnt_compare.specs.Passing.{HasPassed, Passes};
+ghost use Rattle.lnt_io.specs.Stopping.{CountsFailure, IsTooLongOn};
 
 use crate::comparison::{compare_after, compare_records};
 use crate::lines::push_lines;
@@ -14,7 +14,7 @@ use crate::passing::pass_spans;
 use crate::remaining::Remaining;
 use crate::window::{Window, pass_header};
 use lnt_io::{Source, Stop};
-use lnt_records::{ROOM, TableVersion, told};
+use lnt_records::{ROOM, TableVersion};
 use lnt_spans::{Difference, MergeByNumber, SpanSource, Version};
 use std::alloc::Global;
 
@@ -42,17 +42,15 @@ pub fn compare_table<S: SpanSource + Drop, T: Source>(
     requires spans { (list : List Span) × S.to_come spans list × AreInOrder list }
     ensures ok { IfOk result (λ compared. (list : List Span) → S.to_come spans list → AreInOrder list
         → IfSome (T.remaining table.old) (λ bytes. IsComparison bytes list compared)) }
-    ensures read { IsErrOf result Stop.Read → T.failures table.new ≡ T.failures table.old + 1 }
-    ensures no_failure { result ≢ Err Stop.Read → T.failures table.new ≡ T.failures table.old }
-    ensures too_long { IsErrOf result Stop.TooLong → IsTrue (T.too_long table.new) }
-    ensures more { IsErrOf result Stop.TooLong → HasMoreThan (T.remaining table.old) (T.left table.old) }
+    ensures failures { CountsFailure ⟦<T as Source>⟧ table.old table.new result Stop.Read }
+    ensures too_long { IsTooLongOn ⟦<T as Source>⟧ table.old table.new result Stop.TooLong }
 {
     let (window, spans) = match compare_lines(alloc, table, spans)? {
         TableStart::Compared(outcome) => return Ok(outcome.whole()),
         TableStart::Other(window, spans) => (window, spans),
     };
     let text = window.rest_after(alloc, &[], table)?;
-    let outcome = told(compare_records(alloc, &text, spans))?;
+    let outcome = compare_records(alloc, &text, spans)?;
     Ok(outcome.whole())
 }
 
@@ -78,10 +76,8 @@ pub fn compare_lines<S: SpanSource + Drop, T: Source>(
         → IsStartOf (T.remaining table.old) (λ bytes told. IsHeadedOutcome bytes list told) start) }
     ensures begun { IfOk result (λ start. HasBegun (T.remaining table.old) (T.remaining table.new) (T.left table.old) (T.left table.new)
         spans start) }
-    ensures read { IsErrOf result Stop.Read → T.failures table.new ≡ T.failures table.old + 1 }
-    ensures no_failure { result ≢ Err Stop.Read → T.failures table.new ≡ T.failures table.old }
-    ensures too_long { IsErrOf result Stop.TooLong → IsTrue (T.too_long table.new) }
-    ensures more { IsErrOf result Stop.TooLong → HasMoreThan (T.remaining table.old) (T.left table.old) }
+    ensures failures { CountsFailure ⟦<T as Source>⟧ table.old table.new result Stop.Read }
+    ensures too_long { IsTooLongOn ⟦<T as Source>⟧ table.old table.new result Stop.TooLong }
 {
     // For the proofs: a table has no more records than its source may give bytes, so their number fits.
     let _may_give = table.left();
@@ -92,7 +88,7 @@ pub fn compare_lines<S: SpanSource + Drop, T: Source>(
     };
     let (merge, count) = pass_lines(alloc, table, &mut window, version, spans)?;
     let text = window.rest_after(alloc, version.header_line(), table)?;
-    let outcome = told(compare_after(alloc, &text, merge, version, count))?;
+    let outcome = compare_after(alloc, &text, merge, version, count)?;
     Ok(TableStart::Compared(outcome))
 }
 
@@ -112,8 +108,7 @@ fn pass_lines<S: SpanSource + Drop, T: Source>(
         × Passes (T.remaining table.old) (T.remaining table.new) (T.left table.old) (T.left table.new) window.old window.new text
         × ((list : List Span) → S.to_come spans list → AreInOrder list
         → HasPassed ⟦<Remaining<S> as SpanSource>⟧.to_come passed.0 version list text passed.1)) }
-    ensures read { IsErrOf result Stop.Read → T.failures table.new ≡ T.failures table.old + 1 }
-    ensures no_failure { result ≢ Err Stop.Read → T.failures table.new ≡ T.failures table.old }
+    ensures failures { CountsFailure ⟦<T as Source>⟧ table.old table.new result Stop.Read }
     ensures not_long { IsErrOf result Stop.TooLong → ⊥ }
 {
     let passed = pass_spans::<S, T, Outcome<Difference>>(alloc, spans, version, table, window)?;

@@ -1,9 +1,9 @@
 //! The bytes of a table that were taken from its source but not parsed yet.
-ghost use Rattle.std.specs.Prelude.{◌≡◌, ◌≢◌, ◌+◌, ◌-◌, ◌^◌, ◌<◌, ◌≤◌, ◌++◌, [], drop, length, IfOk, IsErrOf, IsTrue, MatchOption, OnOk};
+ghost use Rattle.std.specs.Prelude.{◌≡◌, ◌+◌, ◌-◌, ◌^◌, ◌<◌, ◌≤◌, ◌++◌, [], drop, length, IfOk, IsErrOf, MatchOption, OnOk};
 ghost use Rattle.std.specs.Bool.{MatchBool};
-ghost use Rattle.lnt_io.specs.Pulling.{HasMoreThan};
 ghost use Rattle.lnt_compare.specs.Passing.{Ends, Passes};
 ghost use Rattle.lnt_records.specs.Written.{line_text};
+ghost use Rattle.lnt_io.specs.Stopping.{CountsFailure, IsTooLongOn};
 
 use lnt_io::{BLOCK, Source, Stop, take_block};
 use lnt_records::TableVersion;
@@ -79,8 +79,7 @@ impl Window {
         requires { T.failures source.old < 2 ^ 64 - 1 }
         ensures taken { OnOk result (Passes (T.remaining source.old) (T.remaining source.new) (T.left source.old) (T.left source.new)
             self.old self.new []) }
-        ensures read { IsErrOf result Stop.Read → T.failures source.new ≡ T.failures source.old + 1 }
-        ensures no_failure { result ≢ Err Stop.Read → T.failures source.new ≡ T.failures source.old }
+        ensures failures { CountsFailure ⟦<T as Source>⟧ source.old source.new result Stop.Read }
         ensures not_long { IsErrOf result Stop.TooLong → ⊥ }
     {
         if self.block.len() - self.at >= count {
@@ -95,8 +94,7 @@ impl Window {
         requires { T.failures source.old < 2 ^ 64 - 1 }
         ensures taken { OnOk result (Passes (T.remaining source.old) (T.remaining source.new) (T.left source.old) (T.left source.new)
             self.old self.new []) }
-        ensures read { IsErrOf result Stop.Read → T.failures source.new ≡ T.failures source.old + 1 }
-        ensures no_failure { result ≢ Err Stop.Read → T.failures source.new ≡ T.failures source.old }
+        ensures failures { CountsFailure ⟦<T as Source>⟧ source.old source.new result Stop.Read }
         ensures not_long { IsErrOf result Stop.TooLong → ⊥ }
     {
         let Ok(mut block) = Vec::from_slice(alloc, self.bytes()) else {
@@ -117,10 +115,8 @@ impl Window {
     ) -> Result<Vec<u8>, Stop>
         requires { T.failures source.old < 2 ^ 64 - 1 }
         ensures ok { IfOk result (λ all. Ends (T.remaining source.old) (T.left source.old) (text.now ++ self) all.items) }
-        ensures read { IsErrOf result Stop.Read → T.failures source.new ≡ T.failures source.old + 1 }
-        ensures no_failure { result ≢ Err Stop.Read → T.failures source.new ≡ T.failures source.old }
-        ensures too_long { IsErrOf result Stop.TooLong → IsTrue (T.too_long source.new) }
-        ensures more { IsErrOf result Stop.TooLong → HasMoreThan (T.remaining source.old) (T.left source.old) }
+        ensures failures { CountsFailure ⟦<T as Source>⟧ source.old source.new result Stop.Read }
+        ensures too_long { IsTooLongOn ⟦<T as Source>⟧ source.old source.new result Stop.TooLong }
     {
         let Ok(mut all) = joined(alloc, text, self.bytes()) else {
             return Err(Stop::Memory);
@@ -145,8 +141,7 @@ fn fill_block<T: Source>(source: &mut T, block: &mut Vec<u8>, count: usize) -> R
     requires { T.failures source.old < 2 ^ 64 - 1 }
     ensures taken { OnOk result (Passes (T.remaining source.old) (T.remaining source.new) (T.left source.old) (T.left source.new)
         block.old.items block.new.items []) }
-    ensures read { IsErrOf result Stop.Read → T.failures source.new ≡ T.failures source.old + 1 }
-    ensures no_failure { result ≢ Err Stop.Read → T.failures source.new ≡ T.failures source.old }
+    ensures failures { CountsFailure ⟦<T as Source>⟧ source.old source.new result Stop.Read }
     ensures not_long { IsErrOf result Stop.TooLong → ⊥ }
 {
     while block.len() < count {
@@ -162,10 +157,8 @@ fn fill_block<T: Source>(source: &mut T, block: &mut Vec<u8>, count: usize) -> R
 fn read_rest<T: Source>(source: &mut T, all: &mut Vec<u8>) -> Result<(), Stop>
     requires { T.failures source.old < 2 ^ 64 - 1 }
     ensures ok { OnOk result (Ends (T.remaining source.old) (T.left source.old) all.old.items all.new.items) }
-    ensures read { IsErrOf result Stop.Read → T.failures source.new ≡ T.failures source.old + 1 }
-    ensures no_failure { result ≢ Err Stop.Read → T.failures source.new ≡ T.failures source.old }
-    ensures too_long { IsErrOf result Stop.TooLong → IsTrue (T.too_long source.new) }
-    ensures more { IsErrOf result Stop.TooLong → HasMoreThan (T.remaining source.old) (T.left source.old) }
+    ensures failures { CountsFailure ⟦<T as Source>⟧ source.old source.new result Stop.Read }
+    ensures too_long { IsTooLongOn ⟦<T as Source>⟧ source.old source.new result Stop.TooLong }
 {
     while take_block(source, all, BLOCK)? > 0 {}
     if source.too_long() {

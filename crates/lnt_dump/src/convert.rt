@@ -1,5 +1,5 @@
 //! The subcommand `convert`.
-ghost use Rattle.std.specs.Prelude.{◌≡◌, ◌≢◌, ◌+◌, ◌-◌, ◌^◌, ◌<◌, IfErr, IfOk, IfSome, IsErrOf, IsTrue, OnErr, OnOk};
+ghost use Rattle.std.specs.Prelude.{◌≡◌, ◌≢◌, ◌-◌, ◌^◌, ◌<◌, IfErr, IfOk, IfSome, OnErr, OnOk};
 ghost use Rattle.std.specs.Io.KnownBytes.{Appends};
 ghost use Rattle.lnt_io.specs.Prefixes.{AppendsPrefix};
 ghost use Rattle.lnt_io.specs.Halts.{IsPrinting};
@@ -8,6 +8,7 @@ ghost use Rattle.lnt_unit.specs.ConvertedUnits.{Converts};
 ghost use Rattle.lnt_unit.specs.Converting.{IsConverted};
 ghost use Rattle.lnt_dump.specs.Printed.{IsConversionBegun, IsConversionTold, IsPrintedIn, IsRefusalTold, refusal_text};
 ghost use Rattle.lnt_dump.specs.Stepping.{IsPrefixIn};
+ghost use Rattle.lnt_io.specs.Stopping.{CountsFailure, IsTooLongOn};
 
 use crate::faults::print_fault;
 use crate::page::{hand_on, turn_full};
@@ -42,8 +43,8 @@ pub fn print_converted<R: Source, W: Write>(
         IsRefusalTold order bytes format to (W.contents out.old) (W.contents out.new))) }
     ensures begun { OnErr result (IfSome (R.remaining source.old) (λ bytes.
         IsConversionBegun order bytes format to (W.contents out.old) (W.contents out.new))) }
-    ensures read { IsErrOf result Halt.Read → R.failures source.new ≡ R.failures source.old + 1 }
-    ensures too_long { IsErrOf result Halt.TooLong → IsTrue (R.too_long source.new) }
+    ensures failures { CountsFailure ⟦<R as Source>⟧ source.old source.new result Halt.Read }
+    ensures too_long { IsTooLongOn ⟦<R as Source>⟧ source.old source.new result Halt.TooLong }
 {
     let bytes = read_all(alloc, source)?;
     print_conversion(alloc, &bytes, order, format, to, out)

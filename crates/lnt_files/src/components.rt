@@ -1,5 +1,5 @@
 //! The components of an entry that matter, read in place.
-ghost use Rattle.std.specs.Prelude.{◌≡◌, ◌↔◌, IsTrue, ◌++◌, ◌∷◌, [], ℕ, List, length, IfOk, IfErr};
+ghost use Rattle.std.specs.Prelude.{◌≡◌, ◌↔◌, IsTrue, ◌++◌, ◌∷◌, [], List, length, IfOk, IfErr};
 ghost use Rattle.lnt_header_bytes.specs.TableBytes.{EntryBytes};
 ghost use Rattle.lnt_wire.specs.Borrowed.{value_of};
 ghost use Rattle.lnt_wire.specs.Bytes.{NoneSpelled};

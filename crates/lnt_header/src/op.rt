@@ -1,7 +1,7 @@
 //! The operations of a line number program (DWARF 5, sections 6.2.5 and 7.22), with owned and with borrowed operands, and
 //! which of them a header admits.
-ghost use Rattle.std.specs.Prelude.{◌≡◌, ◌-◌, ◌^◌, ◌<◌, ◌≤◌, ◌↔◌, IsTrue, length, slice_index};
-ghost use Rattle.lnt_header.specs.HeaderRules.{IsAddressSize, IsHeader};
+ghost use Rattle.std.specs.Prelude.{◌≡◌, ◌-◌, ◌^◌, ◌<◌, ◌≤◌, ◌↔◌, IsTrue, slice_index};
+ghost use Rattle.lnt_header.specs.HeaderRules.{IsAddressSize};
 ghost use Rattle.lnt_header.specs.HeaderNumbers.{numbers_of};
 ghost use Rattle.lnt_header.specs.OpRules.{Admits, IsUnknownOf, known_lengths, last_known};
 

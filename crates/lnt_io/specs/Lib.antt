@@ -5,3 +5,4 @@ pub mod Prefixes
 pub mod HaltTexts
 pub mod Halts
 pub mod Pulling
+pub mod Stopping

@@ -1,7 +1,9 @@
 //! Why the work on the bytes of a source was stopped.
-ghost use Rattle.std.specs.Prelude.{Some};
+ghost use Rattle.std.specs.Prelude.{◌≡◌, Some};
 ghost use Rattle.lnt_io.specs.FaultTexts.{stop_text};
+ghost use Rattle.lnt_io.specs.declared.stop.Stop.TheVariants.{Memory};
 
+use std::alloc::AllocError;
 use std::error::Error;
 use std::fmt;
 
@@ -30,3 +32,11 @@ impl fmt::Display for Stop {
 }
 
 impl Error for Stop {}
+
+impl From<AllocError> for Stop {
+    ghost from_gives = { λ _ stop. stop ≡ Memory };
+
+    fn from(_error: AllocError) -> Stop {
+        Stop::Memory
+    }
+}

@@ -1,10 +1,10 @@
 //! A whole section, judged.
-ghost use Rattle.std.specs.Prelude.{◌≡◌, ◌≢◌, ◌+◌, ◌-◌, ◌^◌, ◌<◌, IfOk, IfErr, IfSome, IsErrOf, IsTrue};
-ghost use Rattle.lnt_io.specs.Pulling.{HasMoreThan};
+ghost use Rattle.std.specs.Prelude.{◌≡◌, ◌-◌, ◌^◌, ◌<◌, IfOk, IfErr, IfSome};
 ghost use Rattle.lnt_lines.specs.Drafts.{IsIndexOfSection, IsJudged, IsJudgedIndex};
 ghost use Rattle.lnt_lines.specs.Stepping.{IsDraftOfSection, IsRefusal};
 ghost use Rattle.lnt_unit.specs.declared.reader.Progress.TheVariants.{Reading};
 ghost use Rattle.lnt_unit.specs.Readers.{loan_of, offset_of, order_of, progress_of, source_of};
+ghost use Rattle.lnt_io.specs.Stopping.{CountsFailure, IsTooLongOn};
 
 use crate::draft::Draft;
 use crate::gather::lines_of;
@@ -58,10 +58,8 @@ pub fn verify<R: Source>(
     requires { R.failures section.old < 2 ^ 64 - 1 }
     ensures judged { IfOk result (λ judged. IfSome (R.remaining section.old) (λ bytes.
         IsJudged strings.now.line.now strings.now.general.now options.now bytes judged)) }
-    ensures read { IsErrOf result Stop.Read → R.failures section.new ≡ R.failures section.old + 1 }
-    ensures no_failure { result ≢ Err Stop.Read → R.failures section.new ≡ R.failures section.old }
-    ensures too_long { IsErrOf result Stop.TooLong → IsTrue (R.too_long section.new) }
-    ensures more { IsErrOf result Stop.TooLong → HasMoreThan (R.remaining section.old) (R.left section.old) }
+    ensures failures { CountsFailure ⟦<R as Source>⟧ section.old section.new result Stop.Read }
+    ensures too_long { IsTooLongOn ⟦<R as Source>⟧ section.old section.new result Stop.TooLong }
 {
     match index_section(alloc, section, strings, options)? {
         JudgedIndex::Good(index) => {
@@ -87,10 +85,8 @@ pub fn index_section<'a, R: Source>(
     requires { R.failures section.old < 2 ^ 64 - 1 }
     ensures judged { IfOk result (λ judged. IfSome (R.remaining section.old) (λ bytes.
         IsJudgedIndex strings.now.line.now strings.now.general.now options.now bytes judged)) }
-    ensures read { IsErrOf result Stop.Read → R.failures section.new ≡ R.failures section.old + 1 }
-    ensures no_failure { result ≢ Err Stop.Read → R.failures section.new ≡ R.failures section.old }
-    ensures too_long { IsErrOf result Stop.TooLong → IsTrue (R.too_long section.new) }
-    ensures more { IsErrOf result Stop.TooLong → HasMoreThan (R.remaining section.old) (R.left section.old) }
+    ensures failures { CountsFailure ⟦<R as Source>⟧ section.old section.new result Stop.Read }
+    ensures too_long { IsTooLongOn ⟦<R as Source>⟧ section.old section.new result Stop.TooLong }
 {
     match judge_section(alloc, section, strings, options) {
         Ok(index) => Ok(JudgedIndex::Good(index)),
@@ -111,10 +107,8 @@ fn judge_section<'a, R: Source>(
         IsIndexOfSection strings.now.line.now strings.now.general.now options.now bytes index)) }
     ensures bad { IfErr result (λ refusal. IfSome (R.remaining section.old) (λ bytes.
         IsRefusal strings.now.line.now strings.now.general.now options.now bytes refusal)) }
-    ensures read { IsErrOf result (Refusal.Stop Stop.Read) → R.failures section.new ≡ R.failures section.old + 1 }
-    ensures no_failure { result ≢ Err (Refusal.Stop Stop.Read) → R.failures section.new ≡ R.failures section.old }
-    ensures too_long { IsErrOf result (Refusal.Stop Stop.TooLong) → IsTrue (R.too_long section.new) }
-    ensures more { IsErrOf result (Refusal.Stop Stop.TooLong) → HasMoreThan (R.remaining section.old) (R.left section.old) }
+    ensures failures { CountsFailure ⟦<R as Source>⟧ section.old section.new result (Refusal.Stop Stop.Read) }
+    ensures too_long { IsTooLongOn ⟦<R as Source>⟧ section.old section.new result (Refusal.Stop Stop.TooLong) }
 {
     let mut reader = SectionReader::new(section, options.order);
     let draft = judge_units(alloc, &mut reader, strings, options)?;
@@ -135,11 +129,8 @@ fn judge_units<R: Source>(
         (R.remaining (source_of reader.old))) }
     ensures bad { IfErr result (λ refusal. IfSome (R.remaining (source_of reader.old)) (λ bytes.
         IsRefusal strings.now.line.now strings.now.general.now options.now bytes refusal)) }
-    ensures read { IsErrOf result (Refusal.Stop Stop.Read) → R.failures (source_of reader.new) ≡ R.failures (source_of reader.old) + 1 }
-    ensures no_failure { result ≢ Err (Refusal.Stop Stop.Read) → R.failures (source_of reader.new) ≡ R.failures (source_of reader.old) }
-    ensures too_long { IsErrOf result (Refusal.Stop Stop.TooLong) → IsTrue (R.too_long (source_of reader.new)) }
-    ensures more { IsErrOf result (Refusal.Stop Stop.TooLong)
-        → HasMoreThan (R.remaining (source_of reader.old)) (R.left (source_of reader.old)) }
+    ensures failures { CountsFailure ⟦<R as Source>⟧ (source_of reader.old) (source_of reader.new) result (Refusal.Stop Stop.Read) }
+    ensures too_long { IsTooLongOn ⟦<R as Source>⟧ (source_of reader.old) (source_of reader.new) result (Refusal.Stop Stop.TooLong) }
     ensures same_reference { loan_of reader.new ≡ loan_of reader.old }
 {
     let mut draft = Draft::new(alloc);

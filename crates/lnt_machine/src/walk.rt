@@ -1,5 +1,5 @@
 //! The rows of one sequence, from its first operation on.
-ghost use Rattle.std.specs.Prelude.{◌≡◌, ◌<◌, ◌≤◌, ℕ, List, length, reverse, false, IfSome, if◌then◌else◌};
+ghost use Rattle.std.specs.Prelude.{◌≡◌, ◌<◌, ◌≤◌, List, length, reverse, false, IfSome, if◌then◌else◌};
 ghost use Rattle.std.specs.Iterator.{at_most};
 ghost use Rattle.lnt_header.specs.HeaderNumbers.{HeaderNumbers, numbers_of};
 ghost use Rattle.lnt_header.specs.declared.op.Op.{Op};

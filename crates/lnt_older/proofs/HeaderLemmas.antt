@@ -50,9 +50,9 @@ numbers_small : (version : OlderVersion) (h : HeaderParts) → SaysOperations ve
 numbers_small version h says all = grind (arith, common_steps)
 
 -- the numbers of a header are sound in any format and order, and with any directories and files
-pub moved_numbers : {f g : Format} {o p : Order} {size : ℕ} {n : OlderNumbers} {lengths extra : List ℕ} {ds fs ds' fs' : List Entry}
-    → HasHeaderNumbers (header_of f o size n lengths ds fs extra) → HasHeaderNumbers (header_of g p size n lengths ds' fs' extra)
-moved_numbers n = grind (arith, common_steps)
+pub moved_numbers : (f : Format) {o p : Order} {size : ℕ} {n : OlderNumbers} {lengths : List ℕ}
+    → HasHeaderNumbers (header_of f o size n lengths [] [] []) → HasHeaderNumbers (header_of f p size n lengths [] [] [])
+moved_numbers f n = grind (arith, common_steps)
 
 spelled_at : (version : OlderVersion) (format : Format) (order : Order) (bytes : List ℕ) (n : OlderNumbers) (lengths : List ℕ)
     (directories files : List Entry) (extra : List ℕ) (old new : At) → ((i : ℕ) → get_or bytes i 0 < 256) → old.rest ≡ bytes

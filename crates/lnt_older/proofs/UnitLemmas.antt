@@ -168,7 +168,7 @@ older_sound prefix version order unit u = record {
   directories = u.header.directories;
   files = u.header.files;
   lie = rw (u.format_is, u.order_is) u.header.lie;
-  numbers = λ size is. moved_numbers (u.header.spelled size is).numbers;
+  numbers = λ size is. moved_numbers unit.format (u.header.spelled size is).numbers;
 }
 
 -- ---- units of any version

@@ -63,7 +63,7 @@ fields_upgraded unit directory zero_bytes o0 o1 o2 o3 o4 none is zero_is begun s
       spelled = record {
         directories = d.table;
         files = f.added.table;
-        numbers = moved_numbers (is.numbers size is_size);
+        numbers = moved_numbers unit.format (is.numbers size is_size);
         directory_table = table_spelled unit.format unit.order directory_pairs (1 ∷ 8 ∷ []) directory_bytes d.table
             (directory_entry ∷ ds) (omega arith) (λ e. absurd cc) one_pair directory_table
             (record {

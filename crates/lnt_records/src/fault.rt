@@ -1,8 +1,7 @@
 //! What is wrong with a table, and why a call stopped.
-ghost use Rattle.std.specs.Prelude.{◌≡◌, IfOk, IsErrOf, Some};
+ghost use Rattle.std.specs.Prelude.{◌≡◌, Some};
 ghost use Rattle.lnt_records.specs.FaultTexts.{table_fault_text, write_stop_text};
 
-use lnt_io::Stop;
 use std::alloc::AllocError;
 use std::error::Error;
 use std::fmt;
@@ -68,17 +67,5 @@ impl From<AllocError> for WriteStop {
 
     fn from(_error: AllocError) -> WriteStop {
         WriteStop::Memory
-    }
-}
-
-/// Turns a result for bytes in memory into one for bytes of a source.
-pub fn told<C>(found: Result<C, AllocError>) -> Result<C, Stop>
-    ensures ok { IfOk result (λ it. found ≡ Ok it) }
-    ensures not_read { IsErrOf result Stop.Read → ⊥ }
-    ensures not_long { IsErrOf result Stop.TooLong → ⊥ }
-{
-    match found {
-        Ok(found) => Ok(found),
-        Err(AllocError) => Err(Stop::Memory),
     }
 }

@@ -27,7 +27,7 @@ pub use by_path::{
     addresses_before, line_at, place_before, put_line, record_after,
 };
 pub use column::{Columns, address_at, decimal_at, field, is_field};
-pub use fault::{TableFault, WriteStop, told};
+pub use fault::{TableFault, WriteStop};
 pub use header::{TableVersion, header_of};
 pub use lines::span_at;
 pub use reading::{read_next, reader_of};

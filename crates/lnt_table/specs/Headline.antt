@@ -3,7 +3,6 @@
 --     section, table   the bytes of .debug_line, and those of the address table
 use Rattle.std.specs.Prelude.{◌≡◌, ℕ, Bool, IsTrue, List, Option}
 use Rattle.std.specs.Option.{option_map}
-use Rattle.lnt_io.specs.Pulling.{HasMoreThan}
 use Rattle.lnt_header.specs.declared.unit_parts.UnitParts.{UnitParts}
 use Rattle.lnt_spans.specs.declared.answer.Answer.{Answer}
 use Rattle.lnt_spans.specs.declared.answer.Version.{Version}
@@ -78,10 +77,3 @@ IsGoodSection line general options section = (units : List (ℕ × UnitParts)) �
 abbrev pub IsTrueOfSection : List ℕ → List ℕ → Options → List ℕ → Verdict → Type 0
 IsTrueOfSection line general options section (No (no.Section reason)) = IsTrueNo line general options section reason
 IsTrueOfSection line general options section other = IsGoodSection line general options section
-
--- ---- a stop
-
--- A source was found to have more bytes than the `left` that it may give. If its bytes are known, they are more than these.
-pub record IsFoundTooLong (found : Bool) (remaining : Option (List ℕ)) (left : ℕ) : Type 0 where
-  pub is_found : IsTrue found
-  pub more : HasMoreThan remaining left

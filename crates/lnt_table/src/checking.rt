@@ -1,11 +1,12 @@
 //! Checks a section against an address table.
-ghost use Rattle.std.specs.Prelude.{◌≡◌, ◌≢◌, ◌+◌, ◌-◌, ◌^◌, ◌<◌, ◌⊎◌, IfOk, IfSome, IsErrOf};
+ghost use Rattle.std.specs.Prelude.{◌≡◌, ◌-◌, ◌^◌, ◌<◌, IfOk, IfSome};
 ghost use Rattle.lnt_lines.specs.declared.no.No.{No as SectionNo};
 ghost use Rattle.lnt_lines.specs.Indexed.{OfUnits};
 ghost use Rattle.lnt_io.specs.declared.stop.Stop.TheVariants.{Read, TooLong};
 ghost use Rattle.lnt_compare.specs.Comparisons.{IsComparisonOf, in_versions, tables_by_number};
 ghost use Rattle.lnt_sequences.specs.Sequences.{line_answer};
-ghost use Rattle.lnt_table.specs.Headline.{IsFoundTooLong, IsTrueOfSection, IsTrueVerdict};
+ghost use Rattle.lnt_table.specs.Headline.{IsTrueOfSection, IsTrueVerdict};
+ghost use Rattle.lnt_io.specs.Stopping.{IsEitherTooLongOn, CountsFailure, CountsFailures, IsTooLongOn};
 
 use crate::verdict::{TableNo, Verdict, verdict_of};
 use lnt_compare::{Compared, compare_table};
@@ -64,12 +65,8 @@ pub fn check<R: Source, T: Source>(
     ensures of_section { IfOk result (λ verdict. IfSome (R.remaining section.old) (λ bytes.
         IsTrueOfSection strings.now.line.now strings.now.general.now options.now bytes verdict)) }
     ensures unread { (no : SectionNo) → result ≡ Ok (Verdict.No (TableNo.Section no)) → table.new ≡ table.old }
-    ensures read { IsErrOf result Stop.Read → R.failures section.new + T.failures table.new ≡ R.failures section.old + T.failures table.old
-        + 1 }
-    ensures section_fine { result ≢ Err Stop.Read → R.failures section.new ≡ R.failures section.old }
-    ensures table_fine { result ≢ Err Stop.Read → T.failures table.new ≡ T.failures table.old }
-    ensures too_long { IsErrOf result Stop.TooLong → IsFoundTooLong (R.too_long section.new) (R.remaining section.old) (R.left section.old)
-        ⊎ IsFoundTooLong (T.too_long table.new) (T.remaining table.old) (T.left table.old) }
+    ensures failures { CountsFailures ⟦<R as Source>⟧ section.old section.new ⟦<T as Source>⟧ table.old table.new result Stop.Read }
+    ensures too_long { IsEitherTooLongOn ⟦<R as Source>⟧ section.old section.new ⟦<T as Source>⟧ table.old table.new result Stop.TooLong }
 {
     let index = match index_section(alloc, section, strings, options)? {
         JudgedIndex::Good(index) => index,
@@ -88,9 +85,8 @@ fn compare_index<T: Source>(
     requires { T.failures table.old < 2 ^ 64 - 1 }
     ensures ok { IfOk result (λ compared. OfUnits index.now (λ selection. IfSome (T.remaining table.old) (λ text.
         IsComparisonOf tables_by_number (in_versions (line_answer selection)) text compared))) }
-    ensures read { IsErrOf result Stop.Read → T.failures table.new ≡ T.failures table.old + 1 }
-    ensures no_failure { result ≢ Err Stop.Read → T.failures table.new ≡ T.failures table.old }
-    ensures too_long { IsErrOf result Stop.TooLong → IsFoundTooLong (T.too_long table.new) (T.remaining table.old) (T.left table.old) }
+    ensures failures { CountsFailure ⟦<T as Source>⟧ table.old table.new result Stop.Read }
+    ensures too_long { IsTooLongOn ⟦<T as Source>⟧ table.old table.new result Stop.TooLong }
 {
     let compared = compare_table(alloc, table, index.spans())?;
     Ok(compared)

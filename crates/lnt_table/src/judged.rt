@@ -1,8 +1,8 @@
 //! What the comparison of a table of any version with a good section comes to.
-ghost use Rattle.std.specs.Prelude.{◌≡◌, ◌≢◌, ◌+◌, ◌-◌, ◌^◌, ◌<◌, Option, IfOk, IfSome, IsErrOf};
+ghost use Rattle.std.specs.Prelude.{◌≡◌, ◌-◌, ◌^◌, ◌<◌, Option, IfOk, IfSome};
 ghost use Rattle.lnt_lines.specs.Indexed.{OfUnits};
-ghost use Rattle.lnt_table.specs.Headline.{IsFoundTooLong};
 ghost use Rattle.lnt_table.specs.Judged.{IsJudgedWith, missed_in, part_checked, whole_checked};
+ghost use Rattle.lnt_io.specs.Stopping.{CountsFailure, IsTooLongOn};
 
 use crate::by_path::Checked;
 use crate::kinds::OfKind;
@@ -14,7 +14,7 @@ use lnt_compare::{
 };
 use lnt_io::{Source, Stop};
 use lnt_lines::Index;
-use lnt_records::{PathVersion, header_of, told};
+use lnt_records::{PathVersion, header_of};
 use lnt_spans::{Difference, Version};
 use std::alloc::{AllocError, Global};
 
@@ -63,9 +63,8 @@ pub(crate) fn judge_index<T: Source>(
     requires { T.failures table.old < 2 ^ 64 - 1 }
     ensures ok { IfOk result (λ judged. OfUnits index.now (λ selection. IfSome (T.remaining table.old) (λ text.
         IsJudgedWith index.now selection text judged))) }
-    ensures read { IsErrOf result Stop.Read → T.failures table.new ≡ T.failures table.old + 1 }
-    ensures no_failure { result ≢ Err Stop.Read → T.failures table.new ≡ T.failures table.old }
-    ensures too_long { IsErrOf result Stop.TooLong → IsFoundTooLong (T.too_long table.new) (T.remaining table.old) (T.left table.old) }
+    ensures failures { CountsFailure ⟦<T as Source>⟧ table.old table.new result Stop.Read }
+    ensures too_long { IsTooLongOn ⟦<T as Source>⟧ table.old table.new result Stop.TooLong }
 {
     // For the proofs: a table has no more bytes than its source may give, so their number fits.
     let _may_give = table.left();
@@ -79,7 +78,8 @@ pub(crate) fn judge_index<T: Source>(
         return Ok(OfKind::ByPath(outcome));
     }
     let text = window.rest_after(alloc, &[], table)?;
-    told(judge_text(alloc, &text, index))
+    let judged = judge_text(alloc, &text, index)?;
+    Ok(judged)
 }
 
 // Does the same for a table whose bytes are all in memory.

@@ -1,5 +1,5 @@
 //! Compares a table with a good section at every position.
-ghost use Rattle.std.specs.Prelude.{◌≡◌, ◌≢◌, ◌+◌, ◌-◌, ◌^◌, ◌<◌, [], map, Option, IfOk, IfSome, IsErrOf};
+ghost use Rattle.std.specs.Prelude.{◌-◌, ◌^◌, ◌<◌, [], map, Option, IfOk, IfSome};
 ghost use Rattle.lnt_io.specs.declared.stop.Stop.TheVariants.{Read, TooLong};
 ghost use Rattle.lnt_spans.specs.declared.position.Position.{Position};
 ghost use Rattle.lnt_compare.specs.Differing.{IsDiffering, IsStarted};
@@ -10,8 +10,8 @@ ghost use Rattle.lnt_records.specs.PathSpans.{StandInOrder, path_span_answer};
 ghost use Rattle.lnt_compare.specs.Stretching.{HasToldByPath};
 ghost use Rattle.lnt_lines.specs.Indexed.{OfUnits};
 ghost use Rattle.lnt_table.specs.ByPath.{indexed_path, told_path};
-ghost use Rattle.lnt_table.specs.Headline.{IsFoundTooLong};
 ghost use Rattle.lnt_table.specs.Stretches.{IsAnyDiffering, IsStartedAny};
+ghost use Rattle.lnt_io.specs.Stopping.{CountsFailure, IsTooLongOn};
 
 use crate::kinds::OfKind;
 use lnt_compare::{
@@ -20,7 +20,7 @@ use lnt_compare::{
 };
 use lnt_io::{Source, Stop};
 use lnt_lines::{Index, Spans};
-use lnt_records::{PathVersion, header_of, told};
+use lnt_records::{PathVersion, header_of};
 use lnt_spans::{SpanList, SpanSource, Version};
 use std::alloc::{AllocError, Global};
 
@@ -44,9 +44,8 @@ pub fn differences<'i, T: Source>(
         differing))) }
     ensures started { IfOk result (λ differing. IsStarted ⟦<Remaining<Spans<'i>> as SpanSource>⟧.to_come ⟦<SpanList as SpanSource>⟧.to_come
         differing) }
-    ensures read { IsErrOf result Stop.Read → T.failures table.new ≡ T.failures table.old + 1 }
-    ensures no_failure { result ≢ Err Stop.Read → T.failures table.new ≡ T.failures table.old }
-    ensures too_long { IsErrOf result Stop.TooLong → IsFoundTooLong (T.too_long table.new) (T.remaining table.old) (T.left table.old) }
+    ensures failures { CountsFailure ⟦<T as Source>⟧ table.old table.new result Stop.Read }
+    ensures too_long { IsTooLongOn ⟦<T as Source>⟧ table.old table.new result Stop.TooLong }
 {
     let differing = compare_all(alloc, table, index.spans())?;
     Ok(differing)
@@ -75,16 +74,16 @@ pub fn differences_any<'i, T: Source>(
         IsAnyDiffering ⟦<Remaining<Spans<'i>> as SpanSource>⟧.to_come ⟦<SpanList as SpanSource>⟧.to_come selection text any))) }
     ensures started { IfOk result (λ any. IsStartedAny ⟦<Remaining<Spans<'i>> as SpanSource>⟧.to_come ⟦<SpanList as SpanSource>⟧.to_come
         any) }
-    ensures read { IsErrOf result Stop.Read → T.failures table.new ≡ T.failures table.old + 1 }
-    ensures no_failure { result ≢ Err Stop.Read → T.failures table.new ≡ T.failures table.old }
-    ensures too_long { IsErrOf result Stop.TooLong → IsFoundTooLong (T.too_long table.new) (T.remaining table.old) (T.left table.old) }
+    ensures failures { CountsFailure ⟦<T as Source>⟧ table.old table.new result Stop.Read }
+    ensures too_long { IsTooLongOn ⟦<T as Source>⟧ table.old table.new result Stop.TooLong }
 {
     let window = match differ_lines(alloc, table, index.spans())? {
         TableStart::Compared(differing) => return Ok(OfKind::Numbered(differing)),
         TableStart::Other(window, _) => window,
     };
     let text = window.rest_after(alloc, &[], table)?;
-    told(differ_text(alloc, &text, index))
+    let any = differ_text(alloc, &text, index)?;
+    Ok(any)
 }
 
 // Does the same for a table whose bytes are all in memory.

@@ -1,14 +1,14 @@
 //! Checks a section against an address table at all positions, or at those at which the table answers.
-ghost use Rattle.std.specs.Prelude.{◌≡◌, ◌≢◌, ◌+◌, ◌-◌, ◌^◌, ◌<◌, ◌⊎◌, ℕ, IfOk, IfSome, IsErrOf, Some};
+ghost use Rattle.std.specs.Prelude.{◌≡◌, ◌-◌, ◌^◌, ◌<◌, ℕ, IfOk, IfSome, Some};
 ghost use Rattle.lnt_lines.specs.declared.no.No.{No as SectionNo};
 ghost use Rattle.lnt_lines.specs.Indexed.{OfUnits};
 ghost use Rattle.lnt_io.specs.declared.stop.Stop.TheVariants.{Read, TooLong};
 ghost use Rattle.lnt_sequences.specs.Sequences.{line_answer};
 ghost use Rattle.lnt_spans.specs.Counts.{addresses_answered};
 ghost use Rattle.lnt_table.specs.FaultTexts.{within_text};
-ghost use Rattle.lnt_table.specs.Headline.{IsFoundTooLong};
 ghost use Rattle.lnt_table.specs.Judged.{part_check, within_scope};
 ghost use Rattle.lnt_table.specs.Within.{IsOfScope, IsTrueOfSectionWithin, IsTrueWithin, scope_in};
+ghost use Rattle.lnt_io.specs.Stopping.{IsEitherTooLongOn, CountsFailures};
 
 use crate::by_path::Checked;
 use crate::judged::{Judged, judge_index};
@@ -105,12 +105,8 @@ pub fn check_within<R: Source, T: Source>(
     ensures of_scope { IfOk result (λ checked. IsOfScope checked scope) }
     ensures unread { (no : SectionNo) → result ≡ Ok (CheckedWithin.Checked (OfKind.Numbered (Verdict.No (TableNo.Section no))))
         → table.new ≡ table.old }
-    ensures read { IsErrOf result Stop.Read → R.failures section.new + T.failures table.new ≡ R.failures section.old + T.failures table.old
-        + 1 }
-    ensures section_fine { result ≢ Err Stop.Read → R.failures section.new ≡ R.failures section.old }
-    ensures table_fine { result ≢ Err Stop.Read → T.failures table.new ≡ T.failures table.old }
-    ensures too_long { IsErrOf result Stop.TooLong → IsFoundTooLong (R.too_long section.new) (R.remaining section.old) (R.left section.old)
-        ⊎ IsFoundTooLong (T.too_long table.new) (T.remaining table.old) (T.left table.old) }
+    ensures failures { CountsFailures ⟦<R as Source>⟧ section.old section.new ⟦<T as Source>⟧ table.old table.new result Stop.Read }
+    ensures too_long { IsEitherTooLongOn ⟦<R as Source>⟧ section.old section.new ⟦<T as Source>⟧ table.old table.new result Stop.TooLong }
 {
     let index = match index_section(alloc, section, strings, options)? {
         JudgedIndex::Good(index) => index,

@@ -2,7 +2,7 @@
 use Rattle.std.specs.Prelude.{◌≡◌, ◌≢◌, ◌+◌, ◌<◌, length, IsTrue, false, Option, Some, None, IfSome, IfNone}
 use Rattle.std.specs.Prelude.{Result, Ok, Err, IfOk, IfErr, OnErr, IsErrOf}
 use Rattle.lnt_io.specs.declared.source.Source.{Ghosts}
-use Rattle.lnt_io.specs.Pulling.{HasMoreThan}
+use Rattle.lnt_io.specs.Stopping.{CountsFailure, IsTooLongOn}
 use Rattle.lnt_unit.specs.declared.reader.Progress.TheVariants.{Reading, Ended, Failed}
 use Rattle.lnt_unit.specs.declared.reader.SectionReader.{SectionReader}
 use Rattle.lnt_unit.specs.declared.stop.SectionStop.{SectionStop}
@@ -29,10 +29,8 @@ pub record IsStep {R : Type 0} {source : Ghosts R} (old new : SectionReader R so
   -- what a stop says is true, and the reader is done
   pub fault : IfErr answer (λ why. IfFault why (λ fault.
       SectionEndsBy (offset_of old) (order_of old) (source.remaining (source_of old)) (Some fault)))
-  pub read : IsErrOf answer stop.Read → source.failures (source_of new) ≡ source.failures (source_of old) + 1
-  pub no_failure : answer ≢ Err stop.Read → source.failures (source_of new) ≡ source.failures (source_of old)
-  pub too_long : IsErrOf answer stop.TooLong → IsTrue (source.too_long (source_of new))
-  pub more : IsErrOf answer stop.TooLong → HasMoreThan (source.remaining (source_of old)) (source.left (source_of old))
+  pub failures : CountsFailure source (source_of old) (source_of new) answer stop.Read
+  pub too_long : IsTooLongOn source (source_of old) (source_of new) answer stop.TooLong
   pub stops : OnErr answer (progress_of new ≡ Failed)
   -- after the end, and after a stop, nothing changes
   pub ended : progress_of old ≡ Ended → (answer ≡ Ok None) × (new ≡ old)

@@ -1,13 +1,13 @@
 //! Sections in another format and byte order (DWARF 5, sections 6.2.4 and 7.4).
 ghost use Rattle.std.specs.Prelude.{◌≡◌, IfOk, IfErr, OnOk, Some};
 ghost use Rattle.lnt_unit.specs.ConvertedUnits.{Converts};
-ghost use Rattle.lnt_unit.specs.ConversionSteps.{first_large};
+ghost use Rattle.lnt_unit.specs.ConversionSteps.{IsToldAs, first_large};
 ghost use Rattle.lnt_unit.specs.Converting.{IsConverted};
 ghost use Rattle.lnt_unit.specs.ConvertFaults.{IsConvertFault};
 ghost use Rattle.lnt_unit.specs.FaultTexts.{convert_fault_text};
 
-use crate::converting::{convert_unit, judge_unit, told};
-use lnt_wire::{Cursor, Fault, Format, Order};
+use crate::converting::{convert_unit, judge_unit};
+use lnt_wire::{Cursor, Fault, Format, Order, Reason};
 use std::alloc::Global;
 use std::error::Error;
 use std::fmt;
@@ -36,6 +36,18 @@ impl fmt::Display for ConvertFault {
 }
 
 impl Error for ConvertFault {}
+
+// Want of memory says nothing of the bytes.
+impl From<Fault> for ConvertFault {
+    ghost from_gives = { λ fault refusal. IsToldAs fault refusal };
+
+    fn from(fault: Fault) -> ConvertFault {
+        match fault.reason {
+            Reason::Memory => ConvertFault::Memory,
+            _ => ConvertFault::Malformed(fault),
+        }
+    }
+}
 
 /// The section `bytes`, whose byte order is `order`, in the format and in the byte order `to`: the same units, one
 /// after the other, with these two changed and nothing else, each LEB128 in its shortest spelling.
@@ -81,10 +93,8 @@ pub fn judge_conversion(
     let mut cursor = Cursor::new(bytes, 0, order);
     while !cursor.rest().is_empty() {
         let offset = cursor.place();
-        match judge_unit(alloc, &mut cursor, order, format, to) {
-            Ok(converts) => large = first_of(large, converts, offset),
-            Err(fault) => return Err(told(fault)),
-        }
+        let converts = judge_unit(alloc, &mut cursor, order, format, to)?;
+        large = first_of(large, converts, offset);
     }
     match large {
         None => Ok(()),

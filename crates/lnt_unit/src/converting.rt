@@ -5,7 +5,7 @@ ghost use Rattle.lnt_wire.specs.FrameBytes.{frame_bytes, IsPlacedFrame};
 ghost use Rattle.lnt_header_bytes.specs.HeaderBytes.{HeaderBytesIn};
 ghost use Rattle.lnt_unit.specs.BrokenUnits.{BrokenUnit};
 ghost use Rattle.lnt_unit.specs.ConvertedUnits.{ConvertsUnit, IsNextStop};
-ghost use Rattle.lnt_unit.specs.ConversionSteps.{ConvertsBytes, IsToldAs, IsUnitStop, JudgesUnit};
+ghost use Rattle.lnt_unit.specs.ConversionSteps.{ConvertsBytes, IsUnitStop, JudgesUnit};
 
 use crate::convert::ConvertFault;
 use crate::decode::frame_ahead;
@@ -36,10 +36,7 @@ pub fn convert_unit(
     ensures extends { OnErr result (Extends out.old.items out.new.items) }
     ensures unchanged { OnErr result (cursor.new ≡ cursor.old) }
 {
-    let (frame, ahead) = match frame_ahead(cursor, order) {
-        Ok(found) => found,
-        Err(fault) => return Err(told(fault)),
-    };
+    let (frame, ahead) = frame_ahead(cursor, order)?;
     convert_frame(alloc, &frame, ahead.place(), order, format, to, out)?;
     *cursor = ahead;
     Ok(())
@@ -100,10 +97,7 @@ fn convert_frame(
     ensures err { IfErr result (IsUnitStop order format to frame.now.offset (frame_bytes order frame.now.format frame.now.body.now)) }
     ensures extends { OnErr result (Extends out.old.items out.new.items) }
 {
-    let (header, program) = match view_header(alloc, frame, order) {
-        Ok(found) => found,
-        Err(fault) => return Err(told(fault)),
-    };
+    let (header, program) = view_header(alloc, frame, order)?;
     let place = end - program.len() as u64;
     convert_parts(alloc, frame, &header, program, place, format, to, out)
 }
@@ -132,22 +126,10 @@ fn convert_parts(
     ensures extends { OnErr result (Extends out.old.items out.new.items) }
 {
     let mut converted = Vec::new(alloc);
-    if let Err(fault) = convert_ops(&mut converted, header.numbers(), program, place, to) {
-        return Err(told(fault));
-    }
+    convert_ops(&mut converted, header.numbers(), program, place, to)?;
     match put_header_view(alloc, out, &header.view(), &converted, format, to) {
         Ok(()) => Ok(()),
         Err(EncodeFault::TooLarge) => Err(ConvertFault::TooLarge(frame.offset)),
         Err(EncodeFault::Memory) => Err(ConvertFault::Memory),
-    }
-}
-
-// The fault as one of a conversion: want of memory says nothing of the bytes.
-pub(crate) fn told(fault: Fault) -> ConvertFault
-    ensures { IsToldAs fault result }
-{
-    match fault.reason {
-        Reason::Memory => ConvertFault::Memory,
-        _ => ConvertFault::Malformed(fault),
     }
 }

@@ -1,10 +1,10 @@
 //! The reader of a section, which returns one unit after another.
-ghost use Rattle.std.specs.Prelude.{◌≡◌, ◌≢◌, ℕ, ◌+◌, ◌-◌, ◌^◌, ◌<◌, length};
-ghost use Rattle.std.specs.Prelude.{IsTrue, false, IfOk, IfErr, OnErr, IsErrOf, IfSome, IfNone};
-ghost use Rattle.lnt_io.specs.Pulling.{HasMoreThan};
+ghost use Rattle.std.specs.Prelude.{◌≡◌, ◌+◌, ◌-◌, ◌^◌, ◌<◌, length};
+ghost use Rattle.std.specs.Prelude.{false, IfOk, IfErr, IsErrOf, IfSome, IfNone};
 ghost use Rattle.lnt_unit.specs.Stops.{IfFault};
 ghost use Rattle.lnt_unit.specs.Units.{IsNextUnit, SectionEndsBy};
 ghost use Rattle.lnt_unit.specs.declared.reader.Progress.TheVariants.{Reading};
+ghost use Rattle.lnt_io.specs.Stopping.{CountsFailure, IsTooLongOn};
 
 use crate::buffer::UnitBuffer;
 use crate::stop::SectionStop;
@@ -89,32 +89,7 @@ impl<'s, R: Source> SectionReader<'s, R> {
     /// `TooLong` only if the source has more bytes than it may give; and with `Memory`. From then on every call stops with
     /// `Failed`, and doesn't use the source.
     pub fn next_unit(&mut self, alloc: Global) -> Result<Option<UnitBuffer>, SectionStop>
-        ensures unit { IfOk result (λ got. IfSome got (λ unit.
-            IsNextUnit (offset_of self.old) (order_of self.old) (R.remaining (source_of self.old))
-            (R.remaining (source_of self.new)) unit)) }
-        ensures goes_on { IfOk result (λ got. IfSome got (λ unit.
-            (progress_of self.new ≡ Progress.Reading) × (offset_of self.new ≡ offset_of self.old + length unit.bytes))) }
-        ensures left { IfOk result (λ got. IfSome got (λ unit.
-            R.left (source_of self.new) + length unit.bytes ≡ R.left (source_of self.old))) }
-        ensures fewer { IfOk result (λ got. IfSome got (λ unit.
-            R.left (source_of self.new) < R.left (source_of self.old))) }
-        ensures end { progress_of self.old ≡ Progress.Reading → IfOk result (λ got. IfNone got
-            (SectionEndsBy (offset_of self.old) (order_of self.old) (R.remaining (source_of self.old)) None)) }
-        ensures not_long { progress_of self.old ≡ Progress.Reading → IfOk result (λ got. IfNone got
-            (R.too_long (source_of self.new) ≡ false)) }
-        ensures ends { IfOk result (λ got. IfNone got (progress_of self.new ≡ Progress.Ended)) }
-        ensures fault { IfErr result (λ stop. IfFault stop (λ fault.
-            SectionEndsBy (offset_of self.old) (order_of self.old) (R.remaining (source_of self.old)) (Some fault))) }
-        ensures read { IsErrOf result SectionStop.Read → R.failures (source_of self.new) ≡ R.failures (source_of self.old) + 1 }
-        ensures no_failure { result ≢ Err SectionStop.Read → R.failures (source_of self.new) ≡ R.failures (source_of self.old) }
-        ensures too_long { IsErrOf result SectionStop.TooLong → IsTrue (R.too_long (source_of self.new)) }
-        ensures more { IsErrOf result SectionStop.TooLong → HasMoreThan (R.remaining (source_of self.old)) (R.left (source_of self.old)) }
-        ensures stops { OnErr result (progress_of self.new ≡ Progress.Failed) }
-        ensures ended { progress_of self.old ≡ Progress.Ended → (result ≡ Ok None) × (self.new ≡ self.old) }
-        ensures failed { progress_of self.old ≡ Progress.Failed → (result ≡ Err SectionStop.Failed) × (self.new ≡ self.old) }
-        ensures failed_before { IsErrOf result SectionStop.Failed → progress_of self.old ≡ Progress.Failed }
-        ensures order { order_of self.new ≡ order_of self.old }
-        ensures same_reference { loan_of self.new ≡ loan_of self.old }
+        ensures { IsStep self.old self.new result }
     {
         self.next_unit_in(Vec::new(alloc))
     }
@@ -162,10 +137,8 @@ fn take_unit<R: Source>(
     ensures not_long { IfOk result (λ got. IfNone got (R.too_long source.new ≡ false)) }
     ensures fault { IfErr result (λ stop. IfFault stop (λ fault.
         SectionEndsBy offset order (R.remaining source.old) (Some fault))) }
-    ensures read { IsErrOf result SectionStop.Read → R.failures source.new ≡ R.failures source.old + 1 }
-    ensures no_failure { result ≢ Err SectionStop.Read → R.failures source.new ≡ R.failures source.old }
-    ensures too_long { IsErrOf result SectionStop.TooLong → IsTrue (R.too_long source.new) }
-    ensures more { IsErrOf result SectionStop.TooLong → HasMoreThan (R.remaining source.old) (R.left source.old) }
+    ensures failures { CountsFailure ⟦<R as Source>⟧ source.old source.new result SectionStop.Read }
+    ensures too_long { IsTooLongOn ⟦<R as Source>⟧ source.old source.new result SectionStop.TooLong }
     ensures not_failed { IsErrOf result SectionStop.Failed → ⊥ }
 {
     bytes.clear();

@@ -1,9 +1,10 @@
 //! The bytes of a unit, read from a source block by block, and none after them.
-ghost use Rattle.std.specs.Prelude.{◌≡◌, ◌≢◌, ◌+◌, ◌-◌, ◌^◌, ◌<◌, [], length};
-ghost use Rattle.std.specs.Prelude.{IfOk, IfSome, OnOk, IsErrOf, IsTrue, false, MatchBool};
+ghost use Rattle.std.specs.Prelude.{◌≡◌, ◌+◌, ◌-◌, ◌^◌, ◌<◌, [], length};
+ghost use Rattle.std.specs.Prelude.{IfOk, IfSome, OnOk, false, MatchBool};
 ghost use Rattle.lnt_wire.specs.FrameFaults.{IsCutFrame};
-ghost use Rattle.lnt_io.specs.Pulling.{Pulls, HasMoreThan};
+ghost use Rattle.lnt_io.specs.Pulling.{Pulls};
 ghost use Rattle.lnt_unit.specs.Sizes.{IsLeastSize};
+ghost use Rattle.lnt_io.specs.Stopping.{CountsFailure, IsTooLongOn};
 
 use crate::size::missing_size;
 use lnt_io::{BLOCK, Source, Stop, take_block};
@@ -26,10 +27,8 @@ pub(crate) fn take_unit_bytes<R: Source>(
         (IsCutFrame order taken.new.items → ⊥) (IfSome (R.remaining source.new) (λ bytes. bytes ≡ []))) }
     ensures ended { IfOk result (λ whole. whole ≡ false → R.too_long source.new ≡ false) }
     ensures left { OnOk result (R.left source.new + length taken.new.items ≡ R.left source.old) }
-    ensures read { IsErrOf result Stop.Read → R.failures source.new ≡ R.failures source.old + 1 }
-    ensures no_failure { result ≢ Err Stop.Read → R.failures source.new ≡ R.failures source.old }
-    ensures too_long { IsErrOf result Stop.TooLong → IsTrue (R.too_long source.new) }
-    ensures more { IsErrOf result Stop.TooLong → HasMoreThan (R.remaining source.old) (R.left source.old) }
+    ensures failures { CountsFailure ⟦<R as Source>⟧ source.old source.new result Stop.Read }
+    ensures too_long { IsTooLongOn ⟦<R as Source>⟧ source.old source.new result Stop.TooLong }
 {
     loop {
         let missing = missing_size(taken.as_slice(), order);

@@ -1,5 +1,5 @@
 //! Moves past the lines of a table by path that are the lines of a section's canonical spans, without parsing them.
-ghost use Rattle.std.specs.Prelude.{◌≡◌, ◌≢◌, ◌+◌, ◌-◌, ◌^◌, ◌<◌, ◌++◌, ℕ, List, length, IfOk, IfSome, IsErrOf};
+ghost use Rattle.std.specs.Prelude.{◌≡◌, ◌+◌, ◌-◌, ◌^◌, ◌<◌, ◌++◌, ℕ, List, length, IfOk, IfSome, IsErrOf};
 ghost use Rattle.std.specs.Bool.{MatchBool};
 ghost use Rattle.lnt_spans.specs.declared.span.Span as spec;
 ghost use Rattle.lnt_spans.specs.Instructions.{IsOfInstructions};
@@ -8,12 +8,13 @@ ghost use Rattle.lnt_compare.specs.Passing.{Passes};
 ghost use Rattle.lnt_compare.specs.PathPassing.{AreLinesOf, LeaveOff};
 ghost use Rattle.lnt_records.specs.PathAnswers.{path_answer};
 ghost use Rattle.lnt_records.specs.PathLines.{IsSpanLine, path_field};
+ghost use Rattle.lnt_io.specs.Stopping.{CountsFailure};
 
 use crate::by_path::joined::Joined;
 use crate::remaining::Remaining;
 use crate::window::Window;
 use lnt_io::{Source, Stop};
-use lnt_records::{PathFields, PathVersion, Paths, ROOM, addresses_before, place_before, told};
+use lnt_records::{PathFields, PathVersion, Paths, ROOM, addresses_before, place_before};
 use lnt_spans::{Span, SpanSource};
 use std::alloc::Global;
 
@@ -43,17 +44,16 @@ pub(crate) fn pass_spans<S: SpanSource + Drop, P: Paths, T: Source>(
         × AreLinesOf (path_answer version (P.bytes_of paths.now)) version text table passed.count passed.end
         × ((list : List spec.Span) → S.to_come spans list → AreInOrder list → LeaveOff (path_answer version (P.bytes_of paths.now))
         (⟦<Remaining<S> as SpanSource>⟧.to_come passed.spans) list table)) }
-    ensures read { IsErrOf result Stop.Read → T.failures source.new ≡ T.failures source.old + 1 }
-    ensures no_failure { result ≢ Err Stop.Read → T.failures source.new ≡ T.failures source.old }
+    ensures failures { CountsFailure ⟦<T as Source>⟧ source.old source.new result Stop.Read }
     ensures not_long { IsErrOf result Stop.TooLong → ⊥ }
 {
-    let mut fields = told(PathFields::new(alloc))?;
+    let mut fields = PathFields::new(alloc)?;
     let mut joined = Joined::of(spans);
     let mut room = [0; ROOM];
     let mut count = 1;
     let mut end = 0;
-    while let Some(span) = told(joined.next_joined(alloc, paths, version, &mut fields))? {
-        let field = told(fields.take(alloc, paths, &span.answer))?;
+    while let Some(span) = joined.next_joined(alloc, paths, version, &mut fields)? {
+        let field = fields.take(alloc, paths, &span.answer)?;
         window.fill(alloc, source, field.text.len().saturating_add(ROOM))?;
         if !pass_line(window, &mut room, version, &field.text, &span) {
             let spans = joined.remaining(Some(span));

@@ -1,5 +1,5 @@
 //! Reads a table by path and holds its spans.
-ghost use Rattle.std.specs.Prelude.{◌≡◌, ℕ, List, [], ◌∷◌, ◌++◌, length, map, IfOk, MatchOption};
+ghost use Rattle.std.specs.Prelude.{◌≡◌, List, [], ◌∷◌, ◌++◌, length, map, IfOk, MatchOption};
 ghost use Rattle.csv.specs.Records.{fields_of};
 ghost use Rattle.lnt_records.specs.PathSpans.{path_end, whole};
 ghost use Rattle.lnt_records.specs.Reading.{IsNarrow};

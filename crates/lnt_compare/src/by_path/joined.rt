@@ -1,5 +1,5 @@
 //! Joins spans, as they come, where they touch and have the same answer by path.
-ghost use Rattle.std.specs.Prelude.{◌≡◌, ◌≢◌, ◌<◌, ℕ, List, IfOk, IfSome, OnOk};
+ghost use Rattle.std.specs.Prelude.{◌<◌, List, IfOk, IfSome, OnOk};
 ghost use Rattle.std.specs.Bool.{MatchBool};
 ghost use Rattle.lnt_spans.specs.declared.answer.Answer as answer;
 ghost use Rattle.lnt_spans.specs.declared.span.Span as spec;
@@ -8,7 +8,7 @@ ghost use Rattle.std.specs.List.{cons_option};
 ghost use Rattle.lnt_spans.specs.Coming.{GivesFirstSpan};
 ghost use Rattle.lnt_spans.specs.Remaining.{SpansAreLeft};
 ghost use Rattle.lnt_compare.specs.Joining.{AllJoinTo, GivesJoined, IsExtendedBy, WillGive};
-ghost use Rattle.lnt_records.specs.PathAnswers.{PathAnswer, path_answer, told_column};
+ghost use Rattle.lnt_records.specs.PathAnswers.{PathAnswer, path_answer};
 ghost use Rattle.lnt_records.specs.PathLines.{AreFieldsOf};
 
 use crate::by_path::telling::same_place;

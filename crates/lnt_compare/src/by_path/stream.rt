@@ -1,12 +1,12 @@
 //! Compares a table by path with the spans of a section, both as they come.
-ghost use Rattle.std.specs.Prelude.{◌≡◌, ◌≢◌, ◌+◌, ◌-◌, ◌^◌, ◌<◌, ◌++◌, List, length, IfOk, IfSome, IsErrOf, IsTrue};
-ghost use Rattle.lnt_io.specs.Pulling.{HasMoreThan};
+ghost use Rattle.std.specs.Prelude.{◌+◌, ◌-◌, ◌^◌, ◌<◌, ◌++◌, List, length, IfOk, IfSome};
 ghost use Rattle.lnt_records.specs.Written.{line_text};
 ghost use Rattle.lnt_spans.specs.declared.span.Span as spec;
 ghost use Rattle.lnt_spans.specs.Spans.{AreInOrder};
 ghost use Rattle.lnt_records.specs.PathAnswers.{spans_by_path};
 ghost use Rattle.lnt_compare.specs.PathOutcomes.{IsPathOutcome};
 ghost use Rattle.lnt_records.specs.PathTables.{path_column_names};
+ghost use Rattle.lnt_io.specs.Stopping.{CountsFailure, IsTooLongOn};
 
 use crate::by_path::answer::DifferenceByPath;
 use crate::by_path::canonical::pass_spans;
@@ -14,7 +14,7 @@ use crate::by_path::comparison::{PathComparison, compare_text};
 use crate::outcome::Outcome;
 use crate::window::Window;
 use lnt_io::{Source, Stop};
-use lnt_records::{PathVersion, Paths, TableVersion, told};
+use lnt_records::{PathVersion, Paths, TableVersion};
 use lnt_spans::SpanSource;
 use std::alloc::Global;
 
@@ -42,14 +42,12 @@ pub fn compare_lines_by_path<S: SpanSource + Drop, P: Paths, T: Source>(
     ensures ok { IfOk result (λ outcome. (list : List spec.Span) → S.to_come spans list → AreInOrder list
         → IfSome (T.remaining table.old) (λ more. IsPathOutcome (line_text (path_column_names version) ++ (window ++ more))
         (λ version. spans_by_path version (P.bytes_of paths.now) list) outcome)) }
-    ensures read { IsErrOf result Stop.Read → T.failures table.new ≡ T.failures table.old + 1 }
-    ensures no_failure { result ≢ Err Stop.Read → T.failures table.new ≡ T.failures table.old }
-    ensures too_long { IsErrOf result Stop.TooLong → IsTrue (T.too_long table.new) }
-    ensures more { IsErrOf result Stop.TooLong → HasMoreThan (T.remaining table.old) (T.left table.old) }
+    ensures failures { CountsFailure ⟦<T as Source>⟧ table.old table.new result Stop.Read }
+    ensures too_long { IsTooLongOn ⟦<T as Source>⟧ table.old table.new result Stop.TooLong }
 {
     let passed = pass_spans(alloc, spans, paths, version, table, &mut window)?;
     let text = window.rest_after(alloc, version.header_line(), table)?;
-    let made = PathComparison::past(alloc, passed.spans, passed.end, passed.count);
-    let comparison = told(made)?;
-    told(compare_text(alloc, &text, version, comparison, paths))
+    let comparison = PathComparison::past(alloc, passed.spans, passed.end, passed.count)?;
+    let outcome = compare_text(alloc, &text, version, comparison, paths)?;
+    Ok(outcome)
 }

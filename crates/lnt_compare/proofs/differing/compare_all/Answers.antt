@@ -1,5 +1,4 @@
 use Rattle.std.proofs.lemmas.Option.{IfSome_then}
-use Rattle.std.proofs.lemmas.Result.{IfOk-weaker}
 use Rattle.lnt_compare.proofs.StreamLaws.{all_taken}
 use Rattle.lnt_compare.proofs.differing.compare_all.Goals as goal
 
@@ -10,11 +9,8 @@ returns-in-Compared-clause-ok g c list section coming order answers =
     (λ bytes told. told.0)
 
 pub returns-clause-ok : goal.returns-clause-ok
-returns-clause-ok g c =
+returns-clause-ok g c list section coming order answers =
     let begun = rw c.in-Other.is at c.in_ok-differing.ensures.begun in
-    let found = rw c.deref.ensures.value at c.differ_records.ensures.differing in
-    IfOk-weaker c.told.result _ _
-    (λ differing is list section coming order answers.
+    let found = rw c.deref.ensures.value at c.in_ok-all.ensures.differing in
     all_taken _ _ _ _ c.in-Other.window c.in_ok-text.text.items _ begun.0 c.in_ok-text.ensures.ok
-    ((rw is at found) list section (rw begun.1 coming) order answers))
-    c.told.ensures.ok
+    (found list section (rw begun.1 coming) order answers)

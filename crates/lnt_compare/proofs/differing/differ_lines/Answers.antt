@@ -68,7 +68,7 @@ returns-clause-ok g c list section coming order answers =
     whole_begun version _ _ _ _ _ _ c.header_line.result.now c.pass_header.new.window past spans.0 c.deref.result.now off.table count _
     c.header_line.ensures begun spans.1 ends off.lines
     (λ bytes cut.
-    let told = (rw c.in_ok-differing.ensures.ok at c.differ_after.ensures) bytes section off.table off.rest
+    let told = c.in_ok-differing.ensures bytes section off.table off.rest
     (gathered_is _ (record { merge = c.past-merge.result; version = version; count = count }) (off.table ++ []) off.table
     off.lines.records bytes version c.deref.result.now c.gather_after-gathered.result j.0 j.1 cut
     c.gather_after-gathered.ensures)
@@ -95,12 +95,12 @@ returns-clause-started g c =
     let cut = rest_cut by_number plain_by_number plain_numbers version _ _ c.header_line.result.now past spans.0 c.deref.result.now off.table
     count c.header_line.ensures ends off.lines in
     started _ _ bytes (span_answer list) c.in_ok-differing.differing
-    ((rw c.in_ok-differing.ensures.ok at c.differ_after.ensures) bytes (span_answer list) off.table off.rest
+    (c.in_ok-differing.ensures bytes (span_answer list) off.table off.rest
     (gathered_is _ (record { merge = c.past-merge.result; version = version; count = count }) (off.table ++ []) off.table
     off.lines.records bytes version c.deref.result.now c.gather_after-gathered.result j.0 j.1 cut
     c.gather_after-gathered.ensures)
     (goes_on version list off.table off.rest (span_answer list) c.in_ok-passed.passed.end off.order off.same off.end_is (λ p. refl))
     off.left)
 
-pub returns-in_err-text-clause-more : goal.returns-in_err-text-clause-more
-returns-in_err-text-clause-more g c = grind (arith, elements)
+pub returns-in_err-text-clause-too_long : goal.returns-in_err-text-clause-too_long
+returns-in_err-text-clause-too_long g c = grind (arith, elements)

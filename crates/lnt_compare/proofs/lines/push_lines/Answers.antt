@@ -54,7 +54,7 @@ loop-window-preserved g c =
     record { order = c.if-not-takes.ensures; version = c.push.ensures.version; compares = c.push.ensures.compares } in
     let reads = reads_line g.S.SpanSource.to_come c.args.merge.now c.loop-window.merge c.push.new.self c.args.version c.args.count.now
     c.loop-window.count _ _ _ _ c.args.window.now window rest c.in-Some.span filled line takes in
-    record { failures = c.in_ok-fill.ensures.no_failure (λ e. cc e) ∙ inv.failures; reads = rw c.pass.ensures reads }
+    record { failures = c.in_ok-fill.ensures.failures.no_failure (λ e. cc e) ∙ inv.failures; reads = rw c.pass.ensures reads }
 
 pub loop-window-smaller : goal.loop-window-smaller
 loop-window-smaller g c = grind (arith, common_steps)

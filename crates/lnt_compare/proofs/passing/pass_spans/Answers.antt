@@ -92,7 +92,7 @@ loop-span-preserved g c =
     _ _ _ _ c.args.window.now c.loop-span.window c.fill.new.self c.pass_line.new.window
     c.loop-span.count c.loop-span.end span c.in-Some-push.joined inv.stands pushes c.in-Some-push.is c.in_ok-fill.ensures.taken line in
     record {
-      failures = c.in_ok-fill.ensures.no_failure (λ e. cc e) ∙ inv.failures;
+      failures = c.in_ok-fill.ensures.failures.no_failure (λ e. cc e) ∙ inv.failures;
       version = c.push.ensures.version ∙ inv.version;
       stands = stands;
     }

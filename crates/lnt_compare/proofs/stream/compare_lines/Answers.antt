@@ -20,13 +20,18 @@ pass_lines-requires-clause-few g c =
       line_some (column_names c.in-Some.version),
     )
 
-pub returns-in_err-text-clause-more : goal.returns-in_err-text-clause-more
-returns-in_err-text-clause-more g c e =
+pub returns-in_err-text-clause-too_long : goal.returns-in_err-text-clause-too_long
+returns-in_err-text-clause-too_long g c e =
     let begun = begun c.in-Some.version _ _ _ _ c.new-window.result c.fill.new.self c.pass_header.new.window c.new-window.ensures
     c.in_ok-fill.ensures.taken c.in-Some.ensures in
     let lines = c.in_ok-merge.ensures.ok in
-    longer_from_start _ _ _ _ _ _ _ (passes_both _ _ _ _ _ _ _ _ _ _ lines.0 begun lines.1)
-    (grind (arith, c.in_err-text.ensures.more, c.from_residual-in_err-text.ensures, e))
+    grind (
+      arith,
+      c.in_err-text.ensures.too_long,
+      c.from_residual-in_err-text.ensures,
+      longer_from_start _ _ _ _ _ _ _ (passes_both _ _ _ _ _ _ _ _ _ _ lines.0 begun lines.1),
+      e,
+    )
 
 pub compare_after-requires-clause-begins : goal.compare_after-requires-clause-begins
 compare_after-requires-clause-begins g c =
@@ -73,4 +78,4 @@ returns-clause-ok g c list coming order =
     (c.header_line.result.now ++ past) c.deref.result.now = rw (← c.deref.ensures.value) at c.in_ok-text.ensures.ok in
     compared_begun _ _ version list _ _ _ _ _ _ c.header_line.result.now c.pass_header.new.window past lines.0 c.deref.result.now
     c.in_ok-merge.count c.in_ok-outcome.outcome c.header_line.ensures begun lines.1 ends (lines.2 list coming order)
-    (rw c.in_ok-outcome.ensures.ok at c.compare_after.ensures)
+    c.in_ok-outcome.ensures

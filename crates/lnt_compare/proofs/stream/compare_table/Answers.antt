@@ -18,7 +18,7 @@ returns-clause-ok g c list come order =
     let begun = rw c.in-Other.is at c.in_ok-outcome.ensures.begun in
     let outcome = c.in_ok-outcome-2.outcome in
     let text : List ℕ = c.in_ok-text.text.items in
-    let found = (rw (c.in_ok-outcome-2.ensures.ok, c.deref.ensures.value) at c.compare_records.ensures) list (rw begun.1 come) order in
+    let found = (rw c.deref.ensures.value at c.in_ok-outcome-2.ensures) list (rw begun.1 come) order in
     rw c.whole-2.ensures
     (all_taken _ _ _ _ c.in-Other.window text (λ (bytes : List ℕ). IsComparison bytes list (whole_of outcome)) begun.0
     c.in_ok-text.ensures.ok (compared_whole tables_by_number text (in_versions (span_answer list)) outcome found))

@@ -8,6 +8,3 @@ loop-preserved g c = search (rules, passes_none, passes_block, passes_all, longe
 
 pub returns-clause-ok : goal.returns-clause-ok
 returns-clause-ok g c = grind (arith, common_steps)
-
-pub returns-then-too_long-clause-more : goal.returns-then-too_long-clause-more
-returns-then-too_long-clause-more g c = grind (arith, common_steps)

@@ -54,5 +54,5 @@ loop-buffer-preserved g c =
       same_reference = step.same_reference ∙ inv.same_reference;
     }
 
-pub returns-in-Err-clause-more : goal.returns-in-Err-clause-more
-returns-in-Err-clause-more g c = grind (arith, common_steps)
+pub returns-in-Err-clause-too_long : goal.returns-in-Err-clause-too_long
+returns-in-Err-clause-too_long g c = grind (arith, common_steps)

@@ -1,6 +1,5 @@
 use Rattle.std.proofs.Common.{arith, ap, length, length-append}
 use Rattle.std.proofs.lemmas.Option.{IfSome_then}
-use Rattle.std.proofs.lemmas.Result.{IfOk-weaker}
 use Rattle.lnt_records.specs.Written.{line_text}
 use Rattle.lnt_compare.proofs.WindowLaws.{few_passed, longer_from_start}
 use Rattle.lnt_compare.proofs.StreamLaws.{all_taken}
@@ -53,18 +52,14 @@ returns-in_err-text-clause-too_long g c e =
     grind (
       arith,
       c.in_err-text.ensures.too_long,
-      c.in_err-text.ensures.more,
       c.from_residual-in_err-text.ensures,
       longer_from_start _ _ _ _ _ _ _ begun.0,
       e,
     )
 
 pub returns-clause-ok : goal.returns-clause-ok
-returns-clause-ok g c =
+returns-clause-ok g c selection index =
     let begun = rw c.in-Other.is at c.in_ok-outcome.ensures.begun in
     let ends = rw c.in_default.ensures at c.in_ok-text.ensures.ok in
-    let found = rw c.deref.ensures.value at c.judge_text.ensures in
-    IfOk-weaker c.told.result _ _
-    (λ judged is selection index.
-    all_taken _ _ _ _ c.in-Other.window c.in_ok-text.text.items _ begun.0 ends ((rw is at found) selection index))
-    c.told.ensures.ok
+    let found = rw c.deref.ensures.value at c.in_ok-judged.ensures in
+    all_taken _ _ _ _ c.in-Other.window c.in_ok-text.text.items _ begun.0 ends (found selection index)

@@ -1,5 +1,4 @@
 use Rattle.std.proofs.Common.{arith}
-use Rattle.std.proofs.lemmas.Result.{IfOk-weaker}
 use Rattle.lnt_sequences.specs.Sequences.{line_answer}
 use Rattle.lnt_compare.proofs.StreamLaws.{all_taken, headed_in, if_compared}
 use Rattle.lnt_compare.proofs.WindowLaws.{longer_from_start}
@@ -22,13 +21,10 @@ pub returns-in-Compared-clause-started : goal.returns-in-Compared-clause-started
 returns-in-Compared-clause-started g c = if_compared c.in_ok-differing.field-0 c.in-Compared.differing _ c.in-Compared.is c.in_ok-differing.ensures.started
 
 pub returns-clause-ok : goal.returns-clause-ok
-returns-clause-ok g c =
+returns-clause-ok g c selection index =
     let begun = rw c.in-Other.is at c.in_ok-differing.ensures.begun in
-    let found = rw c.deref.ensures.value at c.differ_text.ensures.any in
-    IfOk-weaker c.told.result _ _
-    (λ any is selection index.
-    all_taken _ _ _ _ c.in-Other.window c.in_ok-text.text.items _ begun.0 c.in_ok-text.ensures.ok ((rw is at found) selection index))
-    c.told.ensures.ok
+    let found = rw c.deref.ensures.value at c.in_ok-any.ensures.any in
+    all_taken _ _ _ _ c.in-Other.window c.in_ok-text.text.items _ begun.0 c.in_ok-text.ensures.ok (found selection index)
 
 pub returns-in_err-text-clause-too_long : goal.returns-in_err-text-clause-too_long
 returns-in_err-text-clause-too_long g c e =
@@ -36,7 +32,6 @@ returns-in_err-text-clause-too_long g c e =
     grind (
       arith,
       c.in_err-text.ensures.too_long,
-      c.in_err-text.ensures.more,
       c.from_residual-in_err-text.ensures,
       longer_from_start _ _ _ _ _ _ _ begun.0,
       e,

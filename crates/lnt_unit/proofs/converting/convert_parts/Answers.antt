@@ -1,4 +1,5 @@
 use Rattle.std.proofs.Common.{◌≢◌, ap, refl, subst}
+use Rattle.std.proofs.lemmas.Result.{err_from_is_err_and}
 use Rattle.lnt_wire.specs.Bytes.{Appends}
 use Rattle.lnt_header.specs.HeaderNumbers.{HeaderNumbers, numbers_of}
 use Rattle.lnt_header.specs.Conversion.{in_format}
@@ -13,18 +14,19 @@ use Rattle.lnt_unit.proofs.BrokenLaws.{ops_broken}
 use Rattle.lnt_unit.proofs.ConvertedLemmas.{frame_converted, frame_large, told_stop}
 use Rattle.lnt_unit.proofs.converting.convert_parts.Goals as goal
 
-pub returns-in-Err-clause-err : goal.returns-in-Err-clause-err
-returns-in-Err-clause-err c =
+pub returns-in_err-convert_ops-clause-err : goal.returns-in_err-convert_ops-clause-err
+returns-in_err-convert_ops-clause-err c =
+    let p = err_from_is_err_and c.from_residual.result c.from_residual.ensures.1 in
     let frame = c.args.frame.now in
     let header = c.args.header.now in
     let program = c.args.program.now in
-    let fault = c.in-Err.fault in
+    let fault = c.in_err-convert_ops.field-0.0 in
     let bytes = frame_bytes header.order frame.format frame.body.now in
     let broken : fault.reason ≢ Memory → BrokenUnit header.order fault frame.offset bytes =
     λ some. ops_broken header.order header program bytes fault frame.offset _ c.requires.spelled c.requires.place
     (subst (λ (g : HeaderNumbers). BrokenProgram g c.args.place program fault) (ap numbers_of c.numbers.ensures.numbers)
-    (c.in-Err.ensures.err some)) in
-    told_stop header.order c.args.format c.args.to frame.offset bytes fault c.told.result broken c.told.ensures
+    (c.in_err-convert_ops.ensures.err some)) in
+    rw p.1 (told_stop header.order c.args.format c.args.to frame.offset bytes fault p.0 broken p.2)
 
 pub returns-in-Ok-clause-ok : goal.returns-in-Ok-clause-ok
 returns-in-Ok-clause-ok c =
@@ -33,7 +35,7 @@ returns-in-Ok-clause-ok c =
     c.args.out.now.items c.put_header_view.new.out.items) c.view.ensures c.in-Ok.ensures.ok in
     frame_converted header.order header (numbers_of c.numbers.result.now) c.args.program.now _ c.new-converted.result.items _
     c.deref.result.now _ _ c.args.format c.args.to
-    c.requires.spelled (ap numbers_of c.numbers.ensures.numbers) c.in_default.ensures.ok c.new-converted.ensures.items c.deref.ensures.value put
+    c.requires.spelled (ap numbers_of c.numbers.ensures.numbers) c.in_ok-convert_ops.ensures.ok c.new-converted.ensures.items c.deref.ensures.value put
 
 pub returns-in-Err-TooLarge-clause-err : goal.returns-in-Err-TooLarge-clause-err
 returns-in-Err-TooLarge-clause-err c =
@@ -44,6 +46,6 @@ returns-in-Err-TooLarge-clause-err c =
       refl,
       frame_large header.order header (numbers_of c.numbers.result.now) c.args.program.now _ c.new-converted.result.items _ c.deref.result.now
           c.args.format c.args.to _
-          c.requires.spelled (ap numbers_of c.numbers.ensures.numbers) c.in_default.ensures.ok c.new-converted.ensures.items c.deref.ensures.value refused
+          c.requires.spelled (ap numbers_of c.numbers.ensures.numbers) c.in_ok-convert_ops.ensures.ok c.new-converted.ensures.items c.deref.ensures.value refused
           c.in-Err-TooLarge.field-0-is,
     )

@@ -9,8 +9,8 @@ returns-then-missing-eq0-clause-whole g c = rw (← c.as_slice.ensures.value) (c
 pub returns-clause-least : goal.returns-clause-least
 returns-clause-least g c = search (rules, taking)
 
-pub returns-then-too_long-clause-more : goal.returns-then-too_long-clause-more
-returns-then-too_long-clause-more g c = search (rules, taking)
+pub returns-then-too_long-clause-too_long : goal.returns-then-too_long-clause-too_long
+returns-then-too_long-clause-too_long g c = search (rules, taking)
 
 pub loop-order-preserved : goal.loop-order-preserved
 loop-order-preserved g c = grind (arith, common_steps)

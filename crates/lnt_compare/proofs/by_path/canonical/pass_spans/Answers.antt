@@ -10,7 +10,7 @@ loop-joined-init g c =
     let tell : Answer → PathAnswer = path_answer c.args.version (g.P.Paths.bytes_of c.args.paths.now) in
     record {
       failures = refl;
-      fields = rw c.in_ok-fields.ensures.ok at c.new.ensures (g.P.Paths.bytes_of c.args.paths.now);
+      fields = c.in_ok-fields.ensures (g.P.Paths.bytes_of c.args.paths.now);
       stands = stands_first g.S.SpanSource.to_come c.args.spans tell c.args.version c.of-joined.result.next c.of-joined.result.spans
           (g.T.Source.remaining c.args.source.now) (g.T.Source.left c.args.source.now) c.args.window.now c.of-joined.ensures.left;
     }
@@ -20,11 +20,11 @@ returns-then-not-pass_line-clause-ok g c =
     let tell : Answer → PathAnswer = path_answer c.args.version (g.P.Paths.bytes_of c.args.paths.now) in
     let inv = c.loop-joined.invariant in
     let ToCome = g.S.SpanSource.to_come in
-    let left = rw (c.in_ok-span.ensures.ok, c.in-Some.is) at c.next_joined.ensures.left in
+    let left = rw c.in-Some.is at c.in_ok-span.ensures.left in
     leaves_off_at ToCome c.args.spans tell c.args.version c.loop-joined.joined.next c.next_joined.new.self.next c.loop-joined.joined.spans
     c.next_joined.new.self.spans _ _ _ _ _ _ c.args.window.now c.loop-joined.window c.fill.new.self c.pass_line.new.window c.loop-joined.count
     c.loop-joined.end c.in-Some.span _ inv.stands left c.in_ok-fill.ensures.taken (c.if-not-pass_line.ensures (g.P.Paths.bytes_of c.args.paths.now)
-    (c.deref.ensures.value ∙ (rw c.in_ok-field.ensures.ok at c.take.ensures.field).1))
+    (c.deref.ensures.value ∙ c.in_ok-field.ensures.field.1))
     c.remaining-spans.ensures
 
 pub overflow_add-count : goal.overflow_add-count
@@ -32,8 +32,8 @@ overflow_add-count g c =
     let tell : Answer → PathAnswer = path_answer c.args.version (g.P.Paths.bytes_of c.args.paths.now) in
     let inv = c.loop-joined.invariant in
     let ToCome = g.S.SpanSource.to_come in
-    let left = rw (c.in_ok-span.ensures.ok, c.in-Some.is) at c.next_joined.ensures.left in
-    let field = rw c.in_ok-field.ensures.ok at c.take.ensures.field in
+    let left = rw c.in-Some.is at c.in_ok-span.ensures.left in
+    let field = c.in_ok-field.ensures.field in
     let line = c.if-not-pass_line.ensures (g.P.Paths.bytes_of c.args.paths.now) (c.deref.ensures.value ∙ field.1) in
     let stands = stands_more ToCome c.args.spans tell c.args.version c.loop-joined.joined.next c.next_joined.new.self.next
     c.loop-joined.joined.spans c.next_joined.new.self.spans _ _ _ _ _ _ c.args.window.now c.loop-joined.window c.fill.new.self
@@ -45,14 +45,14 @@ loop-joined-preserved g c =
     let tell : Answer → PathAnswer = path_answer c.args.version (g.P.Paths.bytes_of c.args.paths.now) in
     let inv = c.loop-joined.invariant in
     let ToCome = g.S.SpanSource.to_come in
-    let left = rw (c.in_ok-span.ensures.ok, c.in-Some.is) at c.next_joined.ensures.left in
-    let field = rw c.in_ok-field.ensures.ok at c.take.ensures.field in
+    let left = rw c.in-Some.is at c.in_ok-span.ensures.left in
+    let field = c.in_ok-field.ensures.field in
     let line = c.if-not-pass_line.ensures (g.P.Paths.bytes_of c.args.paths.now) (c.deref.ensures.value ∙ field.1) in
     let stands = stands_more ToCome c.args.spans tell c.args.version c.loop-joined.joined.next c.next_joined.new.self.next
     c.loop-joined.joined.spans c.next_joined.new.self.spans _ _ _ _ _ _ c.args.window.now c.loop-joined.window c.fill.new.self
     c.pass_line.new.window c.loop-joined.count c.loop-joined.end c.in-Some.span inv.stands left c.in_ok-fill.ensures.taken line.0 line.1 in
     record {
-      failures = c.in_ok-fill.ensures.no_failure (never_stopped _ _ _ refl) ∙ inv.failures;
-      fields = c.keep.ensures (g.P.Paths.bytes_of c.args.paths.now) (rw c.in_ok-field.ensures.ok at c.take.ensures.kept) field.0;
+      failures = c.in_ok-fill.ensures.failures.no_failure (never_stopped _ _ _ refl) ∙ inv.failures;
+      fields = c.keep.ensures (g.P.Paths.bytes_of c.args.paths.now) c.in_ok-field.ensures.kept field.0;
       stands = stands;
     }

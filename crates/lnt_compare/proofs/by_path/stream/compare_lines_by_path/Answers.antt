@@ -1,5 +1,4 @@
 use Rattle.std.proofs.Common.{◌∙◌, ◌++◌, ℕ, List, IfSome, ap, arith, length, subst, sym}
-use Rattle.std.proofs.lemmas.Result.{IfOk-weaker}
 use Rattle.lnt_spans.specs.declared.answer.Answer.{Answer}
 use Rattle.lnt_compare.specs.Passing.{Ends}
 use Rattle.lnt_compare.proofs.StreamLaws.{few_all, rest_begins, whole_cut}
@@ -13,7 +12,7 @@ use Rattle.lnt_compare.proofs.by_path.stream.compare_lines_by_path.Goals as goal
 
 pub compare_text-requires-clause-known : goal.compare_text-requires-clause-known
 compare_text-requires-clause-known g c =
-    rw c.in_ok-comparison.ensures.ok at c.past-made.ensures.ready (g.P.Paths.bytes_of c.args.paths.now)
+    c.in_ok-comparison.ensures.ready (g.P.Paths.bytes_of c.args.paths.now)
 
 pub compare_text-requires-clause-header : goal.compare_text-requires-clause-header
 compare_text-requires-clause-header g c =
@@ -29,13 +28,12 @@ compare_text-requires-clause-few g c =
     let past : List ℕ = c.pass_spans.new.window in
     let ends : Ends (g.T.Source.remaining c.pass_spans.new.source) (g.T.Source.left c.pass_spans.new.source)
     (c.header_line.result.now ++ past) c.deref.result.now = rw (← c.deref.ensures.value) at c.in_ok-text.ensures.ok in
-    let same = rw c.in_ok-comparison.ensures.ok at c.past-made.ensures.count in
-    rw same (few_all by_path plain_by_path plain_paths c.args.version _ _ _ _ c.header_line.result.now c.args.window past spans.0
+    rw c.in_ok-comparison.ensures.count (few_all by_path plain_by_path plain_paths c.args.version _ _ _ _ c.header_line.result.now c.args.window past spans.0
     c.deref.result.now _ _ (c.header_line.ensures ∙ header_text c.args.version) spans.2 ends spans.3.lines
     (omega (arith, c.requires.few, ap length (header_text c.args.version))))
 
 pub returns-clause-ok : goal.returns-clause-ok
-returns-clause-ok g c =
+returns-clause-ok g c list come order =
     let version = c.args.version in
     let path = g.P.Paths.bytes_of c.args.paths.now in
     let tell : Answer → PathAnswer = path_answer version path in
@@ -43,17 +41,12 @@ returns-clause-ok g c =
     let past : List ℕ = c.pass_spans.new.window in
     let ends : Ends (g.T.Source.remaining c.pass_spans.new.source) (g.T.Source.left c.pass_spans.new.source)
     (c.header_line.result.now ++ past) c.deref.result.now = rw (← c.deref.ensures.value) at c.in_ok-text.ensures.ok in
-    let merged = rw c.in_ok-comparison.ensures.ok at c.past-made.ensures.merged in
-    let count = rw c.in_ok-comparison.ensures.ok at c.past-made.ensures.count in
-    IfOk-weaker c.told-2.result _ _
-    (λ outcome is list come order.
     let off = spans.4 list come order in
-    let IsSo : List ℕ → Type 0 = λ (bytes : List ℕ). IsPathOutcome bytes (λ version. spans_by_path version path list) outcome in
+    let IsSo : List ℕ → Type 0 = λ (bytes : List ℕ). IsPathOutcome bytes (λ version. spans_by_path version path list) c.in_ok-outcome.outcome in
     subst (λ (line : List ℕ). IfSome (g.T.Source.remaining c.args.table.now) (λ more. IsSo (line ++ (c.args.window ++ more))))
     (sym (header_text version))
     (whole_cut by_path plain_by_path plain_paths version _ _ _ _ c.header_line.result.now c.args.window past spans.0 c.deref.result.now
     _ _ IsSo (c.header_line.ensures ∙ header_text version) spans.2 ends spans.3.lines
-    (λ bytes cut. (rw is at c.compare_text.ensures) bytes spans.3.lines.records _ list cut
-    (judges_lines _ tell version c.in_ok-comparison.comparison spans.0 spans.1 off.rest _ _ spans.3 count off.order
-    (merged tell spans.1 off.rest off.left off.order spans.3.end_is)) off.same)))
-    c.told-2.ensures.ok
+    (λ bytes cut. c.in_ok-outcome.ensures bytes spans.3.lines.records _ list cut
+    (judges_lines _ tell version c.in_ok-comparison.comparison spans.0 spans.1 off.rest _ _ spans.3 c.in_ok-comparison.ensures.count off.order
+    (c.in_ok-comparison.ensures.merged tell spans.1 off.rest off.left off.order spans.3.end_is)) off.same))

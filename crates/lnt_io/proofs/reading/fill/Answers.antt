@@ -1,7 +1,7 @@
 use Rattle.std.proofs.Common.{arith}
 use Rattle.std.proofs.lemmas.Grind.{common_steps}
 use Rattle.lnt_io.proofs.PullLaws.{pulls_filled}
-use Rattle.lnt_io.proofs.source.fill.Goals as goal
+use Rattle.lnt_io.proofs.reading.fill.Goals as goal
 
 pub loop-filled-preserved : goal.loop-filled-preserved
 loop-filled-preserved g c = record {

@@ -1,6 +1,6 @@
 use Rattle.std.proofs.Common.{◌≡◌, ◌+◌, vec_len}
 use Rattle.lnt_io.specs.Pulling.{Pulls}
-use Rattle.lnt_io.proofs.source.read_all.Given as goal
+use Rattle.lnt_io.proofs.reading.read_all.Given as goal
 
 abbrev pub invariant-loop-all : goal.invariant-loop-all
 invariant-loop-all g l = record {

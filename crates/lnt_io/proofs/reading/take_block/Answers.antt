@@ -1,7 +1,7 @@
 use Rattle.std.proofs.Common.{◌≡◌, ◌+◌, ◌-◌, ◌≤◌, ◌++◌, take, length, arith, vec_len, replicate, rules}
 use Rattle.std.proofs.lemmas.Grind.{common_steps}
 use Rattle.lnt_io.proofs.PullLaws.{gives_written, prefix_kept}
-use Rattle.lnt_io.proofs.source.take_block.Goals as goal
+use Rattle.lnt_io.proofs.reading.take_block.Goals as goal
 
 pub returns-clause-bytes : goal.returns-clause-bytes
 returns-clause-bytes g c =
@@ -15,6 +15,3 @@ returns-clause-bytes g c =
     let room : c.len-start.result + c.in-Ok.count ≤ c.resize.new.self.len = grind (arith, common_steps) in
     gives_written _ _ c.in-Ok.count c.resize.new.self.len c.len-start.result c.args.all.now.items c.deref_mut.result.now c.fill.new.room
     _ _ c.truncate.new.self.items c.in-Ok.ensures.bytes start prefix c.in-Ok.ensures.bound room c.truncate.ensures.items
-
-pub returns-then-is_err-clause-read : goal.returns-then-is_err-clause-read
-returns-then-is_err-clause-read c = search rules

@@ -1,7 +1,7 @@
 use Rattle.std.proofs.Common.{refl}
 use Rattle.lnt_lines.specs.Judging.IsRefusalOfRun.{broken, of_unit}
 use Rattle.lnt_lines.proofs.RunLemmas.{refused_other}
-use Rattle.lnt_lines.proofs.run.told.Goals as goal
+use Rattle.lnt_lines.proofs.run.refusal_for.Goals as goal
 
 pub returns-in-Ok : goal.returns-in-Ok
 returns-in-Ok c =

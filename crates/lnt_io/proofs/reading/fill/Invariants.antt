@@ -1,6 +1,6 @@
 use Rattle.std.proofs.Common.{◌≡◌, ◌+◌, ◌-◌, ◌≤◌, length, take}
 use Rattle.lnt_io.specs.Pulling.{Pulls}
-use Rattle.lnt_io.proofs.source.fill.Given as goal
+use Rattle.lnt_io.proofs.reading.fill.Given as goal
 
 abbrev pub invariant-loop-filled : goal.invariant-loop-filled
 invariant-loop-filled g l = record {
