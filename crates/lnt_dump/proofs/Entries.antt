@@ -1,4 +1,5 @@
 -- Entries that are read one by one where they lie, value by value.
+use Rattle.std.proofs.lemmas.Grind.{common_steps}
 use Rattle.std.proofs.Common.{◌≡◌, ℕ, ◌+◌, ◌<◌, ◌≤◌, List, [], ◌∷◌, ◌++◌, length, take, drop, get_or, codes, decimal}
 use Rattle.std.proofs.Common.{Option, Some, Result, Ok, Err, OnOk, refl, sym, ap, subst, ◌∙◌, append-nil, arith}
 use Rattle.std.proofs.Common.{take_all, take-append-drop}
@@ -25,7 +26,7 @@ use Rattle.lnt_header_bytes.specs.TableBytes.{EntryBytes}
 use Rattle.lnt_header.specs.declared.header.Entry.{Entry}
 use Rattle.lnt_header.specs.Joins.{Each}
 use Rattle.lnt_wire.specs.Bytes.{IsCode}
-use Rattle.lnt_dump.specs.Headers.{component_text, components_text, entry_end, entry_line}
+use Rattle.lnt_dump.specs.Headers.{component_text, entry_end, entry_line}
 use Rattle.lnt_dump.specs.Numbered.{numbered}
 use Rattle.lnt_dump.specs.Stepping.{IsPaged, PassesPrinting}
 use Rattle.lnt_io.specs.Prefixes.{AppendsPrefix}
@@ -47,22 +48,14 @@ zip_push : (pairs : List Pair) (values : List FormValue) (pair : Pair) (value : 
 zip_push [] [] pair value same = refl
 zip_push [] (v ∷ values) pair value same = absurd (omega (arith, same))
 zip_push (p ∷ pairs) [] pair value same = absurd (omega (arith, same))
-zip_push (p ∷ pairs) (v ∷ values) pair value same =
-    ap (λ (z : List (Pair × FormValue)). (p, v) ∷ z) (zip_push pairs values pair value (omega (arith, same)))
+zip_push (p ∷ pairs) (v ∷ values) pair value same = grind (arith, common_steps, zip_push pairs values pair value)
 
 components_push : (pairs : List Pair) (i : ℕ) (d : Pair) (values : List FormValue) (value : FormValue) → i < length pairs
     → length values ≡ i
     → flat_map component_text (zip (take i pairs) values) ++ component_text (get_or pairs i d, value)
     ≡ flat_map component_text (zip (take (i + 1) pairs) (values ++ value ∷ []))
 components_push pairs i d values value lt count =
-    let pair = get_or pairs i d in
-    let prefix = take i pairs in
-    let same : length prefix ≡ length values = length-take-le i pairs (omega (arith, lt)) ∙ sym count in
-    let text = flat_map component_text (zip prefix values) in
-    ap (λ (z : List ℕ). text ++ z) (sym (append-nil (component_text (pair, value))))
-    ∙ sym (flat_map-append component_text (zip prefix values) ((pair, value) ∷ []))
-    ∙ ap (flat_map component_text) (sym (zip_push prefix values pair value same))
-    ∙ ap (λ (ps : List Pair). flat_map component_text (zip ps (values ++ value ∷ []))) (sym (take_more pairs i d lt))
+    grind (arith, common_steps, length-take-le, append-nil, flat_map-append, zip_push, take_more)
 
 module _ {format : Format} {pairs : List Pair} {i : ℕ} {old middle : At} {before between : Option (List ℕ)}
     (p : AreReadTold format pairs i old middle before between) where
@@ -73,9 +66,7 @@ module _ {format : Format} {pairs : List Pair} {i : ℕ} {old middle : At} {befo
     values = p.values ++ value ∷ [];
     count_is = omega (arith, length-append p.values (value ∷ []), p.count_is);
     read = laws.read_more format pairs i d p.values value old middle new lt p.read r;
-    told = subst (Appends before after) (components_push pairs i d p.values value lt p.count_is)
-        (Appends-trans before between after (flat_map component_text (zip (take i pairs) p.values))
-        (component_text (get_or pairs i d, value)) p.told printed);
+    told = grind (arith, common_steps, components_push);
   }
 
   pub read_all : {after : Option (List ℕ)} → length pairs ≤ i → Appends between after (codes "\n")
@@ -83,8 +74,7 @@ module _ {format : Format} {pairs : List Pair} {i : ℕ} {old middle : At} {befo
   read_all {after} le end = record {
     entry = entry_of p.values;
     read = laws.entry_read format pairs i p.values old middle le p.read;
-    printed = Appends-trans before between after (components_text pairs (entry_of p.values)) (codes "\n")
-        (subst (λ (ps : List Pair). Appends before between (flat_map component_text (zip ps p.values))) (take_all i pairs le) p.told) end;
+    printed = grind (arith, common_steps, take_all);
   }
 
   pub none_there : (d : Pair) → i < length pairs → NoneSpelled (ValueBytes format middle.order (get_or pairs i d).form) middle.rest
@@ -111,9 +101,7 @@ at_first name table at page out order lies = record {
 -- a value that was read is the first of those that are there
 first_is : {X : Type 0} (P : X → List ℕ → Type 0) → IsCode P → (vs : List X) (n : ℕ) (d u : X) (x rest bytes : List ℕ) → n < length vs
     → P u x → Each P (drop n vs) bytes → bytes ≡ x ++ rest → u ≡ get_or vs n d
-first_is P code vs n d u x rest bytes lt p q e =
-    let each = subst (λ ws. Each P ws bytes) (drop_more vs n d lt) q in
-    (code.one u (get_or vs n d) x each.prefix rest each.back p each.first (sym e ∙ each.joined)).0
+first_is P code vs n d u x rest bytes lt p q e = grind (arith, common_steps, drop_more)
 
 -- the line of an entry, in its two parts
 pub line_read : {A E : Type 0} (result : Result A E) (name : List ℕ) (index : ℕ) (format : Format) (pairs : List Pair) (at new : At)
@@ -158,14 +146,7 @@ module _ {name : List ℕ} {table : BorrowedTable} {format : Format} {pairs : Li
   pub at_next : {new : At} {added left : List ℕ} {then : Option (List ℕ)}
       → PassesPrinting (entry_line name pairs number) format pairs at new (Some page) (Some added) → IsPaged added now then left
       → IsBefore name table (number + 1) new before left old then
-  at_next {left = left} {then = then} p turned =
-      let l = next_line p in
-      record {
-        order_is = l.order_is;
-        lies = l.lies;
-        told = told_next (entry_line name table.pairs) before table.entries number l.entry lt l.is is.told
-            (subst (λ (z : List ℕ). IsPaged z now then left) l.line turned);
-      }
+  at_next {left = left} {then = then} p turned = grind (arith, next_line p, told_next)
 
   -- of the page a prefix was written
   pub line_cut : {new : At} {added : List ℕ} {then : Option (List ℕ)}
@@ -178,11 +159,7 @@ module _ {name : List ℕ} {table : BorrowedTable} {format : Format} {pairs : Li
       (prefix_same now then added (page ++ line number l.entry) l.line f)
 
   pub is_there : NoneSpelled (EntryBytes format at.order pairs) at.rest → ⊥
-  is_there none =
-      one_there (EntryBytes table.format table.order table.pairs) table.entries number at.rest lt is.lies
-      (subst (λ (o : Order). NoneSpelled (EntryBytes table.format o table.pairs) at.rest) is.order_is
-      (subst (λ (f : Format). NoneSpelled (EntryBytes f at.order table.pairs) at.rest) format_is
-      (subst (λ (ps : List Pair). NoneSpelled (EntryBytes format at.order ps) at.rest) pairs_are none)))
+  is_there none = grind (arith, common_steps, one_there)
 
 module _ {name : List ℕ} {table : BorrowedTable} {number : ℕ} {at : At} {before page : List ℕ} {old now : Option (List ℕ)}
     (is : IsBefore name table number at before page old now) where
@@ -194,6 +171,4 @@ module _ {name : List ℕ} {table : BorrowedTable} {number : ℕ} {at : At} {bef
 
   -- all lines were printed
   pub all_told : length table.entries ≤ number → IsPaged (before ++ numbered (entry_line name table.pairs) 0 table.entries) old now page
-  all_told le =
-      subst (λ (es : List Entry). IsPaged (before ++ numbered (entry_line name table.pairs) 0 es) old now page)
-      (take_all number table.entries le) is.told
+  all_told le = grind (arith, common_steps, take_all)

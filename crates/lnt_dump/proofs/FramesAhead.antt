@@ -1,5 +1,6 @@
 -- The frames of bytes that nobody has read. Any bytes begin with a frame, or have a fault for which none begins them; so they are
 -- frames up to their end or up to a fault.
+use Rattle.std.proofs.lemmas.Grind.{common_steps}
 use Rattle.std.proofs.Common.{◌≡◌, ◌⊎◌, ℕ, zero, suc, ◌+◌, ◌^◌, ◌<◌, ◌≤◌, List, [], ◌∷◌, ◌++◌, length, take, drop, Option, Some, None}
 use Rattle.std.proofs.Common.{refl, sym, ap, subst, ◌∙◌, append_assoc, take-append-drop, arith, inl, inr}
 use Rattle.std.proofs.lemmas.Bool.{cases_eq, cases_lt}
@@ -323,16 +324,6 @@ frames_ahead at are = frames_within (length at.rest) at (omega arith) are
 -- frames, and frames after them
 pub frames_join : (order : Order) (offset : ℕ) (frames more : List Frame) (prefix back : List ℕ) → FramesFrom order offset frames prefix
     → FramesFrom order (offset + length prefix) more back → FramesFrom order offset (frames ++ more) (prefix ++ back)
-frames_join order offset [] more prefix back p q =
-    let none : offset + length prefix ≡ offset = omega (arith, ap length p) in
-    subst (λ (z : List ℕ). FramesFrom order offset more z) (sym (ap (λ (z : List ℕ). z ++ back) p))
-    (subst (λ (n : ℕ). FramesFrom order n more back) none q)
+frames_join order offset [] more prefix back p q = grind (arith, common_steps)
 frames_join order offset (frame ∷ frames) more prefix back (a, b, whole, at, spelled, later) q =
-    let size : offset + length prefix ≡ (offset + length a) + length b = omega (arith, ap length whole, length-append a b) in (
-      a,
-      b ++ back,
-      ap (λ (z : List ℕ). z ++ back) whole ∙ append_assoc a b back,
-      at,
-      spelled,
-      frames_join order (offset + length a) frames more b back later (subst (λ (n : ℕ). FramesFrom order n more back) size q),
-    )
+    grind (arith, common_steps, length-append, append_assoc, frames_join order (offset + length a) frames more b back later)

@@ -1,5 +1,7 @@
 -- The lines of a header: those of its numbers, of its directories and of its files.
-use Rattle.std.proofs.Common.{◌≡◌, ◌∙◌, ℕ, List, ◌++◌, Option, Result, Ok, Err, OnOk, OnErr, refl, ap, subst, append_assoc, codes}
+use Rattle.std.proofs.Common.{arith}
+use Rattle.std.proofs.lemmas.Grind.{common_steps}
+use Rattle.std.proofs.Common.{◌≡◌, ℕ, List, ◌++◌, Option, Result, Ok, Err, OnOk, OnErr, refl, append_assoc, codes}
 use Rattle.lnt_io.specs.Prefixes.{AppendsPrefix}
 use Rattle.lnt_io.proofs.PrefixLaws.{prefix_before, prefix_same}
 use Rattle.lnt_header.specs.HeaderNumbers.{without_entries}
@@ -20,9 +22,7 @@ table_lines name table = numbered (entry_line name table.pairs) 0 table.entries
 
 table_is : (name : List ℕ) (table : BorrowedTable) (pairs : List Pair) (entries : List Entry) → table.pairs ≡ pairs
     → table.entries ≡ entries → table_lines name table ≡ numbered (entry_line name pairs) 0 entries
-table_is name table pairs entries one two =
-    ap (λ (ps : List Pair). numbered (entry_line name ps) 0 table.entries) one
-    ∙ ap (λ (es : List Entry). numbered (entry_line name pairs) 0 es) two
+table_is name table pairs entries one two = grind (arith, common_steps)
 
 -- a unit and its header's numbers, whose lines were added to the page, and the directories
 module _ (frame : Frame) (header numbers : HeaderParts) (directories : BorrowedTable) (page page1 : List ℕ)
@@ -32,18 +32,7 @@ module _ (frame : Frame) (header numbers : HeaderParts) (directories : BorrowedT
   -- the text of all parts
   all_parts : (files : List ℕ) → files ≡ numbered (entry_line (codes "file") header.file_format) 0 header.files
       → (page1 ++ table_lines (codes "dir") directories) ++ files ≡ page ++ header_lines frame header
-  all_parts files files_are =
-      let unit = codes "unit " ++ unit_line frame in
-      let line = numbers_line header in
-      let dir_lines = numbered (entry_line (codes "dir") header.directory_format) 0 header.directories in
-      let file_lines = numbered (entry_line (codes "file") header.file_format) 0 header.files in
-      let first : page1 ≡ page ++ (unit ++ line) = added ∙ ap (λ (h : HeaderParts). page ++ (unit ++ numbers_line h)) same in
-      ap (λ (z : List ℕ). (z ++ table_lines (codes "dir") directories) ++ files) first
-      ∙ ap (λ (z : List ℕ). ((page ++ (unit ++ line)) ++ z) ++ files)
-      (table_is (codes "dir") directories header.directory_format header.directories dir_pairs dirs)
-      ∙ ap (λ (z : List ℕ). ((page ++ (unit ++ line)) ++ dir_lines) ++ z) files_are
-      ∙ append_assoc (page ++ (unit ++ line)) dir_lines file_lines ∙ append_assoc page (unit ++ line) (dir_lines ++ file_lines)
-      ∙ ap (λ (z : List ℕ). page ++ z) (append_assoc unit line (dir_lines ++ file_lines))
+  all_parts files files_are = grind (arith, common_steps, table_is, append_assoc)
 
   -- of the lines of directories a prefix was written
   pub directories_cut : {old new : Option (List ℕ)}
@@ -59,17 +48,14 @@ module _ (frame : Frame) (header numbers : HeaderParts) (directories : BorrowedT
       (file_pairs : files.pairs ≡ header.file_format) (files_are : files.entries ≡ header.files)
       (told : IsPaged (page1 ++ numbered (entry_line (codes "dir") directories.pairs) 0 directories.entries) old now page2) where
     with_files : (page1 ++ table_lines (codes "dir") directories) ++ table_lines (codes "file") files ≡ page ++ header_lines frame header
-    with_files =
-        all_parts (table_lines (codes "file") files)
-        (table_is (codes "file") files header.file_format header.files file_pairs files_are)
+    with_files = grind (arith, common_steps, all_parts, table_is)
 
     -- all were printed
     pub header_told : {A E : Type 0} (result : Result A E) (page3 : List ℕ)
         → OnOk result (IsPaged (page2 ++ numbered (entry_line (codes "file") files.pairs) 0 files.entries) now new page3)
         → OnOk result (IsPaged (page ++ header_lines frame header) old new page3)
     header_told (Err error) page3 q = q
-    header_told (Ok done) page3 q = subst (λ (z : List ℕ). IsPaged z old new page3) with_files
-        (paged_more (table_lines (codes "file") files) told q)
+    header_told (Ok done) page3 q = grind (arith, common_steps, with_files, paged_more)
 
     -- of their lines a prefix was written
     pub files_cut : {A E : Type 0} (result : Result A E)

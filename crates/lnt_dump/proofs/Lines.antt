@@ -1,7 +1,8 @@
 -- Lines that are counted, and pieces of hexadecimal digits.
-use Rattle.std.proofs.Common.{◌≡◌, ◌∙◌, ℕ, ◌+◌, ◌<◌, List, [], ◌∷◌, ◌++◌, length, drop, Option, Result, Ok, Err, OnOk}
-use Rattle.std.proofs.Common.{refl, sym, ap, subst, append_assoc, append-nil, take-append-drop, arith}
-use Rattle.std.proofs.KnownBytes.{Appends-nil, Appends-trans}
+use Rattle.std.proofs.lemmas.Grind.{common_steps}
+use Rattle.std.proofs.Common.{◌≡◌, ◌∙◌, ℕ, ◌+◌, ◌<◌, List, [], ◌∷◌, ◌++◌, length, Option, Result, Ok, Err, OnOk}
+use Rattle.std.proofs.Common.{refl, sym, ap, append_assoc, append-nil, take-append-drop, arith}
+use Rattle.std.proofs.KnownBytes.{Appends-nil}
 use Rattle.std.specs.Io.KnownBytes.{Appends}
 use Rattle.std.specs.List.{IsSplitAt}
 use Rattle.hex.specs.Hex.{encode_lower, encode_with}
@@ -10,14 +11,8 @@ use Rattle.lnt_dump.specs.Numbered.{numbered}
 -- the lines with one line more
 pub numbered_push : {X : Type 0} (line : ℕ → X → List ℕ) (first : ℕ) (xs : List X) (x : X)
     → numbered line first (xs ++ x ∷ []) ≡ numbered line first xs ++ line (first + length xs) x
-numbered_push line first [] x =
-    let here : first ≡ first + 0 = omega arith in
-    append-nil (line first x) ∙ ap (λ (n : ℕ). line n x) here
-numbered_push line first (y ∷ xs) x =
-    let next : first + 1 + length xs ≡ first + length (y ∷ xs) = omega arith in
-    ap (λ (z : List ℕ). line first y ++ z)
-    (numbered_push line (first + 1) xs x ∙ ap (λ (n : ℕ). numbered line (first + 1) xs ++ line n x) next)
-    ∙ sym (append_assoc (line first y) (numbered line (first + 1) xs) (line (first + length (y ∷ xs)) x))
+numbered_push line first [] x = grind (arith, common_steps, append-nil)
+numbered_push line first (y ∷ xs) x = grind (arith, common_steps, append_assoc, numbered_push line (first + 1) xs x)
 
 digits_join : (table xs ys : List ℕ) → encode_with table (xs ++ ys) ≡ encode_with table xs ++ encode_with table ys
 unfolding encode_with
@@ -25,9 +20,7 @@ digits_join table [] ys = refl
 digits_join table (x ∷ xs) ys = let rest = digits_join table xs ys in cc rest
 
 whole : (bytes prefix rest : List ℕ) (count : ℕ) → IsSplitAt bytes count prefix rest → bytes ≡ prefix ++ rest
-whole bytes prefix rest count split =
-    sym (take-append-drop count bytes) ∙ ap (λ (z : List ℕ). z ++ drop count bytes) (sym split.1)
-    ∙ ap (λ (z : List ℕ). prefix ++ z) (sym split.2)
+whole bytes prefix rest count split = grind (arith, common_steps, take-append-drop)
 
 -- fewer are left
 pub digits_fewer : (rest piece more : List ℕ) (count : ℕ) → 0 < count → IsSplitAt rest count piece more → length more < length rest
@@ -49,32 +42,23 @@ pub digits_more : {bytes rest : List ℕ} {old now : Option (List ℕ)} (piece m
 digits_more {rest = rest} {old = old} {now = now} piece more count new is split printed = record {
   prefix = is.prefix ++ piece;
   joined = is.joined ∙ ap (λ (z : List ℕ). is.prefix ++ z) (whole rest piece more count split) ∙ sym (append_assoc is.prefix piece more);
-  told = subst (Appends old new) (sym (digits_join _ is.prefix piece))
-      (Appends-trans old now new (encode_lower is.prefix) (encode_lower piece) is.told printed);
+  told = grind (arith, common_steps, digits_join);
 }
 
 pub digits_all : {A E : Type 0} (result : Result A E) {bytes rest : List ℕ} {old now : Option (List ℕ)} (new : Option (List ℕ))
     → AreDigitsTold bytes rest old now → OnOk result (Appends now new (encode_lower rest))
     → OnOk result (Appends old new (encode_lower bytes))
-digits_all (Ok done) {bytes} {rest} {old} {now} new is printed =
-    let text : encode_lower is.prefix ++ encode_lower rest ≡ encode_lower bytes =
-    sym (digits_join _ is.prefix rest) ∙ ap encode_lower (sym is.joined) in
-    subst (Appends old new) text (Appends-trans old now new (encode_lower is.prefix) (encode_lower rest) is.told printed)
+digits_all (Ok done) {bytes} {rest} {old} {now} new is printed = grind (arith, common_steps, digits_join)
 digits_all (Err error) new is printed = printed
 
 -- the lines of the first items begin those of all
 pub numbered_prefix : {X : Type 0} (line : ℕ → X → List ℕ) (first : ℕ) (xs ys : List X)
     → (more : List ℕ) × (numbered line first (xs ++ ys) ≡ numbered line first xs ++ more)
 numbered_prefix line first [] ys = (numbered line first ys, refl)
-numbered_prefix line first (x ∷ xs) ys =
-    let prefix = numbered_prefix line (first + 1) xs ys in (
-      prefix.0,
-      ap (λ (z : List ℕ). line first x ++ z) prefix.1 ∙ sym (append_assoc (line first x) (numbered line (first + 1) xs) prefix.0),
-    )
+numbered_prefix line first (x ∷ xs) ys = grind (arith, common_steps, append_assoc, numbered_prefix line (first + 1) xs ys)
 
 -- the text that a call added, after that of others before it
 pub text_more : {A E : Type 0} (result : Result A E) (old mid new prefix back : List ℕ) → mid ≡ old ++ prefix
     → OnOk result (new ≡ mid ++ back) → OnOk result (new ≡ old ++ (prefix ++ back))
-text_more (Ok done) old mid new prefix back before here =
-    here ∙ ap (λ (z : List ℕ). z ++ back) before ∙ append_assoc old prefix back
+text_more (Ok done) old mid new prefix back before here = grind (arith, common_steps, append_assoc)
 text_more (Err error) old mid new prefix back before here = here

@@ -1,4 +1,5 @@
 -- The operands of an unknown standard operation, read one by one where they lie.
+use Rattle.std.proofs.lemmas.Grind.{common_steps}
 use Rattle.std.proofs.Common.{◌≡◌, ◌∙◌, ℕ, ◌<◌, List, [], ◌∷◌, ◌++◌, append-nil, append_assoc, ap, arith, length, refl, subst, sym}
 use Rattle.std.proofs.Common.{Result, Ok, Err, OnOk, codes, decimal, false}
 use Rattle.std.specs.Result.{is_err}
@@ -47,8 +48,7 @@ one_there bytes (n ∷ numbers) some spelled refused = refused n spelled.prefix 
 -- where bytes are left, a number begins them
 pub left_there : (bytes rest old text : List ℕ) → AreLeft bytes rest old text → ((numbers : List ℕ) × Each UnsignedLeb numbers bytes)
     → 0 < length rest → NoneSpelled UnsignedLeb rest → ⊥
-left_there bytes rest old text are numbers some refused =
-    let left = are numbers.0 numbers.1 in one_there rest left.0 some left.1 refused
+left_there bytes rest old text are numbers some refused = grind (arith, common_steps, one_there)
 
 one_less : (n : ℕ) (at new : At) (left old text text' numbers : List ℕ) → Each UnsignedLeb left at.rest → Reads UnsignedLeb n at new
     → text' ≡ text ++ operand_text n → old ++ flat_map operand_text numbers ≡ text ++ flat_map operand_text left
@@ -79,26 +79,17 @@ left_more bytes n at new old text text' are read here numbers spelled =
 
 -- and fewer of them
 pub rest_shorter : (n : ℕ) (at new : At) → Reads UnsignedLeb n at new → length new.rest < length at.rest
-rest_shorter n at new read =
-    omega (arith, leb_is_some n read.spelling read.spelled, ap length read.whole, length-append read.spelling new.rest)
+rest_shorter n at new read = grind (arith, common_steps, leb_is_some, length-append)
 
 none_left : (left rest old text numbers : List ℕ) → length rest ≡ 0 → Each UnsignedLeb left rest
     → old ++ flat_map operand_text numbers ≡ text ++ flat_map operand_text left → text ≡ old ++ flat_map operand_text numbers
 none_left [] rest old text numbers empty spelled same = sym (same ∙ append-nil text)
-none_left (n ∷ left) rest old text numbers empty spelled same =
-    absurd (omega (
-      arith,
-      empty,
-      ap length spelled.joined,
-      length-append spelled.prefix spelled.back,
-      leb_is_some n spelled.prefix spelled.first,
-    ))
+none_left (n ∷ left) rest old text numbers empty spelled same = grind (arith, common_steps, length-append, leb_is_some)
 
 -- all were added
 pub left_all : (bytes rest old text : List ℕ) → AreLeft bytes rest old text → length rest ≡ 0
     → (numbers : List ℕ) → Each UnsignedLeb numbers bytes → text ≡ old ++ flat_map operand_text numbers
-left_all bytes rest old text are empty numbers spelled =
-    let left = are numbers spelled in none_left left.0 rest old text numbers empty left.1 left.2
+left_all bytes rest old text are empty numbers spelled = grind (arith, common_steps, none_left)
 
 -- the line of an operation, in its three parts
 pub line_told : {A E : Type 0} (result : Result A E) (view : OpView) (index : ℕ) (old start middle new : List ℕ)
@@ -122,11 +113,7 @@ pub listed_told : {A E : Type 0} (result : Result A E) (listed : List ℕ) (opco
     → middle ≡ old ++ (codes "unknown_standard " ++ decimal opcode) → OnOk result (new ≡ middle ++ flat_map operand_text listed)
     → OnOk result ((numbers : List ℕ) → listed ≡ numbers
     → new ≡ old ++ ((codes "unknown_standard " ++ decimal opcode) ++ flat_map operand_text numbers))
-listed_told (Ok value) listed opcode old middle new before here =
-    let prefix = codes "unknown_standard " ++ decimal opcode in
-    λ numbers same. here ∙ ap (λ (z : List ℕ). z ++ flat_map operand_text listed) before
-    ∙ append_assoc old prefix (flat_map operand_text listed)
-    ∙ ap (λ (list : List ℕ). old ++ (prefix ++ flat_map operand_text list)) same
+listed_told (Ok value) listed opcode old middle new before here = grind (arith, common_steps, append_assoc)
 listed_told (Err error) listed opcode old middle new before here = here
 
 pub spelled_told : {A E : Type 0} (result : Result A E) (bytes : List ℕ) (opcode : ℕ) (old middle new : List ℕ)
@@ -134,10 +121,7 @@ pub spelled_told : {A E : Type 0} (result : Result A E) (bytes : List ℕ) (opco
     → OnOk result ((numbers : List ℕ) → Each UnsignedLeb numbers bytes → new ≡ middle ++ flat_map operand_text numbers)
     → OnOk result ((numbers : List ℕ) → Each UnsignedLeb numbers bytes
     → new ≡ old ++ ((codes "unknown_standard " ++ decimal opcode) ++ flat_map operand_text numbers))
-spelled_told (Ok value) bytes opcode old middle new before here =
-    let prefix = codes "unknown_standard " ++ decimal opcode in
-    λ numbers spelled. here numbers spelled ∙ ap (λ (z : List ℕ). z ++ flat_map operand_text numbers) before
-    ∙ append_assoc old prefix (flat_map operand_text numbers)
+spelled_told (Ok value) bytes opcode old middle new before here = grind (arith, common_steps, append_assoc)
 spelled_told (Err error) bytes opcode old middle new before here = here
 
 -- the bytes of an unknown extended one
@@ -148,10 +132,7 @@ no_bytes_told (byte ∷ bytes) prefix old new empty here = absurd (omega (arith,
 pub bytes_told : (bytes prefix old middle spaced new : List ℕ) → 0 < length bytes → middle ≡ old ++ prefix → spaced ≡ middle ++ (32 ∷ [])
     → new ≡ spaced ++ encode_lower bytes → new ≡ old ++ (prefix ++ bytes_text bytes)
 bytes_told [] prefix old middle spaced new some before space here = absurd (omega (arith, some))
-bytes_told (byte ∷ bytes) prefix old middle spaced new some before space here =
-    here ∙ ap (λ (z : List ℕ). z ++ encode_lower (byte ∷ bytes)) (space ∙ ap (λ (z : List ℕ). z ++ (32 ∷ [])) before)
-    ∙ append_assoc (old ++ prefix) (32 ∷ []) (encode_lower (byte ∷ bytes))
-    ∙ append_assoc old prefix (32 ∷ encode_lower (byte ∷ bytes))
+bytes_told (byte ∷ bytes) prefix old middle spaced new some before space here = grind (arith, common_steps, append_assoc)
 
 -- what holds where a call has no error
 pub not_err : {A E : Type 0} (result : Result A E) (IsSo : Type 0) → is_err result ≡ false → OnOk result IsSo → IsSo

@@ -1,4 +1,6 @@
 -- A text that is made step by step from a cursor on, and handed to a writer page by page.
+use Rattle.std.proofs.Common.{arith}
+use Rattle.std.proofs.lemmas.Grind.{common_steps}
 use Rattle.std.proofs.Common.{◌≡◌, ◌∙◌, ℕ, List, [], ◌++◌, length, Option, refl, sym, ap, subst, append_assoc}
 use Rattle.std.proofs.KnownBytes.{Appends-nil, Appends-trans}
 use Rattle.std.specs.Io.KnownBytes.{Appends}
@@ -54,9 +56,7 @@ module _ {To : At → List ℕ → Type 0} {Adds : At → At → List ℕ → Li
       }
 
   walk_prefix : {at : At} {old now : Option (List ℕ)} {text : List ℕ} → To at text → AppendsPrefix old now text → IsPrefixIn Is old now
-  walk_prefix {at} {old} {now} {text} made f =
-      let rest = walk.rest at text made in
-      (text ++ rest.0, rest.1, prefix_before old now text rest.0 f)
+  walk_prefix {at} {old} {now} {text} made f = grind (arith, common_steps, prefix_before)
 
   -- nothing more was written
   pub walk_stopped : {at : At} {old now : Option (List ℕ)} {page : List ℕ} → PagedTo To at old now page → IsPrefixIn Is old now

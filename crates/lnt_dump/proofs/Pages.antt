@@ -1,4 +1,5 @@
 -- Text that is written page by page.
+use Rattle.std.proofs.lemmas.Grind.{common_steps}
 use Rattle.std.proofs.Common.{◌≡◌, ◌∙◌, ℕ, ◌+◌, ◌<◌, Bool, true, false, cond, List, [], ◌∷◌, ◌++◌, length, take, drop, get_or, Option}
 use Rattle.std.proofs.Common.{refl, sym, ap, append_assoc, append-nil, subst, arith, take-append-drop, Result, Ok, Err, OnOk, OnErr}
 use Rattle.std.proofs.lemmas.List.{length-take-le, take_more}
@@ -34,24 +35,20 @@ module _ {text page : List ℕ} {old now : Option (List ℕ)} where
   paged_more more {left} {new} p q = record {
     written = p.written ++ q.written;
     appended = Appends-trans old now new p.written q.written p.appended q.appended;
-    joined = grown text page more p.written p.joined ∙ ap (λ (z : List ℕ). p.written ++ z) q.joined
-        ∙ sym (append_assoc p.written q.written left);
+    joined = grind (arith, common_steps, grown, append_assoc);
   }
 
   -- of it a prefix was written
   pub paged_prefix : (more : List ℕ) {new : Option (List ℕ)} → IsPaged text old now page → AppendsPrefix now new (page ++ more)
       → AppendsPrefix old new (text ++ more)
-  paged_prefix more {new} p f =
-      prefix_same old new (p.written ++ (page ++ more)) (text ++ more) (sym (grown text page more p.written p.joined))
-      (prefix_after old now new p.written (page ++ more) p.appended f)
+  paged_prefix more {new} p f = grind (arith, common_steps, prefix_same, grown, prefix_after)
 
   -- what waited was written too
   pub paged_all : (new : Option (List ℕ)) → IsPaged text old now page → Appends now new page → Appends old new text
   paged_all new p written = subst (Appends old new) (sym p.joined) (Appends-trans old now new p.written page p.appended written)
 
   pub paged_cut : {new : Option (List ℕ)} → IsPaged text old now page → AppendsPrefix now new page → AppendsPrefix old new text
-  paged_cut {new} p f =
-      prefix_same old new (p.written ++ page) text (sym p.joined) (prefix_after old now new p.written page p.appended f)
+  paged_cut {new} p f = grind (arith, common_steps, prefix_same, prefix_after)
 
   -- nothing more was written
   pub paged_kept_prefix : IsPaged text old now page → AppendsPrefix old now text
@@ -72,40 +69,28 @@ paged_unshown false text page out e = paged_none page out
 module _ {X : Type 0} (line : ℕ → X → List ℕ) (before : List ℕ) where
   pushed : (list : List X) (index : ℕ) (x : X) → index ≡ length list
       → (before ++ numbered line 0 list) ++ line index x ≡ before ++ numbered line 0 (list ++ x ∷ [])
-  pushed list index x is =
-      let count : index ≡ 0 + length list = omega (arith, is) in
-      append_assoc before (numbered line 0 list) (line index x)
-      ∙ ap (λ (z : List ℕ). before ++ z) (ap (λ (n : ℕ). numbered line 0 list ++ line n x) count ∙ sym (numbered_push line 0 list x))
+  pushed list index x is = grind (arith, common_steps, append_assoc, numbered_push)
 
   -- one line more was printed
   pub told_more : (list : List X) (x : X) {next : List X} {index : ℕ} {page left : List ℕ} {old now new : Option (List ℕ)}
       → index ≡ length list → next ≡ list ++ x ∷ [] → IsPaged (before ++ numbered line 0 list) old now page
       → IsPaged (page ++ line index x) now new left → IsPaged (before ++ numbered line 0 next) old new left
   told_more list x {index = index} {left = left} {old = old} {new = new} is next_is told here =
-      subst (λ (z : List ℕ). IsPaged z old new left)
-      (pushed list index x is ∙ ap (λ (xs : List X). before ++ numbered line 0 xs) (sym next_is))
-      (paged_more (line index x) told here)
+      grind (arith, common_steps, pushed list index x is, paged_more (line index x) told here)
 
   -- the lines of the first items begin those of all
   pub told_prefix : (list more : List X) {all : List X} {old new : Option (List ℕ)} → all ≡ list ++ more
       → AppendsPrefix old new (before ++ numbered line 0 list) → AppendsPrefix old new (before ++ numbered line 0 all)
-  told_prefix list more {all} {old} {new} is f =
+  told_prefix list more {old = old} {new = new} is f =
       let prefix = numbered_prefix line 0 list more in
-      let first = before ++ numbered line 0 list in
-      prefix_same old new (first ++ prefix.0) (before ++ numbered line 0 all)
-      (append_assoc before (numbered line 0 list) prefix.0
-      ∙ ap (λ (z : List ℕ). before ++ z) (sym prefix.1 ∙ ap (numbered line 0) (sym is)))
-      (prefix_before old new first prefix.0 f)
+      grind (arith, prefix.1, is, append_assoc, prefix_before old new (before ++ numbered line 0 list) prefix.0 f)
 
   -- of one line more a prefix was written
   pub told_cut : (list more : List X) (x : X) {all : List X} {index : ℕ} {page : List ℕ} {old now new : Option (List ℕ)}
       → index ≡ length list → all ≡ (list ++ x ∷ []) ++ more → IsPaged (before ++ numbered line 0 list) old now page
       → AppendsPrefix now new (page ++ line index x) → AppendsPrefix old new (before ++ numbered line 0 all)
-  told_cut list more x {index = index} {old = old} {new = new} is all_is told f =
-      let first = before ++ numbered line 0 list in
-      told_prefix (list ++ x ∷ []) more all_is
-      (prefix_same old new (first ++ line index x) (before ++ numbered line 0 (list ++ x ∷ [])) (pushed list index x is)
-      (paged_prefix (line index x) told f))
+  told_cut list more x {index = index} is all_is told f =
+      told_prefix (list ++ x ∷ []) more all_is (rw (pushed list index x is) at (paged_prefix (line index x) told f))
 
   taken : (xs : List X) (k : ℕ) (x : X) → k < length xs → x ≡ get_or xs k x → take (k + 1) xs ≡ take k xs ++ x ∷ []
   taken xs k x lt is = take_more xs k x lt ∙ ap (λ (y : X). take k xs ++ y ∷ []) (sym is)
@@ -114,8 +99,7 @@ module _ {X : Type 0} (line : ℕ → X → List ℕ) (before : List ℕ) where
   pub told_next : (xs : List X) (k : ℕ) (x : X) {page left : List ℕ} {old now new : Option (List ℕ)} → k < length xs → x ≡ get_or xs k x
       → IsPaged (before ++ numbered line 0 (take k xs)) old now page → IsPaged (page ++ line k x) now new left
       → IsPaged (before ++ numbered line 0 (take (k + 1) xs)) old new left
-  told_next xs k x lt is told here =
-      told_more (take k xs) x (sym (length-take-le k xs (omega (arith, lt)))) (taken xs k x lt is) told here
+  told_next xs k x lt is told here = grind (arith, common_steps, told_more, length-take-le, taken)
 
   pub told_next_cut : (xs : List X) (k : ℕ) (x : X) {page : List ℕ} {old now new : Option (List ℕ)} → k < length xs → x ≡ get_or xs k x
       → IsPaged (before ++ numbered line 0 (take k xs)) old now page → AppendsPrefix now new (page ++ line k x)
@@ -134,16 +118,12 @@ module _ (X : Type 0) (Is : X → Type 0) (first second : X → List ℕ) {lines
   -- of the second part a prefix was written
   pub first_cut : {new : Option (List ℕ)} → ((x : X) → Is x → AppendsPrefix start new (page ++ first x))
       → (x : X) → Is x → AppendsPrefix old new (lines ++ (first x ++ second x))
-  first_cut {new} f x is =
-      prefix_same old new ((lines ++ first x) ++ second x) (lines ++ (first x ++ second x)) (joined x)
-      (prefix_before old new (lines ++ first x) (second x) (paged_prefix (first x) begun (f x is)))
+  first_cut {new} f x is = grind (arith, common_steps, prefix_same, joined, prefix_before, paged_prefix)
 
   -- of the third
   pub second_cut : {now new : Option (List ℕ)} {page2 : List ℕ} → ((x : X) → Is x → IsPaged (page ++ first x) start now page2)
       → ((x : X) → Is x → AppendsPrefix now new (page2 ++ second x)) → (x : X) → Is x → AppendsPrefix old new (lines ++ (first x ++ second x))
-  second_cut {new = new} p f x is =
-      prefix_same old new ((lines ++ first x) ++ second x) (lines ++ (first x ++ second x)) (joined x)
-      (paged_prefix (second x) (paged_more (first x) begun (p x is)) (f x is))
+  second_cut {new = new} p f x is = grind (arith, common_steps, prefix_same, joined, paged_prefix, paged_more)
 
   -- all were written, or a prefix
   module _ {now then : Option (List ℕ)} {page2 page3 : List ℕ}

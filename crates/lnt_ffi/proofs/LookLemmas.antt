@@ -1,5 +1,6 @@
 -- Bisection of flat spans, from that of the spans that they are.
 use Rattle.std.proofs.Common.{◌≡◌, ℕ, zero, suc, ◌+◌, ◌-◌, ◌<◌, ◌≤◌, List, Some, None, length, map, get_or, sym, subst, arith}
+use Rattle.std.proofs.lemmas.Grind.{common_steps}
 use Rattle.std.proofs.lemmas.List.{length-map, get_or-map}
 use Rattle.lnt_spans.specs.declared.position.Position.{Position}
 use Rattle.lnt_spans.specs.declared.span.Span.{Span}
@@ -36,11 +37,7 @@ pub flat_inside : (spans : List FlatSpan) (p : Position) (middle : ℕ) (d : Fla
     → IsAtMost (span_of (get_or spans middle d)).low p × IsBelow p (span_of (get_or spans middle d)).high
     → span_answer (map span_of spans) p ≡ Some (answer_of (get_or spans middle d).answer)
 flat_inside spans p middle d o l h =
-    let e = at spans middle d (span_of d) l in
-    let count : length (map span_of spans) ≡ length spans = length-map spans span_of in
-    let found = found_inside (map span_of spans) p middle (span_of d) o (omega arith)
-    (subst (λ (s : Span). IsAtMost s.low p × IsBelow p s.high) e h) in
-    sym (subst (λ (s : Span). Some s.answer ≡ span_answer (map span_of spans) p) (sym e) found)
+    grind (arith, common_steps, at spans middle d (span_of d) l, found_inside (map span_of spans) p middle (span_of d) o)
 
 pub flat_nowhere : (spans : List FlatSpan) (p : Position) (low high : ℕ) → IsBracket (map span_of spans) p low high
     → high ≤ low → span_answer (map span_of spans) p ≡ None

@@ -1,6 +1,7 @@
 -- Spans that are put into the first places of a room as they come.
 use Rattle.std.proofs.Common.{◌≡◌, ◌∙◌, ℕ, ◌+◌, ◌<◌, ◌≤◌, List, [], ◌∷◌, ◌++◌, Some, length, map, set, take, sym, ap, subst}
 use Rattle.std.proofs.Common.{arith}
+use Rattle.std.proofs.lemmas.Grind.{common_steps}
 use Rattle.std.proofs.lemmas.List.{length-append, map-append, take_more_set}
 use Rattle.lnt_spans.specs.declared.span.Span.{Span}
 use Rattle.lnt_spans.specs.Coming.{GivesFirstSpan}
@@ -15,15 +16,11 @@ pub record HasPut (list : List Span) (count : ℕ) (room : List FlatSpan) (AreLe
   pub count_is : count ≡ length given
   pub there : count ≤ length room → map span_of (take count room) ≡ given
 
-one_more : (given : List Span) (span : Span) (count : ℕ) → count ≡ length given → count + 1 ≡ length (given ++ span ∷ [])
-one_more given span count e = let l = length-append given (span ∷ []) in omega (arith, e, l)
-
 -- a span that is stored after those before it
 pub stored : (room : List FlatSpan) (place : ℕ) (flat : FlatSpan) (span : Span) → span_of flat ≡ span → place < length room
     → map span_of (take (place + 1) (set room place flat)) ≡ map span_of (take place room) ++ span ∷ []
 stored room place flat span is few =
-    ap (map span_of) (take_more_set room place flat few) ∙ map-append span_of (take place room) (flat ∷ [])
-    ∙ ap (λ (last : Span). map span_of (take place room) ++ last ∷ []) is
+    grind (arith, common_steps, take_more_set room place flat few, map-append span_of (take place room) (flat ∷ []))
 
 -- one more is counted, where all are fewer than so many
 pub one_counted : (list : List Span) (count bound : ℕ) (room : List FlatSpan) (span : Span) (AreLeft AreLeft' : List Span → Type 0)
@@ -31,23 +28,16 @@ pub one_counted : (list : List Span) (count bound : ℕ) (room : List FlatSpan) 
     → length list < bound → count + 1 < bound
 one_counted list count bound room span AreLeft AreLeft' h gives few =
     let more = one_given list h.given span AreLeft AreLeft' h.has_given gives in
-    omega (
-      arith,
-      few,
-      one_more h.given span count h.count_is,
-      ap length more.list_is,
-      length-append (h.given ++ span ∷ []) more.rest,
-    )
+    grind (arith, common_steps, few, h.count_is, ap length more.list_is, length-append (h.given ++ span ∷ []) more.rest)
 
 pub one_put : (list : List Span) (count count' : ℕ) (room room' : List FlatSpan) (span : Span) (AreLeft AreLeft' : List Span → Type 0)
     → HasPut list count room AreLeft → ((spans : List Span) → AreLeft spans → GivesFirstSpan AreLeft' spans (Some span))
     → length room' ≡ length room → (count < length room → map span_of (take (count + 1) room') ≡ map span_of (take count room) ++ span ∷ [])
     → count' ≡ count + 1 → HasPut list count' room' AreLeft'
 one_put list count count' room room' span AreLeft AreLeft' h gives same there next =
-    subst (λ (n : ℕ). HasPut list n room' AreLeft') (sym next) (record {
+    record {
       given = h.given ++ span ∷ [];
       has_given = one_given list h.given span AreLeft AreLeft' h.has_given gives;
-      count_is = one_more h.given span count h.count_is;
-      there =
-          λ fits. there (omega (arith, fits, same)) ∙ ap (λ (prefix : List Span). prefix ++ span ∷ []) (h.there (omega (arith, fits, same)));
-    })
+      count_is = grind (arith, common_steps, h.count_is, next);
+      there = λ fits. grind (arith, there, h.there, fits, same, next);
+    }

@@ -4,7 +4,7 @@ ghost use Rattle.lnt_ffi.specs.Told.{with_prefix};
 
 // Writes the bytes to the beginning of the room if there is room for all of them, and returns how many they are. It writes nothing
 // else there.
-#[tactic(auto, using(crate::proofs::RoomLemmas::fitting, crate::proofs::RoomLemmas::too_long))]
+#[tactic(auto, using(crate::proofs::RoomLemmas::fitting))]
 pub(crate) fn put_bytes(bytes: &[u8], room: &mut [u8]) -> usize
     ensures count { result ≡ length bytes.now }
     ensures length { length room.new ≡ length room.old }

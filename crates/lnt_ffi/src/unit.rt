@@ -49,7 +49,7 @@ pub extern "C" fn linetab_units(
 }
 
 // Writes the units to the beginning of the room if there is room for all of them, and returns how many they are.
-#[tactic(auto, using(crate::proofs::RoomLemmas::filled, crate::proofs::RoomLemmas::too_long, crate::proofs::RoomLemmas::behind_set))]
+#[tactic(auto, using(crate::proofs::RoomLemmas::filled, crate::proofs::RoomLemmas::behind_set))]
 fn put_units(index: &Index<'_>, room: &mut [FlatUnit]) -> usize
     ensures count { result ≡ length index.now.units }
     ensures length { length room.new ≡ length room.old }

@@ -1,8 +1,6 @@
 -- clap's matches of the words, in terms of their rows.
-use Rattle.std.proofs.Common.{◌≡◌, ◌∙◌, ◌⊎◌, ◌<◌, ◌≤◌, ◌+◌, ◌++◌, ◌∷◌, [], ℕ, List, Option, Some, ap, get_or}
-use Rattle.std.proofs.Common.{length, map, option_map, refl, take, true, arith}
+use Rattle.std.proofs.Common.{◌≡◌, ◌⊎◌, ◌++◌, ◌∷◌, [], ℕ, List, Option, Some, map, option_map, refl, true, arith}
 use Rattle.std.specs.Borrow.{Bor}
-use Rattle.std.proofs.lemmas.List.{map-append, take_all, take_more}
 use Rattle.clap.proofs.OnLiterals.{clap_on_literals}
 use Rattle.clap.specs.Words.{HasKind, IsAmong, Kinds, Row, Text, is_simple, is_simple_and_free, kind_of}
 use Rattle.clap.specs.Words.{subcommand_name_of, subcommand_rows_of}
@@ -12,8 +10,7 @@ use Rattle.clap.specs.declared.error.kind.ErrorKind.{ErrorKind}
 use Rattle.clap.specs.declared.parser.matches.ArgMatches.{ArgMatches}
 use Rattle.clap.specs.declared.parser.matches.ArgMatches.TheViews.{out-ArgMatches}
 use Rattle.lnt_text.specs.Digits.{IsAddress}
-use Rattle.lnt_spans.specs.declared.position.Position.{Position}
-use Rattle.lnt_words.specs.Asking.{AreAddresses, IsAskedOf, position_at}
+use Rattle.lnt_words.specs.Asking.{AreAddresses, IsAskedOf}
 use Rattle.lnt_words.specs.Described.{IsAskedOfMatches}
 use Rattle.lnt_words.specs.Words.{linetab}
 use Rattle.lnt_words.specs.declared.request.Asked.{Asked}
@@ -44,7 +41,7 @@ by_rows matches asked so = grind (arith, common_steps, found_pair)
 
 -- ---- addresses
 
-addresses_more : (words : List Text) (addresses : List ℕ) (word : Text) (address : ℕ) → AreAddresses words addresses
+pub addresses_more : (words : List Text) (addresses : List ℕ) (word : Text) (address : ℕ) → AreAddresses words addresses
     → IsAddress word address → AreAddresses (words ++ word ∷ []) (addresses ++ address ∷ [])
 addresses_more [] [] word address so is = (is, tt)
 addresses_more [] (a ∷ addresses) word address so is = absurd so
@@ -53,31 +50,6 @@ addresses_more (w ∷ words) (a ∷ addresses) word address so is = (so.0, addre
 
 abbrev pub texts_of : List (Bor Text) → List Text
 texts_of = map (λ word. word.now)
-
--- with the address of one word more
-pub one_address_more : (given : List (Bor Text)) (i : ℕ) (d : Bor Text) (addresses more : List ℕ) (address : ℕ) → i < length given
-    → AreAddresses (texts_of (take i given)) addresses → IsAddress (get_or given i d).now address → more ≡ addresses ++ address ∷ []
-    → AreAddresses (texts_of (take (i + 1) given)) more
-one_address_more given i d addresses more address lt so is more_is = grind (arith, common_steps, take_more, map-append, addresses_more)
-
--- with those of all words
-pub all_addresses : (given : List (Bor Text)) (i : ℕ) (addresses : List ℕ) → length given ≤ i
-    → AreAddresses (texts_of (take i given)) addresses → AreAddresses (texts_of given) addresses
-all_addresses given i addresses past so = grind (arith, common_steps, take_all)
-
--- ---- positions
-
--- with the position of one address more
-pub one_position_more : (op : ℕ) (addresses : List ℕ) (i : ℕ) (positions more : List Position) → i < length addresses
-    → positions ≡ map (position_at op) (take i addresses)
-    → more ≡ positions ++ record { address = get_or addresses i 0; op = op } ∷ []
-    → more ≡ map (position_at op) (take (i + 1) addresses)
-one_position_more op addresses i positions more lt so more_is = grind (arith, common_steps, take_more, map-append)
-
--- with those of all addresses
-pub all_positions : (op : ℕ) (addresses : List ℕ) (i : ℕ) (positions : List Position) → length addresses ≤ i
-    → positions ≡ map (position_at op) (take i addresses) → positions ≡ map (position_at op) addresses
-all_positions op addresses i positions past so = so ∙ ap (map (position_at op)) (take_all i addresses past)
 
 -- ---- help
 

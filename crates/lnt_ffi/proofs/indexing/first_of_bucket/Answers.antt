@@ -1,5 +1,7 @@
-use Rattle.std.proofs.Common.{◌∙◌, sym}
-use Rattle.lnt_ffi.proofs.IndexLemmas.{all_below, none_below_here, one_more_below}
+use Rattle.std.proofs.Common.{◌∙◌, arith, sym}
+use Rattle.std.proofs.lemmas.List.Sums.{prefix_len-le-length}
+use Rattle.lnt_ffi.specs.Index.{begins_below, first_low}
+use Rattle.lnt_ffi.proofs.IndexLemmas.{none_below_here, one_more_below}
 use Rattle.lnt_ffi.proofs.indexing.first_of_bucket.Goals as goal
 
 pub loop-place-preserved : goal.loop-place-preserved
@@ -14,4 +16,6 @@ returns-else-begins_below c =
     (sym c.begins_below.ensures ∙ c.if-begins_below.false)
 
 pub returns-after-loop-place : goal.returns-after-loop-place
-returns-after-loop-place c = all_below c.args.spans.now _ _ _ c.loop-place.invariant.upto c.loop-place-test.false
+returns-after-loop-place c =
+    let most = prefix_len-le-length (begins_below (first_low c.args.spans.now) c.args.shift c.args.number) c.args.spans.now in
+    omega (arith, most)
