@@ -1,7 +1,7 @@
 use Rattle.std.proofs.Common.{◌∙◌, ◌++◌, ◌-◌, ℕ, List, ap, length, sym}
 use Rattle.lnt_records.proofs.LineLaws.{room_from}
 use Rattle.lnt_records.proofs.PathLineLaws.{parts_passed}
-use Rattle.lnt_compare.proofs.by_path.canonical.pass_line.Goals as goal
+use Rattle.lnt_compare.proofs.by_path.line.pass_line.Goals as goal
 
 pub returns : goal.returns
 returns c path field =

@@ -2,7 +2,7 @@ use Rattle.std.proofs.Common.{◌∙◌, ◌-◌, ◌++◌, ℕ, List, ap, arith
 use Rattle.std.proofs.lemmas.Bool.Decides.{Decides-eqb}
 use Rattle.std.proofs.lemmas.List.{take_all}
 use Rattle.std.proofs.lemmas.Slice.Eq.{starts_is}
-use Rattle.lnt_compare.proofs.by_path.canonical.rest_after.Goals as goal
+use Rattle.lnt_compare.proofs.by_path.line.rest_after.Goals as goal
 
 pub returns : goal.returns
 returns c =
