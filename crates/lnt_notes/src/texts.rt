@@ -2,7 +2,7 @@
 ghost use Rattle.std.specs.Prelude.{◌-◌, ◌^◌, ◌<◌};
 
 use lnt_header::content::PATH;
-use lnt_header::{EntryTable, Header, Pair};
+use lnt_header::{EntryTable, Pair};
 use lnt_io::Source;
 use lnt_text::StringSection;
 use lnt_unit::{SectionReader, UnitBuffer, UnitInPlace};
@@ -33,14 +33,11 @@ pub(crate) fn strings_of<R: Source>(
 
 fn strings_in(alloc: Global, buffer: &UnitBuffer, which: EntryTable) -> Option<StringSection> {
     let unit = UnitInPlace::over(alloc, buffer).ok()?;
-    strings_by(format_of(unit.numbers(), which))
-}
-
-fn format_of(numbers: &Header, which: EntryTable) -> &[Pair] {
-    match which {
-        EntryTable::Directories => numbers.directory_format(),
-        EntryTable::Files => numbers.file_format(),
-    }
+    let header = unit.header();
+    strings_by(match which {
+        EntryTable::Directories => header.directories().pairs(),
+        EntryTable::Files => header.files().pairs(),
+    })
 }
 
 // The string section that has the paths of a table with this format, by the form of the first path in the format. `None` if
