@@ -4,10 +4,10 @@ use Rattle.std.proofs.lemmas.Grind.{common_steps}
 use Rattle.std.proofs.Common.{◌≡◌, ℕ, List, ◌++◌, Option, Result, Ok, Err, OnOk, OnErr, refl, append_assoc, codes}
 use Rattle.lnt_io.specs.Prefixes.{AppendsPrefix}
 use Rattle.lnt_io.proofs.PrefixLaws.{prefix_before, prefix_same}
-use Rattle.lnt_header.specs.HeaderNumbers.{without_entries}
 use Rattle.lnt_header.specs.declared.header.Entry.{Entry}
 use Rattle.lnt_header.specs.declared.header.HeaderParts.{HeaderParts}
 use Rattle.lnt_header.specs.declared.header.Pair.{Pair}
+use Rattle.lnt_header.specs.declared.numbers.NumberParts.{NumberParts}
 use Rattle.lnt_header_bytes.specs.Borrowed.{BorrowedTable}
 use Rattle.lnt_wire.specs.declared.frame.Frame.{Frame}
 use Rattle.lnt_dump.specs.Headers.{entry_line, header_lines, numbers_line}
@@ -25,8 +25,8 @@ table_is : (name : List ℕ) (table : BorrowedTable) (pairs : List Pair) (entrie
 table_is name table pairs entries one two = grind (arith, common_steps)
 
 -- a unit and its header's numbers, whose lines were added to the page, and the directories
-module _ (frame : Frame) (header numbers : HeaderParts) (directories : BorrowedTable) (page page1 : List ℕ)
-    (same : numbers ≡ without_entries header) (dir_pairs : directories.pairs ≡ header.directory_format)
+module _ (frame : Frame) (header : HeaderParts) (numbers : NumberParts) (directories : BorrowedTable) (page page1 : List ℕ)
+    (same : numbers ≡ header.numbers) (dir_pairs : directories.pairs ≡ header.directory_format)
     (dirs : directories.entries ≡ header.directories)
     (added : page1 ≡ page ++ ((codes "unit " ++ unit_line frame) ++ numbers_line numbers)) where
   -- the text of all parts

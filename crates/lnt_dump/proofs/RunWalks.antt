@@ -6,7 +6,7 @@ use Rattle.lnt_wire.specs.declared.fault.Fault.{Fault}
 use Rattle.std.specs.List.{cons_option}
 use Rattle.std.proofs.lemmas.List.{length-append, length-take-le}
 use Rattle.lnt_io.specs.Prefixes.{AppendsPrefix}
-use Rattle.lnt_header.specs.HeaderNumbers.{HeaderNumbers, numbers_of}
+use Rattle.lnt_header.specs.declared.numbers.NumberParts.{NumberParts}
 use Rattle.lnt_header.specs.HeaderRules.{IsHeader}
 use Rattle.lnt_header.specs.OpRules.{Admits, StandsFor}
 use Rattle.lnt_header.specs.declared.op.Op.{Op}
@@ -41,10 +41,10 @@ use Rattle.lnt_dump.proofs.UnitWalks.{IsNextAt, StandsAt, stands_last, stands_fi
 pub record IsRunning (view : View) (ops : List Op) (walk : Walk) (run : RunState) : Type 0 where
   pub k : ℕ
   pub at : StandsAt view ops k walk
-  pub ran : HasRan (numbers_of view.header) (take k ops) run
+  pub ran : HasRan view.header.numbers (take k ops) run
 
 pub running_first : {view : View} {ops : List Op} {walk : Walk} {run : RunState} → StandsAt view ops 0 walk
-    → run.machine.header ≡ numbers_of view.header → HasDone run [] → run.machine.count ≡ 0 → IsRunning view ops walk run
+    → run.machine.header ≡ view.header.numbers → HasDone run [] → run.machine.count ≡ 0 → IsRunning view ops walk run
 running_first {view} {ops} {walk} {run} s header has count =
     record { k = 0; at = s; ran = ran_first header has count }
 
@@ -56,7 +56,7 @@ no_fault unit fault k is runs out =
 
 -- the rows of the first k operations
 abbrev so_far : View → List Op → ℕ → List Row
-so_far view ops k = rows_of_ops (numbers_of view.header) (take k ops)
+so_far view ops k = rows_of_ops view.header.numbers (take k ops)
 
 -- the next operation
 module _ {view : View} {ops : List Op} {walk walk' : Walk} {run : RunState} {item : OpView} (header : IsHeader view.header)
@@ -109,7 +109,7 @@ pub record RowsTold (view : View) (ops : List Op) (index : ℕ) (walk : Walk) (r
   pub told : IsPaged (before ++ numbered row_line 0 (so_far view ops running.k)) old now page
 
 pub rows_none : {view : View} {ops : List Op} {walk : Walk} {run : RunState} (page : List ℕ) (out : Option (List ℕ))
-    → StandsAt view ops 0 walk → run.machine.header ≡ numbers_of view.header → HasDone run [] → run.machine.count ≡ 0
+    → StandsAt view ops 0 walk → run.machine.header ≡ view.header.numbers → HasDone run [] → run.machine.count ≡ 0
     → RowsTold view ops 0 walk run page page out out
 unfolding running_first
 rows_none {view} {ops} {walk} {run} page out s header has count = record {
@@ -119,7 +119,7 @@ rows_none {view} {ops} {walk} {run} page out s header has count = record {
 }
 
 -- the rows of the first operations begin those of all
-rows_prefix : (h : HeaderNumbers) (back xs ys : List Op) → (more : List Row) × (rows_after h back (xs ++ ys) ≡ rows_after h back xs ++ more)
+rows_prefix : (h : NumberParts) (back xs ys : List Op) → (more : List Row) × (rows_after h back (xs ++ ys) ≡ rows_after h back xs ++ more)
 rows_prefix h back [] ys = (rows_after h back ys, refl)
 rows_prefix h back (op ∷ xs) ys =
     let prefix = rows_prefix h (op ∷ back) xs ys in
@@ -167,7 +167,7 @@ module _ {view : View} {ops : List Op} {index : ℕ} {walk walk' : Walk} {run ru
       omega (
         arith,
         t.index_is,
-        few_rows (numbers_of view.header) [] (take k ops),
+        few_rows view.header.numbers [] (take k ops),
         length-take-le k ops t.running.at.within,
         stands_room is t.running.at step,
       )
@@ -177,7 +177,7 @@ module _ {view : View} {ops : List Op} {index : ℕ} {walk walk' : Walk} {run ru
       → AppendsPrefix old new (before ++ numbered row_line 0 (rows (with_ops view ops)))
   rows_cut {row} some line =
       let k = t.running.k in
-      let h = numbers_of view.header in
+      let h = view.header.numbers in
       let list = so_far view ops k in
       let later = rows_prefix h [] (take (k + 1) ops) (drop (k + 1) ops) in
       let all : rows (with_ops view ops) ≡ (list ++ row ∷ []) ++ later.0 =
@@ -191,7 +191,7 @@ pub rows_all : {view : View} {ops : List Op} {index : ℕ} {walk walk' : Walk} {
 rows_all {view} {ops} {index} {walk} {walk'} {run} {before} {page} {old} {now} t ends =
     let r = t.running in
     let all : so_far view ops r.k ≡ rows (with_ops view ops) =
-    ap (rows_after (numbers_of view.header) []) (take_all r.k ops (stands_last r.at ends)) in
+    ap (rows_after view.header.numbers []) (take_all r.k ops (stands_last r.at ends)) in
     subst (λ (list : List Row). IsPaged (before ++ numbered row_line 0 list) old now page) all t.told
 
 -- ---- a unit that is judged while it is run
@@ -203,9 +203,9 @@ pub record IsJudging (view : View) (walk : Walk) (run : RunState) : Type 0 where
   pub header : run.machine.header ≡ walk.header
   pub running : (all : List Op) → IsUnitOf view all → IsRunning view all walk run
 
-pub judging_first : {view : View} {walk : Walk} {run : RunState} → IsUnitView view → walk.header ≡ numbers_of view.header
-    → walk.failed ≡ false → walk.at.place ≡ view.place → walk.at.rest ≡ view.program → walk.at.order ≡ view.header.order
-    → run.machine.header ≡ numbers_of view.header → HasDone run [] → run.machine.count ≡ 0 → IsJudging view walk run
+pub judging_first : {view : View} {walk : Walk} {run : RunState} → IsUnitView view → walk.header ≡ view.header.numbers
+    → walk.failed ≡ false → walk.at.place ≡ view.place → walk.at.rest ≡ view.program → walk.at.order ≡ view.header.numbers.order
+    → run.machine.header ≡ view.header.numbers → HasDone run [] → run.machine.count ≡ 0 → IsJudging view walk run
 judging_first {view} {walk} {run} is header going place rest order same has count = record {
   ops = [];
   given = given_none view walk header going place rest order;

@@ -4,7 +4,6 @@ use Rattle.std.proofs.Common.{arith, false, take_all}
 use Rattle.std.specs.Prelude.{Option}
 use Rattle.std.proofs.lemmas.List.{drop_more, length-drop}
 use Rattle.lnt_io.specs.Prefixes.{AppendsPrefix}
-use Rattle.lnt_header.specs.HeaderNumbers.{numbers_of}
 use Rattle.lnt_header.specs.HeaderRules.{IsHeader}
 use Rattle.lnt_header.specs.Joins.{Each}
 use Rattle.lnt_header.specs.OpRules.{StandsFor}
@@ -26,26 +25,26 @@ use Rattle.lnt_dump.proofs.Pages.{paged_none, told_next, told_next_cut}
 -- The walk is after the first k operations of the unit, each of a byte or more of the program.
 pub record StandsAt (view : View) (ops : List Op) (k : ℕ) (walk : Walk) : Type 0 where
   pub within : k ≤ length ops
-  pub left : OperationsAreLeft (numbers_of view.header) (drop k ops) walk
+  pub left : OperationsAreLeft view.header.numbers (drop k ops) walk
   pub few : k + length walk.at.rest ≤ length view.program
 
 -- the program encodes the operations
 program_of : (view : View) (ops : List Op) → IsUnitView view → IsUnitOf view ops
-    → Each (OpBytes (numbers_of view.header)) ops view.program
+    → Each (OpBytes view.header.numbers) ops view.program
 program_of view ops is p =
     let whole = header_of view.unit.order (with_ops view ops) view.unit.bytes p in
     let found = same_header view.header view.header p.spelled.program view.program view.unit.bytes view.unit.bytes [] [] refl
     whole.spelled is.spelled.spelled refl in
-    subst (Each (OpBytes (numbers_of view.header)) ops) found.program p.spelled.operations
+    subst (Each (OpBytes view.header.numbers) ops) found.program p.spelled.operations
 
 pub stands_first : (view : View) (ops : List Op) (walk : Walk) → IsUnitView view → IsUnitOf view ops
-    → walk.header ≡ numbers_of view.header → walk.at.rest ≡ view.program → walk.failed ≡ false → StandsAt view ops 0 walk
+    → walk.header ≡ view.header.numbers → walk.at.rest ≡ view.program → walk.failed ≡ false → StandsAt view ops 0 walk
 stands_first view ops walk is p header rest going = record {
   within = omega arith;
   left = record {
     header_is = header;
     going = going;
-    spelled = subst (Each (OpBytes (numbers_of view.header)) ops) (sym rest) (program_of view ops is p);
+    spelled = subst (Each (OpBytes view.header.numbers) ops) (sym rest) (program_of view ops is p);
   };
   few = omega (arith, ap length rest);
 }
@@ -64,7 +63,7 @@ head_is x y xs ys e = (cc e, cc e)
 pub stands_next : {view : View} {ops : List Op} {k : ℕ} {item : OpView} {old new : Walk} → IsHeader view.header → StandsAt view ops k old
     → GivesOperation item old new → IsNextAt view ops k item new
 stands_next {view} {ops} {k} {item} {old} {new} header s step =
-    let h = numbers_of view.header in
+    let h = view.header.numbers in
     let n = left_next h (drop k ops) item old new header.numbers s.left step in
     let more : k < length ops = omega (arith, ap length n.later_is, length-drop k ops, s.within) in
     let both = head_is n.op (get_or ops k n.op) n.others (drop (k + 1) ops) (sym n.later_is ∙ drop_more ops k n.op more) in
@@ -88,12 +87,12 @@ stands_room {view} {ops} {k} {item} {old} {new} is s step = omega (arith, is.roo
 -- none is refused
 pub stands_fails : {view : View} {ops : List Op} {k : ℕ} {fault : Fault} {old new : Walk} → StandsAt view ops k old
     → Fails fault old new → ⊥
-stands_fails {view} {ops} {k} {fault} {old} {new} s fails = left_fails (numbers_of view.header) (drop k ops) fault old new s.left fails
+stands_fails {view} {ops} {k} {fault} {old} {new} s fails = left_fails view.header.numbers (drop k ops) fault old new s.left fails
 
 -- all were given
 pub stands_last : {view : View} {ops : List Op} {k : ℕ} {old new : Walk} → StandsAt view ops k old → Ends old new → length ops ≤ k
 stands_last {view} {ops} {k} {old} {new} s ends =
-    omega (arith, ap length (left_ends (numbers_of view.header) (drop k ops) old new s.left ends), length-drop k ops)
+    omega (arith, ap length (left_ends view.header.numbers (drop k ops) old new s.left ends), length-drop k ops)
 
 -- ---- the lines of operations
 

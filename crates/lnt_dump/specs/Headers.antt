@@ -10,6 +10,7 @@ use Rattle.lnt_wire.specs.declared.frame.Frame.{Frame}
 use Rattle.lnt_wire.specs.FaultTexts.{hexadecimal}
 use Rattle.lnt_header.specs.declared.header.Entry.{Entry}
 use Rattle.lnt_header.specs.declared.header.HeaderParts.{HeaderParts}
+use Rattle.lnt_header.specs.declared.numbers.NumberParts.{NumberParts}
 use Rattle.lnt_header.specs.declared.header.Pair.{Pair}
 use Rattle.lnt_text.specs.Quotes.{quoted_text}
 use Rattle.lnt_dump.specs.Numbered.{numbered}
@@ -52,16 +53,16 @@ abbrev pub entry_line : List ℕ → List Pair → ℕ → Entry → List ℕ
 entry_line name pairs index entry = (name ++ (codes " " ++ decimal index)) ++ entry_end pairs entry
 
 -- the numbers of a header, in the order in which it has them; line_base is signed
-abbrev pub numbers_line : HeaderParts → List ℕ
-numbers_line header =
-    codes "header " ++ (decimal header.address_size ++ (codes " "
-    ++ (decimal header.minimum_instruction_length ++ (codes " " ++ (decimal header.max_ops ++ (codes " "
-    ++ (decimal header.default_is_stmt ++ (codes " " ++ (signed_decimal header.line_base ++ (codes " "
-    ++ (decimal header.line_range ++ (codes " " ++ (decimal header.opcode_base ++ codes "\n")))))))))))))
+abbrev pub numbers_line : NumberParts → List ℕ
+numbers_line numbers =
+    codes "header " ++ (decimal numbers.address_size ++ (codes " "
+    ++ (decimal numbers.minimum_instruction_length ++ (codes " " ++ (decimal numbers.max_ops ++ (codes " "
+    ++ (decimal numbers.default_is_stmt ++ (codes " " ++ (signed_decimal numbers.line_base ++ (codes " "
+    ++ (decimal numbers.line_range ++ (codes " " ++ (decimal numbers.opcode_base ++ codes "\n")))))))))))))
 
 -- the lines of a unit's frame, of its numbers, of its directories and of its files
 abbrev pub header_lines : Frame → HeaderParts → List ℕ
 header_lines frame header =
-    (codes "unit " ++ unit_line frame) ++ (numbers_line header
+    (codes "unit " ++ unit_line frame) ++ (numbers_line header.numbers
     ++ (numbered (entry_line (codes "dir") header.directory_format) 0 header.directories
     ++ numbered (entry_line (codes "file") header.file_format) 0 header.files))

@@ -15,7 +15,7 @@ ghost use Rattle.lnt_dump.specs.Units.{unit_line};
 
 use crate::page::turn_full;
 use crate::width::width_of;
-use lnt_header::{Header, Pair};
+use lnt_header::{HeaderNumbers, Pair};
 use lnt_header_bytes::{EntryTableView, HeaderView};
 use lnt_io::{Halt, write_whole};
 use lnt_text::Quoted;
@@ -46,22 +46,26 @@ pub(crate) fn print_header<W: Write>(
 }
 
 // Adds the lines of a unit and of its header's numbers.
-fn put_numbers(frame: &Frame<'_>, header: &Header, text: &mut Vec<u8>) -> Result<(), Halt>
-    ensures { OnOk result (text.new.items ≡ text.old.items ++ ((codes "unit " ++ unit_line frame.now) ++ numbers_line header.now)) }
+fn put_numbers(frame: &Frame<'_>, numbers: &HeaderNumbers, text: &mut Vec<u8>) -> Result<(), Halt>
+    ensures { OnOk result (text.new.items ≡ text.old.items ++ ((codes "unit " ++ unit_line frame.now) ++ numbers_line numbers.now)) }
 {
-    if print_numbers(frame, header, text).is_err() {
+    if print_numbers(frame, numbers, text).is_err() {
         return Err(Halt::Memory);
     }
     Ok(())
 }
 
 // Prints the lines of a unit and of its header's numbers.
-fn print_numbers<W: Write>(frame: &Frame<'_>, header: &Header, out: &mut W) -> Result<(), Halt>
+fn print_numbers<W: Write>(
+    frame: &Frame<'_>,
+    numbers: &HeaderNumbers,
+    out: &mut W,
+) -> Result<(), Halt>
     ensures { OnOk result (Appends (W.contents out.old) (W.contents out.new)
-        ((codes "unit " ++ unit_line frame.now) ++ numbers_line header.now)) }
+        ((codes "unit " ++ unit_line frame.now) ++ numbers_line numbers.now)) }
 {
     print_unit_line(frame, out)?;
-    print_header_line(header, out)
+    print_header_line(numbers, out)
 }
 
 // Prints the line of a unit.
@@ -74,16 +78,16 @@ fn print_unit_line<W: Write>(frame: &Frame<'_>, out: &mut W) -> Result<(), Halt>
 }
 
 // Prints the line of the header's numbers, in the order in which the header has them.
-fn print_header_line<W: Write>(header: &Header, out: &mut W) -> Result<(), Halt>
-    ensures { OnOk result (Appends (W.contents out.old) (W.contents out.new) (numbers_line header.now)) }
+fn print_header_line<W: Write>(numbers: &HeaderNumbers, out: &mut W) -> Result<(), Halt>
+    ensures { OnOk result (Appends (W.contents out.old) (W.contents out.new) (numbers_line numbers.now)) }
 {
-    let address_size = header.address_size();
-    let minimum = header.minimum_instruction_length();
-    let max_ops = header.max_ops();
-    let default_is_stmt = header.default_is_stmt();
-    let line_base = header.line_base();
-    let line_range = header.line_range();
-    let opcode_base = header.opcode_base();
+    let address_size = numbers.address_size();
+    let minimum = numbers.minimum_instruction_length();
+    let max_ops = numbers.max_ops();
+    let default_is_stmt = numbers.default_is_stmt();
+    let line_base = numbers.line_base();
+    let line_range = numbers.line_range();
+    let opcode_base = numbers.opcode_base();
     writeln!(
         out,
         "header {address_size} {minimum} {max_ops} {default_is_stmt} {line_base} {line_range} {opcode_base}"

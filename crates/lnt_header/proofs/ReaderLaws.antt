@@ -12,7 +12,7 @@ use Rattle.lnt_wire.proofs.LengthLaws.{same_rest}
 use Rattle.lnt_header.specs.FieldFaults.{IsCutField}
 use Rattle.lnt_header.specs.FieldFaults.IsCutField.{number, text, leb, block, sized_block, operation}
 use Rattle.lnt_header.specs.FirstFaults.{FirstOf, FirstOfSeveral}
-use Rattle.lnt_header.specs.FirstFaults.FirstOf.{first, second}
+use Rattle.lnt_header.specs.FirstFaults.FirstOf.{second}
 use Rattle.lnt_header.specs.FirstFaults.FirstOfSeveral.{next}
 use Rattle.lnt_header.specs.Joins.{Each, Both, Several}
 use Rattle.std.proofs.lemmas.Grind.{common_steps}

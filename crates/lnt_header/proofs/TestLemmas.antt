@@ -10,11 +10,11 @@ use Rattle.lnt_header.specs.declared.fault.UnitFault.{UnitFault}
 use Rattle.lnt_header.specs.declared.fault.UnitFault.TheVariants.{HeaderNumber, EntryNotOfFormat, TextHoldsZero, OpNotOfUnit}
 use Rattle.lnt_header.specs.declared.header.Entry.{Entry}
 use Rattle.lnt_header.specs.declared.header.HeaderParts.{HeaderParts}
+use Rattle.lnt_header.specs.declared.numbers.NumberParts.{NumberParts}
 use Rattle.lnt_header.specs.declared.header.Pair.{Pair}
 use Rattle.lnt_header.specs.declared.header.EntryTable.TheVariants.{Directories, Files}
 use Rattle.lnt_header.proofs.FirstLaws.{first_is_wrong}
-use Rattle.lnt_header.specs.HeaderNumbers.{numbers_of}
-use Rattle.lnt_header.specs.HeaderRules.{IsAddressSize, AreStandardLengths, six_bytes, HasHeaderNumbers}
+use Rattle.lnt_header.specs.HeaderRules.{IsAddressSize, AreStandardLengths, six_bytes, AreHeaderNumbers}
 use Rattle.lnt_header.specs.OpRules.{known_lengths, last_known}
 use Rattle.lnt_header.specs.HeaderRules.{IsEntryOf, IsEntryTable, IsHeader}
 use Rattle.lnt_header.specs.HeaderTests.{IsFormat, IsPartsFault, FitsItsForm, HoldsNoZero, FitsPair, IsOfFormat, HasSoundTexts}
@@ -84,10 +84,10 @@ bytes_join : (xs ys : List ℕ) → AllByRecursion (λ byte. byte < 256) xs → 
 bytes_join [] ys h k = k
 bytes_join (x ∷ xs) ys h k = (h.0, bytes_join xs ys h.1 k)
 
-pub header_numbers : (h : HeaderParts) → IsAddressSize h.address_size → FitsSigned w8 h.line_base
-    → AllByRecursion (λ byte. byte < 256) (six_bytes (numbers_of h)) → AllByRecursion (λ byte. byte < 256) h.standard_lengths
+pub header_numbers : (h : NumberParts) → IsAddressSize h.address_size → FitsSigned w8 h.line_base
+    → AllByRecursion (λ byte. byte < 256) (six_bytes h) → AllByRecursion (λ byte. byte < 256) h.standard_lengths
     → 0 < h.max_ops → 0 < h.line_range → h.opcode_base ≡ length h.standard_lengths + 1 → AreStandardLengths h.standard_lengths
-    → HasHeaderNumbers h
+    → AreHeaderNumbers h
 header_numbers h size fits six lengths max_ops line_range opcode_base known = grind (arith, common_steps, bytes_join, standard_lengths)
 
 both_tests : (value : FormValue) → FitsItsForm value → HoldsNoZero value → HasSpelling value
@@ -115,7 +115,8 @@ are_entries pairs (entry ∷ entries) h z =
     let one = are_values pairs entry.values h.0 z.0 in
     (record { forms = one.forms; spelled = one.spelled }, are_entries pairs entries h.1 z.1)
 
-pub tests_passed : (h : HeaderParts) → HasHeaderNumbers h → IsFormat h.directory_format h.directories → IsFormat h.file_format h.files
+pub tests_passed : (h : HeaderParts) → AreHeaderNumbers h.numbers → IsFormat h.directory_format h.directories
+    → IsFormat h.file_format h.files
     → AllByRecursion (IsOfFormat h.directory_format) h.directories → AllByRecursion (IsOfFormat h.file_format) h.files
     → AllByRecursion HasSoundTexts h.directories → AllByRecursion HasSoundTexts h.files → IsHeader h
 tests_passed h numbers d f of_d of_f text_d text_f = record {

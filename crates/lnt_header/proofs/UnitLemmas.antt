@@ -3,7 +3,6 @@ use Rattle.std.proofs.Common.{◌≡◌, ap, ℕ, List, arith}
 use Rattle.lnt_header.specs.declared.fault.UnitFault.{UnitFault}
 use Rattle.lnt_header.specs.declared.header.HeaderParts.{HeaderParts}
 use Rattle.lnt_header.specs.declared.op.Op.{Op}
-use Rattle.lnt_header.specs.HeaderNumbers.{numbers_of}
 use Rattle.lnt_header.specs.HeaderRules.{IsHeader}
 use Rattle.lnt_header.specs.HeaderTests.{IsFirstNot, IsPartsFault}
 use Rattle.lnt_header.proofs.FirstLaws.{first_is_wrong}
@@ -20,12 +19,12 @@ header_fault unit fault h = grind (arith, common_steps)
 pub no_header_first : (unit : UnitParts) → (IsHeader unit.header → ⊥) → IsUnit unit → ⊥
 no_header_first unit none is = none is.header
 
-pub no_ops : (unit : UnitParts) (index : ℕ) → IsFirstNot (Admits (numbers_of unit.header)) unit.ops index → IsUnit unit → ⊥
+pub no_ops : (unit : UnitParts) (index : ℕ) → IsFirstNot (Admits unit.header.numbers) unit.ops index → IsUnit unit → ⊥
 no_ops unit index first is = first_is_wrong first is.ops
 
 -- the first operation that isn't admitted, where the header is known by other names
 pub first_op : (unit : UnitParts) (header : HeaderParts) (ops : List Op) (index : ℕ) → header ≡ unit.header → ops ≡ unit.ops
-    → IsFirstNot (Admits (numbers_of header)) ops index → IsFirstNot (Admits (numbers_of unit.header)) unit.ops index
+    → IsFirstNot (Admits header.numbers) ops index → IsFirstNot (Admits unit.header.numbers) unit.ops index
 first_op unit header ops index same all first = rw (← same, ← all) first
 
 parts_with : HeaderParts → List Op → UnitParts

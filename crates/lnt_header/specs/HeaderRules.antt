@@ -3,10 +3,11 @@ use Rattle.std.specs.Prelude.{◌≡◌, ℕ, ◌+◌, ◌<◌, ◌⊎◌, List,
 use Rattle.std.specs.Int.{w8, cast_unsigned}
 use Rattle.std.specs.List.{AllByRecursion}
 use Rattle.lnt_wire.specs.FormBytes.{form_of, HasSpelling}
+use Rattle.lnt_wire.specs.declared.format.Format.{Format}
 use Rattle.lnt_header.specs.declared.header.Entry.{Entry}
 use Rattle.lnt_header.specs.declared.header.HeaderParts.{HeaderParts}
 use Rattle.lnt_header.specs.declared.header.Pair.{Pair}
-use Rattle.lnt_header.specs.HeaderNumbers.{HeaderNumbers, numbers_of}
+use Rattle.lnt_header.specs.declared.numbers.NumberParts.{NumberParts}
 use Rattle.lnt_header.specs.OpRules.{known_lengths, last_known}
 
 -- An address has 2, 4 or 8 bytes.
@@ -18,16 +19,16 @@ abbrev pub AreStandardLengths : List ℕ → Type 0
 AreStandardLengths lengths = take last_known lengths ≡ take (length lengths) known_lengths
 
 -- the fields of one byte from minimum_instruction_length to opcode_base
-abbrev pub six_bytes : HeaderNumbers → List ℕ
+abbrev pub six_bytes : NumberParts → List ℕ
 six_bytes h =
     h.minimum_instruction_length ∷ h.max_ops ∷ h.default_is_stmt ∷ cast_unsigned w8 h.line_base ∷ h.line_range ∷ h.opcode_base ∷ []
 
 -- the same, and the standard opcode lengths
-abbrev pub single_bytes : HeaderNumbers → List ℕ
+abbrev pub single_bytes : NumberParts → List ℕ
 single_bytes h = six_bytes h ++ h.standard_lengths
 
 -- The numbers of a header that can be read.
-pub record AreHeaderNumbers (h : HeaderNumbers) : Type 0 where
+pub record AreHeaderNumbers (h : NumberParts) : Type 0 where
   pub address_size : IsAddressSize h.address_size
   pub line_base : FitsSigned w8 h.line_base
   pub bytes : AllByRecursion (λ byte. byte < 256) (single_bytes h)
@@ -35,9 +36,6 @@ pub record AreHeaderNumbers (h : HeaderNumbers) : Type 0 where
   pub line_range : 0 < h.line_range
   pub opcode_base : h.opcode_base ≡ length h.standard_lengths + 1
   pub lengths : AreStandardLengths h.standard_lengths
-
-abbrev pub HasHeaderNumbers : HeaderParts → Type 0
-HasHeaderNumbers h = AreHeaderNumbers (numbers_of h)
 
 -- An entry with one value for each pair, of the pair's form. Each value has an encoding: a text has no zero byte, and the size of
 -- a block fits its length.
@@ -51,8 +49,20 @@ pub record IsEntryTable (pairs : List Pair) (entries : List Entry) : Type 0 wher
   pub none_without_pairs : pairs ≡ [] → entries ≡ []
   pub of_format : AllByRecursion (IsEntryOf pairs) entries
 
+-- the header of this format, these numbers, directories and files, each in a format, and these last bytes
+abbrev pub header_of : Format → NumberParts → List Pair → List Entry → List Pair → List Entry → List ℕ → HeaderParts
+header_of format numbers directory_format directories file_format files extra = record {
+  format = format;
+  numbers = numbers;
+  directory_format = directory_format;
+  directories = directories;
+  file_format = file_format;
+  files = files;
+  extra = extra;
+}
+
 -- The parts of a header: its numbers, and a format and its entries in each of the two tables.
 pub record IsHeader (h : HeaderParts) : Type 0 where
-  pub numbers : HasHeaderNumbers h
+  pub numbers : AreHeaderNumbers h.numbers
   pub directories : IsEntryTable h.directory_format h.directories
   pub files : IsEntryTable h.file_format h.files

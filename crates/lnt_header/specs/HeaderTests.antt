@@ -10,7 +10,7 @@ use Rattle.lnt_header.specs.declared.header.Entry.{Entry}
 use Rattle.lnt_header.specs.declared.header.HeaderParts.{HeaderParts}
 use Rattle.lnt_header.specs.declared.header.Pair.{Pair}
 use Rattle.lnt_header.specs.declared.header.EntryTable.TheVariants.{Directories, Files}
-use Rattle.lnt_header.specs.HeaderRules.{HasHeaderNumbers}
+use Rattle.lnt_header.specs.HeaderRules.{AreHeaderNumbers}
 
 -- the first of the values that fails, and its index
 pub record IsFirstNot {X : Type 0} (IsSo : X → Type 0) (values : List X) (index : ℕ) : Type 0 where
@@ -29,7 +29,7 @@ pub record IsFormat (pairs : List Pair) (entries : List Entry) : Type 0 where
 
 -- the numbers of a header, and two formats
 pub record HasNumbersAndFormats (h : HeaderParts) : Type 0 where
-  pub numbers : HasHeaderNumbers h
+  pub numbers : AreHeaderNumbers h.numbers
   pub directories : IsFormat h.directory_format h.directories
   pub files : IsFormat h.file_format h.files
 

@@ -3,7 +3,6 @@ pub mod Encoding
 pub mod FaultTexts
 pub mod FieldFaults
 pub mod FirstFaults
-pub mod HeaderNumbers
 pub mod HeaderRules
 pub mod HeaderTests
 pub mod Joins

@@ -2,7 +2,7 @@
 -- operands of unknown ones are borrowed (DWARF 5, sections 6.2.5 and 7.22).
 use Rattle.std.specs.Prelude.{◌≡◌, ◌≢◌, ℕ, ◌-◌, ◌^◌, ◌<◌, ◌≤◌, ℤ, List, [], ◌∷◌, get_or, length, slice_index}
 use Rattle.lnt_wire.specs.Leb128.{IsLeb, UnsignedLeb}
-use Rattle.lnt_header.specs.HeaderNumbers.{HeaderNumbers}
+use Rattle.lnt_header.specs.declared.numbers.NumberParts.{NumberParts}
 use Rattle.lnt_header.specs.declared.op.CodedOp.{CodedOp}
 use Rattle.lnt_header.specs.declared.op.CodedOp.TheVariants as codes
 use Rattle.lnt_header.specs.declared.op.Op.{Op}
@@ -113,15 +113,15 @@ FitsTaken address_size takes_any operand = Unit {0}
 -- ---- what a header admits
 
 -- how many operands the header gives standard opcode k
-abbrev pub standard_length : HeaderNumbers → ℕ → ℕ
+abbrev pub standard_length : NumberParts → ℕ → ℕ
 standard_length h k = slice_index h.standard_lengths (k - 1)
 
 -- an unknown standard opcode, with as many operands as the header gives it
-abbrev pub IsUnknownOf : HeaderNumbers → ℕ → ℕ → Type 0
+abbrev pub IsUnknownOf : NumberParts → ℕ → ℕ → Type 0
 IsUnknownOf h k count = (last_known < k) × (k < h.opcode_base) × (count ≡ standard_length h k)
 
 -- The header admits the opcode, and the operand fits.
-abbrev pub AdmitsCoding : HeaderNumbers → Coding → Type 0
+abbrev pub AdmitsCoding : NumberParts → Coding → Type 0
 AdmitsCoding h (special c) = h.opcode_base ≤ c
 AdmitsCoding h (standard k operand) = k < h.opcode_base
 AdmitsCoding h (unknown_standard k operands) = IsUnknownOf h k (length operands)
@@ -131,7 +131,7 @@ AdmitsCoding h (extended_address code address) = address < 256 ^ h.address_size
 AdmitsCoding h (unknown_extended code bytes) = IsUnknownCode code
 
 -- The header admits the operation: its number belongs to its kind, and its operands fit.
-abbrev pub Admits : HeaderNumbers → Op → Type 0
+abbrev pub Admits : NumberParts → Op → Type 0
 Admits h op = AdmitsCoding h (coding op)
 
 -- ---- operations whose unknown operands are borrowed

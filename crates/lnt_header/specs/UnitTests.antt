@@ -2,7 +2,6 @@
 -- least index is reported.
 use Rattle.lnt_header.specs.declared.fault.UnitFault.{UnitFault}
 use Rattle.lnt_header.specs.declared.fault.UnitFault.TheVariants.{OpNotOfUnit}
-use Rattle.lnt_header.specs.HeaderNumbers.{numbers_of}
 use Rattle.lnt_header.specs.HeaderRules.{IsHeader}
 use Rattle.lnt_header.specs.HeaderTests.{IsFirstNot, IsPartsFault}
 use Rattle.lnt_header.specs.OpRules.{Admits}
@@ -10,5 +9,5 @@ use Rattle.lnt_header.specs.declared.unit_parts.UnitParts.{UnitParts}
 
 -- What is wrong. Whatever is checked earlier is valid.
 abbrev pub IsUnitFault : UnitFault → UnitParts → Type 0
-IsUnitFault (OpNotOfUnit index) unit = IsHeader unit.header × IsFirstNot (Admits (numbers_of unit.header)) unit.ops index
+IsUnitFault (OpNotOfUnit index) unit = IsHeader unit.header × IsFirstNot (Admits unit.header.numbers) unit.ops index
 IsUnitFault fault unit = IsPartsFault fault unit.header

@@ -1,8 +1,9 @@
 //! The header of a unit (DWARF 5, section 6.2.4).
-ghost use Rattle.std.specs.Prelude.{◌≡◌, ◌<◌, IfOk, IfErr, Some};
+ghost use Rattle.std.specs.Prelude.{◌≡◌, IfOk, IfErr, Some};
 ghost use Rattle.lnt_header.specs.FaultTexts.{entry_text};
 
 use crate::fault::UnitFault;
+use crate::numbers::{HeaderNumbers, NumberParts};
 use crate::tested::parts_fault;
 use lnt_wire::{Form, FormValue, Format, Items, Order};
 use std::fmt;
@@ -50,24 +51,8 @@ impl fmt::Display for EntryTable {
 pub struct HeaderParts {
     /// The format of the unit.
     pub format: Format,
-    /// The order of the bytes of its numbers.
-    pub order: Order,
-    /// The number of bytes of an address.
-    pub address_size: u8,
-    /// The number of bytes of the smallest instruction.
-    pub minimum_instruction_length: u8,
-    /// `maximum_operations_per_instruction`: the greatest number of operations of an instruction.
-    pub max_ops: u8,
-    /// Whether a row begins a statement by default: it does unless this is 0.
-    pub default_is_stmt: u8,
-    /// The least number that a special opcode adds to the line.
-    pub line_base: i8,
-    /// The number of different line advances of the special opcodes, from `line_base` on.
-    pub line_range: u8,
-    /// The first special opcode.
-    pub opcode_base: u8,
-    /// `standard_opcode_lengths`: the number of operands of each opcode from 1 to `opcode_base` - 1.
-    pub standard_lengths: Items<u8>,
+    /// The numbers.
+    pub numbers: NumberParts,
     /// What each directory consists of.
     pub directory_format: Items<Pair>,
     /// The directories, the compilation directory first.
@@ -80,46 +65,33 @@ pub struct HeaderParts {
     pub extra: Items<u8>,
 }
 
-impl HeaderParts {
-    ghost use Rattle.lnt_header.specs.HeaderNumbers.{numbers_of};
-    ghost use Rattle.lnt_header.specs.HeaderRules.{six_bytes};
-
-    /// The six numbers of one byte before the standard opcode lengths, in the order of a unit (DWARF 5, section 6.2.4).
-    pub fn single_fields(&self) -> [u8; 6]
-        ensures { result ≡ six_bytes (numbers_of self.now) }
-    {
-        [
-            self.minimum_instruction_length,
-            self.max_ops,
-            self.default_is_stmt,
-            self.line_base.cast_unsigned(),
-            self.line_range,
-            self.opcode_base,
-        ]
-    }
-}
-
 /// A header: parts that have an encoding in the 64-bit format, where its lengths fit (DWARF 5, section 6.2.4). Contracts
 /// see its parts.
 #[derive(Debug, Drop)]
 pub struct Header {
-    parts: HeaderParts,
+    format: Format,
+    numbers: HeaderNumbers,
+    directory_format: Items<Pair>,
+    directories: Items<Entry>,
+    file_format: Items<Pair>,
+    files: Items<Entry>,
+    extra: Items<u8>,
 }
 
 impl Model for Header {
     ghost use Rattle.lnt_header.specs.declared.header.HeaderParts.{HeaderParts};
-    ghost use Rattle.lnt_header.specs.HeaderRules.{IsHeader};
+    ghost use Rattle.lnt_header.specs.HeaderRules.{header_of, IsHeader};
 
     ghost Value = { HeaderParts };
 
-    ghost view = { λ header. header.parts };
+    ghost view = { λ h. header_of h.format h.numbers h.directory_format h.directories h.file_format h.files h.extra };
 
-    ghost invariant = { λ header. IsHeader header.parts };
+    ghost invariant = { λ h. IsHeader (header_of h.format h.numbers h.directory_format h.directories h.file_format h.files h.extra) };
 }
 
 impl Header {
     ghost use Rattle.lnt_header.specs.Conversion.{in_format};
-    ghost use Rattle.lnt_header.specs.HeaderRules.{IsAddressSize, IsHeader};
+    ghost use Rattle.lnt_header.specs.HeaderRules.{IsHeader};
     ghost use Rattle.lnt_header.specs.HeaderTests.{IsPartsFault};
 
     /// The header with these parts, if they have an encoding in the 64-bit format, apart from lengths. Allocates nothing.
@@ -133,7 +105,7 @@ impl Header {
         ensures none { IfErr result (λ _. IsHeader parts → ⊥) }
     {
         match parts_fault(&parts) {
-            None => Ok(Header { parts }),
+            None => Ok(Header::of(parts)),
             Some(fault) => Err((fault, parts)),
         }
     }
@@ -143,8 +115,24 @@ impl Header {
         ensures value { result ≡ self }
         ensures header { IsHeader result }
     {
-        let Header { parts } = self;
-        parts
+        let Header {
+            format,
+            numbers,
+            directory_format,
+            directories,
+            file_format,
+            files,
+            extra,
+        } = self;
+        HeaderParts {
+            format,
+            numbers: numbers.into_parts(),
+            directory_format,
+            directories,
+            file_format,
+            files,
+            extra,
+        }
     }
 
     /// The header in this format and order: only these two change (DWARF 5, sections 6.2.4 and 7.4). Allocates nothing and
@@ -153,14 +141,10 @@ impl Header {
     pub fn with_format(self, format: Format, order: Order) -> Header
         ensures { result ≡ in_format self format order }
     {
-        let parts = self.into_parts();
-        Header {
-            parts: HeaderParts {
-                format,
-                order,
-                ..parts
-            },
-        }
+        let mut parts = self.into_parts();
+        parts.format = format;
+        parts.numbers.order = order;
+        Header::of(parts)
     }
 
     /// The header with these parts. The caller ensures that a header has them; they aren't checked again. Allocates nothing.
@@ -168,15 +152,24 @@ impl Header {
         requires { IsHeader parts }
         ensures { result ≡ parts }
     {
-        Header { parts }
-    }
-
-    /// What the header is made of.
-    pub fn parts(&self) -> &HeaderParts
-        ensures value { result.now ≡ self.now }
-        ensures header { IsHeader self.now }
-    {
-        &self.parts
+        let HeaderParts {
+            format,
+            numbers,
+            directory_format,
+            directories,
+            file_format,
+            files,
+            extra,
+        } = parts;
+        Header {
+            format,
+            numbers: HeaderNumbers::of(numbers),
+            directory_format,
+            directories,
+            file_format,
+            files,
+            extra,
+        }
     }
 
     /// The format of the unit.
@@ -184,121 +177,50 @@ impl Header {
     pub fn format(&self) -> Format
         ensures { result ≡ self.now.format }
     {
-        self.parts.format
+        self.format
     }
 
-    /// The order of the bytes of the unit's numbers.
+    /// The numbers, by which its operations are read and done.
     #[inline(always)]
-    pub fn order(&self) -> Order
-        ensures value { result ≡ self.now.order }
+    pub fn numbers(&self) -> &HeaderNumbers
+        ensures numbers { result.now ≡ self.now.numbers }
         ensures header { IsHeader self.now }
     {
-        self.parts.order
-    }
-
-    /// The number of bytes of an address: 2, 4 or 8.
-    #[inline(always)]
-    pub fn address_size(&self) -> u8
-        ensures value { result ≡ self.now.address_size }
-        ensures size { IsAddressSize result }
-    {
-        self.parts.address_size
-    }
-
-    /// The number of bytes of the smallest instruction.
-    #[inline(always)]
-    pub fn minimum_instruction_length(&self) -> u8
-        ensures { result ≡ self.now.minimum_instruction_length }
-    {
-        self.parts.minimum_instruction_length
-    }
-
-    /// The greatest number of operations of an instruction. It isn't 0.
-    #[inline(always)]
-    pub fn max_ops(&self) -> u8
-        ensures value { result ≡ self.now.max_ops }
-        ensures some { 0 < result }
-    {
-        self.parts.max_ops
-    }
-
-    /// Whether a row begins a statement by default, as encoded: it does unless this is 0.
-    #[inline(always)]
-    pub fn default_is_stmt(&self) -> u8
-        ensures value { result ≡ self.now.default_is_stmt }
-        ensures header { IsHeader self.now }
-    {
-        self.parts.default_is_stmt
-    }
-
-    /// The least number that a special opcode adds to the line.
-    #[inline(always)]
-    pub fn line_base(&self) -> i8
-        ensures { result ≡ self.now.line_base }
-    {
-        self.parts.line_base
-    }
-
-    /// The number of different line advances of the special opcodes, from `line_base` on. It isn't 0.
-    #[inline(always)]
-    pub fn line_range(&self) -> u8
-        ensures value { result ≡ self.now.line_range }
-        ensures some { 0 < result }
-    {
-        self.parts.line_range
-    }
-
-    /// The first special opcode. It isn't 0.
-    #[inline(always)]
-    pub fn opcode_base(&self) -> u8
-        ensures value { result ≡ self.now.opcode_base }
-        ensures some { 0 < result }
-        ensures header { IsHeader self.now }
-    {
-        self.parts.opcode_base
-    }
-
-    /// `standard_opcode_lengths`: the number of operands of each opcode from 1 to `opcode_base` - 1.
-    #[inline(always)]
-    pub fn standard_lengths(&self) -> &[u8]
-        ensures value { result.now ≡ self.now.standard_lengths }
-        ensures header { IsHeader self.now }
-    {
-        self.parts.standard_lengths.as_slice()
+        &self.numbers
     }
 
     /// What each directory consists of.
     pub fn directory_format(&self) -> &[Pair]
         ensures { result.now ≡ self.now.directory_format }
     {
-        self.parts.directory_format.as_slice()
+        self.directory_format.as_slice()
     }
 
     /// The directories, the compilation directory first.
     pub fn directories(&self) -> &[Entry]
         ensures { result.now ≡ self.now.directories }
     {
-        self.parts.directories.as_slice()
+        self.directories.as_slice()
     }
 
     /// What each file consists of.
     pub fn file_format(&self) -> &[Pair]
         ensures { result.now ≡ self.now.file_format }
     {
-        self.parts.file_format.as_slice()
+        self.file_format.as_slice()
     }
 
     /// The files, the primary source file first.
     pub fn files(&self) -> &[Entry]
         ensures { result.now ≡ self.now.files }
     {
-        self.parts.files.as_slice()
+        self.files.as_slice()
     }
 
     /// The bytes between the file table and the program.
     pub fn extra(&self) -> &[u8]
         ensures { result.now ≡ self.now.extra }
     {
-        self.parts.extra.as_slice()
+        self.extra.as_slice()
     }
 }

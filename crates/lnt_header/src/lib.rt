@@ -5,6 +5,7 @@
 pub mod content;
 mod fault;
 mod header;
+mod numbers;
 mod op;
 mod tested;
 mod unit;
@@ -12,6 +13,7 @@ mod unit_parts;
 
 pub use fault::UnitFault;
 pub use header::{Entry, EntryTable, Header, HeaderParts, Pair};
+pub use numbers::{HeaderNumbers, NumberParts};
 pub use op::{CodedOp, LAST_KNOWN, Op, OpView, Operands, known_length};
 pub use tested::is_address_size;
 pub use unit::Unit;

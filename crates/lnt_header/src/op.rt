@@ -2,10 +2,10 @@
 //! which of them a header admits.
 ghost use Rattle.std.specs.Prelude.{◌≡◌, ◌-◌, ◌^◌, ◌<◌, ◌≤◌, ◌↔◌, IsTrue, slice_index};
 ghost use Rattle.lnt_header.specs.HeaderRules.{IsAddressSize};
-ghost use Rattle.lnt_header.specs.HeaderNumbers.{numbers_of};
 ghost use Rattle.lnt_header.specs.OpRules.{Admits, IsUnknownOf, known_lengths, last_known};
 
 use crate::header::Header;
+use crate::numbers::HeaderNumbers;
 use lnt_wire::Items;
 
 /// The last standard opcode that is known: the first is 1 (DWARF 5, section 6.2.5.2).
@@ -185,11 +185,20 @@ impl<'a> OpView<'a> {
 }
 
 impl Header {
-    /// Whether a unit with this header can have the operation (DWARF 5, section 6.2.5). A special opcode isn't below
+    /// Whether a unit with this header can have the operation, by its numbers: `HeaderNumbers::admits`.
+    pub fn admits(&self, op: &Op) -> bool
+        ensures { IsTrue result ↔ Admits self.now.numbers op.now }
+    {
+        self.numbers().admits(op)
+    }
+}
+
+impl HeaderNumbers {
+    /// Whether a unit with these numbers can have the operation (DWARF 5, section 6.2.5). A special opcode isn't below
     /// `opcode_base`, and a standard one is. An unknown standard operation has as many operands as the header lists. An
     /// address fits the address size. The code of an unknown extended operation isn't 1, 2 or 4. Allocates nothing.
     pub fn admits(&self, op: &Op) -> bool
-        ensures { IsTrue result ↔ Admits (numbers_of self.now) op.now }
+        ensures { IsTrue result ↔ Admits self.now op.now }
     {
         let base = self.opcode_base();
         match op {
@@ -215,14 +224,13 @@ impl Header {
         }
     }
 
-    // Whether the opcode is a standard one that DWARF 5 doesn't know, and the header gives it `count` operands.
+    // Whether the opcode is a standard one that DWARF 5 doesn't know, and the numbers give it `count` operands.
     fn admits_unknown(&self, opcode: u8, count: usize) -> bool
-        ensures { IsTrue result ↔ IsUnknownOf (numbers_of self.now) opcode count }
+        ensures { IsTrue result ↔ IsUnknownOf self.now opcode count }
     {
-        let parts = self.parts();
-        let lengths = parts.standard_lengths.as_slice();
+        let lengths = self.standard_lengths();
         opcode > LAST_KNOWN
-            && opcode < parts.opcode_base
+            && opcode < self.opcode_base()
             && usize::from(lengths[usize::from(opcode) - 1]) == count
     }
 }

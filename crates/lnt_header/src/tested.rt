@@ -2,12 +2,13 @@
 ghost use Rattle.std.specs.Prelude.{◌≡◌, ◌↔◌, ◌<◌, FitsSigned, IsTrue, MatchOption, length, slice_index};
 ghost use Rattle.std.specs.Int.{w8};
 ghost use Rattle.std.specs.List.{AllByRecursion};
-ghost use Rattle.lnt_header.specs.HeaderRules.{AreStandardLengths, HasHeaderNumbers, IsAddressSize, IsHeader};
+ghost use Rattle.lnt_header.specs.HeaderRules.{AreHeaderNumbers, AreStandardLengths, IsAddressSize, IsHeader};
 ghost use Rattle.lnt_header.specs.HeaderTests.{FitsItsForm, FitsPair, HoldsNoZero, IsFormat, IsOfFormat, HasSoundTexts};
 ghost use Rattle.lnt_header.specs.HeaderTests.{IsFirstNot, IsPartsFault};
 
 use crate::fault::UnitFault;
 use crate::header::{Entry, EntryTable, HeaderParts, Pair};
+use crate::numbers::NumberParts;
 use crate::op::KNOWN_LENGTHS;
 use lnt_wire::FormValue;
 
@@ -16,7 +17,7 @@ use lnt_wire::FormValue;
 pub(crate) fn parts_fault(parts: &HeaderParts) -> Option<UnitFault>
     ensures { MatchOption result (IsHeader parts.now) (λ fault. IsPartsFault fault parts.now) }
 {
-    if !has_numbers(parts)
+    if !has_numbers(&parts.numbers)
         || !is_format(
             parts.directory_format.as_slice(),
             parts.directories.as_slice(),
@@ -46,13 +47,13 @@ pub(crate) fn parts_fault(parts: &HeaderParts) -> Option<UnitFault>
 // Whether a header can have the numbers: a valid address size, no zero in a number that mustn't be 0, and lengths that
 // match `opcode_base`.
 #[tactic(auto, using(crate::proofs::TestLemmas::header_numbers))]
-fn has_numbers(parts: &HeaderParts) -> bool
-    ensures { IsTrue result ↔ HasHeaderNumbers parts.now }
+fn has_numbers(numbers: &NumberParts) -> bool
+    ensures { IsTrue result ↔ AreHeaderNumbers numbers.now }
 {
-    let lengths = parts.standard_lengths.as_slice();
-    is_address_size(parts.address_size)
-        && has_no_zero_number(&parts.single_fields(), parts.line_base)
-        && usize::from(parts.opcode_base) == lengths.len() + 1
+    let lengths = numbers.standard_lengths.as_slice();
+    is_address_size(numbers.address_size)
+        && has_no_zero_number(&numbers.single_fields(), numbers.line_base)
+        && usize::from(numbers.opcode_base) == lengths.len() + 1
         && are_standard_lengths(lengths)
 }
 

@@ -1,7 +1,6 @@
 //! A unit: a header and its operations (DWARF 5, section 6.2.4).
 ghost use Rattle.std.specs.Prelude.{◌≡◌, IfOk, IfErr, MatchOption};
 ghost use Rattle.std.specs.List.{AllByRecursion};
-ghost use Rattle.lnt_header.specs.HeaderNumbers.{numbers_of};
 ghost use Rattle.lnt_header.specs.HeaderTests.{IsFirstNot};
 ghost use Rattle.lnt_header.specs.OpRules.{Admits};
 
@@ -32,7 +31,6 @@ impl Model for Unit {
 
 impl Unit {
     ghost use Rattle.std.specs.List.{AllByRecursion};
-    ghost use Rattle.lnt_header.specs.HeaderNumbers.{numbers_of};
     ghost use Rattle.lnt_header.specs.OpRules.{Admits};
     ghost use Rattle.lnt_header.specs.UnitRules.{IsUnit};
     ghost use Rattle.lnt_header.specs.Conversion.{unit_in_format};
@@ -86,7 +84,7 @@ impl Unit {
     /// The unit of a header and operations. The caller ensures that the header admits them; they aren't checked again. Allocates
     /// nothing.
     pub fn of(header: Header, ops: Items<Op>) -> Unit
-        requires { AllByRecursion (Admits (numbers_of header)) ops }
+        requires { AllByRecursion (Admits header.numbers) ops }
         ensures { result ≡ record { header = header; ops = ops } }
     {
         Unit { header, ops }
@@ -111,7 +109,8 @@ impl Unit {
 // The index of the first operation that the header doesn't admit.
 #[tactic(auto, using(crate::proofs::FirstLaws::all_more, crate::proofs::FirstLaws::all_taken, crate::proofs::FirstLaws::first_not))]
 fn first_not_admitted(header: &Header, ops: &[Op]) -> Option<u64>
-    ensures { MatchOption result (AllByRecursion (Admits (numbers_of header.now)) ops.now) (λ index. IsFirstNot (Admits (numbers_of header.now)) ops.now index) }
+    ensures { MatchOption result (AllByRecursion (Admits header.now.numbers) ops.now)
+        (λ index. IsFirstNot (Admits header.now.numbers) ops.now index) }
 {
     for (index, op) in ops.iter().enumerate() {
         if !header.admits(op) {

@@ -53,8 +53,8 @@ spelled_table format order pairs entries x p = grind (arith, common_steps, spell
 pub spelled_header : (h : HeaderParts) (x : List ℕ) → HeaderFieldsBytes h x → IsHeader h
 spelled_header h x p = record {
   numbers = p.numbers;
-  directories = spelled_table h.format h.order h.directory_format h.directories p.directories p.directory_table;
-  files = spelled_table h.format h.order h.file_format h.files p.files p.file_table;
+  directories = spelled_table h.format h.numbers.order h.directory_format h.directories p.directories p.directory_table;
+  files = spelled_table h.format h.numbers.order h.file_format h.files p.files p.file_table;
 }
 
 pub found_header : (format : Format) (order : Order) (size : ℕ) (bytes : List ℕ) (h : HeaderParts) → HasFields format order size bytes h

@@ -8,7 +8,6 @@ use Rattle.lnt_wire.specs.declared.form.FormValue.{FormValue}
 use Rattle.lnt_wire.specs.FirstValues.{first_value, first_size}
 use Rattle.lnt_wire.proofs.LengthLaws.{same_rest}
 use Rattle.lnt_wire.proofs.FirstValueLaws.{IsFound, value_found}
-use Rattle.lnt_header.specs.HeaderNumbers.{without_entries}
 use Rattle.lnt_header_bytes.specs.Borrowed.{first_values, first_values_size, first_entries}
 use Rattle.lnt_header.specs.declared.header.Entry.{Entry}
 use Rattle.lnt_header.specs.declared.header.Pair.{Pair}
@@ -84,15 +83,3 @@ pub length_found : (format : Format) (order : Order) (pairs : List Pair) (count 
 length_found format order pairs zero x = refl
 length_found format order pairs (suc count) x =
     ap suc (length_found format order pairs count (drop (first_values_size format order pairs x) x))
-
--- ---- numbers and formats alone
-
-no_entries : (pairs : List Pair) (entries : List Entry) → IsEntryTable pairs entries → IsEntryTable pairs []
-no_entries pairs entries is = record { few_pairs = is.few_pairs; none_without_pairs = λ e. refl; of_format = tt }
-
-pub header_without_entries : (h : HeaderParts) → IsHeader h → IsHeader (without_entries h)
-header_without_entries h is = record {
-  numbers = is.numbers;
-  directories = no_entries h.directory_format h.directories is.directories;
-  files = no_entries h.file_format h.files is.files;
-}

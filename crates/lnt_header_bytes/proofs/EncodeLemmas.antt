@@ -15,9 +15,9 @@ use Rattle.lnt_wire.specs.Leb128.{UnsignedLeb}
 use Rattle.lnt_wire.specs.FrameBytes.{frame_bytes}
 use Rattle.lnt_wire.specs.InitialLength.{initial_length, LengthFits}
 use Rattle.lnt_wire.specs.Numbers.{NumberBytes, OffsetBytes, IsLargeOffset, offset_size}
-use Rattle.lnt_header.specs.HeaderNumbers.{numbers_of}
 use Rattle.lnt_header.specs.declared.header.Entry.{Entry}
 use Rattle.lnt_header.specs.declared.header.HeaderParts.{HeaderParts}
+use Rattle.lnt_header.specs.declared.numbers.NumberParts.{NumberParts}
 use Rattle.lnt_header_bytes.specs.HeaderBytes.{HeaderFieldsBytes, HeaderBytesIn, unit_body}
 use Rattle.lnt_header.specs.declared.header.Pair.{Pair}
 use Rattle.lnt_header.specs.Encoding.{RefusedPut}
@@ -138,21 +138,20 @@ table_put format order pairs entries old m1 m2 m3 new is pushed p q r =
 length-four : (a b c d : List ℕ) → length (a ++ b ++ c ++ d) ≡ length a + length b + length c + length d
 length-four a b c d = simp length-append refl
 
-pub fields_put : (h : HeaderParts) (o0 o1 o2 o3 o4 o5 lengths extra : List ℕ) (d_pairs f_pairs : List Pair)
-    (d_entries f_entries : List Entry) → IsHeader h → o0 ≡ [] → o1 ≡ o0 ++ six_bytes (numbers_of h)
-    → lengths ≡ h.standard_lengths → o2 ≡ o1 ++ lengths → d_pairs ≡ h.directory_format → d_entries ≡ h.directories
-    → Appends (TableOf h.format h.order) (d_pairs, d_entries) o2 o3
-    → f_pairs ≡ h.file_format → f_entries ≡ h.files → Appends (TableOf h.format h.order) (f_pairs, f_entries) o3 o4 → extra ≡ h.extra
-    → o5 ≡ o4 ++ extra → IsShortest HeaderFieldsBytes h o5
-fields_put h o0 o1 o2 o3 o4 o5 lengths extra d_pairs f_pairs d_entries f_entries is begun first lengths_are second_put dp de d_put fp fe
-    f_put extra_is last_put =
-    let second : o2 ≡ o1 ++ h.standard_lengths = second_put ∙ ap (λ (z : List ℕ). o1 ++ z) lengths_are in
+pub fields_put : (h : HeaderParts) (numbers : NumberParts) (o0 o2 o3 o4 o5 extra : List ℕ) (d_pairs f_pairs : List Pair)
+    (d_entries f_entries : List Entry) → IsHeader h → o0 ≡ [] → single_bytes numbers ≡ single_bytes h.numbers
+    → o2 ≡ (o0 ++ six_bytes numbers) ++ numbers.standard_lengths → d_pairs ≡ h.directory_format → d_entries ≡ h.directories
+    → Appends (TableOf h.format h.numbers.order) (d_pairs, d_entries) o2 o3
+    → f_pairs ≡ h.file_format → f_entries ≡ h.files → Appends (TableOf h.format h.numbers.order) (f_pairs, f_entries) o3 o4
+    → extra ≡ h.extra → o5 ≡ o4 ++ extra → IsShortest HeaderFieldsBytes h o5
+fields_put h numbers o0 o2 o3 o4 o5 extra d_pairs f_pairs d_entries f_entries is begun same first dp de d_put fp fe f_put extra_is
+    last_put =
     let last : o5 ≡ o4 ++ h.extra = last_put ∙ ap (λ (z : List ℕ). o4 ++ z) extra_is in
-    let d : Appends (TableOf h.format h.order) (h.directory_format, h.directories) o2 o3 = rw (← dp, ← de) d_put in
-    let f : Appends (TableOf h.format h.order) (h.file_format, h.files) o3 o4 = rw (← fp, ← fe) f_put in
-    let prefix : o2 ≡ single_bytes (numbers_of h) =
-    second ∙ ap (λ (z : List ℕ). z ++ h.standard_lengths) (first ∙ ap (λ (z : List ℕ). z ++ six_bytes (numbers_of h)) begun) in
-    let whole : o5 ≡ single_bytes (numbers_of h) ++ d.spelling ++ f.spelling ++ h.extra = last ∙ ap (λ (z : List ℕ). z ++ h.extra) (f.joined
+    let d : Appends (TableOf h.format h.numbers.order) (h.directory_format, h.directories) o2 o3 = rw (← dp, ← de) d_put in
+    let f : Appends (TableOf h.format h.numbers.order) (h.file_format, h.files) o3 o4 = rw (← fp, ← fe) f_put in
+    let prefix : o2 ≡ single_bytes h.numbers =
+    first ∙ ap (λ (z : List ℕ). (z ++ six_bytes numbers) ++ numbers.standard_lengths) begun ∙ same in
+    let whole : o5 ≡ single_bytes h.numbers ++ d.spelling ++ f.spelling ++ h.extra = last ∙ ap (λ (z : List ℕ). z ++ h.extra) (f.joined
     ∙ ap (λ (z : List ℕ). z ++ f.spelling) (d.joined ∙ ap (λ (z : List ℕ). z ++ d.spelling) prefix)) in
     record {
       spelled = record {
@@ -167,21 +166,21 @@ fields_put h o0 o1 o2 o3 o4 o5 lengths extra d_pairs f_pairs d_entries f_entries
           omega (
             arith,
             ap length whole,
-            length-four (single_bytes (numbers_of h)) d.spelling f.spelling h.extra,
+            length-four (single_bytes h.numbers) d.spelling f.spelling h.extra,
             ap length p.joined,
-            length-four (single_bytes (numbers_of h)) p.directories p.files h.extra,
+            length-four (single_bytes h.numbers) p.directories p.files h.extra,
             d.spelled.shortest p.directories p.directory_table,
             f.spelled.shortest p.files p.file_table,
           );
     }
 
 pub directories_refused : (h : HeaderParts) (pairs : List Pair) (entries : List Entry) (fault : EncodeFault) → pairs ≡ h.directory_format
-    → entries ≡ h.directories → RefusedPut (TableOf h.format h.order) (pairs, entries) fault → RefusedPut HeaderFieldsBytes h fault
+    → entries ≡ h.directories → RefusedPut (TableOf h.format h.numbers.order) (pairs, entries) fault → RefusedPut HeaderFieldsBytes h fault
 directories_refused h pairs entries fault p e refused =
     record { none = λ large bytes q. refused.none large q.directories (rw (p, e) q.directory_table) }
 
 pub files_refused : (h : HeaderParts) (pairs : List Pair) (entries : List Entry) (fault : EncodeFault) → pairs ≡ h.file_format
-    → entries ≡ h.files → RefusedPut (TableOf h.format h.order) (pairs, entries) fault → RefusedPut HeaderFieldsBytes h fault
+    → entries ≡ h.files → RefusedPut (TableOf h.format h.numbers.order) (pairs, entries) fault → RefusedPut HeaderFieldsBytes h fault
 files_refused h pairs entries fault p e refused = record { none = λ large bytes q. refused.none large q.files (rw (p, e) q.file_table) }
 
 -- ---- the whole unit
@@ -205,11 +204,12 @@ offset_fits D64 n length_is le fits large = large
 
 -- fields and a program in their shortest spellings
 pub header_added : (h : HeaderParts) (program fields old new : List ℕ) → IsShortest HeaderFieldsBytes h fields
-    → AddsAround h.order h.format h.address_size fields program old new → Appends (HeaderBytesIn h.order) (h, program) old new
+    → AddsAround h.numbers.order h.format h.numbers.address_size fields program old new
+    → Appends (HeaderBytesIn h.numbers.order) (h, program) old new
 header_added h program fields old new p a =
     let body = unit_body h fields program in
     record {
-      spelling = frame_bytes h.order h.format body;
+      spelling = frame_bytes h.numbers.order h.format body;
       spelled = record {
         spelled = record { order_is = refl; spelled = record { fields = fields; counted = p.spelled; fits = a.fits; joined = refl } };
         shortest = λ other q.
@@ -217,10 +217,10 @@ header_added h program fields old new p a =
             let body' = unit_body h t.fields program in
             omega (
               arith,
-              length-append (initial_length h.format h.order (length body)) body,
+              length-append (initial_length h.format h.numbers.order (length body)) body,
               ap length t.joined,
-              length-append (initial_length h.format h.order (length body')) body',
-              length-initial-same h.format h.order (length body) (length body'),
+              length-append (initial_length h.format h.numbers.order (length body')) body',
+              length-initial-same h.format h.numbers.order (length body) (length body'),
               length-body h fields program,
               length-body h t.fields program,
               p.shortest t.fields t.counted,
@@ -231,10 +231,10 @@ header_added h program fields old new p a =
 
 -- the same into an empty vector
 pub header_put : (h : HeaderParts) (program fields named begun new : List ℕ) → IsShortest HeaderFieldsBytes h fields → begun ≡ []
-    → named ≡ fields → AddsAround h.order h.format h.address_size named program begun new
-    → IsShortest (HeaderBytesIn h.order) (h, program) new
+    → named ≡ fields → AddsAround h.numbers.order h.format h.numbers.address_size named program begun new
+    → IsShortest (HeaderBytesIn h.numbers.order) (h, program) new
 header_put h program fields named begun new p empty is a =
     let added = header_added h program fields begun new p
-    (subst (λ (z : List ℕ). AddsAround h.order h.format h.address_size z program begun new) is a) in
-    subst (IsShortest (HeaderBytesIn h.order) (h, program)) (sym (added.joined ∙ ap (λ (z : List ℕ). z ++ added.spelling) empty))
+    (subst (λ (z : List ℕ). AddsAround h.numbers.order h.format h.numbers.address_size z program begun new) is a) in
+    subst (IsShortest (HeaderBytesIn h.numbers.order) (h, program)) (sym (added.joined ∙ ap (λ (z : List ℕ). z ++ added.spelling) empty))
     added.spelled

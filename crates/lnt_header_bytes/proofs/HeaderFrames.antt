@@ -13,7 +13,6 @@ use Rattle.lnt_wire.specs.Reading.{Reads, Refuses}
 use Rattle.lnt_wire.specs.declared.fault.Fault.{Fault}
 use Rattle.lnt_wire.specs.declared.format.Format.{Format}
 use Rattle.lnt_wire.specs.declared.format.Order.{Order}
-use Rattle.lnt_header.specs.HeaderNumbers.{numbers_of}
 use Rattle.lnt_header.specs.declared.header.HeaderParts.{HeaderParts}
 use Rattle.lnt_header_bytes.specs.declared.numbers.Singles.{Singles}
 use Rattle.lnt_header_bytes.specs.Broken.{InHeader, sound_start, IsFirstField, BrokenHeader}
@@ -41,8 +40,8 @@ pub record Candidate (order : Order) (format : Format) (body : List ℕ) (unit :
   pub fields : List ℕ
   pub counted : HeaderFieldsBytes unit.0 fields
   pub format_is : unit.0.format ≡ format
-  pub order_is : unit.0.order ≡ order
-  pub body_is : body ≡ around order format unit.0.address_size fields unit.1
+  pub order_is : unit.0.numbers.order ≡ order
+  pub body_is : body ≡ around order format unit.0.numbers.address_size fields unit.1
   pub small : length fields < 256 ^ offset_size format
 
 candidate : (order : Order) (format : Format) (body : List ℕ) → LengthFits format (length body)
@@ -54,12 +53,13 @@ candidate order format body fits unit x more p e =
     let whole = unit_body h s.fields unit.1 in
     let spread : initial_length h.format order (length whole) ++ (whole ++ more) ≡ initial_length format order (length body) ++ body =
     ap (λ (o : Order). initial_length h.format o (length whole) ++ (whole ++ more)) (sym p.order_is)
-    ∙ sym (append_assoc (initial_length h.format h.order (length whole)) whole more) ∙ ap (λ (z : List ℕ). z ++ more) (sym s.joined) ∙ e in
+    ∙ sym (append_assoc (initial_length h.format h.numbers.order (length whole)) whole more) ∙ ap (λ (z : List ℕ). z ++ more) (sym
+    s.joined) ∙ e in
     let lengths = same_length order h.format format (length whole) (length body) (whole ++ more) body s.fits fits spread in
     let wholes : whole ≡ body = same_prefix whole body more [] lengths.number (lengths.past ∙ sym (append-nil body)) in
-    let over : whole ≡ around order format h.address_size s.fields unit.1 =
-    ap (λ (o : Order). around o h.format h.address_size s.fields unit.1) p.order_is
-    ∙ ap (λ (f : Format). around order f h.address_size s.fields unit.1) lengths.format in
+    let over : whole ≡ around order format h.numbers.address_size s.fields unit.1 =
+    ap (λ (o : Order). around o h.format h.numbers.address_size s.fields unit.1) p.order_is
+    ∙ ap (λ (f : Format). around order f h.numbers.address_size s.fields unit.1) lengths.format in
     let small : length s.fields < 256 ^ offset_size h.format = below h.format (length whole) (length s.fields) s.fits
     (omega (arith, length-body h s.fields unit.1)) in
     record {
@@ -82,7 +82,7 @@ after_version order format a fields program rest e = grind (arith, common_steps,
 no_start : (order : Order) (format : Format) (body rest : List ℕ) (unit : HeaderParts × List ℕ) → body ≡ version_five order ++ rest
     → NoneSpelled (StartBytes format order) rest → Candidate order format body unit → ⊥
 no_start order format body rest unit joined none c =
-    let a = unit.0.address_size in
+    let a = unit.0.numbers.address_size in
     let number = number_bytes order (offset_size format) (length c.fields) in
     let past = after_version order format a c.fields unit.1 rest (sym joined ∙ c.body_is) in
     none (a, (0, c.fields)) (a ∷ 0 ∷ (number ++ c.fields)) unit.1
@@ -157,12 +157,12 @@ counted_before order format size zero_size counted old new r = grind (arith, com
 
 abbrev singles_of : HeaderParts → Singles
 singles_of h = record {
-  minimum_instruction_length = h.minimum_instruction_length;
-  max_ops = h.max_ops;
-  default_is_stmt = h.default_is_stmt;
-  line_base = cast_unsigned w8 h.line_base;
-  line_range = h.line_range;
-  opcode_base = h.opcode_base;
+  minimum_instruction_length = h.numbers.minimum_instruction_length;
+  max_ops = h.numbers.max_ops;
+  default_is_stmt = h.numbers.default_is_stmt;
+  line_base = cast_unsigned w8 h.numbers.line_base;
+  line_range = h.numbers.line_range;
+  opcode_base = h.numbers.opcode_base;
 }
 
 no_fields : (order : Order) (format : Format) (body : List ℕ) (size : ℕ) (counted program : List ℕ) (offset place : ℕ)
@@ -171,22 +171,22 @@ no_fields : (order : Order) (format : Format) (body : List ℕ) (size : ℕ) (co
 no_fields order format body size counted program offset place unit at none c =
     let h = unit.0 in
     let p = c.counted in
-    let same = same_around order format size h.address_size counted c.fields program unit.1 at.small
+    let same = same_around order format size h.numbers.address_size counted c.fields program unit.1 at.small
     c.small (sym at.laid_out ∙ c.body_is) in
     let directories : TableOf format order (h.directory_format, h.directories) p.directories =
     rw (← c.format_is, ← c.order_is) p.directory_table in
     let files : TableOf format order (h.file_format, h.files) p.files = rw (← c.format_is, ← c.order_is) p.file_table in
-    none (singles_of h, (h.standard_lengths, ((h.directory_format, h.directories), (h.file_format, h.files))))
-    (six_bytes (numbers_of h) ++ (h.standard_lengths ++ (p.directories ++ p.files))) h.extra
-    (joins (six_bytes (numbers_of h)) (h.standard_lengths ++ (p.directories ++ p.files))
+    none (singles_of h, (h.numbers.standard_lengths, ((h.directory_format, h.directories), (h.file_format, h.files))))
+    (six_bytes h.numbers ++ (h.numbers.standard_lengths ++ (p.directories ++ p.files))) h.extra
+    (joins (six_bytes h.numbers) (h.numbers.standard_lengths ++ (p.directories ++ p.files))
     (record {
       spelled = refl;
       max_ops = p.numbers.max_ops;
       line_range = p.numbers.line_range;
       opcode_base = omega (arith, p.numbers.opcode_base);
-    }) (joins h.standard_lengths (p.directories ++ p.files) (p.numbers.opcode_base, p.numbers.lengths, refl)
+    }) (joins h.numbers.standard_lengths (p.directories ++ p.files) (p.numbers.opcode_base, p.numbers.lengths, refl)
     (joins p.directories p.files directories files)))
-    (joined_fields (six_bytes (numbers_of h)) h.standard_lengths p.directories p.files h.extra ∙ sym p.joined ∙ sym same.header)
+    (joined_fields (six_bytes h.numbers) h.numbers.standard_lengths p.directories p.files h.extra ∙ sym p.joined ∙ sym same.header)
 
 pub refuses_fields : (order : Order) (format : Format) (offset : ℕ) (body : List ℕ) (size zero_size place : ℕ) (counted : List ℕ)
     (old new : At) (fault : Fault) → LengthFits format (length body)

@@ -11,7 +11,6 @@ use Rattle.lnt_wire.specs.Numbers.{offset_size}
 use Rattle.lnt_wire.specs.InitialLength.{initial_length, LengthFits}
 use Rattle.lnt_wire.proofs.ValueLaws.{offset_width}
 use Rattle.lnt_wire.proofs.LengthLaws.{same_prefix, same_rest, same_number_prefix, same_length}
-use Rattle.lnt_header.specs.HeaderNumbers.{numbers_of}
 use Rattle.lnt_header.specs.declared.header.Entry.{Entry}
 use Rattle.lnt_header.specs.declared.header.HeaderParts.{HeaderParts}
 use Rattle.lnt_header.specs.declared.header.Pair.{Pair}
@@ -49,15 +48,17 @@ abbrev header_with : Format → Order → ℕ → ℕ → ℕ → ℕ → ℤ �
 header_with format order address_size minimum max_ops default_is_stmt line_base line_range opcode_base lengths directory_format directories
     file_format files extra = record {
       format = format;
-      order = order;
-      address_size = address_size;
-      minimum_instruction_length = minimum;
-      max_ops = max_ops;
-      default_is_stmt = default_is_stmt;
-      line_base = line_base;
-      line_range = line_range;
-      opcode_base = opcode_base;
-      standard_lengths = lengths;
+      numbers = record {
+        order = order;
+        address_size = address_size;
+        minimum_instruction_length = minimum;
+        max_ops = max_ops;
+        default_is_stmt = default_is_stmt;
+        line_base = line_base;
+        line_range = line_range;
+        opcode_base = opcode_base;
+        standard_lengths = lengths;
+      };
       directory_format = directory_format;
       directories = directories;
       file_format = file_format;
@@ -65,7 +66,8 @@ header_with format order address_size minimum max_ops default_is_stmt line_base 
       extra = extra;
     }
 
-same_fields : (h h' : HeaderParts) (x y : List ℕ) → h.format ≡ h'.format → h.order ≡ h'.order → h.address_size ≡ h'.address_size
+same_fields : (h h' : HeaderParts) (x y : List ℕ) → h.format ≡ h'.format → h.numbers.order ≡ h'.numbers.order
+    → h.numbers.address_size ≡ h'.numbers.address_size
     → HeaderFieldsBytes h x → HeaderFieldsBytes h' y → x ≡ y → h ≡ h'
 same_fields h h' x y format order address_size left right same =
     let d = left.directories in
@@ -74,41 +76,47 @@ same_fields h h' x y format order address_size left right same =
     let f' = right.files in
     let numbers = left.numbers in
     let numbers' = right.numbers in
-    let directories' : TableBytes h.format h.order h'.directory_format h'.directories d' = rw (format, order) right.directory_table in
-    let files' : TableBytes h.format h.order h'.file_format h'.files f' = rw (format, order) right.file_table in
-    let e : single_bytes (numbers_of h) ++ d ++ f ++ h.extra ≡ single_bytes (numbers_of h') ++ d' ++ f' ++ h'.extra = sym left.joined ∙ same ∙ right.joined in
-    let six = six_bytes (numbers_of h) in
-    let six' = six_bytes (numbers_of h') in
-    let all : six ++ (h.standard_lengths ++ (d ++ (f ++ h.extra))) ≡ six' ++ (h'.standard_lengths ++ (d' ++ (f' ++ h'.extra))) =
-    sym (regroup six h.standard_lengths d f h.extra) ∙ e ∙ regroup six' h'.standard_lengths d' f' h'.extra in
-    let minimum : h.minimum_instruction_length ≡ h'.minimum_instruction_length = cc in
-    let max_ops : h.max_ops ≡ h'.max_ops = cc in
-    let default_is_stmt : h.default_is_stmt ≡ h'.default_is_stmt = cc in
-    let line_base_byte : cast_unsigned w8 h.line_base ≡ cast_unsigned w8 h'.line_base = cc in
-    let line_base : h.line_base ≡ h'.line_base =
-    same_signed_byte h.line_base h'.line_base numbers.line_base numbers'.line_base line_base_byte in
-    let line_range : h.line_range ≡ h'.line_range = cc in
-    let opcode_base : h.opcode_base ≡ h'.opcode_base = cc in
-    let rest : h.standard_lengths ++ (d ++ (f ++ h.extra)) ≡ h'.standard_lengths ++ (d' ++ (f' ++ h'.extra)) = cc in
-    let count : length h.standard_lengths ≡ length h'.standard_lengths =
+    let directories' : TableBytes h.format h.numbers.order h'.directory_format h'.directories d' =
+    rw (format, order) right.directory_table in
+    let files' : TableBytes h.format h.numbers.order h'.file_format h'.files f' = rw (format, order) right.file_table in
+    let e : single_bytes h.numbers ++ d ++ f ++ h.extra ≡ single_bytes h'.numbers ++ d' ++ f' ++ h'.extra =
+    sym left.joined ∙ same ∙ right.joined in
+    let six = six_bytes h.numbers in
+    let six' = six_bytes h'.numbers in
+    let all : six ++ (h.numbers.standard_lengths ++ (d ++ (f ++ h.extra))) ≡ six' ++ (h'.numbers.standard_lengths ++ (d' ++ (f' ++
+    h'.extra))) =
+    sym (regroup six h.numbers.standard_lengths d f h.extra) ∙ e ∙ regroup six' h'.numbers.standard_lengths d' f' h'.extra in
+    let minimum : h.numbers.minimum_instruction_length ≡ h'.numbers.minimum_instruction_length = cc in
+    let max_ops : h.numbers.max_ops ≡ h'.numbers.max_ops = cc in
+    let default_is_stmt : h.numbers.default_is_stmt ≡ h'.numbers.default_is_stmt = cc in
+    let line_base_byte : cast_unsigned w8 h.numbers.line_base ≡ cast_unsigned w8 h'.numbers.line_base = cc in
+    let line_base : h.numbers.line_base ≡ h'.numbers.line_base =
+    same_signed_byte h.numbers.line_base h'.numbers.line_base numbers.line_base numbers'.line_base line_base_byte in
+    let line_range : h.numbers.line_range ≡ h'.numbers.line_range = cc in
+    let opcode_base : h.numbers.opcode_base ≡ h'.numbers.opcode_base = cc in
+    let rest : h.numbers.standard_lengths ++ (d ++ (f ++ h.extra)) ≡ h'.numbers.standard_lengths ++ (d' ++ (f' ++ h'.extra)) = cc in
+    let count : length h.numbers.standard_lengths ≡ length h'.numbers.standard_lengths =
     omega (arith, numbers.opcode_base, numbers'.opcode_base, opcode_base) in
-    let lengths : h.standard_lengths ≡ h'.standard_lengths =
-    same_prefix h.standard_lengths h'.standard_lengths (d ++ (f ++ h.extra)) (d' ++ (f' ++ h'.extra)) count rest in
+    let lengths : h.numbers.standard_lengths ≡ h'.numbers.standard_lengths =
+    same_prefix h.numbers.standard_lengths h'.numbers.standard_lengths (d ++ (f ++ h.extra)) (d' ++ (f' ++ h'.extra)) count rest in
     let tables : d ++ (f ++ h.extra) ≡ d' ++ (f' ++ h'.extra) =
-    same_rest h.standard_lengths h'.standard_lengths (d ++ (f ++ h.extra)) (d' ++ (f' ++ h'.extra)) lengths rest in
-    let first = same_table h.format h.order h.directory_format h'.directory_format h.directories h'.directories d d' (f ++ h.extra)
+    same_rest h.numbers.standard_lengths h'.numbers.standard_lengths (d ++ (f ++ h.extra)) (d' ++ (f' ++ h'.extra)) lengths rest in
+    let first = same_table h.format h.numbers.order h.directory_format h'.directory_format h.directories h'.directories d d' (f ++ h.extra)
     (f' ++ h'.extra) left.directory_table directories' tables in
-    let second = same_table h.format h.order h.file_format h'.file_format h.files h'.files f f' h.extra h'.extra left.file_table files'
+    let second =
+    same_table h.format h.numbers.order h.file_format h'.file_format h.files h'.files f f' h.extra h'.extra left.file_table files'
     first.past in
     let directory_format : h.directory_format ≡ h'.directory_format = first.format in
     let directory_entries : h.directories ≡ h'.directories = first.values in
     let file_format : h.file_format ≡ h'.file_format = second.format in
     let file_entries : h.files ≡ h'.files = second.values in
     let extra : h.extra ≡ h'.extra = second.past in
-    let both : header_with h.format h.order h.address_size h.minimum_instruction_length h.max_ops h.default_is_stmt h.line_base h.line_range
-    h.opcode_base h.standard_lengths h.directory_format h.directories h.file_format h.files h.extra
-    ≡ header_with h'.format h'.order h'.address_size h'.minimum_instruction_length h'.max_ops h'.default_is_stmt h'.line_base h'.line_range
-    h'.opcode_base h'.standard_lengths h'.directory_format h'.directories h'.file_format h'.files h'.extra =
+    let both : header_with h.format h.numbers.order h.numbers.address_size h.numbers.minimum_instruction_length h.numbers.max_ops
+    h.numbers.default_is_stmt h.numbers.line_base h.numbers.line_range
+    h.numbers.opcode_base h.numbers.standard_lengths h.directory_format h.directories h.file_format h.files h.extra
+    ≡ header_with h'.format h'.numbers.order h'.numbers.address_size h'.numbers.minimum_instruction_length h'.numbers.max_ops
+    h'.numbers.default_is_stmt h'.numbers.line_base h'.numbers.line_range
+    h'.numbers.opcode_base h'.numbers.standard_lengths h'.directory_format h'.directories h'.file_format h'.files h'.extra =
     cc (
       format,
       order,
@@ -139,36 +147,39 @@ pub below : (format : Format) (n m : ℕ) → LengthFits format n → m ≤ n �
 below D32 n m fits le = omega arith
 below D64 n m fits le = omega arith
 
-pub same_header : (h h' : HeaderParts) (p p' x y r s : List ℕ) → h.order ≡ h'.order → HeaderBytes h p x → HeaderBytes h' p' y
+pub same_header : (h h' : HeaderParts) (p p' x y r s : List ℕ) → h.numbers.order ≡ h'.numbers.order → HeaderBytes h p x → HeaderBytes h' p' y
     → x ++ r ≡ y ++ s → SameHeader h h' p p' x y
 same_header h h' p p' x y r s order left right e =
     let body = left.fields in
     let body' = right.fields in
     let whole = unit_body h body p in
     let whole' = unit_body h' body' p' in
-    let first : x ++ r ≡ initial_length h.format h.order (length whole) ++ (whole ++ r) =
-    ap (λ (z : List ℕ). z ++ r) left.joined ∙ append_assoc (initial_length h.format h.order (length whole)) whole r in
-    let second : y ++ s ≡ initial_length h'.format h.order (length whole') ++ (whole' ++ s) =
-    ap (λ (z : List ℕ). z ++ s) right.joined ∙ append_assoc (initial_length h'.format h'.order (length whole')) whole' s
+    let first : x ++ r ≡ initial_length h.format h.numbers.order (length whole) ++ (whole ++ r) =
+    ap (λ (z : List ℕ). z ++ r) left.joined ∙ append_assoc (initial_length h.format h.numbers.order (length whole)) whole r in
+    let second : y ++ s ≡ initial_length h'.format h.numbers.order (length whole') ++ (whole' ++ s) =
+    ap (λ (z : List ℕ). z ++ s) right.joined ∙ append_assoc (initial_length h'.format h'.numbers.order (length whole')) whole' s
     ∙ ap (λ (o : Order). initial_length h'.format o (length whole') ++ (whole' ++ s)) (sym order) in
-    let lengths = same_length h.order h.format h'.format (length whole) (length whole') (whole ++ r) (whole' ++ s) left.fits right.fits
+    let lengths =
+    same_length h.numbers.order h.format h'.format (length whole) (length whole') (whole ++ r) (whole' ++ s) left.fits right.fits
     (sym first ∙ e ∙ second) in
     let format : h.format ≡ h'.format = lengths.format in
     let wholes : whole ≡ whole' = same_prefix whole whole' r s lengths.number lengths.past in
-    let over : around h'.order h'.format h'.address_size body' p' ≡ around h.order h.format h'.address_size body' p' =
-    ap (λ (o : Order). around o h'.format h'.address_size body' p') (sym order)
-    ∙ ap (λ (f : Format). around h.order f h'.address_size body' p') (sym format) in
+    let over : around h'.numbers.order h'.format h'.numbers.address_size body' p' ≡ around h.numbers.order h.format
+    h'.numbers.address_size body' p' =
+    ap (λ (o : Order). around o h'.format h'.numbers.address_size body' p') (sym order)
+    ∙ ap (λ (f : Format). around h.numbers.order f h'.numbers.address_size body' p') (sym format) in
     let small : length body < 256 ^ offset_size h.format =
     below h.format (length whole) (length body) left.fits (omega (arith, length-body h body p)) in
     let small' : length body' < 256 ^ offset_size h.format = subst (λ (f : Format). length body' < 256 ^ offset_size f) (sym format)
     (below h'.format (length whole') (length body') right.fits (omega (arith, length-body h' body' p'))) in
-    let parts = same_around h.order h.format h.address_size h'.address_size body body' p p' small small' (wholes ∙ over) in
+    let parts =
+    same_around h.numbers.order h.format h.numbers.address_size h'.numbers.address_size body body' p p' small small' (wholes ∙ over) in
     let headers : h ≡ h' = same_fields h h' body body' format order parts.address_size left.counted right.counted parts.header in
-    let starts : initial_length h.format h.order (length whole) ≡ initial_length h'.format h'.order (length whole') =
-    ap (λ (f : Format). initial_length f h.order (length whole)) format
-    ∙ ap (λ (o : Order). initial_length h'.format o (length whole)) order ∙ ap (initial_length h'.format h'.order) lengths.number in
+    let starts : initial_length h.format h.numbers.order (length whole) ≡ initial_length h'.format h'.numbers.order (length whole') =
+    ap (λ (f : Format). initial_length f h.numbers.order (length whole)) format
+    ∙ ap (λ (o : Order). initial_length h'.format o (length whole)) order ∙ ap (initial_length h'.format h'.numbers.order) lengths.number in
     let bytes : x ≡ y = left.joined ∙ ap (λ (z : List ℕ). z ++ whole) starts
-    ∙ ap (λ (z : List ℕ). initial_length h'.format h'.order (length whole') ++ z) wholes ∙ sym right.joined in
+    ∙ ap (λ (z : List ℕ). initial_length h'.format h'.numbers.order (length whole') ++ z) wholes ∙ sym right.joined in
     record { header = headers; program = parts.past; bytes = bytes }
 
 pub one_header : OneHeader

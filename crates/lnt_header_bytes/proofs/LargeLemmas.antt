@@ -53,7 +53,8 @@ pub offset_large : (h : HeaderParts) (program : List ℕ) (fault : EncodeFault) 
 offset_large h program fault large = record { is_so = λ e. inl (large.is_so e) }
 
 pub unit_too_long : (h : HeaderParts) (program fields named : List ℕ) (fault : EncodeFault) → IsShortest HeaderFieldsBytes h fields
-    → named ≡ fields → (fault ≡ TooLarge → LengthFits h.format (length (around h.order h.format h.address_size named program)) → ⊥)
+    → named ≡ fields → (fault ≡ TooLarge
+    → LengthFits h.format (length (around h.numbers.order h.format h.numbers.address_size named program)) → ⊥)
     → IfTooLarge (HasLargeOffset h ⊎ IsTooLong h program) fault
 unit_too_long h program fields named fault p is long =
     record {
@@ -61,7 +62,8 @@ unit_too_long h program fields named fault p is long =
         fields = fields;
         shortest = p;
         too_long =
-            subst (λ (z : List ℕ). LengthFits h.format (length (around h.order h.format h.address_size z program)) → ⊥) is (long e);
+            subst (λ (z : List ℕ). LengthFits h.format (length (around h.numbers.order h.format h.numbers.address_size z program)) → ⊥)
+            is (long e);
       });
     }
 
@@ -81,18 +83,19 @@ no_entry format order pairs entries h bytes p =
     each_at (EntryParts format order) entries h.1.0 h.0 past.back h.1.1 (as_entries format order pairs entries past.back past.second) in
     no_value format order h.0.values h.2 one.0 (subst (λ (e : Entry). EntryParts format order e one.0) h.1.2 one.1)
 
-no_unit : (h : HeaderParts) (program : List ℕ) → HasLargeOffset h ⊎ IsTooLong h program → NoSpelling (HeaderBytesIn h.order) (h, program)
+no_unit : (h : HeaderParts) (program : List ℕ) → HasLargeOffset h ⊎ IsTooLong h program
+    → NoSpelling (HeaderBytesIn h.numbers.order) (h, program)
 no_unit h program (inl (inl large)) bytes p =
     let c = p.spelled.counted in
-    no_entry h.format h.order h.directory_format h.directories large c.directories c.directory_table
+    no_entry h.format h.numbers.order h.directory_format h.directories large c.directories c.directory_table
 no_unit h program (inl (inr large)) bytes p =
     let c = p.spelled.counted in
-    no_entry h.format h.order h.file_format h.files large c.files c.file_table
+    no_entry h.format h.numbers.order h.file_format h.files large c.files c.file_table
 no_unit h program (inr long) bytes p =
     let t = p.spelled in
     long.too_long (fits_less h.format (length (unit_body h long.fields program)) (length (unit_body h t.fields program))
     (omega (arith, length-body h long.fields program, length-body h t.fields program, long.shortest.shortest t.fields t.counted)) t.fits)
 
 pub too_large_refused : (h : HeaderParts) (program : List ℕ) (fault : EncodeFault)
-    → IfTooLarge (HasLargeOffset h ⊎ IsTooLong h program) fault → RefusedPut (HeaderBytesIn h.order) (h, program) fault
+    → IfTooLarge (HasLargeOffset h ⊎ IsTooLong h program) fault → RefusedPut (HeaderBytesIn h.numbers.order) (h, program) fault
 too_large_refused h program fault large = record { none = λ e. no_unit h program (large.is_so e) }

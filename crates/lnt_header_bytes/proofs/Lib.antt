@@ -7,7 +7,6 @@ pub mod FirstFieldLaws
 pub mod HeaderFrames
 pub mod HeaderLaws
 pub mod HeaderReaders
-pub mod KeptLemmas
 pub mod LargeLemmas
 pub mod MarkLemmas
 pub mod PassLemmas

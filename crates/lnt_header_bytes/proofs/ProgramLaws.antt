@@ -34,7 +34,7 @@ length-around order format size fields program = grind (arith, common_steps, len
 
 pub length-body : (h : HeaderParts) (fields program : List ℕ)
     → length (unit_body h fields program) ≡ 4 + offset_size h.format + length fields + length program
-length-body h fields program = length-around h.order h.format h.address_size fields program
+length-body h fields program = length-around h.numbers.order h.format h.numbers.address_size fields program
 
 pub fits_less : (format : Format) (m n : ℕ) → m ≤ n → LengthFits format n → LengthFits format m
 fits_less D32 m n le fits = omega arith
@@ -55,7 +55,7 @@ shorter_program order h program longer others le p =
     let whole = unit_body h t.fields longer in
     let short : length body ≤ length whole = omega (arith, le, length-body h t.fields program, length-body h t.fields longer) in
     record {
-      bytes = frame_bytes h.order h.format body;
+      bytes = frame_bytes h.numbers.order h.format body;
       spelled = record {
         order_is = p.order_is;
         spelled = record {
@@ -69,8 +69,8 @@ shorter_program order h program longer others le p =
         arith,
         short,
         ap length t.joined,
-        length-append (initial_length h.format h.order (length body)) body,
-        length-append (initial_length h.format h.order (length whole)) whole,
-        length-initial-same h.format h.order (length body) (length whole),
+        length-append (initial_length h.format h.numbers.order (length body)) body,
+        length-append (initial_length h.format h.numbers.order (length whole)) whole,
+        length-initial-same h.format h.numbers.order (length body) (length whole),
       );
     }

@@ -14,7 +14,6 @@ use Rattle.lnt_wire.specs.FrameBytes.{frame_bytes}
 use Rattle.lnt_wire.specs.Laws as wire
 use Rattle.lnt_wire.specs.Leb128.{UnsignedLeb}
 use Rattle.lnt_wire.specs.Spelled.{FitsForm, HasShortest}
-use Rattle.lnt_header.specs.HeaderNumbers.{numbers_of}
 use Rattle.lnt_header.specs.declared.header.Entry.{Entry}
 use Rattle.lnt_header.specs.declared.header.HeaderParts.{HeaderParts}
 use Rattle.lnt_header.specs.declared.header.Pair.{Pair}
@@ -97,23 +96,22 @@ table_spelled law format order pairs entries is fits small =
 
 fields_spelled : wire.SpelledValues → (h : HeaderParts) → IsHeader h → FitsFields h → HasSmallOffsets h → HasShortest HeaderFieldsBytes h
 fields_spelled law h is fits small =
-    let d = table_spelled law h.format h.order h.directory_format h.directories is.directories fits.directories small.directories in
-    let f = table_spelled law h.format h.order h.file_format h.files is.files fits.files small.files in
-    let o1 : List ℕ = [] ++ six_bytes (numbers_of h) in
-    let o2 : List ℕ = o1 ++ h.standard_lengths in
+    let d = table_spelled law h.format h.numbers.order h.directory_format h.directories is.directories fits.directories small.directories in
+    let f = table_spelled law h.format h.numbers.order h.file_format h.files is.files fits.files small.files in
+    let o2 : List ℕ = ([] ++ six_bytes h.numbers) ++ h.numbers.standard_lengths in
     let o3 : List ℕ = o2 ++ d.0 in
     let o4 : List ℕ = o3 ++ f.0 in (
       o4 ++ h.extra,
-      fields_put h [] o1 o2 o3 o4 (o4 ++ h.extra) h.standard_lengths h.extra h.directory_format h.file_format h.directories h.files is refl
-          refl refl refl refl refl (put_after (TableOf h.format h.order) (h.directory_format, h.directories) o2 d) refl refl
-          (put_after (TableOf h.format h.order) (h.file_format, h.files) o3 f) refl refl,
+      fields_put h h.numbers [] o2 o3 o4 (o4 ++ h.extra) h.extra h.directory_format h.file_format h.directories h.files is refl
+          refl refl refl refl (put_after (TableOf h.format h.numbers.order) (h.directory_format, h.directories) o2 d) refl refl
+          (put_after (TableOf h.format h.numbers.order) (h.file_format, h.files) o3 f) refl refl,
     )
 
 unit_spelled : wire.SpelledValues → (h : HeaderParts) (program : List ℕ) → IsHeader h → FitsFields h → HasSmallOffsets h
     → LengthsFit h program → (bytes : List ℕ) × HeaderBytes h program bytes
 unit_spelled law h program is fits small short =
     let s = fields_spelled law h is fits small in (
-      frame_bytes h.order h.format (unit_body h s.0 program),
+      frame_bytes h.numbers.order h.format (unit_body h s.0 program),
       record { fields = s.0; counted = s.1.spelled; fits = short s.0 s.1; joined = refl },
     )
 
@@ -150,8 +148,8 @@ table_fits law format order pairs entries x p = grind (arith, common_steps, entr
 allowed : wire.SpelledValues → (h : HeaderParts) (program bytes : List ℕ) → HeaderBytes h program bytes
     → IsHeader h × FitsFields h × HasSmallOffsets h × LengthsFit h program
 allowed law h program bytes p =
-    let d = table_fits law h.format h.order h.directory_format h.directories p.counted.directories p.counted.directory_table in
-    let f = table_fits law h.format h.order h.file_format h.files p.counted.files p.counted.file_table in (
+    let d = table_fits law h.format h.numbers.order h.directory_format h.directories p.counted.directories p.counted.directory_table in
+    let f = table_fits law h.format h.numbers.order h.file_format h.files p.counted.files p.counted.file_table in (
       spelled_header h p.fields p.counted,
       record { directories = d.0; files = f.0 },
       record { directories = d.1; files = f.1 },

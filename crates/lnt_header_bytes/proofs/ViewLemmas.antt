@@ -10,19 +10,19 @@ use Rattle.lnt_wire.specs.declared.format.Order.{Order}
 use Rattle.lnt_header.specs.declared.header.Entry.{Entry}
 use Rattle.lnt_header.specs.declared.header.Pair.{Pair}
 use Rattle.lnt_header_bytes.specs.declared.read_table.EntryTableRead.{EntryTableRead}
-use Rattle.lnt_header.specs.HeaderNumbers.{without_entries}
+use Rattle.lnt_header.specs.declared.numbers.NumberParts.{NumberParts}
+use Rattle.lnt_header_bytes.specs.declared.in_place.NumbersAndFormats.{NumbersAndFormats}
 use Rattle.lnt_header_bytes.specs.Borrowed.{first_entries, BorrowedTable, borrowed_table, AreEntryBytes}
 use Rattle.lnt_header_bytes.specs.Stepping.{PassesAll}
 use Rattle.lnt_header_bytes.specs.Borrowed.{header_over, directories_over, files_over}
-use Rattle.lnt_header_bytes.specs.Stepping.{IsEntryTableRead, AreFieldsRead, ArePlain, lying_table}
+use Rattle.lnt_header_bytes.specs.Stepping.{IsEntryTableRead, AreFieldsRead, lying_table}
 use Rattle.lnt_header_bytes.specs.Borrowed.{IsHeaderOver}
-use Rattle.lnt_header.specs.declared.header.HeaderParts.{HeaderParts}
 use Rattle.lnt_header_bytes.specs.declared.numbers.Singles.{Singles}
 use Rattle.lnt_header_bytes.specs.HeaderFaults.{SinglesBytes, LengthsBytes}
-use Rattle.lnt_header_bytes.specs.HeaderReading.{HasFields, AreFields}
-use Rattle.lnt_header.specs.HeaderRules.{IsAddressSize, IsHeader}
+use Rattle.lnt_header_bytes.specs.HeaderReading.{HasFields, numbers_with}
+use Rattle.lnt_header.specs.HeaderRules.{header_of, IsAddressSize}
 use Rattle.lnt_header.specs.Joins.{Each, Several}
-use Rattle.lnt_header_bytes.proofs.BorrowedLaws.{all_found, entries_found, header_without_entries}
+use Rattle.lnt_header_bytes.proofs.BorrowedLaws.{all_found, entries_found}
 use Rattle.lnt_header_bytes.specs.TableBytes.{PairBytes, EntryBytes, TableOf}
 use Rattle.lnt_header_bytes.proofs.AllowedLaws.{found_header}
 use Rattle.lnt_header_bytes.proofs.DecodeLemmas.{fields_found}
@@ -95,63 +95,47 @@ pub fields_read : (format : Format) (s : Singles) (ls : List ℕ) (directories f
     → IsEntryTableRead format directories m2 m3 → IsEntryTableRead format files m3 new → AreFieldsRead format s ls directories files old new
 fields_read format s ls directories files old m1 m2 m3 new r t d f = grind (arith, common_steps, reads_fields)
 
--- a header that was read without its entries has none
-plain_is : (h : HeaderParts) (dc : ℕ) (db : List ℕ) (fc : ℕ) (fb extra : List ℕ) → h.directories ≡ [] → h.files ≡ [] → h.extra ≡ []
-    → h ≡ without_entries (header_over h dc db fc fb extra)
-plain_is h dc db fc fb extra b e g = grind (arith, common_steps)
-
 -- What is read of a header, and its parts.
-pub record IsViewFound (format : Format) (order : Order) (size : ℕ) (bytes : List ℕ) (h : HeaderParts) (directories files : EntryTableRead)
-    (extra : List ℕ) : Type 0 where
-  pub fields : HasFields format order size bytes (header_over h directories.entries.count directories.entries.bytes.now files.entries.count
-      files.entries.bytes.now extra)
-  pub over : IsHeaderOver h directories.entries.count directories.entries.bytes.now files.entries.count files.entries.bytes.now extra
-  pub numbers : IsHeader h
+pub record IsViewFound (format : Format) (order : Order) (size : ℕ) (bytes : List ℕ) (plain : NumbersAndFormats)
+    (directories files : EntryTableRead) (extra : List ℕ) : Type 0 where
+  pub fields : HasFields format order size bytes (header_over plain directories.entries.count directories.entries.bytes.now
+      files.entries.count files.entries.bytes.now extra)
+  pub over : IsHeaderOver plain directories.entries.count directories.entries.bytes.now files.entries.count files.entries.bytes.now extra
+
+-- what was read of it besides the entries
+abbrev pub plain_of : Format → NumberParts → List Pair → List Pair → NumbersAndFormats
+plain_of format numbers directory_format file_format =
+    record { format = format; numbers = numbers; directory_format = directory_format; file_format = file_format }
 
 pub view_found : {format : Format} {order : Order} {size : ℕ} {bytes : List ℕ} {s : Singles} {lengths copy : List ℕ} {d f : EntryTableRead}
-    {extra : List ℕ} {old new : At} {h : HeaderParts}
+    {extra : List ℕ} {old new : At} {numbers : NumberParts} {d_pairs f_pairs : List Pair}
     → IsAddressSize size → ((i : ℕ) → get_or bytes i 0 < 256) → old.rest ≡ bytes → old.order ≡ order
-    → AreFieldsRead format s lengths d f old new → copy ≡ lengths
-    → ArePlain format order size s copy d.pairs.items f.pairs.items h → extra ≡ new.rest → IsViewFound format order size bytes h d f extra
-view_found {format} {order} {size} {bytes} {s} {lengths} {copy} {d} {f} {extra} {old} {new} {h} is small rest_is
-    same_order read copy_is plain extra_is =
-    let p = plain.fields in
+    → AreFieldsRead format s lengths d f old new → copy ≡ lengths → numbers ≡ numbers_with order size s copy → d_pairs ≡ d.pairs.items
+    → f_pairs ≡ f.pairs.items → extra ≡ new.rest → IsViewFound format order size bytes (plain_of format numbers d_pairs f_pairs) d f extra
+view_found {format} {order} {size} {bytes} {s} {lengths} {copy} {d} {f} {extra} {old} {new} {numbers} {d_pairs} {f_pairs} is small rest_is
+    same_order read copy_is numbers_are d_is f_is extra_is =
+    let plain = plain_of format numbers d_pairs f_pairs in
     let dc = d.entries.count in
     let db = d.entries.bytes.now in
     let fc = f.entries.count in
     let fb = f.entries.bytes.now in
-    let whole = header_over h dc db fc fb extra in
-    let back : old.order ≡ h.order = same_order ∙ sym plain.order_is in
-    let d_is : directories_over h dc db ≡ lying_table format old.order d = cc (plain.format_is, back, p.directory_format) in
-    let f_is : files_over h fc fb ≡ lying_table format old.order f = cc (plain.format_is, back, p.file_format) in
-    let are : AreFields s lengths (d.pairs.items, (lying_table format old.order d).entries)
-    (f.pairs.items, (lying_table format old.order f).entries) new.rest whole = record {
-      minimum = p.minimum;
-      max_ops = p.max_ops;
-      default_is_stmt = p.default_is_stmt;
-      line_base = p.line_base;
-      line_range = p.line_range;
-      opcode_base = p.opcode_base;
-      lengths_are = p.lengths_are ∙ copy_is;
-      directory_format = p.directory_format;
-      directories_are = ap (λ (t : BorrowedTable). t.entries) d_is;
-      file_format = p.file_format;
-      files_are = ap (λ (t : BorrowedTable). t.entries) f_is;
-      extra_is = extra_is;
-    } in
-    let has : HasFields format order size bytes whole =
-    fields_found format order size bytes s lengths (d.pairs.items, (lying_table format old.order d).entries)
-    (f.pairs.items, (lying_table format old.order f).entries) old new whole
-    plain.format_is plain.order_is plain.size_is is small rest_is same_order read.read are in
-    let header : IsHeader whole = found_header format order size bytes whole has in
-    let bare : h ≡ without_entries whole = plain_is h dc db fc fb extra p.directories_are p.files_are p.extra_is in
+    let whole = header_over plain dc db fc fb extra in
+    let same : numbers ≡ numbers_with order size s lengths = numbers_are ∙ ap (numbers_with order size s) copy_is in
+    let back : old.order ≡ numbers.order = same_order ∙ sym (ap (λ (n : NumberParts). n.order) same) in
+    let directories : directories_over plain dc db ≡ lying_table format old.order d = cc (back, d_is) in
+    let files : files_over plain fc fb ≡ lying_table format old.order f = cc (back, f_is) in
+    let entries : Order → EntryTableRead → List Entry = λ (o : Order) (t : EntryTableRead). (lying_table format o t).entries in
+    let has : HasFields format order size bytes whole = rw (same, d_is, f_is, extra_is)
+    (subst (λ (o : Order). HasFields format order size bytes (header_of format (numbers_with order size s lengths) d.pairs.items
+    (entries o d)
+    f.pairs.items (entries o f) new.rest)) same_order
+    (fields_found format order size bytes s lengths (d.pairs.items, (lying_table format old.order d).entries)
+    (f.pairs.items, (lying_table format old.order f).entries) old new is small rest_is same_order read.read)) in
     record {
       fields = has;
       over = record {
-        header = header;
-        numbers_are = bare;
-        directories_lie = subst (λ (t : BorrowedTable). AreEntryBytes t db) (sym d_is) read.directories_lie;
-        files_lie = subst (λ (t : BorrowedTable). AreEntryBytes t fb) (sym f_is) read.files_lie;
+        header = found_header format order size bytes whole has;
+        directories_lie = subst (λ (t : BorrowedTable). AreEntryBytes t db) (sym directories) read.directories_lie;
+        files_lie = subst (λ (t : BorrowedTable). AreEntryBytes t fb) (sym files) read.files_lie;
       };
-      numbers = subst IsHeader (sym bare) (header_without_entries whole header);
     }

@@ -172,7 +172,7 @@ entries_refused table format order count at old middle fault lt p refused =
 -- ---- the whole unit
 
 pub view_put : (h : HeaderParts) (format : Format) (order : Order) (size : ℕ) (program fields named old new : List ℕ)
-    → IsShortest HeaderFieldsBytes (in_format h format order) fields → named ≡ fields → size ≡ h.address_size
+    → IsShortest HeaderFieldsBytes (in_format h format order) fields → named ≡ fields → size ≡ h.numbers.address_size
     → AddsAround order format size named program old new → Appends (HeaderBytesIn order) (in_format h format order, program) old new
 view_put h format order size program fields named old new p is sized a = header_added (in_format h format order) program fields old new p
     (subst (λ (n : ℕ). AddsAround order format n fields program old new) sized
@@ -184,7 +184,7 @@ pub view_refused : (h : HeaderParts) (format : Format) (order : Order) (program 
 view_refused h format order program fault refused = record { none = λ large bytes p. refused.none large p.spelled.fields p.spelled.counted }
 
 pub view_too_long : (h : HeaderParts) (format : Format) (order : Order) (size : ℕ) (program fields named : List ℕ) (fault : EncodeFault)
-    → IsShortest HeaderFieldsBytes (in_format h format order) fields → named ≡ fields → size ≡ h.address_size
+    → IsShortest HeaderFieldsBytes (in_format h format order) fields → named ≡ fields → size ≡ h.numbers.address_size
     → (fault ≡ TooLarge → LengthFits format (length (around order format size named program)) → ⊥)
     → RefusedPut (HeaderBytesIn order) (in_format h format order, program) fault
 view_too_long h format order size program fields named fault p is sized long =

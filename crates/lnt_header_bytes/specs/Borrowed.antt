@@ -8,9 +8,10 @@ use Rattle.lnt_wire.specs.FirstValues.{first_value, first_size}
 use Rattle.lnt_header.specs.declared.header.Entry.{Entry}
 use Rattle.lnt_header.specs.declared.header.HeaderParts.{HeaderParts}
 use Rattle.lnt_header.specs.declared.header.Pair.{Pair}
-use Rattle.lnt_header.specs.HeaderNumbers.{without_entries}
-use Rattle.lnt_header.specs.HeaderRules.{IsHeader}
+use Rattle.lnt_header.specs.HeaderRules.{header_of, IsHeader}
+use Rattle.lnt_header.specs.declared.numbers.NumberParts.{NumberParts}
 use Rattle.lnt_header.specs.Joins.{Each}
+use Rattle.lnt_header_bytes.specs.declared.in_place.NumbersAndFormats.{NumbersAndFormats}
 use Rattle.lnt_header_bytes.specs.Layouts.{entry_of}
 use Rattle.lnt_header_bytes.specs.TableBytes.{EntryBytes}
 
@@ -54,15 +55,9 @@ AreEntryBytes table bytes = Each (EntryBytes table.format table.order table.pair
 -- ---- headers
 
 -- the header of these numbers and tables
-abbrev pub borrowed_header : HeaderParts → BorrowedTable → BorrowedTable → List ℕ → HeaderParts
+abbrev pub borrowed_header : NumberParts → BorrowedTable → BorrowedTable → List ℕ → HeaderParts
 borrowed_header numbers directories files extra =
-    record numbers {
-      directory_format = directories.pairs;
-      directories = directories.entries;
-      file_format = files.pairs;
-      files = files.entries;
-      extra = extra;
-    }
+    header_of directories.format numbers directories.pairs directories.entries files.pairs files.entries extra
 
 -- a table in this format and order
 pub record IsInForm (format : Format) (order : Order) (table : BorrowedTable) : Type 0 where
@@ -71,44 +66,42 @@ pub record IsInForm (format : Format) (order : Order) (table : BorrowedTable) : 
 
 -- a table in the format and the order of a header
 abbrev pub IsTableIn : HeaderParts → BorrowedTable → Type 0
-IsTableIn h table = IsInForm h.format h.order table
+IsTableIn h table = IsInForm h.format h.numbers.order table
 
--- A header in parts: one with only its numbers and formats, and its two tables.
-pub record IsBorrowedHeader (numbers : HeaderParts) (directories files : BorrowedTable) (extra : List ℕ) : Type 0 where
+-- A header in parts: its numbers, and its two tables.
+pub record IsBorrowedHeader (numbers : NumberParts) (directories files : BorrowedTable) (extra : List ℕ) : Type 0 where
   pub header : IsHeader (borrowed_header numbers directories files extra)
-  pub numbers_are : numbers ≡ without_entries (borrowed_header numbers directories files extra)
-  pub directories_in : IsTableIn numbers directories
-  pub files_in : IsTableIn numbers files
+  pub directories_in : IsTableIn (borrowed_header numbers directories files extra) directories
+  pub files_in : IsTableIn (borrowed_header numbers directories files extra) files
 
 -- the directories of a header with these numbers and formats, this many in these bytes
-abbrev pub directories_over : HeaderParts → ℕ → List ℕ → BorrowedTable
-directories_over numbers count bytes = borrowed_table numbers.format numbers.order numbers.directory_format count bytes
+abbrev pub directories_over : NumbersAndFormats → ℕ → List ℕ → BorrowedTable
+directories_over plain count bytes = borrowed_table plain.format plain.numbers.order plain.directory_format count bytes
 
 -- the files
-abbrev pub files_over : HeaderParts → ℕ → List ℕ → BorrowedTable
-files_over numbers count bytes = borrowed_table numbers.format numbers.order numbers.file_format count bytes
+abbrev pub files_over : NumbersAndFormats → ℕ → List ℕ → BorrowedTable
+files_over plain count bytes = borrowed_table plain.format plain.numbers.order plain.file_format count bytes
 
 -- the header with these numbers and formats, and this many directories and files in these bytes
-abbrev pub header_over : HeaderParts → ℕ → List ℕ → ℕ → List ℕ → List ℕ → HeaderParts
-header_over numbers directories directory_bytes files file_bytes extra =
-    borrowed_header numbers (directories_over numbers directories directory_bytes) (files_over numbers files file_bytes) extra
+abbrev pub header_over : NumbersAndFormats → ℕ → List ℕ → ℕ → List ℕ → List ℕ → HeaderParts
+header_over plain directories directory_bytes files file_bytes extra =
+    borrowed_header plain.numbers (directories_over plain directories directory_bytes) (files_over plain files file_bytes) extra
 
 -- It is a header, and the bytes are those of its directories and of its files.
-pub record IsHeaderOver (numbers : HeaderParts) (directories : ℕ) (directory_bytes : List ℕ) (files : ℕ) (file_bytes extra : List ℕ) : Type
-    0 where
-  pub header : IsHeader (header_over numbers directories directory_bytes files file_bytes extra)
-  pub numbers_are : numbers ≡ without_entries (header_over numbers directories directory_bytes files file_bytes extra)
-  pub directories_lie : AreEntryBytes (directories_over numbers directories directory_bytes) directory_bytes
-  pub files_lie : AreEntryBytes (files_over numbers files file_bytes) file_bytes
+pub record IsHeaderOver (plain : NumbersAndFormats) (directories : ℕ) (directory_bytes : List ℕ) (files : ℕ) (file_bytes extra : List ℕ)
+    : Type 0 where
+  pub header : IsHeader (header_over plain directories directory_bytes files file_bytes extra)
+  pub directories_lie : AreEntryBytes (directories_over plain directories directory_bytes) directory_bytes
+  pub files_lie : AreEntryBytes (files_over plain files file_bytes) file_bytes
 
 -- the same, with the bytes of the directories, those of the files and the last ones in one list
-abbrev pub header_in_bytes : HeaderParts → ℕ → ℕ → List ℕ → ℕ → ℕ → HeaderParts
-header_in_bytes numbers directories files bytes directory_size file_size =
-    header_over numbers directories (take directory_size bytes) files (take file_size (drop directory_size bytes))
+abbrev pub header_in_bytes : NumbersAndFormats → ℕ → ℕ → List ℕ → ℕ → ℕ → HeaderParts
+header_in_bytes plain directories files bytes directory_size file_size =
+    header_over plain directories (take directory_size bytes) files (take file_size (drop directory_size bytes))
     (drop file_size (drop directory_size bytes))
 
-pub record IsHeaderInBytes (numbers : HeaderParts) (directories files : ℕ) (bytes : List ℕ) (directory_size file_size : ℕ) : Type 0 where
-  pub over : IsHeaderOver numbers directories (take directory_size bytes) files (take file_size (drop directory_size bytes))
+pub record IsHeaderInBytes (plain : NumbersAndFormats) (directories files : ℕ) (bytes : List ℕ) (directory_size file_size : ℕ) : Type 0 where
+  pub over : IsHeaderOver plain directories (take directory_size bytes) files (take file_size (drop directory_size bytes))
       (drop file_size (drop directory_size bytes))
   pub first : directory_size ≤ length bytes
   pub second : file_size ≤ length (drop directory_size bytes)

@@ -6,8 +6,8 @@ use Rattle.lnt_wire.specs.InitialLength.{initial_length}
 use Rattle.lnt_wire.specs.declared.format.Format.{Format}
 use Rattle.lnt_wire.specs.declared.format.Order.{Order}
 use Rattle.std.specs.Int.{w8, cast_unsigned, cast_signed}
-use Rattle.lnt_header_bytes.specs.FieldsBytes.{Table}
 use Rattle.lnt_header.specs.declared.header.HeaderParts.{HeaderParts}
+use Rattle.lnt_header.specs.declared.numbers.NumberParts.{NumberParts}
 use Rattle.lnt_header_bytes.specs.declared.numbers.Singles.{Singles}
 use Rattle.lnt_header_bytes.specs.HeaderBytes.{HeaderFieldsBytes}
 
@@ -24,21 +24,20 @@ pub record IsAfterVersion (order : Order) (format : Format) (offset : ℕ) (body
 -- the parts of a header by the bytes that its header_length counts
 pub record HasFields (format : Format) (order : Order) (address_size : ℕ) (bytes : List ℕ) (h : HeaderParts) : Type 0 where
   pub format_is : h.format ≡ format
-  pub order_is : h.order ≡ order
-  pub size_is : h.address_size ≡ address_size
+  pub order_is : h.numbers.order ≡ order
+  pub size_is : h.numbers.address_size ≡ address_size
   pub fields : HeaderFieldsBytes h bytes
 
--- the parts of a header are the fields that were read
-pub record AreFields (s : Singles) (lengths : List ℕ) (directories files : Table) (extra : List ℕ) (h : HeaderParts) : Type 0 where
-  pub minimum : h.minimum_instruction_length ≡ s.minimum_instruction_length
-  pub max_ops : h.max_ops ≡ s.max_ops
-  pub default_is_stmt : h.default_is_stmt ≡ s.default_is_stmt
-  pub line_base : h.line_base ≡ cast_signed w8 (cast_unsigned w8 (cast_signed w8 s.line_base))
-  pub line_range : h.line_range ≡ s.line_range
-  pub opcode_base : h.opcode_base ≡ s.opcode_base
-  pub lengths_are : h.standard_lengths ≡ lengths
-  pub directory_format : h.directory_format ≡ directories.0
-  pub directories_are : h.directories ≡ directories.1
-  pub file_format : h.file_format ≡ files.0
-  pub files_are : h.files ≡ files.1
-  pub extra_is : h.extra ≡ extra
+-- the numbers of this order and address size that these fields are
+abbrev pub numbers_with : Order → ℕ → Singles → List ℕ → NumberParts
+numbers_with order address_size s lengths = record {
+  order = order;
+  address_size = address_size;
+  minimum_instruction_length = s.minimum_instruction_length;
+  max_ops = s.max_ops;
+  default_is_stmt = s.default_is_stmt;
+  line_base = cast_signed w8 (cast_unsigned w8 (cast_signed w8 s.line_base));
+  line_range = s.line_range;
+  opcode_base = s.opcode_base;
+  standard_lengths = lengths;
+}

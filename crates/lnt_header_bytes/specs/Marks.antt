@@ -2,7 +2,7 @@
 use Rattle.std.specs.Prelude.{ℕ, ◌≤◌, List, length, take, drop}
 use Rattle.std.specs.List.{All}
 use Rattle.lnt_header_bytes.specs.Borrowed.{BorrowedTable, AreEntryBytes, directories_over, files_over, IsHeaderInBytes}
-use Rattle.lnt_header.specs.declared.header.HeaderParts.{HeaderParts}
+use Rattle.lnt_header_bytes.specs.declared.in_place.NumbersAndFormats.{NumbersAndFormats}
 use Rattle.lnt_header_bytes.specs.declared.marks.Mark.{Mark}
 
 -- the table with its entries from this number on
@@ -25,14 +25,14 @@ pub record IsMarkedTable (table : BorrowedTable) (bytes : List ℕ) (places : Li
   pub marks : AreMarks table bytes places
 
 -- the marks of a header's two tables
-pub record AreMarksOver (numbers : HeaderParts) (directories : ℕ) (directory_bytes : List ℕ) (files : ℕ) (file_bytes : List ℕ)
+pub record AreMarksOver (plain : NumbersAndFormats) (directories : ℕ) (directory_bytes : List ℕ) (files : ℕ) (file_bytes : List ℕ)
     (directory_marks file_marks : List Mark) : Type 0 where
-  pub of_directories : AreMarks (directories_over numbers directories directory_bytes) directory_bytes directory_marks
-  pub of_files : AreMarks (files_over numbers files file_bytes) file_bytes file_marks
+  pub of_directories : AreMarks (directories_over plain directories directory_bytes) directory_bytes directory_marks
+  pub of_files : AreMarks (files_over plain files file_bytes) file_bytes file_marks
 
 -- a header in these bytes, with its marks
-pub record IsMarkedHeader (numbers : HeaderParts) (directories files : ℕ) (bytes : List ℕ) (directory_size file_size : ℕ)
+pub record IsMarkedHeader (plain : NumbersAndFormats) (directories files : ℕ) (bytes : List ℕ) (directory_size file_size : ℕ)
     (directory_marks file_marks : List Mark) : Type 0 where
-  pub lies : IsHeaderInBytes numbers directories files bytes directory_size file_size
-  pub marks : AreMarksOver numbers directories (take directory_size bytes) files (take file_size (drop directory_size bytes))
+  pub lies : IsHeaderInBytes plain directories files bytes directory_size file_size
+  pub marks : AreMarksOver plain directories (take directory_size bytes) files (take file_size (drop directory_size bytes))
       directory_marks file_marks

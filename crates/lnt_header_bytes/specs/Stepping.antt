@@ -6,7 +6,6 @@ use Rattle.lnt_wire.specs.declared.format.Format.{Format}
 use Rattle.lnt_wire.specs.declared.form.Form.TheVariants.{LineStrp, Udata, Data16}
 use Rattle.lnt_wire.specs.At.{At}
 use Rattle.lnt_wire.specs.Reading.{Reads}
-use Rattle.lnt_header.specs.declared.header.HeaderParts.{HeaderParts}
 use Rattle.lnt_header.specs.declared.header.Pair.{Pair}
 use Rattle.lnt_header_bytes.specs.declared.numbers.Singles.{Singles}
 use Rattle.lnt_header_bytes.specs.declared.pass.Layout.{Layout}
@@ -14,25 +13,12 @@ use Rattle.lnt_header_bytes.specs.declared.pass.Layout.TheVariants.{Path, Indexe
 use Rattle.lnt_header_bytes.specs.Layouts.{forms_of}
 use Rattle.lnt_header_bytes.specs.declared.read_table.EntryTableRead.{EntryTableRead}
 use Rattle.lnt_header_bytes.specs.FieldsBytes.{FieldsBytes}
-use Rattle.lnt_header_bytes.specs.HeaderReading.{AreFields}
 use Rattle.lnt_header.specs.Joins.{Each}
 use Rattle.lnt_header_bytes.specs.TableBytes.{TableOf}
 use Rattle.lnt_header_bytes.specs.Borrowed.{BorrowedTable, borrowed_table, AreEntryBytes, header_over}
+use Rattle.lnt_header_bytes.specs.declared.in_place.NumbersAndFormats.{NumbersAndFormats}
 use Rattle.lnt_header_bytes.specs.declared.kept.KeptEntries.{KeptEntries}
 use Rattle.lnt_header_bytes.specs.Kept.{kept_header, IsKeptHeader}
-
-pub record HasSameForm (one other : HeaderParts) : Type 0 where
-  pub format : one.format ≡ other.format
-  pub order : one.order ≡ other.order
-  pub address_size : one.address_size ≡ other.address_size
-
-pub record HasSameNumbers (one other : HeaderParts) : Type 0 where
-  pub minimum : one.minimum_instruction_length ≡ other.minimum_instruction_length
-  pub max_ops : one.max_ops ≡ other.max_ops
-  pub default_is_stmt : one.default_is_stmt ≡ other.default_is_stmt
-  pub line_base : one.line_base ≡ other.line_base
-  pub line_range : one.line_range ≡ other.line_range
-  pub opcode_base : one.opcode_base ≡ other.opcode_base
 
 -- The read moved past bytes that encode a value.
 pub record Passes {X : Type 0} (Spells : X → List ℕ → Type 0) (old new : At) : Type 0 where
@@ -71,14 +57,6 @@ pub record AreFieldsRead (format : Format) (singles : Singles) (lengths : List �
     ),
   ) old new
 
--- Only the numbers and the formats of a header that was read.
-pub record ArePlain (format : Format) (order : Order) (address_size : ℕ) (singles : Singles) (lengths : List ℕ)
-    (directories files : List Pair) (h : HeaderParts) : Type 0 where
-  pub format_is : h.format ≡ format
-  pub order_is : h.order ≡ order
-  pub size_is : h.address_size ≡ address_size
-  pub fields : AreFields singles lengths (directories, []) (files, []) [] h
-
 -- ---- layouts
 
 -- the pairs have the layout
@@ -97,7 +75,7 @@ pub record ReadsNext {X : Type 0} (Spells : X → List ℕ → Type 0) (before a
 -- ---- entries that are kept
 
 -- The entries that were kept are those of the header of these numbers and tables, with their marks.
-pub record AreKept (numbers : HeaderParts) (directories : ℕ) (directory_bytes : List ℕ) (files : ℕ) (file_bytes extra : List ℕ)
+pub record AreKept (plain : NumbersAndFormats) (directories : ℕ) (directory_bytes : List ℕ) (files : ℕ) (file_bytes extra : List ℕ)
     (kept : KeptEntries) : Type 0 where
-  pub is_kept : IsKeptHeader numbers kept
-  pub same : kept_header numbers kept ≡ header_over numbers directories directory_bytes files file_bytes extra
+  pub is_kept : IsKeptHeader plain kept
+  pub same : kept_header plain kept ≡ header_over plain directories directory_bytes files file_bytes extra

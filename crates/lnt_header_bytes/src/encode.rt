@@ -8,12 +8,12 @@ ghost use Rattle.lnt_wire.specs.Numbers.{offset_size};
 ghost use Rattle.lnt_header.specs.Encoding.{RefusedPut};
 ghost use Rattle.lnt_header_bytes.specs.HeaderPuts.{EntryParts, around, AddsAround, AddsVersion};
 ghost use Rattle.lnt_header_bytes.specs.HeaderBytes.{HeaderFieldsBytes, HeaderBytesIn};
-ghost use Rattle.lnt_header.specs.HeaderRules.{IsHeader, IsEntryTable};
+ghost use Rattle.lnt_header.specs.HeaderRules.{IsEntryTable, six_bytes};
 ghost use Rattle.lnt_header_bytes.specs.Large.{HasLargeEntry, HasLargeOffset, HasLargeValue, IfTooLarge, IsTooLong};
 ghost use Rattle.lnt_header.specs.Joins.{Each};
 ghost use Rattle.lnt_header_bytes.specs.TableBytes.{PairBytes, TableOf};
 
-use lnt_header::{Entry, Header, HeaderParts, Pair};
+use lnt_header::{Entry, Header, HeaderNumbers, Pair};
 use lnt_wire::{
     EncodeFault, FormValue, Format, Order, append_uleb, put_form, put_offset, put_u16, put_u32,
     put_u64,
@@ -25,28 +25,28 @@ use std::alloc::{AllocError, Global};
 /// 32-bit format, or the unit is longer than the format can say; and else only with `Memory`.
 #[tactic(auto, using(crate::proofs::LargeLemmas::too_large_refused))]
 pub fn encode_header(alloc: Global, header: &Header, program: &[u8]) -> Result<Vec<u8>, EncodeFault>
-    ensures ok { IfOk result (λ bytes. IsShortest (HeaderBytesIn header.now.order) (header.now, program.now) bytes.items) }
-    ensures err { IfErr result (λ fault. RefusedPut (HeaderBytesIn header.now.order) (header.now, program.now) fault) }
+    ensures ok { IfOk result (λ bytes. IsShortest (HeaderBytesIn header.now.numbers.order) (header.now, program.now) bytes.items) }
+    ensures err { IfErr result (λ fault. RefusedPut (HeaderBytesIn header.now.numbers.order) (header.now, program.now) fault) }
     ensures large { IfErr result (IfTooLarge (HasLargeOffset header.now ⊎ IsTooLong header.now program.now)) }
 {
-    encode_parts(alloc, header.parts(), program)
+    unit_bytes(alloc, header, program)
 }
 
 #[tactic(auto, using(crate::proofs::EncodeLemmas::header_put, crate::proofs::LargeLemmas::offset_large, crate::proofs::LargeLemmas::unit_too_long, crate::proofs::LargeLemmas::memory_not_large))]
-fn encode_parts(alloc: Global, parts: &HeaderParts, program: &[u8]) -> Result<Vec<u8>, EncodeFault>
-    requires { IsHeader parts.now }
-    ensures ok { IfOk result (λ bytes. IsShortest (HeaderBytesIn parts.now.order) (parts.now, program.now) bytes.items) }
-    ensures large { IfErr result (IfTooLarge (HasLargeOffset parts.now ⊎ IsTooLong parts.now program.now)) }
+fn unit_bytes(alloc: Global, header: &Header, program: &[u8]) -> Result<Vec<u8>, EncodeFault>
+    ensures ok { IfOk result (λ bytes. IsShortest (HeaderBytesIn header.now.numbers.order) (header.now, program.now) bytes.items) }
+    ensures large { IfErr result (IfTooLarge (HasLargeOffset header.now ⊎ IsTooLong header.now program.now)) }
 {
-    let fields = counted_fields(alloc, parts)?;
+    let fields = counted_fields(alloc, header)?;
     let mut out = Vec::new(alloc);
+    let numbers = header.numbers();
     add_around(
         &mut out,
         &fields,
         program,
-        parts.address_size,
-        parts.format,
-        parts.order,
+        numbers.address_size(),
+        header.format(),
+        numbers.order(),
     )?;
     Ok(out)
 }
@@ -133,13 +133,12 @@ fn add_initial_length(
 }
 
 // The fields that header_length counts.
-fn counted_fields(alloc: Global, parts: &HeaderParts) -> Result<Vec<u8>, EncodeFault>
-    requires { IsHeader parts.now }
-    ensures ok { IfOk result (λ bytes. IsShortest HeaderFieldsBytes parts.now bytes.items) }
-    ensures large { IfErr result (IfTooLarge (HasLargeOffset parts.now)) }
+fn counted_fields(alloc: Global, header: &Header) -> Result<Vec<u8>, EncodeFault>
+    ensures ok { IfOk result (λ bytes. IsShortest HeaderFieldsBytes header.now bytes.items) }
+    ensures large { IfErr result (IfTooLarge (HasLargeOffset header.now)) }
 {
     let mut out = Vec::new(alloc);
-    match add_fields(&mut out, parts) {
+    match add_fields(&mut out, header) {
         Ok(()) => Ok(out),
         Err(fault) => {
             drop(out);
@@ -149,34 +148,35 @@ fn counted_fields(alloc: Global, parts: &HeaderParts) -> Result<Vec<u8>, EncodeF
 }
 
 // Adds them to `out`, which holds nothing yet.
-fn add_fields(out: &mut Vec<u8>, parts: &HeaderParts) -> Result<(), EncodeFault>
-    requires header { IsHeader parts.now }
-    requires empty { out.old.items ≡ [] }
-    ensures ok { OnOk result (IsShortest HeaderFieldsBytes parts.now out.new.items) }
-    ensures large { IfErr result (IfTooLarge (HasLargeOffset parts.now)) }
+fn add_fields(out: &mut Vec<u8>, header: &Header) -> Result<(), EncodeFault>
+    requires { out.old.items ≡ [] }
+    ensures ok { OnOk result (IsShortest HeaderFieldsBytes header.now out.new.items) }
+    ensures large { IfErr result (IfTooLarge (HasLargeOffset header.now)) }
 {
-    let (format, order) = (parts.format, parts.order);
+    let numbers = header.numbers();
+    let (format, order) = (header.format(), numbers.order());
+    add_numbers(out, numbers)?;
+    add_table(
+        out,
+        header.directory_format(),
+        header.directories(),
+        format,
+        order,
+    )?;
+    add_table(out, header.file_format(), header.files(), format, order)?;
+    out.extend_from_slice(header.extra())?;
+    Ok(())
+}
+
+// Adds the numbers of one byte, and the standard opcode lengths.
+pub(crate) fn add_numbers(out: &mut Vec<u8>, numbers: &HeaderNumbers) -> Result<(), AllocError>
+    ensures { OnOk result (out.new.items ≡ (out.old.items ++ six_bytes numbers.now) ++ numbers.now.standard_lengths) }
+{
     add_both(
         out,
-        &parts.single_fields(),
-        parts.standard_lengths.as_slice(),
-    )?;
-    add_table(
-        out,
-        parts.directory_format.as_slice(),
-        parts.directories.as_slice(),
-        format,
-        order,
-    )?;
-    add_table(
-        out,
-        parts.file_format.as_slice(),
-        parts.files.as_slice(),
-        format,
-        order,
-    )?;
-    out.extend_from_slice(parts.extra.as_slice())?;
-    Ok(())
+        &numbers.parts().single_fields(),
+        numbers.standard_lengths(),
+    )
 }
 
 // Adds a table: its format, the number of its entries, and these.

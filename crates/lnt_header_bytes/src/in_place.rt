@@ -3,13 +3,12 @@ ghost use Rattle.std.specs.Prelude.{◌≡◌, ◌≢◌, ◌+◌, ◌^◌, ◌<
 ghost use Rattle.lnt_wire.specs.FrameBytes.{frame_bytes, IsPlacedFrame};
 ghost use Rattle.lnt_wire.specs.Reading.{RefusesOr};
 ghost use Rattle.lnt_wire.specs.declared.fault.Reason.TheVariants.{Memory};
-ghost use Rattle.lnt_header.specs.HeaderNumbers.{without_entries};
-ghost use Rattle.lnt_header_bytes.specs.Stepping.{AreFieldsRead, ArePlain};
+ghost use Rattle.lnt_header_bytes.specs.Stepping.{AreFieldsRead};
 ghost use Rattle.lnt_header_bytes.specs.Broken.{BrokenHeader};
 ghost use Rattle.lnt_header_bytes.specs.FieldsBytes.{FieldsBytes};
 ghost use Rattle.lnt_header_bytes.specs.HeaderFaults.{IsHeaderFault};
 ghost use Rattle.lnt_header_bytes.specs.HeaderBytes.{HeaderBytesIn};
-ghost use Rattle.lnt_header_bytes.specs.HeaderReading.{HasFields, standing};
+ghost use Rattle.lnt_header_bytes.specs.HeaderReading.{HasFields, numbers_with, standing};
 ghost use Rattle.lnt_header.specs.HeaderRules.{IsAddressSize, IsHeader};
 
 use crate::decode::after_version;
@@ -18,10 +17,19 @@ use crate::marks::Marks;
 use crate::numbers::{Singles, read_lengths, read_singles};
 use crate::read_table::{EntriesInPlace, EntryTableRead, read_table};
 use crate::start::read_start;
-use lnt_header::{Header, HeaderParts, Pair};
+use lnt_header::{HeaderNumbers, NumberParts, Pair};
 use lnt_wire::{Cursor, Fault, Format, Frame, Items, Order, Reason, copied};
 use std::alloc::Global;
 use std::marker::Model;
+
+/// What a header has besides its entries and its last bytes.
+#[derive(Drop)]
+pub(crate) struct NumbersAndFormats {
+    pub format: Format,
+    pub numbers: HeaderNumbers,
+    pub directory_format: Items<Pair>,
+    pub file_format: Items<Pair>,
+}
 
 /// A header whose directories and files are read in place: it borrows the bytes that it was read from, and allocates
 /// nothing for them.
@@ -29,8 +37,7 @@ use std::marker::Model;
 /// Contracts see the parts of the whole header, as those of `Header` do.
 #[derive(Drop)]
 pub struct HeaderInPlace<'a> {
-    // The numbers and the formats, in a header without entries.
-    pub(crate) numbers: Header,
+    pub(crate) plain: NumbersAndFormats,
     pub(crate) directories: EntriesInPlace<'a>,
     pub(crate) files: EntriesInPlace<'a>,
     pub(crate) extra: &'a [u8],
@@ -42,9 +49,9 @@ impl<'a> Model for HeaderInPlace<'a> {
 
     ghost Value = { HeaderParts };
 
-    ghost view = { λ h. header_over h.numbers h.directories.count h.directories.bytes.now h.files.count h.files.bytes.now h.extra.now };
+    ghost view = { λ h. header_over h.plain h.directories.count h.directories.bytes.now h.files.count h.files.bytes.now h.extra.now };
 
-    ghost invariant = { λ h. IsHeaderOver h.numbers h.directories.count h.directories.bytes.now h.files.count h.files.bytes.now
+    ghost invariant = { λ h. IsHeaderOver h.plain h.directories.count h.directories.bytes.now h.files.count h.files.bytes.now
         h.extra.now };
 }
 
@@ -53,8 +60,8 @@ impl<'a> HeaderInPlace<'a> {
     pub fn view(&self) -> HeaderView<'_>
         ensures { result ≡ self.now }
     {
-        HeaderView::of(
-            &self.numbers,
+        HeaderView::over(
+            &self.plain,
             self.directories,
             self.files,
             self.extra,
@@ -62,12 +69,12 @@ impl<'a> HeaderInPlace<'a> {
         )
     }
 
-    /// The numbers and the formats of the header: a header that has them, and no entries.
-    pub fn numbers(&self) -> &Header
-        ensures numbers { result.now ≡ without_entries self.now }
+    /// The numbers of the header.
+    pub fn numbers(&self) -> &HeaderNumbers
+        ensures numbers { result.now ≡ self.now.numbers }
         ensures header { IsHeader self.now }
     {
-        &self.numbers
+        &self.plain.numbers
     }
 }
 
@@ -125,21 +132,16 @@ fn view_parts<'a>(
         files,
     } = read_fields(alloc, &mut cursor, format)?;
     let lengths = lengths_of(alloc, lengths, place)?;
-    let (lying_directories, lying_files) = (directories.entries, files.entries);
-    let formats = (directories.pairs, files.pairs);
-    let numbers = plain_parts(
-        alloc,
-        singles,
-        lengths,
-        formats,
-        order,
-        format,
-        address_size,
-    );
+    let numbers = numbers_of(singles, lengths, order, address_size);
     Ok(HeaderInPlace {
-        numbers: Header::of(numbers),
-        directories: lying_directories,
-        files: lying_files,
+        plain: NumbersAndFormats {
+            format,
+            numbers: HeaderNumbers::of(numbers),
+            directory_format: Items::new(directories.pairs),
+            file_format: Items::new(files.pairs),
+        },
+        directories: directories.entries,
+        files: files.entries,
         extra: cursor.rest(),
     })
 }
@@ -158,21 +160,11 @@ fn lengths_of(alloc: Global, lengths: &[u8], place: u64) -> Result<Items<u8>, Fa
     }
 }
 
-// The parts of a header with these numbers and these formats of directories and files, without entries.
-fn plain_parts(
-    alloc: Global,
-    singles: Singles,
-    lengths: Items<u8>,
-    formats: (Vec<Pair>, Vec<Pair>),
-    order: Order,
-    format: Format,
-    address_size: u8,
-) -> HeaderParts
-    ensures { ArePlain format order address_size singles lengths formats.0.items formats.1.items result }
+// The numbers that these fields are.
+fn numbers_of(singles: Singles, lengths: Items<u8>, order: Order, address_size: u8) -> NumberParts
+    ensures { result ≡ numbers_with order address_size singles lengths }
 {
-    let (directories, files) = formats;
-    HeaderParts {
-        format,
+    NumberParts {
         order,
         address_size,
         minimum_instruction_length: singles.minimum_instruction_length,
@@ -182,11 +174,6 @@ fn plain_parts(
         line_range: singles.line_range,
         opcode_base: singles.opcode_base,
         standard_lengths: lengths,
-        directory_format: Items::new(directories),
-        directories: Items::new(Vec::new(alloc)),
-        file_format: Items::new(files),
-        files: Items::new(Vec::new(alloc)),
-        extra: Items::new(Vec::new(alloc)),
     }
 }
 

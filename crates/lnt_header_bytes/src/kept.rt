@@ -1,16 +1,14 @@
 //! Headers that are kept without the bytes of their units.
 ghost use Rattle.std.specs.Prelude.{◌≡◌, ◌++◌, IsTrue, IfOk, IfSome};
-ghost use Rattle.lnt_header.specs.HeaderNumbers.{without_entries};
 ghost use Rattle.lnt_header_bytes.specs.Borrowed.{IsHeaderOver};
-ghost use Rattle.lnt_header_bytes.specs.Stepping.{HasSameForm, HasSameNumbers};
 ghost use Rattle.lnt_header_bytes.specs.Stepping.{AreKept};
 ghost use Rattle.lnt_header.specs.HeaderRules.{IsHeader};
 
 use crate::header_view::HeaderView;
-use crate::in_place::HeaderInPlace;
+use crate::in_place::{HeaderInPlace, NumbersAndFormats};
 use crate::marks::{Mark, Marks, marks_of};
 use crate::read_table::EntriesInPlace;
-use lnt_header::{Header, Pair};
+use lnt_header::{HeaderNumbers, NumberParts, Pair};
 use std::alloc::{AllocError, Global};
 use std::marker::Model;
 use std::rc::Rc;
@@ -21,8 +19,7 @@ use std::rc::Rc;
 /// Contracts see the parts of the whole header, as those of `Header` do.
 #[derive(Drop)]
 pub struct KeptHeader {
-    // The numbers and the formats, in a header without entries.
-    numbers: Rc<Header>,
+    plain: Rc<NumbersAndFormats>,
     entries: KeptEntries,
 }
 
@@ -46,9 +43,9 @@ impl Model for KeptHeader {
 
     ghost Value = { HeaderParts };
 
-    ghost view = { λ h. kept_header h.numbers.value h.entries };
+    ghost view = { λ h. kept_header h.plain.value h.entries };
 
-    ghost invariant = { λ h. IsKeptHeader h.numbers.value h.entries };
+    ghost invariant = { λ h. IsKeptHeader h.plain.value h.entries };
 }
 
 impl KeptHeader {
@@ -59,8 +56,8 @@ impl KeptHeader {
         let entries = &self.entries;
         let (directories, rest) = entries.bytes.split_at(entries.directory_size);
         let (files, extra) = rest.split_at(entries.file_size);
-        HeaderView::of(
-            self.numbers.as_ref(),
+        HeaderView::over(
+            self.plain.as_ref(),
             EntriesInPlace {
                 count: entries.directories,
                 bytes: directories,
@@ -77,13 +74,13 @@ impl KeptHeader {
         )
     }
 
-    /// The numbers and the formats of the header: a header that has them, and no entries.
+    /// The numbers of the header.
     #[inline(always)]
-    pub fn numbers(&self) -> &Header
-        ensures numbers { result.now ≡ without_entries self.now }
+    pub fn numbers(&self) -> &HeaderNumbers
+        ensures numbers { result.now ≡ self.now.numbers }
         ensures header { IsHeader self.now }
     {
-        self.numbers.as_ref()
+        &self.plain.as_ref().numbers
     }
 }
 
@@ -94,34 +91,36 @@ impl<'a> HeaderInPlace<'a> {
         ensures { IfOk result (λ kept. kept ≡ self.entry) }
     {
         let HeaderInPlace {
-            numbers,
+            plain,
             directories,
             files,
             extra,
         } = self;
-        let entries = entries_of(alloc, &numbers, directories, files, extra);
-        let numbers = shared(alloc, numbers, other)?;
+        let entries = entries_of(alloc, &plain, directories, files, extra);
+        let plain = shared(alloc, plain, other)?;
         Ok(KeptHeader {
-            numbers,
+            plain,
             entries: entries?,
         })
     }
 }
 
-// The entries of a header with these numbers, kept without the bytes that contain them.
+// The entries of a header with these numbers and formats, kept without the bytes that contain them.
 fn entries_of(
     alloc: Global,
-    numbers: &Header,
+    plain: &NumbersAndFormats,
     directories: EntriesInPlace<'_>,
     files: EntriesInPlace<'_>,
     extra: &[u8],
 ) -> Result<KeptEntries, AllocError>
-    requires { IsHeaderOver numbers.now directories.count directories.bytes.now files.count files.bytes.now extra.now }
-    ensures { IfOk result (λ kept. AreKept numbers.now directories.entry.count directories.entry.bytes.now files.entry.count
+    requires { IsHeaderOver plain.now directories.count directories.bytes.now files.count files.bytes.now extra.now }
+    ensures { IfOk result (λ kept. AreKept plain.now directories.entry.count directories.entry.bytes.now files.entry.count
         files.entry.bytes.now extra.now kept) }
 {
-    let directory_marks = marks_of(alloc, numbers, numbers.directory_format(), directories)?;
-    let file_marks = marks_of(alloc, numbers, numbers.file_format(), files)?;
+    let (format, order) = (plain.format, plain.numbers.order());
+    let directory_pairs = plain.directory_format.as_slice();
+    let directory_marks = marks_of(alloc, format, order, directory_pairs, directories)?;
+    let file_marks = marks_of(alloc, format, order, plain.file_format.as_slice(), files)?;
     let bytes = joined(alloc, directories.bytes, files.bytes, extra)?;
     Ok(KeptEntries {
         directories: directories.count,
@@ -152,39 +151,40 @@ fn joined(alloc: Global, first: &[u8], second: &[u8], third: &[u8]) -> Result<Ve
 // These numbers and formats: shared with the other header if they are the same.
 fn shared(
     alloc: Global,
-    numbers: Header,
+    plain: NumbersAndFormats,
     other: Option<&KeptHeader>,
-) -> Result<Rc<Header>, AllocError>
-    requires { numbers ≡ without_entries numbers }
-    ensures { IfOk result (λ shared. shared.value ≡ numbers) }
+) -> Result<Rc<NumbersAndFormats>, AllocError>
+    ensures { IfOk result (λ shared. shared.value ≡ plain) }
 {
-    match same_numbers(&numbers, other) {
+    match same_numbers(&plain, other) {
         Some(shared) => {
-            drop(numbers);
+            drop(plain);
             shared.clone()
         }
-        None => alone(alloc, numbers),
+        None => alone(alloc, plain),
     }
 }
 
 // The numbers and formats of the other header, if they are these.
-fn same_numbers<'a>(numbers: &Header, other: Option<&'a KeptHeader>) -> Option<&'a Rc<Header>>
-    requires { numbers.now ≡ without_entries numbers.now }
-    ensures { IfSome result (λ shared. shared.now.value ≡ numbers.entry.now) }
+fn same_numbers<'a>(
+    plain: &NumbersAndFormats,
+    other: Option<&'a KeptHeader>,
+) -> Option<&'a Rc<NumbersAndFormats>>
+    ensures { IfSome result (λ shared. shared.now.value ≡ plain.entry.now) }
 {
     let other = other?;
-    if are_same(numbers, other.numbers()) {
-        Some(&other.numbers)
+    if are_same(plain, other.plain.as_ref()) {
+        Some(&other.plain)
     } else {
         None
     }
 }
 
 // These numbers and formats, not shared yet.
-fn alone(alloc: Global, numbers: Header) -> Result<Rc<Header>, AllocError>
-    ensures { IfOk result (λ shared. shared.value ≡ numbers) }
+fn alone(alloc: Global, plain: NumbersAndFormats) -> Result<Rc<NumbersAndFormats>, AllocError>
+    ensures { IfOk result (λ shared. shared.value ≡ plain) }
 {
-    match Rc::new(alloc, numbers) {
+    match Rc::new(alloc, plain) {
         Ok(shared) => Ok(shared),
         Err(failed) => {
             drop(failed);
@@ -193,40 +193,20 @@ fn alone(alloc: Global, numbers: Header) -> Result<Rc<Header>, AllocError>
     }
 }
 
-// Whether the headers, without entries, are the same.
-#[tactic(auto, using(crate::proofs::KeptLemmas::same_header))]
-fn are_same(one: &Header, other: &Header) -> bool
-    requires one { one.now ≡ without_entries one.now }
-    requires other { other.now ≡ without_entries other.now }
+// Whether the numbers and formats are the same.
+fn are_same(one: &NumbersAndFormats, other: &NumbersAndFormats) -> bool
     ensures { IsTrue result → one.now ≡ other.now }
 {
-    are_forms_same(one, other)
-        && are_numbers_same(one, other)
-        && are_bytes_same(one.standard_lengths(), other.standard_lengths())
-        && are_pairs_same(one.directory_format(), other.directory_format())
-        && are_pairs_same(one.file_format(), other.file_format())
+    one.format == other.format
+        && are_numbers_same(one.numbers.parts(), other.numbers.parts())
+        && are_pairs_same(
+            one.directory_format.as_slice(),
+            other.directory_format.as_slice(),
+        )
+        && are_pairs_same(one.file_format.as_slice(), other.file_format.as_slice())
 }
 
-fn are_forms_same(one: &Header, other: &Header) -> bool
-    ensures { IsTrue result → HasSameForm one.now other.now }
-{
-    one.format() == other.format()
-        && one.order() == other.order()
-        && one.address_size() == other.address_size()
-}
-
-fn are_numbers_same(one: &Header, other: &Header) -> bool
-    ensures { IsTrue result → HasSameNumbers one.now other.now }
-{
-    one.minimum_instruction_length() == other.minimum_instruction_length()
-        && one.max_ops() == other.max_ops()
-        && one.default_is_stmt() == other.default_is_stmt()
-        && one.line_base() == other.line_base()
-        && one.line_range() == other.line_range()
-        && one.opcode_base() == other.opcode_base()
-}
-
-fn are_bytes_same(one: &[u8], other: &[u8]) -> bool
+fn are_numbers_same(one: &NumberParts, other: &NumberParts) -> bool
     ensures { IsTrue result → one.now ≡ other.now }
 {
     one == other

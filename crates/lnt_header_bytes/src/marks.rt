@@ -6,8 +6,8 @@ ghost use Rattle.lnt_header_bytes.specs.Marks.{AreMarks, BeginsAt};
 
 use crate::pass::pass_entries;
 use crate::read_table::EntriesInPlace;
-use lnt_header::{Header, Pair};
-use lnt_wire::Cursor;
+use lnt_header::Pair;
+use lnt_wire::{Cursor, Format, Order};
 use std::alloc::{AllocError, Global};
 
 // An entry is marked if it begins at least this many bytes after the last marked one, or after the first entry.
@@ -45,27 +45,28 @@ impl<'a> Marks<'a> {
     }
 }
 
-/// The marks of a table of the header's format and order, whose entries consist of these pairs. Between the last mark before
+/// The marks of a table of this format and order, whose entries consist of these pairs. Between the last mark before
 /// an entry and that entry are fewer than 256 bytes. Fails only if memory runs out. Allocates nothing for a table of at most
 /// 256 bytes, and for any other a sixteenth of its bytes.
 pub(crate) fn marks_of(
     alloc: Global,
-    header: &Header,
+    format: Format,
+    order: Order,
     pairs: &[Pair],
     entries: EntriesInPlace<'_>,
 ) -> Result<Vec<Mark>, AllocError>
-    requires { AreEntryBytes (borrowed_table header.now.format header.now.order pairs.now entries.count entries.bytes.now)
+    requires { AreEntryBytes (borrowed_table format order pairs.now entries.count entries.bytes.now)
         entries.bytes.now }
-    ensures marks { IfOk result (λ marks. AreMarks (borrowed_table header.now.format header.now.order pairs.now entries.entry.count
+    ensures marks { IfOk result (λ marks. AreMarks (borrowed_table format order pairs.now entries.entry.count
         entries.entry.bytes.now) entries.entry.bytes.now marks.items) }
 {
     if entries.bytes.len() <= STEP {
         return Ok(Vec::new(alloc));
     }
     let mut marks = Vec::with_capacity(alloc, entries.bytes.len() / STEP)?;
-    let mut cursor = Cursor::new(entries.bytes, 0, header.order());
+    let mut cursor = Cursor::new(entries.bytes, 0, order);
     for number in 1..entries.count {
-        let Ok(_) = pass_entries(&mut cursor, header.format(), pairs, 1) else {
+        let Ok(_) = pass_entries(&mut cursor, format, pairs, 1) else {
             unreachable!()
         };
         let place = entries.bytes.len() - cursor.rest().len();

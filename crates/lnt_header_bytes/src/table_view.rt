@@ -6,7 +6,7 @@ ghost use Rattle.lnt_header_bytes.specs.Marks.{AreMarks, from_entry};
 use crate::marks::{Mark, marked_before};
 use crate::read_table::EntriesInPlace;
 use crate::table::read_entries;
-use lnt_header::{Entry, Header, Pair};
+use lnt_header::{Entry, Pair};
 use lnt_wire::{Cursor, Format, Order, Reason};
 use std::alloc::{AllocError, Global};
 use std::marker::Model;
@@ -37,22 +37,21 @@ impl<'a> Model for EntryTableView<'a> {
 }
 
 impl<'a> EntryTableView<'a> {
-    /// A table of the header's format and order, whose entries consist of these pairs, with its marks.
+    /// A table of this format and order, whose entries consist of these pairs, with its marks.
     pub(crate) fn of(
-        header: &Header,
+        format: Format,
+        order: Order,
         pairs: &'a [Pair],
         entries: EntriesInPlace<'a>,
         marks: &'a [Mark],
     ) -> EntryTableView<'a>
-        requires lies { AreEntryBytes (borrowed_table header.now.format header.now.order pairs.now entries.count entries.bytes.now)
-            entries.bytes.now }
-        requires marks { AreMarks (borrowed_table header.now.format header.now.order pairs.now entries.count entries.bytes.now)
-            entries.bytes.now marks.now }
-        ensures { result ≡ borrowed_table header.now.format header.now.order pairs.entry.now entries.entry.count entries.entry.bytes.now }
+        requires lies { AreEntryBytes (borrowed_table format order pairs.now entries.count entries.bytes.now) entries.bytes.now }
+        requires marks { AreMarks (borrowed_table format order pairs.now entries.count entries.bytes.now) entries.bytes.now marks.now }
+        ensures { result ≡ borrowed_table format order pairs.entry.now entries.entry.count entries.entry.bytes.now }
     {
         EntryTableView {
-            format: header.format(),
-            order: header.order(),
+            format,
+            order,
             pairs,
             entries,
             marks,

@@ -9,7 +9,7 @@ ghost use Rattle.lnt_header.specs.HeaderRules.{IsEntryTable};
 ghost use Rattle.lnt_header.specs.Joins.{Each};
 ghost use Rattle.lnt_header_bytes.specs.TableBytes.{EntryBytes, TableOf};
 
-use crate::encode::{add_around, add_both, add_pairs};
+use crate::encode::{add_around, add_numbers, add_pairs};
 use crate::{EntryTableView, HeaderView};
 use lnt_header::Pair;
 use lnt_wire::{Cursor, EncodeFault, Format, Order, Reason, append_uleb, put_form};
@@ -70,12 +70,7 @@ fn add_fields_view(
     ensures ok { OnOk result (IsShortest HeaderFieldsBytes (in_format header.now format order) out.new.items) }
     ensures err { IfErr result (λ fault. RefusedPut HeaderFieldsBytes (in_format header.now format order) fault) }
 {
-    let numbers = header.numbers();
-    add_both(
-        out,
-        &numbers.parts().single_fields(),
-        numbers.standard_lengths(),
-    )?;
+    add_numbers(out, header.numbers())?;
     add_table_view(alloc, out, header.directories(), format, order)?;
     add_table_view(alloc, out, header.files(), format, order)?;
     out.extend_from_slice(header.extra())?;

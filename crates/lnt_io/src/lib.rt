@@ -2,8 +2,8 @@
 //!
 //! A [`Source`] gives the bytes of a file piece by piece, up to a limit; [`Counted`] is one over any reader, such as a file; and
 //! [`read_all`] reads them all, or stops for one of the reasons of [`Stop`]. An [`Opener`] gives readers of files by their
-//! names. An [`OpenedFile`] is the source of one, with its name, [`open_file`] makes a source of one, [`source_of`] of any reader, and [`bytes_of_file`] reads a file whole. Work on a
-//! file ends with a [`Status`], or stops with a [`Halt`].
+//! names. An [`OpenedFile`] is the source of one, with its name, [`open_file`] makes a source of one, [`source_of`] of any
+//! reader, and [`bytes_of_file`] reads a file whole. Work on a file ends with a [`Status`], or stops with a [`Halt`].
 //!
 //! The library's `write_all` says nothing about what a writer holds after it failed. [`write_whole`] does. [`print_line`] prints
 //! the line of a value.

@@ -5,7 +5,8 @@ use Rattle.std.specs.List.{All, AllByRecursion, AllZip}
 use Rattle.std.proofs.lemmas.List.{map-append}
 use Rattle.std.proofs.lemmas.List.Elements.{All-cons, All-nil, All-weaker}
 use Rattle.lnt_wire.specs.declared.format.Order.{Order}
-use Rattle.lnt_header.specs.HeaderRules.{HasHeaderNumbers}
+use Rattle.lnt_header.specs.HeaderRules.{AreHeaderNumbers}
+use Rattle.lnt_header.specs.declared.header.HeaderParts.{HeaderParts}
 use Rattle.lnt_unit.specs.Units.{BufferedUnit}
 use Rattle.lnt_header.specs.declared.unit_parts.UnitParts.{UnitParts}
 use Rattle.lnt_unit.proofs.UnitLaws.{unit_is_some}
@@ -75,7 +76,7 @@ rising_from order k (unit ∷ units) bytes (prefix, back, at, spelled, whole, re
 
 -- the numbers of headers that bytes spell can be read
 pub numbers_from : (order : Order) (k : ℕ) (units : List (ℕ × UnitParts)) (bytes : List ℕ) → UnitsFrom order k units bytes
-    → AllByRecursion (λ (unit : ℕ × UnitParts). HasHeaderNumbers unit.1.header) units
+    → AllByRecursion (λ (unit : ℕ × UnitParts). AreHeaderNumbers unit.1.header.numbers) units
 numbers_from order k [] bytes u = tt
 numbers_from order k (unit ∷ units) bytes (prefix, back, at, spelled, whole, rest) =
     (spelled.spelled.whole.counted.numbers, numbers_from order (k + length prefix) units back rest)
@@ -109,13 +110,13 @@ named_files text general dead (unit ∷ units) all = (all.0.files, named_files t
 -- the kept headers are those of the units
 pub kept_numbers : (units : List (ℕ × UnitParts)) (programs : List KeptProgram)
     → AllZip (λ unit kept. KeepsProgram kept unit.1) units programs
-    → AllByRecursion (λ (unit : ℕ × UnitParts). HasHeaderNumbers unit.1.header) units
-    → AllByRecursion (λ (kept : KeptProgram). HasHeaderNumbers kept.header) programs
+    → AllByRecursion (λ (unit : ℕ × UnitParts). AreHeaderNumbers unit.1.header.numbers) units
+    → AllByRecursion (λ (kept : KeptProgram). AreHeaderNumbers kept.header.numbers) programs
 kept_numbers [] [] keeps all = tt
 kept_numbers [] (kept ∷ programs) keeps all = absurd keeps
 kept_numbers (unit ∷ units) [] keeps all = tt
 kept_numbers (unit ∷ units) (kept ∷ programs) keeps all =
-    (subst HasHeaderNumbers (sym keeps.0.header_is) all.0, kept_numbers units programs keeps.1 all.1)
+    (subst (λ (h : HeaderParts). AreHeaderNumbers h.numbers) (sym keeps.0.header_is) all.0, kept_numbers units programs keeps.1 all.1)
 
 pub index_of_draft : (text general : List ℕ) (selection : Selection) (draft : Draft)
     (entries : List Extent) → IsDraftOf text general selection.dead selection.units draft → AreRising draft.units.items

@@ -5,7 +5,7 @@ use Rattle.std.specs.List.Sorted.{IsPermutation}
 use Rattle.std.proofs.lemmas.List.Elements.{recursion_from_All}
 use Rattle.std.proofs.lemmas.List.Sorted.{All-permutation}
 use native.Mathlib.Nat.{mod-one}
-use Rattle.lnt_header.specs.HeaderNumbers.{HeaderNumbers, numbers_of}
+use Rattle.lnt_header.specs.declared.numbers.NumberParts.{NumberParts}
 use Rattle.lnt_header.specs.declared.header.HeaderParts.{HeaderParts}
 use Rattle.lnt_header.specs.declared.op.Op.{Op}
 use Rattle.lnt_header.specs.declared.op.Op.TheVariants.{Special, Copy, EndSequence}
@@ -30,17 +30,17 @@ IsFirst row = row.op_index ≡ 0
 abbrev AreFirst : List Row → Type 0
 AreFirst rows = AllByRecursion IsFirst rows
 
-index_zero : (h : HeaderNumbers) (back : List Op) → h.max_ops ≡ 1 → op_index h back ≡ 0
+index_zero : (h : NumberParts) (back : List Op) → h.max_ops ≡ 1 → op_index h back ≡ 0
 index_zero h back one = ap (λ (m : ℕ). advances h back % m) one ∙ mod-one (advances h back)
 
-one_made : (h : HeaderNumbers) (back : List Op) (op : Op) (later : List Row) → h.max_ops ≡ 1 → AreFirst later
+one_made : (h : NumberParts) (back : List Op) (op : Op) (later : List Row) → h.max_ops ≡ 1 → AreFirst later
     → AreFirst (cons_option (row_made h back op) later)
 one_made h back Copy later one rest = (index_zero h (Copy ∷ back) one, rest)
 one_made h back (Special c) later one rest = (index_zero h (Special c ∷ back) one, rest)
 one_made h back EndSequence later one rest = (index_zero h back one, rest)
 one_made h back op later one rest = rest
 
-all_made : (h : HeaderNumbers) (back ops : List Op) → h.max_ops ≡ 1 → AreFirst (rows_after h back ops)
+all_made : (h : NumberParts) (back ops : List Op) → h.max_ops ≡ 1 → AreFirst (rows_after h back ops)
 all_made h back [] one = tt
 all_made h back (op ∷ ops) one = one_made h back op (rows_after h (op ∷ back) ops) one (all_made h (op ∷ back) ops one)
 
@@ -55,7 +55,7 @@ of_units : (units : List (ℕ × UnitParts)) (programs : List KeptProgram) → A
 of_units [] programs keeps one = tt
 of_units (unit ∷ units) [] keeps one = absurd keeps
 of_units (unit ∷ units) (kept ∷ programs) keeps one =
-    let made = all_made (numbers_of unit.1.header) [] unit.1.ops (ap (λ (h : HeaderParts). h.max_ops) (sym keeps.0.header_is) ∙ one.0) in
+    let made = all_made unit.1.header.numbers [] unit.1.ops (ap (λ (h : HeaderParts). h.numbers.max_ops) (sym keeps.0.header_is) ∙ one.0) in
     (record { offset = tt; rows = each_cut IsFirst (rows unit.1) made }, of_units units programs keeps.1 one.1)
 
 -- ---- spans

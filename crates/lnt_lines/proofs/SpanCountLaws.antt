@@ -4,7 +4,6 @@ use Rattle.std.specs.List.Sorted.{IsPermutation}
 use Rattle.std.proofs.lemmas.List.{length-append}
 use Rattle.std.proofs.lemmas.List.Sorted.{length_permutation}
 use Rattle.lnt_wire.specs.declared.format.Order.{Order}
-use Rattle.lnt_header.specs.HeaderNumbers.{numbers_of}
 use Rattle.lnt_header.specs.declared.unit_parts.UnitParts.{UnitParts}
 use Rattle.lnt_unit.specs.UnitBytes.{SectionBytes, UnitsFrom}
 use Rattle.lnt_unit.proofs.CountLaws.{ops_within}
@@ -22,7 +21,7 @@ rows_within order offset [] bytes spelled = omega arith
 rows_within order offset (unit ∷ units) bytes (prefix, back, at, first, joined, later) =
     omega (
       arith,
-      few_rows (numbers_of unit.1.header) [] unit.1.ops,
+      few_rows unit.1.header.numbers [] unit.1.ops,
       ops_within order unit.1 prefix first,
       rows_within order (offset + length prefix) units back later,
       ap length joined,

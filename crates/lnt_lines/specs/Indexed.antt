@@ -5,7 +5,7 @@ use Rattle.std.specs.List.Sorted.{IsPermutation}
 use Rattle.std.specs.Option.{option_and_then, option_map, option_map_or}
 use Rattle.lnt_header.specs.Joins.{AreRising}
 use Rattle.lnt_header.specs.declared.header.HeaderParts.{HeaderParts}
-use Rattle.lnt_header.specs.HeaderRules.{HasHeaderNumbers}
+use Rattle.lnt_header.specs.HeaderRules.{AreHeaderNumbers}
 use Rattle.lnt_header.specs.declared.unit_parts.UnitParts.{UnitParts}
 use Rattle.lnt_machine.specs.declared.row.Row.{Row}
 use Rattle.lnt_machine.specs.declared.row.Sequence.{Sequence}
@@ -49,13 +49,13 @@ pub record IsIndex (index : Indexed) : Type 0 where
   pub selection : Selection
   pub index_is : IsIndexOf selection index
   pub files : AllByRecursion (λ unit. HaveFiles (length unit.1.header.files) (live_in selection.dead unit)) selection.units
-  pub numbers : AllByRecursion (λ kept. HasHeaderNumbers kept.header) index.programs
+  pub numbers : AllByRecursion (λ kept. AreHeaderNumbers kept.header.numbers) index.programs
 
 -- ---- the headers of units
 
 -- the header says that no instruction has more than one operation (DWARF 5, section 6.2.4)
 abbrev pub HasOneOperation : KeptProgram → Type 0
-HasOneOperation kept = kept.header.max_ops ≡ 1
+HasOneOperation kept = kept.header.numbers.max_ops ≡ 1
 
 -- ---- the files of units
 

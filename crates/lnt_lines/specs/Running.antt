@@ -1,6 +1,5 @@
 -- A unit's program, run operation by operation. No public contract speaks of it.
 use Rattle.std.specs.Prelude.{◌≡◌, ◌≢◌, ℕ, ◌+◌, ◌^◌, ◌<◌, ◌≤◌, List, ◌++◌, length, Option}
-use Rattle.lnt_header.specs.HeaderNumbers.{numbers_of}
 use Rattle.lnt_header.specs.declared.op.Op.{Op}
 use Rattle.lnt_header.specs.declared.op.OpView.{OpView}
 use Rattle.lnt_ops.specs.Walks.{GivesOperation, Walk}
@@ -28,11 +27,11 @@ pub record RanSoFar (dead : Option ℕ) (view : View) (old now : Collected) (wal
   pub ops : List Op
   pub given : HasGiven view ops walk
   pub few : length ops + length walk.at.rest ≤ length view.program
-  pub ran : HasRan (numbers_of view.header) ops run
+  pub ran : HasRan view.header.numbers ops run
   pub seen : HasSeen dead view.unit.offset (length view.header.files) watch (rows (with_ops view ops))
   pub collects : (sequences : List Placed) → Collects old sequences
       → CollectsRows dead view.unit.offset now sequences (rows (with_ops view ops))
-  pub known : HasPlaces (numbers_of view.header) view.program (length (sequences_of (rows (with_ops view ops)))) places place
+  pub known : HasPlaces view.header.numbers view.program (length (sequences_of (rows (with_ops view ops)))) places place
 
 -- the same of a program that is run and watched
 abbrev pub RunsSoFar : Option ℕ → View → Watched → Collected → Collected → Walk → List ℕ → Type 0

@@ -2,7 +2,7 @@
 use Rattle.std.specs.Prelude.{◌≡◌, ℕ, List, [], ◌∷◌, ◌++◌, map, IfSome, Option, Some, None}
 use Rattle.std.specs.List.{AllByRecursion, AllZip}
 use Rattle.lnt_header.specs.Joins.{AreRising}
-use Rattle.lnt_header.specs.HeaderRules.{HasHeaderNumbers}
+use Rattle.lnt_header.specs.HeaderRules.{AreHeaderNumbers}
 use Rattle.lnt_unit.specs.Units.{BufferedUnit}
 use Rattle.lnt_header.specs.declared.unit_parts.UnitParts.{UnitParts}
 use Rattle.lnt_unit.specs.UnitBytes.{SectionBytes, UnitBytesIn}
@@ -32,7 +32,7 @@ pub record IsWholeDraft (line general : List ℕ) (draft : Draft) : Type 0 where
   pub dead : Option ℕ
   pub units : List (ℕ × UnitParts)
   pub draft_is : IsDraftOf line general dead units draft
-  pub numbers : AllByRecursion (λ unit. HasHeaderNumbers unit.1.header) units
+  pub numbers : AllByRecursion (λ unit. AreHeaderNumbers unit.1.header.numbers) units
   pub distinct : AreDistinct (live_sequences dead units)
   pub rising : AreRising draft.units.items
 

@@ -1,7 +1,7 @@
 -- Advances of operations, one after another and by parts.
 use Rattle.std.proofs.Common.{◌≡◌, ℕ, ◌+◌, ◌*◌, ◌/◌, ◌%◌, ◌^◌, ◌<◌, refl, ap, ◌∙◌, arith}
 use Rattle.std.proofs.Math.Nat.{mod-add-div, add-mod-mod, add-mul-div_left, add-mul-mod_self_left}
-use Rattle.lnt_header.specs.HeaderNumbers.{HeaderNumbers}
+use Rattle.lnt_header.specs.declared.numbers.NumberParts.{NumberParts}
 use Rattle.lnt_machine.specs.declared.row.Row.{Row}
 use Rattle.lnt_machine.specs.Changes.{advanced}
 
@@ -28,7 +28,7 @@ abbrev at_place : Row → ℕ → ℕ → Row
 at_place r address op_index = record r { address = address; op_index = op_index }
 
 -- an advance of n by parts of n
-pub advanced_by_parts : (h : HeaderNumbers) (r : Row) (n m a : ℕ) → m ≡ h.max_ops → 0 < m
+pub advanced_by_parts : (h : NumberParts) (r : Row) (n m a : ℕ) → m ≡ h.max_ops → 0 < m
     → a ≡ (r.address + h.minimum_instruction_length * (n / m + (r.op_index + n % m) / m)) % 2 ^ (8 * h.address_size)
     → record r { address = a; op_index = (r.op_index + n % m) % m } ≡ advanced h r n
 advanced_by_parts h r n m a same some at =

@@ -5,7 +5,7 @@ use Rattle.std.specs.Prelude.{ℤ, pos, negsuc, ◌+ℤ◌, ◌≤ℤ◌, unsign
 use Rattle.std.proofs.Math.Nat.{mod-add-mod, mod-eq_of_lt, pow-suc, zero-div, zero-mod}
 use Rattle.std.proofs.Math.Pow.{pow_pos}
 use Rattle.std.proofs.lemmas.Int.{ints}
-use Rattle.lnt_header.specs.HeaderNumbers.{HeaderNumbers}
+use Rattle.lnt_header.specs.declared.numbers.NumberParts.{NumberParts}
 use Rattle.lnt_header.specs.declared.op.Op.{Op}
 use Rattle.lnt_header.specs.declared.op.Op.TheVariants.{Special, Copy, AdvancePc, AdvanceLine, ConstAddPc}
 use Rattle.lnt_header.specs.declared.op.Op.TheVariants.{FixedAdvancePc, EndSequence, SetAddress}
@@ -20,7 +20,7 @@ zero_add_z : (z : ℤ) → pos 0 +ℤ z ≡ z
 zero_add_z z = omega (arith, ints)
 
 -- n more operations after a
-moved_more : (h : HeaderNumbers) (from n a : ℕ) → 0 < h.max_ops
+moved_more : (h : NumberParts) (from n a : ℕ) → 0 < h.max_ops
     → (moved h from a + h.minimum_instruction_length * ((a % h.max_ops + n) / h.max_ops)) % 2 ^ (8 * h.address_size) ≡ moved h from (n + a)
 moved_more h from n a some =
     let size = 2 ^ (8 * h.address_size) in
@@ -34,7 +34,7 @@ moved_more h from n a some =
 abbrev at_place : Row → ℕ → ℕ → Row
 at_place r address op_index = record r { address = address; op_index = op_index }
 
-advanced_after : (h : HeaderNumbers) (back : List Op) (n : ℕ) → 0 < h.max_ops
+advanced_after : (h : NumberParts) (back : List Op) (n : ℕ) → 0 < h.max_ops
     → advanced h (registers_after h back) n ≡ at_place (registers_after h back) (moved h (base h back) (n + advances h back))
     ((n + advances h back) % h.max_ops)
 advanced_after h back n some =
@@ -65,12 +65,12 @@ pow_bytes (suc size) =
       eight : 8 * suc size ≡ 8 * size + 8
       eight = omega arith
 
-place_set : (h : HeaderNumbers) (a : ℕ) → a < 2 ^ (8 * h.address_size) → a ≡ moved h a 0
+place_set : (h : NumberParts) (a : ℕ) → a < 2 ^ (8 * h.address_size) → a ≡ moved h a 0
 place_set h a fits = sym (simp (zero-div, mul-zero, add-zero) (mod-eq_of_lt fits))
 
 -- ---- all registers
 
-pub changed_after : (h : HeaderNumbers) (back : List Op) (op : Op) → 0 < h.max_ops → IsAllowed h op → IsLine (line h back)
+pub changed_after : (h : NumberParts) (back : List Op) (op : Op) → 0 < h.max_ops → IsAllowed h op → IsLine (line h back)
     → changed h (registers_after h back) op ≡ registers_after h (op ∷ back)
 changed_after h back (Special c) some allowed fits =
     let r = registers_after h back in
@@ -90,7 +90,7 @@ changed_after h back (SetAddress a) some allowed fits =
     simp (zero-mod, zero_add_z) (ap (λ (x : ℕ). at_place (registers_after h back) x 0) at)
 changed_after h back op some allowed fits = simp (zero-add, zero_add_z)
 
-pub made_after : (h : HeaderNumbers) (back : List Op) (op : Op) → 0 < h.max_ops → IsLine (line h back)
+pub made_after : (h : NumberParts) (back : List Op) (op : Op) → 0 < h.max_ops → IsLine (line h back)
     → made h (registers_after h back) op ≡ row_made h back op
 made_after h back (Special c) some fits =
     let r = registers_after h back in
@@ -102,7 +102,7 @@ made_after h back EndSequence some fits = refl
 made_after h back op some fits = refl
 
 -- The line that an operation leads to is in range where the line with this operation added is.
-pub line_from : (h : HeaderNumbers) (back : List Op) (op : Op) → IsLine (line h back) → IsLine (line h (op ∷ back))
+pub line_from : (h : NumberParts) (back : List Op) (op : Op) → IsLine (line h back) → IsLine (line h (op ∷ back))
     → IsLine (line_reached h (registers_after h back) op)
 line_from h back EndSequence fits more =
     let same : pos (unsigned_abs (line h back)) +ℤ pos 0 ≡ line h back = let abs : pos (unsigned_abs (line h back)) ≡ line h back = pos_abs
@@ -110,7 +110,7 @@ line_from h back EndSequence fits more =
     subst IsLine (sym same) fits
 line_from h back op fits more = subst IsLine (sym (line_more (line_sum h (part back)) (line_increment h op) fits)) more
 
-pub line_into : (h : HeaderNumbers) (back : List Op) (op : Op) → IsLine (line h back) → IsLine (line_reached h (registers_after h back) op)
+pub line_into : (h : NumberParts) (back : List Op) (op : Op) → IsLine (line h back) → IsLine (line_reached h (registers_after h back) op)
     → IsLine (line h (op ∷ back))
 line_into h back EndSequence fits reached = (omega (arith, ints), omega (arith, ints))
 line_into h back op fits reached = subst IsLine (line_more (line_sum h (part back)) (line_increment h op) fits) reached

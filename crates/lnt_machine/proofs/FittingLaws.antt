@@ -6,10 +6,11 @@ use Rattle.std.specs.List.{AllByRecursion, cons_option}
 use Rattle.std.proofs.Math.Nat.{mod-lt}
 use Rattle.std.proofs.Math.Pow.{pow_pos}
 use Rattle.std.proofs.lemmas.Int.{ints}
-use Rattle.lnt_header.specs.HeaderNumbers.{HeaderNumbers, numbers_of}
+use Rattle.lnt_header.specs.declared.header.HeaderParts.{HeaderParts}
+use Rattle.lnt_header.specs.declared.numbers.NumberParts.{NumberParts}
 use Rattle.lnt_header.specs.declared.op.Op.{Op}
 use Rattle.lnt_header.specs.declared.op.Op.TheVariants.{Special, Copy, EndSequence}
-use Rattle.lnt_header.specs.HeaderRules.{AreHeaderNumbers, HasHeaderNumbers, IsAddressSize}
+use Rattle.lnt_header.specs.HeaderRules.{AreHeaderNumbers, IsAddressSize}
 use Rattle.lnt_header.specs.Joins.{Each}
 use Rattle.lnt_ops.proofs.OpLaws.{op_allowed}
 use Rattle.lnt_ops.specs.OpBytes.{OpBytes}
@@ -44,14 +45,14 @@ FitsSequence = EachRow FitsRow
 -- ---- registers
 
 -- What the operations of `back` leave in the registers that operands are put in fits, and their line is in range.
-record LeaveFitting (h : HeaderNumbers) (back : List Op) : Type 0 where
+record LeaveFitting (h : NumberParts) (back : List Op) : Type 0 where
   file : file back < 2 ^ 64
   column : column back < 2 ^ 64
   isa : isa back < 2 ^ 64
   discriminator : discriminator back < 2 ^ 64
   line : IsLine (line h back)
 
-fitting_start : (h : HeaderNumbers) (back : List Op) → AtStart back → LeaveFitting h back
+fitting_start : (h : NumberParts) (back : List Op) → AtStart back → LeaveFitting h back
 fitting_start h [] start = record {
   file = omega arith;
   column = omega arith;
@@ -69,7 +70,7 @@ fitting_start h (EndSequence ∷ back) start = record {
 fitting_start h (op ∷ back) start = absurd start
 
 -- an operand is put in a register as it is, or not at all
-fitting_by : (h : HeaderNumbers) (back : List Op) (op : Op) → LeaveFitting h back → FitsOp op → IsLine (line h (op ∷ back))
+fitting_by : (h : NumberParts) (back : List Op) (op : Op) → LeaveFitting h back → FitsOp op → IsLine (line h (op ∷ back))
     → LeaveFitting h (op ∷ back)
 fitting_by h back Copy f says fits = record {
   file = f.file;
@@ -95,7 +96,7 @@ fitting_by h back op f says fits = record {
 }
 
 -- what bytes spell is of at most 64 bits
-fitting_more : (h : HeaderNumbers) (back : List Op) (op : Op) (x : List ℕ) → LeaveFitting h back → OpBytes h op x
+fitting_more : (h : NumberParts) (back : List Op) (op : Op) (x : List ℕ) → LeaveFitting h back → OpBytes h op x
     → IsLine (line h (op ∷ back)) → LeaveFitting h (op ∷ back)
 fitting_more h back op x f p fits = fitting_by h back op f (op_allowed h op x p).1 fits
 
@@ -104,7 +105,7 @@ size_fits size (inl is) = rw is (omega arith)
 size_fits size (inr (inl is)) = rw is (omega arith)
 size_fits size (inr (inr is)) = rw is (omega arith)
 
-registers_fit : (h : HeaderNumbers) (back : List Op) → AreHeaderNumbers h → LeaveFitting h back → FitsRow (registers_after h back)
+registers_fit : (h : NumberParts) (back : List Op) → AreHeaderNumbers h → LeaveFitting h back → FitsRow (registers_after h back)
 registers_fit h back numbers f =
     let r = registers_after h back in
     let cut : r.address < 2 ^ (8 * h.address_size) = mod-lt _ (pow_pos (8 * h.address_size)) in
@@ -121,7 +122,7 @@ registers_fit h back numbers f =
 
 -- ---- rows
 
-row_fits : (h : HeaderNumbers) (back : List Op) (op : Op) → AreHeaderNumbers h → LeaveFitting h back → LeaveFitting h (op ∷ back)
+row_fits : (h : NumberParts) (back : List Op) (op : Op) → AreHeaderNumbers h → LeaveFitting h back → LeaveFitting h (op ∷ back)
     → FitsRow (row_of h back op)
 row_fits h back op numbers before f =
     let all = registers_fit h (op ∷ back) numbers f in
@@ -135,7 +136,7 @@ row_fits h back op numbers before f =
       discriminator = before.discriminator;
     }
 
-end_row_fits : (h : HeaderNumbers) (back : List Op) → AreHeaderNumbers h → LeaveFitting h back → FitsRow (end_row_of h back)
+end_row_fits : (h : NumberParts) (back : List Op) → AreHeaderNumbers h → LeaveFitting h back → FitsRow (end_row_of h back)
 end_row_fits h back numbers before =
     let all = registers_fit h back numbers before in
     record {
@@ -148,14 +149,14 @@ end_row_fits h back numbers before =
       discriminator = all.discriminator;
     }
 
-made_fits : (h : HeaderNumbers) (back : List Op) (op : Op) (later : List Row) → AreHeaderNumbers h → LeaveFitting h back
+made_fits : (h : NumberParts) (back : List Op) (op : Op) (later : List Row) → AreHeaderNumbers h → LeaveFitting h back
     → LeaveFitting h (op ∷ back) → FitRows later → FitRows (cons_option (row_made h back op) later)
 made_fits h back Copy later numbers before f rest = (row_fits h back Copy numbers before f, rest)
 made_fits h back (Special c) later numbers before f rest = (row_fits h back (Special c) numbers before f, rest)
 made_fits h back EndSequence later numbers before f rest = (end_row_fits h back numbers before, rest)
 made_fits h back op later numbers before f rest = rest
 
-rows_fit : (h : HeaderNumbers) (back ops : List Op) (x : List ℕ) → AreHeaderNumbers h → LeaveFitting h back → Each (OpBytes h) ops x
+rows_fit : (h : NumberParts) (back ops : List Op) (x : List ℕ) → AreHeaderNumbers h → LeaveFitting h back → Each (OpBytes h) ops x
     → LinesAfter h back ops → FitRows (rows_after h back ops)
 rows_fit h back [] x numbers f spelled lines = tt
 rows_fit h back (op ∷ ops) x numbers f spelled lines =
@@ -166,10 +167,10 @@ rows_fit h back (op ∷ ops) x numbers f spelled lines =
 -- ---- sequences
 
 -- No sequence ends before the place of the first one, so that its operations and the later ones make all of them.
-fit_from_first : (unit : UnitParts) (program : List ℕ) (place : ℕ) → HasHeaderNumbers unit.header → IsPlaceOf unit program 0 place
+fit_from_first : (unit : UnitParts) (program : List ℕ) (place : ℕ) → AreHeaderNumbers unit.header.numbers → IsPlaceOf unit program 0 place
     → AllByRecursion FitsSequence (sequences unit)
 fit_from_first unit program place numbers is =
-    let h = numbers_of unit.header in
+    let h = unit.header.numbers in
     let at = is.place_is in
     let later = rows_fit h (reverse is.earlier) is.later at.place_is.rest numbers (fitting_start h (reverse is.earlier) at.start)
     at.place_is.later_spelled at.lines in
@@ -186,7 +187,7 @@ fit_from_first unit program place numbers is =
 
 -- the header that is kept has numbers that can be read
 abbrev pub HasNumbers : KeptProgram → Type 0
-HasNumbers kept = HasHeaderNumbers kept.header
+HasNumbers kept = AreHeaderNumbers kept.header.numbers
 
 -- The rows in sequences of a unit whose program is kept fit.
 pub kept_fits : (kept : KeptProgram) (unit : UnitParts) → HasNumbers kept → KeepsProgram kept unit
@@ -197,5 +198,6 @@ kept_fits kept unit numbers keeps = by_first (sequences unit) refl
     by_first [] are = tt
     by_first (first ∷ others) are =
         subst (AllByRecursion FitsSequence) are
-        (fit_from_first unit kept.program (slice_index_or kept.places 0 0) (subst HasHeaderNumbers keeps.header_is numbers)
+        (fit_from_first unit kept.program (slice_index_or kept.places 0 0) (subst (λ (h : HeaderParts). AreHeaderNumbers h.numbers)
+        keeps.header_is numbers)
         (keeps.places 0 0 (omega (arith, keeps.count, ap length are))))

@@ -3,7 +3,6 @@ use Rattle.std.proofs.Common.{◌≡◌, ℕ, ◌+◌, ◌^◌, ◌<◌, ◌≤�
 use Rattle.std.specs.Prelude.{Option, Some}
 use Rattle.std.specs.List.{cons_option}
 use Rattle.std.proofs.lemmas.List.{append-nil, take_all}
-use Rattle.lnt_header.specs.HeaderNumbers.{numbers_of}
 use Rattle.lnt_header.specs.declared.unit_parts.UnitParts.{UnitParts}
 use Rattle.lnt_header.specs.declared.op.Op.{Op}
 use Rattle.lnt_header.specs.declared.op.OpView.{OpView}
@@ -23,8 +22,8 @@ use Rattle.lnt_machine.specs.Stepping.{HasRan}
 
 -- the first k operations of the unit were run, and their rows are those of these sequences, and these
 pub record MadeSoFar (unit : UnitParts) (k : ℕ) (run : RunState) (ended : List Sequence) (left : List Row) : Type 0 where
-  pub ran : HasRan (numbers_of unit.header) (take k unit.ops) run
-  pub cut : IsCut (rows_of_ops (numbers_of unit.header) (take k unit.ops)) ended left
+  pub ran : HasRan unit.header.numbers (take k unit.ops) run
+  pub cut : IsCut (rows_of_ops unit.header.numbers (take k unit.ops)) ended left
 
 module _ {unit : UnitParts} {items : List Op} {k : ℕ} {old : RunState} {ended : List Sequence} {left : List Row} (view : OpView) (op : Op)
     (m : MadeSoFar unit k old ended left) (same : items ≡ unit.ops) (more : k < length items) (is : op ≡ get_or items k op)
@@ -41,7 +40,7 @@ module _ {unit : UnitParts} {items : List Op} {k : ℕ} {old : RunState} {ended 
   made_next {new} {made} {ended'} {left'} on few cuts = record {
     ran = ran_taken unit k view op m.ran more_in op_in stands on few;
     cut = subst (λ (rows : List Row). IsCut rows ended' left') (rows_taken unit k view op m.ran more_in op_in stands on)
-        (cuts (rows_of_ops (numbers_of unit.header) (take k unit.ops)) m.cut);
+        (cuts (rows_of_ops unit.header.numbers (take k unit.ops)) m.cut);
   }
 
   -- an operation without a row
@@ -64,5 +63,5 @@ module _ {unit : UnitParts} {items : List Op} {k : ℕ} {old : RunState} {ended 
 pub made_sequences : (unit : UnitParts) (k : ℕ) (run : RunState) (ended : List Sequence) (left : List Row)
     → MadeSoFar unit k run ended left → length unit.ops ≤ k → ended ≡ sequences unit
 made_sequences unit k run ended left m all =
-    sym (cut_is (rows_of_ops (numbers_of unit.header) unit.ops) left ended
-    (subst (λ (ops : List Op). IsCut (rows_of_ops (numbers_of unit.header) ops) ended left) (take_all k unit.ops all) m.cut))
+    sym (cut_is (rows_of_ops unit.header.numbers unit.ops) left ended
+    (subst (λ (ops : List Op). IsCut (rows_of_ops unit.header.numbers ops) ended left) (take_all k unit.ops all) m.cut))

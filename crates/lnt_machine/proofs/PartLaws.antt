@@ -4,7 +4,7 @@ use Rattle.std.specs.Prelude.{reverse, cond}
 use Rattle.std.specs.List.{cons_option}
 use Rattle.std.proofs.lemmas.Bool.{true≢false}
 use Rattle.std.proofs.lemmas.List.{append-nil, reverse-append, reverse-reverse}
-use Rattle.lnt_header.specs.HeaderNumbers.{HeaderNumbers}
+use Rattle.lnt_header.specs.declared.numbers.NumberParts.{NumberParts}
 use Rattle.lnt_header.specs.declared.op.Op.{Op}
 use Rattle.lnt_header.specs.declared.op.Op.TheVariants.{Special, Copy, EndSequence, SetAddress, FixedAdvancePc}
 use Rattle.lnt_machine.specs.declared.row.Row.{Row}
@@ -24,17 +24,17 @@ stands_at_start machine (EndSequence ∷ back) start stands = record { registers
 stands_at_start machine (op ∷ back) start stands = absurd start
 
 -- both lists lead to the same registers
-pub record LeadAlike (h : HeaderNumbers) (one other : List Op) : Type 0 where
+pub record LeadAlike (h : NumberParts) (one other : List Op) : Type 0 where
   pub part_is : part one ≡ part other
   pub base_is : base h one ≡ base h other
   pub advances_is : advances h one ≡ advances h other
 
-start_alike : (h : HeaderNumbers) (back : List Op) → AtStart back → LeadAlike h back []
+start_alike : (h : NumberParts) (back : List Op) → AtStart back → LeadAlike h back []
 start_alike h [] start = record { part_is = refl; base_is = refl; advances_is = refl }
 start_alike h (EndSequence ∷ back) start = record { part_is = refl; base_is = refl; advances_is = refl }
 start_alike h (op ∷ back) start = absurd start
 
-alike_more : (h : HeaderNumbers) (one other : List Op) (op : Op) → LeadAlike h one other → LeadAlike h (op ∷ one) (op ∷ other)
+alike_more : (h : NumberParts) (one other : List Op) (op : Op) → LeadAlike h one other → LeadAlike h (op ∷ one) (op ∷ other)
 alike_more h one other EndSequence a = record { part_is = refl; base_is = refl; advances_is = refl }
 alike_more h one other (SetAddress n) a = record {
   part_is = ap (λ (list : List Op). SetAddress n ∷ list) a.part_is;
@@ -54,24 +54,24 @@ alike_more h one other op a =
       advances_is = ap (λ (n : ℕ). advance_of h op + n) a.advances_is;
     }
 
-alike_row : (h : HeaderNumbers) (one other : List Op) (op : Op) → LeadAlike h one other → row_made h one op ≡ row_made h other op
+alike_row : (h : NumberParts) (one other : List Op) (op : Op) → LeadAlike h one other → row_made h one op ≡ row_made h other op
 alike_row h one other Copy a = rw (a.part_is, a.base_is, a.advances_is) refl
 alike_row h one other (Special c) a = rw (a.part_is, a.base_is, a.advances_is) refl
 alike_row h one other EndSequence a = rw (a.part_is, a.base_is, a.advances_is) refl
 alike_row h one other op a = refl
 
-alike_rows : (h : HeaderNumbers) (one other ops : List Op) → LeadAlike h one other → rows_after h one ops ≡ rows_after h other ops
+alike_rows : (h : NumberParts) (one other ops : List Op) → LeadAlike h one other → rows_after h one ops ≡ rows_after h other ops
 alike_rows h one other [] a = refl
 alike_rows h one other (op ∷ ops) a =
     rw (alike_row h one other op a, alike_rows h (op ∷ one) (op ∷ other) ops (alike_more h one other op a)) refl
 
 -- the rows after whole sequences are those of a program of its own
-pub rows_at_start : (h : HeaderNumbers) (back ops : List Op) → AtStart back → rows_after h back ops ≡ rows_of_ops h ops
+pub rows_at_start : (h : NumberParts) (back ops : List Op) → AtStart back → rows_after h back ops ≡ rows_of_ops h ops
 rows_at_start h back ops start = alike_rows h back [] ops (start_alike h back start)
 
 -- ---- rows of two lists of operations
 
-pub rows_after-joined : (h : HeaderNumbers) (back prefix rest : List Op)
+pub rows_after-joined : (h : NumberParts) (back prefix rest : List Op)
     → rows_after h back (prefix ++ rest) ≡ rows_after h back prefix ++ rows_after h (reverse prefix ++ back) rest
 rows_after-joined h back [] rest = refl
 rows_after-joined h back (op ∷ prefix) rest =
@@ -79,7 +79,7 @@ rows_after-joined h back (op ∷ prefix) rest =
     ∙ cons_option-append (row_made h back op) (rows_after h (op ∷ back) prefix) (rows_after h (reverse prefix ++ op ∷ back) rest)
     ∙ ap (λ (list : List Op). rows_after h back (op ∷ prefix) ++ rows_after h list rest) (sym (reverse-cons op prefix back))
 
-pub rows_of_parts : (h : HeaderNumbers) (prefix rest : List Op) → AreWhole prefix
+pub rows_of_parts : (h : NumberParts) (prefix rest : List Op) → AreWhole prefix
     → rows_of_ops h (prefix ++ rest) ≡ rows_of_ops h prefix ++ rows_of_ops h rest
 rows_of_parts h prefix rest whole =
     rows_after-joined h [] prefix rest
@@ -150,7 +150,7 @@ sequences_of-joined_rows (row ∷ next ∷ rows) rest closed =
     by_end false = onto_joined row (sequences_of (next ∷ rows)) (sequences_of rest) some
 
 -- the rows of whole sequences are closed
-pub whole_closed : (h : HeaderNumbers) (ops : List Op) → AreWhole ops → AreClosed (rows_of_ops h ops)
+pub whole_closed : (h : NumberParts) (ops : List Op) → AreWhole ops → AreClosed (rows_of_ops h ops)
 whole_closed h ops whole = subst (λ (list : List Op). AreClosed (rows_of_ops h list)) (reverse-reverse ops) (by_back (reverse ops) whole)
   where
     by_back : (back : List Op) → AtStart back → AreClosed (rows_of_ops h (reverse back))
@@ -160,7 +160,7 @@ whole_closed h ops whole = subst (λ (list : List Op). AreClosed (rows_of_ops h 
         (subst AreClosed (sym (rows_after-append h [] (reverse back) EndSequence)) (closed_after (rows_of_ops h (reverse back)) _ refl))
     by_back (op ∷ back) start = absurd start
 
-pub sequences_of_parts : (h : HeaderNumbers) (prefix rest : List Op) → AreWhole prefix
+pub sequences_of_parts : (h : NumberParts) (prefix rest : List Op) → AreWhole prefix
     → sequences_of (rows_of_ops h (prefix ++ rest)) ≡ sequences_of (rows_of_ops h prefix) ++ sequences_of (rows_of_ops h rest)
 sequences_of_parts h prefix rest whole =
     ap sequences_of (rows_of_parts h prefix rest whole)

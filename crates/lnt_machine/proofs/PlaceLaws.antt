@@ -6,7 +6,7 @@ use Rattle.std.proofs.lemmas.Bool.{cases_lt, true≢false}
 use Rattle.std.proofs.lemmas.Option.{same_Some}
 use Rattle.std.proofs.lemmas.List.{get_or_append_left, length-append, reverse-append}
 use Rattle.std.proofs.Math.Seq.{get_or-append_seam}
-use Rattle.lnt_header.specs.HeaderNumbers.{HeaderNumbers, numbers_of}
+use Rattle.lnt_header.specs.declared.numbers.NumberParts.{NumberParts}
 use Rattle.lnt_header.specs.declared.header.HeaderParts.{HeaderParts}
 use Rattle.lnt_wire.specs.At.{At}
 use Rattle.lnt_header.specs.declared.op.Op.{Op}
@@ -44,9 +44,9 @@ index_after (one ∷ prefix) rest d k e few = rw e (by_rest rest (omega (arith, 
 -- the sequence with this index has the rows from its place on, up to the first end row
 pub sequence_at : (unit : UnitParts) (program : List ℕ) (index place : ℕ) (d : Sequence) (is : IsPlaceOf unit program index place)
     → index < length (sequences unit)
-    → (slice_index_or (sequences unit) index d).rows ≡ first_sequence (rows_after (numbers_of unit.header) (reverse is.earlier) is.later)
+    → (slice_index_or (sequences unit) index d).rows ≡ first_sequence (rows_after unit.header.numbers (reverse is.earlier) is.later)
 sequence_at unit program index place d is few =
-    let h = numbers_of unit.header in
+    let h = unit.header.numbers in
     let before = sequences_of (rows_of_ops h is.earlier) in
     let past = sequences_of (rows_of_ops h is.later) in
     let all : sequences unit ≡ before ++ past = ap (λ (ops : List Op). sequences_of (rows_of_ops h ops)) is.ops_are
@@ -58,26 +58,26 @@ sequence_at unit program index place d is few =
     ∙ ap first_sequence (sym (rows_at_start h (reverse is.earlier) is.later is.place_is.start))
 
 -- the rows of the sequence with an index, where a walk gives those from its place on
-pub kept_sequence : (kept : KeptProgram) (numbers : HeaderNumbers) (unit : UnitParts) (index place : ℕ) (d : Sequence)
-    (walk : SequenceWalk) → numbers ≡ numbers_of kept.header → KeepsProgram kept unit
+pub kept_sequence : (kept : KeptProgram) (numbers : NumberParts) (unit : UnitParts) (index place : ℕ) (d : Sequence)
+    (walk : SequenceWalk) → numbers ≡ kept.header.numbers → KeepsProgram kept unit
     → index < length kept.places → slice_index_or kept.places index 0 ≡ place
     → ((earlier later : List Op) → IsSequencePlace numbers kept.program earlier later place
     → WillGive (first_sequence (rows_after numbers (reverse earlier) later)) walk)
     → WillGive (slice_index_or (sequences unit) index d).rows walk
 kept_sequence kept numbers unit index place d walk same keeps few at gives =
     let is : IsPlaceOf unit kept.program index place = subst (IsPlaceOf unit kept.program index) at (keeps.places index 0 few) in
-    let told : numbers ≡ numbers_of unit.header = same ∙ ap numbers_of keeps.header_is in
+    let told : numbers ≡ unit.header.numbers = same ∙ ap (λ (h : HeaderParts). h.numbers) keeps.header_is in
     let place_is : IsSequencePlace numbers kept.program is.earlier is.later place = subst
-    (λ (h : HeaderNumbers). IsSequencePlace h kept.program is.earlier is.later place) (sym told) is.place_is in
+    (λ (h : NumberParts). IsSequencePlace h kept.program is.earlier is.later place) (sym told) is.place_is in
     let rows_are : first_sequence (rows_after numbers (reverse is.earlier) is.later) ≡ (slice_index_or (sequences unit) index d).rows =
-    ap (λ (h : HeaderNumbers). first_sequence (rows_after h (reverse is.earlier) is.later)) told
+    ap (λ (h : NumberParts). first_sequence (rows_after h (reverse is.earlier) is.later)) told
     ∙ sym (sequence_at unit kept.program index place d is (omega (arith, keeps.count, few))) in
     subst (λ (rows : List Row). WillGive rows walk) rows_are (gives is.earlier is.later place_is)
 
 -- ---- places that were found on the way
 
 -- every line is in range, after what was done
-pub lines_after : (h : HeaderNumbers) (earlier later : List Op)
+pub lines_after : (h : NumberParts) (earlier later : List Op)
     → LinesFit h (earlier ++ later) (length (earlier ++ later)) → LinesAfter h (reverse earlier) later
 lines_after h earlier [] fit = tt
 lines_after h earlier (op ∷ later) fit =
@@ -89,27 +89,27 @@ lines_after h earlier (op ∷ later) fit =
     fit) in
     (here, subst (λ (back : List Op). LinesAfter h back later) (reverse-append earlier (op ∷ [])) more)
 
-pub place_of_prefix : (unit : UnitParts) (program : List ℕ) (index place : ℕ) → AreHeaderNumbers (numbers_of unit.header)
-    → Each (OpBytes (numbers_of unit.header)) unit.ops program → LinesFit (numbers_of unit.header) unit.ops (length unit.ops)
-    → IsProgramPrefix (numbers_of unit.header) program index place → IsPlaceOf unit program index place
+pub place_of_prefix : (unit : UnitParts) (program : List ℕ) (index place : ℕ) → AreHeaderNumbers unit.header.numbers
+    → Each (OpBytes unit.header.numbers) unit.ops program → LinesFit unit.header.numbers unit.ops (length unit.ops)
+    → IsProgramPrefix unit.header.numbers program index place → IsPlaceOf unit program index place
 place_of_prefix unit program index place valid all fit is =
-    let found = place_found (numbers_of unit.header) is.earlier unit.ops is.prefix is.rest program valid is.spelled all is.split in
+    let found = place_found unit.header.numbers is.earlier unit.ops is.prefix is.rest program valid is.spelled all is.split in
     record {
       earlier = is.earlier;
       later = found.0;
       ops_are = found.1;
       place_is = record {
-        place_is = subst (IsPlace (numbers_of unit.header) program is.earlier found.0) (sym is.place_is) found.2;
+        place_is = subst (IsPlace unit.header.numbers program is.earlier found.0) (sym is.place_is) found.2;
         start = is.start;
-        lines = lines_after (numbers_of unit.header) is.earlier found.0
-            (subst (λ (ops : List Op). LinesFit (numbers_of unit.header) ops (length ops)) found.1 fit);
+        lines = lines_after unit.header.numbers is.earlier found.0
+            (subst (λ (ops : List Op). LinesFit unit.header.numbers ops (length ops)) found.1 fit);
       };
       index_is = is.index_is;
     }
 
 -- ---- places, as they are found
 
-pub places_none : (h : HeaderNumbers) (program : List ℕ) → HasPlaces h program 0 [] 0
+pub places_none : (h : NumberParts) (program : List ℕ) → HasPlaces h program 0 [] 0
 places_none h program = record {
   count_is = refl;
   each = λ k d few. absurd (omega arith);
@@ -117,7 +117,7 @@ places_none h program = record {
 }
 
 -- the sequence at hand has ended
-pub places_more : (h : HeaderNumbers) (program : List ℕ) (count : ℕ) (places : List ℕ) (place next : ℕ)
+pub places_more : (h : NumberParts) (program : List ℕ) (count : ℕ) (places : List ℕ) (place next : ℕ)
     → HasPlaces h program count places place → IsProgramPrefix h program (count + 1) next
     → HasPlaces h program (count + 1) (places ++ place ∷ []) next
 places_more h program count places place next has prefix = record {
@@ -135,7 +135,7 @@ places_more h program count places place next has prefix = record {
 }
 
 -- whole sequences were read, up to here
-pub prefix_of : (h : HeaderNumbers) (start : ℕ) (program : List ℕ) (ops : List Op) (at : At) (count place : ℕ)
+pub prefix_of : (h : NumberParts) (start : ℕ) (program : List ℕ) (ops : List Op) (at : At) (count place : ℕ)
     → OpsSoFar h start program ops at → AtStart (reverse ops)
     → count ≡ length (sequences_of (rows_of_ops h ops)) → place ≡ length program - length at.rest → IsProgramPrefix h program count place
 prefix_of h start program ops at count place so begins count_is place_is = record {
@@ -150,7 +150,7 @@ prefix_of h start program ops at count place so begins count_is place_is = recor
 }
 
 -- an operation that makes an end row is an EndSequence
-pub ends_at_start : (h : HeaderNumbers) (back : List Op) (op : Op) (row : Row) → row_made h back op ≡ Some row → row.end_sequence ≡ true
+pub ends_at_start : (h : NumberParts) (back : List Op) (op : Op) (row : Row) → row_made h back op ≡ Some row → row.end_sequence ≡ true
     → AtStart (op ∷ back)
 ends_at_start h back EndSequence row made ends = tt
 ends_at_start h back Copy row made ends = absurd (true≢false (sym ends ∙ ap (λ (r : Row). r.end_sequence) (sym (same_Some _ row made))))
@@ -162,9 +162,10 @@ ends_at_start h back op row made ends = absurd (none_is made)
     none_is e = cc
 
 -- the program was read to its end, and runs
-pub places_kept : (unit : UnitParts) (header : HeaderParts) (program : List ℕ) (places : List ℕ) (place : ℕ) → AreHeaderNumbers (numbers_of unit.header)
-    → header ≡ unit.header → Each (OpBytes (numbers_of unit.header)) unit.ops program
-    → LinesFit (numbers_of unit.header) unit.ops (length unit.ops) → HasPlaces (numbers_of unit.header) program (length (sequences unit)) places place
+pub places_kept : (unit : UnitParts) (header : HeaderParts) (program : List ℕ) (places : List ℕ) (place : ℕ)
+    → AreHeaderNumbers unit.header.numbers
+    → header ≡ unit.header → Each (OpBytes unit.header.numbers) unit.ops program
+    → LinesFit unit.header.numbers unit.ops (length unit.ops) → HasPlaces unit.header.numbers program (length (sequences unit)) places place
     → KeepsProgram (record { header = header; program = program; places = places }) unit
 places_kept unit header program places place valid same all fit has = record {
   header_is = same;

@@ -8,7 +8,7 @@ use Rattle.std.proofs.lemmas.List.{append-nil, drop_more, length-append, length-
 use Rattle.std.proofs.lemmas.List.{take-append-drop, take-append-le}
 use Rattle.lnt_wire.specs.declared.fault.Fault.{Fault}
 use Rattle.lnt_header.specs.declared.unit_parts.UnitParts.{UnitParts}
-use Rattle.lnt_header.specs.HeaderNumbers.{HeaderNumbers, numbers_of}
+use Rattle.lnt_header.specs.declared.numbers.NumberParts.{NumberParts}
 use Rattle.lnt_header.specs.declared.op.Op.{Op}
 use Rattle.lnt_header.specs.declared.op.OpView.{OpView}
 use Rattle.lnt_header.specs.OpRules.{Admits, StandsFor}
@@ -41,7 +41,7 @@ fails_op {old = old} {new = new} is step = subst (λ (r : Result OpView Fault). 
 pub may_step : (item : OpView) (machine : MachineState) (old new : Walk) → machine.header ≡ old.header → GivesOperation item old new
     → (op : Op) × StandsFor item op × Admits machine.header op
 may_step item machine old new same step =
-    (step.gives.op, step.gives.stands, subst (λ (h : HeaderNumbers). Admits h step.gives.op) (sym same) step.gives.admitted)
+    (step.gives.op, step.gives.stands, subst (λ (h : NumberParts). Admits h step.gives.op) (sym same) step.gives.admitted)
 
 -- ---- the first operations of more
 
@@ -55,11 +55,11 @@ done_next ops op more =
     ∙ done_longer (ops ++ op ∷ []) more (length ops + 1) (omega (arith, size))
     ∙ ap reverse (take_all (length ops + 1) (ops ++ op ∷ []) (omega (arith, size))) ∙ reverse-append ops (op ∷ [])
 
-lines_longer : (h : HeaderNumbers) (ops more : List Op) → LinesFit h ops (length ops)
+lines_longer : (h : NumberParts) (ops more : List Op) → LinesFit h ops (length ops)
     → LinesFit h (ops ++ more) (length ops)
 lines_longer h ops more fit j le = subst (λ (back : List Op). IsLine (line h back)) (sym (done_longer ops more j le)) (fit j le)
 
-lines_next : (h : HeaderNumbers) (ops : List Op) (op : Op) → LinesFit h ops (length ops)
+lines_next : (h : NumberParts) (ops : List Op) (op : Op) → LinesFit h ops (length ops)
     → IsLine (line h (op ∷ reverse ops)) → LinesFit h (ops ++ op ∷ []) (length (ops ++ op ∷ []))
 lines_next h ops op fit here =
     let longer = ops ++ op ∷ [] in
@@ -69,12 +69,12 @@ lines_next h ops op fit here =
 
 -- ---- operations that were run
 
-pub ran_first : {h : HeaderNumbers} {run : RunState} → run.machine.header ≡ h → HasDone run [] → run.machine.count ≡ 0 → HasRan h [] run
+pub ran_first : {h : NumberParts} {run : RunState} → run.machine.header ≡ h → HasDone run [] → run.machine.count ≡ 0 → HasRan h [] run
 ran_first {h} {run} header has count = record {
   header_is = header;
   stands = has.machine;
   count = count;
-  lines = no_lines (subst (λ (g : HeaderNumbers). IsLine (line g [])) header has.machine.line);
+  lines = no_lines (subst (λ (g : NumberParts). IsLine (line g [])) header has.machine.line);
   ended = [];
   left = [];
   cut = cut_none;
@@ -121,14 +121,14 @@ no_row None rows none = refl
 no_row (Some row) rows none = absurd (none row refl)
 
 -- an operation more
-module _ {h : HeaderNumbers} {ops : List Op} {run run' : RunState} {item : OpView} {made : Option Row} (op : Op) (ran : HasRan h ops run)
+module _ {h : NumberParts} {ops : List Op} {run run' : RunState} {item : OpView} {made : Option Row} (op : Op) (ran : HasRan h ops run)
     (stands : StandsFor item op) (on : RunsOn item run run' made) where
   pub ran_rows : rows_of_ops h ops ++ cons_option made [] ≡ rows_of_ops h (ops ++ op ∷ [])
   ran_rows =
       let back = reverse ops in
       let so_far = rows_of_ops h ops in
       ap (λ (m : Option Row). so_far ++ cons_option m [])
-      (on.machine.row_is back op ran.stands stands ∙ ap (λ (g : HeaderNumbers). row_made g back op) ran.header_is)
+      (on.machine.row_is back op ran.stands stands ∙ ap (λ (g : NumberParts). row_made g back op) ran.header_is)
       ∙ ap (λ (b : List Op). so_far ++ cons_option (row_made h b op) []) (sym (append-nil back))
       ∙ sym (rows_after-append h [] ops op)
 
@@ -141,7 +141,7 @@ module _ {h : HeaderNumbers} {ops : List Op} {run run' : RunState} {item : OpVie
         header_is = header;
         stands = subst (StandsAfter run'.machine) (sym (reverse-append ops (op ∷ []))) after;
         count = omega (arith, on.machine.count, ran.count, few, length-append ops (op ∷ []));
-        lines = lines_next h ops op ran.lines (subst (λ (g : HeaderNumbers). IsLine (line g (op ∷ reverse ops))) header after.line);
+        lines = lines_next h ops op ran.lines (subst (λ (g : NumberParts). IsLine (line g (op ∷ reverse ops))) header after.line);
         ended = cut.ended;
         left = cut.left;
         cut = subst (λ (rows : List Row). IsCut rows cut.ended cut.left) ran_rows cut.cut;
@@ -149,18 +149,18 @@ module _ {h : HeaderNumbers} {ops : List Op} {run run' : RunState} {item : OpVie
       }
 
 -- the next operation leads out of the range of lines
-pub ran_out : {h : HeaderNumbers} {ops : List Op} {run : RunState} (item : OpView) (op : Op) (more : List Op) → HasRan h ops run
+pub ran_out : {h : NumberParts} {ops : List Op} {run : RunState} (item : OpView) (op : Op) (more : List Op) → HasRan h ops run
     → StandsFor item op → LeavesRange item run.machine
     → IsRunFaultBy h (ops ++ op ∷ more) (LineOutOfRange run.machine.count)
 ran_out {h} {ops} {run} item op more ran stands leaves =
     let out : IsLine (line h (done (ops ++ op ∷ more) (length ops + 1))) → ⊥ =
     λ fits. leaves (reverse ops) op ran.stands stands
-    (subst (λ (g : HeaderNumbers). IsLine (line g (op ∷ reverse ops))) (sym ran.header_is)
+    (subst (λ (g : NumberParts). IsLine (line g (op ∷ reverse ops))) (sym ran.header_is)
     (subst (λ (back : List Op). IsLine (line h back)) (done_next ops op more) fits)) in
     subst (λ (k : ℕ). IsRunFaultBy h (ops ++ op ∷ more) (LineOutOfRange k)) (sym ran.count)
     (omega (arith, length-append ops (op ∷ more)), lines_longer h ops (op ∷ more) ran.lines, out)
 
-pub ran_whole : {h : HeaderNumbers} {ops : List Op} {run : RunState} → HasRan h ops run → run.is_open ≡ false
+pub ran_whole : {h : NumberParts} {ops : List Op} {run : RunState} → HasRan h ops run → run.is_open ≡ false
     → RunsBy h ops
 ran_whole {h} {ops} {run} ran closed = record { lines = ran.lines; closed = by_left ran.left ran.open_is ran.cut }
   where
@@ -169,7 +169,7 @@ ran_whole {h} {ops} {run} ran closed = record { lines = ran.lines; closed = by_l
     by_left [] e cut = cut_closed (rows_of_ops h ops) ran.ended cut
     by_left (row ∷ left) e cut = absurd (true≢false (sym e ∙ closed))
 
-pub ran_open : {h : HeaderNumbers} {ops : List Op} {run : RunState} → HasRan h ops run → run.is_open ≡ true
+pub ran_open : {h : NumberParts} {ops : List Op} {run : RunState} → HasRan h ops run → run.is_open ≡ true
     → IsRunFaultBy h ops OpenSequence
 ran_open {h} {ops} {run} ran opens = (ran.lines, by_left ran.left ran.open_is ran.cut)
   where
@@ -180,19 +180,19 @@ ran_open {h} {ops} {run} ran opens = (ran.lines, by_left ran.left ran.open_is ra
 
 -- ---- the first k operations of a unit, and the next one
 
-module _ (unit : UnitParts) (k : ℕ) (item : OpView) (op : Op) {run : RunState} (ran : HasRan (numbers_of unit.header) (take k unit.ops) run)
+module _ (unit : UnitParts) (k : ℕ) (item : OpView) (op : Op) {run : RunState} (ran : HasRan unit.header.numbers (take k unit.ops) run)
     (more : k < length unit.ops) (is : op ≡ get_or unit.ops k op) (stands : StandsFor item op) where
   taken : take k unit.ops ++ op ∷ [] ≡ take (k + 1) unit.ops
   taken = ap (λ (o : Op). take k unit.ops ++ o ∷ []) is ∙ sym (take_more unit.ops k op more)
 
   pub rows_taken : {run' : RunState} {made : Option Row} → RunsOn item run run' made
-      → rows_of_ops (numbers_of unit.header) (take k unit.ops) ++ cons_option made [] ≡ rows_of_ops (numbers_of unit.header) (take (k + 1) unit.ops)
-  rows_taken on = ran_rows op ran stands on ∙ ap (rows_of_ops (numbers_of unit.header)) taken
+      → rows_of_ops unit.header.numbers (take k unit.ops) ++ cons_option made [] ≡ rows_of_ops unit.header.numbers (take (k + 1) unit.ops)
+  rows_taken on = ran_rows op ran stands on ∙ ap (rows_of_ops unit.header.numbers) taken
 
   pub ran_taken : {run' : RunState} {made : Option Row} → RunsOn item run run' made → k + 1 < 2 ^ 64
-      → HasRan (numbers_of unit.header) (take (k + 1) unit.ops) run'
+      → HasRan unit.header.numbers (take (k + 1) unit.ops) run'
   ran_taken {run'} on few =
-      subst (λ (ops : List Op). HasRan (numbers_of unit.header) ops run') taken
+      subst (λ (ops : List Op). HasRan unit.header.numbers ops run') taken
       (ran_next op ran stands on (omega (arith, few, length-take-le k unit.ops (omega (arith, more)))))
 
   pub out_taken : LeavesRange item run.machine → IsRunFault unit (LineOutOfRange run.machine.count)
@@ -200,10 +200,10 @@ module _ (unit : UnitParts) (k : ℕ) (item : OpView) (op : Op) {run : RunState}
       let whole : take k unit.ops ++ op ∷ drop (k + 1) unit.ops ≡ unit.ops =
       ap (λ (o : Op). take k unit.ops ++ o ∷ drop (k + 1) unit.ops) is
       ∙ ap (λ (list : List Op). take k unit.ops ++ list) (sym (drop_more unit.ops k op more)) ∙ take-append-drop k unit.ops in
-      subst (λ (ops : List Op). IsRunFaultBy (numbers_of unit.header) ops (LineOutOfRange run.machine.count)) whole
+      subst (λ (ops : List Op). IsRunFaultBy unit.header.numbers ops (LineOutOfRange run.machine.count)) whole
       (ran_out item op (drop (k + 1) unit.ops) ran stands leaves)
 
 -- all of them were run
-pub ran_all : (unit : UnitParts) (k : ℕ) {run : RunState} → HasRan (numbers_of unit.header) (take k unit.ops) run → length unit.ops ≤ k
-    → HasRan (numbers_of unit.header) unit.ops run
-ran_all unit k {run} ran all = subst (λ (ops : List Op). HasRan (numbers_of unit.header) ops run) (take_all k unit.ops all) ran
+pub ran_all : (unit : UnitParts) (k : ℕ) {run : RunState} → HasRan unit.header.numbers (take k unit.ops) run → length unit.ops ≤ k
+    → HasRan unit.header.numbers unit.ops run
+ran_all unit k {run} ran all = subst (λ (ops : List Op). HasRan unit.header.numbers ops run) (take_all k unit.ops all) ran

@@ -1,7 +1,7 @@
 -- A program that is run, and an operation more.
 use Rattle.std.proofs.Common.{◌≡◌, Bool, List, ◌∷◌, refl, ap, subst, ◌∙◌}
 use Rattle.std.specs.Prelude.{Option, Some, None}
-use Rattle.lnt_header.specs.HeaderNumbers.{HeaderNumbers}
+use Rattle.lnt_header.specs.declared.numbers.NumberParts.{NumberParts}
 use Rattle.lnt_header.specs.declared.op.Op.{Op}
 use Rattle.lnt_header.specs.declared.op.Op.TheVariants.{Special, Copy, EndSequence}
 use Rattle.lnt_header.specs.declared.op.OpView.{OpView}
@@ -12,7 +12,7 @@ use Rattle.lnt_machine.specs.State.{MachineState}
 use Rattle.lnt_machine.specs.Steps.{Steps}
 
 -- the row of one more operation tells whether rows are left open with it
-open_more : (h : HeaderNumbers) (back : List Op) (op : Op) → open_with (leaves_open back) (row_made h back op) ≡ leaves_open (op ∷ back)
+open_more : (h : NumberParts) (back : List Op) (op : Op) → open_with (leaves_open back) (row_made h back op) ≡ leaves_open (op ∷ back)
 open_more h back Copy = refl
 open_more h back (Special c) = refl
 open_more h back EndSequence = refl

@@ -4,14 +4,13 @@ use Rattle.std.specs.Prelude.{ℤ, pos, negsuc, unsigned_abs, Option}
 use Rattle.std.proofs.Math.Nat.{mod-lt}
 use Rattle.std.proofs.Math.Pow.{pow_pos}
 use Rattle.std.proofs.lemmas.Int.{ints}
-use Rattle.lnt_header.specs.HeaderNumbers.{HeaderNumbers, numbers_of}
-use Rattle.lnt_header.specs.declared.header.HeaderParts.{HeaderParts}
+use Rattle.lnt_header.specs.declared.numbers.NumberParts.{NumberParts}
 use Rattle.lnt_header.specs.declared.op.Op.{Op}
 use Rattle.lnt_header.specs.declared.op.Op.TheVariants.{Special, AdvancePc, AdvanceLine, ConstAddPc, FixedAdvancePc}
 use Rattle.lnt_header.specs.declared.op.Op.TheVariants.{EndSequence, SetAddress}
 use Rattle.lnt_header.specs.declared.op.OpView.{OpView}
 use Rattle.lnt_header.specs.declared.op.OpView.TheVariants as views
-use Rattle.lnt_header.specs.HeaderRules.{IsHeader}
+use Rattle.lnt_header.specs.HeaderRules.{AreHeaderNumbers}
 use Rattle.lnt_header.specs.OpRules.{op_of, StandsFor, Admits}
 use Rattle.lnt_ops.proofs.ViewLaws.{is_op_of, operands_of}
 use Rattle.lnt_machine.specs.declared.row.Row.{Row}
@@ -25,25 +24,25 @@ use Rattle.lnt_machine.proofs.ChangeLemmas.{changed_after, line_from, line_into,
 -- ---- views
 
 -- two operations do the same after `back`
-record DoTheSame (h : HeaderNumbers) (back : List Op) (one other : Op) : Type 0 where
+record DoTheSame (h : NumberParts) (back : List Op) (one other : Op) : Type 0 where
   registers : registers_after h (one ∷ back) ≡ registers_after h (other ∷ back)
   line : line h (one ∷ back) ≡ line h (other ∷ back)
   row : row_made h back one ≡ row_made h back other
 
-itself : (h : HeaderNumbers) (back : List Op) (op : Op) → DoTheSame h back op op
+itself : (h : NumberParts) (back : List Op) (op : Op) → DoTheSame h back op op
 itself h back op = record { registers = refl; line = refl; row = refl }
 
 -- the operands of an unknown standard operation make no difference
-operands_change_nothing : (h : HeaderNumbers) (back : List Op) (view : OpView) (operands : List ℕ)
+operands_change_nothing : (h : NumberParts) (back : List Op) (view : OpView) (operands : List ℕ)
     → DoTheSame h back (plain view) (op_of view operands)
 operands_change_nothing h back (views.UnknownStandard k spelled) operands = record { registers = refl; line = refl; row = refl }
 operands_change_nothing h back view operands = itself h back (plain view)
 
-does_the_same : (h : HeaderNumbers) (back : List Op) (view : OpView) (op : Op) → StandsFor view op → DoTheSame h back (plain view) op
+does_the_same : (h : NumberParts) (back : List Op) (view : OpView) (op : Op) → StandsFor view op → DoTheSame h back (plain view) op
 does_the_same h back view op s =
     subst (DoTheSame h back (plain view)) (sym (is_op_of view op s)) (operands_change_nothing h back view (operands_of op))
 
-pub allowed : (h : HeaderNumbers) (view : OpView) (op : Op) → StandsFor view op → Admits h op → IsAllowed h (plain view)
+pub allowed : (h : NumberParts) (view : OpView) (op : Op) → StandsFor view op → Admits h op → IsAllowed h (plain view)
 allowed h (views.Special c) (Special d) s a = subst (λ x. IsAllowed h (Special x)) (sym s) a
 allowed h (views.Special c) op s a = absurd s
 allowed h (views.SetAddress m) (SetAddress n) s a = subst (λ x. IsAllowed h (SetAddress x)) (sym s) a
@@ -57,10 +56,10 @@ line_bounded (pos n) fits = omega (arith, ints, fits.1)
 line_bounded (negsuc n) fits = absurd (omega (arith, ints, fits.0))
 
 -- a number cut to the bytes of addresses
-cut : (h : HeaderNumbers) (n : ℕ) → n % 2 ^ (8 * h.address_size) < 2 ^ (8 * h.address_size)
+cut : (h : NumberParts) (n : ℕ) → n % 2 ^ (8 * h.address_size) < 2 ^ (8 * h.address_size)
 cut h n = mod-lt n (pow_pos (8 * h.address_size))
 
-bounded_changed : (h : HeaderNumbers) (r : Row) (op : Op) → IsBounded h r → IsAllowed h op → IsLine (line_reached h r op)
+bounded_changed : (h : NumberParts) (r : Row) (op : Op) → IsBounded h r → IsAllowed h op → IsLine (line_reached h r op)
     → IsBounded h (changed h r op)
 bounded_changed h r (Special c) b a fits = record { address = cut h _; op_index = mod-lt _ (omega arith); line = line_bounded _ fits }
 bounded_changed h r (AdvancePc n) b a fits = record { address = cut h _; op_index = mod-lt _ (omega arith); line = b.line }
@@ -75,16 +74,16 @@ bounded_changed h r (AdvanceLine z) b a fits = record { address = b.address; op_
 bounded_changed h r EndSequence b a fits = record { address = pow_pos (8 * h.address_size); op_index = omega arith; line = omega arith }
 bounded_changed h r op b a fits = record { address = b.address; op_index = b.op_index; line = b.line }
 
-pub bounded_initial : (h : HeaderParts) → IsHeader h → IsBounded (numbers_of h) (initial_registers (numbers_of h))
-bounded_initial h valid = record { address = pow_pos (8 * h.address_size); op_index = valid.numbers.max_ops; line = omega arith }
+pub bounded_initial : (h : NumberParts) → AreHeaderNumbers h → IsBounded h (initial_registers h)
+bounded_initial h valid = record { address = pow_pos (8 * h.address_size); op_index = valid.max_ops; line = omega arith }
 
 -- ---- steps
 
 -- the state of a machine
-abbrev state : HeaderNumbers → Row → ℕ → MachineState
+abbrev state : NumberParts → Row → ℕ → MachineState
 state h registers count = record { header = h; registers = registers; count = count }
 
-pub step_bounded : (machine : MachineState) (h : HeaderNumbers) (view : OpView) (old new : Row) (row : Option Row) (m : ℕ)
+pub step_bounded : (machine : MachineState) (h : NumberParts) (view : OpView) (old new : Row) (row : Option Row) (m : ℕ)
     → state h old m ≡ machine
     → (o : Op) × StandsFor view o × Admits machine.header o → IsBounded h old → Changes h (plain view) old new row → IsBounded h new
 step_bounded machine h view old new row m e (o, w, admits) b c =
@@ -92,7 +91,7 @@ step_bounded machine h view old new row m e (o, w, admits) b c =
     subst (IsBounded h) (sym c.new_is) (bounded_changed h old (plain view) b a c.line)
 
 -- it stands after the operation too
-stands_more : (h : HeaderNumbers) (view : OpView) (old new : Row) (row : Option Row) (m n : ℕ) (back : List Op) (op : Op)
+stands_more : (h : NumberParts) (view : OpView) (old new : Row) (row : Option Row) (m n : ℕ) (back : List Op) (op : Op)
     → IsBounded h old → IsAllowed h (plain view) → Changes h (plain view) old new row → StandsAfter (state h old m) back → StandsFor view op
     → StandsAfter (state h new n) (op ∷ back)
 stands_more h view old new row m n back op b a c s v =
@@ -107,14 +106,14 @@ stands_more h view old new row m n back op b a c s v =
     }
 
 -- the row is that of the operation
-row_more : (h : HeaderNumbers) (view : OpView) (old new : Row) (row : Option Row) (m : ℕ) (back : List Op) (op : Op)
+row_more : (h : NumberParts) (view : OpView) (old new : Row) (row : Option Row) (m : ℕ) (back : List Op) (op : Op)
     → IsBounded h old → Changes h (plain view) old new row → StandsAfter (state h old m) back → StandsFor view op → row ≡ row_made h back op
 row_more h view old new row m back op b c s v =
     let some : 0 < h.max_ops = omega arith in
     c.row_is ∙ ap (λ (r : Row). made h r (plain view)) s.registers ∙ made_after h back (plain view) some s.line
     ∙ (does_the_same h back view op v).row
 
-pub steps : (machine : MachineState) (h : HeaderNumbers) (view : OpView) (old new : Row) (row : Option Row) (m n : ℕ)
+pub steps : (machine : MachineState) (h : NumberParts) (view : OpView) (old new : Row) (row : Option Row) (m n : ℕ)
     → state h old m ≡ machine
     → (o : Op) × StandsFor view o × Admits machine.header o → IsBounded h old → Changes h (plain view) old new row
     → n ≡ min (m + 1) (2 ^ 64 - 1)
@@ -129,18 +128,18 @@ steps machine h view old new row m n e (o, w, admits) b c count =
     })
 
 -- the line would be out of range
-refused : (h : HeaderNumbers) (view : OpView) (old : Row) (m : ℕ) (back : List Op) (op : Op) → (IsLine (line_reached h old (plain view)) → ⊥)
+refused : (h : NumberParts) (view : OpView) (old : Row) (m : ℕ) (back : List Op) (op : Op) → (IsLine (line_reached h old (plain view)) → ⊥)
     → StandsAfter (state h old m) back → StandsFor view op → IsLine (line h (op ∷ back)) → ⊥
 refused h view old m back op out s v fits =
     let same = does_the_same h back view op v in
     out (subst (λ (r : Row). IsLine (line_reached h r (plain view))) (sym s.registers)
     (line_from h back (plain view) s.line (subst IsLine (sym same.line) fits)))
 
-pub step_refused : (machine : MachineState) (h : HeaderNumbers) (view : OpView) (old : Row) (m : ℕ) → state h old m ≡ machine
+pub step_refused : (machine : MachineState) (h : NumberParts) (view : OpView) (old : Row) (m : ℕ) → state h old m ≡ machine
     → (IsLine (line_reached h old (plain view)) → ⊥) → LeavesRange view machine
 step_refused machine h view old m e out = subst (LeavesRange view) e (λ back op s v fits. refused h view old m back op out s v fits)
 
-pub step_in_range : (machine : MachineState) (h : HeaderNumbers) (view : OpView) (old : Row) (m : ℕ) → state h old m ≡ machine
+pub step_in_range : (machine : MachineState) (h : NumberParts) (view : OpView) (old : Row) (m : ℕ) → state h old m ≡ machine
     → (IsLine (line_reached h old (plain view)) → ⊥)
     → (back : List Op) (op : Op) → StandsAfter machine back → StandsFor view op → IsLine (line machine.header (op ∷ back)) → false ≡ true
 step_in_range machine h view old m e out back op s v fits = absurd (step_refused machine h view old m e out back op s v fits)

@@ -4,7 +4,7 @@ use Rattle.std.specs.Prelude.{reverse, cond, Option, Some, None, drop}
 use Rattle.std.specs.List.{cons_option}
 use Rattle.std.proofs.lemmas.Bool.{true≢false}
 use Rattle.lnt_wire.specs.declared.fault.Fault.{Fault}
-use Rattle.lnt_header.specs.HeaderNumbers.{HeaderNumbers}
+use Rattle.lnt_header.specs.declared.numbers.NumberParts.{NumberParts}
 use Rattle.lnt_header.specs.declared.op.Op.{Op}
 use Rattle.lnt_header.specs.declared.op.OpView.{OpView}
 use Rattle.lnt_header.specs.HeaderRules.{AreHeaderNumbers}
@@ -23,20 +23,20 @@ use Rattle.lnt_machine.specs.Stepping.{GivesNext}
 use Rattle.lnt_machine.specs.Walking.WillGive.{none, some}
 
 -- the rows from the next operation on
-record IsDone (h : HeaderNumbers) (rows : List Row) (made : Option Row) (machine : MachineState) (walk : Walk) : Type 0 where
+record IsDone (h : NumberParts) (rows : List Row) (made : Option Row) (machine : MachineState) (walk : Walk) : Type 0 where
   others : List Row
   rows_are : rows ≡ cons_option made others
   has : HasRows h others machine walk
 
 -- the walk gives an operation
-module _ {h : HeaderNumbers} {rows : List Row} {view : OpView} {old new : Walk} {machine : MachineState} (has : HasRows h rows machine old)
+module _ {h : NumberParts} {rows : List Row} {view : OpView} {old new : Walk} {machine : MachineState} (has : HasRows h rows machine old)
     (step : GivesOperation view old new) where
   next_done : {machine' : MachineState} {made : Option Row} → Steps view machine machine' made → IsDone h rows made machine' new
   next_done {machine'} {made} steps =
       let next = left_next h has.later view old new has.valid has.left step in
       let lines : LinesAfter h has.back (next.op ∷ next.others) = subst (LinesAfter h has.back) next.later_is has.lines in
       let made_is : made ≡ row_made h has.back next.op =
-      steps.row_is has.back next.op has.stands next.stands ∙ ap (λ (g : HeaderNumbers). row_made g has.back next.op) has.header_is in
+      steps.row_is has.back next.op has.stands next.stands ∙ ap (λ (g : NumberParts). row_made g has.back next.op) has.header_is in
       record {
         others = rows_after h (next.op ∷ has.back) next.others;
         rows_are = has.rows_are ∙ ap (rows_after h has.back) next.later_is
@@ -74,17 +74,17 @@ module _ {h : HeaderNumbers} {rows : List Row} {view : OpView} {old new : Walk} 
       let next = left_next h has.later view old new has.valid has.left step in
       let lines : LinesAfter h has.back (next.op ∷ next.others) = subst (LinesAfter h has.back) next.later_is has.lines in
       leaves has.back next.op has.stands next.stands
-      (subst (λ (g : HeaderNumbers). IsLine (line g (next.op ∷ has.back))) (sym has.header_is) lines.0)
+      (subst (λ (g : NumberParts). IsLine (line g (next.op ∷ has.back))) (sym has.header_is) lines.0)
 
 -- no operation is left
-pub next_ends : {h : HeaderNumbers} {rows : List Row} {old new : Walk} {machine : MachineState} → HasRows h rows machine old → Ends old new
+pub next_ends : {h : NumberParts} {rows : List Row} {old new : Walk} {machine : MachineState} → HasRows h rows machine old → Ends old new
     → GivesNext h rows None machine new
 next_ends {h} {rows} {old} {new} {machine} has ends =
     let empty : rows ≡ [] = has.rows_are ∙ ap (rows_after h has.back) (left_ends h has.later old new has.left ends) in
     subst (λ (list : List Row). GivesNext h list None machine new) (sym empty) tt
 
 -- no operation is refused
-pub next_fails : {h : HeaderNumbers} {rows : List Row} {fault : Fault} {old new : Walk} {machine : MachineState} → HasRows h rows machine old
+pub next_fails : {h : NumberParts} {rows : List Row} {fault : Fault} {old new : Walk} {machine : MachineState} → HasRows h rows machine old
     → Fails fault old new → ⊥
 next_fails {h} {rows} {fault} {old} {new} has fails = left_fails h has.later fault old new has.left fails
 
@@ -95,7 +95,7 @@ abbrev pub ended_by : Option Row → Bool
 ended_by None = true
 ended_by (Some row) = row.end_sequence
 
-gives_by : (h : HeaderNumbers) (all rows : List Row) (result : Option Row) (new : SequenceWalk) → GivesNext h all result new.machine new.walk
+gives_by : (h : NumberParts) (all rows : List Row) (result : Option Row) (new : SequenceWalk) → GivesNext h all result new.machine new.walk
     → new.ended ≡ ended_by result
     → rows ≡ first_sequence all → GivesFirstRow rows result new
 gives_by h [] rows None new gives ended are = subst (λ (list : List Row). GivesFirstRow list None new) (sym are) (none ended refl)
@@ -110,14 +110,14 @@ gives_by h (row ∷ all) rows (Some made) new gives ended are =
     by_end false e = some h all e gives.1 refl
 
 pub gives_some : (old new : SequenceWalk) (result : Option Row) → old.ended ≡ false
-    → ((h : HeaderNumbers) (rows : List Row) → HasRows h rows old.machine old.walk → GivesNext h rows result new.machine new.walk)
+    → ((h : NumberParts) (rows : List Row) → HasRows h rows old.machine old.walk → GivesNext h rows result new.machine new.walk)
     → new.ended ≡ ended_by result → GivesRow old result new
 gives_some old new result going gives ended rows (none e empty) = absurd (true≢false (sym e ∙ going))
 gives_some old new result going gives ended rows (some h all e has are) = gives_by h all rows result new (gives h all has) ended are
 
 -- a short operation without a row
 pub short_quiet : (old new : SequenceWalk) → old.ended ≡ false → new.ended ≡ false
-    → ((h : HeaderNumbers) (rows : List Row) → HasRows h rows old.machine old.walk → HasRows h rows new.machine new.walk) → (rows : List Row)
+    → ((h : NumberParts) (rows : List Row) → HasRows h rows old.machine old.walk → HasRows h rows new.machine new.walk) → (rows : List Row)
     → WillGive rows old → WillGive rows new
 short_quiet old new going on same rows (none e empty) = absurd (true≢false (sym e ∙ going))
 short_quiet old new going on same rows (some h all e has are) = some h all on (same h all has) are
@@ -128,7 +128,7 @@ pub short_out : (old : SequenceWalk) (view : OpView) (new : Walk) → old.ended 
 short_out old view new going step leaves rows (none e empty) = absurd (true≢false (sym e ∙ going))
 short_out old view new going step leaves rows (some h all e has are) = next_out has step leaves
 
-pub has_begun : (h : HeaderNumbers) (program : List ℕ) (earlier later : List Op) (place : ℕ) (machine : MachineState) (walk : Walk)
+pub has_begun : (h : NumberParts) (program : List ℕ) (earlier later : List Op) (place : ℕ) (machine : MachineState) (walk : Walk)
     → AreHeaderNumbers h
     → IsSequencePlace h program earlier later place
     → machine.header ≡ h → StandsAfter machine [] → walk.header ≡ h → walk.failed ≡ false → walk.at.rest ≡ drop place program
@@ -145,7 +145,7 @@ has_begun h program earlier later place machine walk valid is header stands same
 }
 
 -- the rows of a sequence that begins
-pub will_give : (h : HeaderNumbers) (program : List ℕ) (earlier later : List Op) (place : ℕ) (walk : SequenceWalk) → AreHeaderNumbers h
+pub will_give : (h : NumberParts) (program : List ℕ) (earlier later : List Op) (place : ℕ) (walk : SequenceWalk) → AreHeaderNumbers h
     → IsSequencePlace h program earlier later place
     → walk.machine.header ≡ h → StandsAfter walk.machine [] → walk.walk.header ≡ h → walk.walk.failed ≡ false
     → walk.walk.at.rest ≡ drop place program → walk.ended ≡ false

@@ -4,7 +4,6 @@ use Rattle.std.proofs.lemmas.Int.{ints}
 use Rattle.std.specs.Prelude.{pos, negsuc, map, length}
 use Rattle.lnt_wire.specs.declared.format.Order.TheVariants.{Little}
 use Rattle.lnt_wire.specs.declared.format.Format.TheVariants.{D32}
-use Rattle.lnt_header.specs.HeaderNumbers.{numbers_of}
 use Rattle.lnt_header.specs.declared.unit_parts.UnitParts.{UnitParts}
 use Rattle.lnt_header.specs.declared.op.Op.{Op}
 use Rattle.lnt_header.specs.declared.op.Op.TheVariants.{Special, Copy, AdvancePc, AdvanceLine, SetFile, NegateStmt}
@@ -22,15 +21,17 @@ abbrev unit_of : ℕ → ℕ → ℕ → List ℕ → List Op → UnitParts
 unit_of minimum max_ops opcode_base lengths ops = record {
   header = record {
     format = D32;
-    order = Little;
-    address_size = 8;
-    minimum_instruction_length = minimum;
-    max_ops = max_ops;
-    default_is_stmt = 1;
-    line_base = negsuc 4;
-    line_range = 14;
-    opcode_base = opcode_base;
-    standard_lengths = lengths;
+    numbers = record {
+      order = Little;
+      address_size = 8;
+      minimum_instruction_length = minimum;
+      max_ops = max_ops;
+      default_is_stmt = 1;
+      line_base = negsuc 4;
+      line_range = 14;
+      opcode_base = opcode_base;
+      standard_lengths = lengths;
+    };
     directory_format = [];
     directories = [];
     file_format = [];
@@ -119,7 +120,7 @@ line_below_zero_fault : IsRunFault line_below_zero (LineOutOfRange 1)
 line_below_zero_fault =
     let first : IsLine (pos 1) = (omega (arith, ints), omega (arith, ints)) in (
       lit< tt,
-      up_to_one (λ j. IsLine (line (numbers_of line_below_zero.header) (done line_below_zero.ops j))) first first,
+      up_to_one (λ j. IsLine (line line_below_zero.header.numbers (done line_below_zero.ops j))) first first,
       λ fits. omega (arith, ints, fits.0),
     )
 

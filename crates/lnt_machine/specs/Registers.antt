@@ -4,7 +4,7 @@
 use Rattle.std.specs.Prelude.{ℕ, ◌+◌, ◌-◌, ◌*◌, ◌/◌, ◌%◌, ◌^◌, ◌==◌, Bool, true, false, not, cond, List, [], ◌∷◌}
 use Rattle.std.specs.Prelude.{Option, Some, None, unwrap_or, ℤ, pos, ◌+ℤ◌, ◌≤ℤ◌, ◌<ℤ◌, unsigned_abs}
 use Rattle.std.specs.List.{list_any}
-use Rattle.lnt_header.specs.HeaderNumbers.{HeaderNumbers}
+use Rattle.lnt_header.specs.declared.numbers.NumberParts.{NumberParts}
 use Rattle.lnt_header.specs.declared.op.Op.{Op}
 use Rattle.lnt_header.specs.declared.op.Op.TheVariants.{Special, Copy, AdvancePc, AdvanceLine, SetFile, SetColumn}
 use Rattle.lnt_header.specs.declared.op.Op.TheVariants.{NegateStmt, SetBasicBlock, ConstAddPc, FixedAdvancePc}
@@ -44,18 +44,18 @@ after_row back = since is_copy_or_special (part back)
 -- ---- the place
 
 -- the operation advance of a special opcode
-abbrev pub advance_of_special : HeaderNumbers → ℕ → ℕ
+abbrev pub advance_of_special : NumberParts → ℕ → ℕ
 advance_of_special h c = (c - h.opcode_base) / h.line_range
 
 -- the operation advance of an operation
-abbrev pub advance_of : HeaderNumbers → Op → ℕ
+abbrev pub advance_of : NumberParts → Op → ℕ
 advance_of h (AdvancePc n) = n
 advance_of h (Special c) = advance_of_special h c
 advance_of h ConstAddPc = advance_of_special h 255
 advance_of h _ = 0
 
 -- the sum of the advances after the last SetAddress or FixedAdvancePc of the current sequence, or in all of it
-abbrev pub advances : HeaderNumbers → List Op → ℕ
+abbrev pub advances : NumberParts → List Op → ℕ
 advances h [] = 0
 advances h (EndSequence ∷ back) = 0
 advances h (SetAddress a ∷ back) = 0
@@ -63,38 +63,38 @@ advances h (FixedAdvancePc n ∷ back) = 0
 advances h (op ∷ back) = advance_of h op + advances h back
 
 -- the address after an operation advance of n from operation 0 of the instruction at `from` (DWARF 5, section 6.2.5.1)
-abbrev pub moved : HeaderNumbers → ℕ → ℕ → ℕ
+abbrev pub moved : NumberParts → ℕ → ℕ → ℕ
 moved h from n = (from + h.minimum_instruction_length * (n / h.max_ops)) % 2 ^ (8 * h.address_size)
 
 -- What the advances count from: the operand of the last SetAddress; or that of the last FixedAdvancePc, added to
 -- the address before it; or 0, the address at the start of a sequence.
-abbrev pub base : HeaderNumbers → List Op → ℕ
+abbrev pub base : NumberParts → List Op → ℕ
 base h [] = 0
 base h (EndSequence ∷ back) = 0
 base h (SetAddress a ∷ back) = a
 base h (FixedAdvancePc n ∷ back) = moved h (base h back) (advances h back) + n
 base h (op ∷ back) = base h back
 
-abbrev pub address : HeaderNumbers → List Op → ℕ
+abbrev pub address : NumberParts → List Op → ℕ
 address h back = moved h (base h back) (advances h back)
 
-abbrev pub op_index : HeaderNumbers → List Op → ℕ
+abbrev pub op_index : NumberParts → List Op → ℕ
 op_index h back = advances h back % h.max_ops
 
 -- ---- the line
 
 -- by how much an operation advances the line
-abbrev pub line_increment : HeaderNumbers → Op → ℤ
+abbrev pub line_increment : NumberParts → Op → ℤ
 line_increment h (AdvanceLine z) = z
 line_increment h (Special c) = h.line_base +ℤ pos ((c - h.opcode_base) % h.line_range)
 line_increment h _ = pos 0
 
 -- the sum of the increments
-abbrev pub line_sum : HeaderNumbers → List Op → ℤ
+abbrev pub line_sum : NumberParts → List Op → ℤ
 line_sum h [] = pos 0
 line_sum h (op ∷ back) = line_increment h op +ℤ line_sum h back
 
-abbrev pub line : HeaderNumbers → List Op → ℤ
+abbrev pub line : NumberParts → List Op → ℤ
 line h back = pos 1 +ℤ line_sum h (part back)
 
 -- the lines that a program may reach
@@ -139,7 +139,7 @@ inverted b [] = b
 inverted b (NegateStmt ∷ back) = not (inverted b back)
 inverted b (op ∷ back) = inverted b back
 
-abbrev pub is_stmt : HeaderNumbers → List Op → Bool
+abbrev pub is_stmt : NumberParts → List Op → Bool
 is_stmt h back = inverted (not (h.default_is_stmt == 0)) (part back)
 
 abbrev pub is_set_basic_block : Op → Bool
@@ -166,7 +166,7 @@ epilogue_begin back = list_any is_set_epilogue_begin (after_row back)
 -- ---- all of them
 
 -- The registers between two operations. The line is the absolute value of `line`, which is the same if that isn't below 0.
-abbrev pub registers_after : HeaderNumbers → List Op → Row
+abbrev pub registers_after : NumberParts → List Op → Row
 registers_after h back = record {
   address = address h back;
   op_index = op_index h back;

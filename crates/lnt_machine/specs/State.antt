@@ -1,13 +1,13 @@
 -- What contracts see of a machine, and the lists of operations that it stands after.
 use Rattle.std.specs.Prelude.{◌≡◌, ℕ, ◌*◌, ◌^◌, ◌<◌, List}
-use Rattle.lnt_header.specs.HeaderNumbers.{HeaderNumbers}
+use Rattle.lnt_header.specs.declared.numbers.NumberParts.{NumberParts}
 use Rattle.lnt_header.specs.declared.op.Op.{Op}
 use Rattle.lnt_machine.specs.declared.row.Row.{Row}
 use Rattle.lnt_machine.specs.Registers.{IsLine, line, registers_after}
 
 -- the header with which operations are read, the registers, and the number of operations done
 pub record MachineState : Type 0 where
-  pub header : HeaderNumbers
+  pub header : NumberParts
   pub registers : Row
   pub count : ℕ
 
@@ -18,7 +18,7 @@ pub record StandsAfter (machine : MachineState) (back : List Op) : Type 0 where
   pub line : IsLine (line machine.header back)
 
 -- the bounds of the registers of every machine
-pub record IsBounded (h : HeaderNumbers) (registers : Row) : Type 0 where
+pub record IsBounded (h : NumberParts) (registers : Row) : Type 0 where
   pub address : registers.address < 2 ^ (8 * h.address_size)
   pub op_index : registers.op_index < h.max_ops
   pub line : registers.line < 2 ^ 32

@@ -1,6 +1,6 @@
 -- What bodies say of one step, of a program that is run, and of places. No public contract speaks of it.
 use Rattle.std.specs.Prelude.{◌≡◌, ℕ, ◌<◌, List, [], ◌∷◌, ◌++◌, length, reverse, slice_index_or, Option, Some, None}
-use Rattle.lnt_header.specs.HeaderNumbers.{HeaderNumbers}
+use Rattle.lnt_header.specs.declared.numbers.NumberParts.{NumberParts}
 use Rattle.lnt_header.specs.declared.op.Op.{Op}
 use Rattle.lnt_header.specs.Joins.{Each}
 use Rattle.lnt_ops.specs.OpBytes.{OpBytes}
@@ -15,19 +15,19 @@ use Rattle.lnt_machine.specs.State.{MachineState, StandsAfter}
 use Rattle.lnt_machine.specs.Walking.{HasRows}
 
 -- The first of the rows was appended, and the others are to come; or there is none.
-abbrev pub GivesNext : HeaderNumbers → List Row → Option Row → MachineState → Walk → Type 0
+abbrev pub GivesNext : NumberParts → List Row → Option Row → MachineState → Walk → Type 0
 GivesNext h [] None machine walk = Unit {0}
 GivesNext h (row ∷ rows) (Some made) machine walk = (made ≡ row) × HasRows h rows machine walk
 GivesNext h _ _ machine walk = ⊥
 
 -- The first of the rows was appended, and the others are to come; or none was appended yet.
-abbrev pub ComesNext : HeaderNumbers → List Row → Option Row → MachineState → Walk → Type 0
+abbrev pub ComesNext : NumberParts → List Row → Option Row → MachineState → Walk → Type 0
 ComesNext h rows None machine walk = HasRows h rows machine walk
 ComesNext h rows (Some made) machine walk = GivesNext h rows (Some made) machine walk
 
 -- These operations were run, the oldest first, with no line out of range. Their rows are those of sequences, and those after the last
 -- end row.
-pub record HasRan (h : HeaderNumbers) (ops : List Op) (run : RunState) : Type 0 where
+pub record HasRan (h : NumberParts) (ops : List Op) (run : RunState) : Type 0 where
   pub header_is : run.machine.header ≡ h
   pub stands : StandsAfter run.machine (reverse ops)
   pub count : run.machine.count ≡ length ops
@@ -38,7 +38,7 @@ pub record HasRan (h : HeaderNumbers) (ops : List Op) (run : RunState) : Type 0 
   pub open_is : run.is_open ≡ are_some left
 
 -- A prefix of the program, of this many whole sequences, ends at this place.
-pub record IsProgramPrefix (h : HeaderNumbers) (program : List ℕ) (index place : ℕ) : Type 0 where
+pub record IsProgramPrefix (h : NumberParts) (program : List ℕ) (index place : ℕ) : Type 0 where
   pub earlier : List Op
   pub prefix : List ℕ
   pub rest : List ℕ
@@ -49,7 +49,7 @@ pub record IsProgramPrefix (h : HeaderNumbers) (program : List ℕ) (index place
   pub index_is : index ≡ length (sequences_of (rows_of_ops h earlier))
 
 -- This many sequences have ended; their places are known, and that where the next one begins.
-pub record HasPlaces (h : HeaderNumbers) (program : List ℕ) (count : ℕ) (places : List ℕ) (place : ℕ) : Type 0 where
+pub record HasPlaces (h : NumberParts) (program : List ℕ) (count : ℕ) (places : List ℕ) (place : ℕ) : Type 0 where
   pub count_is : length places ≡ count
   pub each : (k d : ℕ) → k < length places → IsProgramPrefix h program k (slice_index_or places k d)
   pub next : IsProgramPrefix h program count place

@@ -1,6 +1,6 @@
 -- Rows that a machine makes from the remaining operations of a walk, and the rows of one sequence.
 use Rattle.std.specs.Prelude.{◌≡◌, ℕ, ◌<◌, Bool, true, false, List, [], ◌∷◌, ◌++◌, length, reverse, slice_index_or, Option, Some, None}
-use Rattle.lnt_header.specs.HeaderNumbers.{HeaderNumbers, numbers_of}
+use Rattle.lnt_header.specs.declared.numbers.NumberParts.{NumberParts}
 use Rattle.lnt_header.specs.declared.header.HeaderParts.{HeaderParts}
 use Rattle.lnt_header.specs.declared.op.Op.{Op}
 use Rattle.lnt_header.specs.HeaderRules.{AreHeaderNumbers}
@@ -14,12 +14,12 @@ use Rattle.lnt_machine.specs.Registers.{IsLine, line}
 use Rattle.lnt_machine.specs.State.{StandsAfter, MachineState}
 
 -- the line is in range after each of the operations that come after `back`
-abbrev pub LinesAfter : HeaderNumbers → List Op → List Op → Type 0
+abbrev pub LinesAfter : NumberParts → List Op → List Op → Type 0
 LinesAfter h back [] = Unit {0}
 LinesAfter h back (op ∷ ops) = IsLine (line h (op ∷ back)) × LinesAfter h (op ∷ back) ops
 
 -- A machine and a walk stand between operations of a program, and these rows are still to come.
-pub record HasRows (h : HeaderNumbers) (rows : List Row) (machine : MachineState) (walk : Walk) : Type 0 where
+pub record HasRows (h : NumberParts) (rows : List Row) (machine : MachineState) (walk : Walk) : Type 0 where
   pub back : List Op
   pub later : List Op
   pub valid : AreHeaderNumbers h
@@ -40,7 +40,7 @@ pub record SequenceWalk : Type 0 where
 -- These rows are still to come: those up to and including the next end row.
 pub data WillGive (rows : List Row) (walk : SequenceWalk) : Type 0 where
   none : walk.ended ≡ true → rows ≡ [] → WillGive rows walk
-  some : (h : HeaderNumbers) (all : List Row) → walk.ended ≡ false → HasRows h all walk.machine walk.walk → rows ≡ first_sequence all
+  some : (h : NumberParts) (all : List Row) → walk.ended ≡ false → HasRows h all walk.machine walk.walk → rows ≡ first_sequence all
       → WillGive rows walk
 
 abbrev pub GivesFirstRow : List Row → Option Row → SequenceWalk → Type 0
@@ -59,7 +59,7 @@ ComesShort old (Some None) new = (rows : List Row) → WillGive rows old → Wil
 ComesShort old None new = (rows : List Row) → WillGive rows old → WillGive rows new
 
 -- A sequence begins at this place of the program, after the earlier operations, and the lines of the later ones are in range.
-pub record IsSequencePlace (h : HeaderNumbers) (program : List ℕ) (earlier later : List Op) (place : ℕ) : Type 0 where
+pub record IsSequencePlace (h : NumberParts) (program : List ℕ) (earlier later : List Op) (place : ℕ) : Type 0 where
   pub place_is : IsPlace h program earlier later place
   pub start : AtStart (reverse earlier)
   pub lines : LinesAfter h (reverse earlier) later
@@ -71,8 +71,8 @@ pub record IsPlaceOf (unit : UnitParts) (program : List ℕ) (index place : ℕ)
   pub earlier : List Op
   pub later : List Op
   pub ops_are : unit.ops ≡ earlier ++ later
-  pub place_is : IsSequencePlace (numbers_of unit.header) program earlier later place
-  pub index_is : index ≡ length (sequences_of (rows_of_ops (numbers_of unit.header) earlier))
+  pub place_is : IsSequencePlace unit.header.numbers program earlier later place
+  pub index_is : index ≡ length (sequences_of (rows_of_ops unit.header.numbers earlier))
 
 -- a header, the bytes of a program, and places in it
 pub record KeptProgram : Type 0 where

@@ -3,14 +3,13 @@ ghost use Rattle.std.specs.Prelude.{◌≡◌, List, [], ◌∷◌, IfOk, IsOk, 
 ghost use Rattle.lnt_machine.specs.Registers.{IsLine, line};
 ghost use Rattle.lnt_machine.specs.State.{StandsAfter};
 ghost use Rattle.lnt_machine.specs.Steps.{LeavesRange, Steps};
-ghost use Rattle.lnt_header.specs.HeaderNumbers.{numbers_of};
 ghost use Rattle.lnt_header.specs.OpRules.{StandsFor, Admits};
 ghost use Rattle.lnt_header.specs.declared.op.Op.{Op};
 
 use crate::fault::RunFault;
 use crate::registers::{change, initial, reciprocal_of};
 use crate::row::Row;
-use lnt_header::{Header, OpView};
+use lnt_header::{Header, HeaderNumbers, OpView};
 use std::marker::Model;
 
 /// The registers of a line number program between two of its operations, and the number of operations done.
@@ -21,7 +20,7 @@ use std::marker::Model;
 /// reached it.
 #[derive(Drop)]
 pub struct Machine<'a> {
-    header: &'a Header,
+    numbers: &'a HeaderNumbers,
     registers: Row,
     // 2^16 divided by `line_range`, rounded down, plus 1 (`reciprocal_of`)
     reciprocal: u32,
@@ -30,28 +29,37 @@ pub struct Machine<'a> {
 
 impl<'a> Model for Machine<'a> {
     ghost use Rattle.std.specs.Prelude.{◌≡◌, ◌+◌, ◌/◌};
-    ghost use Rattle.lnt_header.specs.HeaderNumbers.{numbers_of};
     ghost use Rattle.lnt_machine.specs.State.{MachineState, IsBounded};
 
     ghost Value = { MachineState };
 
-    ghost view = { λ m. record { header = numbers_of m.header.now; registers = m.registers; count = m.count } };
+    ghost view = { λ m. record { header = m.numbers.now; registers = m.registers; count = m.count } };
 
-    ghost invariant = { λ m. IsBounded (numbers_of m.header.now) m.registers × (m.reciprocal ≡ 65536 / m.header.now.line_range + 1) };
+    ghost invariant = { λ m. IsBounded m.numbers.now m.registers × (m.reciprocal ≡ 65536 / m.numbers.now.line_range + 1) };
 }
 
 impl<'a> Machine<'a> {
     /// A machine before the first operation of a program with this header: it stands after the empty list. Allocates
     /// nothing.
     pub fn new(header: &'a Header) -> Machine<'a>
-        ensures header { result.header ≡ numbers_of header.entry.now }
+        ensures header { result.header ≡ header.entry.now.numbers }
+        ensures stands { StandsAfter result [] }
+        ensures count { result.count ≡ 0 }
+    {
+        Machine::with_numbers(header.numbers())
+    }
+
+    /// A machine before the first operation of a program whose header has these numbers, as [`Machine::new`]. Allocates
+    /// nothing.
+    pub fn with_numbers(numbers: &'a HeaderNumbers) -> Machine<'a>
+        ensures header { result.header ≡ numbers.entry.now }
         ensures stands { StandsAfter result [] }
         ensures count { result.count ≡ 0 }
     {
         Machine {
-            header,
-            registers: initial(header),
-            reciprocal: reciprocal_of(header),
+            numbers,
+            registers: initial(numbers),
+            reciprocal: reciprocal_of(numbers),
             count: 0,
         }
     }
@@ -62,7 +70,7 @@ impl<'a> Machine<'a> {
         ensures { result ≡ self.now }
     {
         Machine {
-            header: self.header,
+            numbers: self.numbers,
             registers: self.registers,
             reciprocal: self.reciprocal,
             count: self.count,
@@ -88,12 +96,12 @@ impl<'a> Machine<'a> {
         ensures unchanged { OnErr result (self.new ≡ self.old) }
     {
         let Machine {
-            header,
+            numbers,
             registers,
             reciprocal,
             count,
         } = self;
-        let Ok(row) = change(registers, header, *reciprocal, view) else {
+        let Ok(row) = change(registers, numbers, *reciprocal, view) else {
             return Err(RunFault::LineOutOfRange(*count));
         };
         *count = count.saturating_add(1);

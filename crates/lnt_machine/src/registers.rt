@@ -4,12 +4,11 @@ ghost use Rattle.lnt_machine.specs.Changes.{advanced, Changes, initial_registers
 ghost use Rattle.lnt_machine.specs.Changes.{set_by, special_row, unmarked};
 ghost use Rattle.lnt_machine.specs.Registers.{IsLine};
 ghost use Rattle.lnt_machine.specs.State.{IsBounded};
-ghost use Rattle.lnt_header.specs.HeaderNumbers.{numbers_of};
 ghost use Rattle.lnt_header.specs.HeaderRules.{IsAddressSize};
 ghost use Rattle.lnt_header.specs.declared.op.Op.{Op};
 
 use crate::row::Row;
-use lnt_header::{Header, OpView};
+use lnt_header::{HeaderNumbers, OpView};
 
 // A line below 0, or of 2^32 or more.
 #[derive(Drop)]
@@ -18,9 +17,9 @@ pub(crate) struct OutOfRange;
 // The registers at the start of a sequence.
 #[inline(always)]
 #[tactic(auto, using(crate::proofs::StepLemmas::bounded_initial))]
-pub(crate) fn initial(header: &Header) -> Row
-    ensures value { result ≡ initial_registers (numbers_of header.now) }
-    ensures bounded { IsBounded (numbers_of header.now) result }
+pub(crate) fn initial(numbers: &HeaderNumbers) -> Row
+    ensures value { result ≡ initial_registers numbers.now }
+    ensures bounded { IsBounded numbers.now result }
 {
     Row {
         address: 0,
@@ -30,7 +29,7 @@ pub(crate) fn initial(header: &Header) -> Row
         column: 0,
         isa: 0,
         discriminator: 0,
-        is_stmt: header.default_is_stmt() != 0,
+        is_stmt: numbers.default_is_stmt() != 0,
         basic_block: false,
         end_sequence: false,
         prologue_end: false,
@@ -43,20 +42,20 @@ pub(crate) fn initial(header: &Header) -> Row
 #[inline(always)]
 pub(crate) fn change(
     registers: &mut Row,
-    header: &Header,
+    numbers: &HeaderNumbers,
     reciprocal: u32,
     view: &OpView<'_>,
 ) -> Result<Option<Row>, OutOfRange>
-    requires reciprocal { reciprocal ≡ 65536 / header.now.line_range + 1 }
-    requires allowed { IsAllowed (numbers_of header.now) (plain view.now) }
-    requires bounded { IsBounded (numbers_of header.now) registers.old }
-    ensures ok { IfOk result (λ row. Changes (numbers_of header.now) (plain view.now) registers.old registers.new row) }
-    ensures err { OnErr result (IsLine (line_reached (numbers_of header.now) registers.old (plain view.now)) → ⊥) }
+    requires reciprocal { reciprocal ≡ 65536 / numbers.now.line_range + 1 }
+    requires allowed { IsAllowed numbers.now (plain view.now) }
+    requires bounded { IsBounded numbers.now registers.old }
+    ensures ok { IfOk result (λ row. Changes numbers.now (plain view.now) registers.old registers.new row) }
+    ensures err { OnErr result (IsLine (line_reached numbers.now registers.old (plain view.now)) → ⊥) }
     ensures unchanged { OnErr result (registers.new ≡ registers.old) }
 {
     match *view {
         OpView::Special(opcode) => {
-            let row = special(registers, header, reciprocal, opcode)?;
+            let row = special(registers, numbers, reciprocal, opcode)?;
             Ok(Some(row))
         }
         OpView::Copy => Ok(Some(append(registers))),
@@ -65,7 +64,7 @@ pub(crate) fn change(
                 end_sequence: true,
                 ..*registers
             };
-            *registers = initial(header);
+            *registers = initial(numbers);
             Ok(Some(row))
         }
         OpView::AdvanceLine(by) => {
@@ -73,7 +72,7 @@ pub(crate) fn change(
             Ok(None)
         }
         _ => {
-            set(registers, header, view);
+            set(registers, numbers, view);
             Ok(None)
         }
     }
@@ -81,23 +80,27 @@ pub(crate) fn change(
 
 // Does an operation that appends no row and doesn't change the line. Does nothing for any other operation.
 #[inline(always)]
-fn set(registers: &mut Row, header: &Header, view: &OpView<'_>)
-    requires bounded { IsBounded (numbers_of header.now) registers.old }
-    ensures { registers.new ≡ set_by (numbers_of header.now) registers.old (plain view.now) }
+fn set(registers: &mut Row, numbers: &HeaderNumbers, view: &OpView<'_>)
+    requires bounded { IsBounded numbers.now registers.old }
+    ensures { registers.new ≡ set_by numbers.now registers.old (plain view.now) }
 {
     match *view {
-        OpView::AdvancePc(by) => advance(registers, header, by),
+        OpView::AdvancePc(by) => advance(registers, numbers, by),
         OpView::SetFile(file) => registers.file = file,
         OpView::SetColumn(column) => registers.column = column,
         OpView::NegateStmt => registers.is_stmt = !registers.is_stmt,
         OpView::SetBasicBlock => registers.basic_block = true,
         OpView::ConstAddPc => {
-            let adjusted = 255 - header.opcode_base();
-            advance(registers, header, u64::from(adjusted / header.line_range()))
+            let adjusted = 255 - numbers.opcode_base();
+            advance(
+                registers,
+                numbers,
+                u64::from(adjusted / numbers.line_range()),
+            )
         }
         OpView::FixedAdvancePc(by) => {
             let address = registers.address.wrapping_add(u64::from(by));
-            set_address(registers, within(header, address))
+            set_address(registers, within(numbers, address))
         }
         OpView::SetPrologueEnd => registers.prologue_end = true,
         OpView::SetEpilogueBegin => registers.epilogue_begin = true,
@@ -110,34 +113,34 @@ fn set(registers: &mut Row, header: &Header, view: &OpView<'_>)
 
 // 2^16 divided by `line_range`, rounded down, plus 1. `divided` multiplies by it, which is faster than a division.
 #[inline(always)]
-pub(crate) fn reciprocal_of(header: &Header) -> u32
-    ensures { result ≡ 65536 / header.now.line_range + 1 }
+pub(crate) fn reciprocal_of(numbers: &HeaderNumbers) -> u32
+    ensures { result ≡ 65536 / numbers.now.line_range + 1 }
 {
-    65536 / u32::from(header.line_range()) + 1
+    65536 / u32::from(numbers.line_range()) + 1
 }
 
 // Does a special opcode: advances address and line, and returns the row that it appends.
 #[inline(always)]
 fn special(
     registers: &mut Row,
-    header: &Header,
+    numbers: &HeaderNumbers,
     reciprocal: u32,
     opcode: u8,
 ) -> Result<Row, OutOfRange>
-    requires reciprocal { reciprocal ≡ 65536 / header.now.line_range + 1 }
-    requires allowed { header.now.opcode_base ≤ opcode }
-    requires bounded { IsBounded (numbers_of header.now) registers.old }
-    ensures line { OnOk result (IsLine (line_reached (numbers_of header.now) registers.old (Op.Special opcode))) }
-    ensures row { IfOk result (λ row. row ≡ special_row (numbers_of header.now) registers.old opcode) }
-    ensures after { OnOk result (registers.new ≡ unmarked (special_row (numbers_of header.now) registers.old opcode)) }
-    ensures err { OnErr result (IsLine (line_reached (numbers_of header.now) registers.old (Op.Special opcode)) → ⊥) }
+    requires reciprocal { reciprocal ≡ 65536 / numbers.now.line_range + 1 }
+    requires allowed { numbers.now.opcode_base ≤ opcode }
+    requires bounded { IsBounded numbers.now registers.old }
+    ensures line { OnOk result (IsLine (line_reached numbers.now registers.old (Op.Special opcode))) }
+    ensures row { IfOk result (λ row. row ≡ special_row numbers.now registers.old opcode) }
+    ensures after { OnOk result (registers.new ≡ unmarked (special_row numbers.now registers.old opcode)) }
+    ensures err { OnErr result (IsLine (line_reached numbers.now registers.old (Op.Special opcode)) → ⊥) }
     ensures unchanged { OnErr result (registers.new ≡ registers.old) }
 {
-    let adjusted = opcode - header.opcode_base();
-    let (operations, lines) = divided(adjusted, header.line_range(), reciprocal);
-    let by = i64::from(header.line_base()) + i64::from(lines);
+    let adjusted = opcode - numbers.opcode_base();
+    let (operations, lines) = divided(adjusted, numbers.line_range(), reciprocal);
+    let by = i64::from(numbers.line_base()) + i64::from(lines);
     registers.line = moved_line(registers.line, by)?;
-    advance(registers, header, u64::from(operations));
+    advance(registers, numbers, u64::from(operations));
     let row = append(registers);
     Ok(row)
 }
@@ -183,36 +186,36 @@ fn set_address(registers: &mut Row, address: u64)
 // Advances address and operation index by this many operations (DWARF 5, section 6.2.5.1).
 #[inline(always)]
 #[tactic(auto, using(crate::proofs::AdvanceLemmas::advanced_by_parts))]
-fn advance(registers: &mut Row, header: &Header, by: u64)
-    requires { registers.old.op_index < header.now.max_ops }
-    ensures { registers.new ≡ advanced (numbers_of header.now) registers.old by }
+fn advance(registers: &mut Row, numbers: &HeaderNumbers, by: u64)
+    requires { registers.old.op_index < numbers.now.max_ops }
+    ensures { registers.new ≡ advanced numbers.now registers.old by }
 {
-    let max_ops = u64::from(header.max_ops());
+    let max_ops = u64::from(numbers.max_ops());
     if max_ops == 1 {
-        registers.address = moved(header, registers.address, by);
+        registers.address = moved(numbers, registers.address, by);
     } else {
         let rest = registers.op_index + by % max_ops;
-        registers.address = moved(header, registers.address, by / max_ops + rest / max_ops);
+        registers.address = moved(numbers, registers.address, by / max_ops + rest / max_ops);
         registers.op_index = rest % max_ops;
     }
 }
 
 // The address this many instructions after `from`, truncated to the address size.
 #[inline(always)]
-fn moved(header: &Header, from: u64, instructions: u64) -> u64
-    ensures { result ≡ (from + header.now.minimum_instruction_length * instructions) % 2 ^ (8 * header.now.address_size) }
+fn moved(numbers: &HeaderNumbers, from: u64, instructions: u64) -> u64
+    ensures { result ≡ (from + numbers.now.minimum_instruction_length * instructions) % 2 ^ (8 * numbers.now.address_size) }
 {
-    let bytes = u64::from(header.minimum_instruction_length()).wrapping_mul(instructions);
-    within(header, from.wrapping_add(bytes))
+    let bytes = u64::from(numbers.minimum_instruction_length()).wrapping_mul(instructions);
+    within(numbers, from.wrapping_add(bytes))
 }
 
 // The address modulo 2^16, 2^32 or 2^64, if the header's addresses have 2, 4 or 8 bytes.
 #[inline(always)]
-fn within(header: &Header, address: u64) -> u64
-    ensures value { result ≡ address % 2 ^ (8 * header.now.address_size) }
-    ensures size { IsAddressSize header.now.address_size }
+fn within(numbers: &HeaderNumbers, address: u64) -> u64
+    ensures value { result ≡ address % 2 ^ (8 * numbers.now.address_size) }
+    ensures size { IsAddressSize numbers.now.address_size }
 {
-    match header.address_size() {
+    match numbers.address_size() {
         8 => address,
         4 => address % (1 << 32),
         2 => address % (1 << 16),

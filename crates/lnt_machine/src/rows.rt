@@ -1,13 +1,12 @@
 //! The rows of a unit's program one by one, and the fault that ends them.
 ghost use Rattle.std.specs.Prelude.{◌≡◌, ◌+◌, ◌<◌, length, IfOk, IfErr, IfSome, if◌then◌else◌};
 ghost use Rattle.std.specs.Iterator.{at_most};
-ghost use Rattle.lnt_header.specs.HeaderNumbers.{numbers_of};
 ghost use Rattle.lnt_machine.specs.RowWalks.{Comes, RowStep, Stops};
 
 use crate::fault::{RowFault, RunFault};
 use crate::row::Row;
 use crate::run::Run;
-use lnt_header::Header;
+use lnt_header::HeaderNumbers;
 use lnt_ops::Ops;
 use std::iter::FusedIterator;
 use std::marker::Model;
@@ -45,16 +44,16 @@ impl<'a> Rows<'a> {
     ghost use Rattle.lnt_machine.specs.Running.{HasDone};
 
     /// The rows of these operations, which are all those of a unit with this header.
-    pub fn new(header: &'a Header, ops: Ops<'a>) -> Rows<'a>
-        requires { ops.header ≡ numbers_of header.now }
-        ensures header { result.run.machine.header ≡ numbers_of header.entry.now }
+    pub fn new(numbers: &'a HeaderNumbers, ops: Ops<'a>) -> Rows<'a>
+        requires { ops.header ≡ numbers.now }
+        ensures header { result.run.machine.header ≡ numbers.entry.now }
         ensures done { HasDone result.run [] }
         ensures count { result.run.machine.count ≡ 0 }
         ensures walk { result.walk ≡ ops.entry }
         ensures going { result.ended ≡ false }
     {
         Rows {
-            run: Run::new(header),
+            run: Run::new(numbers),
             ops,
             ended: false,
         }

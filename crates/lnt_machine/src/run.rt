@@ -4,14 +4,13 @@ ghost use Rattle.lnt_machine.specs.Registers.{IsLine, line};
 ghost use Rattle.lnt_machine.specs.Running.{HasDone, RunsOn};
 ghost use Rattle.lnt_machine.specs.State.{StandsAfter};
 ghost use Rattle.lnt_machine.specs.Steps.{LeavesRange};
-ghost use Rattle.lnt_header.specs.HeaderNumbers.{numbers_of};
 ghost use Rattle.lnt_header.specs.OpRules.{StandsFor, Admits};
 ghost use Rattle.lnt_header.specs.declared.op.Op.{Op};
 
 use crate::fault::RunFault;
 use crate::machine::Machine;
 use crate::row::Row;
-use lnt_header::{Header, OpView};
+use lnt_header::{HeaderNumbers, OpView};
 use std::marker::Model;
 
 /// The program of a unit while it is run: a machine, and whether rows follow the last end row.
@@ -34,13 +33,13 @@ impl<'a> Model for Run<'a> {
 
 impl<'a> Run<'a> {
     /// A program with this header, before its first operation. Allocates nothing.
-    pub fn new(header: &'a Header) -> Run<'a>
-        ensures header { result.machine.header ≡ numbers_of header.entry.now }
+    pub fn new(numbers: &'a HeaderNumbers) -> Run<'a>
+        ensures header { result.machine.header ≡ numbers.entry.now }
         ensures done { HasDone result [] }
         ensures count { result.machine.count ≡ 0 }
     {
         Run {
-            machine: Machine::new(header),
+            machine: Machine::with_numbers(numbers),
             is_open: false,
         }
     }

@@ -22,7 +22,7 @@ pub fn matrix(alloc: Global, unit: &Unit) -> Result<Vec<Sequence>, RunFault>
     ensures rows { IfOk result (λ made. made.items ≡ sequences unit.now) }
     ensures err { IfErr result (IsRunFault unit.now) }
 {
-    let mut run = Run::new(unit.header());
+    let mut run = Run::new(unit.header().numbers());
     let mut sequences = Vec::new(alloc);
     let mut rows = Vec::new(alloc);
     for op in unit.ops() {

@@ -1,7 +1,7 @@
 //! The rows of one sequence, from its first operation on.
 ghost use Rattle.std.specs.Prelude.{◌≡◌, ◌<◌, ◌≤◌, List, length, reverse, false, IfSome, if◌then◌else◌};
 ghost use Rattle.std.specs.Iterator.{at_most};
-ghost use Rattle.lnt_header.specs.HeaderNumbers.{HeaderNumbers, numbers_of};
+ghost use Rattle.lnt_header.specs.declared.numbers.NumberParts.{NumberParts};
 ghost use Rattle.lnt_header.specs.declared.op.Op.{Op};
 ghost use Rattle.lnt_machine.specs.Matrix.{rows_after};
 ghost use Rattle.lnt_machine.specs.Parts.{first_sequence};
@@ -11,7 +11,7 @@ ghost use Rattle.lnt_machine.specs.declared.row.Row as spec;
 
 use crate::machine::Machine;
 use crate::row::Row;
-use lnt_header::Header;
+use lnt_header::HeaderNumbers;
 use lnt_ops::Ops;
 use std::marker::Model;
 
@@ -40,15 +40,15 @@ impl<'a> SequenceRows<'a> {
     /// They are the rows of the operations from there on, up to and including the first end row. The caller ensures that
     /// `place` isn't above the program's length. If no sequence begins there, or the program doesn't run, the rows are
     /// unspecified, and an operation that fails ends them like an end row.
-    pub fn at(header: &'a Header, program: &'a [u8], place: usize) -> SequenceRows<'a>
+    pub fn at(numbers: &'a HeaderNumbers, program: &'a [u8], place: usize) -> SequenceRows<'a>
         requires within { place ≤ length program.now }
         ensures left { length result.walk.at.rest ≤ length program.entry.now }
-        ensures rows { (earlier later : List Op) → IsSequencePlace (numbers_of header.entry.now) program.entry.now earlier later place
-            → WillGive (first_sequence (rows_after (numbers_of header.entry.now) (reverse earlier) later)) result }
+        ensures rows { (earlier later : List Op) → IsSequencePlace numbers.entry.now program.entry.now earlier later place
+            → WillGive (first_sequence (rows_after numbers.entry.now (reverse earlier) later)) result }
     {
         SequenceRows {
-            machine: Machine::new(header),
-            ops: Ops::after(header, program, 0, place),
+            machine: Machine::with_numbers(numbers),
+            ops: Ops::after(numbers, program, 0, place),
             ended: false,
         }
     }
@@ -118,7 +118,7 @@ fn next_row(machine: &mut Machine<'_>, ops: &mut Ops<'_>) -> Option<Row>
     requires { machine.old.header ≡ ops.old.header }
     ensures same { machine.new.header ≡ ops.new.header }
     ensures shorter { IfSome result (λ row. length ops.new.at.rest < length ops.old.at.rest) }
-    ensures gives { (h : HeaderNumbers) (rows : List spec.Row) → HasRows h rows machine.old ops.old
+    ensures gives { (h : NumberParts) (rows : List spec.Row) → HasRows h rows machine.old ops.old
         → GivesNext h rows result machine.new ops.new }
 {
     if let Some(row) = short_row(machine, ops) {
@@ -140,7 +140,7 @@ fn any_row(machine: &mut Machine<'_>, ops: &mut Ops<'_>) -> Option<Row>
     requires { machine.old.header ≡ ops.old.header }
     ensures same { machine.new.header ≡ ops.new.header }
     ensures shorter { IfSome result (λ row. length ops.new.at.rest < length ops.old.at.rest) }
-    ensures gives { (h : HeaderNumbers) (rows : List spec.Row) → HasRows h rows machine.old ops.old
+    ensures gives { (h : NumberParts) (rows : List spec.Row) → HasRows h rows machine.old ops.old
         → GivesNext h rows result machine.new ops.new }
 {
     while let Some(op) = ops.next() {
@@ -166,7 +166,7 @@ fn short_row(machine: &mut Machine<'_>, ops: &mut Ops<'_>) -> Option<Row>
     ensures same { machine.new.header ≡ ops.new.header }
     ensures no_longer { length ops.new.at.rest ≤ length ops.old.at.rest }
     ensures shorter { IfSome result (λ row. length ops.new.at.rest < length ops.old.at.rest) }
-    ensures gives { (h : HeaderNumbers) (rows : List spec.Row) → HasRows h rows machine.old ops.old
+    ensures gives { (h : NumberParts) (rows : List spec.Row) → HasRows h rows machine.old ops.old
         → ComesNext h rows result machine.new ops.new }
 {
     while let Some(op) = ops.next_short() {

@@ -2,7 +2,7 @@
 ghost use Rattle.std.specs.Prelude.{◌-◌, ◌^◌, ◌<◌};
 
 use lnt_header::content::PATH;
-use lnt_header::{EntryTable, Header, Pair};
+use lnt_header::{EntryTable, Pair};
 use lnt_io::Source;
 use lnt_text::StringSection;
 use lnt_unit::{SectionReader, UnitBuffer, UnitInPlace};
@@ -33,13 +33,10 @@ pub(crate) fn strings_of<R: Source>(
 
 fn strings_in(alloc: Global, buffer: &UnitBuffer, which: EntryTable) -> Option<StringSection> {
     let unit = UnitInPlace::over(alloc, buffer).ok()?;
-    strings_by(format_of(unit.numbers(), which))
-}
-
-fn format_of(numbers: &Header, which: EntryTable) -> &[Pair] {
+    let header = unit.header();
     match which {
-        EntryTable::Directories => numbers.directory_format(),
-        EntryTable::Files => numbers.file_format(),
+        EntryTable::Directories => strings_by(header.directories().pairs()),
+        EntryTable::Files => strings_by(header.files().pairs()),
     }
 }
 

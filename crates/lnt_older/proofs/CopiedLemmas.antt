@@ -19,7 +19,8 @@ pub one_length : {h : HeaderParts} {directory directories files x y : List ℕ} 
 one_length {h} p q =
     let a = p.first_file in
     let b = q.first_file in
-    let firsts = same_each (entry_code h.format h.order file_pairs) (take 1 h.files) (take 1 h.files) p.first q.first a.others b.others
+    let firsts =
+    same_each (entry_code h.format h.numbers.order file_pairs) (take 1 h.files) (take 1 h.files) p.first q.first a.others b.others
     refl a.spelled b.spelled (sym a.joined ∙ b.joined) in
     let files_are = rw (sym firsts.1) at q.files_are in
     omega (

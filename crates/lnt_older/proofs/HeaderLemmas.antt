@@ -5,8 +5,7 @@ use Rattle.lnt_wire.specs.At.{At}
 use Rattle.lnt_wire.specs.Reading.{Reads}
 use Rattle.lnt_wire.specs.declared.format.Format.{Format}
 use Rattle.lnt_wire.specs.declared.format.Order.{Order}
-use Rattle.lnt_header.specs.HeaderNumbers.{numbers_of}
-use Rattle.lnt_header.specs.HeaderRules.{HasHeaderNumbers, IsAddressSize, single_bytes}
+use Rattle.lnt_header.specs.HeaderRules.{AreHeaderNumbers, IsAddressSize, single_bytes}
 use Rattle.lnt_header.specs.declared.header.Entry.{Entry}
 use Rattle.lnt_header.specs.declared.header.HeaderParts.{HeaderParts}
 use Rattle.lnt_header_bytes.specs.HeaderFaults.{LengthsBytes}
@@ -33,25 +32,26 @@ to_right a b c d = simp append_assoc
 
 abbrev pub numbers_in : HeaderParts → OlderNumbers
 numbers_in h = record {
-  minimum_instruction_length = h.minimum_instruction_length;
-  max_ops = h.max_ops;
-  default_is_stmt = h.default_is_stmt;
-  line_base = h.line_base;
-  line_range = h.line_range;
-  opcode_base = h.opcode_base;
+  minimum_instruction_length = h.numbers.minimum_instruction_length;
+  max_ops = h.numbers.max_ops;
+  default_is_stmt = h.numbers.default_is_stmt;
+  line_base = h.numbers.line_base;
+  line_range = h.numbers.line_range;
+  opcode_base = h.numbers.opcode_base;
 }
 
 pub singles_in : (version : OlderVersion) (h : HeaderParts)
-    → older_bytes version h ≡ number_fields version (numbers_in h) ++ h.standard_lengths
+    → older_bytes version h.numbers ≡ number_fields version (numbers_in h) ++ h.numbers.standard_lengths
 singles_in version h = grind (arith, common_steps)
 
-numbers_small : (version : OlderVersion) (h : HeaderParts) → SaysOperations version h.max_ops
-    → AllByRecursion (λ byte. byte < 256) (older_bytes version h) → AllByRecursion (λ byte. byte < 256) (single_bytes (numbers_of h))
+numbers_small : (version : OlderVersion) (h : HeaderParts) → SaysOperations version h.numbers.max_ops
+    → AllByRecursion (λ byte. byte < 256) (older_bytes version h.numbers) → AllByRecursion (λ byte. byte < 256) (single_bytes h.numbers)
 numbers_small version h says all = grind (arith, common_steps)
 
 -- the numbers of a header are sound in any format and order, and with any directories and files
 pub moved_numbers : (f : Format) {o p : Order} {size : ℕ} {n : OlderNumbers} {lengths : List ℕ}
-    → HasHeaderNumbers (header_of f o size n lengths [] [] []) → HasHeaderNumbers (header_of f p size n lengths [] [] [])
+    → AreHeaderNumbers (header_of f o size n lengths [] [] []).numbers
+    → AreHeaderNumbers (header_of f p size n lengths [] [] []).numbers
 moved_numbers f n = grind (arith, common_steps)
 
 spelled_at : (version : OlderVersion) (format : Format) (order : Order) (bytes : List ℕ) (n : OlderNumbers) (lengths : List ℕ)
@@ -63,7 +63,7 @@ spelled_at version format order bytes n lengths directories files extra old new 
     let p1 = r.spelled in
     let p2 = p1.second in
     let p3 = p2.second in
-    let joined : bytes ≡ older_bytes version h ++ p3.prefix ++ p3.back ++ extra =
+    let joined : bytes ≡ older_bytes version h.numbers ++ p3.prefix ++ p3.back ++ extra =
     sym rest_is ∙ simp (
       r.whole,
       p1.joined,
@@ -75,8 +75,8 @@ spelled_at version format order bytes n lengths directories files extra old new 
       singles_in version h,
       append_assoc,
     ) in
-    let all = prefix_bytes (older_bytes version h) (p3.prefix ++ (p3.back ++ extra))
-    (rw (joined ∙ to_right (older_bytes version h) p3.prefix p3.back extra) at (are_bytes bytes small)) in
+    let all = prefix_bytes (older_bytes version h.numbers) (p3.prefix ++ (p3.back ++ extra))
+    (rw (joined ∙ to_right (older_bytes version h.numbers) p3.prefix p3.back extra) at (are_bytes bytes small)) in
     record {
       directories = p3.prefix;
       files = p3.back;

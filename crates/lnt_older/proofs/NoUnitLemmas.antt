@@ -62,10 +62,20 @@ stands : (order : Order) (format : Format) (body more : List ℕ) → LengthFits
     → InFrame order format [] body (initial_length format order (length body)) (body ++ more)
 stands order format body more fits = grind (arith, common_steps, append-nil)
 
-no_older : (h : HeaderParts) (reason : Reason) (before from : List ℕ) → IsNoOlder reason → IsFrameFaultAt h.order reason before from
+no_older_body : (order : Order) (reason : Reason) (before from : List ℕ) → IsNoOlder reason → IsFrameFaultAt order reason before from
+    → (format : Format) (version : OlderVersion) (body rest x more : List ℕ) → body ≡ number_bytes order 2 (version_number version) ++ rest
+    → LengthFits format (length body) → x ≡ frame_bytes order format body → x ++ more ≡ before ++ from → ⊥
+no_older_body order reason before from other k format version body rest x more b fits x_is e =
+    grind (arith, common_steps, outside_frame, outside_none, stands, append_assoc, in_version, same_frame, other_version)
+
+no_older : (h : HeaderParts) (reason : Reason) (before from : List ℕ) → IsNoOlder reason → IsFrameFaultAt h.numbers.order reason before from
     → (program x more : List ℕ) → OlderBytes h program x → x ++ more ≡ before ++ from → ⊥
 no_older h reason before from other k program x more p e =
-    grind (arith, common_steps, outside_frame, outside_none, stands, append_assoc, in_version, same_frame, other_version)
+    let n = h.numbers in
+    let rest = number_bytes n.order (offset_size h.format) (length p.fields) ++ (p.fields ++ program) in
+    let whole : older_body p.version h p.fields program ≡ number_bytes n.order 2 (version_number p.version) ++ rest = simp append_assoc in
+    no_older_body n.order reason before from other k h.format p.version (older_body p.version h p.fields program) rest x more whole p.fits
+    p.joined e
 
 -- where the initial length or the version is at fault
 pub none_in_frame : (order : Order) (reason : Reason) (before from : List ℕ) → IsNoOlder reason → IsFrameFault order reason before from
@@ -79,11 +89,11 @@ none_in_frame order reason before from other h (older_parts parts program) x mor
 
 -- a header's fields are there
 fields_none : (version : OlderVersion) (h : HeaderParts) (bytes : List ℕ) → OlderFieldsBytes version h bytes
-    → NoneSpelled (FieldsOf version h.format h.order) bytes → ⊥
+    → NoneSpelled (FieldsOf version h.format h.numbers.order) bytes → ⊥
 fields_none version h bytes p none =
     let numbers = number_fields version (numbers_in h) in
-    let lengths = h.standard_lengths in
-    let some : 0 < h.opcode_base = omega (arith, p.numbers.opcode_base) in
+    let lengths = h.numbers.standard_lengths in
+    let some : 0 < h.numbers.opcode_base = omega (arith, p.numbers.opcode_base) in
     none (numbers_in h, (lengths, (h.directories, h.files))) (numbers ++ (lengths ++ (p.directories ++ p.files))) h.extra
     (record {
       prefix = numbers;

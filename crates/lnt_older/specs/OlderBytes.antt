@@ -9,11 +9,11 @@ use Rattle.lnt_wire.specs.Numbers.{number_bytes, offset_size}
 use Rattle.lnt_wire.specs.declared.form.Form.TheVariants as forms
 use Rattle.lnt_wire.specs.declared.format.Format.{Format}
 use Rattle.lnt_wire.specs.declared.format.Order.{Order}
-use Rattle.lnt_header.specs.HeaderNumbers.{numbers_of}
-use Rattle.lnt_header.specs.HeaderRules.{HasHeaderNumbers, single_bytes}
+use Rattle.lnt_header.specs.HeaderRules.{AreHeaderNumbers, single_bytes}
 use Rattle.lnt_header.specs.Joins.{Each}
 use Rattle.lnt_header.specs.declared.header.Entry.{Entry}
 use Rattle.lnt_header.specs.declared.header.HeaderParts.{HeaderParts}
+use Rattle.lnt_header.specs.declared.numbers.NumberParts.{NumberParts}
 use Rattle.lnt_header.specs.declared.header.Pair.{Pair}
 use Rattle.lnt_header_bytes.specs.TableBytes.{EntryBytes}
 use Rattle.lnt_older.specs.Versions.{version_number}
@@ -51,10 +51,10 @@ ListBytes format order pairs entries bytes = (Each (ListedBytes format order pai
 -- ---- units
 
 -- the fields of one byte; maximum_operations_per_instruction is among them from version 4 on
-abbrev pub older_bytes : OlderVersion → HeaderParts → List ℕ
-older_bytes Four h = single_bytes (numbers_of h)
-older_bytes _ h =
-    h.minimum_instruction_length ∷ h.default_is_stmt ∷ cast_unsigned w8 h.line_base ∷ h.line_range ∷ h.opcode_base ∷ h.standard_lengths
+abbrev pub older_bytes : OlderVersion → NumberParts → List ℕ
+older_bytes Four n = single_bytes n
+older_bytes _ n =
+    n.minimum_instruction_length ∷ n.default_is_stmt ∷ cast_unsigned w8 n.line_base ∷ n.line_range ∷ n.opcode_base ∷ n.standard_lengths
 
 -- where it isn't among them, it is 1
 abbrev pub SaysOperations : OlderVersion → ℕ → Type 0
@@ -65,13 +65,13 @@ SaysOperations _ max_ops = max_ops ≡ 1
 pub record OlderFieldsBytes (version : OlderVersion) (h : HeaderParts) (bytes : List ℕ) : Type 0 where
   pub directories : List ℕ
   pub files : List ℕ
-  pub numbers : HasHeaderNumbers h
-  pub operations : SaysOperations version h.max_ops
+  pub numbers : AreHeaderNumbers h.numbers
+  pub operations : SaysOperations version h.numbers.max_ops
   pub directory_format : h.directory_format ≡ directory_pairs
   pub file_format : h.file_format ≡ file_pairs
-  pub directory_list : ListBytes h.format h.order directory_pairs h.directories directories
-  pub file_list : ListBytes h.format h.order file_pairs h.files files
-  pub joined : bytes ≡ older_bytes version h ++ directories ++ files ++ h.extra
+  pub directory_list : ListBytes h.format h.numbers.order directory_pairs h.directories directories
+  pub file_list : ListBytes h.format h.numbers.order file_pairs h.files files
+  pub joined : bytes ≡ older_bytes version h.numbers ++ directories ++ files ++ h.extra
 
 -- what unit_length counts of an older unit: the version, the length of the fields, the fields, and the program
 abbrev pub body_bytes : Format → Order → OlderVersion → List ℕ → List ℕ → List ℕ
@@ -80,7 +80,7 @@ body_bytes format order version fields program =
 
 -- the same, of a unit with this header
 abbrev pub older_body : OlderVersion → HeaderParts → List ℕ → List ℕ → List ℕ
-older_body version h fields program = body_bytes h.format h.order version fields program
+older_body version h fields program = body_bytes h.format h.numbers.order version fields program
 
 -- The bytes of an older unit with this header and this program.
 pub record OlderBytes (h : HeaderParts) (program bytes : List ℕ) : Type 0 where
@@ -88,10 +88,10 @@ pub record OlderBytes (h : HeaderParts) (program bytes : List ℕ) : Type 0 wher
   pub fields : List ℕ
   pub counted : OlderFieldsBytes version h fields
   pub fits : LengthFits h.format (length (older_body version h fields program))
-  pub joined : bytes ≡ frame_bytes h.order h.format (older_body version h fields program)
+  pub joined : bytes ≡ frame_bytes h.numbers.order h.format (older_body version h fields program)
 
 -- an older unit in this byte order, whose addresses have this many bytes
 pub record OlderBytesIn (order : Order) (address_size : ℕ) (unit : HeaderParts × List ℕ) (bytes : List ℕ) : Type 0 where
-  pub order_is : unit.0.order ≡ order
-  pub size_is : unit.0.address_size ≡ address_size
+  pub order_is : unit.0.numbers.order ≡ order
+  pub size_is : unit.0.numbers.address_size ≡ address_size
   pub spelled : OlderBytes unit.0 unit.1 bytes

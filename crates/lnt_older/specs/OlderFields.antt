@@ -98,15 +98,17 @@ IsFieldsFault version format order = FirstOf (NumbersBytes version) (IsSoundFaul
 abbrev pub header_of : Format → Order → ℕ → OlderNumbers → List ℕ → List Entry → List Entry → List ℕ → HeaderParts
 header_of format order address_size n lengths directories files extra = record {
   format = format;
-  order = order;
-  address_size = address_size;
-  minimum_instruction_length = n.minimum_instruction_length;
-  max_ops = n.max_ops;
-  default_is_stmt = n.default_is_stmt;
-  line_base = n.line_base;
-  line_range = n.line_range;
-  opcode_base = n.opcode_base;
-  standard_lengths = lengths;
+  numbers = record {
+    order = order;
+    address_size = address_size;
+    minimum_instruction_length = n.minimum_instruction_length;
+    max_ops = n.max_ops;
+    default_is_stmt = n.default_is_stmt;
+    line_base = n.line_base;
+    line_range = n.line_range;
+    opcode_base = n.opcode_base;
+    standard_lengths = lengths;
+  };
   directory_format = directory_pairs;
   directories = directories;
   file_format = file_pairs;

@@ -9,7 +9,7 @@ use Rattle.lnt_wire.specs.declared.fault.Reason.{Reason}
 use Rattle.lnt_wire.specs.declared.fault.Reason.TheVariants.{VersionNotFive}
 use Rattle.lnt_wire.specs.declared.format.Format.{Format}
 use Rattle.lnt_wire.specs.declared.format.Order.{Order}
-use Rattle.lnt_header.specs.HeaderRules.{HasHeaderNumbers, IsAddressSize}
+use Rattle.lnt_header.specs.HeaderRules.{AreHeaderNumbers, IsAddressSize}
 use Rattle.lnt_header.specs.declared.header.Entry.{Entry}
 use Rattle.lnt_header.specs.declared.header.HeaderParts.{HeaderParts}
 use Rattle.lnt_header_bytes.specs.StartFaults.{IsCountedFault}
@@ -60,7 +60,7 @@ pub record IsOlderUnit (unit : OlderUnit) : Type 0 where
   pub directories : List Entry
   pub files : List Entry
   pub lie : ListsLie unit.format unit.order unit.header directories files
-  pub numbers : (address_size : ℕ) → IsAddressSize address_size → HasHeaderNumbers (unit_header unit address_size directories files)
+  pub numbers : (address_size : ℕ) → IsAddressSize address_size → AreHeaderNumbers (unit_header unit address_size directories files).numbers
 
 abbrev pub IsSoundUnit : AnyUnit → Type 0
 IsSoundUnit (Five bytes) = Unit {0}
@@ -77,7 +77,7 @@ pub data AnyParts : Type 0 where
 -- the bytes of a unit of version 2 to 5
 abbrev pub AnyBytes : Order → AnyParts → List ℕ → Type 0
 AnyBytes order (five_parts format body) bytes = FrameBytes order (format, body) bytes
-AnyBytes order (older_parts h program) bytes = (h.order ≡ order) × OlderBytes h program bytes
+AnyBytes order (older_parts h program) bytes = (h.numbers.order ≡ order) × OlderBytes h program bytes
 
 -- What is wrong: the initial length or the version, which is none of 2 to 5; the length of the header of an older unit; or one of the
 -- fields that this counts.

@@ -41,7 +41,7 @@ pub record HasOlder (order : Order) (section older : List ℕ) : Type 0 where
 -- An older unit doesn't say how many bytes an address has. Here it has so many.
 abbrev pub HasAddressSize : ℕ → ℕ × AnyParts → Type 0
 HasAddressSize address_size (offset, five_parts format body) = Unit {0}
-HasAddressSize address_size (offset, older_parts header program) = header.address_size ≡ address_size
+HasAddressSize address_size (offset, older_parts header program) = header.numbers.address_size ≡ address_size
 
 -- The bytes of the unit of version 5 for a unit at its offset: the unit itself, or the one that says what an older unit says, which was
 -- compiled in the directory that is listed for it.

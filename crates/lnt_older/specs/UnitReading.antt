@@ -53,7 +53,7 @@ pub record PastBytes (format : Format) (version : OlderVersion) (order : Order) 
   where
     pub fields : List ℕ
     pub format_is : unit.0.format ≡ format
-    pub order_is : unit.0.order ≡ order
+    pub order_is : unit.0.numbers.order ≡ order
     pub counted : OlderFieldsBytes version unit.0 fields
     pub small : length fields < 256 ^ offset_size format
     pub joined : bytes ≡ number_bytes order (offset_size format) (length fields) ++ (fields ++ unit.1)

@@ -6,7 +6,6 @@ use Rattle.lnt_wire.specs.Leb128.{UnsignedLeb}
 use Rattle.lnt_wire.specs.declared.form.FormValue.TheVariants.{Text}
 use Rattle.lnt_wire.specs.declared.format.Format.{Format}
 use Rattle.lnt_wire.specs.declared.format.Order.{Order}
-use Rattle.lnt_header.specs.HeaderNumbers.{numbers_of}
 use Rattle.lnt_header.specs.HeaderRules.{single_bytes}
 use Rattle.lnt_header.specs.Joins.{Each}
 use Rattle.lnt_header.specs.declared.header.Entry.{Entry}
@@ -50,9 +49,9 @@ pub record IsFirstFile (format : Format) (order : Order) (files : List Entry) (l
 -- What header_length counts in version 5, where the directories and files of an older header have these bytes, which are copied.
 pub record CopiedFields (h : HeaderParts) (directory directories files bytes : List ℕ) : Type 0 where
   pub first : List ℕ
-  pub first_file : IsFirstFile h.format h.order h.files files first
+  pub first_file : IsFirstFile h.format h.numbers.order h.files files first
   pub directory_table : List ℕ
   pub directories_are : CountedTable directory_head (length h.directories + 1) ((directory ++ 0 ∷ []) ++ directories) directory_table
   pub file_table : List ℕ
   pub files_are : CountedTable file_head (length (from_zero h.files)) (first ++ files) file_table
-  pub joined : bytes ≡ single_bytes (numbers_of h) ++ directory_table ++ file_table ++ h.extra
+  pub joined : bytes ≡ single_bytes h.numbers ++ directory_table ++ file_table ++ h.extra

@@ -13,7 +13,7 @@ use Rattle.lnt_wire.proofs.CodeLaws.{same_leb}
 use Rattle.lnt_wire.specs.Leb128.{IsLeb, AreHigh, UnsignedLeb, IsLargeUnsigned, IsLebFault}
 use Rattle.lnt_wire.specs.Numbers.{NumberBytes}
 use Rattle.lnt_wire.specs.Reading.{Reads, RefusesField, IsCutShort}
-use Rattle.lnt_header.specs.HeaderNumbers.{HeaderNumbers}
+use Rattle.lnt_header.specs.declared.numbers.NumberParts.{NumberParts}
 use Rattle.lnt_header.specs.declared.op.Op.TheVariants as ops
 use Rattle.lnt_header.specs.declared.op.OpView.{OpView}
 use Rattle.lnt_header.specs.declared.op.OpView.TheVariants as views
@@ -171,7 +171,7 @@ number_whole : (address_size : ℕ) (bytes : List ℕ) → IsRightOperand addres
 number_whole address_size [] right takes = absurd right
 number_whole address_size (code ∷ operand) right takes = subst (λ (t : Taken). FitsTaken address_size t operand) takes right
 
-pub gives_end : (h : HeaderNumbers) (bytes : List ℕ) → IsRightOperand h.address_size bytes → get_or bytes 0 0 ≡ 1
+pub gives_end : (h : NumberParts) (bytes : List ℕ) → IsRightOperand h.address_size bytes → get_or bytes 0 0 ≡ 1
     → GivesCounted h views.EndSequence bytes
 gives_end h bytes right e =
     record {
@@ -181,7 +181,7 @@ gives_end h bytes right e =
       spelled = code_first 1 (Exactly []) bytes (some_code h.address_size bytes right) e (operand_ends h.address_size bytes right e);
     }
 
-pub gives_address : (h : HeaderNumbers) (bytes rest : List ℕ) (address : ℕ) → IsRightOperand h.address_size bytes → get_or bytes 0 0 ≡ 2
+pub gives_address : (h : NumberParts) (bytes rest : List ℕ) (address : ℕ) → IsRightOperand h.address_size bytes → get_or bytes 0 0 ≡ 2
     → rest ≡ drop 1 bytes → NumberBytes h.order h.address_size address rest → GivesCounted h (views.SetAddress address) bytes
 gives_address h bytes rest address right e same p = record {
   op = ops.SetAddress address;
@@ -191,7 +191,7 @@ gives_address h bytes rest address right e same p = record {
       (subst (NumberBytes h.order h.address_size address) same p);
 }
 
-pub gives_discriminator : (h : HeaderNumbers) (bytes : List ℕ) (n : ℕ) → IsRightOperand h.address_size bytes → get_or bytes 0 0 ≡ 4
+pub gives_discriminator : (h : NumberParts) (bytes : List ℕ) (n : ℕ) → IsRightOperand h.address_size bytes → get_or bytes 0 0 ≡ 4
     → UnsignedLeb n (drop 1 bytes) → GivesCounted h (views.SetDiscriminator n) bytes
 gives_discriminator h bytes n right e p =
     record {
@@ -201,7 +201,7 @@ gives_discriminator h bytes n right e p =
       spelled = code_first 4 (UnsignedLeb n) bytes (some_code h.address_size bytes right) e p;
     }
 
-pub gives_other : (h : HeaderNumbers) (code : ℕ) (view : OpView) (bytes : List ℕ) → IsRightOperand h.address_size bytes
+pub gives_other : (h : NumberParts) (code : ℕ) (view : OpView) (bytes : List ℕ) → IsRightOperand h.address_size bytes
     → get_or bytes 0 0 ≡ code → (code ≡ 1 → ⊥) → (code ≡ 2 → ⊥) → (code ≡ 4 → ⊥) → code < 256
     → StandsFor view (ops.UnknownExtended code (drop 1 bytes)) → GivesCounted h view bytes
 gives_other h code view bytes right e end address discriminator byte stands = grind (arith, common_steps, code_first, some_code)
@@ -249,7 +249,7 @@ in_op : (code : ℕ) (Operand : List ℕ → Type 0) (counted y : List ℕ) → 
     → BlockBytes UnsignedLeb counted y → Extended code Operand (0 ∷ y)
 in_op code Operand counted y q p = (counted, q, record { prefix = 0 ∷ []; back = y; first = refl; second = p; joined = refl })
 
-op_of : (h : HeaderNumbers) (c : Coding) (counted y : List ℕ) → ExtendedBody h c counted → BlockBytes UnsignedLeb counted y
+op_of : (h : NumberParts) (c : Coding) (counted y : List ℕ) → ExtendedBody h c counted → BlockBytes UnsignedLeb counted y
     → CodingBytes h c (0 ∷ y)
 op_of h (Coding.extended k) counted y q p = in_op k (Exactly []) counted y q p
 op_of h (Coding.extended_number k n) counted y q p = in_op k (UnsignedLeb n) counted y q p
@@ -257,7 +257,7 @@ op_of h (Coding.extended_address k address) counted y q p = in_op k (NumberBytes
 op_of h (Coding.unknown_extended k operand) counted y q p = (q.0, q.1, in_op k (Exactly operand) counted y q.2 p)
 op_of h c counted y q p = absurd q
 
-pub gives_extended : (h : HeaderNumbers) (n : ℕ) (view : OpView) (counted : List ℕ) (old middle new : At) → Reads UnsignedLeb n old middle
+pub gives_extended : (h : NumberParts) (n : ℕ) (view : OpView) (counted : List ℕ) (old middle new : At) → Reads UnsignedLeb n old middle
     → Reads (TakenBytes n) counted middle new → GivesCounted h view counted → GivesAfter h 0 view old new
 gives_extended h n view counted old middle new r t g =
     let size : n ≡ length counted = sym t.spelled.count_is ∙ ap length (sym t.spelled.taken_is) in
@@ -281,11 +281,11 @@ gives_extended h n view counted old middle new r t g =
       };
     }
 
-pub refuses_length : (h : HeaderNumbers) (old : At) (fault : Fault) → RefusesField (IsLebFault IsLargeUnsigned) UnsignedLeb old fault
+pub refuses_length : (h : NumberParts) (old : At) (fault : Fault) → RefusesField (IsLebFault IsLargeUnsigned) UnsignedLeb old fault
     → RefusesAfter h 0 old fault
 refuses_length h old fault r = refused_at h 0 old fault r.place (no_length refl r.reason)
 
-pub refuses_cut : (h : HeaderNumbers) (n : ℕ) (old middle : At) (fault : Fault) → Reads UnsignedLeb n old middle
+pub refuses_cut : (h : NumberParts) (n : ℕ) (old middle : At) (fault : Fault) → Reads UnsignedLeb n old middle
     → RefusesField (IsCutShort n) (TakenBytes n) middle fault → RefusesAfter h 0 old fault
 refuses_cut h n old middle fault r t = record {
   before = r.spelling;
@@ -301,7 +301,7 @@ counted_joined : (n : ℕ) (counted : List ℕ) (old middle new : At) → (r : R
 counted_joined n counted old middle new r t =
     r.whole ∙ ap (λ (z : List ℕ). r.spelling ++ z) (t.whole ∙ ap (λ (z : List ℕ). z ++ new.rest) (sym t.spelled.taken_is))
 
-pub refuses_counted : (h : HeaderNumbers) (n length_place start : ℕ) (counted : List ℕ) (old middle new : At) (fault : Fault)
+pub refuses_counted : (h : NumberParts) (n length_place start : ℕ) (counted : List ℕ) (old middle new : At) (fault : Fault)
     → length_place ≡ old.place → start ≡ middle.place → Reads UnsignedLeb n old middle → Reads (TakenBytes n) counted middle new
     → IsCountedOpFault h.address_size length_place start fault counted → RefusesAfter h 0 old fault
 refuses_counted h n length_place start counted old middle new fault at_length at_start r t (wrong_operand reason place wrong) =

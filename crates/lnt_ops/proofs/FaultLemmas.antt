@@ -6,7 +6,7 @@ use Rattle.lnt_wire.specs.declared.fault.Reason.{Reason}
 use Rattle.lnt_wire.specs.declared.fault.Reason.TheVariants.{Truncated, LebTooLarge}
 use Rattle.lnt_wire.specs.Leb128.{IsLargeUnsigned, IsLargeSigned, IsLebFault}
 use Rattle.lnt_wire.specs.Reading.{Refuses}
-use Rattle.lnt_header.specs.HeaderNumbers.{HeaderNumbers}
+use Rattle.lnt_header.specs.declared.numbers.NumberParts.{NumberParts}
 use Rattle.lnt_header.specs.FieldFaults.IsCutField.{number, leb, operation}
 use Rattle.lnt_header.proofs.ReaderLaws.{cut_later}
 use Rattle.lnt_ops.specs.OpBytes.{OpBytes}
@@ -38,7 +38,7 @@ signed_so address_size Truncated before bytes h = cut_field refl (leb h)
 signed_so address_size LebTooLarge before bytes h = large_number refl (h.0, h.1, h.2, h.4, inr h.3)
 signed_so address_size reason before bytes h = absurd h
 
-pub op_fault : (h : HeaderNumbers) (reason : Reason) (before left : List ℕ) → IsFirstFault h reason before left
+pub op_fault : (h : NumberParts) (reason : Reason) (before left : List ℕ) → IsFirstFault h reason before left
     → IsOpFault h.address_size reason before left
 op_fault h reason before left (no_opcode e b l) = cut_field e (number 1 (omega arith) (omega (arith, ap length l)))
 op_fault h reason before left (unsigned_operand k takes lt b p) = unsigned_so h.address_size reason before left p
@@ -51,7 +51,7 @@ op_fault h reason before left (wrong_counted e b p) = wrong_length [] e b p
 op_fault h reason before left (large_counted spelling operand rest e p b l shape large) =
     large_number e (operand, rest, shape, l, inl large)
 
-pub refuses_op : (h : HeaderNumbers) (old : At) (fault : Fault) → Refuses (IsFirstFault h) (OpBytes h) old fault
+pub refuses_op : (h : NumberParts) (old : At) (fault : Fault) → Refuses (IsFirstFault h) (OpBytes h) old fault
     → Refuses (IsOpFault h.address_size) (OpBytes h) old fault
 refuses_op h old fault r =
     record {

@@ -7,7 +7,7 @@ use Rattle.std.proofs.Math.Seq.{drop-append_seam}
 use Rattle.lnt_wire.proofs.CodeLaws.{peel}
 use Rattle.lnt_wire.proofs.LengthLaws.{same_rest}
 use Rattle.lnt_wire.specs.declared.fault.Fault.{Fault}
-use Rattle.lnt_header.specs.HeaderNumbers.{HeaderNumbers}
+use Rattle.lnt_header.specs.declared.numbers.NumberParts.{NumberParts}
 use Rattle.lnt_header.specs.declared.op.Op.{Op}
 use Rattle.lnt_header.specs.declared.op.OpView.{OpView}
 use Rattle.lnt_header.specs.HeaderRules.{AreHeaderNumbers}
@@ -22,7 +22,7 @@ use Rattle.lnt_ops.specs.Walks.{Walk, Ends, GivesOperation, Fails}
 use Rattle.std.proofs.lemmas.Grind.{common_steps}
 
 -- the next operation
-pub left_next : (h : HeaderNumbers) (later : List Op) (view : OpView) (old new : Walk) → AreHeaderNumbers h → OperationsAreLeft h later old
+pub left_next : (h : NumberParts) (later : List Op) (view : OpView) (old new : Walk) → AreHeaderNumbers h → OperationsAreLeft h later old
     → GivesOperation view old new → IsNextOf h later view new
 left_next h [] view old new header left s =
     let r = s.gives.reads in
@@ -35,7 +35,7 @@ left_next h [] view old new header left s =
           r.spelling r.spelled,
     ))
 left_next h (op ∷ later) view old new header left s =
-    let gives : GivesOp h view old.at new.at = subst (λ (g : HeaderNumbers). GivesOp g view old.at new.at) left.header_is s.gives in
+    let gives : GivesOp h view old.at new.at = subst (λ (g : NumberParts). GivesOp g view old.at new.at) left.header_is s.gives in
     let r = gives.reads in
     let t = left.spelled in
     let both = sym t.joined ∙ r.whole in
@@ -50,7 +50,7 @@ left_next h (op ∷ later) view old new header left s =
     }
 
 -- none is left
-pub left_ends : (h : HeaderNumbers) (later : List Op) (old new : Walk) → OperationsAreLeft h later old → Ends old new → later ≡ []
+pub left_ends : (h : NumberParts) (later : List Op) (old new : Walk) → OperationsAreLeft h later old → Ends old new → later ≡ []
 left_ends h [] old new left e = refl
 left_ends h (op ∷ later) old new left e = absurd (by_end e.ended)
   where
@@ -60,15 +60,15 @@ left_ends h (op ∷ later) old new left e = absurd (by_end e.ended)
         (arith, empty, ap length t.joined, length-append t.prefix t.back, op_is_some h op t.prefix t.first)
 
 -- none is refused
-pub left_fails : (h : HeaderNumbers) (later : List Op) (fault : Fault) (old new : Walk) → OperationsAreLeft h later old
+pub left_fails : (h : NumberParts) (later : List Op) (fault : Fault) (old new : Walk) → OperationsAreLeft h later old
     → Fails fault old new → ⊥
 left_fails h [] fault old new left f = omega (arith, f.some, ap length left.spelled)
 left_fails h (op ∷ later) fault old new left f =
     let t = left.spelled in
-    f.refuses.none op t.prefix t.back (subst (λ (g : HeaderNumbers). OpBytes g op t.prefix) (sym left.header_is) t.first) (sym t.joined)
+    f.refuses.none op t.prefix t.back (subst (λ (g : NumberParts). OpBytes g op t.prefix) (sym left.header_is) t.first) (sym t.joined)
 
 -- the operations after some that a prefix of the program spells
-pub each_after : (h : HeaderNumbers) (earlier all : List Op) (prefix rest program : List ℕ) → AreHeaderNumbers h → Each (OpBytes h) earlier prefix
+pub each_after : (h : NumberParts) (earlier all : List Op) (prefix rest program : List ℕ) → AreHeaderNumbers h → Each (OpBytes h) earlier prefix
     → Each (OpBytes h) all program → program ≡ prefix ++ rest → (later : List Op) × (all ≡ earlier ++ later) × Each (OpBytes h) later rest
 each_after h [] all prefix rest program header p q whole =
     (all, refl, subst (Each (OpBytes h) all) (whole ∙ ap (λ (z : List ℕ). z ++ rest) p) q)
@@ -88,13 +88,13 @@ each_after h (op ∷ earlier) (other ∷ all) prefix rest program header p q who
     (more.0, cc (one.value, more.1), more.2)
 
 -- a place stays one, once it is known what the whole program is
-pub place_found : (h : HeaderNumbers) (earlier all : List Op) (prefix rest program : List ℕ) → AreHeaderNumbers h → Each (OpBytes h) earlier prefix
+pub place_found : (h : NumberParts) (earlier all : List Op) (prefix rest program : List ℕ) → AreHeaderNumbers h → Each (OpBytes h) earlier prefix
     → Each (OpBytes h) all program → program ≡ prefix ++ rest
     → (later : List Op) × (all ≡ earlier ++ later) × IsPlace h program earlier later (length prefix)
 place_found h earlier all prefix rest program header p q whole = grind (arith, common_steps, each_after)
 
 -- a walk that begins at a place has the later operations before it
-pub left_at : (h : HeaderNumbers) (program : List ℕ) (earlier later : List Op) (place : ℕ) (walk : Walk)
+pub left_at : (h : NumberParts) (program : List ℕ) (earlier later : List Op) (place : ℕ) (walk : Walk)
     → IsPlace h program earlier later place
     → walk.header ≡ h → walk.failed ≡ false → walk.at.rest ≡ drop place program → OperationsAreLeft h later walk
 left_at h program earlier later place walk is header going rest = grind (arith, common_steps, drop-append_seam)

@@ -20,7 +20,7 @@ use Rattle.lnt_header.specs.OpRules.{Coding, coding, Following, following, known
 use Rattle.lnt_header.specs.OpRules.{standard_length, taken_by}
 use Rattle.lnt_header.specs.OpRules.Following.{as_listed, by_length, nothing_more, one_signed, one_unsigned, two_bytes}
 use Rattle.lnt_header.specs.OpRules.Taken.{takes_address, takes_any, takes_nothing, takes_number}
-use Rattle.lnt_header.specs.HeaderNumbers.{HeaderNumbers}
+use Rattle.lnt_header.specs.declared.numbers.NumberParts.{NumberParts}
 use Rattle.lnt_header.proofs.FirstFaultLaws.{AreOne, each_one, field_fault, IsHere, IsOneFault, several_of}
 use Rattle.lnt_ops.proofs.ExtendedReaders.{right_of, unknown_takes}
 use Rattle.lnt_ops.proofs.OpLaws.{extended_parts, follows, op_code, op_is_some, takes_its, TakesIts}
@@ -133,7 +133,7 @@ extended_none size reason past left code operand spelling more (counted n x rest
 
 -- ---- operands, by their opcodes
 
-abbrev OfOperand : HeaderNumbers → ℕ → Following → Reason → List ℕ → List ℕ → Type 0
+abbrev OfOperand : NumberParts → ℕ → Following → Reason → List ℕ → List ℕ → Type 0
 OfOperand h code by_length reason past left = IsExtendedFault h.address_size reason past left
 OfOperand h code one_unsigned reason past left = IsHere (IsLebFault IsLargeUnsigned) reason past left
 OfOperand h code one_signed reason past left = IsHere (IsLebFault IsLargeSigned) reason past left
@@ -145,13 +145,13 @@ OfOperand h code as_listed reason past left =
 signed_here : IsOneFault SignedLeb (IsHere (IsLebFault IsLargeSigned))
 signed_here = field_fault SignedLeb (IsLebFault IsLargeSigned) signed_fault
 
-fixed_here : (h : HeaderNumbers) → IsOneFault (NumberBytes h.order 2) (IsHere (IsCutShort 2))
+fixed_here : (h : NumberParts) → IsOneFault (NumberBytes h.order 2) (IsHere (IsCutShort 2))
 fixed_here h = field_fault (NumberBytes h.order 2) (IsCutShort 2) (number_fault h.order 2)
 
 listed_here : (n : ℕ) → IsOneFault (Several n UnsignedLeb) (FirstOfSeveral n UnsignedLeb (IsHere (IsLebFault IsLargeUnsigned)))
 listed_here n = several_of UnsignedLeb (IsHere (IsLebFault IsLargeUnsigned)) unsigned_code unsigned_here n
 
-operand_one : (h : HeaderNumbers) (code : ℕ) (kind : Following) → AreOne (OfOperand h code kind)
+operand_one : (h : NumberParts) (code : ℕ) (kind : Following) → AreOne (OfOperand h code kind)
 operand_one h code by_length reason other before before' left left' p q e =
     extended_one h.address_size reason other before before' left left' p q e
 operand_one h code one_unsigned reason other before before' left left' p q e =
@@ -163,25 +163,25 @@ operand_one h code as_listed reason other before before' left left' p q e =
     (listed_here (standard_length h code)).one reason other before before' left left' p q e
 
 -- the fault of an operand stands after an opcode that isn't special
-record IsOperandFault (h : HeaderNumbers) (reason : Reason) (before left : List ℕ) : Type 0 where
+record IsOperandFault (h : NumberParts) (reason : Reason) (before left : List ℕ) : Type 0 where
   code : ℕ
   past : List ℕ
   within : code < h.opcode_base
   joined : before ≡ code ∷ past
   fault : OfOperand h code (following code) reason past left
 
-data IsOpcodeFault (h : HeaderNumbers) (reason : Reason) (before left : List ℕ) : Type 0 where
+data IsOpcodeFault (h : NumberParts) (reason : Reason) (before left : List ℕ) : Type 0 where
   nothing : reason ≡ Truncated → before ≡ [] → left ≡ [] → IsOpcodeFault h reason before left
   operand : IsOperandFault h reason before left → IsOpcodeFault h reason before left
 
 takes_listed : (code : ℕ) → last_known < code → following code ≡ as_listed
 takes_listed code le = get_or_past known_followings code as_listed le
 
-operand_fault : (h : HeaderNumbers) (k : ℕ) (kind : Following) (reason : Reason) (past before left : List ℕ) → following k ≡ kind
+operand_fault : (h : NumberParts) (k : ℕ) (kind : Following) (reason : Reason) (past before left : List ℕ) → following k ≡ kind
     → k < h.opcode_base → before ≡ k ∷ past → OfOperand h k kind reason past left → IsOpcodeFault h reason before left
 operand_fault h k kind reason past before left takes lt b fault = grind (arith, common_steps)
 
-opcode_fault : (h : HeaderNumbers) (reason : Reason) (before left : List ℕ) → 0 < h.opcode_base → IsFirstFault h reason before left
+opcode_fault : (h : NumberParts) (reason : Reason) (before left : List ℕ) → 0 < h.opcode_base → IsFirstFault h reason before left
     → IsOpcodeFault h reason before left
 opcode_fault h reason before left some (no_opcode e b l) = nothing e b l
 opcode_fault h reason before left some (unsigned_operand k takes lt b p) =
@@ -204,7 +204,7 @@ opcode_fault h reason before left some (large_counted spelling o rest e p b l sh
     (append_assoc spelling (b.0 ∷ []) left ∙ ap (λ (z : List ℕ). spelling ++ b.0 ∷ z) l)
     (large b.0 o rest e refl (omega arith) refl b.1 shape much))
 
-opcode_one : (h : HeaderNumbers) → AreOne (IsOpcodeFault h)
+opcode_one : (h : NumberParts) → AreOne (IsOpcodeFault h)
 opcode_one h reason other before before' left left' (nothing is b l) (nothing is' b' l') e = (is ∙ sym is', b ∙ sym b')
 opcode_one h reason other before before' left left' (nothing is b l) (operand f) e = absurd (omega
     (arith, ap length e, length-append before left, length-append before' left', ap length b, ap length l, ap length f.joined))
@@ -223,18 +223,18 @@ opcode_one h reason other before before' left left' (operand f) (operand g) e =
 -- ---- operations that are there
 
 -- the operand of a standard operation, and the fault that would be its own
-record StandardAt (h : HeaderNumbers) (k : ℕ) (OfOpcode : List ℕ → Type 0) (reason : Reason) (more past left : List ℕ) : Type 0 where
+record StandardAt (h : NumberParts) (k : ℕ) (OfOpcode : List ℕ → Type 0) (reason : Reason) (more past left : List ℕ) : Type 0 where
   bytes : List ℕ
   spelled : OfOpcode bytes
   joined : bytes ++ more ≡ past ++ left
   fault : OfOperand h k (following k) reason past left
 
-standard_at : (h : HeaderNumbers) (k : ℕ) (OfOpcode : List ℕ → Type 0) (reason : Reason) (before left x more : List ℕ)
+standard_at : (h : NumberParts) (k : ℕ) (OfOpcode : List ℕ → Type 0) (reason : Reason) (before left x more : List ℕ)
     → (f : IsOperandFault h reason before left) → Standard h k OfOpcode x
     → x ++ more ≡ before ++ left → StandardAt h k OfOpcode reason more f.past left
 standard_at h k OfOpcode reason before left x more f p e = grind (arith, common_steps)
 
-extended_at : (h : HeaderNumbers) (code : ℕ) (OfCode : List ℕ → Type 0) (reason : Reason) (before left x more : List ℕ)
+extended_at : (h : NumberParts) (code : ℕ) (OfCode : List ℕ → Type 0) (reason : Reason) (before left x more : List ℕ)
     → IsOperandFault h reason before left → Extended code OfCode x → x ++ more ≡ before ++ left
     → ((bytes : List ℕ) → OfCode bytes → IsRightOperand h.address_size (code ∷ bytes)
     × (taken_by code ≡ takes_number → IsLargeUnsigned bytes → ⊥)) → ⊥
@@ -250,7 +250,7 @@ extended_at h code OfCode reason before left x more f p e right =
     extended_none h.address_size reason f.past left code q.operand q.spelling more fault q.spelled is.0 is.1
     (sym (append_assoc q.spelling (code ∷ q.operand) more) ∙ tails)
 
-fault_none : (h : HeaderNumbers) (k : ℕ) (taken : Operand) (reason : Reason) (more past left : List ℕ)
+fault_none : (h : NumberParts) (k : ℕ) (taken : Operand) (reason : Reason) (more past left : List ℕ)
     → (s : StandardAt h k (OperandBytes h taken) reason more past left) → OfOperand h k (follows taken) reason past left → ⊥
 fault_none h k Operand.bare reason more past left s fault = fault
 fault_none h k (Operand.unsigned n) reason more past left s fault =
@@ -259,7 +259,7 @@ fault_none h k (Operand.signed z) reason more past left s fault = signed_here.no
 fault_none h k (Operand.half n) reason more past left s fault = (fixed_here h).none reason past left fault n s.bytes more s.spelled s.joined
 
 -- no operation stands where an operand has a fault
-coding_none : (h : HeaderNumbers) (reason : Reason) (before left : List ℕ) (c : Coding) (x more : List ℕ) → TakesIts c
+coding_none : (h : NumberParts) (reason : Reason) (before left : List ℕ) (c : Coding) (x more : List ℕ) → TakesIts c
     → IsOperandFault h reason before left → CodingBytes h c x → x ++ more ≡ before ++ left → ⊥
 coding_none h reason before left (Coding.special c) x more takes f p e =
     let all : c ∷ more ≡ f.code ∷ (f.past ++ left) =
@@ -297,7 +297,7 @@ coding_none h reason before left (Coding.unknown_extended code taken) x more tak
       λ number. let other : takes_any ≡ takes_number = sym any ∙ number in absurd cc,
     ))
 
-opcode_none : (h : HeaderNumbers) (reason : Reason) (before left : List ℕ) → IsOpcodeFault h reason before left
+opcode_none : (h : NumberParts) (reason : Reason) (before left : List ℕ) → IsOpcodeFault h reason before left
     → NoneSpelled (OpBytes h) (before ++ left)
 opcode_none h reason before left (nothing is b l) op x more p e =
     omega (arith, op_is_some h op x p, ap length e, length-append x more, length-append before left, ap length b, ap length l)
@@ -305,11 +305,11 @@ opcode_none h reason before left (operand f) op x more p e = coding_none h reaso
 
 -- ---- operations, and programs
 
-pub first_none : (h : HeaderNumbers) (reason : Reason) (before left : List ℕ) → 0 < h.opcode_base → IsFirstFault h reason before left
+pub first_none : (h : NumberParts) (reason : Reason) (before left : List ℕ) → 0 < h.opcode_base → IsFirstFault h reason before left
     → NoneSpelled (OpBytes h) (before ++ left)
 first_none h reason before left some f = opcode_none h reason before left (opcode_fault h reason before left some f)
 
-pub first_fault : (h : HeaderNumbers) → AreHeaderNumbers h → IsOneFault (OpBytes h) (IsFirstFault h)
+pub first_fault : (h : NumberParts) → AreHeaderNumbers h → IsOneFault (OpBytes h) (IsFirstFault h)
 first_fault h numbers =
     let some : 0 < h.opcode_base = omega (arith, numbers.opcode_base) in
     record {
@@ -319,7 +319,7 @@ first_fault h numbers =
           (opcode_fault h other before' left' some g) e;
     }
 
-first_in_one : (h : HeaderNumbers) → AreHeaderNumbers h → AreOne (IsFirstIn h)
+first_in_one : (h : NumberParts) → AreHeaderNumbers h → AreOne (IsFirstIn h)
 first_in_one h numbers reason other before before' left left' f g e =
     let all : f.prefix ++ (f.fields ++ left) ≡ g.prefix ++ (g.fields ++ left') =
     sym (ap (λ (z : List ℕ). z ++ left) f.joined ∙ append_assoc f.prefix f.fields left) ∙ e ∙ ap (λ (z : List ℕ). z ++ left') g.joined
@@ -330,7 +330,7 @@ first_in_one h numbers reason other before before' left left' f g e =
     (found.0, f.joined ∙ found.1 ∙ sym g.joined)
 
 -- a program has one fault
-pub program_one : (h : HeaderNumbers) (place : ℕ) (program : List ℕ) (fault other : Fault) → AreHeaderNumbers h
+pub program_one : (h : NumberParts) (place : ℕ) (program : List ℕ) (fault other : Fault) → AreHeaderNumbers h
     → BrokenProgram h place program fault → BrokenProgram h place program other
     → (fault.place ≡ other.place) × (fault.reason ≡ other.reason)
 program_one h place program fault other numbers f g =

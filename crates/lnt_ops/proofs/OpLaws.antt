@@ -8,7 +8,7 @@ use Rattle.lnt_wire.specs.Bytes.{Exactly, IsCode}
 use Rattle.lnt_wire.specs.Leb128.{UnsignedLeb}
 use Rattle.lnt_wire.proofs.CodeLaws.{same_leb, unsigned_code, signed_code, number_code, peel, same_join}
 use Rattle.lnt_wire.proofs.LengthLaws.{IsWidth, width_2, width_4, width_8, same_prefix, same_rest}
-use Rattle.lnt_header.specs.HeaderNumbers.{HeaderNumbers}
+use Rattle.lnt_header.specs.declared.numbers.NumberParts.{NumberParts}
 use Rattle.lnt_header.specs.declared.op.Op.{Op}
 use Rattle.lnt_header.specs.declared.op.Op.TheVariants.{Special}
 use Rattle.lnt_header.specs.HeaderRules.{IsAddressSize, AreHeaderNumbers}
@@ -66,7 +66,7 @@ data Shape (opcode_base t : ℕ) (x : List ℕ) : Type 0 where
   extended : (code : ℕ) (operand spelling : List ℕ) → t ≡ 2 * code + 2 → UnsignedLeb (length (code ∷ operand)) spelling
       → x ≡ 0 ∷ (spelling ++ (code ∷ operand)) → Shape opcode_base t x
 
-standard_shape : (h : HeaderNumbers) (k t : ℕ) (Operand : List ℕ → Type 0) (x : List ℕ) → t ≡ 2 * k + 1 → 0 < k → Standard h k Operand x
+standard_shape : (h : NumberParts) (k t : ℕ) (Operand : List ℕ → Type 0) (x : List ℕ) → t ≡ 2 * k + 1 → 0 < k → Standard h k Operand x
     → Shape h.opcode_base t x
 standard_shape h k t Operand x e positive p = standard k p.1.back e positive p.0 (p.1.joined ∙ ap (λ (z : List ℕ). z ++ p.1.back) p.1.first)
 
@@ -81,7 +81,7 @@ pub record ExtendedParts (code : ℕ) (Operand : List ℕ → Type 0) (x : List 
 pub extended_parts : (code : ℕ) (Operand : List ℕ → Type 0) (x : List ℕ) → Extended code Operand x → ExtendedParts code Operand x
 extended_parts code Operand x p = grind (arith, common_steps)
 
-extended_shape : (h : HeaderNumbers) (code t : ℕ) (Operand : List ℕ → Type 0) (x : List ℕ) → t ≡ 2 * code + 2 → Extended code Operand x
+extended_shape : (h : NumberParts) (code t : ℕ) (Operand : List ℕ → Type 0) (x : List ℕ) → t ≡ 2 * code + 2 → Extended code Operand x
     → Shape h.opcode_base t x
 extended_shape h code t Operand x e p =
     let q = extended_parts code Operand x p in extended code q.operand q.spelling e q.spelled q.joined
@@ -95,7 +95,7 @@ positive : (op : Op) → IsPositive (coding op)
 positive (Special c) = omega arith
 positive op = omega arith
 
-coding_shape : (h : HeaderNumbers) (c : Coding) (x : List ℕ) → IsPositive c → CodingBytes h c x → Shape h.opcode_base (tag_of c) x
+coding_shape : (h : NumberParts) (c : Coding) (x : List ℕ) → IsPositive c → CodingBytes h c x → Shape h.opcode_base (tag_of c) x
 coding_shape h (Coding.special c) x some p = special c refl p.0 p.2
 coding_shape h (Coding.standard k operand) x some p = standard_shape h k (2 * k + 1) _ x refl some p
 coding_shape h (Coding.unknown_standard k operands) x some p = standard_shape h k (2 * k + 1) _ x refl (omega (arith, p.0)) p.2
@@ -104,7 +104,7 @@ coding_shape h (Coding.extended_number code n) x some p = extended_shape h code 
 coding_shape h (Coding.extended_address code address) x some p = extended_shape h code (2 * code + 2) _ x refl p
 coding_shape h (Coding.unknown_extended code operand) x some p = extended_shape h code (2 * code + 2) _ x refl p.2
 
-shape_of : (h : HeaderNumbers) (op : Op) (x : List ℕ) → OpBytes h op x → Shape h.opcode_base (tag op) x
+shape_of : (h : NumberParts) (op : Op) (x : List ℕ) → OpBytes h op x → Shape h.opcode_base (tag op) x
 shape_of h op x p = coding_shape h (coding op) x (positive op) p
 
 -- the same first bytes say the same
@@ -137,14 +137,14 @@ same_shape base t t' x y r s pos (extended code u l tag leb p) (extended code' u
     let codes : code ≡ code' = cc in
     omega arith
 
-pub same_tag : (h : HeaderNumbers) (u v : Op) (x y r s : List ℕ) → 0 < h.opcode_base → OpBytes h u x → OpBytes h v y → x ++ r ≡ y ++ s
+pub same_tag : (h : NumberParts) (u v : Op) (x y r s : List ℕ) → 0 < h.opcode_base → OpBytes h u x → OpBytes h v y → x ++ r ≡ y ++ s
     → tag u ≡ tag v
 same_tag h u v x y r s pos p q e = same_shape h.opcode_base (tag u) (tag v) x y r s pos (shape_of h u x p) (shape_of h v y q) e
 
 -- ---- its operand
 
 -- a standard operation with an operand
-same_operand : {X : Type 0} {P : X → List ℕ → Type 0} → IsCode P → (make : ℕ → X → Coding) (h : HeaderNumbers) (j k : ℕ) (m n : X)
+same_operand : {X : Type 0} {P : X → List ℕ → Type 0} → IsCode P → (make : ℕ → X → Coding) (h : NumberParts) (j k : ℕ) (m n : X)
     (x y r s : List ℕ) → Standard h j (P m) x → Standard h k (P n) y → x ++ r ≡ y ++ s → (make j m ≡ make k n) × (x ≡ y)
 same_operand code make h j k m n x y r s p q e = grind (arith, common_steps, peel, byte_code, same_join)
 
@@ -179,7 +179,7 @@ same_unknown c d t t' x y r s p q e =
     let operands : t ≡ t' = cc in
     (ap (λ (a : ℕ). Coding.unknown_extended a t) codes ∙ ap (Coding.unknown_extended d) operands, found.1)
 
-same_unknown_standard : (h : HeaderNumbers) (k l : ℕ) (us vs x y r s : List ℕ) → length us ≡ standard_length h k
+same_unknown_standard : (h : NumberParts) (k l : ℕ) (us vs x y r s : List ℕ) → length us ≡ standard_length h k
     → length vs ≡ standard_length h l → Standard h k (Each UnsignedLeb us) x → Standard h l (Each UnsignedLeb vs) y → x ++ r ≡ y ++ s
     → (Coding.unknown_standard k us ≡ Coding.unknown_standard l vs) × (x ≡ y)
 same_unknown_standard h k l us vs x y r s m n p q e = grind (arith, common_steps, peel, byte_code, same_each, unsigned_code, same_join)
@@ -206,13 +206,13 @@ kind (Coding.unknown_extended code operand) = 5
 kind (Coding.standard k operand) = 6 + operand_kind operand
 
 -- An opcode has one kind of operand. The clauses are for each pair of operations.
-same_kind : (h : HeaderNumbers) (u v : Op) (x y : List ℕ) → tag u ≡ tag v → OpBytes h u x → OpBytes h v y → kind (coding u) ≡ kind (coding v)
+same_kind : (h : NumberParts) (u v : Op) (x y : List ℕ) → tag u ≡ tag v → OpBytes h u x → OpBytes h v y → kind (coding u) ≡ kind (coding v)
 unfolding operand_kind
 same_kind h (Special c) (Special d) x y t p q = refl
 same_kind h u (Special d) x y t p q = absurd (omega arith)
 same_kind h u v x y t p q = omega arith
 
-same_coding : (h : HeaderNumbers) (width : IsWidth h.address_size) (c d : Coding) (x y r s : List ℕ) → kind c ≡ kind d → CodingBytes h c x
+same_coding : (h : NumberParts) (width : IsWidth h.address_size) (c d : Coding) (x y r s : List ℕ) → kind c ≡ kind d → CodingBytes h c x
     → CodingBytes h d y → x ++ r ≡ y ++ s → (c ≡ d) × (x ≡ y)
 unfolding operand_kind
 same_coding h width (Coding.special c) (Coding.special d) x y r s t p q e =
@@ -242,11 +242,11 @@ one_coding (Special c) (Special d) e = cc
 one_coding u (Special d) e = cc
 one_coding u v e = cc
 
-same_of_tag : (h : HeaderNumbers) (width : IsWidth h.address_size) (u v : Op) (x y r s : List ℕ) → tag u ≡ tag v → OpBytes h u x
+same_of_tag : (h : NumberParts) (width : IsWidth h.address_size) (u v : Op) (x y r s : List ℕ) → tag u ≡ tag v → OpBytes h u x
     → OpBytes h v y → x ++ r ≡ y ++ s → (u ≡ v) × (x ≡ y)
 same_of_tag h width u v x y r s t p q e = grind (arith, common_steps, same_coding, same_kind, one_coding)
 
-pub op_code : (h : HeaderNumbers) → AreHeaderNumbers h → IsCode (OpBytes h)
+pub op_code : (h : NumberParts) → AreHeaderNumbers h → IsCode (OpBytes h)
 op_code h numbers =
     let size = numbers.address_size in
     let some : 0 < h.opcode_base = omega (arith, numbers.opcode_base) in
@@ -261,7 +261,7 @@ some_shape base t x (special c tag le p) = omega (arith, ap length p)
 some_shape base t x (standard k u tag some lt p) = omega (arith, ap length p)
 some_shape base t x (extended code u l tag leb p) = omega (arith, ap length p)
 
-pub op_is_some : (h : HeaderNumbers) (op : Op) (x : List ℕ) → OpBytes h op x → 0 < length x
+pub op_is_some : (h : NumberParts) (op : Op) (x : List ℕ) → OpBytes h op x → 0 < length x
 op_is_some h op x p = some_shape h.opcode_base (tag op) x (shape_of h op x p)
 
 -- ---- what is spelled is allowed
@@ -270,13 +270,13 @@ numbers_fit : (numbers : List ℕ) (x : List ℕ) → Each UnsignedLeb numbers x
 numbers_fit [] x p = tt
 numbers_fit (n ∷ numbers) x p = (p.first.fits, numbers_fit numbers p.back p.second)
 
-operand_fits : (h : HeaderNumbers) (operand : Operand) (x : List ℕ) → OperandBytes h operand x → FitsOperand operand
+operand_fits : (h : NumberParts) (operand : Operand) (x : List ℕ) → OperandBytes h operand x → FitsOperand operand
 operand_fits h Operand.bare x p = tt
 operand_fits h (Operand.unsigned n) x p = p.fits
 operand_fits h (Operand.signed z) x p = p.fits
 operand_fits h (Operand.half n) x p = omega (arith, p.fits)
 
-coding_allowed : (h : HeaderNumbers) (c : Coding) (x : List ℕ) → CodingBytes h c x → AdmitsCoding h c × FitsCoding c
+coding_allowed : (h : NumberParts) (c : Coding) (x : List ℕ) → CodingBytes h c x → AdmitsCoding h c × FitsCoding c
 coding_allowed h (Coding.special c) x p = (p.0, omega (arith, p.1))
 coding_allowed h (Coding.standard k operand) x p = (p.0, operand_fits h operand p.1.back p.1.second)
 coding_allowed h (Coding.unknown_standard k operands) x p = ((p.0, p.2.0, p.1), numbers_fit operands p.2.1.back p.2.1.second)
@@ -287,7 +287,7 @@ coding_allowed h (Coding.unknown_extended code operand) x p =
     let q = extended_parts code (Exactly operand) x p.2 in
     (p.0, (omega (arith, p.1), omega (arith, q.spelled.fits, ap length q.is)))
 
-pub op_allowed : (h : HeaderNumbers) (op : Op) (x : List ℕ) → OpBytes h op x → Admits h op × FitsOp op
+pub op_allowed : (h : NumberParts) (op : Op) (x : List ℕ) → OpBytes h op x → Admits h op × FitsOp op
 op_allowed h op x p = coding_allowed h (coding op) x p
 
 -- ---- programs
@@ -307,7 +307,7 @@ same_whole code some (u ∷ us) (v ∷ vs) x y p q e =
     let tails : us ≡ vs = same_whole code some us vs p.back q.back p.second q.second past in
     cc
 
-pub same_program : (h : HeaderNumbers) → AreHeaderNumbers h → (us vs : List Op) (bytes : List ℕ) → Each (OpBytes h) us bytes
+pub same_program : (h : NumberParts) → AreHeaderNumbers h → (us vs : List Op) (bytes : List ℕ) → Each (OpBytes h) us bytes
     → Each (OpBytes h) vs bytes → us ≡ vs
 same_program h numbers us vs bytes p q = same_whole (op_code h numbers) (op_is_some h) us vs bytes bytes p q refl
 

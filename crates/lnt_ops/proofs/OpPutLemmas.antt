@@ -13,7 +13,7 @@ use Rattle.lnt_wire.proofs.CodeLaws.{unsigned_code}
 use Rattle.lnt_wire.specs.Leb128.{UnsignedLeb, IsLargeUnsigned, IsLebFault}
 use Rattle.lnt_wire.specs.Numbers.{NumberBytes}
 use Rattle.lnt_wire.proofs.LengthLaws.{length-number_bytes}
-use Rattle.lnt_header.specs.HeaderNumbers.{HeaderNumbers}
+use Rattle.lnt_header.specs.declared.numbers.NumberParts.{NumberParts}
 use Rattle.lnt_header.specs.declared.op.Op.{Op}
 use Rattle.lnt_header.specs.declared.op.Op.TheVariants.{UnknownStandard}
 use Rattle.lnt_header.specs.declared.op.OpView.{OpView}
@@ -171,16 +171,16 @@ pub alone : (code : ℕ) (old new : List ℕ) → new ≡ old ++ code ∷ [] →
 alone code old new put = grind (arith, common_steps)
 
 -- what was put is of the operation that is coded so
-of_coding : (h : HeaderNumbers) (op : Op) (c : Coding) (old new : List ℕ) → coding op ≡ c → Appends (CodingBytes h) c old new
+of_coding : (h : NumberParts) (op : Op) (c : Coding) (old new : List ℕ) → coding op ≡ c → Appends (CodingBytes h) c old new
     → Appends (OpBytes h) op old new
 of_coding h op c old new is p = grind (arith, common_steps, put_as)
 
 view_put : (order : Order) (size : ℕ) (view : OpView) (c : Coding) (old new : List ℕ) → coding_of view ≡ c → (IsListed c → ⊥)
-    → ((h : HeaderNumbers) → h.order ≡ order → h.address_size ≡ size → AdmitsCoding h c → Appends (CodingBytes h) c old new)
+    → ((h : NumberParts) → h.order ≡ order → h.address_size ≡ size → AdmitsCoding h c → Appends (CodingBytes h) c old new)
     → AddsView order size view old new
 view_put order size view c old new e known put = grind (arith, common_steps, is_coded, of_coding)
 
-standard_as : {X : Type 0} (Spells : X → List ℕ → Type 0) (x : X) (h : HeaderNumbers) (k : ℕ) (c : Coding) (old new : List ℕ)
+standard_as : {X : Type 0} (Spells : X → List ℕ → Type 0) (x : X) (h : NumberParts) (k : ℕ) (c : Coding) (old new : List ℕ)
     → ((y : List ℕ) → Standard h k (Spells x) y → CodingBytes h c y) → ((y : List ℕ) → CodingBytes h c y → Standard h k (Spells x) y)
     → k < h.opcode_base → Appends (Coded k Spells) x old new → Appends (CodingBytes h) c old new
 standard_as Spells x h k c old new to from low p = grind (arith, common_steps, put_as)
@@ -192,8 +192,8 @@ special_put order size view c old new e low put = grind (arith, common_steps, vi
 -- a standard operation, where numbers of some bytes have the order of the header
 pub standard_put : {X : Type 0} (Spells : Order → X → List ℕ → Type 0) (x : X) (order : Order) (size : ℕ) (view : OpView) (k : ℕ)
     (operand : Operand) (old new : List ℕ) → coding_of view ≡ Coding.standard k operand
-    → ((h : HeaderNumbers) (y : List ℕ) → Standard h k (Spells h.order x) y → CodingBytes h (Coding.standard k operand) y)
-    → ((h : HeaderNumbers) (y : List ℕ) → CodingBytes h (Coding.standard k operand) y → Standard h k (Spells h.order x) y)
+    → ((h : NumberParts) (y : List ℕ) → Standard h k (Spells h.order x) y → CodingBytes h (Coding.standard k operand) y)
+    → ((h : NumberParts) (y : List ℕ) → CodingBytes h (Coding.standard k operand) y → Standard h k (Spells h.order x) y)
     → Appends (Coded k (Spells order)) x old new → AddsView order size view old new
 standard_put Spells x order size view k operand old new e to from p =
     view_put order size view (Coding.standard k operand) old new e (λ listed. listed)
@@ -203,8 +203,8 @@ standard_put Spells x order size view k operand old new e to from p =
 -- an extended operation, where an address also has the size of the header
 pub extended_view_put : {X : Type 0} (Spells : Order → ℕ → X → List ℕ → Type 0) (x : X) (order : Order) (size : ℕ) (view : OpView)
     (code : ℕ) (c : Coding) (old new : List ℕ) → coding_of view ≡ c → (IsListed c → ⊥)
-    → ((h : HeaderNumbers) (y : List ℕ) → AdmitsCoding h c → Extended code (Spells h.order h.address_size x) y → CodingBytes h c y)
-    → ((h : HeaderNumbers) (y : List ℕ) → CodingBytes h c y → Extended code (Spells h.order h.address_size x) y)
+    → ((h : NumberParts) (y : List ℕ) → AdmitsCoding h c → Extended code (Spells h.order h.address_size x) y → CodingBytes h c y)
+    → ((h : NumberParts) (y : List ℕ) → CodingBytes h c y → Extended code (Spells h.order h.address_size x) y)
     → Appends (ExtendedCoded code (Spells order size)) x old new → AddsView order size view old new
 extended_view_put Spells x order size view code c old new e known to from p = view_put order size view c old new e known (λ h o s a.
     let sized : Appends (ExtendedCoded code (Spells order h.address_size)) x old new =
@@ -227,11 +227,11 @@ unknown_standard_put order size view k operands old new is p =
 -- ---- what a view is of
 
 -- an operation of a header
-pub is_op_of_header : (h : HeaderNumbers) (op : Op) (view : OpView) (size : ℕ) → Admits h op → StandsFor view op → size ≡ h.address_size
+pub is_op_of_header : (h : NumberParts) (op : Op) (view : OpView) (size : ℕ) → Admits h op → StandsFor view op → size ≡ h.address_size
     → IsOpOf size view
 is_op_of_header h op view size admits stands sized = record { header = h; op = op; size_is = sym sized; stands = stands; admitted = admits }
 
-pub op_put : (h : HeaderNumbers) (op : Op) (view : OpView) (order : Order) (size : ℕ) (old new : List ℕ) → Admits h op → StandsFor view op
+pub op_put : (h : NumberParts) (op : Op) (view : OpView) (order : Order) (size : ℕ) (old new : List ℕ) → Admits h op → StandsFor view op
     → order ≡ h.order → size ≡ h.address_size → AddsView order size view old new → Appends (OpBytes h) op old new
 op_put h op view order size old new admits stands ordered sized p = p.adds h op (sym ordered) (sym sized) stands admits
 
@@ -274,7 +274,7 @@ spelled_done bytes old new at fault some so r = record {
 
 -- ---- lists of operations
 
-pub ops_more : (h : HeaderNumbers) (ops : List Op) (i : ℕ) (op : Op) (old middle new : List ℕ) → i < length ops → op ≡ get_or ops i op
+pub ops_more : (h : NumberParts) (ops : List Op) (i : ℕ) (op : Op) (old middle new : List ℕ) → i < length ops → op ≡ get_or ops i op
     → Appends (Each (OpBytes h)) (take i ops) old middle → Appends (OpBytes h) op middle new
     → Appends (Each (OpBytes h)) (take (i + 1) ops) old new
 ops_more h ops i op old middle new lt is p q =

@@ -6,7 +6,7 @@ use Rattle.lnt_wire.specs.Bytes.{NoneSpelled}
 use Rattle.lnt_wire.specs.declared.fault.Fault.{Fault}
 use Rattle.lnt_wire.specs.Numbers.{NumberBytes}
 use Rattle.lnt_wire.specs.Reading.{Reads, RefusesField, Refuses, IsCutShort}
-use Rattle.lnt_header.specs.HeaderNumbers.{HeaderNumbers}
+use Rattle.lnt_header.specs.declared.numbers.NumberParts.{NumberParts}
 use Rattle.lnt_header.specs.declared.op.Op.TheVariants as ops
 use Rattle.lnt_header.specs.declared.op.OpView.{OpView}
 use Rattle.lnt_header.specs.declared.op.OpView.TheVariants as views
@@ -28,10 +28,10 @@ reads_from P v old ahead new place rest order r = grind (arith, common_steps)
 
 -- ---- the first byte
 
-byte_is : (h : HeaderNumbers) (k : ℕ) (old middle : At) → (r : Reads (NumberBytes old.order 1) k old middle) → r.spelling ≡ k ∷ []
+byte_is : (h : NumberParts) (k : ℕ) (old middle : At) → (r : Reads (NumberBytes old.order 1) k old middle) → r.spelling ≡ k ∷ []
 byte_is h k old middle r = r.spelled.spelled ∙ one_digit old.order k r.spelled.fits
 
-pub gives_special : (h : HeaderNumbers) (k : ℕ) (old ahead middle : At) → ahead.place ≡ old.place → ahead.rest ≡ old.rest
+pub gives_special : (h : NumberParts) (k : ℕ) (old ahead middle : At) → ahead.place ≡ old.place → ahead.rest ≡ old.rest
     → ahead.order ≡ old.order → Reads (NumberBytes ahead.order 1) k ahead middle
     → h.opcode_base ≤ k → GivesOp h (views.Special k) old middle
 gives_special h k old ahead middle place rest order r le =
@@ -50,21 +50,21 @@ gives_special h k old ahead middle place rest order r le =
       reads = reads_from (OpBytes h) (ops.Special k) old ahead middle place rest order read;
     }
 
-pub gives_after : (h : HeaderNumbers) (k : ℕ) (view : OpView) (old ahead middle new : At) → ahead.place ≡ old.place → ahead.rest ≡ old.rest
+pub gives_after : (h : NumberParts) (k : ℕ) (view : OpView) (old ahead middle new : At) → ahead.place ≡ old.place → ahead.rest ≡ old.rest
     → ahead.order ≡ old.order → Reads (NumberBytes ahead.order 1) k ahead middle → GivesAfter h k view middle new → GivesOp h view old new
 gives_after h k view old ahead middle new place rest order r g =
     grind (arith, common_steps, byte_is, append_assoc, length-append, reads_from)
 
 -- nothing is left, so no operation is
-pub first_opcode : (h : HeaderNumbers) (old ahead : At) (fault : Fault) → ahead.place ≡ old.place → ahead.rest ≡ old.rest
+pub first_opcode : (h : NumberParts) (old ahead : At) (fault : Fault) → ahead.place ≡ old.place → ahead.rest ≡ old.rest
     → RefusesField (IsCutShort 1) (NumberBytes ahead.order 1) ahead fault → Refuses (IsFirstFault h) (OpBytes h) old fault
 first_opcode h old ahead fault place rest r = grind (arith, common_steps, nil_from_length, op_is_some, length-append)
 
-pub refuses_opcode : (h : HeaderNumbers) (old ahead : At) (fault : Fault) → ahead.place ≡ old.place → ahead.rest ≡ old.rest
+pub refuses_opcode : (h : NumberParts) (old ahead : At) (fault : Fault) → ahead.place ≡ old.place → ahead.rest ≡ old.rest
     → RefusesField (IsCutShort 1) (NumberBytes ahead.order 1) ahead fault → Refuses (IsOpFault h.address_size) (OpBytes h) old fault
 refuses_opcode h old ahead fault place rest r = refuses_op h old fault (first_opcode h old ahead fault place rest r)
 
-pub first_after : (h : HeaderNumbers) (k : ℕ) (old ahead middle : At) (fault : Fault) → ahead.place ≡ old.place → ahead.rest ≡ old.rest
+pub first_after : (h : NumberParts) (k : ℕ) (old ahead middle : At) (fault : Fault) → ahead.place ≡ old.place → ahead.rest ≡ old.rest
     → Reads (NumberBytes ahead.order 1) k ahead middle → k < h.opcode_base → RefusesAfter h k middle fault
     → Refuses (IsFirstFault h) (OpBytes h) old fault
 first_after h k old ahead middle fault place rest r lt s =
@@ -80,7 +80,7 @@ first_after h k old ahead middle fault place rest r lt s =
       none = subst (NoneSpelled (OpBytes h)) (sym whole) (first_none h fault.reason (k ∷ s.before) s.left (omega (arith, lt)) s.reason);
     }
 
-pub refuses_after : (h : HeaderNumbers) (k : ℕ) (old ahead middle : At) (fault : Fault) → ahead.place ≡ old.place → ahead.rest ≡ old.rest
+pub refuses_after : (h : NumberParts) (k : ℕ) (old ahead middle : At) (fault : Fault) → ahead.place ≡ old.place → ahead.rest ≡ old.rest
     → Reads (NumberBytes ahead.order 1) k ahead middle → k < h.opcode_base → RefusesAfter h k middle fault
     → Refuses (IsOpFault h.address_size) (OpBytes h) old fault
 refuses_after h k old ahead middle fault place rest r lt s =

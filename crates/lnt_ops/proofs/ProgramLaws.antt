@@ -9,7 +9,7 @@ use Rattle.lnt_wire.specs.Bytes.{NoneSpelled, IsCode}
 use Rattle.lnt_wire.specs.declared.fault.Fault.{Fault}
 use Rattle.lnt_wire.proofs.CodeLaws.{peel}
 use Rattle.lnt_wire.specs.Reading.{Refuses}
-use Rattle.lnt_header.specs.HeaderNumbers.{HeaderNumbers}
+use Rattle.lnt_header.specs.declared.numbers.NumberParts.{NumberParts}
 use Rattle.lnt_header.specs.declared.op.Op.{Op}
 use Rattle.lnt_header.specs.declared.op.OpView.{OpView}
 use Rattle.lnt_header.specs.HeaderRules.{AreHeaderNumbers}
@@ -37,16 +37,16 @@ none_filled P (u ∷ us) x rest bytes code p some whole none (v ∷ vs) q =
     let one = peel code v u bytes x [] rest q p (append-nil bytes ∙ whole) in
     none_filled P us p.back rest q.back code p.second some (sym (append-nil q.back) ∙ one.past) none vs q.second
 
-all_more : (h : HeaderNumbers) (us : List Op) (u : Op) → AllByRecursion (Admits h) us → Admits h u → AllByRecursion (Admits h) (us ++ u ∷ [])
+all_more : (h : NumberParts) (us : List Op) (u : Op) → AllByRecursion (Admits h) us → Admits h u → AllByRecursion (Admits h) (us ++ u ∷ [])
 all_more h [] u all is = (is, tt)
 all_more h (v ∷ us) u all is = (all.0, all_more h us u all.1 is)
 
-pub ops_none : (h : HeaderNumbers) (place : ℕ) (program : List ℕ) (at : At) → at.place ≡ place → at.rest ≡ program → at.order ≡ h.order
+pub ops_none : (h : NumberParts) (place : ℕ) (program : List ℕ) (at : At) → at.place ≡ place → at.rest ≡ program → at.order ≡ h.order
     → OpsSoFar h place program [] at
 ops_none h place program at placed rest order =
     record { prefix = []; spelled = refl; admitted = tt; whole = sym rest; place_is = placed ∙ sym (add-zero place); order_is = order }
 
-pub ops_more : (h : HeaderNumbers) (place : ℕ) (program : List ℕ) (ops : List Op) (op : Op) (view : OpView) (at new : At)
+pub ops_more : (h : NumberParts) (place : ℕ) (program : List ℕ) (ops : List Op) (op : Op) (view : OpView) (at new : At)
     → OpsSoFar h place program ops at → GivesOp h view at new → StandsFor view op → OpsSoFar h place program (ops ++ op ∷ []) new
 ops_more h place program ops op view at new so g stands =
     let r = g.reads in
@@ -60,23 +60,23 @@ ops_more h place program ops op view at new so g stands =
       order_is = r.order ∙ so.order_is;
     }
 
-pub is_view : (h : HeaderNumbers) (view : OpView) (at new : At) → GivesOp h view at new → StandsForSome view
+pub is_view : (h : NumberParts) (view : OpView) (at new : At) → GivesOp h view at new → StandsForSome view
 is_view h view at new g = record { op = g.op; stands = g.stands }
 
 -- each operation shortens the rest
-pub op_long : (h : HeaderNumbers) (view : OpView) (at new : At) → GivesOp h view at new → length new.rest < length at.rest
+pub op_long : (h : NumberParts) (view : OpView) (at new : At) → GivesOp h view at new → length new.rest < length at.rest
 op_long h view at new g =
     let r = g.reads in omega (arith, op_is_some h g.op r.spelling r.spelled, ap length r.whole, length-append r.spelling new.rest)
 
-pub ops_spelled : (h : HeaderNumbers) (place : ℕ) (program : List ℕ) (ops : List Op) (at : At) → OpsSoFar h place program ops at
+pub ops_spelled : (h : NumberParts) (place : ℕ) (program : List ℕ) (ops : List Op) (at : At) → OpsSoFar h place program ops at
     → length at.rest ≡ 0 → Each (OpBytes h) ops program
 ops_spelled h place program ops at so none = grind (arith, common_steps, nil_from_length, append-nil)
 
-pub ops_admitted : (h : HeaderNumbers) (place : ℕ) (program : List ℕ) (ops : List Op) (at : At) → OpsSoFar h place program ops at
+pub ops_admitted : (h : NumberParts) (place : ℕ) (program : List ℕ) (ops : List Op) (at : At) → OpsSoFar h place program ops at
     → AllByRecursion (Admits h) ops
 ops_admitted h place program ops at so = so.admitted
 
-pub ops_broken : (h : HeaderNumbers) (place : ℕ) (program : List ℕ) (ops : List Op) (at : At) (fault : Fault) → AreHeaderNumbers h
+pub ops_broken : (h : NumberParts) (place : ℕ) (program : List ℕ) (ops : List Op) (at : At) (fault : Fault) → AreHeaderNumbers h
     → OpsSoFar h place program ops at → 0 < length at.rest
     → Refuses (IsFirstFault h) (OpBytes h) at fault → BrokenProgram h place program fault
 ops_broken h place program ops at fault header so some r = record {
@@ -91,24 +91,24 @@ ops_broken h place program ops at fault header so some r = record {
 
 -- ---- walks
 
-pub walk_more : (h : HeaderNumbers) (place : ℕ) (program : List ℕ) (ops : List Op) (op : Op) (view : OpView) (old new : Walk) → old.header ≡ h
+pub walk_more : (h : NumberParts) (place : ℕ) (program : List ℕ) (ops : List Op) (op : Op) (view : OpView) (old new : Walk) → old.header ≡ h
     → OpsSoFar h place program ops old.at → GivesOperation view old new → StandsFor view op
     → (new.header ≡ h) × (new.failed ≡ false) × OpsSoFar h place program (ops ++ op ∷ []) new.at
 walk_more h place program ops op view old new same so s stands =
-    let gives : GivesOp h view old.at new.at = subst (λ (g : HeaderNumbers). GivesOp g view old.at new.at) same s.gives in
+    let gives : GivesOp h view old.at new.at = subst (λ (g : NumberParts). GivesOp g view old.at new.at) same s.gives in
     (s.header_is ∙ same, s.goes_on, ops_more h place program ops op view old.at new.at so gives stands)
 
-pub walk_broken : (h : HeaderNumbers) (place : ℕ) (program : List ℕ) (ops : List Op) (fault : Fault) (old new : Walk) → AreHeaderNumbers h
+pub walk_broken : (h : NumberParts) (place : ℕ) (program : List ℕ) (ops : List Op) (fault : Fault) (old new : Walk) → AreHeaderNumbers h
     → old.header ≡ h → OpsSoFar h place program ops old.at → Fails fault old new → BrokenProgram h place program fault
 walk_broken h place program ops fault old new header same so f =
     let refuses : Refuses (IsFirstFault h) (OpBytes h) old.at fault = subst
-    (λ (g : HeaderNumbers). Refuses (IsFirstFault g) (OpBytes g) old.at fault) same f.first in
+    (λ (g : NumberParts). Refuses (IsFirstFault g) (OpBytes g) old.at fault) same f.first in
     ops_broken h place program ops old.at fault header so f.some refuses
 
 at_end : (walk : Walk) → walk.failed ≡ false → (walk.failed ≡ true) ⊎ (length walk.at.rest ≡ 0) → length walk.at.rest ≡ 0
 at_end walk going (inl failed) = absurd (true≢false (sym failed ∙ going))
 at_end walk going (inr empty) = empty
 
-pub walk_done : (h : HeaderNumbers) (place : ℕ) (program : List ℕ) (ops : List Op) (old new : Walk) → old.failed ≡ false
+pub walk_done : (h : NumberParts) (place : ℕ) (program : List ℕ) (ops : List Op) (old new : Walk) → old.failed ≡ false
     → OpsSoFar h place program ops old.at → Ends old new → Each (OpBytes h) ops program
 walk_done h place program ops old new going so e = ops_spelled h place program ops old.at so (at_end old going e.ended)

@@ -8,7 +8,7 @@ use Rattle.std.proofs.lemmas.Int.{ints}
 use Rattle.std.proofs.lemmas.List.{length-append, length-take-le, take-append-drop}
 use Rattle.lnt_wire.specs.At.{At}
 use Rattle.lnt_wire.specs.Leb128.{IsLeb, UnsignedLeb, SignedLeb, signed_groups}
-use Rattle.lnt_header.specs.HeaderNumbers.{HeaderNumbers}
+use Rattle.lnt_header.specs.declared.numbers.NumberParts.{NumberParts}
 use Rattle.lnt_header.specs.declared.op.Op.{Op}
 use Rattle.lnt_header.specs.declared.op.Op.TheVariants as ops
 use Rattle.lnt_header.specs.declared.op.OpView.{OpView}
@@ -88,12 +88,12 @@ discriminator_taken bytes n some first second third = rw (three_taken bytes some
 
 -- ---- operations
 
-prefix : (h : HeaderNumbers) (k : ℕ) (view : OpView) (op : Op) (n : ℕ) (bytes operand : List ℕ) → 0 < length bytes → get_or bytes 0 0 ≡ k
+prefix : (h : NumberParts) (k : ℕ) (view : OpView) (op : Op) (n : ℕ) (bytes operand : List ℕ) → 0 < length bytes → get_or bytes 0 0 ≡ k
     → operand ≡ drop 1 bytes → n ≤ length operand
     → StandsFor view op → Admits h op → OpBytes h op (k ∷ take n operand) → IsOperationPrefix h view (n + 1) bytes
 prefix h k view op n bytes operand some is same le stands admitted spelled = grind (arith, common_steps, one_less, after_one)
 
-pub prefix_special : (h : HeaderNumbers) (k : ℕ) (bytes : List ℕ) → 0 < length bytes → get_or bytes 0 0 ≡ k → h.opcode_base ≤ k → k < 256
+pub prefix_special : (h : NumberParts) (k : ℕ) (bytes : List ℕ) → 0 < length bytes → get_or bytes 0 0 ≡ k → h.opcode_base ≤ k → k < 256
     → IsOperationPrefix h (views.Special k) 1 bytes
 prefix_special h k bytes some is le byte =
     prefix h k (views.Special k) (ops.Special k) 0 bytes (drop 1 bytes) some is refl (omega arith) refl le (le, byte, refl)
@@ -102,24 +102,24 @@ some_bytes : (bytes : List ℕ) → false ≡ (length bytes == 0) → 0 < length
 some_bytes [] e = absurd cc
 some_bytes (b ∷ bytes) e = omega arith
 
-prefix_known : (h : HeaderNumbers) (view : OpView) (k n base : ℕ) (operand : Operand) (bytes rest : List ℕ)
+prefix_known : (h : NumberParts) (view : OpView) (k n base : ℕ) (operand : Operand) (bytes rest : List ℕ)
     → coding_of view ≡ standard k operand → false ≡ (length bytes == 0) → get_or bytes 0 0 ≡ k → get_or bytes 0 0 < base
     → base ≡ h.opcode_base → rest ≡ drop 1 bytes → n ≤ length rest → OperandBytes h operand (take n rest)
     → IsOperationPrefix h view (n + 1) bytes
 prefix_known h view k n base operand bytes rest e some is lt base_is same le p = grind (arith, common_steps, known_view, prefix, some_bytes)
 
-pub prefix_bare : (h : HeaderNumbers) (view : OpView) (k base : ℕ) (bytes : List ℕ) → coding_of view ≡ standard k bare
+pub prefix_bare : (h : NumberParts) (view : OpView) (k base : ℕ) (bytes : List ℕ) → coding_of view ≡ standard k bare
     → false ≡ (length bytes == 0) → get_or bytes 0 0 ≡ k → get_or bytes 0 0 < base → base ≡ h.opcode_base → IsOperationPrefix h view 1 bytes
 prefix_bare h view k base bytes e some is lt base_is =
     prefix_known h view k 0 base bare bytes (drop 1 bytes) e some is lt base_is refl (omega arith) refl
 
-pub prefix_unsigned : (h : HeaderNumbers) (view : OpView) (k n base : ℕ) (bytes operand : List ℕ) → coding_of view ≡ standard k (unsigned n)
+pub prefix_unsigned : (h : NumberParts) (view : OpView) (k n base : ℕ) (bytes operand : List ℕ) → coding_of view ≡ standard k (unsigned n)
     → false ≡ (length bytes == 0) → get_or bytes 0 0 ≡ k → get_or bytes 0 0 < base → base ≡ h.opcode_base → operand ≡ drop 1 bytes
     → (1 ≤ length operand) × UnsignedLeb n (take 1 operand) → IsOperationPrefix h view 2 bytes
 prefix_unsigned h view k n base bytes operand e some is lt base_is same p =
     prefix_known h view k 1 base (unsigned n) bytes operand e some is lt base_is same p.0 p.1
 
-pub prefix_signed : (h : HeaderNumbers) (view : OpView) (k size base : ℕ) (z : ℤ) (bytes operand : List ℕ)
+pub prefix_signed : (h : NumberParts) (view : OpView) (k size base : ℕ) (z : ℤ) (bytes operand : List ℕ)
     → coding_of view ≡ standard k (signed z) → false ≡ (length bytes == 0) → get_or bytes 0 0 ≡ k → get_or bytes 0 0 < base
     → base ≡ h.opcode_base → operand ≡ drop 1 bytes → (size ≤ length operand) × SignedLeb z (take size operand)
     → IsOperationPrefix h view (size + 1) bytes
@@ -127,7 +127,7 @@ prefix_signed h view k size base z bytes operand e some is lt base_is same p =
     prefix_known h view k size base (signed z) bytes operand e some is lt base_is same p.0 p.1
 
 -- the length 2, the code 4 and a discriminator of one byte
-discriminator : (h : HeaderNumbers) (k n : ℕ) (operand : List ℕ) → k ≡ 0 → n < 128 → operand ≡ 2 ∷ 4 ∷ n ∷ []
+discriminator : (h : NumberParts) (k n : ℕ) (operand : List ℕ) → k ≡ 0 → n < 128 → operand ≡ 2 ∷ 4 ∷ n ∷ []
     → OpBytes h (ops.SetDiscriminator n) (k ∷ operand)
 discriminator h k n operand e low is =
     let small : n % 128 ≡ n = omega arith in
@@ -155,7 +155,7 @@ discriminator h k n operand e low is =
       },
     )
 
-pub prefix_discriminator : (h : HeaderNumbers) (k n : ℕ) (bytes operand : List ℕ) → false ≡ (length bytes == 0) → get_or bytes 0 0 ≡ k
+pub prefix_discriminator : (h : NumberParts) (k n : ℕ) (bytes operand : List ℕ) → false ≡ (length bytes == 0) → get_or bytes 0 0 ≡ k
     → k ≡ 0 → operand ≡ drop 1 bytes → (3 ≤ length operand) × (n < 128) × (take 3 operand ≡ 2 ∷ 4 ∷ n ∷ [])
     → IsOperationPrefix h (views.SetDiscriminator n) 4 bytes
 prefix_discriminator h k n bytes operand some is e same p =
@@ -164,15 +164,15 @@ prefix_discriminator h k n bytes operand some is e same p =
 
 -- ---- steps of a walk
 
-gives_prefix : (h : HeaderNumbers) (view : OpView) (size : ℕ) (old new : At) → IsOperationPrefix h view size old.rest
+gives_prefix : (h : NumberParts) (view : OpView) (size : ℕ) (old new : At) → IsOperationPrefix h view size old.rest
     → new.rest ≡ drop size old.rest → new.place ≡ old.place + size → new.order ≡ old.order → GivesOp h view old new
 gives_prefix h view size old new f rest place order = grind (arith, common_steps, take-append-drop, length-take-le)
 
 -- a walk over a program that ends at this offset
-abbrev pub walk_at : HeaderNumbers → ℕ → List ℕ → Walk
+abbrev pub walk_at : NumberParts → ℕ → List ℕ → Walk
 walk_at h end rest = record { header = h; at = record { place = end - length rest; rest = rest; order = h.order }; failed = false }
 
-pub steps_short : (h : HeaderNumbers) (end : ℕ) (view : OpView) (size : ℕ) (rest past : List ℕ) → length rest ≤ end
+pub steps_short : (h : NumberParts) (end : ℕ) (view : OpView) (size : ℕ) (rest past : List ℕ) → length rest ≤ end
     → IsOperationPrefix h view size rest → past ≡ drop size rest → length past + size ≡ length rest
     → GivesOperation view (walk_at h end rest) (walk_at h end past)
 steps_short h end view size rest past le f is count = grind (arith, common_steps, steps_on, gives_prefix)
@@ -180,7 +180,7 @@ steps_short h end view size rest past le f is count = grind (arith, common_steps
 -- ---- where no such operation begins
 
 -- an opcode and its operand
-opcode_is : (h : HeaderNumbers) (k n : ℕ) (Operand : List ℕ → Type 0) (bytes : List ℕ) → 0 < length bytes
+opcode_is : (h : NumberParts) (k n : ℕ) (Operand : List ℕ → Type 0) (bytes : List ℕ) → 0 < length bytes
     → Standard h k Operand (take (n + 1) bytes) → (get_or bytes 0 0 ≡ k) × Operand (take n (drop 1 bytes))
 opcode_is h k n Operand bytes some s = grind (arith, common_steps, after_one)
 
@@ -246,7 +246,7 @@ abbrev IsLong : ℕ → List ℕ → Type 0
 IsLong k operand = LacksOperand (short_kind k) operand
 
 -- what is so of the operand, where an operation begins the bytes that is coded so
-begins : (h : HeaderNumbers) (view : OpView) (k n size : ℕ) (operand : Operand) (bytes : List ℕ)
+begins : (h : NumberParts) (view : OpView) (k n size : ℕ) (operand : Operand) (bytes : List ℕ)
     → IsLong (get_or bytes 0 0) (drop 1 bytes) → coding_of view ≡ standard k operand → size ≡ n + 1 → IsOperationPrefix h view size bytes
     → IsLong k (drop 1 bytes) × OperandBytes h operand (take n (drop 1 bytes))
 begins h view k n size operand bytes long e count f =
@@ -257,12 +257,12 @@ begins h view k n size operand bytes long e count f =
     let found = opcode_is h k n (OperandBytes h operand) bytes (omega (arith, f.within, count)) s in
     (subst (λ (i : ℕ). IsLong i (drop 1 bytes)) found.0 long, found.1)
 
-special_begins : (h : HeaderNumbers) (c : ℕ) (op : Op) (bytes : List ℕ) → 0 < length bytes → StandsFor (views.Special c) op
+special_begins : (h : NumberParts) (c : ℕ) (op : Op) (bytes : List ℕ) → 0 < length bytes → StandsFor (views.Special c) op
     → OpBytes h op (take 1 bytes) → h.opcode_base ≤ get_or bytes 0 0
 special_begins h c (ops.Special d) bytes some s b = omega (arith, b.0, ap (λ (z : List ℕ). get_or z 0 0) (sym (one_taken bytes some) ∙ b.2))
 special_begins h c _ bytes some s b = absurd s
 
-discriminator_begins : (h : HeaderNumbers) (n : ℕ) (op : Op) (bytes : List ℕ) → 4 ≤ length bytes → StandsFor (views.SetDiscriminator n) op
+discriminator_begins : (h : NumberParts) (n : ℕ) (op : Op) (bytes : List ℕ) → 4 ≤ length bytes → StandsFor (views.SetDiscriminator n) op
     → OpBytes h op (take 4 bytes) → IsLong (get_or bytes 0 0) (drop 1 bytes) → ⊥
 discriminator_begins h n (ops.SetDiscriminator m) bytes le s b long =
     let parts = extended_parts 4 (UnsignedLeb m) (take 4 bytes) b in
@@ -273,7 +273,7 @@ discriminator_begins h n (ops.SetDiscriminator m) bytes le s b long =
     none.none found.0 found.1 (ap (λ (z : List ℕ). drop 1 z) same)
 discriminator_begins h n _ bytes le s b long = absurd s
 
-none_long : (h : HeaderNumbers) (bytes : List ℕ) → get_or bytes 0 0 < h.opcode_base → IsLong (get_or bytes 0 0) (drop 1 bytes)
+none_long : (h : NumberParts) (bytes : List ℕ) → get_or bytes 0 0 < h.opcode_base → IsLong (get_or bytes 0 0) (drop 1 bytes)
     → NoneShort h bytes
 none_long h bytes low long (views.Special c) size e f =
     let g : IsOperationPrefix h (views.Special c) 1 bytes = subst (λ (m : ℕ). IsOperationPrefix h (views.Special c) m bytes) e f in
@@ -302,11 +302,11 @@ short_some (views.AdvanceLine z) size (inl e) = omega (arith, e)
 short_some (views.AdvanceLine z) size (inr e) = omega (arith, e)
 short_some view size e = grind (arith, e)
 
-pub none_empty : (h : HeaderNumbers) (bytes : List ℕ) → length bytes ≡ 0 → NoneShort h bytes
+pub none_empty : (h : NumberParts) (bytes : List ℕ) → length bytes ≡ 0 → NoneShort h bytes
 none_empty h bytes empty = λ view size e f. omega (arith, empty, f.within, short_some view size e)
 
 -- by the opcode and what follows it
-pub none_here : (h : HeaderNumbers) (k base : ℕ) (bytes operand : List ℕ) → get_or bytes 0 0 ≡ k → get_or bytes 0 0 < base
+pub none_here : (h : NumberParts) (k base : ℕ) (bytes operand : List ℕ) → get_or bytes 0 0 ≡ k → get_or bytes 0 0 < base
     → base ≡ h.opcode_base → operand ≡ drop 1 bytes → IsLong k operand → NoneShort h bytes
 none_here h k base bytes operand is lt base_is same long =
     none_long h bytes (omega (arith, lt, base_is)) (rw is (subst (IsLong k) same long))
@@ -323,7 +323,7 @@ is_rare (suc (suc (suc (suc (suc (suc (suc zero))))))) n0 n1 n2 n3 n4 n5 n6 n8 o
 is_rare (suc (suc (suc (suc (suc (suc (suc (suc zero)))))))) n0 n1 n2 n3 n4 n5 n6 n8 operand = absurd (n8 refl)
 is_rare (suc (suc (suc (suc (suc (suc (suc (suc (suc k))))))))) n0 n1 n2 n3 n4 n5 n6 n8 operand = tt
 
-pub none_other : (h : HeaderNumbers) (k : ℕ) (bytes : List ℕ) → get_or bytes 0 0 ≡ k → k < h.opcode_base → k ≢ 0 → k ≢ 1 → k ≢ 2 → k ≢ 3
+pub none_other : (h : NumberParts) (k : ℕ) (bytes : List ℕ) → get_or bytes 0 0 ≡ k → k < h.opcode_base → k ≢ 0 → k ≢ 1 → k ≢ 2 → k ≢ 3
     → k ≢ 4 → k ≢ 5 → k ≢ 6 → k ≢ 8 → NoneShort h bytes
 none_other h k bytes is lt n0 n1 n2 n3 n4 n5 n6 n8 =
     none_here h k h.opcode_base bytes (drop 1 bytes) is (omega (arith, is, lt)) refl refl (is_rare k n0 n1 n2 n3 n4 n5 n6 n8 (drop 1 bytes))

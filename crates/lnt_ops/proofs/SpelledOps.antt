@@ -9,7 +9,7 @@ use Rattle.lnt_wire.proofs.LengthLaws.{length-number_bytes}
 use Rattle.lnt_wire.specs.Leb128.{SignedLeb, UnsignedLeb}
 use Rattle.lnt_wire.specs.Numbers.{NumberBytes}
 use Rattle.lnt_wire.specs.Spelled.{HasShortest}
-use Rattle.lnt_header.specs.HeaderNumbers.{HeaderNumbers}
+use Rattle.lnt_header.specs.declared.numbers.NumberParts.{NumberParts}
 use Rattle.lnt_header.specs.declared.op.Op.{Op}
 use Rattle.lnt_header.specs.HeaderRules.{AreHeaderNumbers, IsAddressSize}
 use Rattle.lnt_header.specs.Joins.{Each}
@@ -42,7 +42,7 @@ least_exactly operand = record { bytes = operand; is = refl; least = λ other p.
 least_number : (order : Order) (size n : ℕ) → n < 256 ^ size → Least (NumberBytes order size n)
 least_number order size n fits = grind (arith, common_steps)
 
-least_standard : (h : HeaderNumbers) (k : ℕ) (Operand : List ℕ → Type 0) → k < h.opcode_base → Least Operand → Least (Standard h k Operand)
+least_standard : (h : NumberParts) (k : ℕ) (Operand : List ℕ → Type 0) → k < h.opcode_base → Least Operand → Least (Standard h k Operand)
 least_standard h k Operand low o = record {
   bytes = k ∷ o.bytes;
   is = (low, record { prefix = k ∷ []; back = o.bytes; first = refl; second = o.is; joined = refl });
@@ -80,13 +80,13 @@ numbers_spelled : wire.SpelledValues → (numbers : List ℕ) → AllByRecursion
 numbers_spelled law [] fits = tt
 numbers_spelled law (n ∷ numbers) fits = (law.unsigned n fits.0, numbers_spelled law numbers fits.1)
 
-least_operand : wire.SpelledValues → (h : HeaderNumbers) (operand : Operand) → FitsOperand operand → Least (OperandBytes h operand)
+least_operand : wire.SpelledValues → (h : NumberParts) (operand : Operand) → FitsOperand operand → Least (OperandBytes h operand)
 least_operand law h Operand.bare fits = least_exactly []
 least_operand law h (Operand.unsigned n) fits = least_of UnsignedLeb n (law.unsigned n fits)
 least_operand law h (Operand.signed z) fits = least_of SignedLeb z (law.signed z fits)
 least_operand law h (Operand.half n) fits = least_number h.order 2 n (omega (arith, fits))
 
-least_coding : wire.SpelledValues → (h : HeaderNumbers) (c : Coding) → AreHeaderNumbers h → AdmitsCoding h c → FitsCoding c
+least_coding : wire.SpelledValues → (h : NumberParts) (c : Coding) → AreHeaderNumbers h → AdmitsCoding h c → FitsCoding c
     → Least (CodingBytes h c)
 least_coding law h (Coding.special c) numbers admits fits = record {
   bytes = c ∷ [];
@@ -120,10 +120,10 @@ least_coding law h (Coding.unknown_extended code operand) numbers admits fits =
     (omega (arith, fits.1, ap length (least_exactly operand).is)) in
     record { bytes = one.bytes; is = (admits, omega (arith, fits.0), one.is); least = λ other p. one.least other p.2 }
 
-op_spelled : wire.SpelledValues → (h : HeaderNumbers) (op : Op) → AreHeaderNumbers h → Admits h op → FitsOp op → HasShortest (OpBytes h) op
+op_spelled : wire.SpelledValues → (h : NumberParts) (op : Op) → AreHeaderNumbers h → Admits h op → FitsOp op → HasShortest (OpBytes h) op
 op_spelled law h op numbers admits fits = shortest_of (OpBytes h) op (least_coding law h (coding op) numbers admits fits)
 
-ops_spelled : wire.SpelledValues → (h : HeaderNumbers) (ops : List Op) → AreHeaderNumbers h → AllByRecursion (Admits h) ops
+ops_spelled : wire.SpelledValues → (h : NumberParts) (ops : List Op) → AreHeaderNumbers h → AllByRecursion (Admits h) ops
     → AllByRecursion FitsOp ops → AllByRecursion (HasShortest (OpBytes h)) ops
 ops_spelled law h [] numbers admits fits = tt
 ops_spelled law h (op ∷ ops) numbers admits fits =
@@ -131,7 +131,7 @@ ops_spelled law h (op ∷ ops) numbers admits fits =
 
 -- ---- what is spelled
 
-ops_allowed : (h : HeaderNumbers) (ops : List Op) (x : List ℕ) → Each (OpBytes h) ops x → AllByRecursion (Admits h) ops
+ops_allowed : (h : NumberParts) (ops : List Op) (x : List ℕ) → Each (OpBytes h) ops x → AllByRecursion (Admits h) ops
     × AllByRecursion FitsOp ops
 ops_allowed h [] x p = (tt, tt)
 ops_allowed h (op ∷ ops) x p =

@@ -6,11 +6,10 @@ use Rattle.lnt_wire.specs.At.{At}
 use Rattle.lnt_wire.specs.declared.fault.Fault.{Fault}
 use Rattle.lnt_wire.specs.Leb128.{UnsignedLeb, IsLargeUnsigned, IsLebFault}
 use Rattle.lnt_wire.specs.Reading.{Reads, RefusesField}
-use Rattle.lnt_header.specs.HeaderNumbers.{HeaderNumbers}
-use Rattle.lnt_header.specs.declared.header.HeaderParts.{HeaderParts}
+use Rattle.lnt_header.specs.declared.numbers.NumberParts.{NumberParts}
 use Rattle.lnt_header.specs.declared.op.Op.TheVariants as ops
 use Rattle.lnt_header.specs.declared.op.OpView.{OpView}
-use Rattle.lnt_header.specs.HeaderRules.{IsHeader}
+use Rattle.lnt_header.specs.HeaderRules.{AreHeaderNumbers}
 use Rattle.lnt_header.specs.Joins.{Each}
 use Rattle.lnt_header.proofs.ReaderLaws.{reads_none, reads_more, reads_map}
 use Rattle.lnt_header.specs.OpRules.{last_known, standard_length, StandsFor}
@@ -39,10 +38,10 @@ refuses_operands n count old middle fault p lt r = grind (arith, common_steps)
 -- ---- the operation
 
 -- the header says how many operands it has
-pub opcode_there : (h : HeaderParts) (k : ℕ) → IsHeader h → last_known < k → k < h.opcode_base → k - 1 < length h.standard_lengths
-opcode_there h k header some lt = omega (arith, header.numbers.opcode_base, some, lt)
+pub opcode_there : (h : NumberParts) (k : ℕ) → AreHeaderNumbers h → last_known < k → k < h.opcode_base → k - 1 < length h.standard_lengths
+opcode_there h k numbers some lt = omega (arith, numbers.opcode_base, some, lt)
 
-pub gives_unknown : (h : HeaderNumbers) (k count : ℕ) (view : OpView) (old new : At) → last_known < k → k < h.opcode_base
+pub gives_unknown : (h : NumberParts) (k count : ℕ) (view : OpView) (old new : At) → last_known < k → k < h.opcode_base
     → count ≡ standard_length h k → PassesOperands count old new
     → ((operands : List ℕ) → Each UnsignedLeb operands (take (length old.rest - length new.rest) old.rest)
     → StandsFor view (ops.UnknownStandard k operands)) → GivesAfter h k view old new
@@ -62,7 +61,7 @@ gives_unknown h k count view old new some lt counted p stands =
           (λ y q. record { whole = (some, several, after_opcode h k (Each UnsignedLeb p.operands) y lt q) }) r;
     }
 
-pub refuses_unknown : (h : HeaderNumbers) (k count : ℕ) (old : At) (fault : Fault) → last_known < k → k < h.opcode_base
+pub refuses_unknown : (h : NumberParts) (k count : ℕ) (old : At) (fault : Fault) → last_known < k → k < h.opcode_base
     → count ≡ standard_length h k → RefusesOperands count old fault → RefusesAfter h k old fault
 refuses_unknown h k count old fault some lt counted r = record {
   before = r.reads.spelling;

@@ -4,7 +4,7 @@ use Rattle.lnt_wire.specs.At.{At}
 use Rattle.lnt_wire.specs.declared.fault.Fault.{Fault}
 use Rattle.lnt_wire.specs.declared.format.Order.{Order}
 use Rattle.lnt_wire.specs.Reading.{Refuses}
-use Rattle.lnt_header.specs.HeaderNumbers.{HeaderNumbers}
+use Rattle.lnt_header.specs.declared.numbers.NumberParts.{NumberParts}
 use Rattle.lnt_header.specs.declared.op.OpView.{OpView}
 use Rattle.lnt_ops.proofs.ProgramLaws.{op_long}
 use Rattle.lnt_ops.specs.OpBytes.{OpBytes}
@@ -30,6 +30,6 @@ pub fails_here : (fault : Fault) (old new : Walk) → old.failed ≡ false → n
 fails_here fault old new going failed header at some r t = grind (arith, common_steps)
 
 -- an operation leaves the order of the bytes
-pub order_kept : (h : HeaderNumbers) (view : OpView) (old new : At) (order : Order) → GivesOp h view old new → old.order ≡ order
+pub order_kept : (h : NumberParts) (view : OpView) (old new : At) (order : Order) → GivesOp h view old new → old.order ≡ order
     → new.order ≡ order
 order_kept h view old new order g e = g.reads.order ∙ e

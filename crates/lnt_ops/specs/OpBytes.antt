@@ -3,7 +3,7 @@ use Rattle.std.specs.Prelude.{◌≡◌, ℕ, ◌<◌, ◌≤◌, List, [], ◌�
 use Rattle.lnt_wire.specs.Bytes.{Exactly, ◌⨾◌}
 use Rattle.lnt_wire.specs.Leb128.{UnsignedLeb, SignedLeb}
 use Rattle.lnt_wire.specs.Numbers.{NumberBytes}
-use Rattle.lnt_header.specs.HeaderNumbers.{HeaderNumbers}
+use Rattle.lnt_header.specs.declared.numbers.NumberParts.{NumberParts}
 use Rattle.lnt_header.specs.declared.op.Op.{Op}
 use Rattle.lnt_header.specs.Joins.{Each}
 use Rattle.lnt_header.specs.OpRules.{Coding, coding, IsUnknownCode, last_known, Operand, standard_length}
@@ -12,7 +12,7 @@ use Rattle.lnt_header.specs.OpRules.Coding.{unknown_extended}
 use Rattle.lnt_header.specs.OpRules.Operand.{bare, unsigned, signed, half}
 
 -- a standard opcode and its operand
-abbrev pub Standard : HeaderNumbers → ℕ → (List ℕ → Type 0) → List ℕ → Type 0
+abbrev pub Standard : NumberParts → ℕ → (List ℕ → Type 0) → List ℕ → Type 0
 Standard h k Operand bytes = (k < h.opcode_base) × (Exactly (k ∷ []) ⨾ Operand) bytes
 
 -- A zero byte, the length of what follows, and that: a code and its operand.
@@ -21,14 +21,14 @@ Extended code Operand bytes =
     (rest : List ℕ) × (Exactly (code ∷ []) ⨾ Operand) rest × (Exactly (0 ∷ []) ⨾ UnsignedLeb (length rest) ⨾ Exactly rest) bytes
 
 -- the bytes of the operand of a standard operation
-abbrev pub OperandBytes : HeaderNumbers → Operand → List ℕ → Type 0
+abbrev pub OperandBytes : NumberParts → Operand → List ℕ → Type 0
 OperandBytes h bare = Exactly []
 OperandBytes h (unsigned n) = UnsignedLeb n
 OperandBytes h (signed z) = SignedLeb z
 OperandBytes h (half n) = NumberBytes h.order 2 n
 
 -- the bytes of an opcode and its operand in a unit with this header
-abbrev pub CodingBytes : HeaderNumbers → Coding → List ℕ → Type 0
+abbrev pub CodingBytes : NumberParts → Coding → List ℕ → Type 0
 CodingBytes h (special c) bytes = (h.opcode_base ≤ c) × (c < 256) × (bytes ≡ c ∷ [])
 CodingBytes h (standard k operand) bytes = Standard h k (OperandBytes h operand) bytes
 CodingBytes h (unknown_standard k operands) bytes =
@@ -39,5 +39,5 @@ CodingBytes h (extended_address code address) bytes = Extended code (NumberBytes
 CodingBytes h (unknown_extended code operand) bytes = IsUnknownCode code × (code < 256) × Extended code (Exactly operand) bytes
 
 -- The bytes of an operation in a unit with this header.
-abbrev pub OpBytes : HeaderNumbers → Op → List ℕ → Type 0
+abbrev pub OpBytes : NumberParts → Op → List ℕ → Type 0
 OpBytes h op bytes = CodingBytes h (coding op) bytes

@@ -5,7 +5,7 @@ use Rattle.std.specs.Prelude.{◌≡◌, ℕ, ◌+◌, ◌<◌, List, [], ◌∷
 use Rattle.lnt_wire.specs.declared.fault.Reason.{Reason}
 use Rattle.lnt_wire.specs.declared.fault.Reason.TheVariants.{Truncated, LebTooLarge, ExtendedLength}
 use Rattle.lnt_wire.specs.Leb128.{IsLeb, UnsignedLeb, IsLargeUnsigned, IsLargeSigned, IsLebFault}
-use Rattle.lnt_header.specs.HeaderNumbers.{HeaderNumbers}
+use Rattle.lnt_header.specs.declared.numbers.NumberParts.{NumberParts}
 use Rattle.lnt_header.specs.FieldFaults.{IsCutField, IsLargeLeb, IsWrongLength}
 use Rattle.lnt_header.specs.Joins.{Each}
 use Rattle.lnt_header.specs.OpRules.{following, last_known, standard_length, taken_by}
@@ -25,7 +25,7 @@ IsBeforeNumber spelling before = (code : ℕ) × (taken_by code ≡ takes_number
 
 -- The first field of an operation that isn't valid, by the fields of the operation before it. If all bytes that a length
 -- counts are there, they are judged together.
-pub data IsFirstFault (h : HeaderNumbers) (reason : Reason) (before left : List ℕ) : Type 0 where
+pub data IsFirstFault (h : NumberParts) (reason : Reason) (before left : List ℕ) : Type 0 where
   no_opcode : reason ≡ Truncated → before ≡ [] → left ≡ [] → IsFirstFault h reason before left
   unsigned_operand : (k : ℕ) → following k ≡ one_unsigned → k < h.opcode_base → before ≡ k ∷ [] → IsLebFault IsLargeUnsigned reason left
       → IsFirstFault h reason before left

@@ -2,7 +2,8 @@
 use Rattle.std.specs.Prelude.{◌≡◌, ℕ, List}
 use Rattle.lnt_wire.specs.Bytes.{Appends}
 use Rattle.lnt_wire.specs.declared.format.Order.{Order}
-use Rattle.lnt_header.specs.HeaderNumbers.{HeaderNumbers}
+use Rattle.lnt_header.specs.Conversion.{in_order}
+use Rattle.lnt_header.specs.declared.numbers.NumberParts.{NumberParts}
 use Rattle.lnt_header.specs.declared.op.Op.{Op}
 use Rattle.lnt_header.specs.declared.op.OpView.{OpView}
 use Rattle.lnt_header.specs.Joins.{Each}
@@ -11,7 +12,7 @@ use Rattle.lnt_ops.specs.OpBytes.{OpBytes}
 
 -- The view stands for an operation that some header with addresses of this size admits.
 pub record IsOpOf (size : ℕ) (view : OpView) : Type 0 where
-  pub header : HeaderNumbers
+  pub header : NumberParts
   pub op : Op
   pub size_is : header.address_size ≡ size
   pub stands : StandsFor view op
@@ -20,15 +21,11 @@ pub record IsOpOf (size : ℕ) (view : OpView) : Type 0 where
 -- The operation that the view stands for was appended in its shortest encoding, as it is in each unit whose numbers have this
 -- order, whose addresses have this size, and whose header admits it.
 pub record AddsView (order : Order) (size : ℕ) (view : OpView) (old new : List ℕ) : Type 0 where
-  pub adds : (h : HeaderNumbers) (op : Op) → h.order ≡ order → h.address_size ≡ size → StandsFor view op → Admits h op
+  pub adds : (h : NumberParts) (op : Op) → h.order ≡ order → h.address_size ≡ size → StandsFor view op → Admits h op
       → Appends (OpBytes h) op old new
 
--- the numbers of the same header in this order
-abbrev pub in_order : HeaderNumbers → Order → HeaderNumbers
-in_order h order = record h { order = order }
-
 -- The operations of the program were added in this order, each in its shortest encoding.
-pub record AddsOps (h : HeaderNumbers) (program : List ℕ) (order : Order) (old new : List ℕ) : Type 0 where
+pub record AddsOps (h : NumberParts) (program : List ℕ) (order : Order) (old new : List ℕ) : Type 0 where
   pub ops : List Op
   pub spelled : Each (OpBytes h) ops program
   pub adds : Appends (Each (OpBytes (in_order h order))) ops old new

@@ -7,7 +7,7 @@ use Rattle.lnt_wire.specs.declared.fault.Reason.TheVariants.{LebTooLarge, Extend
 use Rattle.lnt_wire.specs.Leb128.{IsLeb, UnsignedLeb, IsLargeUnsigned, IsLebFault}
 use Rattle.lnt_wire.specs.Numbers.{NumberBytes}
 use Rattle.lnt_wire.specs.Reading.{Reads}
-use Rattle.lnt_header.specs.HeaderNumbers.{HeaderNumbers}
+use Rattle.lnt_header.specs.declared.numbers.NumberParts.{NumberParts}
 use Rattle.lnt_header.specs.declared.op.Op.{Op}
 use Rattle.lnt_header.specs.declared.op.OpView.{OpView}
 use Rattle.lnt_header.specs.FieldFaults.{IsWrongOperand}
@@ -21,11 +21,11 @@ use Rattle.lnt_ops.specs.OpFaults.{IsFirstFault}
 -- ---- after the first byte
 
 -- the bytes of an operation after its first byte
-pub record BytesAfter (h : HeaderNumbers) (opcode : ℕ) (op : Op) (bytes : List ℕ) : Type 0 where
+pub record BytesAfter (h : NumberParts) (opcode : ℕ) (op : Op) (bytes : List ℕ) : Type 0 where
   pub whole : OpBytes h op (opcode ∷ bytes)
 
 -- No operation can be read after its first byte: the fault is the first one, after the bytes `before`.
-pub record RefusesAfter (h : HeaderNumbers) (opcode : ℕ) (old : At) (fault : Fault) : Type 0 where
+pub record RefusesAfter (h : NumberParts) (opcode : ℕ) (old : At) (fault : Fault) : Type 0 where
   pub before : List ℕ
   pub left : List ℕ
   pub split : old.rest ≡ before ++ left
@@ -33,7 +33,7 @@ pub record RefusesAfter (h : HeaderNumbers) (opcode : ℕ) (old : At) (fault : F
   pub reason : IsFirstFault h fault.reason (opcode ∷ before) left
 
 -- a read of an operation after its first byte
-pub record GivesAfter (h : HeaderNumbers) (opcode : ℕ) (view : OpView) (old new : At) : Type 0 where
+pub record GivesAfter (h : NumberParts) (opcode : ℕ) (view : OpView) (old new : At) : Type 0 where
   pub op : Op
   pub stands : StandsFor view op
   pub admitted : Admits h op
@@ -57,7 +57,7 @@ pub record RefusesOperands (count : ℕ) (old : At) (fault : Fault) : Type 0 whe
 -- ---- extended operations
 
 -- the bytes that the length of an extended operation counts: a code and its operand
-abbrev pub ExtendedBody : HeaderNumbers → Coding → List ℕ → Type 0
+abbrev pub ExtendedBody : NumberParts → Coding → List ℕ → Type 0
 ExtendedBody h (extended code) bytes = (Exactly (code ∷ []) ⨾ Exactly []) bytes
 ExtendedBody h (extended_number code n) bytes = (Exactly (code ∷ []) ⨾ UnsignedLeb n) bytes
 ExtendedBody h (extended_address code address) bytes = (Exactly (code ∷ []) ⨾ NumberBytes h.order h.address_size address) bytes
@@ -70,7 +70,7 @@ IsRightOperand address_size [] = ⊥
 IsRightOperand address_size (code ∷ operand) = FitsTaken address_size (taken_by code) operand
 
 -- an operation by the bytes that its length counts
-pub record GivesCounted (h : HeaderNumbers) (view : OpView) (bytes : List ℕ) : Type 0 where
+pub record GivesCounted (h : NumberParts) (view : OpView) (bytes : List ℕ) : Type 0 where
   pub op : Op
   pub stands : StandsFor view op
   pub admitted : Admits h op

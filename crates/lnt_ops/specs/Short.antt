@@ -1,6 +1,6 @@
 -- The frequent operation with a short operand that bytes begin with.
 use Rattle.std.specs.Prelude.{◌≡◌, ◌⊎◌, ℕ, ◌≤◌, List, length, take}
-use Rattle.lnt_header.specs.HeaderNumbers.{HeaderNumbers}
+use Rattle.lnt_header.specs.declared.numbers.NumberParts.{NumberParts}
 use Rattle.lnt_header.specs.declared.op.Op.{Op}
 use Rattle.lnt_header.specs.declared.op.OpView.{OpView}
 use Rattle.lnt_header.specs.declared.op.OpView.TheVariants.{Special, Copy, AdvancePc, AdvanceLine, SetFile, SetColumn}
@@ -9,7 +9,7 @@ use Rattle.lnt_header.specs.OpRules.{Admits, StandsFor}
 use Rattle.lnt_ops.specs.OpBytes.{OpBytes}
 
 -- This many bytes at the start encode an operation that the header admits and the view stands for.
-pub record IsOperationPrefix (h : HeaderNumbers) (view : OpView) (size : ℕ) (bytes : List ℕ) : Type 0 where
+pub record IsOperationPrefix (h : NumberParts) (view : OpView) (size : ℕ) (bytes : List ℕ) : Type 0 where
   pub op : Op
   pub stands : StandsFor view op
   pub admitted : Admits h op
@@ -30,5 +30,5 @@ IsShort (SetDiscriminator n) size = size ≡ 4
 IsShort view size = ⊥
 
 -- The bytes don't begin with such an operation.
-abbrev pub NoneShort : HeaderNumbers → List ℕ → Type 0
+abbrev pub NoneShort : NumberParts → List ℕ → Type 0
 NoneShort h bytes = (view : OpView) (size : ℕ) → IsShort view size → IsOperationPrefix h view size bytes → ⊥

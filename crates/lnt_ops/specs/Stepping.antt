@@ -2,7 +2,7 @@
 use Rattle.std.specs.Prelude.{◌≡◌, ℕ, ◌+◌, List, ◌++◌, length, ◌∷◌, ◌<◌, ◌≤◌, ℤ, pos, neg_ℤ, ◌≤ℤ◌, ◌<ℤ◌, [], get_or, take}
 use Rattle.std.specs.List.{AllByRecursion}
 use Rattle.lnt_wire.specs.At.{At}
-use Rattle.lnt_header.specs.HeaderNumbers.{HeaderNumbers}
+use Rattle.lnt_header.specs.declared.numbers.NumberParts.{NumberParts}
 use Rattle.lnt_header.specs.declared.op.Op.{Op}
 use Rattle.lnt_header.specs.Joins.{Each}
 use Rattle.lnt_header.specs.OpRules.{Admits, StandsFor, AreOperands}
@@ -16,7 +16,7 @@ use Rattle.lnt_header.specs.declared.op.Operands.{Operands}
 use Rattle.lnt_ops.specs.OpSpellings.{Coded}
 
 -- the operations of the program up to a cursor
-pub record OpsSoFar (h : HeaderNumbers) (place : ℕ) (program : List ℕ) (ops : List Op) (at : At) : Type 0 where
+pub record OpsSoFar (h : NumberParts) (place : ℕ) (program : List ℕ) (ops : List Op) (at : At) : Type 0 where
   pub prefix : List ℕ
   pub spelled : Each (OpBytes h) ops prefix
   pub admitted : AllByRecursion (Admits h) ops
@@ -27,7 +27,7 @@ pub record OpsSoFar (h : HeaderNumbers) (place : ℕ) (program : List ℕ) (ops 
 -- ---- the next operation
 
 -- The view stands for the first of the operations, and the others are left.
-pub record IsNextOf (h : HeaderNumbers) (later : List Op) (view : OpView) (new : Walk) : Type 0 where
+pub record IsNextOf (h : NumberParts) (later : List Op) (view : OpView) (new : Walk) : Type 0 where
   pub op : Op
   pub others : List Op
   pub later_is : later ≡ op ∷ others

@@ -3,7 +3,7 @@ use Rattle.std.specs.Prelude.{◌≡◌, ◌<◌, ◌⊎◌, Bool, true, false, 
 use Rattle.lnt_wire.specs.At.{At}
 use Rattle.lnt_wire.specs.declared.fault.Fault.{Fault}
 use Rattle.lnt_wire.specs.Reading.{Refuses}
-use Rattle.lnt_header.specs.HeaderNumbers.{HeaderNumbers}
+use Rattle.lnt_header.specs.declared.numbers.NumberParts.{NumberParts}
 use Rattle.lnt_header.specs.declared.op.OpView.{OpView}
 use Rattle.lnt_ops.specs.OpBytes.{OpBytes}
 use Rattle.lnt_ops.specs.OpFaults.{IsOpFault, IsFirstFault}
@@ -11,7 +11,7 @@ use Rattle.lnt_ops.specs.OpReading.{GivesOp}
 
 -- What a walk is: the header of the unit, its place in the program, and whether an operation failed.
 pub record Walk : Type 0 where
-  pub header : HeaderNumbers
+  pub header : NumberParts
   pub at : At
   pub failed : Bool
 

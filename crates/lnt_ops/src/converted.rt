@@ -1,13 +1,12 @@
 //! Programs in another byte order.
 ghost use Rattle.std.specs.Prelude.{◌≢◌, ◌+◌, ◌^◌, ◌<◌, length, IfErr, OnOk, OnErr};
 ghost use Rattle.lnt_wire.specs.Bytes.{Extends};
-ghost use Rattle.lnt_header.specs.HeaderNumbers.{numbers_of};
 ghost use Rattle.lnt_ops.specs.OpPuts.{AddsOps};
 ghost use Rattle.lnt_ops.specs.Programs.{BrokenProgram};
 
 use crate::iterator::Ops;
 use crate::put::put_view;
-use lnt_header::Header;
+use lnt_header::HeaderNumbers;
 use lnt_wire::{Fault, Order, Reason};
 
 /// Adds the operations of a whole program in a unit with this header, in the byte order `to`: the same operations, each
@@ -19,18 +18,18 @@ use lnt_wire::{Fault, Order, Reason};
 #[tactic(auto, using(crate::proofs::ConvertedLemmas::converted_none, crate::proofs::ConvertedLemmas::converted_more, crate::proofs::ConvertedLemmas::converted_all))]
 pub fn convert_ops(
     out: &mut Vec<u8>,
-    header: &Header,
+    numbers: &HeaderNumbers,
     program: &[u8],
     place: u64,
     to: Order,
 ) -> Result<(), Fault>
     requires { place + length program.now < 2 ^ 64 }
-    ensures ok { OnOk result (AddsOps (numbers_of header.now) program.now to out.old.items out.new.items) }
-    ensures err { IfErr result (λ fault. fault.reason ≢ Reason.Memory → BrokenProgram (numbers_of header.now) place program.now fault) }
+    ensures ok { OnOk result (AddsOps numbers.now program.now to out.old.items out.new.items) }
+    ensures err { IfErr result (λ fault. fault.reason ≢ Reason.Memory → BrokenProgram numbers.now place program.now fault) }
     ensures extends { OnErr result (Extends out.old.items out.new.items) }
 {
-    let size = header.address_size();
-    for view in Ops::new(header, program, place) {
+    let size = numbers.address_size();
+    for view in Ops::new(numbers, program, place) {
         let Ok(()) = put_view(out, view?, to, size) else {
             return Err(Fault {
                 place,

@@ -1,12 +1,11 @@
 //! The operations of a program one by one.
 ghost use Rattle.std.specs.Prelude.{◌≡◌, ◌+◌, ◌^◌, ◌<◌, ◌≤◌, drop, length, false, if◌then◌else◌};
 ghost use Rattle.std.specs.Iterator.{at_most};
-ghost use Rattle.lnt_header.specs.HeaderNumbers.{numbers_of};
 ghost use Rattle.lnt_ops.specs.Walks.{WalkStep};
 
 use crate::operation::read_op;
 use crate::short::short_op;
-use lnt_header::{Header, OpView};
+use lnt_header::{HeaderNumbers, OpView};
 use lnt_wire::{Cursor, Fault};
 use std::marker::Model;
 
@@ -16,7 +15,7 @@ use std::marker::Model;
 /// many items as the program has bytes.
 #[derive(Drop)]
 pub struct Ops<'a> {
-    header: &'a Header,
+    numbers: &'a HeaderNumbers,
     rest: &'a [u8],
     // the offset after the last byte
     end: u64,
@@ -25,14 +24,13 @@ pub struct Ops<'a> {
 
 impl<'a> Model for Ops<'a> {
     ghost use Rattle.std.specs.Prelude.{◌-◌, ◌^◌, ◌<◌, ◌≤◌, length};
-    ghost use Rattle.lnt_header.specs.HeaderNumbers.{numbers_of};
     ghost use Rattle.lnt_ops.specs.Walks.{Walk};
 
     ghost Value = { Walk };
 
     ghost view = { λ ops. record {
-      header = numbers_of ops.header.now;
-      at = record { place = ops.end - length ops.rest.now; rest = ops.rest.now; order = ops.header.now.order };
+      header = ops.numbers.now;
+      at = record { place = ops.end - length ops.rest.now; rest = ops.rest.now; order = ops.numbers.now.order };
       failed = ops.failed;
     } };
 
@@ -41,25 +39,25 @@ impl<'a> Model for Ops<'a> {
 
 impl<'a> Ops<'a> {
     ghost use Rattle.std.specs.Prelude.{◌≡◌, IfNone, IfSome};
-    ghost use Rattle.lnt_header.specs.HeaderRules.{IsHeader};
+    ghost use Rattle.lnt_header.specs.HeaderRules.{AreHeaderNumbers};
     ghost use Rattle.lnt_ops.specs.Walks.{GivesOperation};
     ghost use Rattle.lnt_ops.specs.Short.{NoneShort};
 
     /// The operations of a program in a unit with this header. The program's first byte is at the offset `place` of the
     /// section, and the offset after its last byte is below 2^64.
-    pub fn new(header: &'a Header, program: &'a [u8], place: u64) -> Ops<'a>
+    pub fn new(numbers: &'a HeaderNumbers, program: &'a [u8], place: u64) -> Ops<'a>
         requires { place + length program.now < 2 ^ 64 }
-        ensures header { result.header ≡ numbers_of header.entry.now }
+        ensures header { result.header ≡ numbers.entry.now }
         ensures place { result.at.place ≡ place }
         ensures rest { result.at.rest ≡ program.entry.now }
-        ensures order { result.at.order ≡ header.entry.now.order }
+        ensures order { result.at.order ≡ numbers.entry.now.order }
         ensures going { result.failed ≡ false }
-        ensures is_header { IsHeader header.entry.now }
+        ensures numbers { AreHeaderNumbers numbers.entry.now }
     {
-        // The unit's order is the header's.
-        let _order = header.order();
+        // The unit's order is that of the numbers.
+        let _order = numbers.order();
         Ops {
-            header,
+            numbers,
             rest: program,
             end: place + program.len() as u64,
             failed: false,
@@ -68,18 +66,23 @@ impl<'a> Ops<'a> {
 
     /// The operations of a program without its first `skipped` bytes; the caller ensures that it has at least as many. The
     /// program's first byte is at the offset `place` of the section, and the offset after its last byte is below 2^64.
-    pub fn after(header: &'a Header, program: &'a [u8], place: u64, skipped: usize) -> Ops<'a>
+    pub fn after(
+        numbers: &'a HeaderNumbers,
+        program: &'a [u8],
+        place: u64,
+        skipped: usize,
+    ) -> Ops<'a>
         requires room { place + length program.now < 2 ^ 64 }
         requires within { skipped ≤ length program.now }
-        ensures header { result.header ≡ numbers_of header.entry.now }
+        ensures header { result.header ≡ numbers.entry.now }
         ensures place { result.at.place ≡ place + skipped }
         ensures rest { result.at.rest ≡ drop skipped program.entry.now }
-        ensures order { result.at.order ≡ header.entry.now.order }
+        ensures order { result.at.order ≡ numbers.entry.now.order }
         ensures going { result.failed ≡ false }
-        ensures is_header { IsHeader header.entry.now }
+        ensures numbers { AreHeaderNumbers numbers.entry.now }
     {
         let (_, rest) = program.split_at(skipped);
-        Ops::new(header, rest, place + skipped as u64)
+        Ops::new(numbers, rest, place + skipped as u64)
     }
 
     /// A copy of this walk. It is lent to a call that isn't inlined, so that this one can stay in registers.
@@ -88,7 +91,7 @@ impl<'a> Ops<'a> {
         ensures { result ≡ self.now }
     {
         Ops {
-            header: self.header,
+            numbers: self.numbers,
             rest: self.rest,
             end: self.end,
             failed: self.failed,
@@ -118,7 +121,7 @@ impl<'a> Ops<'a> {
             return None;
         }
         let rest = self.rest;
-        let (view, size) = short_op(rest, self.header)?;
+        let (view, size) = short_op(rest, self.numbers)?;
         let (_, past) = rest.split_at(size);
         self.rest = past;
         Some(view)
@@ -139,8 +142,8 @@ impl<'a> Iterator for Ops<'a> {
             return None;
         }
         let place = self.end - self.rest.len() as u64;
-        let mut cursor = Cursor::new(self.rest, place, self.header.order());
-        match read_op(&mut cursor, self.header) {
+        let mut cursor = Cursor::new(self.rest, place, self.numbers.order());
+        match read_op(&mut cursor, self.numbers) {
             Ok(view) => {
                 self.rest = cursor.rest();
                 Some(Ok(view))

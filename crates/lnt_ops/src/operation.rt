@@ -1,7 +1,6 @@
 //! One operation: read from its first byte on, and as an owned value.
 ghost use Rattle.std.specs.Prelude.{◌≡◌, ◌<◌, ◌⊎◌, IfOk, IfErr, OnErr};
 ghost use Rattle.lnt_wire.specs.Reading.{Refuses};
-ghost use Rattle.lnt_header.specs.HeaderNumbers.{numbers_of};
 ghost use Rattle.lnt_header.specs.OpRules.{last_known, StandsFor};
 ghost use Rattle.lnt_ops.specs.OpBytes.{OpBytes};
 ghost use Rattle.lnt_ops.specs.OpFaults.{IsFirstFault, IsOpFault};
@@ -12,7 +11,7 @@ ghost use Rattle.lnt_ops.specs.OpSteps.{GivesAfter, RefusesAfter};
 use crate::extended::read_extended;
 use crate::owned::owned_operands;
 use crate::unknown::read_unknown;
-use lnt_header::{Header, Op, OpView};
+use lnt_header::{HeaderNumbers, Op, OpView};
 use lnt_wire::{Cursor, Fault, Items};
 use std::alloc::{AllocError, Global};
 
@@ -25,20 +24,20 @@ use std::alloc::{AllocError, Global};
 /// `Truncated` at the first byte that the length counts.
 #[inline(always)]
 #[tactic(auto, using(crate::proofs::OpReaders::gives_special, crate::proofs::OpReaders::gives_after, crate::proofs::OpReaders::first_opcode, crate::proofs::OpReaders::first_after, crate::proofs::OpReaders::refuses_opcode, crate::proofs::OpReaders::refuses_after))]
-pub fn read_op<'a>(cursor: &mut Cursor<'a>, header: &Header) -> Result<OpView<'a>, Fault>
-    requires { cursor.old.order ≡ header.now.order }
-    ensures ok { IfOk result (λ view. GivesOp (numbers_of header.now) view cursor.old cursor.new) }
-    ensures err { IfErr result (λ fault. Refuses (IsOpFault header.now.address_size) (OpBytes (numbers_of header.now)) cursor.old fault) }
-    ensures first { IfErr result (λ fault. Refuses (IsFirstFault (numbers_of header.now)) (OpBytes (numbers_of header.now)) cursor.old fault) }
+pub fn read_op<'a>(cursor: &mut Cursor<'a>, numbers: &HeaderNumbers) -> Result<OpView<'a>, Fault>
+    requires { cursor.old.order ≡ numbers.now.order }
+    ensures ok { IfOk result (λ view. GivesOp numbers.now view cursor.old cursor.new) }
+    ensures err { IfErr result (λ fault. Refuses (IsOpFault numbers.now.address_size) (OpBytes numbers.now) cursor.old fault) }
+    ensures first { IfErr result (λ fault. Refuses (IsFirstFault numbers.now) (OpBytes numbers.now) cursor.old fault) }
     ensures unchanged { OnErr result (cursor.new ≡ cursor.old) }
 {
     let mut ahead = Cursor::new(cursor.rest(), cursor.place(), cursor.order());
     let opcode = ahead.u8()?;
-    if opcode >= header.opcode_base() {
+    if opcode >= numbers.opcode_base() {
         *cursor = ahead;
         return Ok(OpView::Special(opcode));
     }
-    let view = read_operand(&mut ahead, header, opcode)?;
+    let view = read_operand(&mut ahead, numbers, opcode)?;
     *cursor = ahead;
     Ok(view)
 }
@@ -48,16 +47,16 @@ pub fn read_op<'a>(cursor: &mut Cursor<'a>, header: &Header) -> Result<OpView<'a
 #[tactic(auto, using(crate::proofs::StandardReaders::standard_reads))]
 fn read_operand<'a>(
     cursor: &mut Cursor<'a>,
-    header: &Header,
+    numbers: &HeaderNumbers,
     opcode: u8,
 ) -> Result<OpView<'a>, Fault>
-    requires standard { opcode < header.now.opcode_base }
-    requires order { cursor.old.order ≡ header.now.order }
-    ensures ok { IfOk result (λ view. GivesAfter (numbers_of header.now) opcode view cursor.old cursor.new) }
-    ensures err { IfErr result (λ fault. RefusesAfter (numbers_of header.now) opcode cursor.old fault) }
+    requires standard { opcode < numbers.now.opcode_base }
+    requires order { cursor.old.order ≡ numbers.now.order }
+    ensures ok { IfOk result (λ view. GivesAfter numbers.now opcode view cursor.old cursor.new) }
+    ensures err { IfErr result (λ fault. RefusesAfter numbers.now opcode cursor.old fault) }
 {
     match opcode {
-        0 => read_apart(cursor, header, 0),
+        0 => read_apart(cursor, numbers, 0),
         1 => Ok(OpView::Copy),
         2 => Ok(OpView::AdvancePc(cursor.uleb()?)),
         3 => Ok(OpView::AdvanceLine(cursor.sleb()?)),
@@ -70,25 +69,29 @@ fn read_operand<'a>(
         10 => Ok(OpView::SetPrologueEnd),
         11 => Ok(OpView::SetEpilogueBegin),
         12 => Ok(OpView::SetIsa(cursor.uleb()?)),
-        _ => read_apart(cursor, header, opcode),
+        _ => read_apart(cursor, numbers, opcode),
     }
 }
 
 // Reads what follows the 0 of an extended opcode, or a standard opcode that DWARF 5 doesn't know: the slow path for rare
 // ones. They are read by a copy of the cursor, so that the cursor itself isn't lent and stays in registers.
 #[inline(always)]
-fn read_apart<'a>(cursor: &mut Cursor<'a>, header: &Header, opcode: u8) -> Result<OpView<'a>, Fault>
-    requires standard { opcode < header.now.opcode_base }
+fn read_apart<'a>(
+    cursor: &mut Cursor<'a>,
+    numbers: &HeaderNumbers,
+    opcode: u8,
+) -> Result<OpView<'a>, Fault>
+    requires standard { opcode < numbers.now.opcode_base }
     requires rare { (opcode ≡ 0) ⊎ (last_known < opcode) }
-    requires order { cursor.old.order ≡ header.now.order }
-    ensures ok { IfOk result (λ view. GivesAfter (numbers_of header.now) opcode view cursor.old cursor.new) }
-    ensures err { IfErr result (λ fault. RefusesAfter (numbers_of header.now) opcode cursor.old fault) }
+    requires order { cursor.old.order ≡ numbers.now.order }
+    ensures ok { IfOk result (λ view. GivesAfter numbers.now opcode view cursor.old cursor.new) }
+    ensures err { IfErr result (λ fault. RefusesAfter numbers.now opcode cursor.old fault) }
 {
     let mut ahead = Cursor::new(cursor.rest(), cursor.place(), cursor.order());
     let view = if opcode == 0 {
-        read_extended(&mut ahead, header)?
+        read_extended(&mut ahead, numbers)?
     } else {
-        read_unknown(&mut ahead, header, opcode)?
+        read_unknown(&mut ahead, numbers, opcode)?
     };
     *cursor = ahead;
     Ok(view)

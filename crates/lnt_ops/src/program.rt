@@ -1,7 +1,6 @@
 //! Whole programs.
 ghost use Rattle.std.specs.Prelude.{◌≢◌, ◌+◌, ◌^◌, ◌<◌, length, IfOk, IfErr};
 ghost use Rattle.std.specs.List.{AllByRecursion};
-ghost use Rattle.lnt_header.specs.HeaderNumbers.{numbers_of};
 ghost use Rattle.lnt_header.specs.Joins.{Each};
 ghost use Rattle.lnt_header.specs.OpRules.{Admits};
 ghost use Rattle.lnt_ops.specs.OpBytes.{OpBytes};
@@ -9,7 +8,7 @@ ghost use Rattle.lnt_ops.specs.Programs.{BrokenProgram};
 
 use crate::iterator::Ops;
 use crate::operation::owned_op;
-use lnt_header::{Header, Op};
+use lnt_header::{HeaderNumbers, Op};
 use lnt_wire::{Fault, Items, Reason};
 use std::alloc::Global;
 
@@ -21,21 +20,21 @@ use std::alloc::Global;
 #[tactic(auto, using(crate::proofs::ProgramLaws::ops_none, crate::proofs::ProgramLaws::ops_more, crate::proofs::ProgramLaws::ops_spelled, crate::proofs::ProgramLaws::ops_admitted, crate::proofs::ProgramLaws::walk_done, crate::proofs::ProgramLaws::is_view))]
 pub fn read_ops(
     alloc: Global,
-    header: &Header,
+    numbers: &HeaderNumbers,
     program: &[u8],
     place: u64,
 ) -> Result<Items<Op>, Fault>
     requires { place + length program.now < 2 ^ 64 }
-    ensures ok { IfOk result (λ ops. Each (OpBytes (numbers_of header.now)) ops program.now) }
-    ensures admitted { IfOk result (λ ops. AllByRecursion (Admits (numbers_of header.now)) ops) }
-    ensures err { IfErr result (λ fault. fault.reason ≢ Reason.Memory → BrokenProgram (numbers_of header.now) place program.now fault) }
+    ensures ok { IfOk result (λ ops. Each (OpBytes numbers.now) ops program.now) }
+    ensures admitted { IfOk result (λ ops. AllByRecursion (Admits numbers.now) ops) }
+    ensures err { IfErr result (λ fault. fault.reason ≢ Reason.Memory → BrokenProgram numbers.now place program.now fault) }
 {
     let memory = Fault {
         place,
         reason: Reason::Memory,
     };
     let mut ops = Vec::new(alloc);
-    for view in Ops::new(header, program, place) {
+    for view in Ops::new(numbers, program, place) {
         let Ok(op) = owned_op(alloc, view?) else {
             return Err(memory);
         };

@@ -4,7 +4,6 @@ ghost use Rattle.std.specs.List.{AllByRecursion};
 ghost use Rattle.lnt_wire.specs.Bytes.{Appends, Exactly, Extends};
 ghost use Rattle.lnt_wire.specs.Leb128.{SignedLeb, UnsignedLeb};
 ghost use Rattle.lnt_wire.specs.Numbers.{NumberBytes};
-ghost use Rattle.lnt_header.specs.HeaderNumbers.{numbers_of};
 ghost use Rattle.lnt_header.specs.HeaderRules.{IsAddressSize};
 ghost use Rattle.lnt_header.specs.Joins.{Each};
 ghost use Rattle.lnt_header.specs.OpRules.{Admits};
@@ -14,7 +13,7 @@ ghost use Rattle.lnt_ops.specs.OpPuts.{AddsView, IsOpOf};
 ghost use Rattle.lnt_ops.specs.Stepping.{AddsOperands, AddsSpelled};
 ghost use Rattle.lnt_ops.specs.OpSpellings.{Coded, ExtendedCoded, ExtendedStart};
 
-use lnt_header::{CodedOp, Header, Op, OpView, Operands};
+use lnt_header::{CodedOp, HeaderNumbers, Op, OpView, Operands};
 use lnt_wire::{Cursor, Order, append_sleb, append_uleb, put_u16, put_u32, put_u64};
 use std::alloc::AllocError;
 
@@ -22,13 +21,13 @@ use std::alloc::AllocError;
 /// encoding. The caller ensures that the header admits each of them (`Header::admits`). Fails only if memory runs out, and
 /// then leaves `out` unchanged.
 #[tactic(auto, using(crate::proofs::OpPutLemmas::taken_back))]
-pub fn put_ops(out: &mut Vec<u8>, header: &Header, ops: &[Op]) -> Result<(), AllocError>
-    requires { AllByRecursion (Admits (numbers_of header.now)) ops.now }
-    ensures ok { OnOk result (Appends (Each (OpBytes (numbers_of header.now))) ops.now out.old.items out.new.items) }
+pub fn put_ops(out: &mut Vec<u8>, numbers: &HeaderNumbers, ops: &[Op]) -> Result<(), AllocError>
+    requires { AllByRecursion (Admits numbers.now) ops.now }
+    ensures ok { OnOk result (Appends (Each (OpBytes numbers.now)) ops.now out.old.items out.new.items) }
     ensures unchanged { OnErr result (out.new.items ≡ out.old.items) }
 {
     let start = out.len();
-    match add_ops(out, header, ops) {
+    match add_ops(out, numbers, ops) {
         Ok(()) => Ok(()),
         Err(error) => {
             out.truncate(start);
@@ -39,25 +38,25 @@ pub fn put_ops(out: &mut Vec<u8>, header: &Header, ops: &[Op]) -> Result<(), All
 
 // Appends operations. After an error a part of them may have been added.
 #[tactic(auto, using(lnt_header::proofs::PutLaws::each_begun, crate::proofs::OpPutLemmas::ops_more, lnt_header::proofs::PutLaws::each_done, lnt_header::proofs::FirstLaws::all_at))]
-fn add_ops(out: &mut Vec<u8>, header: &Header, ops: &[Op]) -> Result<(), AllocError>
-    requires { AllByRecursion (Admits (numbers_of header.now)) ops.now }
-    ensures ok { OnOk result (Appends (Each (OpBytes (numbers_of header.now))) ops.now out.old.items out.new.items) }
+fn add_ops(out: &mut Vec<u8>, numbers: &HeaderNumbers, ops: &[Op]) -> Result<(), AllocError>
+    requires { AllByRecursion (Admits numbers.now) ops.now }
+    ensures ok { OnOk result (Appends (Each (OpBytes numbers.now)) ops.now out.old.items out.new.items) }
     ensures extends { OnErr result (Extends out.old.items out.new.items) }
 {
     for op in ops {
-        add_op(out, header, op)?;
+        add_op(out, numbers, op)?;
     }
     Ok(())
 }
 
 // Appends an operation. After an error a part of it may have been added.
 #[tactic(auto, using(crate::proofs::OpPutLemmas::op_put))]
-fn add_op(out: &mut Vec<u8>, header: &Header, op: &Op) -> Result<(), AllocError>
-    requires { Admits (numbers_of header.now) op.now }
-    ensures ok { OnOk result (Appends (OpBytes (numbers_of header.now)) op.now out.old.items out.new.items) }
+fn add_op(out: &mut Vec<u8>, numbers: &HeaderNumbers, op: &Op) -> Result<(), AllocError>
+    requires { Admits numbers.now op.now }
+    ensures ok { OnOk result (Appends (OpBytes numbers.now) op.now out.old.items out.new.items) }
     ensures extends { OnErr result (Extends out.old.items out.new.items) }
 {
-    put_view(out, op.view(), header.order(), header.address_size())
+    put_view(out, op.view(), numbers.order(), numbers.address_size())
 }
 
 /// Appends the bytes of the operation that the view stands for, in a unit with this byte order, each LEB128 in its shortest

@@ -4,25 +4,24 @@
 //! of one over all, a `lookup` takes 0.57 and 0.80 of the instructions (`bench/RESULTS.md`).
 ghost use Rattle.std.specs.Prelude.{◌≡◌, ◌<◌, ◌≤◌, length, take, [], ◌∷◌, IfNone, IfSome};
 ghost use Rattle.lnt_wire.specs.Leb128.{SignedLeb, UnsignedLeb};
-ghost use Rattle.lnt_header.specs.HeaderNumbers.{numbers_of};
 ghost use Rattle.lnt_ops.specs.Short.{IsOperationPrefix, NoneShort};
 ghost use Rattle.lnt_ops.specs.Stepping.{IsGroup, NoByte, NoDiscriminator, NoTwoBytes};
 
-use lnt_header::{Header, OpView};
+use lnt_header::{HeaderNumbers, OpView};
 
 /// The operation that the bytes begin with, and the number of its bytes, if it is of a frequent kind and its operand is
 /// short. `None` if the bytes don't begin with such an operation.
 #[inline(always)]
 #[tactic(auto, using(crate::proofs::ShortLemmas::short_prefixes))]
-pub(crate) fn short_op<'a>(bytes: &'a [u8], header: &Header) -> Option<(OpView<'a>, usize)>
-    ensures some { IfSome result (λ found. IsOperationPrefix (numbers_of header.now) found.0 found.1 bytes.now) }
-    ensures none { IfNone result (NoneShort (numbers_of header.now) bytes.now) }
+pub(crate) fn short_op<'a>(bytes: &'a [u8], numbers: &HeaderNumbers) -> Option<(OpView<'a>, usize)>
+    ensures some { IfSome result (λ found. IsOperationPrefix numbers.now found.0 found.1 bytes.now) }
+    ensures none { IfNone result (NoneShort numbers.now bytes.now) }
 {
     if bytes.is_empty() {
         return None;
     }
     let opcode = bytes[0];
-    if opcode >= header.opcode_base() {
+    if opcode >= numbers.opcode_base() {
         return Some((OpView::Special(opcode), 1));
     }
     let (_, operand) = bytes.split_at(1);

@@ -1,10 +1,9 @@
 //! Standard operations that DWARF 5 doesn't know (DWARF 5, section 6.2.5.2).
 ghost use Rattle.std.specs.Prelude.{◌<◌, IfOk, IfErr, OnOk};
-ghost use Rattle.lnt_header.specs.HeaderNumbers.{numbers_of};
 ghost use Rattle.lnt_header.specs.OpRules.{last_known};
 ghost use Rattle.lnt_ops.specs.OpSteps.{GivesAfter, PassesOperands, RefusesAfter, RefusesOperands};
 
-use lnt_header::{Header, OpView, Operands};
+use lnt_header::{HeaderNumbers, OpView, Operands};
 use lnt_wire::{Cursor, Fault};
 
 /// Reads the operands of an unknown standard operation: as many numbers as the header lists, which are borrowed.
@@ -12,15 +11,15 @@ use lnt_wire::{Cursor, Fault};
 #[tactic(auto, using(crate::proofs::UnknownReaders::opcode_there, crate::proofs::UnknownReaders::gives_unknown, crate::proofs::UnknownReaders::refuses_unknown))]
 pub(crate) fn read_unknown<'a>(
     cursor: &mut Cursor<'a>,
-    header: &Header,
+    numbers: &HeaderNumbers,
     opcode: u8,
 ) -> Result<OpView<'a>, Fault>
     requires unknown { last_known < opcode }
-    requires standard { opcode < header.now.opcode_base }
-    ensures ok { IfOk result (λ view. GivesAfter (numbers_of header.now) opcode view cursor.old cursor.new) }
-    ensures err { IfErr result (λ fault. RefusesAfter (numbers_of header.now) opcode cursor.old fault) }
+    requires standard { opcode < numbers.now.opcode_base }
+    ensures ok { IfOk result (λ view. GivesAfter numbers.now opcode view cursor.old cursor.new) }
+    ensures err { IfErr result (λ fault. RefusesAfter numbers.now opcode cursor.old fault) }
 {
-    let count = header.standard_lengths()[usize::from(opcode) - 1];
+    let count = numbers.standard_lengths()[usize::from(opcode) - 1];
     let bytes = cursor.rest();
     pass_operands(cursor, count)?;
     let (operands, _) = bytes.split_at(bytes.len() - cursor.rest().len());

@@ -17,7 +17,6 @@ use Rattle.lnt_wire.specs.declared.format.Order.{Order}
 use Rattle.lnt_wire.specs.declared.format.Order.TheVariants.{Little, Big}
 use Rattle.lnt_header_bytes.specs.Broken.{Broken, IsAt, BrokenHeader}
 use Rattle.lnt_header_bytes.specs.Broken.IsFirstField.{frame}
-use Rattle.lnt_header.specs.HeaderNumbers.{numbers_of}
 use Rattle.lnt_header.specs.FieldFaults.{IsCutField, IsWrongLength}
 use Rattle.lnt_header.specs.FieldFaults.IsCutField.{number}
 use Rattle.lnt_header_bytes.specs.HeaderBytes.{unit_body, HeaderBytes, HeaderBytesIn}
@@ -88,7 +87,8 @@ cut_at order format fields left (b ∷ before) from some w h = (left, inl (forma
 -- the fields of a body up to its program
 fields_of : HeaderParts → List ℕ → List ℕ
 fields_of h fields =
-    version_five h.order ++ (h.address_size ∷ 0 ∷ []) ++ number_bytes h.order (offset_size h.format) (length fields) ++ fields
+    version_five h.numbers.order ++ (h.numbers.address_size ∷ 0 ∷ []) ++ number_bytes h.numbers.order (offset_size h.format) (length fields)
+    ++ fields
 
 size_of : (order : Order) (size : ℕ) (a b c : List ℕ) → slice_index ((version_five order ++ (size ∷ 0 ∷ []) ++ a ++ b) ++ c) 2 ≡ size
 size_of Little size a b c = refl
@@ -117,9 +117,9 @@ op_at order format reason size initial head before left from some is w (wrong_le
 
 -- the fault of a program, where the program and its place have other names
 first_of : (h : HeaderParts) (program bytes : List ℕ) (fault : Fault) (offset place : ℕ) → HeaderBytes h program bytes
-    → place + length program ≡ offset + length bytes → BrokenProgram (numbers_of h) place program fault
-    → (header : HeaderParts) (other : ℕ) (named : List ℕ) → BeginsWithHeader h.order offset bytes header other named
-    → BrokenProgram (numbers_of header) other named fault
+    → place + length program ≡ offset + length bytes → BrokenProgram h.numbers place program fault
+    → (header : HeaderParts) (other : ℕ) (named : List ℕ) → BeginsWithHeader h.numbers.order offset bytes header other named
+    → BrokenProgram header.numbers other named fault
 first_of h program bytes fault offset place p ends b header other named g =
     let found = same_header header h named program g.prefix bytes g.more [] g.spelled.order_is g.spelled.spelled p
     (sym g.joined ∙ sym (append-nil bytes)) in
@@ -128,28 +128,28 @@ first_of h program bytes fault offset place p ends b header other named g =
 
 ops_broken_in : (h : HeaderParts) (program bytes : List ℕ) (fault : Fault) (offset place : ℕ) → HeaderBytes h program bytes
     → place + length program ≡ offset + length bytes
-    → BrokenProgram (numbers_of h) place program fault → Broken (UnitBytesIn h.order) h.order fault offset bytes
+    → BrokenProgram h.numbers place program fault → Broken (UnitBytesIn h.numbers.order) h.numbers.order fault offset bytes
 unfolding fields_of
 ops_broken_in h program bytes fault offset place p ends b =
     let head = fields_of h p.fields in
     let body = unit_body h p.fields program in
-    let initial = initial_length h.format h.order (length body) in
+    let initial = initial_length h.format h.numbers.order (length body) in
     let body_is : body ≡ (head ++ b.before) ++ b.left = ap (λ (z : List ℕ). head ++ z) b.split ∙ sym (append_assoc head b.before b.left) in
     let split : bytes ≡ (initial ++ (head ++ b.before)) ++ b.left = p.joined ∙ ap (λ (z : List ℕ). initial ++ z) body_is
     ∙ sym (append_assoc initial (head ++ b.before) b.left) in
-    let in_frame : InFrame h.order h.format (head ++ b.before) b.left (initial ++ (head ++ b.before)) b.left = record {
+    let in_frame : InFrame h.numbers.order h.format (head ++ b.before) b.left (initial ++ (head ++ b.before)) b.left = record {
       more = [];
       fits = subst (λ (z : List ℕ). LengthFits h.format (length z)) body_is p.fits;
-      before_is = ap (λ (z : List ℕ). initial_length h.format h.order (length z) ++ (head ++ b.before)) body_is;
+      before_is = ap (λ (z : List ℕ). initial_length h.format h.numbers.order (length z) ++ (head ++ b.before)) body_is;
       from_is = sym (append-nil b.left);
     } in
-    let some : 0 < length initial = omega (arith, length-initial h.format h.order (length body)) in
+    let some : 0 < length initial = omega (arith, length-initial h.format h.numbers.order (length body)) in
     record {
       none = λ unit x more q e.
           let found = same_header unit.header h q.spelled.program program x bytes more [] q.order_is q.spelled.whole p
           (e ∙ sym (append-nil bytes)) in
-          b.none unit.ops (subst (λ (g : HeaderParts). Each (OpBytes (numbers_of g)) unit.ops program) found.header
-          (subst (λ (z : List ℕ). Each (OpBytes (numbers_of unit.header)) unit.ops z) found.program q.spelled.operations));
+          b.none unit.ops (subst (λ (g : HeaderParts). Each (OpBytes g.numbers) unit.ops program) found.header
+          (subst (λ (z : List ℕ). Each (OpBytes unit.header.numbers) unit.ops z) found.program q.spelled.operations));
       before = initial ++ (head ++ b.before);
       from = b.left;
       split = split;
@@ -162,14 +162,15 @@ ops_broken_in h program bytes fault offset place p ends b =
         ap length b.split,
         length-append b.before b.left,
       );
-      reason = op_at h.order h.format fault.reason h.address_size initial head b.before b.left b.left some
-          (size_of h.order h.address_size (number_bytes h.order (offset_size h.format) (length p.fields)) p.fields b.before) in_frame
+      reason = op_at h.numbers.order h.format fault.reason h.numbers.address_size initial head b.before b.left b.left some
+          (size_of h.numbers.order h.numbers.address_size (number_bytes h.numbers.order (offset_size h.format) (length p.fields))
+          p.fields b.before) in_frame
           b.reason;
     }
 
 pub ops_broken : (order : Order) (h : HeaderParts) (program bytes : List ℕ) (fault : Fault) (offset place : ℕ)
     → HeaderBytesIn order (h, program) bytes → place + length program ≡ offset + length bytes
-    → BrokenProgram (numbers_of h) place program fault → BrokenUnit order fault offset bytes
+    → BrokenProgram h.numbers place program fault → BrokenUnit order fault offset bytes
 ops_broken order h program bytes fault offset place p ends b = subst (λ (o : Order). BrokenUnit o fault offset bytes) p.order_is
     (record {
       broken = ops_broken_in h program bytes fault offset place p.spelled ends b;

@@ -11,7 +11,7 @@ use Rattle.lnt_wire.specs.declared.format.Order.{Order}
 use Rattle.lnt_wire.specs.declared.frame.Frame.{Frame}
 use Rattle.lnt_wire.specs.declared.put.EncodeFault.{EncodeFault}
 use Rattle.lnt_wire.specs.declared.put.EncodeFault.TheVariants as put
-use Rattle.lnt_header.specs.HeaderNumbers.{HeaderNumbers, numbers_of}
+use Rattle.lnt_header.specs.declared.numbers.NumberParts.{NumberParts}
 use Rattle.lnt_header.specs.Conversion.{in_format, unit_in_format}
 use Rattle.lnt_header.specs.Encoding.{RefusedPut}
 use Rattle.lnt_header_bytes.specs.HeaderBytes.{HeaderBytesIn}
@@ -38,19 +38,20 @@ parts_of : HeaderParts → List Op → UnitParts
 parts_of header ops = record { header = header; ops = ops }
 
 -- the program in the other order, which was put into an empty vector
-program_is : (h : HeaderParts) (program old converted : List ℕ) (format : Format) (to : Order) → (p : AddsOps (numbers_of h) program to old converted)
-    → old ≡ [] → IsShortest (Each (OpBytes (numbers_of (in_format h format to)))) p.ops converted
+program_is : (h : HeaderParts) (program old converted : List ℕ) (format : Format) (to : Order)
+    → (p : AddsOps h.numbers program to old converted)
+    → old ≡ [] → IsShortest (Each (OpBytes (in_format h format to).numbers)) p.ops converted
 program_is h program old converted format to p begun =
-    subst (IsShortest (Each (OpBytes (numbers_of (in_format h format to)))) p.ops) (sym (p.adds.joined ∙ ap (λ (z : List ℕ). z ++ p.adds.spelling) begun))
-    p.adds.spelled
+    subst (IsShortest (Each (OpBytes (in_format h format to).numbers)) p.ops)
+    (sym (p.adds.joined ∙ ap (λ (z : List ℕ). z ++ p.adds.spelling) begun)) p.adds.spelled
 
-pub frame_converted : (order : Order) (h : HeaderParts) (numbers : HeaderNumbers) (program bytes begun converted named old new : List ℕ) (format : Format)
-    (to : Order) → HeaderBytesIn order (h, program) bytes → numbers ≡ numbers_of h
+pub frame_converted : (order : Order) (h : HeaderParts) (numbers : NumberParts) (program bytes begun converted named old new : List ℕ)
+    (format : Format) (to : Order) → HeaderBytesIn order (h, program) bytes → numbers ≡ h.numbers
     → AddsOps numbers program to begun converted → begun ≡ [] → named ≡ converted
     → Appends (HeaderBytesIn to) (in_format h format to, named) old new → ConvertsBytes order format to bytes old new
 unfolding parts_of
 frame_converted order h numbers program bytes begun converted named old new format to p same added empty is r =
-    let q = subst (λ (g : HeaderNumbers). AddsOps g program to begun converted) same added in
+    let q = subst (λ (g : NumberParts). AddsOps g program to begun converted) same added in
     let unit = parts_of h q.ops in
     let here : Appends (HeaderBytesIn to) (in_format h format to, converted) old new = subst
     (λ (z : List ℕ). Appends (HeaderBytesIn to) (in_format h format to, z) old new) is r in
@@ -65,13 +66,13 @@ frame_converted order h numbers program bytes begun converted named old new form
       };
     }
 
-pub frame_large : (order : Order) (h : HeaderParts) (numbers : HeaderNumbers) (program bytes begun converted named : List ℕ) (format : Format) (to : Order)
-    (fault : EncodeFault) → HeaderBytesIn order (h, program) bytes → numbers ≡ numbers_of h
+pub frame_large : (order : Order) (h : HeaderParts) (numbers : NumberParts) (program bytes begun converted named : List ℕ)
+    (format : Format) (to : Order) (fault : EncodeFault) → HeaderBytesIn order (h, program) bytes → numbers ≡ h.numbers
     → AddsOps numbers program to begun converted → begun ≡ [] → named ≡ converted
     → RefusedPut (HeaderBytesIn to) (in_format h format to, named) fault → fault ≡ put.TooLarge → IsLarge order format to bytes
 unfolding parts_of
 frame_large order h numbers program bytes begun converted named format to fault p same added empty is r large =
-    let q = subst (λ (g : HeaderNumbers). AddsOps g program to begun converted) same added in
+    let q = subst (λ (g : NumberParts). AddsOps g program to begun converted) same added in
     let unit = parts_of h q.ops in
     let here : RefusedPut (HeaderBytesIn to) (in_format h format to, converted) fault = subst
     (λ (z : List ℕ). RefusedPut (HeaderBytesIn to) (in_format h format to, z) fault) is r in

@@ -2,7 +2,7 @@
 use Rattle.std.proofs.Common.{ℕ, ◌≤◌, List, [], ◌∷◌, length, ap, arith}
 use Rattle.std.proofs.lemmas.List.{length-append}
 use Rattle.lnt_wire.specs.declared.format.Order.{Order}
-use Rattle.lnt_header.specs.HeaderNumbers.{HeaderNumbers}
+use Rattle.lnt_header.specs.declared.numbers.NumberParts.{NumberParts}
 use Rattle.lnt_header.specs.declared.op.Op.{Op}
 use Rattle.lnt_header.specs.Joins.{Each}
 use Rattle.lnt_ops.proofs.OpLaws.{op_is_some}
@@ -14,7 +14,7 @@ use Rattle.lnt_unit.proofs.ReadLaws.{program_within}
 use Rattle.std.proofs.lemmas.Grind.{common_steps}
 
 -- each operation is spelled by a byte or more
-pub few_ops : (h : HeaderNumbers) (ops : List Op) (program : List ℕ) → Each (OpBytes h) ops program → length ops ≤ length program
+pub few_ops : (h : NumberParts) (ops : List Op) (program : List ℕ) → Each (OpBytes h) ops program → length ops ≤ length program
 few_ops h [] program spelled = omega arith
 few_ops h (op ∷ ops) program spelled =
     omega (

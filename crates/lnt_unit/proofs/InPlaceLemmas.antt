@@ -13,8 +13,10 @@ ends_with view is =
     let h = view.header in
     let fields = is.spelled.spelled.fields in
     let body = unit_body h fields view.program in
-    let start = initial_length h.format h.order (length body) in
-    let before = version_five h.order ++ (h.address_size ∷ 0 ∷ []) ++ number_bytes h.order (offset_size h.format) (length fields) ++
+    let start = initial_length h.format h.numbers.order (length body) in
+    let before =
+    version_five h.numbers.order ++ (h.numbers.address_size ∷ 0 ∷ []) ++ number_bytes h.numbers.order (offset_size h.format) (length
+    fields) ++
     fields in
     (start ++ before, is.spelled.spelled.joined ∙ sym (append_assoc start before view.program))
 

@@ -4,7 +4,6 @@ use Rattle.std.specs.Prelude.{Result, Ok, Err, IfErr}
 use Rattle.lnt_wire.specs.declared.put.EncodeFault.{EncodeFault}
 use Rattle.lnt_wire.specs.declared.put.EncodeFault.TheVariants.{Memory}
 use Rattle.lnt_wire.specs.Bytes.{IsShortest}
-use Rattle.lnt_header.specs.HeaderNumbers.{numbers_of}
 use Rattle.lnt_header.specs.declared.header.HeaderParts.{HeaderParts}
 use Rattle.lnt_header.specs.Joins.{Each}
 use Rattle.lnt_header_bytes.specs.Large.{HasLargeOffset, IfTooLarge, IsTooLong}
@@ -17,7 +16,8 @@ use Rattle.lnt_unit.proofs.EncodeLaws.{Program}
 pub memory_not_large : (IsSo : Type 0) (fault : EncodeFault) → fault ≡ Memory → IfTooLarge IsSo fault
 memory_not_large IsSo fault is = record { is_so = λ large. absurd cc }
 
-either : (unit : UnitParts) (program : List ℕ) → IsShortest (Each (OpBytes (numbers_of unit.header))) unit.ops program → HasLargeOffset unit.header
+either : (unit : UnitParts) (program : List ℕ) → IsShortest (Each (OpBytes unit.header.numbers)) unit.ops program
+    → HasLargeOffset unit.header
     ⊎ IsTooLong unit.header program → HasLargeOffset unit.header ⊎ IsTooLongUnit unit
 either unit program p (inl offset) = inl offset
 either unit program p (inr long) = inr (record { program = program; shortest = p; too_long = long })

@@ -14,7 +14,6 @@ use Rattle.lnt_wire.specs.declared.fault.Reason.TheVariants.{HeaderLength, MaxOp
 use Rattle.lnt_wire.specs.declared.fault.Reason.TheVariants.{UnknownForm, EmptyFormat, LebTooLarge, ExtendedLength, Memory}
 use Rattle.lnt_wire.specs.declared.format.Order.{Order}
 use Rattle.lnt_wire.proofs.LengthLaws.{same_rest}
-use Rattle.lnt_header.specs.HeaderNumbers.{numbers_of}
 use Rattle.lnt_header.specs.declared.header.HeaderParts.{HeaderParts}
 use Rattle.lnt_header_bytes.specs.HeaderBytes.{HeaderBytesIn, unit_body}
 use Rattle.lnt_header_bytes.proofs.FirstFieldLaws.{first_field_one}
@@ -117,9 +116,10 @@ begins_with : (order : Order) (offset : ℕ) (header : HeaderParts) (program x m
 begins_with order offset header program x more bytes p e =
     let h = p.spelled in
     let head =
-    version_five header.order ++ (header.address_size ∷ 0 ∷ []) ++ number_bytes header.order (offset_size header.format) (length h.fields)
+    version_five header.numbers.order ++ (header.numbers.address_size ∷ 0 ∷ []) ++ number_bytes header.numbers.order (offset_size
+    header.format) (length h.fields)
     ++ h.fields in
-    let initial = initial_length header.format header.order (length (unit_body header h.fields program)) in
+    let initial = initial_length header.format header.numbers.order (length (unit_body header h.fields program)) in
     let size : length x ≡ length initial + (length head + length program) =
     omega (arith, ap length h.joined, length-append initial (head ++ program), length-append head program) in (
       offset + (length initial + length head),
@@ -132,7 +132,8 @@ pub broken_one : (order : Order) (offset : ℕ) (bytes : List ℕ) (fault other 
 broken_one order offset bytes fault other f g = faults_agree fault other (λ apart.
     let none : NoneSpelled (HeaderBytesIn order) bytes = λ unit x more p e.
     let begins = begins_with order offset unit.0 unit.1 x more bytes p e in
-    let found = program_one (numbers_of unit.0) begins.0 unit.1 fault other p.spelled.counted.numbers (f.in_program unit.0 begins.0 unit.1 begins.1)
+    let found =
+    program_one unit.0.numbers begins.0 unit.1 fault other p.spelled.counted.numbers (f.in_program unit.0 begins.0 unit.1 begins.1)
     (g.in_program unit.0 begins.0 unit.1 begins.1) in
     apart (same_fault fault other found.0 found.1) in
     let found =

@@ -4,7 +4,6 @@ use Rattle.lnt_header_bytes.specs.HeaderBytes.{unit_body}
 use Rattle.lnt_header_bytes.specs.AllowedHeaders as header
 use Rattle.lnt_header_bytes.proofs.ProgramLaws.{fits_less, length-body}
 use Rattle.lnt_header_bytes.specs.Spelled.{HasSmallOffsets}
-use Rattle.lnt_header.specs.HeaderNumbers.{numbers_of}
 use Rattle.lnt_ops.specs.Laws as operations
 use Rattle.lnt_header.specs.declared.unit_parts.UnitParts.{UnitParts}
 use Rattle.lnt_unit.specs.AllowedUnits.{AllowedUnitIsSpelled}
@@ -15,7 +14,7 @@ use Rattle.lnt_header.specs.UnitRules.{IsUnit}
 unit_spelled : header.AllowedHeaderIsSpelled → operations.AllowedOpsAreSpelled → (unit : UnitParts) → IsUnit unit → FitsUnit unit
     → HasSmallOffsets unit.header → UnitLengthsFit unit → (bytes : List ℕ) × UnitBytes unit bytes
 unit_spelled headers ops unit is fits small short =
-    let program = ops.program (numbers_of unit.header) unit.ops is.header.numbers is.ops fits.ops in
+    let program = ops.program unit.header.numbers unit.ops is.header.numbers is.ops fits.ops in
     let whole = headers.unit unit.header program.0 is.header fits.header small (short program.0 program.1) in
     (whole.0, record { program = program.0; operations = program.1.spelled; whole = whole.1 })
 
@@ -23,7 +22,7 @@ allowed : header.AllowedHeaderIsSpelled → operations.AllowedOpsAreSpelled → 
     → IsUnit unit × FitsUnit unit × HasSmallOffsets unit.header × UnitLengthsFit unit
 allowed headers ops unit bytes p =
     let h = headers.allowed unit.header p.program bytes p.whole in
-    let all = ops.allowed (numbers_of unit.header) unit.ops p.program p.operations in (
+    let all = ops.allowed unit.header.numbers unit.ops p.program p.operations in (
       record { header = h.0; ops = all.0 },
       record { header = h.1; ops = all.1 },
       h.2,

@@ -5,7 +5,6 @@ use Rattle.lnt_wire.specs.declared.format.Order.{Order}
 use Rattle.lnt_wire.specs.declared.fault.Fault.{Fault}
 use Rattle.lnt_wire.specs.Bytes.{NoneSpelled}
 use Rattle.lnt_wire.proofs.LengthLaws.{same_rest, length-initial}
-use Rattle.lnt_header.specs.HeaderNumbers.{numbers_of}
 use Rattle.lnt_header.specs.declared.header.HeaderParts.{HeaderParts}
 use Rattle.lnt_header.specs.declared.op.Op.{Op}
 use Rattle.lnt_header_bytes.specs.HeaderBytes.{HeaderBytesIn}
@@ -23,7 +22,7 @@ use Rattle.std.proofs.lemmas.Grind.{common_steps}
 
 -- a header and the operations of its program
 pub unit_found : (order : Order) (unit : UnitParts) (program bytes : List ℕ) → HeaderBytesIn order (unit.header, program) bytes
-    → Each (OpBytes (numbers_of unit.header)) unit.ops program → UnitBytesIn order unit bytes
+    → Each (OpBytes unit.header.numbers) unit.ops program → UnitBytesIn order unit bytes
 unit_found order unit program bytes p ops = grind (arith, common_steps)
 
 -- the header of a unit with its program
@@ -44,10 +43,10 @@ same_unit order u v x y r s p q e =
     let left = p.spelled in
     let right = q.spelled in
     let found = same_header u.header v.header left.program right.program x y r s (p.order_is ∙ sym q.order_is) left.whole right.whole e in
-    let operations : Each (OpBytes (numbers_of u.header)) v.ops left.program =
-    subst (λ (h : HeaderParts). Each (OpBytes (numbers_of h)) v.ops left.program) (sym found.header)
-    (subst (λ (z : List ℕ). Each (OpBytes (numbers_of v.header)) v.ops z) (sym found.program) right.operations) in
-    let ops : u.ops ≡ v.ops = same_program (numbers_of u.header) left.whole.counted.numbers u.ops v.ops left.program left.operations operations in
+    let operations : Each (OpBytes u.header.numbers) v.ops left.program =
+    subst (λ (h : HeaderParts). Each (OpBytes h.numbers) v.ops left.program) (sym found.header)
+    (subst (λ (z : List ℕ). Each (OpBytes v.header.numbers) v.ops z) (sym found.program) right.operations) in
+    let ops : u.ops ≡ v.ops = same_program u.header.numbers left.whole.counted.numbers u.ops v.ops left.program left.operations operations in
     let parts : parts_of u.header u.ops ≡ parts_of v.header v.ops = ap (λ (h : HeaderParts). parts_of h u.ops) found.header
     ∙ ap (parts_of v.header) ops in
     (sym (parts_are u) ∙ parts ∙ parts_are v, found.bytes)

@@ -7,7 +7,6 @@ use Rattle.lnt_wire.specs.declared.fault.Reason.TheVariants.{Memory}
 use Rattle.lnt_wire.specs.declared.format.Order.{Order}
 use Rattle.lnt_wire.specs.declared.frame.Frame.{Frame}
 use Rattle.lnt_header_bytes.specs.Broken.{BrokenHeader}
-use Rattle.lnt_header.specs.HeaderNumbers.{numbers_of}
 use Rattle.lnt_header.specs.declared.op.Op.{Op}
 use Rattle.lnt_header.specs.declared.op.OpView.{OpView}
 use Rattle.lnt_ops.specs.Walks.{Walk, Ends, GivesOperation}
@@ -34,8 +33,8 @@ pub record CountedTo (view : View) (count : ℕ) (walk : Walk) : Type 0 where
   pub count_is : count ≡ length ops
   pub few : count + length walk.at.rest ≤ length view.program
 
-pub counted_none : (view : View) (walk : Walk) → walk.header ≡ numbers_of view.header → walk.failed ≡ false → walk.at.place ≡ view.place
-    → walk.at.rest ≡ view.program → walk.at.order ≡ view.header.order → CountedTo view 0 walk
+pub counted_none : (view : View) (walk : Walk) → walk.header ≡ view.header.numbers → walk.failed ≡ false → walk.at.place ≡ view.place
+    → walk.at.rest ≡ view.program → walk.at.order ≡ view.header.numbers.order → CountedTo view 0 walk
 counted_none view walk same going place rest order =
     record { ops = []; given = given_none view walk same going place rest order; count_is = refl; few = omega (arith, ap length rest) }
 

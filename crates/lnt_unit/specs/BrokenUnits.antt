@@ -3,7 +3,6 @@ use Rattle.std.specs.Prelude.{◌≡◌, ℕ, ◌+◌, ◌<◌, List, ◌++◌, 
 use Rattle.lnt_wire.specs.Bytes.{NoneSpelled}
 use Rattle.lnt_wire.specs.declared.format.Order.{Order}
 use Rattle.lnt_wire.specs.declared.fault.Fault.{Fault}
-use Rattle.lnt_header.specs.HeaderNumbers.{numbers_of}
 use Rattle.lnt_header.specs.declared.header.HeaderParts.{HeaderParts}
 use Rattle.lnt_header_bytes.specs.Broken.{Broken, IsFirstField}
 use Rattle.lnt_header_bytes.specs.HeaderBytes.{HeaderBytesIn}
@@ -27,7 +26,7 @@ pub record BrokenUnit (order : Order) (fault : Fault) (offset : ℕ) (bytes : Li
   pub broken : Broken (UnitBytesIn order) order fault offset bytes
   pub in_header : NoneSpelled (HeaderBytesIn order) bytes → IsFirstField order fault.reason broken.before broken.from
   pub in_program : (header : HeaderParts) (place : ℕ) (program : List ℕ) → BeginsWithHeader order offset bytes header place program
-      → BrokenProgram (numbers_of header) place program fault
+      → BrokenProgram header.numbers place program fault
 
 -- A section is broken after some units that it begins with: more bytes follow, and they don't begin with a unit.
 pub record IsTrueFault (order : Order) (fault : Fault) (section : List ℕ) : Type 0 where

@@ -6,7 +6,6 @@ use Rattle.lnt_wire.specs.declared.format.Order.{Order}
 use Rattle.lnt_wire.specs.declared.fault.Fault.{Fault}
 use Rattle.lnt_wire.specs.Bytes.{IsCode}
 use Rattle.lnt_wire.specs.Frames.{EndsBy}
-use Rattle.lnt_header.specs.HeaderNumbers.{numbers_of}
 use Rattle.lnt_header.specs.HeaderRules.{IsHeader}
 use Rattle.lnt_header.specs.OpRules.{Admits, StandsFor}
 use Rattle.lnt_header.specs.declared.op.Op.{Op}
@@ -40,16 +39,16 @@ pub record OneTrueFault : Type 0 where
 
 -- A walk over the program of a view that has given nothing yet, as `ops` gives it.
 pub record BeginsOf (view : View) (walk : Walk) : Type 0 where
-  pub header_is : walk.header ≡ numbers_of view.header
+  pub header_is : walk.header ≡ view.header.numbers
   pub place_is : walk.at.place ≡ view.place
   pub rest_is : walk.at.rest ≡ view.program
-  pub order_is : walk.at.order ≡ view.header.order
+  pub order_is : walk.at.order ≡ view.header.numbers.order
   pub going : walk.failed ≡ false
 
 -- What was given stands for these operations, which the header admits. They are at most as many as the program has bytes.
 pub record AreGiven (view : View) (items : List OpView) (ops : List Op) : Type 0 where
   pub stand : AllZip StandsFor items ops
-  pub admitted : AllByRecursion (Admits (numbers_of view.header)) ops
+  pub admitted : AllByRecursion (Admits view.header.numbers) ops
   pub few : length items ≤ length view.program
 
 -- A walk over a unit in a buffer, from first to last: what it gives are operations, in order. If it ends after them, the bytes

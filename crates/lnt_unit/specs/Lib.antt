@@ -20,7 +20,6 @@ pub mod Views
 pub use Rattle.lnt_header.specs.Conversion
 pub use Rattle.lnt_header.specs.Encoding
 pub use Rattle.lnt_header.specs.FaultTexts as UnitFaultTexts
-pub use Rattle.lnt_header.specs.HeaderNumbers
 pub use Rattle.lnt_header.specs.HeaderRules
 pub use Rattle.lnt_header.specs.HeaderTests
 pub use Rattle.lnt_header.specs.OpRules
@@ -38,5 +37,6 @@ pub use Rattle.lnt_ops.specs.Short
 pub use Rattle.lnt_ops.specs.Walks
 -- the types of units that they speak of
 pub use Rattle.lnt_header.specs.declared.header.HeaderParts as DeclaredHeaderParts
+pub use Rattle.lnt_header.specs.declared.numbers.NumberParts as DeclaredNumberParts
 pub use Rattle.lnt_header.specs.declared.op.Op as DeclaredOp
 pub use Rattle.lnt_header.specs.declared.unit_parts.UnitParts as DeclaredParts

@@ -2,7 +2,6 @@
 use Rattle.std.specs.Prelude.{ℕ, List}
 use Rattle.std.specs.List.{AllByRecursion}
 use Rattle.lnt_wire.specs.Bytes.{IsShortest}
-use Rattle.lnt_header.specs.HeaderNumbers.{numbers_of}
 use Rattle.lnt_header.specs.Joins.{Each}
 use Rattle.lnt_header_bytes.specs.Spelled.{FitsFields, LengthsFit}
 use Rattle.lnt_ops.specs.OpBytes.{OpBytes}
@@ -16,4 +15,4 @@ pub record FitsUnit (unit : UnitParts) : Type 0 where
 
 -- The unit's length, with the shortest fields and the shortest program, is one that its format can say.
 abbrev pub UnitLengthsFit : UnitParts → Type 0
-UnitLengthsFit unit = (program : List ℕ) → IsShortest (Each (OpBytes (numbers_of unit.header))) unit.ops program → LengthsFit unit.header program
+UnitLengthsFit unit = (program : List ℕ) → IsShortest (Each (OpBytes unit.header.numbers)) unit.ops program → LengthsFit unit.header program

@@ -1,5 +1,5 @@
 -- What a call of `next_unit` or `next_unit_in` does (DWARF 5, sections 6.2.4 and 7.4).
-use Rattle.std.specs.Prelude.{◌≡◌, ◌≢◌, ◌+◌, ◌<◌, length, IsTrue, false, Option, Some, None, IfSome, IfNone}
+use Rattle.std.specs.Prelude.{◌≡◌, ◌+◌, ◌<◌, length, false, Option, Some, None, IfSome, IfNone}
 use Rattle.std.specs.Prelude.{Result, Ok, Err, IfOk, IfErr, OnErr, IsErrOf}
 use Rattle.lnt_io.specs.declared.source.Source.{Ghosts}
 use Rattle.lnt_io.specs.Stopping.{CountsFailure, IsTooLongOn}

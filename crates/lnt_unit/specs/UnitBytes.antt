@@ -1,7 +1,6 @@
 -- The bytes of units and of a section (DWARF 5, section 6.2.4).
 use Rattle.std.specs.Prelude.{◌≡◌, ℕ, List}
 use Rattle.lnt_wire.specs.declared.format.Order.{Order}
-use Rattle.lnt_header.specs.HeaderNumbers.{numbers_of}
 use Rattle.lnt_header.specs.declared.unit_parts.UnitParts.{UnitParts}
 use Rattle.lnt_header.specs.Joins.{Each, PlacedFrom}
 use Rattle.lnt_ops.specs.OpBytes.{OpBytes}
@@ -10,12 +9,12 @@ use Rattle.lnt_header_bytes.specs.HeaderBytes.{HeaderBytes}
 -- The bytes of a unit: its header, and one encoding of each operation in order.
 pub record UnitBytes (unit : UnitParts) (bytes : List ℕ) : Type 0 where
   pub program : List ℕ
-  pub operations : Each (OpBytes (numbers_of unit.header)) unit.ops program
+  pub operations : Each (OpBytes unit.header.numbers) unit.ops program
   pub whole : HeaderBytes unit.header program bytes
 
 -- the bytes of a unit in this byte order
 pub record UnitBytesIn (order : Order) (unit : UnitParts) (bytes : List ℕ) : Type 0 where
-  pub order_is : unit.header.order ≡ order
+  pub order_is : unit.header.numbers.order ≡ order
   pub spelled : UnitBytes unit bytes
 
 -- The units from an offset on, each with its own offset.

@@ -114,15 +114,15 @@ fn convert_parts(
     to: Order,
     out: &mut Vec<u8>,
 ) -> Result<(), ConvertFault>
-    requires spelled { HeaderBytesIn header.now.order (header.now, program.now)
-        (frame_bytes header.now.order frame.now.format frame.now.body.now) }
+    requires spelled { HeaderBytesIn header.now.numbers.order (header.now, program.now)
+        (frame_bytes header.now.numbers.order frame.now.format frame.now.body.now) }
     requires room { place + length program.now < 2 ^ 64 }
     requires place { place + length program.now
-        ≡ frame.now.offset + length (frame_bytes header.now.order frame.now.format frame.now.body.now) }
-    ensures ok { OnOk result (ConvertsBytes header.now.order format to
-        (frame_bytes header.now.order frame.now.format frame.now.body.now) out.old.items out.new.items) }
-    ensures err { IfErr result (IsUnitStop header.now.order format to frame.now.offset
-        (frame_bytes header.now.order frame.now.format frame.now.body.now)) }
+        ≡ frame.now.offset + length (frame_bytes header.now.numbers.order frame.now.format frame.now.body.now) }
+    ensures ok { OnOk result (ConvertsBytes header.now.numbers.order format to
+        (frame_bytes header.now.numbers.order frame.now.format frame.now.body.now) out.old.items out.new.items) }
+    ensures err { IfErr result (IsUnitStop header.now.numbers.order format to frame.now.offset
+        (frame_bytes header.now.numbers.order frame.now.format frame.now.body.now)) }
     ensures extends { OnErr result (Extends out.old.items out.new.items) }
 {
     let mut converted = Vec::new(alloc);

@@ -60,7 +60,7 @@ fn unit_of(alloc: Global, frame: &Frame<'_>, end: u64, order: Order) -> Result<U
 {
     let (header, program) = decode_header(alloc, frame, order)?;
     let place = end - program.len() as u64;
-    match read_ops(alloc, &header, program, place) {
+    match read_ops(alloc, header.numbers(), program, place) {
         Ok(ops) => Ok(Unit::of(header, ops)),
         Err(fault) => {
             drop(header);

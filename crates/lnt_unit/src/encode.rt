@@ -17,12 +17,12 @@ use std::alloc::Global;
 /// format, or the unit is too long for the format. Otherwise fails only with `Memory`.
 #[tactic(auto, using(lnt_header::proofs::PutLaws::refused_memory, crate::proofs::LargeUnits::memory_not_large))]
 pub fn encode_unit(alloc: Global, unit: &Unit) -> Result<Vec<u8>, EncodeFault>
-    ensures ok { IfOk result (λ bytes. IsShortest (UnitBytesIn unit.now.header.order) unit.now bytes.items) }
-    ensures err { IfErr result (λ fault. RefusedPut (UnitBytesIn unit.now.header.order) unit.now fault) }
+    ensures ok { IfOk result (λ bytes. IsShortest (UnitBytesIn unit.now.header.numbers.order) unit.now bytes.items) }
+    ensures err { IfErr result (λ fault. RefusedPut (UnitBytesIn unit.now.header.numbers.order) unit.now fault) }
     ensures large { IfErr result (IfTooLarge (HasLargeOffset unit.now.header ⊎ IsTooLongUnit unit.now)) }
 {
     let header = unit.header();
     let mut program = Vec::new(alloc);
-    put_ops(&mut program, header, unit.ops())?;
+    put_ops(&mut program, header.numbers(), unit.ops())?;
     encode_header(alloc, header, &program)
 }

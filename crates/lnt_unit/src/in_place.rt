@@ -4,7 +4,7 @@ ghost use Rattle.lnt_header_bytes.specs.Broken.{BrokenHeader};
 ghost use Rattle.lnt_unit.specs.BrokenUnits.{BrokenUnit};
 
 use crate::UnitBuffer;
-use lnt_header::Header;
+use lnt_header::HeaderNumbers;
 use lnt_header_bytes::{HeaderInPlace, HeaderView, view_header};
 use lnt_ops::Ops;
 use lnt_wire::{Fault, Reason};
@@ -35,7 +35,6 @@ impl<'a> Model for UnitInPlace<'a> {
 }
 
 impl<'a> UnitInPlace<'a> {
-    ghost use Rattle.lnt_header.specs.HeaderNumbers.{numbers_of, without_entries};
     ghost use Rattle.lnt_header.specs.HeaderRules.{IsHeader};
     ghost use Rattle.lnt_unit.specs.Views.{IsUnitView, HasCount};
 
@@ -67,17 +66,16 @@ impl<'a> UnitInPlace<'a> {
         self.header.view()
     }
 
-    /// The header without its directories and files: the numbers that a machine needs.
-    pub fn numbers(&self) -> &Header
-        ensures value { result.now ≡ without_entries self.now.header }
-        ensures same { numbers_of result.now ≡ numbers_of self.now.header }
+    /// The numbers of the header, which a machine needs.
+    pub fn numbers(&self) -> &HeaderNumbers
+        ensures { result.now ≡ self.now.header.numbers }
     {
         self.header.numbers()
     }
 
     /// The bytes of the program.
     #[inline(always)]
-    pub fn program(&self) -> &[u8]
+    pub fn program(&self) -> &'a [u8]
         ensures { result.now ≡ self.now.program }
     {
         self.program
@@ -104,10 +102,10 @@ impl<'a> UnitInPlace<'a> {
     /// Only the header's numbers are needed to read them. If all operations are valid, the bytes encode the unit with the
     /// header and these operations; if one isn't, they encode no unit (`laws::whole_walk`).
     pub fn ops(&self) -> Ops<'_>
-        ensures header { result.header ≡ numbers_of self.now.header }
+        ensures header { result.header ≡ self.now.header.numbers }
         ensures place { result.at.place ≡ self.now.place }
         ensures rest { result.at.rest ≡ self.now.program }
-        ensures order { result.at.order ≡ self.now.header.order }
+        ensures order { result.at.order ≡ self.now.header.numbers.order }
         ensures going { result.failed ≡ false }
         ensures is_header { IsHeader self.now.header }
         ensures is_view { IsUnitView self.now }

@@ -13,7 +13,7 @@ loop-op-init g c =
     (g.W.Write.contents c.args.out.now) (g.W.Write.contents c.args.out.now)) (sym c.into_iter-op-iterator.ensures.into_iter_gives)
     (rows_none c.args.page.now.items (g.W.Write.contents c.args.out.now)
     (stands_first c.args.unit.now ops c.ops-op-items.result c.ops-op-items.ensures.is_view is c.ops-op-items.ensures.header
-    c.ops-op-items.ensures.rest c.ops-op-items.ensures.going) (c.new-run.ensures.header ∙ c.numbers.ensures.same) c.new-run.ensures.done
+    c.ops-op-items.ensures.rest c.ops-op-items.ensures.going) (c.new-run.ensures.header ∙ c.numbers.ensures) c.new-run.ensures.done
     c.new-run.ensures.count)
 
 pub unreachable-requires : goal.unreachable-requires

@@ -10,7 +10,7 @@ loop-op-init c =
     subst (λ (w : Walk). IsJudging c.args.unit.now w c.new-run.result) (sym c.into_iter-op-iterator.ensures.into_iter_gives)
     (judging_first c.ops-op-items.ensures.is_view c.ops-op-items.ensures.header
     c.ops-op-items.ensures.going c.ops-op-items.ensures.place c.ops-op-items.ensures.rest c.ops-op-items.ensures.order
-    (c.new-run.ensures.header ∙ c.numbers.ensures.same) c.new-run.ensures.done c.new-run.ensures.count)
+    (c.new-run.ensures.header ∙ c.numbers.ensures) c.new-run.ensures.done c.new-run.ensures.count)
 
 pub step-requires : goal.step-requires
 step-requires c =

@@ -1,6 +1,5 @@
-use Rattle.std.proofs.Common.{rules, arith}
+use Rattle.std.proofs.Common.{arith}
 use Rattle.std.proofs.lemmas.Grind.{common_steps}
-use Rattle.lnt_io.proofs.PullLaws.{pulling}
 use Rattle.lnt_io.proofs.reading.read_all.Goals as goal
 
 pub loop-all-preserved : goal.loop-all-preserved

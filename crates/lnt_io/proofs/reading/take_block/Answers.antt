@@ -1,4 +1,4 @@
-use Rattle.std.proofs.Common.{◌≡◌, ◌+◌, ◌-◌, ◌≤◌, ◌++◌, take, length, arith, vec_len, replicate, rules}
+use Rattle.std.proofs.Common.{◌≡◌, ◌+◌, ◌-◌, ◌≤◌, ◌++◌, take, length, arith, vec_len, replicate}
 use Rattle.std.proofs.lemmas.Grind.{common_steps}
 use Rattle.lnt_io.proofs.PullLaws.{gives_written, prefix_kept}
 use Rattle.lnt_io.proofs.reading.take_block.Goals as goal

@@ -1,12 +1,11 @@
 use Rattle.std.proofs.Common.{◌≡◌, ap, sym, ◌∙◌, rules}
 use Rattle.std.proofs.lemmas.Result.{err_from_is_err_and}
-use Rattle.lnt_header.specs.HeaderNumbers.{numbers_of}
 use Rattle.lnt_header.specs.declared.op.Op.TheVariants.{Special}
 use Rattle.lnt_machine.specs.Changes.{line_reached, special_row, unmarked}
 use Rattle.lnt_machine.specs.Registers.{IsLine}
 use Rattle.lnt_machine.proofs.registers.special.Goals as goal
 
-row_is : (c : goal.After-append-row) → c.append-row.result ≡ special_row (numbers_of c.args.header.now) c.args.registers.now c.args.opcode
+row_is : (c : goal.After-append-row) → c.append-row.result ≡ special_row c.args.numbers.now c.args.registers.now c.args.opcode
 row_is c = search rules
 
 pub returns-clause-row : goal.returns-clause-row
@@ -21,5 +20,5 @@ returns-clause-line c = search rules
 pub returns-in_err-registers-clause-err : goal.returns-in_err-registers-clause-err
 returns-in_err-registers-clause-err c =
     let p = err_from_is_err_and c.from_residual.result c.from_residual.ensures.1 in
-    let beyond : IsLine (line_reached (numbers_of c.args.header.now) c.args.registers.now (Special c.args.opcode)) → ⊥ = search rules in
+    let beyond : IsLine (line_reached c.args.numbers.now c.args.registers.now (Special c.args.opcode)) → ⊥ = search rules in
     rw p.1 beyond

@@ -1,7 +1,7 @@
 use Rattle.std.proofs.Common.{◌∙◌, ap, arith}
 use Rattle.std.proofs.lemmas.Result.{err_from_is_err_and}
 use Rattle.std.proofs.lemmas.Grind.{common_steps}
-use Rattle.lnt_header.specs.HeaderNumbers.{numbers_of}
+use Rattle.lnt_header.specs.declared.header.HeaderParts.{HeaderParts}
 use Rattle.lnt_machine.proofs.MatrixLemmas.{made_out, made_quiet, made_row, made_sequences}
 use Rattle.lnt_machine.proofs.RanLaws.{ran_all, ran_first, ran_open, ran_whole}
 use Rattle.lnt_machine.proofs.SequenceLaws.{cut_none}
@@ -9,7 +9,8 @@ use Rattle.lnt_machine.proofs.unit_rows.matrix.Goals as goal
 
 pub loop-op-init : goal.loop-op-init
 loop-op-init c = record {
-  ran = ran_first (c.new-run.ensures.header ∙ ap numbers_of c.header.ensures) c.new-run.ensures.done c.new-run.ensures.count;
+  ran = ran_first (c.new-run.ensures.header ∙ c.numbers.ensures.numbers ∙ ap (λ (h : HeaderParts). h.numbers) c.header.ensures)
+      c.new-run.ensures.done c.new-run.ensures.count;
   cut = rw (c.new-sequences.ensures.items, c.new-rows.ensures.items) cut_none;
 }
 

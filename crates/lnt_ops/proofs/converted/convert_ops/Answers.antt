@@ -1,7 +1,6 @@
 use Rattle.std.proofs.Common.{◌≢◌, subst, Some, Result, arith}
 use Rattle.std.proofs.lemmas.Result.{err_from_is_err_and}
 use Rattle.std.proofs.lemmas.Grind.{common_steps}
-use Rattle.lnt_header.specs.HeaderNumbers.{numbers_of}
 use Rattle.lnt_wire.specs.declared.fault.Fault.{Fault}
 use Rattle.lnt_wire.specs.declared.fault.Reason.TheVariants.{Memory}
 use Rattle.lnt_header.specs.declared.op.OpView.{OpView}
@@ -20,9 +19,9 @@ returns-in_err-view-clause-err c =
     let step : Fails fault c.loop-view.view-iterator c.next.new.self =
     subst (λ (r : Result OpView Fault). WalkStep c.loop-view.view-iterator (Some r) c.next.new.self) c.in_err-view.was
     c.in-Some.ensures.steps in
-    let rest : fault.reason ≢ Memory → BrokenProgram (numbers_of c.args.header.now) c.args.place c.args.program.now fault =
-    λ _. walk_broken (numbers_of c.args.header.now) c.args.place c.args.program.now so.ops fault c.loop-view.view-iterator c.next.new.self
-    c.new-view-items.ensures.is_header.numbers so.header_is so.so step in
+    let rest : fault.reason ≢ Memory → BrokenProgram c.args.numbers.now c.args.place c.args.program.now fault =
+    λ _. walk_broken c.args.numbers.now c.args.place c.args.program.now so.ops fault c.loop-view.view-iterator c.next.new.self
+    c.new-view-items.ensures.numbers so.header_is so.so step in
     rw (p.1, p.2) rest
 
 pub loop-view-preserved : goal.loop-view-preserved
@@ -30,7 +29,7 @@ loop-view-preserved c =
     let step : GivesOperation c.in_ok-view.field-0 c.loop-view.view-iterator c.next.new.self =
     subst (λ (r : Result OpView Fault). WalkStep c.loop-view.view-iterator (Some r) c.next.new.self) c.in_ok-view.was
     c.in-Some.ensures.steps in
-    converted_more (numbers_of c.args.header.now) c.args.place c.args.program.now c.args.to c.address_size-size.result c.args.out.now.items _ _
+    converted_more c.args.numbers.now c.args.place c.args.program.now c.args.to c.address_size-size.result c.args.out.now.items _ _
     c.in_ok-view.field-0 c.loop-view.view-iterator c.next.new.self c.loop-view.invariant step
     c.address_size-size.ensures.value c.in-Ok.ensures.ok
 
@@ -39,7 +38,7 @@ put_view-requires-clause-admitted c =
     let step : GivesOperation c.in_ok-view.field-0 c.loop-view.view-iterator c.next.new.self =
     subst (λ (r : Result OpView Fault). WalkStep c.loop-view.view-iterator (Some r) c.next.new.self) c.in_ok-view.was
     c.in-Some.ensures.steps in
-    view_of_header (numbers_of c.args.header.now) c.address_size-size.result c.in_ok-view.field-0 c.loop-view.view-iterator c.next.new.self
+    view_of_header c.args.numbers.now c.address_size-size.result c.in_ok-view.field-0 c.loop-view.view-iterator c.next.new.self
     c.loop-view.invariant.header_is c.address_size-size.ensures.value step
 
 pub returns-clause-ok : goal.returns-clause-ok

@@ -1,13 +1,12 @@
 use Rattle.std.proofs.lemmas.Result.{IfErr-weaker}
 use Rattle.std.proofs.Common.{rules, arith}
 use Rattle.std.proofs.lemmas.Grind.{common_steps}
-use Rattle.lnt_header.specs.HeaderNumbers.{numbers_of}
 use Rattle.lnt_ops.proofs.ExtendedReaders.{refuses_counted, gives_extended, refuses_length, refuses_cut}
 use Rattle.lnt_ops.proofs.extended.read_extended.Goals as goal
 
 pub returns-clause-err : goal.returns-clause-err
 returns-clause-err c =
-    let header = (numbers_of c.args.header.now) in
+    let header = c.args.numbers.now in
     IfErr-weaker c.read_counted.result _ _
     (λ fault is. refuses_counted header _ _ _ c.in_ok-counted.counted.now c.args.cursor.now c.uleb.new.self c.take.new.self fault
     c.place-length_place.ensures.value c.place-start.ensures.value c.in_ok-length.ensures.ok c.in_ok-counted.ensures.ok is)

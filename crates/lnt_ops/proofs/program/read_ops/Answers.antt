@@ -1,7 +1,6 @@
 use Rattle.std.proofs.Common.{◌≡◌, ◌≢◌, ◌∷◌, ◌++◌, [], refl, subst, arith, Some, Result}
 use Rattle.std.proofs.lemmas.Grind.{common_steps}
 use Rattle.std.proofs.lemmas.Result.{err_from_is_err_and}
-use Rattle.lnt_header.specs.HeaderNumbers.{numbers_of}
 use Rattle.lnt_wire.specs.declared.fault.Reason.TheVariants.{Memory}
 use Rattle.lnt_wire.specs.declared.fault.Fault.{Fault}
 use Rattle.lnt_header.specs.declared.op.OpView.{OpView}
@@ -17,9 +16,9 @@ returns-in_err-view-clause-err c =
     let step : Fails fault c.loop-view.view-iterator c.next.new.self =
     subst (λ (r : Result OpView Fault). WalkStep c.loop-view.view-iterator (Some r) c.next.new.self) c.in_err-view.was
     c.in-Some.ensures.steps in
-    let rest : fault.reason ≢ Memory → BrokenProgram (numbers_of c.args.header.now) c.args.place c.args.program.now fault =
-    λ _. walk_broken (numbers_of c.args.header.now) c.args.place c.args.program.now c.loop-view.ops.items fault c.loop-view.view-iterator c.next.new.self
-    c.new-view-items.ensures.is_header.numbers c.loop-view.invariant.0 c.loop-view.invariant.2 step in
+    let rest : fault.reason ≢ Memory → BrokenProgram c.args.numbers.now c.args.place c.args.program.now fault =
+    λ _. walk_broken c.args.numbers.now c.args.place c.args.program.now c.loop-view.ops.items fault c.loop-view.view-iterator c.next.new.self
+    c.new-view-items.ensures.numbers c.loop-view.invariant.0 c.loop-view.invariant.2 step in
     rw (p.1, p.2) rest
 
 pub loop-view-preserved : goal.loop-view-preserved
@@ -29,17 +28,17 @@ loop-view-preserved c =
     let step : GivesOperation c.in_ok-view.field-0 c.loop-view.view-iterator c.next.new.self =
     subst (λ (r : Result OpView Fault). WalkStep c.loop-view.view-iterator (Some r) c.next.new.self) c.in_ok-view.was
     c.in-Some.ensures.steps in
-    rw items (walk_more (numbers_of c.args.header.now) c.args.place c.args.program.now c.loop-view.ops.items op c.in_ok-view.field-0
+    rw items (walk_more c.args.numbers.now c.args.place c.args.program.now c.loop-view.ops.items op c.in_ok-view.field-0
     c.loop-view.view-iterator c.next.new.self c.loop-view.invariant.0 c.loop-view.invariant.2 step c.in-Ok.ensures)
 
 pub returns-clause-ok : goal.returns-clause-ok
 returns-clause-ok c =
-    rw c.new.ensures (walk_done (numbers_of c.args.header.now) c.args.place c.args.program.now c.loop-view.ops.items c.loop-view.view-iterator
+    rw c.new.ensures (walk_done c.args.numbers.now c.args.place c.args.program.now c.loop-view.ops.items c.loop-view.view-iterator
     c.next.new.self c.loop-view.invariant.1 c.loop-view.invariant.2 c.in-None.ensures.steps)
 
 pub returns-clause-admitted : goal.returns-clause-admitted
 returns-clause-admitted c =
-    rw c.new.ensures (ops_admitted (numbers_of c.args.header.now) c.args.place c.args.program.now c.loop-view.ops.items c.loop-view.view-iterator.at
+    rw c.new.ensures (ops_admitted c.args.numbers.now c.args.place c.args.program.now c.loop-view.ops.items c.loop-view.view-iterator.at
     c.loop-view.invariant.2)
 
 pub loop-view-init : goal.loop-view-init
@@ -48,7 +47,7 @@ loop-view-init c =
     rw (c.into_iter-view-iterator.ensures.into_iter_gives, c.new-ops.ensures.items) (
       items.header,
       items.going,
-      ops_none (numbers_of c.args.header.now) c.args.place c.args.program.now c.new-view-items.result.at items.place items.rest items.order,
+      ops_none c.args.numbers.now c.args.place c.args.program.now c.new-view-items.result.at items.place items.rest items.order,
     )
 
 pub loop-view-smaller : goal.loop-view-smaller

@@ -1,6 +1,5 @@
 use Rattle.std.proofs.lemmas.Result.{err_from_is_err_and}
 use Rattle.std.proofs.Common.{rules}
-use Rattle.lnt_header.specs.HeaderNumbers.{numbers_of}
 use Rattle.lnt_ops.proofs.OpPutLemmas.{appended_extends, extends_more, ops_more}
 use Rattle.lnt_header.proofs.FirstLaws.{all_at}
 use Rattle.lnt_header.proofs.PutLaws.{each_begun, each_done}
@@ -13,7 +12,7 @@ returns-in_err-add_op-clause-extends c =
 
 pub loop-op-preserved : goal.loop-op-preserved
 loop-op-preserved c =
-    ops_more (numbers_of c.args.header.now) c.args.ops.now c.loop-op.op-index c.op-item.result _ _ _ c.loop-op-test.true c.op-item.is c.loop-op.invariant
+    ops_more c.args.numbers.now c.args.ops.now c.loop-op.op-index c.op-item.result _ _ _ c.loop-op-test.true c.op-item.is c.loop-op.invariant
     c.in_ok-add_op.ensures.ok
 
 pub add_op-requires : goal.add_op-requires

@@ -1,5 +1,0 @@
-use Rattle.std.proofs.Common.{rules}
-use Rattle.lnt_header.proofs.header.Header.format.Goals as goal
-
-pub returns : goal.returns
-returns c = search rules
