@@ -1,12 +1,10 @@
 -- Joined spans that begin or end inside an instruction.
-use Rattle.std.proofs.Common.{◌≡◌, ◌≢◌, suc, List, [], ◌∷◌, ◌++◌, map, inl, inr, Some, sym, subst, arith}
+use Rattle.std.proofs.Common.{◌≢◌, suc, List, [], ◌∷◌, ◌++◌, map, inl, inr, sym, subst, arith}
 use Rattle.std.specs.List.{AllByRecursion, Contains}
 use Rattle.lnt_spans.specs.declared.answer.Answer.{Answer}
 use Rattle.lnt_spans.specs.declared.position.Position.{Position}
 use Rattle.lnt_spans.specs.declared.span.Span.{Span}
-use Rattle.lnt_spans.specs.Coming.{GivesFirstSpan}
 use Rattle.lnt_spans.specs.Positions.{IsAtMost}
-use Rattle.lnt_spans.proofs.ComingLaws.{HasGiven}
 use Rattle.lnt_spans.proofs.PositionLaws.{at_most_itself, at_most_trans, below_is_at_most}
 use Rattle.lnt_spans.specs.Instructions.{IsOfInstructions}
 use Rattle.lnt_compare.specs.Borders.{IsLeastOperation, path_borders}
@@ -17,20 +15,17 @@ use Rattle.lnt_compare.proofs.PathSpanLemmas.{first_holds, rest_in_order}
 
 -- ---- found in turn
 
-past : (done rest : List Span) (p : Position) → AllByRecursion IsOfInstructions done → IsFirstOperation p rest
+pub past : (done rest : List Span) (p : Position) → AllByRecursion IsOfInstructions done → IsFirstOperation p rest
     → IsFirstOperation p (done ++ rest)
 past [] rest p h f = f
 past (s ∷ done) rest p h f = inr (inr (h.0, past done rest p h.1 f))
 
-pub found : (joined given : List Span) (span : Span) (p : Position) (Left New : List Span → Type 0) → HasGiven joined given Left
-    → ((spans : List Span) → Left spans → GivesFirstSpan New spans (Some span))
-    → AllByRecursion IsOfInstructions given → ((more : List Span) → IsFirstOperation p (span ∷ more)) → IsFirstOperation p joined
-found joined given span p Left New h gives none first = by h.rest h.list_is (gives h.rest h.left)
-  where
-    by : (rest : List Span) → joined ≡ given ++ rest → GivesFirstSpan New rest (Some span) → IsFirstOperation p joined
-    by [] e g = absurd g
-    by (s ∷ more) e g = subst (IsFirstOperation p) (sym e)
-        (past given (s ∷ more) p none (subst (λ (t : Span). IsFirstOperation p (t ∷ more)) g.0 (first more)))
+-- it stays the first, whatever follows
+pub first_before : (first more : List Span) (p : Position) → IsFirstOperation p first → IsFirstOperation p (first ++ more)
+first_before [] more p f = absurd f
+first_before (s ∷ first) more p (inl f) = inl f
+first_before (s ∷ first) more p (inr (inl f)) = inr (inl f)
+first_before (s ∷ first) more p (inr (inr f)) = inr (inr (f.0, first_before first more p f.1))
 
 pub none_more : (given : List Span) (span : Span) → AllByRecursion IsOfInstructions given → IsOfInstructions span
     → AllByRecursion IsOfInstructions (given ++ span ∷ [])

@@ -1,5 +1,5 @@
 -- The spans of a table's records are gathered.
-use Rattle.std.proofs.Common.{◌≡◌, ◌∙◌, ℕ, List, [], ◌∷◌, ◌++◌, append-nil, append_assoc, ap, map, Global, Option, Vec, refl, subst, sym}
+use Rattle.std.proofs.Common.{◌≡◌, ◌∙◌, ℕ, List, [], ◌∷◌, ◌++◌, append-nil, append_assoc, ap, Global, Option, Vec, refl, subst, sym}
 use Rattle.std.proofs.Common.{arith}
 use Rattle.std.specs.List.{AllByRecursion}
 use Rattle.std.specs.Prelude.{IfOk, Result}
@@ -13,8 +13,7 @@ use Rattle.lnt_spans.specs.declared.position.Position.{Position}
 use Rattle.lnt_spans.specs.Answers.{in_version}
 use Rattle.lnt_spans.specs.Comparing.{Compares, IsTold, Merging, end_of}
 use Rattle.lnt_spans.proofs.AnsweringLaws.{prefix_in_order}
-use Rattle.lnt_spans.proofs.ToldLaws.{told, told_answer, told_order}
-use Rattle.lnt_spans.specs.Spans.{AreInOrder, span_answer, span_in_version, version_answer}
+use Rattle.lnt_spans.specs.Spans.{AreInOrder, span_answer, version_answer}
 use Rattle.lnt_spans.specs.declared.listed.SpanList.{SpanList}
 use Rattle.lnt_compare.specs.declared.outcome.TableRead.TheVariants.{Fault, Table}
 use Rattle.lnt_compare.specs.declared.outcome.TableRead.{TableRead}
@@ -24,7 +23,7 @@ use Rattle.lnt_compare.specs.Progress.{Gathers, IsContinuedBy, IsGathered, Judge
 use Rattle.lnt_compare.specs.declared.comparison.Comparison.{Comparison}
 use Rattle.lnt_compare.specs.Passing.{IsCut, LeavesOff}
 use Rattle.lnt_records.specs.Table.{Fields, IsTable, IsTableOf, RecordsOf, by_number, column_names}
-use Rattle.lnt_compare.proofs.PassingLemmas.{all_told, version_same}
+use Rattle.lnt_compare.proofs.PassingLemmas.{all_told}
 use Rattle.lnt_records.proofs.TableLaws.{table_order}
 
 -- ---- the records of a text
@@ -124,11 +123,9 @@ goes_on version list table rest section at order same end answers =
 
 -- without passed lines, all spans of the section are to come
 pub all_to_come : (version : Version) (list : List Span) (section : Position → Option Answer) → AreInOrder list
-    → ((p : Position) → span_answer list p ≡ section p)
-    → IsContinuedBy version section [] (map (span_in_version version) list) (record { address = 0; op = 0 })
+    → ((p : Position) → span_answer list p ≡ section p) → IsContinuedBy version section [] list (record { address = 0; op = 0 })
 all_to_come version list section order answers =
-    goes_on version list [] (told version list) section (record { address = 0; op = 0 }) (told_order version list order)
-    (λ p. version_same version (told version list) list p (told_answer version list p)) refl answers
+    goes_on version list [] list section (record { address = 0; op = 0 }) order (λ p. refl) refl answers
 
 -- no stretch of a table was given yet
 pub started : {S : Type 0} (of_section : Remaining S → List Span → Type 0) (of_table : SpanList → List Span → Type 0) (bytes : List ℕ)

@@ -1,148 +1,43 @@
--- What joined spans are: in order, none extends the one before it, and told by path they answer as all the spans do.
-use Rattle.std.proofs.Common.{◌≡◌, ◌∙◌, ◌⊎◌, ◌==◌, ℕ, Bool, true, false, cond, List, [], ◌∷◌, map, inl, inr, Option, Some, None, refl, sym}
-use Rattle.std.proofs.Common.{ap, subst, eq-eqb}
-use Rattle.std.specs.List.{find}
+-- What joined spans are: in order, none extends the one before it, and they are told as all the spans are.
+use Rattle.std.proofs.Common.{◌≡◌, ◌≢◌, ◌∙◌, ◌⊎◌, ◌==◌, ℕ, Bool, true, false, cond, List, [], ◌∷◌, ◌++◌, map, inl, inr, Option, Some, None}
+use Rattle.std.proofs.Common.{ap, subst, eq-eqb, refl, sym, append_assoc}
+use Rattle.std.proofs.lemmas.List.{append-nil}
+use Rattle.std.specs.List.{AllByRecursion, find}
 use Rattle.std.specs.Option.{option_map}
 use Rattle.std.proofs.lemmas.Bool.{cases_Bool, eqb-true}
 use Rattle.lnt_spans.specs.declared.answer.Answer.{Answer}
 use Rattle.lnt_spans.specs.declared.position.Position.{Position}
 use Rattle.lnt_spans.specs.declared.span.Span.{Span}
 use Rattle.lnt_spans.specs.Positions.{IsBelow, IsAtMost}
-use Rattle.lnt_spans.specs.Spans.{AreInOrder, is_in_span, span_answer}
-use Rattle.lnt_spans.proofs.AnsweringLaws.{answer_before, answer_after, answer_in, first_holds}
-use Rattle.lnt_spans.proofs.PositionLaws.{at_most_itself, below_at_most, below_is_at_most, not_both, order_cases, order_three}
-use Rattle.lnt_compare.specs.Joining.{AllJoinTo, IsExtendedBy, JoinsTo, grown, tell_span}
+use Rattle.lnt_spans.specs.Spans.{AreInOrder, is_in_span}
+use Rattle.lnt_spans.proofs.AnsweringLaws.{answer_before, answer_after, answer_in, back_in_order, first_holds}
+use Rattle.lnt_spans.proofs.PositionLaws.{below_at_most, below_is_at_most, order_cases}
+use Rattle.lnt_spans.proofs.SameLaws.{same_options, same_positions}
+use Rattle.lnt_compare.specs.Joining.{Any, AreApart, AreJoined, AreJoinedAs, BeginAlike, GivesJoined, IsApart, IsExtendedBy, LeaveOff}
+use Rattle.lnt_compare.specs.Joining.{grown, tell_span}
 use Rattle.lnt_records.specs.PathAnswers.{PathAnswer}
 use Rattle.lnt_spans.specs.Merged.{answer_told}
-use Rattle.lnt_records.specs.PathSpans.{AreCanonicalOf, PathSpan, PathsDifferWhereTheyTouch, StandInOrder, is_in_path_span, path_span_answer}
+use Rattle.lnt_records.specs.PathSpans.{AreCanonicalOf, PathSpan, PathsDifferWhereTheyTouch, StandInOrder, is_in_path_span}
+use Rattle.lnt_records.specs.PathSpans.{path_span_answer}
 
--- ---- there is one way to join
-
-same_number : (m n : ℕ) → (m ≡ n) ⊎ (m ≡ n → ⊥)
-same_number m n = elim (cases_Bool (m == n)) [
-  | inl e ↦ inl (eqb-true m n e)
-  | inr e ↦ inr (λ same. let yes = eq-eqb m n same in cc)
-]
-
-same_bytes : (xs ys : List ℕ) → (xs ≡ ys) ⊎ (xs ≡ ys → ⊥)
-same_bytes [] [] = inl refl
-same_bytes [] (y ∷ ys) = inr (λ e. cc)
-same_bytes (x ∷ xs) [] = inr (λ e. cc)
-same_bytes (x ∷ xs) (y ∷ ys) = elim (same_number x y) [
-  | inr differs ↦ inr (λ e. differs (cc))
-  | inl first ↦ elim (same_bytes xs ys) [
-    | inl rest ↦ inl (cc)
-    | inr differs ↦ inr (λ e. differs (cc))
-  ]
-]
-
-same_column : (one other : Option ℕ) → (one ≡ other) ⊎ (one ≡ other → ⊥)
-same_column None None = inl refl
-same_column None (Some n) = inr (λ e. cc)
-same_column (Some m) None = inr (λ e. cc)
-same_column (Some m) (Some n) = elim (same_number m n) [ inl e ↦ inl (ap Some e) | inr differs ↦ inr (λ e. differs (cc)) ]
-
-pub make : List ℕ → ℕ → Option ℕ → PathAnswer
-make path line column = record { path = path; line = line; column = column }
-
-pub made : (a : PathAnswer) → make a.path a.line a.column ≡ a
-unfolding make
-made a = refl
-
-pub answer_is : (a b : PathAnswer) → a.path ≡ b.path → a.line ≡ b.line → a.column ≡ b.column → a ≡ b
-answer_is a b p l c =
-    let same : make a.path a.line a.column ≡ make b.path b.line b.column = cc in
-    sym (made a) ∙ same ∙ made b
-
-same_answer : (a b : PathAnswer) → (a ≡ b) ⊎ (a ≡ b → ⊥)
-same_answer a b = elim (same_bytes a.path b.path) [
-  | inr differs ↦ inr (λ e. differs (ap (λ (x : PathAnswer). x.path) e))
-  | inl p ↦ elim (same_number a.line b.line) [
-    | inr differs ↦ inr (λ e. differs (ap (λ (x : PathAnswer). x.line) e))
-    | inl l ↦ elim (same_column a.column b.column) [
-      | inr differs ↦ inr (λ e. differs (ap (λ (x : PathAnswer). x.column) e))
-      | inl c ↦ inl (answer_is a b p l c)
-    ]
-  ]
-]
-
-same_place : (p q : Position) → (p ≡ q) ⊎ (p ≡ q → ⊥)
-same_place p q = elim (order_three p q) [
-  | inl h ↦ inr (λ e. not_both h (subst (λ (r : Position). IsAtMost r p) e (at_most_itself p)))
-  | inr (inl e) ↦ inl e
-  | inr (inr h) ↦ inr (λ e. not_both h (subst (λ (r : Position). IsAtMost p r) e (at_most_itself p)))
-]
-
-goes_or_not : (tell : Answer → PathAnswer) (last next : Span) → IsExtendedBy tell last next ⊎ (IsExtendedBy tell last next → ⊥)
-goes_or_not tell last next = elim (same_place last.high next.low) [
-  | inr differs ↦ inr (λ g. differs g.0)
-  | inl touch ↦ elim (same_answer (tell last.answer) (tell next.answer)) [
-    | inr differs ↦ inr (λ g. differs g.1)
-    | inl same ↦ inl (touch, same)
-  ]
-]
-
-joins_some : (tell : Answer → PathAnswer) (last : Span) (rest : List Span) → (joined : List Span) × JoinsTo tell last rest joined
-joins_some tell last [] = (last ∷ [], refl)
-joins_some tell last (next ∷ rest) = elim (goes_or_not tell last next) [
-  | inl goes ↦ let more = joins_some tell (grown last next.high) rest in (more.0, inl (goes, more.1))
-  | inr differs ↦ let more = joins_some tell next rest in (last ∷ more.0, inr (differs, more.0, refl, more.1))
-]
-
-pub all_join : (tell : Answer → PathAnswer) (list : List Span) → (joined : List Span) × AllJoinTo tell list joined
-all_join tell [] = ([], refl)
-all_join tell (first ∷ rest) = joins_some tell first rest
-
--- ---- the first of them
-
--- The list begins with a span that begins where this one does, with the same answer.
-record BeginsLike (span : Span) (list : List Span) : Type 0 where
-  first : Span
-  more : List Span
-  list_is : list ≡ first ∷ more
-  low : first.low ≡ span.low
-  answer : first.answer ≡ span.answer
-
-starts : (tell : Answer → PathAnswer) (last : Span) (rest joined : List Span) → JoinsTo tell last rest joined → BeginsLike last joined
-starts tell last [] joined j = record { first = last; more = []; list_is = j; low = refl; answer = refl }
-starts tell last (next ∷ rest) joined (inl j) =
-    let like = starts tell (grown last next.high) rest joined j.1 in
-    record { first = like.first; more = like.more; list_is = like.list_is; low = like.low; answer = like.answer }
-starts tell last (next ∷ rest) joined (inr j) = record { first = last; more = j.1; list_is = j.2; low = refl; answer = refl }
-
--- ---- in order
+-- ---- a span that grows
 
 grown_holds : (last next : Span) → last.high ≡ next.low → IsBelow last.low last.high → IsBelow next.low next.high
     → IsBelow last.low next.high
 grown_holds last next touch h k = below_at_most (subst (λ (p : Position). IsBelow last.low p) touch h) (below_is_at_most k)
 
-pub grown_order : (last next : Span) (rest : List Span) → last.high ≡ next.low → AreInOrder (last ∷ next ∷ rest)
-    → AreInOrder (grown last next.high ∷ rest)
-grown_order last next [] touch h = grown_holds last next touch h.0 h.2
-grown_order last next (r ∷ rest) touch h = (grown_holds last next touch h.0 h.2.0, h.2.1, h.2.2)
+grown_order : (prefix : List Span) (last next : Span) (rest : List Span) → last.high ≡ next.low
+    → AreInOrder (prefix ++ last ∷ next ∷ rest) → AreInOrder (prefix ++ grown last next.high ∷ rest)
+grown_order [] last next [] touch h = grown_holds last next touch h.0 h.2
+grown_order [] last next (r ∷ rest) touch h = (grown_holds last next touch h.0 h.2.0, h.2.1, h.2.2)
+grown_order (f ∷ []) last next rest touch h = (h.0, h.1, grown_order [] last next rest touch h.2)
+grown_order (f ∷ g ∷ prefix) last next rest touch h = (h.0, h.1, grown_order (g ∷ prefix) last next rest touch h.2)
 
-put_before : (last next : Span) (joined : List Span) → IsBelow last.low last.high → IsAtMost last.high next.low → BeginsLike next joined
-    → AreInOrder joined → AreInOrder (last ∷ joined)
-put_before last next joined holds past like order =
-    subst (λ (list : List Span). AreInOrder (last ∷ list)) (sym like.list_is)
-    (holds, subst (λ (p : Position). IsAtMost last.high p) (sym like.low) past, subst AreInOrder like.list_is order)
-
-joined_order : (tell : Answer → PathAnswer) (last : Span) (rest joined : List Span) → AreInOrder (last ∷ rest)
-    → JoinsTo tell last rest joined → AreInOrder joined
-joined_order tell last [] joined h j = subst AreInOrder (sym j) h
-joined_order tell last (next ∷ rest) joined h (inl j) =
-    joined_order tell (grown last next.high) rest joined (grown_order last next rest j.0.0 h) j.1
-joined_order tell last (next ∷ rest) joined h (inr j) =
-    subst AreInOrder (sym j.2) (put_before last next j.1 h.0 h.1 (starts tell next rest j.1 j.3) (joined_order tell next rest j.1 h.2 j.3))
-
--- ---- with the same answers
-
-pub grown_answer : (tell : Answer → PathAnswer) (last next : Span) (rest : List Span) (p : Position) → IsExtendedBy tell last next
+first_grown : {X : Type 0} (tell : Answer → X) (last next : Span) (rest : List Span) (p : Position) → IsExtendedBy tell last next
     → AreInOrder (last ∷ next ∷ rest)
     → answer_told tell (grown last next.high ∷ rest) p ≡ answer_told tell (last ∷ next ∷ rest) p
-grown_answer tell last next rest p goes o =
-    let told : Option Answer → Option PathAnswer = option_map tell in
-    let one : PathSpan = tell_span tell last in
+first_grown {X} tell last next rest p goes o =
+    let told : Option Answer → Option X = option_map tell in
     let k : IsBelow next.low next.high = first_holds next rest o.2 in
     let whole : Span = grown last next.high in
     elim (order_cases p last.low) [
@@ -167,10 +62,10 @@ grown_answer tell last next rest p goes o =
     ]
 
 -- prepending a span to two lists that agree at p
-pub same_after : (tell : Answer → PathAnswer) (last : Span) (xs ys : List Span) (p : Position) → answer_told tell xs p ≡ answer_told tell ys p
-    → answer_told tell (last ∷ xs) p ≡ answer_told tell (last ∷ ys) p
-same_after tell last xs ys p e =
-    let told : Option Answer → Option PathAnswer = option_map tell in
+same_after : {X : Type 0} (tell : Answer → X) (last : Span) (xs ys : List Span) (p : Position)
+    → answer_told tell xs p ≡ answer_told tell ys p → answer_told tell (last ∷ xs) p ≡ answer_told tell (last ∷ ys) p
+same_after {X} tell last xs ys p e =
+    let told : Option Answer → Option X = option_map tell in
     elim (order_cases p last.low) [
       | inl h ↦ ap told (answer_before last xs p h) ∙ e ∙ sym (ap told (answer_before last ys p h))
       | inr h ↦ elim (order_cases p last.high) [
@@ -179,41 +74,298 @@ same_after tell last xs ys p e =
       ]
     ]
 
-joined_same : (tell : Answer → PathAnswer) (last : Span) (rest joined : List Span) (p : Position) → AreInOrder (last ∷ rest)
-    → JoinsTo tell last rest joined
-    → answer_told tell joined p ≡ answer_told tell (last ∷ rest) p
-joined_same tell last [] joined p h j = ap (λ (list : List Span). answer_told tell list p) j
-joined_same tell last (next ∷ rest) joined p h (inl j) =
-    joined_same tell (grown last next.high) rest joined p (grown_order last next rest j.0.0 h) j.1
-    ∙ grown_answer tell last next rest p j.0 h
-joined_same tell last (next ∷ rest) joined p h (inr j) =
-    ap (λ (list : List Span). answer_told tell list p) j.2
-    ∙ same_after tell last j.1 (next ∷ rest) p (joined_same tell next rest j.1 p h.2 j.3)
+grown_answer : {X : Type 0} (tell : Answer → X) (prefix : List Span) (last next : Span) (rest : List Span) → IsExtendedBy tell last next
+    → AreInOrder (prefix ++ last ∷ next ∷ rest) → (p : Position)
+    → answer_told tell (prefix ++ grown last next.high ∷ rest) p ≡ answer_told tell (prefix ++ last ∷ next ∷ rest) p
+grown_answer tell [] last next rest goes o p = first_grown tell last next rest p goes o
+grown_answer tell (f ∷ prefix) last next rest goes o p =
+    same_after tell f (prefix ++ grown last next.high ∷ rest) (prefix ++ last ∷ next ∷ rest) p
+    (grown_answer tell prefix last next rest goes (back_in_order (f ∷ []) (prefix ++ last ∷ next ∷ rest) o) p)
 
--- ---- none extends the one before it
+-- ---- one list joined as another
+
+pub joined_self : {X : Type 0} (tell : Answer → X) (list : List Span) → AreJoinedAs tell list list
+joined_self tell list = record { order = λ prefix o. o; same = λ prefix o p. refl; begin = alike_self tell list }
+  where
+    alike_self : {X : Type 0} (tell : Answer → X) (list : List Span) → BeginAlike tell list list
+    alike_self tell [] = tt
+    alike_self tell (s ∷ list) = (refl, refl)
+
+alike_both : {X : Type 0} (tell : Answer → X) (xs ys zs : List Span) → BeginAlike tell xs ys → BeginAlike tell ys zs → BeginAlike tell xs zs
+alike_both tell [] [] zs h k = k
+alike_both tell [] (y ∷ ys) zs h k = absurd h
+alike_both tell (x ∷ xs) [] zs h k = absurd h
+alike_both tell (x ∷ xs) (y ∷ ys) [] h k = absurd k
+alike_both tell (x ∷ xs) (y ∷ ys) (z ∷ zs) h k = (h.0 ∙ k.0, h.1 ∙ k.1)
+
+pub joined_both : {X : Type 0} (tell : Answer → X) (xs ys zs : List Span) → AreJoinedAs tell xs ys → AreJoinedAs tell ys zs
+    → AreJoinedAs tell xs zs
+joined_both tell xs ys zs h k = record {
+  order = λ prefix o. k.order prefix (h.order prefix o);
+  same = λ prefix o p. k.same prefix (h.order prefix o) p ∙ h.same prefix o p;
+  begin = alike_both tell xs ys zs h.begin k.begin;
+}
+
+-- the first span is joined with the next
+pub joined_first : {X : Type 0} (tell : Answer → X) (last next : Span) (rest : List Span) → IsExtendedBy tell last next
+    → AreJoinedAs tell (last ∷ next ∷ rest) (grown last next.high ∷ rest)
+joined_first tell last next rest goes = record {
+  order = λ prefix o. grown_order prefix last next rest goes.0 o;
+  same = λ prefix o p. grown_answer tell prefix last next rest goes o p;
+  begin = (refl, refl);
+}
+
+-- those after the first are joined
+joined_after : {X : Type 0} (tell : Answer → X) (first : Span) (xs ys : List Span) → AreJoinedAs tell xs ys
+    → AreJoinedAs tell (first ∷ xs) (first ∷ ys)
+joined_after {X} tell first xs ys h = record {
+  order = λ prefix o. subst AreInOrder (append_assoc prefix (first ∷ []) ys)
+      (h.order (prefix ++ first ∷ []) (subst AreInOrder (sym (append_assoc prefix (first ∷ []) xs)) o));
+  same = λ prefix o p.
+      let told : List Span → Option X = λ (list : List Span). answer_told tell list p in
+      ap told (sym (append_assoc prefix (first ∷ []) ys))
+      ∙ h.same (prefix ++ first ∷ []) (subst AreInOrder (sym (append_assoc prefix (first ∷ []) xs)) o) p
+      ∙ ap told (append_assoc prefix (first ∷ []) xs);
+  begin = (refl, refl);
+}
+
+-- ---- spans that don't extend one another
+
+apart_from : {X : Type 0} (tell : Answer → X) (span : Span) (xs ys : List Span) → BeginAlike tell xs ys → IsApart tell span xs
+    → IsApart tell span ys
+apart_from tell span [] [] h a = tt
+apart_from tell span [] (y ∷ ys) h a = absurd h
+apart_from tell span (x ∷ xs) [] h a = absurd h
+apart_from tell span (x ∷ xs) (y ∷ ys) h a = λ goes. a (goes.0 ∙ sym h.0, goes.1 ∙ sym h.1)
+
+-- those to come may be joined
+apart_before : {X : Type 0} (tell : Answer → X) (given xs ys : List Span) → BeginAlike tell xs ys → AreApart tell given xs
+    → AreApart tell given ys
+apart_before tell [] xs ys h a = tt
+apart_before tell (s ∷ []) xs ys h a = (apart_from tell s xs ys h a.0, tt)
+apart_before tell (s ∷ t ∷ given) xs ys h a = (a.0, apart_before tell (t ∷ given) xs ys h a.1)
+
+-- the first of those to come is given
+apart_more : {X : Type 0} (tell : Answer → X) (given more rest : List Span) → AreApart tell given (more ++ rest) → AreApart tell more rest
+    → AreApart tell (given ++ more) rest
+apart_more tell [] more rest a b = b
+apart_more tell (s ∷ given) more rest a b =
+    (subst (IsApart tell s) (sym (append_assoc given more rest)) a.0, apart_more tell given more rest a.1 b)
+
+-- ---- spans that are given one after another
+
+-- one that is given next, and those that are left then
+pub record OneMore {X : Type 0} (tell : Answer → X) (ToCome : List Span → Type 0) (list given : List Span) (span : Span) : Type 0 where
+  pub rest : List Span
+  pub left : ToCome rest
+  pub order : AreInOrder (given ++ span ∷ rest)
+  pub same : (p : Position) → answer_told tell (given ++ span ∷ rest) p ≡ answer_told tell list p
+  pub before : AreApart tell given (span ∷ rest)
+  pub apart : IsApart tell span rest
+
+pub one_more : {X : Type 0} (tell : Answer → X) (Old New : List Span → Type 0) (list given : List Span) (span : Span)
+    → LeaveOff tell Old list given → ((rest : List Span) → Old rest → GivesJoined tell rest New (Some span))
+    → OneMore tell New list given span
+one_more tell Old New list given span l gives =
+    let one = gives l.rest l.left in
+    record {
+      rest = one.0;
+      left = one.1;
+      order = one.2.order given l.order;
+      same = λ p. one.2.same given l.order p ∙ l.same p;
+      before = apart_before tell given l.rest (span ∷ one.0) one.2.begin l.apart;
+      apart = one.3;
+    }
+
+-- it was given
+pub left_more : {X : Type 0} (tell : Answer → X) (Old New : List Span → Type 0) (list given : List Span) (span : Span)
+    → LeaveOff tell Old list given → ((rest : List Span) → Old rest → GivesJoined tell rest New (Some span))
+    → LeaveOff tell New list (given ++ span ∷ [])
+left_more tell Old New list given span l gives =
+    let one = one_more tell Old New list given span l gives in
+    let split = append_assoc given (span ∷ []) one.rest in
+    record {
+      rest = one.rest;
+      left = one.left;
+      order = subst AreInOrder (sym split) one.order;
+      same = λ p. ap (λ (xs : List Span). answer_told tell xs p) split ∙ one.same p;
+      apart = apart_more tell given (span ∷ []) one.rest one.before (one.apart, tt);
+    }
+
+-- it wasn't, and is still to come
+pub left_next : {X : Type 0} (tell : Answer → X) (Old New ToCome : List Span → Type 0) (list given : List Span) (span : Span)
+    → LeaveOff tell Old list given → ((rest : List Span) → Old rest → GivesJoined tell rest New (Some span))
+    → ((rest : List Span) → New rest → ToCome (span ∷ rest)) → LeaveOff tell ToCome list given
+left_next tell Old New ToCome list given span l gives left =
+    let one = one_more tell Old New list given span l gives in
+    record { rest = span ∷ one.rest; left = left one.rest one.left; order = one.order; same = one.same; apart = one.before }
+
+-- none is left
+pub left_none : {X : Type 0} (tell : Answer → X) (Old New ToCome : List Span → Type 0) (list given : List Span)
+    → LeaveOff tell Old list given → ((rest : List Span) → Old rest → GivesJoined tell rest New None)
+    → (New [] → ToCome []) → LeaveOff tell ToCome list given
+left_none {X} tell Old New ToCome list given l gives left =
+    let none = gives l.rest l.left in
+    record {
+      rest = [];
+      left = left none.1;
+      order = subst (λ (xs : List Span). AreInOrder (given ++ xs)) none.0 l.order;
+      same = λ p. ap (λ (xs : List Span). answer_told tell (given ++ xs) p) (sym none.0) ∙ l.same p;
+      apart = subst (AreApart tell given) none.0 l.apart;
+    }
+
+-- any others may be to come
+pub left_any : {X : Type 0} (tell : Answer → X) (ToCome : List Span → Type 0) (list given : List Span) → LeaveOff tell ToCome list given
+    → LeaveOff tell Any list given
+left_any tell ToCome list given l = record { rest = l.rest; left = tt; order = l.order; same = l.same; apart = l.apart }
+
+pub left_first : {X : Type 0} (tell : Answer → X) (ToCome : List Span → Type 0) (list : List Span) → ToCome list → AreInOrder list
+    → LeaveOff tell ToCome list []
+left_first tell ToCome list left order = record { rest = list; left = left; order = order; same = λ p. refl; apart = tt }
+
+pub all_given : {X : Type 0} (tell : Answer → X) (ToCome : List Span → Type 0) (list given : List Span) → LeaveOff tell ToCome list given
+    → ((rest : List Span) → ToCome rest → rest ≡ []) → AreJoined tell list given
+all_given tell ToCome list given l none =
+    let all : given ++ l.rest ≡ given = ap (λ (xs : List Span). given ++ xs) (none l.rest l.left) ∙ append-nil given in
+    record {
+      order = subst AreInOrder all l.order;
+      same = λ p. ap (λ (xs : List Span). answer_told tell xs p) (sym all) ∙ l.same p;
+      apart = subst (AreApart tell given) (none l.rest l.left) l.apart;
+    }
+
+-- ---- any spans can be joined, where it is decided which answers are told alike
+
+pub all_left : {X : Type 0} (Is : X → Type 0) (xs ys : List X) → AllByRecursion Is (xs ++ ys) → AllByRecursion Is xs
+all_left Is [] ys h = tt
+all_left Is (x ∷ xs) ys h = (h.0, all_left Is xs ys h.1)
+
+-- Joined spans, of each of which something holds.
+pub record HasJoined {X : Type 0} (tell : Answer → X) (Is : Span → Type 0) (list : List Span) : Type 0 where
+  pub joined : List Span
+  pub joins : AreJoinedAs tell list joined
+  pub apart : AreApart tell joined []
+  pub each : AllByRecursion Is joined
+
+abbrev pub Decides : Type 0 → Type 0
+Decides X = (a b : X) → (a ≡ b) ⊎ (a ≢ b)
+
+-- A span that grows keeps the property.
+abbrev pub IsKept : (Span → Type 0) → Type 0
+IsKept Is = (last next : Span) → Is last → Is next → Is (grown last next.high)
+
+goes_or_not : {X : Type 0} (tell : Answer → X) → Decides X → (last next : Span)
+    → IsExtendedBy tell last next ⊎ (IsExtendedBy tell last next → ⊥)
+goes_or_not tell decides last next = elim (same_positions last.high next.low) [
+  | inr differs ↦ inr (λ g. differs g.0)
+  | inl touch ↦ elim (decides (tell last.answer) (tell next.answer)) [
+    | inr differs ↦ inr (λ g. differs g.1)
+    | inl same ↦ inl (touch, same)
+  ]
+]
+
+nil_apart : {X : Type 0} (tell : Answer → X) (span : Span) (xs : List Span) → IsApart tell span xs → IsApart tell span (xs ++ [])
+nil_apart tell span xs a = subst (IsApart tell span) (sym (append-nil xs)) a
+
+join_from : {X : Type 0} (tell : Answer → X) → Decides X → (Is : Span → Type 0) → IsKept Is → (last : Span) (rest : List Span) → Is last
+    → AllByRecursion Is rest → HasJoined tell Is (last ∷ rest)
+join_from tell decides Is kept last [] h each =
+    record { joined = last ∷ []; joins = joined_self tell (last ∷ []); apart = (tt, tt); each = (h, tt) }
+join_from tell decides Is kept last (next ∷ rest) h each = elim (goes_or_not tell decides last next) [
+  | inl goes ↦
+      let more = join_from tell decides Is kept (grown last next.high) rest (kept last next h each.0) each.1 in
+      record {
+        joined = more.joined;
+        joins = joined_both tell (last ∷ next ∷ rest) (grown last next.high ∷ rest) more.joined (joined_first tell last next rest goes)
+            more.joins;
+        apart = more.apart;
+        each = more.each;
+      }
+  | inr differs ↦
+      let more = join_from tell decides Is kept next rest each.0 each.1 in
+      record {
+        joined = last ∷ more.joined;
+        joins = joined_after tell last (next ∷ rest) more.joined more.joins;
+        apart = (nil_apart tell last more.joined (apart_from tell last (next ∷ rest) more.joined more.joins.begin differs), more.apart);
+        each = (h, more.each);
+      }
+]
+
+pub all_join : {X : Type 0} (tell : Answer → X) → Decides X → (Is : Span → Type 0) → IsKept Is → (list : List Span)
+    → AllByRecursion Is list → HasJoined tell Is list
+all_join tell decides Is kept [] each = record { joined = []; joins = joined_self tell []; apart = tt; each = tt }
+all_join tell decides Is kept (first ∷ rest) each = join_from tell decides Is kept first rest each.0 each.1
+
+pub has_joined : {X : Type 0} (tell : Answer → X) (Is : Span → Type 0) (list : List Span) → AreInOrder list → (h : HasJoined tell Is list)
+    → AreJoined tell list h.joined
+has_joined tell Is list order h = record { order = h.joins.order [] order; same = h.joins.same [] order; apart = h.apart }
+
+-- So whatever is to come after the spans given can be joined.
+pub joins_on : {X : Type 0} (tell : Answer → X) → Decides X → (ToCome : List Span → Type 0) (list given : List Span)
+    → LeaveOff tell ToCome list given → (more : List Span) × AreJoined tell list (given ++ more)
+joins_on tell decides ToCome list given l =
+    let more = all_join tell decides (λ (span : Span). Unit {0}) (λ last next h k. tt) l.rest (all_any l.rest) in (
+      more.joined,
+      record {
+        order = more.joins.order given l.order;
+        same = λ p. more.joins.same given l.order p ∙ l.same p;
+        apart = apart_more tell given more.joined []
+            (apart_before tell given l.rest (more.joined ++ [])
+            (subst (BeginAlike tell l.rest) (sym (append-nil more.joined)) more.joins.begin) l.apart) more.apart;
+      },
+    )
+  where
+    all_any : (list : List Span) → AllByRecursion (λ (span : Span). Unit {0}) list
+    all_any [] = tt
+    all_any (s ∷ list) = (tt, all_any list)
+
+-- ---- which answers by path are the same
+
+same_number : (m n : ℕ) → (m ≡ n) ⊎ (m ≡ n → ⊥)
+same_number m n = elim (cases_Bool (m == n)) [
+  | inl e ↦ inl (eqb-true m n e)
+  | inr e ↦ inr (λ same. let yes = eq-eqb m n same in cc)
+]
+
+same_bytes : (xs ys : List ℕ) → (xs ≡ ys) ⊎ (xs ≡ ys → ⊥)
+same_bytes [] [] = inl refl
+same_bytes [] (y ∷ ys) = inr (λ e. cc)
+same_bytes (x ∷ xs) [] = inr (λ e. cc)
+same_bytes (x ∷ xs) (y ∷ ys) = elim (same_number x y) [
+  | inr differs ↦ inr (λ e. differs (cc))
+  | inl first ↦ elim (same_bytes xs ys) [
+    | inl rest ↦ inl (cc)
+    | inr differs ↦ inr (λ e. differs (cc))
+  ]
+]
+
+pub make : List ℕ → ℕ → Option ℕ → PathAnswer
+make path line column = record { path = path; line = line; column = column }
+
+pub made : (a : PathAnswer) → make a.path a.line a.column ≡ a
+unfolding make
+made a = refl
+
+pub answer_is : (a b : PathAnswer) → a.path ≡ b.path → a.line ≡ b.line → a.column ≡ b.column → a ≡ b
+answer_is a b p l c =
+    let same : make a.path a.line a.column ≡ make b.path b.line b.column = cc in
+    sym (made a) ∙ same ∙ made b
+
+pub same_answer : Decides PathAnswer
+same_answer a b = elim (same_bytes a.path b.path) [
+  | inr differs ↦ inr (λ e. differs (ap (λ (x : PathAnswer). x.path) e))
+  | inl p ↦ elim (same_number a.line b.line) [
+    | inr differs ↦ inr (λ e. differs (ap (λ (x : PathAnswer). x.line) e))
+    | inl l ↦ elim (same_options same_number a.column b.column) [
+      | inr differs ↦ inr (λ e. differs (ap (λ (x : PathAnswer). x.column) e))
+      | inl c ↦ inl (answer_is a b p l c)
+    ]
+  ]
+]
+
+-- ---- as spans by path
 
 abbrev pub by_paths : (Answer → PathAnswer) → List Span → List PathSpan
 by_paths tell list = map (tell_span tell) list
-
-put_differ : (tell : Answer → PathAnswer) (last next : Span) (joined : List Span) → (IsExtendedBy tell last next → ⊥)
-    → BeginsLike next joined
-    → PathsDifferWhereTheyTouch (by_paths tell joined)
-    → PathsDifferWhereTheyTouch (by_paths tell (last ∷ joined))
-put_differ tell last next joined differs like differ =
-    subst (λ (list : List Span). PathsDifferWhereTheyTouch (by_paths tell (last ∷ list))) (sym like.list_is) (
-      λ touch same. differs (touch ∙ like.low, same ∙ ap tell like.answer),
-      subst (λ (list : List Span). PathsDifferWhereTheyTouch (by_paths tell list)) like.list_is differ,
-    )
-
-joined_differ : (tell : Answer → PathAnswer) (last : Span) (rest joined : List Span) → JoinsTo tell last rest joined
-    → PathsDifferWhereTheyTouch (by_paths tell joined)
-joined_differ tell last [] joined j = subst (λ (list : List Span). PathsDifferWhereTheyTouch (by_paths tell list)) (sym j) tt
-joined_differ tell last (next ∷ rest) joined (inl j) = joined_differ tell (grown last next.high) rest joined j.1
-joined_differ tell last (next ∷ rest) joined (inr j) =
-    subst (λ (list : List Span). PathsDifferWhereTheyTouch (by_paths tell list)) (sym j.2)
-    (put_differ tell last next j.1 j.0 (starts tell next rest j.1 j.3) (joined_differ tell next rest j.1 j.3))
-
--- ---- as spans by path
 
 pub by_paths_order : (tell : Answer → PathAnswer) (list : List Span) → AreInOrder list → StandInOrder (by_paths tell list)
 by_paths_order tell [] h = tt
@@ -231,19 +383,14 @@ by_paths_answer tell (span ∷ list) p = by (is_in_span p span) (by_paths_answer
     by true e = refl
     by false e = e
 
-pub joined_canonical : (tell : Answer → PathAnswer) (list joined : List Span) → AreInOrder list → AllJoinTo tell list joined
-    → AreCanonicalOf (λ p. option_map tell (span_answer list p)) (map (tell_span tell) joined)
-joined_canonical tell [] joined o j = record {
-  canonical = record {
-    in_order = subst (λ (xs : List Span). StandInOrder (by_paths tell xs)) (sym j) tt;
-    differ = subst (λ (xs : List Span). PathsDifferWhereTheyTouch (by_paths tell xs)) (sym j) tt;
-  };
-  same = λ p. by_paths_answer tell joined p ∙ ap (λ (xs : List Span). answer_told tell xs p) j;
-}
-joined_canonical tell (first ∷ rest) joined o j = record {
-  canonical = record {
-    in_order = by_paths_order tell joined (joined_order tell first rest joined o j);
-    differ = joined_differ tell first rest joined j;
-  };
-  same = λ p. by_paths_answer tell joined p ∙ joined_same tell first rest joined p o j;
+by_paths_differ : (tell : Answer → PathAnswer) (list : List Span) → AreApart tell list [] → PathsDifferWhereTheyTouch (by_paths tell list)
+by_paths_differ tell [] h = tt
+by_paths_differ tell (span ∷ []) h = tt
+by_paths_differ tell (span ∷ next ∷ list) h = (λ touch same. h.0 (touch, same), by_paths_differ tell (next ∷ list) h.1)
+
+pub joined_canonical : (tell : Answer → PathAnswer) (list joined : List Span) → AreJoined tell list joined
+    → AreCanonicalOf (answer_told tell list) (map (tell_span tell) joined)
+joined_canonical tell list joined j = record {
+  canonical = record { in_order = by_paths_order tell joined j.order; differ = by_paths_differ tell joined j.apart };
+  same = λ p. by_paths_answer tell joined p ∙ j.same p;
 }

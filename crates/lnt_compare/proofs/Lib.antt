@@ -7,9 +7,9 @@ pub mod GatherLemmas
 pub mod HeldLemmas
 pub mod JoinedLemmas
 pub mod JoiningLemmas
+pub mod LineLemmas
 pub mod MergingLemmas
 pub mod PassingLemmas
-pub mod PathCanonicalLemmas
 pub mod PathComparisonLemmas
 pub mod PathPassingLemmas
 pub mod PathSpanLemmas
@@ -22,4 +22,5 @@ pub mod StretchLaws
 pub mod TableRunLemmas
 pub mod UniqueLemmas
 pub mod WindowLaws
+pub mod WritingLemmas
 pub mod WrittenLaws

@@ -1,6 +1,14 @@
 -- The records of a table by path are compared with a section one after another.
 use Rattle.std.proofs.Common.{◌≡◌, ◌∙◌, ℕ, ◌+◌, ◌<◌, ◌≤◌, List, [], ◌∷◌, ◌++◌, Option, None, Some, length, length-append, refl, subst, sym}
-use Rattle.std.proofs.Common.{arith}
+use Rattle.std.proofs.Common.{ap, arith, map}
+use Rattle.std.specs.List.{AllZip}
+use Rattle.lnt_spans.specs.Comparing.{end_of}
+use Rattle.lnt_spans.specs.Spans.{AreInOrder}
+use Rattle.lnt_spans.proofs.AnsweringLaws.{prefix_in_order}
+use Rattle.lnt_compare.specs.Joining.{tell_span}
+use Rattle.lnt_compare.specs.Passing.{AreLinesOf}
+use Rattle.lnt_compare.proofs.JoiningLemmas.{by_paths_order}
+use Rattle.lnt_records.specs.PathLines.{plain_by_path}
 use Rattle.std.specs.Prelude.{MatchOption}
 use Rattle.lnt_text.specs.Digits.{IsAddress, IsDecimal}
 use Rattle.lnt_records.specs.declared.fault.TableFault.{TableFault}
@@ -24,7 +32,7 @@ use Rattle.lnt_compare.specs.PathOutcomes.{IsPathOutcome}
 use Rattle.lnt_compare.specs.PathStretches.{stretch_of}
 use Rattle.lnt_records.specs.PathFaults.{IsFaultyRecord, IsPathFault}
 use Rattle.lnt_records.specs.PathSpans.{PathSpan, path_span_answer, whole}
-use Rattle.lnt_records.specs.PathTables.{IsPathTable, SaysPath, path_column_names}
+use Rattle.lnt_records.specs.PathTables.{IsPathRecord, IsPathTable, SaysPath, by_path, path_column_names}
 use Rattle.lnt_records.specs.PathRecords.{record_answer, record_span}
 use Rattle.lnt_compare.proofs.MergingLemmas.{low_high}
 use Rattle.lnt_records.proofs.PathLaws.{path_refused, says_span, table_push}
@@ -87,3 +95,41 @@ pub found_in : (version : PathVersion) (records : List Fields) (fields : Fields)
     → BeginsWith bytes (records ++ whole ∷ []) → IsPathFault bytes fault)
 found_in version records fields None Taken h = h
 found_in version records fields (Some fault) Taken h = path_refused version records h.0 fields fault h.1 h.2
+
+-- ---- after lines that were passed
+
+-- a position at operation index 0
+position_whole : (p : Position) → p.op ≡ 0 → whole p.address ≡ p
+position_whole p e = ap (λ (op : ℕ). record { address = p.address; op = op }) (sym e)
+
+end_whole : (tell : Answer → PathAnswer) (version : PathVersion) (records : List Fields) (table : List Span)
+    → AllZip (IsPathRecord version) records (map (tell_span tell) table) → whole (end_of table).address ≡ end_of table
+end_whole tell version records [] z = refl
+end_whole tell version [] (s ∷ table) z = absurd z
+end_whole tell version (r ∷ records) (s ∷ []) z = position_whole s.high z.0.high_op
+end_whole tell version (r ∷ records) (s ∷ next ∷ table) z = end_whole tell version records (next ∷ table) z.1
+
+pub lines_end : (tell : Answer → PathAnswer) (version : PathVersion) (text : List ℕ) (table : List Span) (count : ℕ) (end : Position)
+    → AreLinesOf by_path plain_by_path (tell_span tell) version text table count end → whole end.address ≡ end_of table
+lines_end tell version text table count end lines =
+    ap (λ (p : Position). whole p.address) lines.end_is ∙ end_whole tell version lines.lines.records table lines.lines.each
+
+-- After the lines that were passed, their records were compared.
+pub judges_lines : {S : Type 0} (to_come : S → List Span → Type 0) (tell : Answer → PathAnswer) (version : PathVersion)
+    (comparison : PathComparison S) (text : List ℕ) (table rest : List Span) (count : ℕ) (end : Position)
+    → (lines : AreLinesOf by_path plain_by_path (tell_span tell) version text table count end) → comparison.count ≡ count
+    → AreInOrder (table ++ rest)
+    → IsMerged to_come tell comparison.merge (table ++ rest) (map (tell_span tell) table)
+    → JudgesByPath to_come tell version comparison (table ++ rest) (path_column_names version ∷ lines.lines.records)
+judges_lines to_come tell version comparison text table rest count end lines same order merged = record {
+  table = map (tell_span tell) table;
+  is_table = (
+    refl,
+    record {
+      each = lines.lines.each;
+      in_order = by_paths_order tell table (prefix_in_order table rest order);
+    },
+  );
+  count = omega (arith, same, lines.lines.count_is);
+  merged = merged;
+}

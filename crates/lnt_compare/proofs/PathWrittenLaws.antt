@@ -22,8 +22,8 @@ use Rattle.lnt_spans.specs.Spans.{AreInOrder}
 use Rattle.lnt_spans.proofs.PositionLaws.{at_most_itself, at_most_trans, below_is_at_most, order_cases}
 use Rattle.lnt_records.specs.declared.by_path.version.PathVersion.TheVariants.{Four, Three}
 use Rattle.lnt_compare.specs.Borders.{IsLeastOperation, IsPathSpanOfInstructions, path_borders}
-use Rattle.lnt_compare.specs.Joining.{AllJoinTo, JoinsTo, grown, tell_span}
-use Rattle.lnt_compare.proofs.JoiningLemmas.{all_join, joined_canonical}
+use Rattle.lnt_compare.specs.Joining.{tell_span}
+use Rattle.lnt_compare.proofs.JoiningLemmas.{all_join, has_joined, joined_canonical, same_answer}
 
 -- ---- plain records are records
 
@@ -45,20 +45,6 @@ one_path_table version answers one other a b =
     one_list a.spans b.spans a.canonical.canonical b.canonical.canonical (λ p. a.canonical.same p ∙ sym (b.canonical.same p)) in
     one_plain_table plain_by_path version (one_record version) one other b.spans
     (subst (IsPlainPathTable version one) same a.plain) b.plain
-
--- ---- joined spans are of the borders and answers of those that were joined
-
-joins_fit : (tell : Answer → PathAnswer) (last : Span) (rest joined : List Span) → FitsSpan last → FitSpans rest
-    → JoinsTo tell last rest joined → FitSpans joined
-joins_fit tell last [] joined h fit j = subst FitSpans (sym j) (h, tt)
-joins_fit tell last (next ∷ rest) joined h fit (inl j) =
-    joins_fit tell (grown last next.high) rest joined (record { low = h.low; high = fit.0.high; answer = h.answer }) fit.1 j.1
-joins_fit tell last (next ∷ rest) joined h fit (inr j) =
-    subst FitSpans (sym j.2) (h, joins_fit tell next rest j.1 fit.0 fit.1 j.3)
-
-all_join_fit : (tell : Answer → PathAnswer) (list joined : List Span) → FitSpans list → AllJoinTo tell list joined → FitSpans joined
-all_join_fit tell [] joined fit j = subst FitSpans (sym j) tt
-all_join_fit tell (first ∷ rest) joined fit j = joins_fit tell first rest joined fit.0 fit.1 j
 
 -- ---- each span has a plain record
 
@@ -105,12 +91,11 @@ pub whole_or_none : (version : PathVersion) (path : ℕ → ℕ → List ℕ) (g
     → (bytes : List ℕ) × IsCanonicalPathTable version (spans_by_path version path given) bytes
 whole_or_none version path given spans order fit canonical none =
     let tell : Answer → PathAnswer = path_answer version path in
-    let all = all_join tell given in
-    let joined = joined_canonical tell given all.0 order all.1 in
-    let same : map (tell_span tell) all.0 ≡ spans =
-    one_list (map (tell_span tell) all.0) spans joined.canonical canonical.canonical (λ p. joined.same p ∙ sym (canonical.same p)) in
-    let records = has_records version path all.0 (all_join_fit tell given all.0 fit all.1)
-    (subst (AllByRecursion IsPathSpanOfInstructions) (sym same) none) in
+    let all = all_join tell same_answer FitsSpan (λ last next h k. record { low = h.low; high = k.high; answer = h.answer }) given fit in
+    let joined = joined_canonical tell given all.joined (has_joined tell FitsSpan given order all) in
+    let same : map (tell_span tell) all.joined ≡ spans =
+    one_list (map (tell_span tell) all.joined) spans joined.canonical canonical.canonical (λ p. joined.same p ∙ sym (canonical.same p)) in
+    let records = has_records version path all.joined all.each (subst (AllByRecursion IsPathSpanOfInstructions) (sym same) none) in
     let each = subst (AllZip (IsPlainPathRecord version) records.0) same records.1 in
     (text_of plain_by_path version records.0, plain_canonical version records.0 canonical each)
 

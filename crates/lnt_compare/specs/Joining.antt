@@ -1,4 +1,4 @@
--- Spans joined by their answers by path. `tell` gives an answer by path; a joined span keeps the answer of its first part. No public
+-- Spans joined by what a table contains of their answers, which `tell` gives; a joined span keeps the answer of its first part. No public
 -- contract speaks of it.
 use Rattle.std.specs.Prelude.{◌≡◌, ◌≢◌, ◌⊎◌, List, [], ◌∷◌, ◌++◌, Option, Some, None}
 use Rattle.lnt_spans.specs.declared.answer.Answer.{Answer}
@@ -16,44 +16,61 @@ tell_span tell span = record { low = span.low; high = span.high; answer = tell s
 
 -- ---- joining
 
--- The second begins where the first ends, and answers the same.
-abbrev pub IsExtendedBy : (Answer → PathAnswer) → Span → Span → Type 0
+-- The second begins where the first ends, and is told alike.
+abbrev pub IsExtendedBy : {X : Type 0} → (Answer → X) → Span → Span → Type 0
 IsExtendedBy tell span next = (span.high ≡ next.low) × (tell span.answer ≡ tell next.answer)
 
 -- the span, extended to another end
 abbrev pub grown : Span → Position → Span
 grown span high = record span { high = high }
 
--- The result of joining a span and those after it: each span that extends the one before it is joined with it.
-abbrev pub JoinsTo : (Answer → PathAnswer) → Span → List Span → List Span → Type 0
-JoinsTo tell last [] joined = joined ≡ last ∷ []
-JoinsTo tell last (next ∷ rest) joined = (IsExtendedBy tell last next × JoinsTo tell (grown last next.high) rest joined)
-    ⊎ ((IsExtendedBy tell last next → ⊥) × (more : List Span) × (joined ≡ last ∷ more) × JoinsTo tell next rest more)
+-- The first of the spans, if there is one, doesn't extend this one.
+abbrev pub IsApart : {X : Type 0} → (Answer → X) → Span → List Span → Type 0
+IsApart tell span [] = Unit {0}
+IsApart tell span (next ∷ rest) = IsExtendedBy tell span next → ⊥
 
--- the result of joining any spans
-abbrev pub AllJoinTo : (Answer → PathAnswer) → List Span → List Span → Type 0
-AllJoinTo tell [] joined = joined ≡ []
-AllJoinTo tell (first ∷ rest) joined = JoinsTo tell first rest joined
+-- None of the first spans is extended by the one after it, be it the first of the rest.
+abbrev pub AreApart : {X : Type 0} → (Answer → X) → List Span → List Span → Type 0
+AreApart tell [] rest = Unit {0}
+AreApart tell (span ∷ first) rest = IsApart tell span (first ++ rest) × AreApart tell first rest
 
--- the result of joining a span and those that are still to come
-abbrev pub GrowsTo : (Answer → PathAnswer) → Span → (List Span → Type 0) → List Span → Type 0
-GrowsTo tell last left joined = (rest : List Span) × left rest × JoinsTo tell last rest joined
+-- Both lists begin at the same position and are told alike there, or both are empty.
+abbrev pub BeginAlike : {X : Type 0} → (Answer → X) → List Span → List Span → Type 0
+BeginAlike tell [] [] = Unit {0}
+BeginAlike tell (x ∷ xs) (y ∷ ys) = (x.low ≡ y.low) × (tell x.answer ≡ tell y.answer)
+BeginAlike tell _ _ = ⊥
 
--- the same, where the first span may be missing; then nothing comes
-abbrev pub WillGive : (Answer → PathAnswer) → Option Span → (List Span → Type 0) → List Span → Type 0
-WillGive tell None left joined = joined ≡ []
-WillGive tell (Some first) left joined = GrowsTo tell first left joined
-
--- After any spans, those of the second list are in order if those of the first are, and then answer the same by path.
-pub record AreJoinedAs (tell : Answer → PathAnswer) (list joined : List Span) : Type 0 where
+-- After any spans, those of the second list are in order if those of the first are, and then are told alike at every position. Both
+-- lists begin alike.
+pub record AreJoinedAs {X : Type 0} (tell : Answer → X) (list joined : List Span) : Type 0 where
   pub order : (prefix : List Span) → AreInOrder (prefix ++ list) → AreInOrder (prefix ++ joined)
   pub same : (prefix : List Span) → AreInOrder (prefix ++ list) → (p : Position)
       → answer_told tell (prefix ++ joined) p ≡ answer_told tell (prefix ++ list) p
+  pub begin : BeginAlike tell list joined
 
--- No span is to come; or this one is the first of the list, joined with those after it that extend it, and the others are to come.
-abbrev pub GivesJoined : (Answer → PathAnswer) → List Span → (List Span → Type 0) → Option Span → Type 0
+-- No span is to come; or this one is the first of the list, joined with all those after it that extend it, and the others are to come.
+abbrev pub GivesJoined : {X : Type 0} → (Answer → X) → List Span → (List Span → Type 0) → Option Span → Type 0
 GivesJoined tell list left None = (list ≡ []) × left []
-GivesJoined tell list left (Some span) = (rest : List Span) × left rest × AreJoinedAs tell list (span ∷ rest)
+GivesJoined tell list left (Some span) = (rest : List Span) × left rest × AreJoinedAs tell list (span ∷ rest) × IsApart tell span rest
+
+-- The spans given and then those to come are in order and told as those of the list are, and none of those given is extended by the
+-- one after it.
+pub record LeaveOff {X : Type 0} (tell : Answer → X) (ToCome : List Span → Type 0) (list given : List Span) : Type 0 where
+  pub rest : List Span
+  pub left : ToCome rest
+  pub order : AreInOrder (given ++ rest)
+  pub same : (p : Position) → answer_told tell (given ++ rest) p ≡ answer_told tell list p
+  pub apart : AreApart tell given rest
+
+-- any spans may be to come
+abbrev pub Any : List Span → Type 0
+Any rest = Unit {0}
+
+-- The spans are in order and told as those of the list are, and none is extended by the one after it.
+pub record AreJoined {X : Type 0} (tell : Answer → X) (list joined : List Span) : Type 0 where
+  pub order : AreInOrder joined
+  pub same : (p : Position) → answer_told tell joined p ≡ answer_told tell list p
+  pub apart : AreApart tell joined []
 
 -- ---- borders
 
@@ -63,7 +80,3 @@ IsFirstOperation p [] = ⊥
 IsFirstOperation p (span ∷ spans) = ((span.low.op ≢ 0) × (p ≡ span.low))
     ⊎ ((span.low.op ≡ 0) × (span.high.op ≢ 0) × (p ≡ span.high))
     ⊎ (IsOfInstructions span × IsFirstOperation p spans)
-
--- Joining the list gives these spans first.
-abbrev pub AreFirstOf : (Answer → PathAnswer) → List Span → List Span → Type 0
-AreFirstOf tell list first = (all : List Span) → AllJoinTo tell list all → (rest : List Span) × (all ≡ first ++ rest)

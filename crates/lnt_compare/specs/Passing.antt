@@ -1,5 +1,5 @@
 -- Bytes of a table that were taken from a source, and how far the lines of one by number were passed and compared.
-use Rattle.std.specs.Prelude.{◌≡◌, ℕ, ◌+◌, ◌≤◌, List, ◌∷◌, ◌++◌, Option, IfSome, length}
+use Rattle.std.specs.Prelude.{◌≡◌, ℕ, ◌+◌, ◌<◌, ◌≤◌, List, ◌∷◌, ◌++◌, Option, IfSome, length, map}
 use Rattle.std.specs.List.{AllByRecursion}
 use Rattle.lnt_spans.specs.declared.answer.Version.{Version}
 use Rattle.lnt_spans.specs.declared.position.Position.{Position}
@@ -7,8 +7,8 @@ use Rattle.lnt_spans.specs.declared.span.Span.{Span}
 use Rattle.lnt_spans.specs.Comparing.{Compares, IsTold, Merging, end_of}
 use Rattle.lnt_spans.specs.Spans.{AreInOrder, version_answer}
 use Rattle.lnt_io.specs.Pulling.{Pulls}
-use Rattle.lnt_records.specs.Table.{Fields, by_number, column_names}
-use Rattle.lnt_records.specs.Written.{plain_by_number}
+use Rattle.lnt_records.specs.Table.{Fields, TableFormat, by_number, column_names}
+use Rattle.lnt_records.specs.Written.{LineFormat, plain_by_number}
 use Rattle.lnt_records.specs.Passing.{AreLinesIn, IsCutAfter}
 
 -- ---- the bytes
@@ -29,6 +29,21 @@ pub record Ends (old : Option (List ℕ)) (may_give : ℕ) (before all : List �
   pub few : length given ≤ may_give
 
 -- ---- the lines
+
+-- The line of a record of this span, then `rest`; it has some bytes.
+pub record IsLineIn {V X : Type 0} (format : TableFormat V X) (plain : LineFormat V X) (version : V) (span : X)
+    (bytes rest : List ℕ) : Type 0 where
+  pub fields : Fields
+  pub joined : bytes ≡ plain.line fields ++ rest
+  pub some : 0 < length (plain.line fields)
+  pub says : format.Says version fields span
+
+-- The text is the lines of these spans, as `told` tells them, and `count` is their number with the header. The last one ends at `end`.
+pub record AreLinesOf {V X : Type 0} (format : TableFormat V X) (plain : LineFormat V X) (told : Span → X) (version : V) (text : List ℕ)
+    (table : List Span) (count : ℕ) (end : Position) : Type 0 where
+  pub lines : AreLinesIn format plain version text (map told table) count
+  pub few : count ≤ length text + 1
+  pub end_is : end ≡ end_of table
 
 -- These lines are the records of these spans, and `count` is their number with the header.
 abbrev pub AreLines : Version → List ℕ → List Span → ℕ → Type 0

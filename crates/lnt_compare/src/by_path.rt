@@ -2,11 +2,10 @@
 
 mod answer;
 mod border;
-mod canonical;
 mod comparison;
 mod held;
-mod joined;
 mod known;
+mod line;
 mod passing;
 mod stream;
 mod stretches;

@@ -88,7 +88,14 @@ pub fn differ_lines<S: SpanSource + Drop, T: Source>(
     let Some(version) = pass_header(&mut window, Version::One, Version::Two) else {
         return Ok(TableStart::Other(window, spans));
     };
-    let passed = pass_spans::<S, T, Differing<S>>(alloc, spans, version, table, &mut window)?;
+    let passed = pass_spans::<S, Version, T, Differing<S>>(
+        alloc,
+        spans,
+        &version,
+        &mut (),
+        table,
+        &mut window,
+    )?;
     let text = window.rest_after(alloc, version.header_line(), table)?;
     let merge = MergeByNumber::past(SpanSlice::of(&[]), version, passed.end);
     let gathered = gather_after(alloc, &text, merge, version, passed.count);
@@ -114,14 +121,12 @@ pub fn differ_records<S: SpanSource + Drop>(
     };
     let merge = MergeByNumber::new(SpanSlice::of(&[]), version);
     let gathered = gather_after(alloc, text, merge, version, 1);
-    let all = Remaining {
-        first: None,
-        second: None,
-        spans,
-        is_ended: false,
+    differ_after(
+        gathered,
+        Remaining::all(spans),
         version,
-    };
-    differ_after(gathered, all, version, Position { address: 0, op: 0 })
+        Position { address: 0, op: 0 },
+    )
 }
 
 // Starts the comparison after the spans with which both sides begin: the spans gathered from the table's other records, with

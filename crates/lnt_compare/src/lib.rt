@@ -7,13 +7,17 @@ mod canonical;
 mod comparison;
 mod differing;
 mod gather;
+mod joined;
 pub mod laws;
+mod line;
+mod line_telling;
 mod lines;
 mod outcome;
 mod passing;
 mod remaining;
 mod stream;
 mod window;
+mod writing;
 
 pub use by_path::{
     AnswerByPath, DifferenceByPath, DifferencesByPath, HeldSpan, HeldTable, PathTable,

@@ -111,7 +111,14 @@ fn pass_lines<S: SpanSource + Drop, T: Source>(
     ensures failures { CountsFailure ⟦<T as Source>⟧ table.old table.new result Stop.Read }
     ensures not_long { IsErrOf result Stop.TooLong → ⊥ }
 {
-    let passed = pass_spans::<S, T, Outcome<Difference>>(alloc, spans, version, table, window)?;
+    let passed = pass_spans::<S, Version, T, Outcome<Difference>>(
+        alloc,
+        spans,
+        &version,
+        &mut (),
+        table,
+        window,
+    )?;
     let mut merge = MergeByNumber::past(passed.spans, version, passed.end);
     let mut count = passed.count;
     push_lines(alloc, &mut merge, &mut count, version, table, window)?;

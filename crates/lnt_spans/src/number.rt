@@ -41,7 +41,10 @@ impl Telling for Version {
 
     #[inline(always)]
     fn alike(&self, _memory: &mut (), one: &Answer, other: &Answer) -> Result<bool, Never> {
-        Ok(one.in_version(*self) == other.in_version(*self))
+        Ok(match self {
+            Version::One => one.narrow() == other.narrow(),
+            Version::Two => one == other,
+        })
     }
 
     #[inline(always)]

@@ -1,30 +1,32 @@
-//! Checks whether spans joined by path begin and end at whole instructions.
-ghost use Rattle.std.specs.Prelude.{List, IfOk, MatchOption};
+//! Checks whether joined spans begin and end at whole instructions.
+ghost use Rattle.std.specs.Prelude.{List, IfOk, MatchOption, OnOk};
 ghost use Rattle.std.specs.List.{AllByRecursion};
 ghost use Rattle.lnt_spans.specs.declared.span.Span as spec;
 ghost use Rattle.lnt_spans.specs.Instructions.{IsOfInstructions};
-ghost use Rattle.lnt_compare.specs.Joining.{AllJoinTo, IsFirstOperation};
-ghost use Rattle.lnt_records.specs.PathAnswers.{path_answer};
+ghost use Rattle.lnt_spans.specs.Spans.{AreInOrder};
+ghost use Rattle.lnt_compare.specs.Joining.{Any, AreJoined, IsFirstOperation, LeaveOff};
 
-use crate::by_path::joined::Joined;
-use lnt_records::{PathFields, PathVersion, Paths};
+use crate::joined::Joined;
+use crate::line_telling::LineTelling;
 use lnt_spans::{Position, SpanSource};
-use std::alloc::{AllocError, Global};
+use std::alloc::AllocError;
 
 // The first position at which a joined span begins or ends with an operation index other than 0, if there is one.
-pub(crate) fn first_operation<S: SpanSource + Drop, P: Paths>(
-    alloc: Global,
+pub(crate) fn first_operation<S: SpanSource + Drop, T: LineTelling>(
+    telling: &T,
+    memory: &mut T::Memory,
     spans: S,
-    paths: &P,
-    version: PathVersion,
 ) -> Result<Option<Position>, AllocError>
-    ensures { IfOk result (λ found. (list joined : List spec.Span) → S.to_come spans list
-        → AllJoinTo (path_answer version (P.bytes_of paths.now)) list joined
-        → MatchOption found (AllByRecursion IsOfInstructions joined) (λ position. IsFirstOperation position joined)) }
+    requires { T.is_sound telling.now memory.old }
+    ensures sound { OnOk result (T.is_sound telling.now memory.new) }
+    ensures found { IfOk result (λ found. (joined : List spec.Span) × MatchOption found
+        (AllByRecursion IsOfInstructions joined × ((list : List spec.Span) → S.to_come spans list → AreInOrder list
+        → AreJoined (T.tell telling.now) list joined))
+        (λ position. IsFirstOperation position joined × ((list : List spec.Span) → S.to_come spans list → AreInOrder list
+        → LeaveOff (T.tell telling.now) Any list joined))) }
 {
-    let mut fields = PathFields::new(alloc)?;
     let mut joined = Joined::of(spans);
-    while let Some(span) = joined.next_joined(alloc, paths, version, &mut fields)? {
+    while let Some(span) = joined.next_joined(telling, memory)? {
         if span.low.op != 0 {
             return Ok(Some(span.low));
         }

@@ -10,7 +10,7 @@ ghost use Rattle.lnt_spans.specs.Comparing.{end_of};
 ghost use Rattle.lnt_spans.specs.Spans.{AreInOrder};
 ghost use Rattle.lnt_records.specs.declared.by_path.version.PathVersion.{PathVersion};
 ghost use Rattle.lnt_compare.specs.Joining.{tell_span};
-ghost use Rattle.lnt_compare.specs.Merging.{AnswerAlike, IsMerged, IsReady, JudgesByPath};
+ghost use Rattle.lnt_compare.specs.Merging.{AnswerAlike, IsMerged, IsReady, IsRemembered, JudgesByPath};
 ghost use Rattle.lnt_compare.specs.PathPassing.{IsAfter};
 ghost use Rattle.lnt_records.specs.PathAnswers.{PathAnswer, path_answer, spans_by_path};
 ghost use Rattle.lnt_records.specs.PathFaults.{IsFaultyRecord};
@@ -51,9 +51,8 @@ pub fn compare_by_path<S: SpanSource + Drop, P: Paths>(
     let Some(version) = header_of::<PathVersion>(alloc, table)? else {
         return Ok(TableRead::Fault(TableFault::Header));
     };
-    let Ok(comparison) = PathComparison::past(alloc, spans, 0, 1) else {
-        return Err(AllocError);
-    };
+    let memory = PathMemory::new(alloc)?;
+    let comparison = PathComparison::past(memory, spans, 0, 1);
     compare_text(alloc, table, version, comparison, paths)
 }
 
@@ -163,25 +162,19 @@ pub(crate) struct PathComparison<S> {
 impl<S: SpanSource + Drop> PathComparison<S> {
     // The state after the header and the records with which both sides begin. These end at this address, and the source gives the
     // section's spans after them; `count` is their number with the header.
-    pub(crate) fn past(
-        alloc: Global,
-        spans: S,
-        at: u64,
-        count: u64,
-    ) -> Result<PathComparison<S>, AllocError>
-        ensures ready { IfOk result (λ comparison. (path : ℕ → ℕ → List ℕ) → IsReady path comparison) }
-        ensures merged { IfOk result (λ comparison. (tell : answer.Answer → PathAnswer) (passed list : List spec.Span)
+    pub(crate) fn past(memory: PathMemory, spans: S, at: u64, count: u64) -> PathComparison<S>
+        ensures ready { (path : ℕ → ℕ → List ℕ) → IsRemembered path memory → IsReady path result }
+        ensures merged { (tell : answer.Answer → PathAnswer) (passed list : List spec.Span)
             → S.to_come spans list → AreInOrder (passed ++ list) → whole at ≡ end_of passed
-            → IsMerged S.to_come tell comparison.merge (passed ++ list) (map (tell_span tell) passed)) }
-        ensures count { IfOk result (λ comparison. comparison.count ≡ count) }
+            → IsMerged S.to_come tell result.merge (passed ++ list) (map (tell_span tell) passed) }
+        ensures count { result.count ≡ count }
     {
-        let memory = PathMemory::new(alloc)?;
-        Ok(PathComparison {
+        PathComparison {
             merge: Merge::past(spans, whole(at)),
             memory,
             at,
             count,
-        })
+        }
     }
 
     // Compares one more record, which isn't empty and begins at or after the end of the one before it.

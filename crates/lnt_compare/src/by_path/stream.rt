@@ -9,14 +9,16 @@ ghost use Rattle.lnt_records.specs.PathTables.{path_column_names};
 ghost use Rattle.lnt_io.specs.Stopping.{CountsFailure, IsTooLongOn};
 
 use crate::by_path::answer::DifferenceByPath;
-use crate::by_path::canonical::pass_spans;
 use crate::by_path::comparison::{PathComparison, compare_text};
+use crate::by_path::telling::{PathMemory, PathTelling};
 use crate::outcome::Outcome;
+use crate::passing::pass_spans;
 use crate::window::Window;
 use lnt_io::{Source, Stop};
 use lnt_records::{PathVersion, Paths, TableVersion};
 use lnt_spans::SpanSource;
 use std::alloc::Global;
+use std::marker::PhantomData;
 
 /// Compares a table by path of this version with the spans of a section, as both come. The header, a line of its own, was passed;
 /// `window` has the bytes after it that were taken from the source so far.
@@ -45,9 +47,24 @@ pub fn compare_lines_by_path<S: SpanSource + Drop, P: Paths, T: Source>(
     ensures failures { CountsFailure ⟦<T as Source>⟧ table.old table.new result Stop.Read }
     ensures too_long { IsTooLongOn ⟦<T as Source>⟧ table.old table.new result Stop.TooLong }
 {
-    let passed = pass_spans(alloc, spans, paths, version, table, &mut window)?;
+    let telling = PathTelling {
+        alloc,
+        paths,
+        version,
+        held: PhantomData,
+    };
+    let mut memory = PathMemory::new(alloc)?;
+    let passed = pass_spans::<S, PathTelling<'_, '_, P>, T, Outcome<DifferenceByPath>>(
+        alloc,
+        spans,
+        &telling,
+        &mut memory,
+        table,
+        &mut window,
+    )?;
     let text = window.rest_after(alloc, version.header_line(), table)?;
-    let comparison = PathComparison::past(alloc, passed.spans, passed.end, passed.count)?;
+    let end = passed.end.address;
+    let comparison = PathComparison::past(memory, passed.spans, end, passed.count);
     let outcome = compare_text(alloc, &text, version, comparison, paths)?;
     Ok(outcome)
 }

@@ -19,7 +19,7 @@ use std::marker::PhantomData;
 #[derive(Drop)]
 pub(crate) struct PathMemory {
     known: KnownPaths,
-    fields: PathFields,
+    pub(crate) fields: PathFields,
 }
 
 impl PathMemory {
@@ -164,7 +164,7 @@ pub(crate) fn told_of<P: Paths>(
 }
 
 // Whether two answers have the same line, and the same column if the version has columns.
-pub(crate) fn same_place(version: PathVersion, one: &Answer, other: &Answer) -> bool
+fn same_place(version: PathVersion, one: &Answer, other: &Answer) -> bool
     ensures { MatchBool result ((one.now.line ≡ other.now.line)
         × (told_column version one.now.column ≡ told_column version other.now.column))
         (one.now.line ≡ other.now.line → told_column version one.now.column ≢ told_column version other.now.column) }

@@ -2,24 +2,21 @@
 ghost use Rattle.std.specs.Prelude.{◌≡◌, ℕ, List, IfOk, OnErr, OnOk};
 ghost use Rattle.std.specs.Io.KnownBytes.{Appends};
 ghost use Rattle.std.specs.List.{AllByRecursion};
-ghost use Rattle.lnt_records.specs.Progress.{HasBegunLines, HasWrittenLines};
 ghost use Rattle.lnt_spans.specs.declared.position.Position as position;
 ghost use Rattle.lnt_spans.specs.declared.span.Span as spec;
 ghost use Rattle.lnt_spans.specs.Spans.{AreInOrder, span_answer};
 ghost use Rattle.lnt_spans.specs.Instructions.{IsOfInstructions};
-ghost use Rattle.lnt_compare.specs.Joining.{AllJoinTo, AreFirstOf};
-ghost use Rattle.lnt_records.specs.PathAnswers.{path_answer, spans_by_path};
-ghost use Rattle.lnt_records.specs.PathLines.{plain_told};
+ghost use Rattle.lnt_records.specs.PathAnswers.{spans_by_path};
 ghost use Rattle.lnt_compare.specs.Canonical.{BeginsPathTable, HasBecome, IsCanonicalPathTable};
 
 use crate::by_path::border::first_operation;
-use crate::by_path::joined::Joined;
-use lnt_records::{
-    PathFields, PathVersion, Paths, ROOM, WriteStop, put_header, put_line, send, send_full,
-};
+use crate::by_path::telling::{PathMemory, PathTelling};
+use crate::writing::write_lines;
+use lnt_records::{PathVersion, Paths, WriteStop};
 use lnt_spans::{Position, SpanSource};
 use std::alloc::Global;
 use std::io::Write;
+use std::marker::PhantomData;
 
 /// The result of writing a table.
 #[derive(Clone, Copy, Debug, PartialEq, Eq)]
@@ -63,10 +60,17 @@ pub fn write_by_path<S: SpanSource + Drop, P: Paths, W: Write>(
         → ((p : position.Position) → span_answer other p ≡ span_answer list p)
         → BeginsPathTable version (spans_by_path version (P.bytes_of paths.now) list) (W.contents out.old) (W.contents out.new)) }
 {
-    if let Some(position) = first_operation(alloc, judged, paths, version)? {
+    let telling = PathTelling {
+        alloc,
+        paths,
+        version,
+        held: PhantomData,
+    };
+    let mut memory = PathMemory::new(alloc)?;
+    if let Some(position) = first_operation(&telling, &mut memory, judged)? {
         return Ok(PathTable::OperationIndex(position));
     }
-    write_lines(alloc, spans, paths, version, out)?;
+    write_lines(alloc, spans, &telling, &mut memory, out)?;
     Ok(PathTable::Written)
 }
 
@@ -87,41 +91,12 @@ pub fn write_instructions_by_path<S: SpanSource + Drop, P: Paths, W: Write>(
     ensures begun { OnErr result ((list : List spec.Span) → S.to_come spans list → AreInOrder list → AllByRecursion IsOfInstructions list
         → BeginsPathTable version (spans_by_path version (P.bytes_of paths.now) list) (W.contents out.old) (W.contents out.new)) }
 {
-    write_lines(alloc, spans, paths, version, out)
-}
-
-// Writes the header, and a line for each joined span; of its positions only the addresses are written.
-fn write_lines<S: SpanSource + Drop, P: Paths, W: Write>(
-    alloc: Global,
-    spans: S,
-    paths: &P,
-    version: PathVersion,
-    out: &mut W,
-) -> Result<(), WriteStop>
-    ensures lines { OnOk result ((joined : List spec.Span)
-        × HasWrittenLines (plain_told (path_answer version (P.bytes_of paths.now))) version (W.contents out.old) (W.contents out.new) joined
-        × ((list all : List spec.Span) → S.to_come spans list → AllJoinTo (path_answer version (P.bytes_of paths.now)) list all
-        → all ≡ joined)) }
-    ensures begun { OnErr result ((first : List spec.Span)
-        × HasBegunLines (plain_told (path_answer version (P.bytes_of paths.now))) version (W.contents out.old) (W.contents out.new) first
-        × ((list : List spec.Span) → S.to_come spans list → AreFirstOf (path_answer version (P.bytes_of paths.now)) list first)) }
-{
-    let mut fields = PathFields::new(alloc)?;
-    let mut joined = Joined::of(spans);
-    let mut room = [0; ROOM];
-    let mut block = Vec::new(alloc);
-    put_header(&mut block, &version)?;
-    while let Some(span) = joined.next_joined(alloc, paths, version, &mut fields)? {
-        put_line(
-            alloc,
-            paths,
-            version,
-            &mut fields,
-            &mut room,
-            &span,
-            &mut block,
-        )?;
-        send_full(&mut block, out)?;
-    }
-    send(&mut block, out)
+    let telling = PathTelling {
+        alloc,
+        paths,
+        version,
+        held: PhantomData,
+    };
+    let mut memory = PathMemory::new(alloc)?;
+    write_lines(alloc, spans, &telling, &mut memory, out)
 }

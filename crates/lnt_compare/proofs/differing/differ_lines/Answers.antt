@@ -5,6 +5,7 @@ use Rattle.lnt_compare.specs.Passing.{Ends}
 use Rattle.lnt_records.specs.Table.{by_number, column_names}
 use Rattle.lnt_records.specs.Written.{line_text, lines_text, plain_by_number}
 use Rattle.lnt_compare.proofs.GatherLemmas.{gathered_is, goes_on, judges_off, order_alone, started}
+use Rattle.lnt_compare.proofs.PassingLemmas.{left_off}
 use Rattle.lnt_compare.proofs.StreamLaws.{begun, cut_begins, few_all, no_header_fault, rest_begins, rest_cut, whole_begun}
 use Rattle.lnt_compare.proofs.WindowLaws.{few_passed}
 use Rattle.lnt_records.proofs.WriteLaws.{plain_numbers}
@@ -28,18 +29,18 @@ gather_after-gathered-requires-clause-few g c =
     let ends : Ends (g.T.Source.remaining c.pass_spans.new.source) (g.T.Source.left c.pass_spans.new.source)
     (c.header_line.result.now ++ past) c.deref.result.now = rw (← c.deref.ensures.value) at c.in_ok-text.ensures.ok in
     let known = c.requires.spans in
-    let off = spans.2 known.0 known.1 known.2 in
+    let off = left_off version _ known.0 spans.1 spans.0 _ _ spans.3 (spans.4 known.0 known.1 known.2) in
     let fits : length (line_text (column_names version)) + length c.pass_header.new.window + g.T.Source.left c.fill.new.source < 2 ^ 64 =
     omega (arith, c.left-may_give.ensures, c.left-may_give.type_inv, few_passed _ _ _ _ _ _ _ begun) in
     few_all by_number plain_by_number plain_numbers version _ _ _ _ c.header_line.result.now c.pass_header.new.window past spans.0
-    c.deref.result.now off.table c.in_ok-passed.passed.count c.header_line.ensures spans.1 ends off.lines fits
+    c.deref.result.now off.table c.in_ok-passed.passed.count c.header_line.ensures spans.2 ends off.lines fits
 
 pub gather_after-gathered-requires-clause-judged : goal.gather_after-gathered-requires-clause-judged
 gather_after-gathered-requires-clause-judged g c =
     let version = c.in-Some.version in
     let spans = c.in_ok-passed.ensures.ok in
     let known = c.requires.spans in
-    let off = spans.2 known.0 known.1 known.2 in
+    let off = left_off version _ known.0 spans.1 spans.0 _ _ spans.3 (spans.4 known.0 known.1 known.2) in
     let compares =
     c.past-merge.ensures.compares off.table [] c.of.ensures (order_alone off.table off.rest off.order) off.told off.end_is in (
       off.table ++ [],
@@ -58,7 +59,7 @@ returns-clause-ok g c list section coming order answers =
     let past : List ℕ = c.pass_spans.new.window in
     let ends : Ends (g.T.Source.remaining c.pass_spans.new.source) (g.T.Source.left c.pass_spans.new.source)
     (c.header_line.result.now ++ past) c.deref.result.now = rw (← c.deref.ensures.value) at c.in_ok-text.ensures.ok in
-    let off = spans.2 list coming order in
+    let off = left_off version _ list spans.1 spans.0 _ _ spans.3 (spans.4 list coming order) in
     let compares =
     c.past-merge.ensures.compares off.table [] c.of.ensures (order_alone off.table off.rest off.order) off.told off.end_is in
     let j = judges_off _ _ c.past-merge.result version list spans.0 count c.in_ok-passed.passed.end off c.past-merge.ensures.version
@@ -66,7 +67,7 @@ returns-clause-ok g c list section coming order answers =
     let header =
     rest_begins by_number plain_by_number plain_numbers version _ _ c.header_line.result.now past c.deref.result.now c.header_line.ensures ends in
     whole_begun version _ _ _ _ _ _ c.header_line.result.now c.pass_header.new.window past spans.0 c.deref.result.now off.table count _
-    c.header_line.ensures begun spans.1 ends off.lines
+    c.header_line.ensures begun spans.2 ends off.lines
     (λ bytes cut.
     let told = c.in_ok-differing.ensures bytes section off.table off.rest
     (gathered_is _ (record { merge = c.past-merge.result; version = version; count = count }) (off.table ++ []) off.table
@@ -86,7 +87,7 @@ returns-clause-started g c =
     (c.header_line.result.now ++ past) c.deref.result.now = rw (← c.deref.ensures.value) at c.in_ok-text.ensures.ok in
     let known = c.requires.spans in
     let list = known.0 in
-    let off = spans.2 list known.1 known.2 in
+    let off = left_off version _ list spans.1 spans.0 _ _ spans.3 (spans.4 list known.1 known.2) in
     let compares =
     c.past-merge.ensures.compares off.table [] c.of.ensures (order_alone off.table off.rest off.order) off.told off.end_is in
     let j = judges_off _ _ c.past-merge.result version list spans.0 count c.in_ok-passed.passed.end off c.past-merge.ensures.version

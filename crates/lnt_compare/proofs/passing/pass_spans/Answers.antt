@@ -1,106 +1,59 @@
-use Rattle.std.proofs.Common.{◌∙◌, arith, refl, List, [], ◌∷◌, ◌++◌, subst}
-use Rattle.std.specs.List.{cons_option}
-use Rattle.lnt_spans.specs.declared.answer.Version.{Version}
-use Rattle.lnt_spans.specs.declared.span.Span.{Span}
-use Rattle.lnt_spans.specs.Joined.{HasJoined}
-use Rattle.lnt_records.specs.Table.{by_number}
-use Rattle.lnt_records.specs.Written.{plain_by_number}
-use Rattle.lnt_records.proofs.LineLaws.{few_records}
-use Rattle.lnt_records.proofs.WriteLaws.{plain_numbers}
-use Rattle.lnt_compare.proofs.PassingLemmas.{Pushes, leaves_off, leaves_off_at, stands_first, stands_grown, stands_more}
-use Rattle.lnt_compare.proofs.WindowLaws.{few_passed}
+use Rattle.std.proofs.Common.{◌∙◌, ℕ, List, [], ◌∷◌, ◌++◌, arith, refl, subst, sym}
+use Rattle.lnt_compare.specs.Passing.{Passes}
+use Rattle.lnt_compare.proofs.JoiningLemmas.{left_first, left_more, left_next}
+use Rattle.lnt_compare.proofs.PassingLemmas.{filled, line_added, no_lines_of}
+use Rattle.lnt_compare.proofs.WindowLaws.{few_passed, passes_line, passes_none}
 use Rattle.lnt_compare.proofs.passing.pass_spans.Goals as goal
 
-pub loop-span-init : goal.loop-span-init
-loop-span-init g c = record {
-  failures = refl;
-  version = c.new-joiner.ensures.version;
-  stands = stands_first g.S.SpanSource.to_come c.args.spans c.args.version c.new-joiner.result.last (g.T.Source.remaining c.args.source.now)
-      (g.T.Source.left c.args.source.now) c.args.window.now c.new-joiner.ensures.joined;
-}
+pub loop-joined-init : goal.loop-joined-init
+loop-joined-init g c = (
+  [],
+  [],
+  refl,
+  c.requires.sound,
+  passes_none _ _ _,
+  no_lines_of _ _ _ _,
+  λ list come order. left_first _ _ list (c.of-joined.ensures list come) order,
+)
 
-pub loop-span-preserved-in_default-push : goal.loop-span-preserved-in_default-push
-loop-span-preserved-in_default-push g c =
-    let inv = c.loop-span.invariant in
-    let old : g.row.S.Denot = c.loop-span.spans in
-    let new : g.row.S.Denot = c.next_span.new.self in
-    let span = c.in-Some.span in
-    let one = c.push.result in
-    let joined =
-    subst (λ (v : Version). (pushed given : List Span) → HasJoined v pushed given c.loop-span.joiner.last
-    → HasJoined v (pushed ++ span ∷ []) (given ++ cons_option one []) c.push.new.self.last) inv.version c.push.ensures.joined in
-    let pushes : Pushes g.S.SpanSource.to_come old new c.args.version span one c.loop-span.joiner.last c.push.new.self.last =
-    record { gives = c.in-Some.ensures.gives; joined = joined } in
-    record {
-      failures = inv.failures;
-      version = c.push.ensures.version ∙ inv.version;
-      stands = stands_grown g.S.SpanSource.to_come c.args.spans old new c.args.version c.loop-span.joiner.last c.push.new.self.last one _ _
-          _ _ c.args.window.now c.loop-span.window c.loop-span.count c.loop-span.end span inv.stands pushes c.in_default-push.is;
-    }
-
-pub returns-then-not-pass_line-clause-ok : goal.returns-then-not-pass_line-clause-ok
-returns-then-not-pass_line-clause-ok g c =
-    let inv = c.loop-span.invariant in
-    let old : g.row.S.Denot = c.loop-span.spans in
-    let new : g.row.S.Denot = c.next_span.new.self in
-    let span = c.in-Some.span in
-    let one = c.push.result in
-    let joined =
-    subst (λ (v : Version). (pushed given : List Span) → HasJoined v pushed given c.loop-span.joiner.last
-    → HasJoined v (pushed ++ span ∷ []) (given ++ cons_option one []) c.push.new.self.last) inv.version c.push.ensures.joined in
-    let pushes : Pushes g.S.SpanSource.to_come old new c.args.version span one c.loop-span.joiner.last c.push.new.self.last =
-    record { gives = c.in-Some.ensures.gives; joined = joined } in
-    let same = rw c.if-not-pass_line.true at c.pass_line.ensures in
-    rw c.past-spans.ensures
-    rw c.finish.ensures.last
-    (leaves_off_at g.S.SpanSource.to_come c.args.spans old new c.args.version c.loop-span.joiner.last c.push.new.self.last one _ _ _ _ _ _
-    c.args.window.now c.loop-span.window c.fill.new.self c.pass_line.new.window
-    c.loop-span.count c.loop-span.end span c.in-Some-push.joined inv.stands pushes c.in-Some-push.is c.in_ok-fill.ensures.taken same)
+pub returns-then-not-branch-clause-ok : goal.returns-then-not-branch-clause-ok
+returns-then-not-branch-clause-ok g c =
+    let inv = c.loop-joined.invariant in
+    let left = rw c.in-Some.is at c.in_ok-span.ensures.left in
+    let passed = rw c.if-not-branch.true at c.in_ok-pass_line.ensures.passed in (
+      inv.0,
+      inv.1,
+      subst (λ (window : List ℕ). Passes (g.T.Source.remaining c.args.source.now) (g.T.Source.remaining c.pass_line.new.source)
+          (g.T.Source.left c.args.source.now) (g.T.Source.left c.pass_line.new.source) c.args.window.now window inv.0) (sym passed.2)
+          (filled _ _ _ _ _ _ _ _ _ inv.0 inv.4 passed.1),
+      inv.5,
+      λ list come order. left_next _ _ _ _ list inv.1 c.in-Some.span (inv.6 list come order) left
+          c.remaining-spans.ensures,
+    )
 
 pub overflow_add-count : goal.overflow_add-count
 overflow_add-count g c =
-    let inv = c.loop-span.invariant in
-    let old : g.row.S.Denot = c.loop-span.spans in
-    let new : g.row.S.Denot = c.next_span.new.self in
-    let span = c.in-Some.span in
-    let one = c.push.result in
-    let joined =
-    subst (λ (v : Version). (pushed given : List Span) → HasJoined v pushed given c.loop-span.joiner.last
-    → HasJoined v (pushed ++ span ∷ []) (given ++ cons_option one []) c.push.new.self.last) inv.version c.push.ensures.joined in
-    let pushes : Pushes g.S.SpanSource.to_come old new c.args.version span one c.loop-span.joiner.last c.push.new.self.last =
-    record { gives = c.in-Some.ensures.gives; joined = joined } in
-    let line = rw c.if-not-pass_line.false at c.pass_line.ensures in
-    let stands = stands_more g.S.SpanSource.to_come c.args.spans old new c.args.version c.loop-span.joiner.last c.push.new.self.last one _ _
-    _ _ _ _ c.args.window.now c.loop-span.window c.fill.new.self c.pass_line.new.window
-    c.loop-span.count c.loop-span.end span c.in-Some-push.joined inv.stands pushes c.in-Some-push.is c.in_ok-fill.ensures.taken line in
-    omega (arith, c.requires.few, few_records by_number plain_by_number plain_numbers _ _ _ _ stands.lines, few_passed _ _ _ _ _ _ _ stands.bytes)
+    let inv = c.loop-joined.invariant in
+    let passed = rw c.if-not-branch.false at c.in_ok-pass_line.ensures.passed in
+    let bytes = passes_line (g.T.Source.remaining c.args.source.now) (g.T.Source.remaining c.pass_line.new.source)
+    (g.T.Source.left c.args.source.now) (g.T.Source.left c.pass_line.new.source) c.args.window.now passed.0 c.pass_line.new.window inv.0
+    (g.L.LineTelling.plain.line passed.2.0.fields) (filled _ _ _ _ _ _ _ _ _ inv.0 inv.4 passed.1) passed.2.0.joined in
+    let lines = line_added g.L.LineTelling.format g.L.LineTelling.plain (g.L.LineTelling.told c.args.telling.now)
+    (g.L.LineTelling.version c.args.telling.now) inv.0 inv.1 c.loop-joined.count c.loop-joined.end c.in-Some.span passed.0
+    c.pass_line.new.window inv.5 passed.2.0 in
+    omega (arith, c.requires.few, lines.few, few_passed _ _ _ _ _ _ _ bytes)
 
-pub loop-span-preserved : goal.loop-span-preserved
-loop-span-preserved g c =
-    let inv = c.loop-span.invariant in
-    let old : g.row.S.Denot = c.loop-span.spans in
-    let new : g.row.S.Denot = c.next_span.new.self in
-    let span = c.in-Some.span in
-    let one = c.push.result in
-    let joined =
-    subst (λ (v : Version). (pushed given : List Span) → HasJoined v pushed given c.loop-span.joiner.last
-    → HasJoined v (pushed ++ span ∷ []) (given ++ cons_option one []) c.push.new.self.last) inv.version c.push.ensures.joined in
-    let pushes : Pushes g.S.SpanSource.to_come old new c.args.version span one c.loop-span.joiner.last c.push.new.self.last =
-    record { gives = c.in-Some.ensures.gives; joined = joined } in
-    let line = rw c.if-not-pass_line.false at c.pass_line.ensures in
-    let stands = stands_more g.S.SpanSource.to_come c.args.spans old new c.args.version c.loop-span.joiner.last c.push.new.self.last one _ _
-    _ _ _ _ c.args.window.now c.loop-span.window c.fill.new.self c.pass_line.new.window
-    c.loop-span.count c.loop-span.end span c.in-Some-push.joined inv.stands pushes c.in-Some-push.is c.in_ok-fill.ensures.taken line in
-    record {
-      failures = c.in_ok-fill.ensures.failures.no_failure (λ e. cc e) ∙ inv.failures;
-      version = c.push.ensures.version ∙ inv.version;
-      stands = stands;
-    }
-
-pub returns-clause-ok : goal.returns-clause-ok
-returns-clause-ok g c =
-    let inv = c.loop-span.invariant in
-    rw c.ended-spans.ensures
-    rw c.finish-2.ensures.last
-    (leaves_off g.S.SpanSource.to_come c.args.spans c.loop-span.spans c.next_span.new.self c.args.version c.loop-span.joiner.last _ _ _ _
-    c.args.window.now c.loop-span.window c.loop-span.count c.loop-span.end inv.stands c.in_default.ensures.gives)
+pub loop-joined-preserved : goal.loop-joined-preserved
+loop-joined-preserved g c =
+    let inv = c.loop-joined.invariant in
+    let left = rw c.in-Some.is at c.in_ok-span.ensures.left in
+    let passed = rw c.if-not-branch.false at c.in_ok-pass_line.ensures.passed in
+    let line = passed.2.0 in (
+      inv.0 ++ g.L.LineTelling.plain.line line.fields,
+      inv.1 ++ c.in-Some.span ∷ [],
+      c.in_ok-pass_line.ensures.failures.no_failure (λ e. cc e) ∙ inv.2,
+      c.in_ok-pass_line.ensures.sound,
+      passes_line _ _ _ _ _ _ _ inv.0 _ (filled _ _ _ _ _ _ _ _ _ inv.0 inv.4 passed.1) line.joined,
+      line_added _ _ _ _ inv.0 inv.1 _ _ c.in-Some.span _ _ inv.5 line,
+      λ list come order. left_more _ _ _ list inv.1 c.in-Some.span (inv.6 list come order) left,
+    )

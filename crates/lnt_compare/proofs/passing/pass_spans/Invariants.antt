@@ -1,15 +1,21 @@
-use Rattle.std.proofs.Common.{◌≡◌}
-use Rattle.lnt_compare.proofs.PassingLemmas.{Stands}
+use Rattle.std.specs.Prelude.{◌≡◌, ℕ, List}
+use Rattle.lnt_spans.specs.declared.span.Span.{Span}
+use Rattle.lnt_spans.specs.Ahead.{count_ahead}
+use Rattle.lnt_spans.specs.Remaining.{SpansAreLeft}
+use Rattle.lnt_spans.specs.Spans.{AreInOrder}
+use Rattle.lnt_compare.specs.Joining.{LeaveOff}
+use Rattle.lnt_compare.specs.Passing.{AreLinesOf, Passes}
 use Rattle.lnt_compare.proofs.passing.pass_spans.Given as goal
 
-abbrev pub invariant-loop-span : goal.invariant-loop-span
-invariant-loop-span g l = record {
-  failures : g.T.Source.failures l.source ≡ g.T.Source.failures l.initial.source;
-  version : l.joiner.version ≡ l.fn.version;
-  stands : Stands g.S.SpanSource.to_come l.fn.spans l.spans l.fn.version l.joiner.last (g.T.Source.remaining l.initial.source)
-      (g.T.Source.remaining l.source) (g.T.Source.left l.initial.source) (g.T.Source.left l.source)
-      l.initial.window l.window l.count l.end;
-}
+abbrev pub invariant-loop-joined : goal.invariant-loop-joined
+invariant-loop-joined g l = (text : List ℕ) × (table : List Span)
+    × (g.T.Source.failures l.source ≡ g.T.Source.failures l.initial.source) × g.L.Telling.is_sound l.telling l.memory
+    × Passes (g.T.Source.remaining l.initial.source) (g.T.Source.remaining l.source) (g.T.Source.left l.initial.source)
+    (g.T.Source.left l.source) l.initial.window l.window text
+    × AreLinesOf g.L.LineTelling.format g.L.LineTelling.plain (g.L.LineTelling.told l.telling) (g.L.LineTelling.version l.telling) text
+    table l.count l.end
+    × ((list : List Span) → g.S.SpanSource.to_come l.fn.spans list → AreInOrder list
+    → LeaveOff (g.L.Telling.tell l.telling) (SpansAreLeft g.S.SpanSource.to_come l.joined.next l.joined.spans) list table)
 
-abbrev pub decreases-loop-span : goal.decreases-loop-span
-decreases-loop-span g l = g.S.SpanSource.left l.spans
+abbrev pub decreases-loop-joined : goal.decreases-loop-joined
+decreases-loop-joined g l = count_ahead l.joined.next (g.S.SpanSource.left l.joined.spans)

@@ -1,55 +1,45 @@
-use Rattle.std.proofs.Common.{List, [], ◌∷◌, ◌++◌, inl, inr, Option, Some, refl, subst}
-use Rattle.lnt_spans.specs.declared.answer.Answer.{Answer}
-use Rattle.lnt_spans.specs.declared.span.Span.{Span}
-use Rattle.lnt_spans.specs.Coming.{GivesFirstSpan}
-use Rattle.lnt_spans.proofs.ComingLaws.{none_given, one_given}
-use Rattle.lnt_compare.specs.Joining.{WillGive}
-use Rattle.lnt_records.specs.PathAnswers.{PathAnswer, path_answer}
-use Rattle.lnt_compare.proofs.BorderLemmas.{found, none_more}
+use Rattle.std.proofs.Common.{[], ◌∷◌, ◌++◌, inl, inr, refl}
+use Rattle.lnt_compare.proofs.BorderLemmas.{none_more, past}
+use Rattle.lnt_compare.proofs.JoiningLemmas.{all_given, left_any, left_first, left_more}
 use Rattle.lnt_compare.proofs.by_path.border.first_operation.Goals as goal
 
 pub loop-joined-init : goal.loop-joined-init
-loop-joined-init g c =
-    let tell : Answer → PathAnswer = path_answer c.args.version (g.P.Paths.bytes_of c.args.paths.now) in
-    let new : List Span → Type 0 = WillGive tell c.of-joined.result.next (g.S.SpanSource.to_come c.of-joined.result.spans) in (
-      [],
-      tt,
-      c.in_ok-fields.ensures (g.P.Paths.bytes_of c.args.paths.now),
-      λ list joined come joins. none_given joined new (c.of-joined.ensures.gives tell list joined come joins),
+loop-joined-init g c = ([], tt, c.requires, λ list come order. left_first _ _ list (c.of-joined.ensures list come) order)
+
+pub returns-then-span-ne0-clause-found : goal.returns-then-span-ne0-clause-found
+returns-then-span-ne0-clause-found g c =
+    let inv = c.loop-joined.invariant in
+    let left = rw c.in-Some.is at c.in_ok-span.ensures.left in (
+      inv.0 ++ c.in-Some.span ∷ [],
+      (
+        past inv.0 (c.in-Some.span ∷ []) c.in-Some.span.low inv.1 (inl (c.if-span-ne0.true, refl)),
+        λ list come order. left_any _ _ list _ (left_more _ _ _ list inv.0 c.in-Some.span (inv.3 list come order) left),
+      ),
     )
 
-pub returns-then-span-ne0 : goal.returns-then-span-ne0
-returns-then-span-ne0 g c list joined come joins =
-    let tell : Answer → PathAnswer = path_answer c.args.version (g.P.Paths.bytes_of c.args.paths.now) in
+pub returns-then-span-ne0-2-clause-found : goal.returns-then-span-ne0-2-clause-found
+returns-then-span-ne0-2-clause-found g c =
     let inv = c.loop-joined.invariant in
-    let old : List Span → Type 0 = WillGive tell c.loop-joined.joined.next (g.S.SpanSource.to_come c.loop-joined.joined.spans) in
-    let new : List Span → Type 0 = WillGive tell c.next_joined.new.self.next (g.S.SpanSource.to_come c.next_joined.new.self.spans) in
-    let gives : (spans : List Span) → old spans → GivesFirstSpan new spans (Some c.in-Some.span) =
-    subst (λ (o : Option Span). (spans : List Span) → old spans → GivesFirstSpan new spans o) c.in-Some.is c.in_ok-span.ensures.gives in
-    found joined inv.0 c.in-Some.span c.in-Some.span.low old new (inv.3 list joined come joins) gives inv.1
-    (λ more. inl (c.if-span-ne0.true, refl))
-
-pub returns-then-span-ne0-2 : goal.returns-then-span-ne0-2
-returns-then-span-ne0-2 g c list joined come joins =
-    let tell : Answer → PathAnswer = path_answer c.args.version (g.P.Paths.bytes_of c.args.paths.now) in
-    let inv = c.loop-joined.invariant in
-    let old : List Span → Type 0 = WillGive tell c.loop-joined.joined.next (g.S.SpanSource.to_come c.loop-joined.joined.spans) in
-    let new : List Span → Type 0 = WillGive tell c.next_joined.new.self.next (g.S.SpanSource.to_come c.next_joined.new.self.spans) in
-    let gives : (spans : List Span) → old spans → GivesFirstSpan new spans (Some c.in-Some.span) =
-    subst (λ (o : Option Span). (spans : List Span) → old spans → GivesFirstSpan new spans o) c.in-Some.is c.in_ok-span.ensures.gives in
-    found joined inv.0 c.in-Some.span c.in-Some.span.high old new (inv.3 list joined come joins) gives inv.1
-    (λ more. inr (inl (c.if-span-ne0.false, c.if-span-ne0-2.true, refl)))
+    let left = rw c.in-Some.is at c.in_ok-span.ensures.left in (
+      inv.0 ++ c.in-Some.span ∷ [],
+      (
+        past inv.0 (c.in-Some.span ∷ []) c.in-Some.span.high inv.1 (inr (inl (c.if-span-ne0.false, c.if-span-ne0-2.true, refl))),
+        λ list come order. left_any _ _ list _ (left_more _ _ _ list inv.0 c.in-Some.span (inv.3 list come order) left),
+      ),
+    )
 
 pub loop-joined-preserved : goal.loop-joined-preserved
 loop-joined-preserved g c =
-    let tell : Answer → PathAnswer = path_answer c.args.version (g.P.Paths.bytes_of c.args.paths.now) in
     let inv = c.loop-joined.invariant in
-    let old : List Span → Type 0 = WillGive tell c.loop-joined.joined.next (g.S.SpanSource.to_come c.loop-joined.joined.spans) in
-    let new : List Span → Type 0 = WillGive tell c.next_joined.new.self.next (g.S.SpanSource.to_come c.next_joined.new.self.spans) in
-    let gives : (spans : List Span) → old spans → GivesFirstSpan new spans (Some c.in-Some.span) =
-    subst (λ (o : Option Span). (spans : List Span) → old spans → GivesFirstSpan new spans o) c.in-Some.is c.in_ok-span.ensures.gives in (
+    let left = rw c.in-Some.is at c.in_ok-span.ensures.left in (
       inv.0 ++ c.in-Some.span ∷ [],
       none_more inv.0 c.in-Some.span inv.1 (c.if-span-ne0.false, c.if-span-ne0-2.false),
-      c.in_ok-span.ensures.fields,
-      λ list joined come joins. one_given joined inv.0 c.in-Some.span old new (inv.3 list joined come joins) gives,
+      c.in_ok-span.ensures.sound,
+      λ list come order. left_more _ _ _ list inv.0 c.in-Some.span (inv.3 list come order) left,
     )
+
+pub returns-clause-found : goal.returns-clause-found
+returns-clause-found g c =
+    let inv = c.loop-joined.invariant in
+    let left = rw c.in_default.is at c.in_ok-span.ensures.left in
+    (inv.0, (inv.1, λ list come order. all_given _ _ list inv.0 (inv.3 list come order) (λ rest h. (left rest h).0)))

@@ -12,8 +12,10 @@ returns g c =
     IfOk-weaker c.compare_text.result _ _
     (λ compared is list come order. is c.args.table.now [] list list (λ more after rest r. r)
     (judges_none g.S.SpanSource.to_come (path_answer c.in-Some.version (g.P.Paths.bytes_of c.args.paths.now)) c.in-Some.version
-    c.in-Ok.comparison list (c.in-Ok.ensures.merged _ [] list come order refl) c.in-Ok.ensures.count) (λ p. refl))
+    c.past-comparison.result list (c.past-comparison.ensures.merged _ [] list come order refl) c.past-comparison.ensures.count) (λ p. refl))
     c.compare_text.ensures
 
 pub compare_text-requires-clause-known : goal.compare_text-requires-clause-known
-compare_text-requires-clause-known g c = c.in-Ok.ensures.ready (g.P.Paths.bytes_of c.args.paths.now)
+compare_text-requires-clause-known g c =
+    let path = g.P.Paths.bytes_of c.args.paths.now in
+    c.past-comparison.ensures.ready path (c.in_ok-memory.ensures path)

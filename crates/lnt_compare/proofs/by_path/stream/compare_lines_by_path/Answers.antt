@@ -2,17 +2,18 @@ use Rattle.std.proofs.Common.{◌∙◌, ◌++◌, ℕ, List, IfSome, ap, arith,
 use Rattle.lnt_spans.specs.declared.answer.Answer.{Answer}
 use Rattle.lnt_compare.specs.Passing.{Ends}
 use Rattle.lnt_compare.proofs.StreamLaws.{few_all, rest_begins, whole_cut}
+use Rattle.lnt_compare.proofs.WindowLaws.{longer_from_start}
 use Rattle.lnt_records.specs.PathAnswers.{PathAnswer, path_answer, spans_by_path}
 use Rattle.lnt_compare.specs.PathOutcomes.{IsPathOutcome}
 use Rattle.lnt_records.specs.PathTables.{by_path}
 use Rattle.lnt_records.specs.PathLines.{plain_by_path}
-use Rattle.lnt_compare.proofs.PathCanonicalLemmas.{judges_lines}
+use Rattle.lnt_compare.proofs.PathComparisonLemmas.{judges_lines, lines_end}
 use Rattle.lnt_records.proofs.PathLineLaws.{header_text, plain_paths}
 use Rattle.lnt_compare.proofs.by_path.stream.compare_lines_by_path.Goals as goal
 
 pub compare_text-requires-clause-known : goal.compare_text-requires-clause-known
 compare_text-requires-clause-known g c =
-    c.in_ok-comparison.ensures.ready (g.P.Paths.bytes_of c.args.paths.now)
+    c.past-comparison.ensures.ready (g.P.Paths.bytes_of c.args.paths.now) c.in_ok-passed.ensures.sound
 
 pub compare_text-requires-clause-header : goal.compare_text-requires-clause-header
 compare_text-requires-clause-header g c =
@@ -28,9 +29,21 @@ compare_text-requires-clause-few g c =
     let past : List ℕ = c.pass_spans.new.window in
     let ends : Ends (g.T.Source.remaining c.pass_spans.new.source) (g.T.Source.left c.pass_spans.new.source)
     (c.header_line.result.now ++ past) c.deref.result.now = rw (← c.deref.ensures.value) at c.in_ok-text.ensures.ok in
-    rw c.in_ok-comparison.ensures.count (few_all by_path plain_by_path plain_paths c.args.version _ _ _ _ c.header_line.result.now c.args.window past spans.0
+    rw c.past-comparison.ensures.count
+    (few_all by_path plain_by_path plain_paths c.args.version _ _ _ _ c.header_line.result.now c.args.window past spans.0
     c.deref.result.now _ _ (c.header_line.ensures ∙ header_text c.args.version) spans.2 ends spans.3.lines
     (omega (arith, c.requires.few, ap length (header_text c.args.version))))
+
+pub returns-in_err-text-clause-too_long : goal.returns-in_err-text-clause-too_long
+returns-in_err-text-clause-too_long g c e =
+    let spans = c.in_ok-passed.ensures.ok in
+    grind (
+      arith,
+      c.in_err-text.ensures.too_long,
+      c.from_residual-in_err-text.ensures,
+      longer_from_start _ _ _ _ _ _ _ spans.2,
+      e,
+    )
 
 pub returns-clause-ok : goal.returns-clause-ok
 returns-clause-ok g c list come order =
@@ -42,11 +55,13 @@ returns-clause-ok g c list come order =
     let ends : Ends (g.T.Source.remaining c.pass_spans.new.source) (g.T.Source.left c.pass_spans.new.source)
     (c.header_line.result.now ++ past) c.deref.result.now = rw (← c.deref.ensures.value) at c.in_ok-text.ensures.ok in
     let off = spans.4 list come order in
-    let IsSo : List ℕ → Type 0 = λ (bytes : List ℕ). IsPathOutcome bytes (λ version. spans_by_path version path list) c.in_ok-outcome.outcome in
+    let outcome = c.in_ok-outcome.outcome in
+    let IsSo : List ℕ → Type 0 = λ (bytes : List ℕ). IsPathOutcome bytes (λ version. spans_by_path version path list) outcome in
     subst (λ (line : List ℕ). IfSome (g.T.Source.remaining c.args.table.now) (λ more. IsSo (line ++ (c.args.window ++ more))))
     (sym (header_text version))
     (whole_cut by_path plain_by_path plain_paths version _ _ _ _ c.header_line.result.now c.args.window past spans.0 c.deref.result.now
     _ _ IsSo (c.header_line.ensures ∙ header_text version) spans.2 ends spans.3.lines
     (λ bytes cut. c.in_ok-outcome.ensures bytes spans.3.lines.records _ list cut
-    (judges_lines _ tell version c.in_ok-comparison.comparison spans.0 spans.1 off.rest _ _ spans.3 c.in_ok-comparison.ensures.count off.order
-    (c.in_ok-comparison.ensures.merged tell spans.1 off.rest off.left off.order spans.3.end_is)) off.same))
+    (judges_lines _ tell version c.past-comparison.result spans.0 spans.1 off.rest _ _ spans.3 c.past-comparison.ensures.count off.order
+    (c.past-comparison.ensures.merged tell spans.1 off.rest off.left off.order (lines_end tell version spans.0 spans.1 _ _ spans.3)))
+    off.same))

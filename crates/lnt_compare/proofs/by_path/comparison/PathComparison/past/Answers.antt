@@ -3,7 +3,7 @@ use Rattle.lnt_compare.proofs.MergingLemmas.{merged_past}
 use Rattle.lnt_compare.proofs.by_path.comparison.PathComparison.past.Goals as goal
 
 pub returns-clause-ready : goal.returns-clause-ready
-returns-clause-ready g c path = record { memory = c.in_ok-memory.ensures path; at_is = c.past.ensures.at ∙ c.whole.ensures }
+returns-clause-ready g c path memory = record { memory = memory; at_is = c.past.ensures.at ∙ c.whole.ensures }
 
 pub returns-clause-merged : goal.returns-clause-merged
 returns-clause-merged g c tell passed list coming order end =

@@ -1,0 +1,63 @@
+-- The line of a span is passed, by number and by path.
+use Rattle.std.proofs.Common.{◌≡◌, ◌∙◌, ℕ, Bool, true, false, List, [], ◌++◌, ap, append-nil, subst}
+use Rattle.std.specs.Bool.{MatchBool}
+use Rattle.lnt_spans.specs.declared.answer.Answer.{Answer}
+use Rattle.lnt_spans.specs.declared.answer.Version.{Version}
+use Rattle.lnt_spans.specs.declared.span.Span.{Span}
+use Rattle.lnt_spans.specs.Answers.{in_version}
+use Rattle.lnt_spans.specs.Instructions.{IsOfInstructions}
+use Rattle.lnt_spans.specs.Spans.{span_in_version}
+use Rattle.lnt_records.specs.declared.by_path.version.PathVersion.{PathVersion}
+use Rattle.lnt_records.specs.Lines.{IsTextLine}
+use Rattle.lnt_records.specs.PathAnswers.{PathAnswer}
+use Rattle.lnt_records.specs.PathLines.{IsSpanLine, plain_by_path}
+use Rattle.lnt_records.specs.PathTables.{by_path}
+use Rattle.lnt_records.specs.Table.{by_number}
+use Rattle.lnt_records.specs.Written.{IsOfVersion, line_text, plain_by_number}
+use Rattle.lnt_records.proofs.LineLaws.{line_some, row_some}
+use Rattle.lnt_records.proofs.PathLineLaws.{plain_paths}
+use Rattle.lnt_compare.specs.Joining.{tell_span}
+use Rattle.lnt_compare.specs.Passing.{IsLineIn}
+
+-- ---- by number
+
+pub line_passed : (r : Bool) (version : Version) (span : Span) (text line old new : List ℕ) → MatchBool r (old ≡ text ++ new) (new ≡ old)
+    → text ≡ line → IsTextLine version span line [] → IsOfVersion version span.answer
+    → MatchBool r (IsTextLine version span old new × IsOfVersion version span.answer) (new ≡ old)
+line_passed true version span text line old new e same l is = (
+  record {
+    fields = l.fields;
+    joined = e ∙ ap (λ (t : List ℕ). t ++ new) (same ∙ l.joined ∙ append-nil (line_text l.fields));
+    says = l.says;
+  },
+  is,
+)
+line_passed false version span text line old new e same l is = e
+
+pub number_line : (r : Bool) (version : Version) (span narrow : Span) (old new : List ℕ) → narrow ≡ span_in_version version span
+    → MatchBool r (IsTextLine version narrow old new × IsOfVersion version narrow.answer) (new ≡ old)
+    → MatchBool r (IsLineIn by_number plain_by_number version (span_in_version version span) old new
+    × IsOfVersion version (in_version version span.answer)) (new ≡ old)
+number_line true version span narrow old new e h =
+    let line : IsTextLine version (span_in_version version span) old new =
+    subst (λ (s : Span). IsTextLine version s old new) e h.0 in (
+      record { fields = line.fields; joined = line.joined; some = line_some line.fields; says = line.says },
+      subst (λ (s : Span). IsOfVersion version s.answer) e h.1,
+    )
+number_line false version span narrow old new e h = h
+
+-- ---- by path
+
+pub path_line : (r : Bool) (tell : Answer → PathAnswer) (version : PathVersion) (span : Span) (old new : List ℕ)
+    → MatchBool r (IsSpanLine tell version span old new × IsOfInstructions span) (new ≡ old)
+    → MatchBool r (IsLineIn by_path plain_by_path version (tell_span tell span) old new × IsOfInstructions span) (new ≡ old)
+path_line true tell version span old new h = (
+  record {
+    fields = h.0.fields;
+    joined = h.0.joined;
+    some = row_some h.0.fields;
+    says = plain_paths.says version h.0.fields (tell_span tell span) (record { says = h.0.says; low_op = h.1.0; high_op = h.1.1 });
+  },
+  h.1,
+)
+path_line false tell version span old new h = h

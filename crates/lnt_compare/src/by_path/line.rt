@@ -1,0 +1,130 @@
+//! The lines of spans in tables by path.
+ghost use Rattle.std.specs.Prelude.{◌≡◌, ◌++◌, ℕ, List, IfSome};
+ghost use Rattle.std.specs.Bool.{MatchBool};
+ghost use Rattle.lnt_spans.specs.Instructions.{IsOfInstructions};
+ghost use Rattle.lnt_records.specs.PathAnswers.{path_answer};
+ghost use Rattle.lnt_records.specs.PathLines.{IsSpanLine, path_field};
+
+use crate::by_path::telling::{PathMemory, PathTelling};
+use crate::line_telling::LineTelling;
+use crate::window::Window;
+use lnt_io::{Source, Stop};
+use lnt_records::{
+    PathVersion, Paths, ROOM, TableVersion, addresses_before, place_before, put_line,
+};
+use lnt_spans::{Answer, Span, Telling};
+use std::alloc::{AllocError, Global};
+
+impl<'p, 'r, P: Paths> LineTelling for PathTelling<'p, 'r, P> {
+    ghost use Rattle.lnt_spans.specs.Instructions.{IsOfInstructions};
+    ghost use Rattle.lnt_compare.specs.Joining.{tell_span};
+    ghost use Rattle.lnt_records.specs.PathAnswers.{path_answer};
+    ghost use Rattle.lnt_records.specs.PathLines.{plain_by_path};
+    ghost use Rattle.lnt_records.specs.PathSpans.{PathSpan};
+    ghost use Rattle.lnt_records.specs.PathTables.{by_path};
+    ghost use Rattle.lnt_records.specs.declared.by_path.version.PathVersion.{PathVersion as SpecVersion};
+
+    ghost Version = { SpecVersion };
+
+    ghost Spans = { PathSpan };
+
+    ghost version = { λ s. s.version };
+
+    ghost told = { λ s. tell_span (path_answer s.version (P.bytes_of s.paths.now)) };
+
+    ghost format = { by_path };
+
+    ghost plain = { plain_by_path };
+
+    ghost has_line = { λ s. IsOfInstructions };
+
+    #[inline(always)]
+    fn joins(
+        &self,
+        memory: &mut PathMemory,
+        one: &Answer,
+        other: &Answer,
+    ) -> Result<bool, AllocError> {
+        self.alike(memory, one, other)
+    }
+
+    fn header(&self) -> &'static [u8] {
+        self.version.header_line()
+    }
+
+    fn put_line(
+        &self,
+        alloc: Global,
+        memory: &mut PathMemory,
+        room: &mut [u8; ROOM],
+        span: &Span,
+        block: &mut Vec<u8>,
+    ) -> Result<(), AllocError> {
+        let fields = &mut memory.fields;
+        put_line(alloc, self.paths, self.version, fields, room, span, block)
+    }
+
+    #[inline(always)]
+    fn pass_line<T: Source>(
+        &self,
+        alloc: Global,
+        memory: &mut PathMemory,
+        room: &mut [u8; ROOM],
+        span: &Span,
+        source: &mut T,
+        window: &mut Window,
+    ) -> Result<bool, Stop> {
+        let field = memory.fields.take(alloc, self.paths, &span.answer)?;
+        window.fill(alloc, source, field.text.len().saturating_add(ROOM))?;
+        if !pass_line(window, room, self.version, &field.text, span) {
+            return Ok(false);
+        }
+        memory.fields.keep(field);
+        Ok(true)
+    }
+}
+
+// Moves past the line of this span, if it is next, and the span begins and ends at whole instructions. `field` is the path of its file
+// as a field, with the comma after it.
+#[inline(always)]
+fn pass_line(
+    window: &mut Window,
+    room: &mut [u8; ROOM],
+    version: PathVersion,
+    field: &[u8],
+    span: &Span,
+) -> bool
+    ensures { (path : ℕ → ℕ → List ℕ) → field.now ≡ path_field path span.now.answer.unit span.now.answer.file
+        → MatchBool result (IsSpanLine (path_answer version path) version span.now window.old window.new × IsOfInstructions span.now)
+        (window.new ≡ window.old) }
+{
+    if span.low.op != 0 || span.high.op != 0 {
+        return false;
+    }
+    let bytes = window.bytes();
+    let start = addresses_before(room, span);
+    let Some(after) = rest_after(bytes, &room[start..]) else {
+        return false;
+    };
+    let Some(after) = rest_after(after, field) else {
+        return false;
+    };
+    let start = place_before(room, version, &span.answer);
+    let Some(after) = rest_after(after, &room[start..]) else {
+        return false;
+    };
+    let passed = bytes.len() - after.len();
+    window.pass(passed);
+    true
+}
+
+// The bytes after these first ones, if the text begins with them.
+#[inline(always)]
+fn rest_after<'t>(text: &'t [u8], first: &[u8]) -> Option<&'t [u8]>
+    ensures { IfSome result (λ rest. text.now ≡ first.now ++ rest.now) }
+{
+    if !text.starts_with(first) {
+        return None;
+    }
+    Some(&text[first.len()..])
+}
