@@ -1,19 +1,17 @@
 -- What is spelled is found, whatever follows; and what of a header is told by its numbers.
-use Rattle.std.proofs.Common.{◌≡◌, ℕ, zero, suc, List, [], ◌∷◌, ◌++◌, length, drop, refl, sym, ap, subst, ◌∙◌, append_assoc, arith}
+use Rattle.std.proofs.Common.{◌≡◌, ℕ, zero, suc, List, [], ◌∷◌, ◌++◌, length, drop, refl, sym, ap, ◌∙◌, append_assoc, arith}
 use Rattle.std.proofs.Math.Seq.{drop-append_seam}
 use Rattle.std.proofs.lemmas.List.{length-append, append-nil}
 use Rattle.lnt_wire.specs.declared.format.Order.{Order}
 use Rattle.lnt_wire.specs.declared.format.Format.{Format}
 use Rattle.lnt_wire.specs.declared.form.FormValue.{FormValue}
 use Rattle.lnt_wire.specs.FirstValues.{first_value, first_size}
-use Rattle.lnt_wire.proofs.LengthLaws.{same_rest}
 use Rattle.lnt_wire.proofs.FirstValueLaws.{IsFound, value_found}
 use Rattle.lnt_header_bytes.specs.Borrowed.{first_values, first_values_size, first_entries}
 use Rattle.lnt_header.specs.declared.header.Entry.{Entry}
 use Rattle.lnt_header.specs.declared.header.Pair.{Pair}
-use Rattle.lnt_header.specs.declared.header.HeaderParts.{HeaderParts}
-use Rattle.lnt_header.specs.HeaderRules.{IsEntryTable, IsHeader}
 use Rattle.lnt_header.specs.Joins.{Each}
+use Rattle.lnt_header_bytes.proofs.PassedLaws.{one_after}
 use Rattle.lnt_header_bytes.proofs.TableLaws.{entry_code}
 use Rattle.lnt_header_bytes.specs.TableBytes.{ValuesBytes, EntryBytes}
 use Rattle.std.proofs.lemmas.Grind.{common_steps}
@@ -67,10 +65,8 @@ entries_found format order pairs (entry ∷ entries) x more p =
 pub others_spelled : (format : Format) (order : Order) (pairs : List Pair) (entry : Entry) (entries : List Entry) (x rest bytes : List ℕ)
     → Each (EntryBytes format order pairs) (entry ∷ entries) bytes
     → EntryBytes format order pairs entry x → bytes ≡ x ++ rest → Each (EntryBytes format order pairs) entries rest
-others_spelled format order pairs entry entries x rest bytes each p whole =
-    let e : each.prefix ++ each.back ≡ x ++ rest = sym each.joined ∙ whole in
-    let same = (entry_code format order pairs).one entry entry each.prefix x each.back rest each.first p e in
-    subst (Each (EntryBytes format order pairs) entries) (same_rest each.prefix x each.back rest same.1 e) each.second
+others_spelled format order pairs entry entries x rest bytes each p whole = one_after (EntryBytes format order pairs)
+    (entry_code format order pairs) (entry ∷ entries) 0 entry x rest bytes (omega arith) p each whole
 
 -- all of the bytes
 pub all_found : (format : Format) (order : Order) (pairs : List Pair) (count : ℕ) (entries : List Entry) (x : List ℕ)

@@ -1,5 +1,5 @@
 -- What is written of a header.
-use Rattle.std.proofs.Common.{◌≡◌, ℕ, ◌+◌, ◌<◌, ◌≤◌, List, [], ◌∷◌, ◌++◌, length, take, get_or, refl, sym, ap, subst, ◌∙◌, append_assoc}
+use Rattle.std.proofs.Common.{◌≡◌, ℕ, ◌+◌, ◌≤◌, List, [], ◌∷◌, ◌++◌, length, refl, sym, ap, subst, ◌∙◌, append_assoc}
 use Rattle.std.proofs.Common.{arith, map}
 use Rattle.std.proofs.lemmas.List.{length-append}
 use Rattle.std.specs.List.{AllByRecursion}
@@ -8,7 +8,6 @@ use Rattle.lnt_wire.specs.declared.format.Format.TheVariants.{D32, D64}
 use Rattle.lnt_wire.specs.declared.format.Order.{Order}
 use Rattle.lnt_wire.specs.declared.form.FormValue.{FormValue}
 use Rattle.lnt_wire.specs.declared.form.FormValue.TheVariants.{LineStrp, Strp}
-use Rattle.lnt_wire.specs.declared.put.EncodeFault.{EncodeFault}
 use Rattle.lnt_wire.specs.Bytes.{Exactly, Then, IsShortest, Appends}
 use Rattle.lnt_wire.specs.FormBytes.{form_of, form_code, FormBytes, IsTooLarge}
 use Rattle.lnt_wire.specs.Leb128.{UnsignedLeb}
@@ -17,15 +16,13 @@ use Rattle.lnt_wire.specs.InitialLength.{initial_length, LengthFits}
 use Rattle.lnt_wire.specs.Numbers.{NumberBytes, OffsetBytes, IsLargeOffset, offset_size}
 use Rattle.lnt_header.specs.declared.header.Entry.{Entry}
 use Rattle.lnt_header.specs.declared.header.HeaderParts.{HeaderParts}
-use Rattle.lnt_header.specs.declared.numbers.NumberParts.{NumberParts}
 use Rattle.lnt_header_bytes.specs.HeaderBytes.{HeaderFieldsBytes, HeaderBytesIn, unit_body}
 use Rattle.lnt_header.specs.declared.header.Pair.{Pair}
-use Rattle.lnt_header.specs.Encoding.{RefusedPut}
 use Rattle.lnt_header_bytes.specs.HeaderPuts.{EntryParts, AddsAround}
 use Rattle.lnt_header.specs.HeaderRules.{IsEntryOf, IsEntryTable, IsHeader, six_bytes, single_bytes}
 use Rattle.lnt_header.specs.Joins.{Each}
 use Rattle.lnt_header_bytes.proofs.ProgramLaws.{length-initial-same, length-around, length-body}
-use Rattle.lnt_header.proofs.PutLaws.{byte_put, join_put, put_as, each_more}
+use Rattle.lnt_header.proofs.PutLaws.{byte_put, join_put, put_as}
 use Rattle.lnt_header_bytes.proofs.TableLaws.{parts_as}
 use Rattle.lnt_header_bytes.specs.TableBytes.{PairBytes, ValuesBytes, EntryBytes, TableOf}
 use Rattle.std.proofs.lemmas.Grind.{common_steps}
@@ -36,11 +33,6 @@ pub pair_put : (pair : Pair) (code : ℕ) (old middle new : List ℕ) → Append
     → Appends UnsignedLeb code middle new → Appends PairBytes pair old new
 pair_put pair code old middle new p is q = grind (arith, common_steps, put_as, join_put)
 
-pub pairs_more : (pairs : List Pair) (i : ℕ) (d : Pair) (old middle new : List ℕ) → i < length pairs
-    → Appends (Each PairBytes) (take i pairs) old middle → Appends PairBytes (get_or pairs i d) middle new
-    → Appends (Each PairBytes) (take (i + 1) pairs) old new
-pairs_more pairs i d old middle new lt p q = each_more PairBytes pairs i d old middle new lt p q
-
 -- ---- values
 
 pub large_value : (format : Format) (order : Order) (value : FormValue) (x : List ℕ) → IsTooLarge format value
@@ -50,24 +42,6 @@ large_value D32 order (LineStrp n) x large p = omega (arith, p.fits, large)
 large_value D64 order (Strp n) x large p = large
 large_value D64 order (LineStrp n) x large p = large
 large_value format order value x large p = absurd large
-
-pub values_more : (format : Format) (order : Order) (values : List FormValue) (i : ℕ) (value : FormValue) (old middle new : List ℕ)
-    → i < length values → value ≡ get_or values i value
-    → Appends (Each (FormBytes format order)) (take i values) old middle → Appends (FormBytes format order) value middle new
-    → Appends (Each (FormBytes format order)) (take (i + 1) values) old new
-values_more format order values i value old middle new lt is p q = each_more (FormBytes format order) values i value old middle new lt p
-    (subst (λ (v : FormValue). Appends (FormBytes format order) v middle new) is q)
-
--- ---- entries
-
-pub entries_more : (format : Format) (order : Order) (entries : List Entry) (i : ℕ) (entry : Entry) (old middle new : List ℕ)
-    → i < length entries → entry ≡ get_or entries i entry
-    → Appends (Each (EntryParts format order)) (take i entries) old middle → Appends (Each (FormBytes format order)) entry.values middle new
-    → Appends (Each (EntryParts format order)) (take (i + 1) entries) old new
-entries_more format order entries i entry old middle new lt is p q =
-    let one = put_as (Each (FormBytes format order)) (EntryParts format order) entry.values entry middle new (λ x t. t) (λ x t. t) q in
-    each_more (EntryParts format order) entries i entry old middle new lt p
-    (subst (λ (e : Entry). Appends (EntryParts format order) e middle new) is one)
 
 -- ---- tables
 
@@ -99,10 +73,6 @@ pub as_entries : (format : Format) (order : Order) (pairs : List Pair) (entries 
 as_entries format order pairs [] x p = p
 as_entries format order pairs (entry ∷ entries) x p =
     parts_as p (as_values format order pairs entry.values p.prefix p.first) (as_entries format order pairs entries p.back p.second)
-
-pub table_refused : (format : Format) (order : Order) (pairs : List Pair) (entries : List Entry) (fault : EncodeFault)
-    → RefusedPut (Each (EntryParts format order)) entries fault → RefusedPut (TableOf format order) (pairs, entries) fault
-table_refused format order pairs entries fault refused = grind (arith, common_steps, as_entries)
 
 -- the same parts before other entries
 with_entries : {A B C D D' : List ℕ → Type 0} {x : List ℕ} → (t : Then A (Then B (Then C D)) x) → D' t.second.second.back
@@ -138,19 +108,13 @@ table_put format order pairs entries old m1 m2 m3 new is pushed p q r =
 length-four : (a b c d : List ℕ) → length (a ++ b ++ c ++ d) ≡ length a + length b + length c + length d
 length-four a b c d = simp length-append refl
 
-pub fields_put : (h : HeaderParts) (numbers : NumberParts) (o0 o2 o3 o4 o5 extra : List ℕ) (d_pairs f_pairs : List Pair)
-    (d_entries f_entries : List Entry) → IsHeader h → o0 ≡ [] → single_bytes numbers ≡ single_bytes h.numbers
-    → o2 ≡ (o0 ++ six_bytes numbers) ++ numbers.standard_lengths → d_pairs ≡ h.directory_format → d_entries ≡ h.directories
-    → Appends (TableOf h.format h.numbers.order) (d_pairs, d_entries) o2 o3
-    → f_pairs ≡ h.file_format → f_entries ≡ h.files → Appends (TableOf h.format h.numbers.order) (f_pairs, f_entries) o3 o4
-    → extra ≡ h.extra → o5 ≡ o4 ++ extra → IsShortest HeaderFieldsBytes h o5
-fields_put h numbers o0 o2 o3 o4 o5 extra d_pairs f_pairs d_entries f_entries is begun same first dp de d_put fp fe f_put extra_is
-    last_put =
-    let last : o5 ≡ o4 ++ h.extra = last_put ∙ ap (λ (z : List ℕ). o4 ++ z) extra_is in
-    let d : Appends (TableOf h.format h.numbers.order) (h.directory_format, h.directories) o2 o3 = rw (← dp, ← de) d_put in
-    let f : Appends (TableOf h.format h.numbers.order) (h.file_format, h.files) o3 o4 = rw (← fp, ← fe) f_put in
+pub fields_put : (h : HeaderParts) (o0 o2 o3 o4 o5 : List ℕ) → IsHeader h → o0 ≡ []
+    → o2 ≡ (o0 ++ six_bytes h.numbers) ++ h.numbers.standard_lengths
+    → Appends (TableOf h.format h.numbers.order) (h.directory_format, h.directories) o2 o3
+    → Appends (TableOf h.format h.numbers.order) (h.file_format, h.files) o3 o4 → o5 ≡ o4 ++ h.extra → IsShortest HeaderFieldsBytes h o5
+fields_put h o0 o2 o3 o4 o5 is begun first d f last =
     let prefix : o2 ≡ single_bytes h.numbers =
-    first ∙ ap (λ (z : List ℕ). (z ++ six_bytes numbers) ++ numbers.standard_lengths) begun ∙ same in
+    first ∙ ap (λ (z : List ℕ). (z ++ six_bytes h.numbers) ++ h.numbers.standard_lengths) begun in
     let whole : o5 ≡ single_bytes h.numbers ++ d.spelling ++ f.spelling ++ h.extra = last ∙ ap (λ (z : List ℕ). z ++ h.extra) (f.joined
     ∙ ap (λ (z : List ℕ). z ++ f.spelling) (d.joined ∙ ap (λ (z : List ℕ). z ++ d.spelling) prefix)) in
     record {
@@ -174,15 +138,6 @@ fields_put h numbers o0 o2 o3 o4 o5 extra d_pairs f_pairs d_entries f_entries is
           );
     }
 
-pub directories_refused : (h : HeaderParts) (pairs : List Pair) (entries : List Entry) (fault : EncodeFault) → pairs ≡ h.directory_format
-    → entries ≡ h.directories → RefusedPut (TableOf h.format h.numbers.order) (pairs, entries) fault → RefusedPut HeaderFieldsBytes h fault
-directories_refused h pairs entries fault p e refused =
-    record { none = λ large bytes q. refused.none large q.directories (rw (p, e) q.directory_table) }
-
-pub files_refused : (h : HeaderParts) (pairs : List Pair) (entries : List Entry) (fault : EncodeFault) → pairs ≡ h.file_format
-    → entries ≡ h.files → RefusedPut (TableOf h.format h.numbers.order) (pairs, entries) fault → RefusedPut HeaderFieldsBytes h fault
-files_refused h pairs entries fault p e refused = record { none = λ large bytes q. refused.none large q.files (rw (p, e) q.file_table) }
-
 -- ---- the whole unit
 
 regroup_out : (o a b c d e f g : List ℕ) → ((((((o ++ a) ++ b) ++ c) ++ d) ++ e) ++ f) ++ g ≡ o ++ (a ++ (b ++ (c ++ d) ++ e ++ f ++ g))
@@ -203,10 +158,11 @@ offset_fits D32 n length_is le fits large = omega (arith, le, fits, large)
 offset_fits D64 n length_is le fits large = large
 
 -- fields and a program in their shortest spellings
-pub header_added : (h : HeaderParts) (program fields old new : List ℕ) → IsShortest HeaderFieldsBytes h fields
-    → AddsAround h.numbers.order h.format h.numbers.address_size fields program old new
+pub header_put : (h : HeaderParts) (program fields named old new : List ℕ) (size : ℕ) → IsShortest HeaderFieldsBytes h fields
+    → named ≡ fields → size ≡ h.numbers.address_size → AddsAround h.numbers.order h.format size named program old new
     → Appends (HeaderBytesIn h.numbers.order) (h, program) old new
-header_added h program fields old new p a =
+header_put h program fields named old new size p is sized added =
+    let a : AddsAround h.numbers.order h.format h.numbers.address_size fields program old new = rw (← is, ← sized) added in
     let body = unit_body h fields program in
     record {
       spelling = frame_bytes h.numbers.order h.format body;
@@ -228,13 +184,3 @@ header_added h program fields old new p a =
       };
       joined = a.joined;
     }
-
--- the same into an empty vector
-pub header_put : (h : HeaderParts) (program fields named begun new : List ℕ) → IsShortest HeaderFieldsBytes h fields → begun ≡ []
-    → named ≡ fields → AddsAround h.numbers.order h.format h.numbers.address_size named program begun new
-    → IsShortest (HeaderBytesIn h.numbers.order) (h, program) new
-header_put h program fields named begun new p empty is a =
-    let added = header_added h program fields begun new p
-    (subst (λ (z : List ℕ). AddsAround h.numbers.order h.format h.numbers.address_size z program begun new) is a) in
-    subst (IsShortest (HeaderBytesIn h.numbers.order) (h, program)) (sym (added.joined ∙ ap (λ (z : List ℕ). z ++ added.spelling) empty))
-    added.spelled

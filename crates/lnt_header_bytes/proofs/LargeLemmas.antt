@@ -7,9 +7,7 @@ use Rattle.lnt_wire.specs.declared.format.Order.{Order}
 use Rattle.lnt_wire.specs.declared.form.FormValue.{FormValue}
 use Rattle.lnt_wire.specs.declared.put.EncodeFault.{EncodeFault}
 use Rattle.lnt_wire.specs.declared.put.EncodeFault.TheVariants.{Memory, TooLarge}
-use Rattle.lnt_wire.specs.Bytes.{IsShortest}
 use Rattle.lnt_wire.specs.FormBytes.{FormBytes, IsTooLarge}
-use Rattle.lnt_wire.specs.InitialLength.{LengthFits}
 use Rattle.lnt_header.specs.declared.header.Entry.{Entry}
 use Rattle.lnt_header.specs.declared.header.HeaderParts.{HeaderParts}
 use Rattle.lnt_header.specs.declared.header.Pair.{Pair}
@@ -19,8 +17,8 @@ use Rattle.lnt_header.proofs.PutLaws.{each_at}
 use Rattle.lnt_header_bytes.specs.TableBytes.{TableOf}
 use Rattle.lnt_header_bytes.proofs.EncodeLemmas.{as_entries, large_value}
 use Rattle.lnt_header_bytes.proofs.ProgramLaws.{fits_less, length-body}
-use Rattle.lnt_header_bytes.specs.HeaderBytes.{HeaderBytesIn, HeaderFieldsBytes, unit_body}
-use Rattle.lnt_header_bytes.specs.HeaderPuts.{around, EntryParts}
+use Rattle.lnt_header_bytes.specs.HeaderBytes.{HeaderBytesIn, unit_body}
+use Rattle.lnt_header_bytes.specs.HeaderPuts.{EntryParts}
 use Rattle.lnt_header_bytes.specs.Large.{HasLargeEntry, HasLargeOffset, HasLargeValue, IfTooLarge, IsTooLong}
 
 -- want of memory says nothing
@@ -39,33 +37,6 @@ pub entry_large : (format : Format) (entries : List Entry) (i : ℕ) (entry : En
     → values ≡ entry.values → IfTooLarge (HasLargeValue format values) fault → IfTooLarge (HasLargeEntry format entries) fault
 entry_large format entries i entry values fault lt is same large =
     record { is_so = λ e. (entry, place_of entries i entry lt is, subst (HasLargeValue format) same (large.is_so e)) }
-
-pub directories_large : (h : HeaderParts) (entries : List Entry) (fault : EncodeFault) → entries ≡ h.directories
-    → IfTooLarge (HasLargeEntry h.format entries) fault → IfTooLarge (HasLargeOffset h) fault
-directories_large h entries fault same large = record { is_so = λ e. inl (subst (HasLargeEntry h.format) same (large.is_so e)) }
-
-pub files_large : (h : HeaderParts) (entries : List Entry) (fault : EncodeFault) → entries ≡ h.files
-    → IfTooLarge (HasLargeEntry h.format entries) fault → IfTooLarge (HasLargeOffset h) fault
-files_large h entries fault same large = record { is_so = λ e. inr (subst (HasLargeEntry h.format) same (large.is_so e)) }
-
-pub offset_large : (h : HeaderParts) (program : List ℕ) (fault : EncodeFault) → IfTooLarge (HasLargeOffset h) fault
-    → IfTooLarge (HasLargeOffset h ⊎ IsTooLong h program) fault
-offset_large h program fault large = record { is_so = λ e. inl (large.is_so e) }
-
-pub unit_too_long : (h : HeaderParts) (program fields named : List ℕ) (fault : EncodeFault) → IsShortest HeaderFieldsBytes h fields
-    → named ≡ fields → (fault ≡ TooLarge
-    → LengthFits h.format (length (around h.numbers.order h.format h.numbers.address_size named program)) → ⊥)
-    → IfTooLarge (HasLargeOffset h ⊎ IsTooLong h program) fault
-unit_too_long h program fields named fault p is long =
-    record {
-      is_so = λ e. inr (record {
-        fields = fields;
-        shortest = p;
-        too_long =
-            subst (λ (z : List ℕ). LengthFits h.format (length (around h.numbers.order h.format h.numbers.address_size z program)) → ⊥)
-            is (long e);
-      });
-    }
 
 -- ---- where one of these is so, no bytes are an encoding
 

@@ -1,7 +1,7 @@
 -- Entries that are passed.
 use Rattle.std.proofs.Common.{◌≡◌, ℕ, ◌+◌, ◌-◌, ◌<◌, ◌≤◌, List, [], ◌∷◌, ◌++◌, length, take, get_or, refl, sym, ap, subst, ◌∙◌, arith}
 use Rattle.std.proofs.Math.Seq.{take-append_seam}
-use Rattle.std.proofs.lemmas.List.{get_or-map, length-append, length-map, take_all}
+use Rattle.std.proofs.lemmas.List.{get_or-map, length-append, length-map}
 use Rattle.lnt_wire.specs.At.{At}
 use Rattle.lnt_wire.specs.FormBytes.{ValueBytes}
 use Rattle.lnt_wire.specs.FormFaults.{IsValueFault}
@@ -15,53 +15,41 @@ use Rattle.lnt_header.specs.declared.header.Entry.{Entry}
 use Rattle.lnt_header.specs.declared.header.Pair.{Pair}
 use Rattle.lnt_header_bytes.specs.Stepping.{Passes, PassesAll}
 use Rattle.lnt_header.specs.Joins.{Each, Several}
-use Rattle.lnt_header.proofs.ReaderLaws.{reads_map, reads_more, reads_none}
+use Rattle.lnt_header.proofs.ReaderLaws.{reads_more, reads_none}
 use Rattle.lnt_header_bytes.specs.Layouts.{entry_of, forms_of}
-use Rattle.lnt_header_bytes.specs.TableBytes.{ValuesBytes, EntryBytes}
+use Rattle.lnt_header_bytes.specs.TableBytes.{EntryBytes}
 use Rattle.lnt_header_bytes.specs.TableFaults.{IsEntryFault, IsEntriesFault}
-use Rattle.lnt_header_bytes.proofs.ValueLaws.{values_none, values_next}
+use Rattle.lnt_header_bytes.proofs.ValueLaws.{AreReadTo, entry_read, read_more, read_none}
 use Rattle.lnt_header_bytes.proofs.TableReaders.{entry_refused, refuses_values_at, refuses_entries}
 use Rattle.std.proofs.lemmas.Grind.{common_steps}
-
--- ---- one entry
-
-of_values : (format : Format) (pairs : List Pair) (values : List FormValue) (old new : At)
-    → Reads (ValuesBytes format old.order pairs) values old new → Passes (EntryBytes format old.order pairs) old new
-of_values format pairs values old new r =
-    record {
-      value = entry_of values;
-      read = reads_map (ValuesBytes format old.order pairs) (EntryBytes format old.order pairs) values
-          (entry_of values) old new (λ x p. p) r;
-    }
 
 -- ---- the values of an entry one by one
 
 -- so many values were passed
 pub record ArePassed (format : Format) (pairs : List Pair) (count : ℕ) (old now : At) : Type 0 where
   pub values : List FormValue
-  pub read : Reads (ValuesBytes format old.order (take count pairs)) values old now
+  pub read : AreReadTo format pairs count values old now
 
 pub values_begun : (format : Format) (pairs : List Pair) (at : At) → ArePassed format pairs 0 at at
-values_begun format pairs at = record { values = []; read = values_none format at }
+values_begun format pairs at = record { values = []; read = read_none format pairs at }
 
 pub values_next_passed : (format : Format) (pairs : List Pair) (i : ℕ) (d : Pair) (value : FormValue) (old middle new : At)
     → i < length pairs → ArePassed format pairs i old middle
     → Reads (ValueBytes format middle.order (get_or pairs i d).form) value middle new → ArePassed format pairs (i + 1) old new
 values_next_passed format pairs i d value old middle new lt p r =
-    record { values = p.values ++ value ∷ []; read = values_next format pairs i d p.values value old middle new lt p.read r }
+    record { values = p.values ++ value ∷ []; read = read_more format pairs i d p.values value old middle new lt p.read r }
 
 pub values_passed : (format : Format) (pairs : List Pair) (count : ℕ) (old new : At) → length pairs ≤ count
     → ArePassed format pairs count old new → Passes (EntryBytes format old.order pairs) old new
 values_passed format pairs count old new le p =
-    of_values format pairs p.values old new (subst (λ (ps : List Pair). Reads (ValuesBytes format old.order ps) p.values old new)
-    (take_all count pairs le) p.read)
+    record { value = entry_of p.values; read = entry_read format pairs count p.values old new le p.read }
 
 pub refuses_value_passed : (format : Format) (pairs : List Pair) (i : ℕ) (d : Pair) (old middle : At) (fault : Fault) → i < length pairs
     → ArePassed format pairs i old middle
     → RefusesField (IsValueFault format middle.order (get_or pairs i d).form) (ValueBytes format middle.order (get_or pairs i d).form)
     middle fault → Refuses (IsEntryFault format old.order pairs) (EntryBytes format old.order pairs) old fault
 refuses_value_passed format pairs i d old middle fault lt p r =
-    entry_refused format pairs old fault (refuses_values_at format pairs i d p.values old middle fault lt p.read r)
+    entry_refused format pairs old fault (refuses_values_at format pairs i d p.values old middle fault lt p.read.read r)
 
 -- ---- values of forms that are known
 

@@ -102,9 +102,9 @@ fields_spelled law h is fits small =
     let o3 : List ℕ = o2 ++ d.0 in
     let o4 : List ℕ = o3 ++ f.0 in (
       o4 ++ h.extra,
-      fields_put h h.numbers [] o2 o3 o4 (o4 ++ h.extra) h.extra h.directory_format h.file_format h.directories h.files is refl
-          refl refl refl refl (put_after (TableOf h.format h.numbers.order) (h.directory_format, h.directories) o2 d) refl refl
-          (put_after (TableOf h.format h.numbers.order) (h.file_format, h.files) o3 f) refl refl,
+      fields_put h [] o2 o3 o4 (o4 ++ h.extra) is refl refl
+          (put_after (TableOf h.format h.numbers.order) (h.directory_format, h.directories) o2 d)
+          (put_after (TableOf h.format h.numbers.order) (h.file_format, h.files) o3 f) refl,
     )
 
 unit_spelled : wire.SpelledValues → (h : HeaderParts) (program : List ℕ) → IsHeader h → FitsFields h → HasSmallOffsets h

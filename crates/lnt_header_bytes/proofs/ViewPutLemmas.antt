@@ -1,10 +1,11 @@
 -- What is written of a header whose entries stay where they lie.
 use Rattle.std.proofs.Common.{◌≡◌, ℕ, zero, suc, ◌+◌, ◌<◌, ◌≤◌, List, [], ◌∷◌, ◌++◌, length, take, drop, get_or, refl, sym, subst, ◌∙◌}
 use Rattle.std.proofs.Common.{arith}
+use Rattle.std.proofs.lemmas.List.Elements.{Contains-append_left, Contains-get_or, Contains-push}
+use Rattle.std.specs.List.{Contains}
 use Rattle.lnt_wire.specs.At.{At}
-use Rattle.lnt_wire.specs.Bytes.{IsShortest, Appends, NoneSpelled}
+use Rattle.lnt_wire.specs.Bytes.{Appends, NoneSpelled}
 use Rattle.lnt_wire.specs.FormBytes.{FormBytes, ValueBytes, IsTooLarge}
-use Rattle.lnt_wire.specs.InitialLength.{LengthFits}
 use Rattle.lnt_wire.proofs.CodeLaws.{peel_by}
 use Rattle.lnt_wire.proofs.LengthLaws.{same_rest}
 use Rattle.lnt_wire.proofs.ValueLaws.{same_value}
@@ -15,22 +16,17 @@ use Rattle.lnt_wire.specs.declared.format.Order.{Order}
 use Rattle.lnt_wire.specs.declared.put.EncodeFault.{EncodeFault}
 use Rattle.lnt_wire.specs.declared.put.EncodeFault.TheVariants.{TooLarge}
 use Rattle.lnt_header_bytes.specs.Borrowed.{BorrowedTable, AreEntryBytes}
-use Rattle.lnt_header.specs.Conversion.{in_format}
-use Rattle.lnt_header.specs.Encoding.{RefusedPut}
-use Rattle.lnt_header_bytes.specs.HeaderPuts.{EntryParts, around, AddsAround, AddsEntry, RefusesEntry}
-use Rattle.lnt_header_bytes.specs.HeaderBytes.{HeaderBytesIn, HeaderFieldsBytes}
+use Rattle.lnt_header_bytes.specs.HeaderPuts.{EntryParts, AddsEntry, RefusesEntry}
+use Rattle.lnt_header_bytes.specs.Large.{HasLargeEntry, IfTooLarge}
 use Rattle.lnt_header.specs.Joins.{Each}
 use Rattle.lnt_header_bytes.proofs.PassedLaws.{one_at, one_there}
-use Rattle.lnt_header.proofs.PutLaws.{each_begun, each_done, each_more, each_put, each_refused, put_as}
+use Rattle.lnt_header.proofs.PutLaws.{each_begun, each_done, each_more, each_put, put_as}
 use Rattle.lnt_header_bytes.proofs.TableLaws.{entry_code}
 use Rattle.lnt_header_bytes.proofs.ValueLaws.{AreReadTo, read_none, read_more, entry_read, no_entry}
 use Rattle.lnt_header_bytes.specs.Layouts.{entry_of}
 use Rattle.lnt_header_bytes.specs.TableBytes.{ValuesBytes, EntryBytes}
 use Rattle.lnt_header.specs.declared.header.Entry.{Entry}
-use Rattle.lnt_header.specs.declared.header.HeaderParts.{HeaderParts}
 use Rattle.lnt_header.specs.declared.header.Pair.{Pair}
-use Rattle.lnt_header_bytes.proofs.EncodeLemmas.{large_value, header_added}
-use Rattle.lnt_header_bytes.proofs.LargeLemmas.{too_large_refused, unit_too_long}
 use Rattle.std.proofs.lemmas.Grind.{common_steps}
 
 -- ---- the values of an entry
@@ -85,25 +81,18 @@ values_begin format order (suc n) (pair ∷ pairs) (u ∷ us) (v ∷ vs) x y r s
     let tails : vs ≡ us ++ rest.0 = rest.1 in
     (rest.0, cc)
 
--- each of several values has a spelling, if all have
-each_within : {X : Type 0} (P : X → List ℕ → Type 0) (us : List X) (v : X) (ws : List X) (bytes : List ℕ)
-    → Each P ((us ++ v ∷ []) ++ ws) bytes → (x : List ℕ) × P v x
-each_within P [] v ws bytes p = (p.prefix, p.first)
-each_within P (u ∷ us) v ws bytes p = each_within P us v ws p.back p.second
-
 pub entry_refused : (from : Format) (pairs : List Pair) (format : Format) (order : Order) (i : ℕ) (d : Pair) (value : FormValue)
     (old middle new : At) (text_old text : List ℕ) (fault : EncodeFault) → i < length pairs
     → ValuesPut from pairs format order i old middle text_old text
     → Reads (ValueBytes from middle.order (get_or pairs i d).form) value middle new → (fault ≡ TooLarge → IsTooLarge format value)
-    → RefusesEntry from pairs format order old fault
+    → RefusesEntry from pairs format old fault
 entry_refused from pairs format order i d value old middle new text_old text fault lt p r large = record {
-  none = λ is entry x more q whole bytes t.
+  large = λ is entry x more q whole.
       let read = (read_more from pairs i d p.values value old middle new lt p.read r).read in
       let all = values_begin from old.order (i + 1) pairs (p.values ++ value ∷ []) entry.values x read.spelling more new.rest read.spelled q
       (sym whole ∙ read.whole) in
-      let one = each_within (FormBytes format order) p.values value all.0 bytes
-      (subst (λ (vs : List FormValue). Each (FormBytes format order) vs bytes) all.1 t) in
-      large_value format order value one.0 (large is) one.1;
+      let there = Contains-append_left (p.values ++ value ∷ []) all.0 value (Contains-push p.values value) in
+      (value, subst (λ (vs : List FormValue). Contains vs value) (sym all.1) there, large is);
 }
 
 -- where an entry stands, each of its values is there
@@ -160,33 +149,13 @@ next_there table format order count at old middle lt p none = grind (arith, comm
 
 pub entries_refused : (table : BorrowedTable) (format : Format) (order : Order) (count : ℕ) (at : At) (old middle : List ℕ)
     (fault : EncodeFault) → count < length table.entries → EntriesPut table format order count at old middle
-    → RefusesEntry table.format table.pairs format order at fault → RefusedPut (Each (EntryParts format order)) table.entries fault
+    → RefusesEntry table.format table.pairs format at fault → IfTooLarge (HasLargeEntry format table.entries) fault
 entries_refused table format order count at old middle fault lt p refused =
     let d : Entry = entry_of [] in
+    let entry = get_or table.entries count d in
     let here = one_at (EntryBytes table.format table.order table.pairs) table.entries count d at.rest lt p.rest in
-    let first : EntryBytes table.format at.order table.pairs (get_or table.entries count d) here.prefix =
-    subst (λ (o : Order). EntryBytes table.format o table.pairs (get_or table.entries count d) here.prefix) (sym p.order_is) here.first in
-    each_refused (EntryParts format order) table.entries count d fault lt
-    (record { none = λ large. refused.none large (get_or table.entries count d) here.prefix here.back first here.joined })
-
--- ---- the whole unit
-
-pub view_put : (h : HeaderParts) (format : Format) (order : Order) (size : ℕ) (program fields named old new : List ℕ)
-    → IsShortest HeaderFieldsBytes (in_format h format order) fields → named ≡ fields → size ≡ h.numbers.address_size
-    → AddsAround order format size named program old new → Appends (HeaderBytesIn order) (in_format h format order, program) old new
-view_put h format order size program fields named old new p is sized a = header_added (in_format h format order) program fields old new p
-    (subst (λ (n : ℕ). AddsAround order format n fields program old new) sized
-    (subst (λ (z : List ℕ). AddsAround order format size z program old new) is a))
-
-pub view_refused : (h : HeaderParts) (format : Format) (order : Order) (program : List ℕ) (fault : EncodeFault)
-    → RefusedPut HeaderFieldsBytes (in_format h format order) fault
-    → RefusedPut (HeaderBytesIn order) (in_format h format order, program) fault
-view_refused h format order program fault refused = record { none = λ large bytes p. refused.none large p.spelled.fields p.spelled.counted }
-
-pub view_too_long : (h : HeaderParts) (format : Format) (order : Order) (size : ℕ) (program fields named : List ℕ) (fault : EncodeFault)
-    → IsShortest HeaderFieldsBytes (in_format h format order) fields → named ≡ fields → size ≡ h.numbers.address_size
-    → (fault ≡ TooLarge → LengthFits format (length (around order format size named program)) → ⊥)
-    → RefusedPut (HeaderBytesIn order) (in_format h format order, program) fault
-view_too_long h format order size program fields named fault p is sized long =
-    too_large_refused (in_format h format order) program fault (unit_too_long (in_format h format order) program fields named fault p is
-    (λ large. subst (λ (n : ℕ). LengthFits format (length (around order format n named program)) → ⊥) sized (long large)))
+    let first : EntryBytes table.format at.order table.pairs entry here.prefix =
+    subst (λ (o : Order). EntryBytes table.format o table.pairs entry here.prefix) (sym p.order_is) here.first in
+    record {
+      is_so = λ e. (entry, Contains-get_or table.entries count d lt, refused.large e entry here.prefix here.back first here.joined);
+    }

@@ -11,7 +11,13 @@ use Rattle.lnt_wire.specs.declared.format.Order.{Order}
 use Rattle.lnt_wire.specs.declared.put.EncodeFault.{EncodeFault}
 use Rattle.lnt_wire.specs.declared.put.EncodeFault.TheVariants.{TooLarge}
 use Rattle.lnt_wire.specs.FormBytes.{FormBytes}
-use Rattle.lnt_header.specs.Encoding.{NoSpelling}
+use Rattle.lnt_header.specs.Conversion.{in_order}
+use Rattle.lnt_header.specs.HeaderRules.{header_of}
+use Rattle.lnt_header.specs.declared.header.HeaderParts.{HeaderParts}
+use Rattle.lnt_header.specs.declared.numbers.NumberParts.{NumberParts}
+use Rattle.lnt_header_bytes.specs.Large.{HasLargeValue}
+use Rattle.lnt_header_bytes.specs.declared.encode.TableToPut.{TableToPut}
+use Rattle.lnt_header_bytes.specs.declared.encode.TableToPut.TheVariants.{Held, InPlace}
 use Rattle.lnt_header.specs.Joins.{Each}
 use Rattle.lnt_header_bytes.specs.TableBytes.{EntryBytes}
 use Rattle.lnt_header.specs.declared.header.Entry.{Entry}
@@ -44,7 +50,17 @@ pub record AddsEntry (from : Format) (pairs : List Pair) (format : Format) (orde
   pub read : Reads (EntryBytes from old.order pairs) entry old new
   pub put : Appends (EntryParts format order) entry text_old text_new
 
--- The fault is TooLarge only where an entry that begins the bytes has no spelling in this format and order.
-pub record RefusesEntry (from : Format) (pairs : List Pair) (format : Format) (order : Order) (at : At) (fault : EncodeFault) : Type 0 where
-  pub none : fault ≡ TooLarge → (entry : Entry) (x more : List ℕ) → EntryBytes from at.order pairs entry x → at.rest ≡ x ++ more
-      → NoSpelling (EntryParts format order) entry
+-- The fault is TooLarge only where an entry that begins the bytes has an offset that this format can't say.
+pub record RefusesEntry (from : Format) (pairs : List Pair) (format : Format) (at : At) (fault : EncodeFault) : Type 0 where
+  pub large : fault ≡ TooLarge → (entry : Entry) (x more : List ℕ) → EntryBytes from at.order pairs entry x → at.rest ≡ x ++ more
+      → HasLargeValue format entry.values
+
+-- the pairs and the entries of a table, wherever these are
+abbrev pub table_to_put : TableToPut → List Pair × List Entry
+table_to_put (Held pairs entries) = (pairs.now, entries.now)
+table_to_put (InPlace table) = (table.now.pairs, table.now.entries)
+
+-- the header of these numbers in this order, and of these tables, in this format
+abbrev pub header_to_put : Format → Order → NumberParts → TableToPut → TableToPut → List ℕ → HeaderParts
+header_to_put format order numbers directories files extra = header_of format (in_order numbers order) (table_to_put directories).0
+    (table_to_put directories).1 (table_to_put files).0 (table_to_put files).1 extra

@@ -5,50 +5,134 @@ ghost use Rattle.lnt_wire.specs.Bytes.{IsShortest, Appends, Extends};
 ghost use Rattle.lnt_wire.specs.FormBytes.{HasSpelling, FormBytes};
 ghost use Rattle.lnt_wire.specs.InitialLength.{initial_length, LengthFits};
 ghost use Rattle.lnt_wire.specs.Numbers.{offset_size};
+ghost use Rattle.lnt_header.specs.Conversion.{in_format};
 ghost use Rattle.lnt_header.specs.Encoding.{RefusedPut};
-ghost use Rattle.lnt_header_bytes.specs.HeaderPuts.{EntryParts, around, AddsAround, AddsVersion};
+ghost use Rattle.lnt_header_bytes.specs.HeaderPuts.{EntryParts, around, AddsAround, AddsVersion, table_to_put};
 ghost use Rattle.lnt_header_bytes.specs.HeaderBytes.{HeaderFieldsBytes, HeaderBytesIn};
 ghost use Rattle.lnt_header.specs.HeaderRules.{IsEntryTable, six_bytes};
 ghost use Rattle.lnt_header_bytes.specs.Large.{HasLargeEntry, HasLargeOffset, HasLargeValue, IfTooLarge, IsTooLong};
 ghost use Rattle.lnt_header.specs.Joins.{Each};
 ghost use Rattle.lnt_header_bytes.specs.TableBytes.{PairBytes, TableOf};
 
+use crate::view_encode::add_entries_view;
+use crate::{EntryTableView, HeaderView};
 use lnt_header::{Entry, Header, HeaderNumbers, Pair};
 use lnt_wire::{
     EncodeFault, FormValue, Format, Order, append_uleb, put_form, put_offset, put_u16, put_u32,
     put_u64,
 };
 use std::alloc::{AllocError, Global};
+use std::marker::Model;
+
+// A table to write: its entries are in memory, or lie where they are read.
+#[derive(Drop)]
+enum TableToPut<'a> {
+    Held(&'a [Pair], &'a [Entry]),
+    InPlace(&'a EntryTableView<'a>),
+}
+
+// A header to write in this format and order. Contracts see its parts.
+#[derive(Drop)]
+struct HeaderToPut<'a> {
+    format: Format,
+    order: Order,
+    numbers: &'a HeaderNumbers,
+    directories: TableToPut<'a>,
+    files: TableToPut<'a>,
+    extra: &'a [u8],
+}
+
+impl<'a> Model for HeaderToPut<'a> {
+    ghost use Rattle.lnt_header.specs.declared.header.HeaderParts.{HeaderParts};
+    ghost use Rattle.lnt_header.specs.HeaderRules.{IsHeader};
+    ghost use Rattle.lnt_header_bytes.specs.HeaderPuts.{header_to_put};
+
+    ghost Value = { HeaderParts };
+
+    ghost view = { λ h. header_to_put h.format h.order h.numbers.now h.directories h.files h.extra.now };
+
+    ghost invariant = { λ h. IsHeader (header_to_put h.format h.order h.numbers.now h.directories h.files h.extra.now) };
+}
 
 /// The bytes of a unit with this header and this program, each LEB128 in its shortest spelling (DWARF 5, section 6.2.4). It
 /// refuses with `TooLarge` if they have no encoding in the header's format: an offset of the tables is 2^32 or more in the
 /// 32-bit format, or the unit is longer than the format can say; and else only with `Memory`.
-#[tactic(auto, using(crate::proofs::LargeLemmas::too_large_refused))]
 pub fn encode_header(alloc: Global, header: &Header, program: &[u8]) -> Result<Vec<u8>, EncodeFault>
     ensures ok { IfOk result (λ bytes. IsShortest (HeaderBytesIn header.now.numbers.order) (header.now, program.now) bytes.items) }
     ensures err { IfErr result (λ fault. RefusedPut (HeaderBytesIn header.now.numbers.order) (header.now, program.now) fault) }
     ensures large { IfErr result (IfTooLarge (HasLargeOffset header.now ⊎ IsTooLong header.now program.now)) }
 {
-    unit_bytes(alloc, header, program)
+    let mut out = Vec::new(alloc);
+    put_header(alloc, &mut out, &held(header), program)?;
+    Ok(out)
 }
 
-#[tactic(auto, using(crate::proofs::EncodeLemmas::header_put, crate::proofs::LargeLemmas::offset_large, crate::proofs::LargeLemmas::unit_too_long, crate::proofs::LargeLemmas::memory_not_large))]
-fn unit_bytes(alloc: Global, header: &Header, program: &[u8]) -> Result<Vec<u8>, EncodeFault>
-    ensures ok { IfOk result (λ bytes. IsShortest (HeaderBytesIn header.now.numbers.order) (header.now, program.now) bytes.items) }
-    ensures large { IfErr result (IfTooLarge (HasLargeOffset header.now ⊎ IsTooLong header.now program.now)) }
+// The header as it is.
+fn held(header: &Header) -> HeaderToPut<'_>
+    ensures { result ≡ header.now }
 {
-    let fields = counted_fields(alloc, header)?;
-    let mut out = Vec::new(alloc);
     let numbers = header.numbers();
-    add_around(
-        &mut out,
-        &fields,
-        program,
-        numbers.address_size(),
-        header.format(),
-        numbers.order(),
-    )?;
-    Ok(out)
+    HeaderToPut {
+        format: header.format(),
+        order: numbers.order(),
+        numbers,
+        directories: TableToPut::Held(header.directory_format(), header.directories()),
+        files: TableToPut::Held(header.file_format(), header.files()),
+        extra: header.extra(),
+    }
+}
+
+/// Adds the bytes of a unit with this header in the format and order, and with this program, each LEB128 in its
+/// shortest spelling (DWARF 5, sections 6.2.4 and 7.4). The entries are read where they lie, and kept nowhere; it takes the
+/// memory of the header's bytes.
+///
+/// It fails with `TooLarge` if they have no encoding in the format, and else with `Memory`. Then `out` may end with a
+/// part of them.
+pub fn put_header_view(
+    alloc: Global,
+    out: &mut Vec<u8>,
+    header: &HeaderView<'_>,
+    program: &[u8],
+    format: Format,
+    order: Order,
+) -> Result<(), EncodeFault>
+    ensures ok { OnOk result (Appends (HeaderBytesIn order) (in_format header.now format order, program.now) out.old.items out.new.items) }
+    ensures err { IfErr result (λ fault. RefusedPut (HeaderBytesIn order) (in_format header.now format order, program.now) fault) }
+    ensures extends { OnErr result (Extends out.old.items out.new.items) }
+{
+    put_header(alloc, out, &in_place(header, format, order), program)
+}
+
+// The header in this format and order.
+#[tactic(auto, using(lnt_header::proofs::ConversionLaws::header_in_format))]
+fn in_place<'a>(header: &'a HeaderView<'_>, format: Format, order: Order) -> HeaderToPut<'a>
+    ensures { result ≡ in_format header.now format order }
+{
+    HeaderToPut {
+        format,
+        order,
+        numbers: header.numbers(),
+        directories: TableToPut::InPlace(header.directories()),
+        files: TableToPut::InPlace(header.files()),
+        extra: header.extra(),
+    }
+}
+
+// Adds the bytes of a unit with this header and this program.
+fn put_header(
+    alloc: Global,
+    out: &mut Vec<u8>,
+    header: &HeaderToPut<'_>,
+    program: &[u8],
+) -> Result<(), EncodeFault>
+    ensures ok { OnOk result (Appends (HeaderBytesIn header.now.numbers.order) (header.now, program.now) out.old.items out.new.items) }
+    ensures large { IfErr result (IfTooLarge (HasLargeOffset header.now ⊎ IsTooLong header.now program.now)) }
+    ensures extends { OnErr result (Extends out.old.items out.new.items) }
+{
+    let mut fields = Vec::new(alloc);
+    add_fields(alloc, &mut fields, header)?;
+    let size = header.numbers.address_size();
+    add_around(out, &fields, program, size, header.format, header.order)
 }
 
 /// Adds the bytes of a unit of version 5 with these fields, which `header_length` counts, and this program. Fails with `TooLarge`
@@ -132,44 +216,21 @@ fn add_initial_length(
     }
 }
 
-// The fields that header_length counts.
-fn counted_fields(alloc: Global, header: &Header) -> Result<Vec<u8>, EncodeFault>
-    ensures ok { IfOk result (λ bytes. IsShortest HeaderFieldsBytes header.now bytes.items) }
-    ensures large { IfErr result (IfTooLarge (HasLargeOffset header.now)) }
-{
-    let mut out = Vec::new(alloc);
-    match add_fields(&mut out, header) {
-        Ok(()) => Ok(out),
-        Err(fault) => {
-            drop(out);
-            Err(fault)
-        }
-    }
-}
-
-// Adds them to `out`, which holds nothing yet.
-fn add_fields(out: &mut Vec<u8>, header: &Header) -> Result<(), EncodeFault>
+// Adds the fields that header_length counts to `out`, which holds nothing yet.
+fn add_fields(alloc: Global, out: &mut Vec<u8>, header: &HeaderToPut<'_>) -> Result<(), EncodeFault>
     requires { out.old.items ≡ [] }
     ensures ok { OnOk result (IsShortest HeaderFieldsBytes header.now out.new.items) }
     ensures large { IfErr result (IfTooLarge (HasLargeOffset header.now)) }
 {
-    let numbers = header.numbers();
-    let (format, order) = (header.format(), numbers.order());
-    add_numbers(out, numbers)?;
-    add_table(
-        out,
-        header.directory_format(),
-        header.directories(),
-        format,
-        order,
-    )?;
-    add_table(out, header.file_format(), header.files(), format, order)?;
-    out.extend_from_slice(header.extra())?;
+    add_numbers(out, header.numbers)?;
+    add_table(alloc, out, &header.directories, header.format, header.order)?;
+    add_table(alloc, out, &header.files, header.format, header.order)?;
+    out.extend_from_slice(header.extra)?;
     Ok(())
 }
 
 // Adds the numbers of one byte, and the standard opcode lengths.
-pub(crate) fn add_numbers(out: &mut Vec<u8>, numbers: &HeaderNumbers) -> Result<(), AllocError>
+fn add_numbers(out: &mut Vec<u8>, numbers: &HeaderNumbers) -> Result<(), AllocError>
     ensures { OnOk result (out.new.items ≡ (out.old.items ++ six_bytes numbers.now) ++ numbers.now.standard_lengths) }
 {
     add_both(
@@ -182,26 +243,42 @@ pub(crate) fn add_numbers(out: &mut Vec<u8>, numbers: &HeaderNumbers) -> Result<
 // Adds a table: its format, the number of its entries, and these.
 #[tactic(auto, using(crate::proofs::EncodeLemmas::table_put, crate::proofs::LargeLemmas::memory_not_large))]
 fn add_table(
+    alloc: Global,
     out: &mut Vec<u8>,
-    pairs: &[Pair],
-    entries: &[Entry],
+    table: &TableToPut<'_>,
     format: Format,
     order: Order,
 ) -> Result<(), EncodeFault>
-    requires { IsEntryTable pairs.now entries.now }
-    ensures ok { OnOk result (Appends (TableOf format order) (pairs.now, entries.now) out.old.items out.new.items) }
-    ensures large { IfErr result (IfTooLarge (HasLargeEntry format entries.now)) }
+    requires { IsEntryTable (table_to_put table.now).0 (table_to_put table.now).1 }
+    ensures ok { OnOk result (Appends (TableOf format order) (table_to_put table.now) out.old.items out.new.items) }
+    ensures large { IfErr result (IfTooLarge (HasLargeEntry format (table_to_put table.now).1)) }
 {
+    let (pairs, count) = table.layout();
     out.push(pairs.len() as u8)?;
     add_pairs(out, pairs)?;
-    append_uleb(out, entries.len() as u64)?;
-    add_entries(out, entries, format, order)?;
-    Ok(())
+    append_uleb(out, count)?;
+    match *table {
+        TableToPut::Held(_, entries) => add_entries(out, entries, format, order),
+        TableToPut::InPlace(table) => add_entries_view(alloc, out, table, format, order),
+    }
+}
+
+impl TableToPut<'_> {
+    // What each entry consists of, and the number of entries.
+    fn layout(&self) -> (&[Pair], u64)
+        ensures pairs { result.0.now ≡ (table_to_put self.now).0 }
+        ensures count { result.1 ≡ length (table_to_put self.now).1 }
+    {
+        match *self {
+            TableToPut::Held(pairs, entries) => (pairs, entries.len() as u64),
+            TableToPut::InPlace(table) => (table.pairs(), table.count()),
+        }
+    }
 }
 
 // Adds the pairs of a format.
-#[tactic(auto, using(lnt_header::proofs::PutLaws::each_begun, crate::proofs::EncodeLemmas::pairs_more, lnt_header::proofs::PutLaws::each_done))]
-pub(crate) fn add_pairs(out: &mut Vec<u8>, pairs: &[Pair]) -> Result<(), AllocError>
+#[tactic(auto, using(lnt_header::proofs::PutLaws::each_begun, lnt_header::proofs::PutLaws::each_done))]
+fn add_pairs(out: &mut Vec<u8>, pairs: &[Pair]) -> Result<(), AllocError>
     ensures ok { OnOk result (Appends (Each PairBytes) pairs.now out.old.items out.new.items) }
 {
     for pair in pairs {
@@ -218,8 +295,8 @@ fn add_pair(out: &mut Vec<u8>, pair: &Pair) -> Result<(), AllocError>
     append_uleb(out, pair.form.code())
 }
 
-// Adds the entries of a table.
-#[tactic(auto, using(lnt_header::proofs::PutLaws::each_begun, crate::proofs::EncodeLemmas::entries_more, lnt_header::proofs::PutLaws::each_done, crate::proofs::LargeLemmas::entry_large, crate::proofs::LargeLemmas::memory_not_large))]
+// Adds entries that are in memory.
+#[tactic(auto, using(lnt_header::proofs::PutLaws::each_begun))]
 fn add_entries(
     out: &mut Vec<u8>,
     entries: &[Entry],
@@ -237,7 +314,7 @@ fn add_entries(
 }
 
 // Adds the values of an entry.
-#[tactic(auto, using(lnt_header::proofs::PutLaws::each_begun, crate::proofs::EncodeLemmas::values_more, lnt_header::proofs::PutLaws::each_done, crate::proofs::LargeLemmas::value_large, crate::proofs::LargeLemmas::memory_not_large))]
+#[tactic(auto, using(lnt_header::proofs::PutLaws::each_begun))]
 fn add_values(
     out: &mut Vec<u8>,
     values: &[FormValue],

@@ -18,7 +18,7 @@ mod table_view;
 mod view_encode;
 
 pub use decode::decode_header;
-pub use encode::{add_around, add_both, encode_header};
+pub use encode::{add_around, add_both, encode_header, put_header_view};
 pub use header_view::HeaderView;
 pub use in_place::{HeaderInPlace, view_header};
 pub use kept::KeptHeader;
@@ -27,4 +27,3 @@ pub use numbers::read_lengths;
 pub use read_table::EntriesInPlace;
 pub use start::read_counted;
 pub use table_view::EntryTableView;
-pub use view_encode::put_header_view;

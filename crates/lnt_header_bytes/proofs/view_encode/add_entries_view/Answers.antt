@@ -1,22 +1,17 @@
-use Rattle.std.proofs.Common.{◌<◌, List, length, subst, arith, rules}
+use Rattle.std.proofs.Common.{◌<◌, length, arith, rules}
 use Rattle.std.proofs.lemmas.Result.{err_from_is_err_and}
-use Rattle.lnt_wire.specs.Bytes.{NoneSpelled}
-use Rattle.lnt_wire.specs.declared.format.Format.{Format}
 use Rattle.lnt_header_bytes.specs.HeaderPuts.{AddsEntry, RefusesEntry}
-use Rattle.lnt_header_bytes.specs.TableBytes.{EntryBytes}
-use Rattle.lnt_header.specs.declared.header.Pair.{Pair}
-use Rattle.lnt_header_bytes.proofs.ViewPutLemmas.{entries_more, entries_refused, next_there, entries_begun, entries_done}
-use Rattle.lnt_header.proofs.PutLaws.{refused_memory}
+use Rattle.lnt_header_bytes.proofs.ViewPutLemmas.{entries_more, entries_refused, next_there, entries_done}
 use Rattle.lnt_header_bytes.proofs.view_encode.add_entries_view.Goals as goal
 
-pub returns-in_err-add_entry_view-clause-err : goal.returns-in_err-add_entry_view-clause-err
-returns-in_err-add_entry_view-clause-err c =
+pub returns-in_err-add_entry_view-clause-large : goal.returns-in_err-add_entry_view-clause-large
+returns-in_err-add_entry_view-clause-large c =
     let p = err_from_is_err_and c.from_residual.result c.from_residual.ensures.1 in
     let table = c.args.table.now in
     let fault = c.in_err-add_entry_view.field-0.0 in
     let lt : c.loop.counter < length table.entries = omega (arith, c.loop-test.true, c.count-end.ensures) in
-    let refused : RefusesEntry table.format table.pairs c.args.format c.args.order c.loop.cursor fault =
-    rw (← c.format.ensures, ← c.pairs.ensures) c.in_err-add_entry_view.ensures.err in
+    let refused : RefusesEntry table.format table.pairs c.args.format c.loop.cursor fault =
+    rw (← c.format-from.ensures, ← c.pairs-pairs.ensures) c.in_err-add_entry_view.ensures.large in
     rw (p.1, p.2) (entries_refused table c.args.format c.args.order c.loop.counter c.loop.cursor c.args.out.now.items c.loop.out.items fault
     lt c.loop.invariant refused)
 
@@ -25,9 +20,7 @@ add_entry_view-requires c none =
     let table = c.args.table.now in
     let lt : c.loop.counter < length table.entries = omega (arith, c.loop-test.true, c.count-end.ensures) in
     next_there table c.args.format c.args.order c.loop.counter c.loop.cursor c.args.out.now.items c.loop.out.items lt c.loop.invariant
-    (subst (λ (f : Format). NoneSpelled (EntryBytes f c.loop.cursor.order table.pairs) c.loop.cursor.rest) c.format.ensures
-    (subst (λ (pairs : List Pair). NoneSpelled (EntryBytes c.format.result c.loop.cursor.order pairs) c.loop.cursor.rest) c.pairs.ensures
-    none))
+    (rw (← c.format-from.ensures, ← c.pairs-pairs.ensures) none)
 
 pub loop-preserved : goal.loop-preserved
 loop-preserved c =
@@ -36,9 +29,9 @@ loop-preserved c =
     let new = c.add_entry_view.new.out.items in
     let lt : c.loop.counter < length table.entries = omega (arith, c.loop-test.true, c.count-end.ensures) in
     let added : AddsEntry table.format table.pairs c.args.format c.args.order c.loop.cursor next c.loop.out.items new =
-    rw (← c.format.ensures, ← c.pairs.ensures) c.in_ok-add_entry_view.ensures.ok in
+    rw (← c.format-from.ensures, ← c.pairs-pairs.ensures) c.in_ok-add_entry_view.ensures.ok in
     entries_more table c.args.format c.args.order c.loop.counter c.loop.cursor next c.args.out.now.items c.loop.out.items new lt
     c.loop.invariant added
 
 pub returns-clause-ok : goal.returns-clause-ok
-returns-clause-ok c = search (rules, entries_begun, entries_done, refused_memory)
+returns-clause-ok c = search (rules, entries_done)
