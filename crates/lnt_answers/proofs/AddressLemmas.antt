@@ -6,7 +6,7 @@ use Rattle.std.proofs.KnownBytes.{Appends-nil, Appends-trans}
 use Rattle.std.proofs.lemmas.Bool.{eqb-true}
 use Rattle.std.proofs.lemmas.Bool.Decides.{nat_tests}
 use Rattle.std.proofs.lemmas.Grind.{common_steps}
-use Rattle.std.proofs.lemmas.List.{drop_more, take-append-drop}
+use Rattle.std.proofs.lemmas.List.{drop_more, map-append, take-append-drop}
 use Rattle.std.proofs.lemmas.List.Elements.{All-append}
 use Rattle.std.proofs.lemmas.List.Concat.{flat_map-append}
 use Rattle.std.proofs.lemmas.List.Splits.{slice_split_at, slice_split_none, length-slice_split}
@@ -62,11 +62,6 @@ status_append : (before : Status) (a b : List (List ℕ × Option Position))
 status_append before [] b = refl
 status_append before (told ∷ a) b = status_append (line_status before told.1) a b
 
-pub texts_append : (a b : List (List ℕ × Option Position))
-    → map (λ line. line.0) (a ++ b) ≡ map (λ line. line.0) a ++ map (λ line. line.0) b
-texts_append [] b = refl
-texts_append (told ∷ a) b = ap (λ (z : List (List ℕ)). told.0 ∷ z) (texts_append a b)
-
 module _ {index : Indexed} {op : ℕ} where
   pub told_none : (old : Option (List ℕ)) (status : Status) → AreLinesTold index op [] old old status status
   told_none old status =
@@ -90,7 +85,7 @@ module _ {index : Indexed} {op : ℕ} where
       → AreLinesTold index op ys now new t u → AreLinesTold index op (xs ++ ys) old new s u
   told_append {xs} {ys} {old} {now} {new} {s} a b = record {
     told = a.told ++ b.told;
-    lines_are = texts_append a.told b.told ∙ ap (λ (z : List (List ℕ)). z ++ map (λ line. line.0) b.told) a.lines_are
+    lines_are = map-append (λ line. line.0) a.told b.told ∙ ap (λ (z : List (List ℕ)). z ++ map (λ line. line.0) b.told) a.lines_are
         ∙ ap (λ (z : List (List ℕ)). xs ++ z) b.lines_are;
     so = all_append (Tells op) a.told b.told a.so b.so;
     printed = λ selection is.
@@ -195,8 +190,7 @@ pub record IsTextTold (index : Indexed) (op : ℕ) (start now : Option (List ℕ
   pub whole : HasNo 10 line
 
 cut_begun : (start : Option (List ℕ)) → IsTextCut start start [] []
-cut_begun None = tt
-cut_begun (Some text) = refl
+cut_begun start = grind (arith, common_steps)
 
 cut_more : (start mid now : Option (List ℕ)) (texts more : List (List ℕ)) (line block left : List ℕ) → IsTextCut start mid texts line
     → Pulls mid now block
@@ -210,10 +204,7 @@ cut_more (Some text) (Some x) (Some y) texts more line block left c p cut =
 
 cut_pulled : (start mid now : Option (List ℕ)) (texts : List (List ℕ)) (line : List ℕ) → IsTextCut start mid texts line → Pulls mid now []
     → IsTextCut start now texts line
-cut_pulled None mid now texts line c p = tt
-cut_pulled (Some text) None now texts line c p = absurd c
-cut_pulled (Some text) (Some x) None texts line c p = absurd p
-cut_pulled (Some text) (Some x) (Some y) texts line c p = c ∙ ap (λ (z : List ℕ). texts ++ lines (line ++ z)) p
+cut_pulled start mid now texts line c p = grind (arith, common_steps)
 
 -- The text is at its end: its lines are those answered, and the current line, if it isn't empty.
 pub cut_ended : (start now : Option (List ℕ)) (texts : List (List ℕ)) (line : List ℕ) (ended : Bool) → IsTextCut start now texts line
@@ -228,17 +219,12 @@ cut_ended (Some text) (Some rest) texts line ended c e short =
 -- ---- a writer that was flushed
 
 appends_kept : (a b c : Option (List ℕ)) (text : List ℕ) → Appends a b text → Keeps b c → Appends a c text
-appends_kept None b c text appended kept = tt
-appends_kept (Some x) None c text appended kept = absurd appended
-appends_kept (Some x) (Some y) None text appended kept = absurd kept
-appends_kept (Some x) (Some y) (Some z) text appended kept = kept ∙ appended
+appends_kept a b c text appended kept = grind (arith, common_steps)
 
 told_lines : {index : Indexed} {op : ℕ} {old new : Option (List ℕ)} {status : Status} (start : Option (List ℕ)) (texts all : List (List ℕ))
     → IfSome start (λ text. lines text ≡ all) → texts ≡ all → AreLinesTold index op texts old new Done status
     → AreAddressesTold index op start old new status
-told_lines None texts all e same told = tt
-told_lines {index} {op} {old} {new} {status} (Some text) texts all e same told =
-    subst (λ (z : List (List ℕ)). AreLinesTold index op z old new Done status) (same ∙ sym e) told
+told_lines start texts all e same told = grind (arith, common_steps)
 
 module _ {index : Indexed} {op : ℕ} {start old : Option (List ℕ)} where
   pub text_begun : {line : List ℕ} {status : Status} → line ≡ [] → status ≡ Done → IsTextTold index op start start line old old status

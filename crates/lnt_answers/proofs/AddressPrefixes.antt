@@ -2,6 +2,7 @@
 use Rattle.std.proofs.Common.{◌≡◌, ◌∙◌, Bool, false, ℕ, ◌<◌, List, [], ◌∷◌, ◌++◌, length, map}
 use Rattle.std.proofs.Common.{Option, Some, None, IfSome}
 use Rattle.std.proofs.Common.{refl, sym, ap, subst, append_assoc, append-nil, arith}
+use Rattle.std.proofs.lemmas.List.{map-append}
 use Rattle.std.proofs.lemmas.List.Concat.{flat_map-append}
 use Rattle.std.proofs.ByRecursion.{All-append as all_append}
 use Rattle.std.specs.List.{flat_map}
@@ -13,7 +14,7 @@ use Rattle.lnt_io.specs.declared.status.Status.{Status}
 use Rattle.lnt_lines.specs.Indexed.{Indexed}
 use Rattle.lnt_answers.specs.AddressBlocks.{AreFirstBegun, AreFirstTold}
 use Rattle.lnt_answers.specs.AddressLines.{AreAddressesBegun, AreLinesBegun, AreLinesTold, Tells, told_line}
-use Rattle.lnt_answers.proofs.AddressLemmas.{IsTextTold, cut_ended, line_last, texts_append}
+use Rattle.lnt_answers.proofs.AddressLemmas.{IsTextTold, cut_ended, line_last}
 use Rattle.lnt_answers.proofs.AddressWholes.{tell_lines}
 use Rattle.lnt_answers.proofs.RoomLaws.{text_in_room}
 
@@ -35,7 +36,7 @@ module _ {index : Indexed} {op : ℕ} where
       → AreLinesBegun index op ys now new → AreLinesBegun index op (xs ++ ys) old new
   begun_append {xs} {ys} {old} {now} {new} a b = record {
     told = a.told ++ b.told;
-    lines_are = texts_append a.told b.told ∙ ap (λ (z : List (List ℕ)). z ++ map (λ line. line.0) b.told) a.lines_are
+    lines_are = map-append (λ line. line.0) a.told b.told ∙ ap (λ (z : List (List ℕ)). z ++ map (λ line. line.0) b.told) a.lines_are
         ∙ ap (λ (z : List (List ℕ)). xs ++ z) b.lines_are;
     so = all_append (Tells op) a.told b.told a.so b.so;
     prefix = λ selection is.
@@ -51,7 +52,7 @@ module _ {index : Indexed} {op : ℕ} where
       let others = tell_lines op ys in
       record {
         told = begun.told ++ others.0;
-        lines_are = texts_append begun.told others.0 ∙ ap (λ (z : List (List ℕ)). z ++ map (λ line. line.0) others.0) begun.lines_are
+        lines_are = map-append (λ line. line.0) begun.told others.0 ∙ ap (λ (z : List (List ℕ)). z ++ map (λ line. line.0) others.0) begun.lines_are
             ∙ ap (λ (z : List (List ℕ)). xs ++ z) others.1.0;
         so = all_append (Tells op) begun.told others.0 begun.so others.1.1;
         prefix = λ selection is.

@@ -1,22 +1,22 @@
 -- The lines of the stretches in a scope, given one after another among all stretches.
-use Rattle.std.proofs.Common.{◌≡◌, ◌∙◌, ◌-◌, Bool, true, false, cond, ℕ, List, [], ◌∷◌, ◌++◌, append-nil, Option, None, Some}
+use Rattle.std.proofs.Common.{◌≡◌, ◌∙◌, Bool, true, false, cond, ℕ, List, [], ◌∷◌, ◌++◌, append-nil, Option, None, Some}
 use Rattle.std.proofs.Common.{IfSome, ap, arith, is_some, map, refl, subst, sym}
 use Rattle.std.specs.List.{flat_map}
 use Rattle.std.specs.Io.KnownBytes.{Appends}
 use Rattle.std.proofs.KnownBytes.{Appends-nil, Appends-trans}
 use Rattle.std.proofs.lemmas.List.{map-append}
 use Rattle.std.proofs.lemmas.List.Concat.{flat_map-append}
+use Rattle.std.proofs.lemmas.Grind.{common_steps}
 use Rattle.lnt_io.specs.Prefixes.{AppendsPrefix}
 use Rattle.lnt_io.proofs.PrefixLaws.{prefix_after, prefix_all, prefix_before, prefix_same}
 use Rattle.lnt_io.specs.declared.status.Status.{Status}
 use Rattle.lnt_spans.specs.declared.position.Position.{Position}
 use Rattle.lnt_spans.specs.AnyStretches.{AreAllStretches, Stretch}
 use Rattle.lnt_spans.specs.Counts.{addresses_answered}
-use Rattle.lnt_spans.specs.Partial.{where_answered, where_missed}
+use Rattle.lnt_spans.specs.Partial.{where_missed}
 use Rattle.lnt_spans.specs.PartialLaws.{answered_stretches, if_some}
 use Rattle.lnt_spans.proofs.AmongLemmas.{mistakes_among}
 use Rattle.lnt_spans.proofs.PartialLemmas.{answered_and_missed}
-use Rattle.lnt_table.specs.declared.within.CheckedWithin.TheVariants.{Covered}
 use Rattle.lnt_table.specs.declared.within.Scope.{Scope}
 use Rattle.lnt_table.specs.declared.within.Scope.TheVariants.{All, Answered}
 use Rattle.lnt_answers.specs.DifferenceLines.{AreAllIn, AreDifferencesBegun, AreStretchesTold, answer_if_none, lines_or}
@@ -48,9 +48,7 @@ in_append : {X : Type 0} (scope : Scope) (list more : List (Stretch X))
     → told_in scope (list ++ more) ≡ told_in scope list ++ told_in scope more
 in_append All list more = refl
 in_append Answered [] more = refl
-in_append Answered (stretch ∷ list) more =
-    ap (if_some stretch.by_table stretch) (in_append Answered list more)
-    ∙ with_some stretch.by_table stretch (answered_stretches list) (answered_stretches more)
+in_append Answered (stretch ∷ list) more = grind (arith, common_steps, with_some, in_append Answered list more)
 
 -- one stretch
 in_one : {X : Type 0} (scope : Scope) (stretch : Stretch X)
@@ -90,8 +88,7 @@ hidden_so (Some shown) IsSo counts outside so = subst (λ (b : Bool). IsSo (cond
 pub shown_so : (text : Option (List ℕ)) (IsSo : List ℕ → Type 0) (counts : Bool) (room made line : List ℕ) → counts ≡ true → room ≡ []
     → IfSome text (λ shown. made ≡ room ++ shown) → line ≡ made → IsSo line → IfSome text (λ shown. IsSo (cond counts shown []))
 shown_so None IsSo counts room made line inside none all same so = tt
-shown_so (Some shown) IsSo counts room made line inside none all same so =
-    subst (λ (b : Bool). IsSo (cond b shown [])) (sym inside) (subst IsSo (text_in_room room made line shown none all same) so)
+shown_so (Some shown) IsSo counts room made line inside none all same so = grind (arith, common_steps, text_in_room)
 
 pub all_so : (text : Option (List ℕ)) (IsSo : List ℕ → Type 0) (counts : Bool) → ((bytes : List ℕ) → IsSo bytes)
     → IfSome text (λ shown. IsSo (cond counts shown []))
@@ -123,9 +120,7 @@ module _ {D X : Type 0} {of : D → Stretch X} {line : Stretch X → List ℕ} {
 in_more : {D X : Type 0} (of : D → Stretch X) (scope : Scope) (given : List D) (d : D)
     → told_in scope (map of given) ++ cond (counts_in scope (is_some (of d).by_table)) (of d ∷ []) []
     ≡ told_in scope (map of (given ++ d ∷ []))
-in_more {D} {X} of scope given d =
-    ap (λ (list : List (Stretch X)). told_in scope (map of given) ++ list) (sym (in_one scope (of d)))
-    ∙ sym (in_append scope (map of given) (of d ∷ [])) ∙ ap (told_in scope) (sym (map-append of given (d ∷ [])))
+in_more {D} {X} of scope given d = grind (arith, common_steps, in_one, in_append, map-append)
 
 -- their lines
 more_lines : {D X : Type 0} (of : D → Stretch X) (line : Stretch X → List ℕ) (scope : Scope) (given : List D) (d : D) (is_answered : Bool)
@@ -133,11 +128,9 @@ more_lines : {D X : Type 0} (of : D → Stretch X) (line : Stretch X → List �
     → flat_map line (told_in scope (map of given)) ++ cond (counts_in scope is_answered) (line (of d)) []
     ≡ flat_map line (told_in scope (map of (given ++ d ∷ [])))
 more_lines {D} {X} of line scope given d is_answered same =
-    let prefix = told_in scope (map of given) in
     let counts = counts_in scope (is_some (of d).by_table) in
-    ap (λ (answered : Bool). flat_map line prefix ++ cond (counts_in scope answered) (line (of d)) []) same
-    ∙ ap (λ (text : List ℕ). flat_map line prefix ++ text) (one_line line (of d) counts)
-    ∙ sym (flat_map-append line prefix (cond counts (of d ∷ []) [])) ∙ ap (flat_map line) (in_more of scope given d)
+    let joined = flat_map-append line (told_in scope (map of given)) (cond counts (of d ∷ []) []) in
+    grind (arith, same, one_line line (of d) counts, joined, in_more of scope given d)
 
 module _ {D X : Type 0} {of : D → Stretch X} {line : Stretch X → List ℕ} {AreGiven : List D → Type 0} {scope : Scope}
     {old : Option (List ℕ)} {is_right : Bool} where
@@ -146,19 +139,13 @@ module _ {D X : Type 0} {of : D → Stretch X} {line : Stretch X → List ℕ} {
       → Appends now new (cond (counts_in scope is_answered) (line (of d)) [])
       → is_right ≡ cond (counts_in scope is_answered) false was_right
       → HasPrinted of line AreMore scope old new is_right
-  printed_more {now = now} {new = new} {is_answered = is_answered} {was_right = was_right} d h so same text right =
+  printed_more {is_answered = is_answered} {was_right = was_right} d h so same text right =
       let counts = counts_in scope (is_some (of d).by_table) in
       record {
         given = h.given ++ d ∷ [];
         so = so;
-        text =
-            subst (Appends old new) (more_lines of line scope h.given d is_answered same)
-            (Appends-trans old now new (flat_map line (told_in scope (map of h.given))) (cond (counts_in scope is_answered) (line (of d)) [])
-            h.text text);
-        right =
-            right ∙ ap (λ (answered : Bool). cond (counts_in scope answered) false was_right) same
-            ∙ ap (λ (was : Bool). cond counts false was) h.right ∙ none_more (told_in scope (map of h.given)) (of d) counts
-            ∙ ap has_none (in_more of scope h.given d);
+        text = grind (arith, common_steps, Appends-trans, more_lines of line scope h.given d is_answered same);
+        right = grind (arith, right, h.right, same, none_more (told_in scope (map of h.given)) (of d) counts, in_more of scope h.given d);
       }
 
   -- all were given
@@ -170,9 +157,7 @@ module _ {D X : Type 0} {of : D → Stretch X} {line : Stretch X → List ℕ} {
     stretches = told_in scope (map of h.given);
     are_all = all_in scope f g (map of h.given) all;
     text = h.text;
-    missed_is =
-        if_right_is ∙ ap (λ (right : Bool). cond right (Some missed) None) h.right ∙ by_list (told_in scope (map of h.given))
-        ∙ ap (if_none (told_in scope (map of h.given))) missed_is;
+    missed_is = grind (arith, common_steps, by_list);
   }
     where
       by_list : (list : List (Stretch X)) → cond (has_none list) (Some missed) None ≡ if_none list missed
@@ -184,9 +169,7 @@ module _ {D X : Type 0} {of : D → Stretch X} {line : Stretch X → List ℕ} {
 prefix_of_all : {X : Type 0} (line : Stretch X → List ℕ) (none : List ℕ) (told more : List (Stretch X)) (old new : Option (List ℕ))
     → AppendsPrefix old new (flat_map line told) → AppendsPrefix old new (lines_or line none (told ++ more))
 prefix_of_all line none [] more old new prefix = prefix_before old new [] (lines_or line none more) prefix
-prefix_of_all line none (first ∷ told) more old new prefix =
-    prefix_same old new _ _ (sym (flat_map-append line (first ∷ told) more))
-    (prefix_before old new (flat_map line (first ∷ told)) (flat_map line more) prefix)
+prefix_of_all line none (first ∷ told) more old new prefix = grind (arith, common_steps, prefix_same, flat_map-append, prefix_before)
 
 -- Others may follow those that were given.
 abbrev pub HasMore : {D X : Type 0} → (D → Stretch X) → (Position → Option X) → (Position → Option X) → List D → Type 0
@@ -198,10 +181,7 @@ prefix_begun : {D X : Type 0} {line : Stretch X → List ℕ} {scope : Scope} {f
 prefix_begun {X = X} {line = line} {scope = scope} {f = f} {g = g} {old = old} {new = new} of given later prefix = record {
   stretches = told_in scope (map of given ++ later.0);
   are_all = all_in scope f g (map of given ++ later.0) later.1;
-  prefix =
-      subst (λ (list : List (Stretch X)). AppendsPrefix old new (lines_or line (checked_line (answer_if_none scope f g)) list))
-      (sym (in_append scope (map of given) later.0))
-      (prefix_of_all line (checked_line (answer_if_none scope f g)) (told_in scope (map of given)) (told_in scope later.0) old new prefix);
+  prefix = grind (arith, common_steps, in_append, prefix_of_all);
 }
 
 module _ {D X : Type 0} {of : D → Stretch X} {line : Stretch X → List ℕ} {scope : Scope} {f g : Position → Option X}
@@ -215,11 +195,9 @@ module _ {D X : Type 0} {of : D → Stretch X} {line : Stretch X → List ℕ} {
   pub stopped_within : {AreGiven : List D → Type 0} {now : Option (List ℕ)} {is_answered is_right : Bool} (d : D)
       → (h : HasPrinted of line AreGiven scope old now is_right) → HasMore of f g (h.given ++ d ∷ []) → is_answered ≡ is_some (of d).by_table
       → AppendsPrefix now new (cond (counts_in scope is_answered) (line (of d)) []) → AreDifferencesBegun line scope f g old new
-  stopped_within {now = now} {is_answered = is_answered} d h later same prefix =
-      prefix_begun of (h.given ++ d ∷ []) later
-      (prefix_same old new _ _ (more_lines of line scope h.given d is_answered same)
-      (prefix_after old now new (flat_map line (told_in scope (map of h.given))) (cond (counts_in scope is_answered) (line (of d)) [])
-      h.text prefix))
+  stopped_within {is_answered = is_answered} d h later same prefix =
+      let lines = more_lines of line scope h.given d is_answered same in
+      prefix_begun of (h.given ++ d ∷ []) later (grind (arith, lines, prefix_after, h.text))
 
 -- ---- the end
 
@@ -227,17 +205,13 @@ module _ {D X : Type 0} {of : D → Stretch X} {line : Stretch X → List ℕ} {
 end_answer : {X : Type 0} (scope : Scope) (f g : Position → Option X) (all missed : ℕ) → all ≡ addresses_answered f
     → missed ≡ addresses_answered (where_missed g f) → answer_of scope all missed ≡ answer_if_none scope f g
 end_answer All f g all missed section out = refl
-end_answer Answered f g all missed section out =
-    let both : all - missed ≡ addresses_answered (where_answered g f) = omega (arith, section, out, answered_and_missed g f) in
-    ap (λ (answered : ℕ). Covered (record { answered = answered; all = all })) both
-    ∙ ap (λ (number : ℕ). Covered (record { answered = addresses_answered (where_answered g f); all = number })) section
+end_answer Answered f g all missed section out = grind (arith, common_steps, answered_and_missed)
 
 whole_text : {X : Type 0} (line : Stretch X → List ℕ) (scope : Scope) (f g : Position → Option X) (stretches : List (Stretch X)) (all : ℕ)
     → all ≡ addresses_answered f
     → flat_map line stretches ++ end_text scope all (if_none stretches (addresses_answered (where_missed g f)))
     ≡ lines_or line (checked_line (answer_if_none scope f g)) stretches
-whole_text line scope f g [] all section =
-    ap checked_line (end_answer scope f g all (addresses_answered (where_missed g f)) section refl)
+whole_text line scope f g [] all section = grind (arith, common_steps, end_answer)
 whole_text line scope f g (first ∷ stretches) all section = append-nil (flat_map line (first ∷ stretches))
 
 pub end_told : {X : Type 0} {line : Stretch X → List ℕ} {scope : Scope} {f g : Position → Option X} {old now new : Option (List ℕ)}
@@ -264,12 +238,10 @@ pub end_begun : {X : Type 0} {line : Stretch X → List ℕ} {scope : Scope} {f 
     {missed : Option ℕ} {all : ℕ} → ArePrinted line scope f g old now missed → all ≡ addresses_answered f
     → AppendsPrefix now new (end_text scope all missed) → AreDifferencesBegun line scope f g old new
 end_begun {X} {line} {scope} {f} {g} {old} {now} {new} {all = all} h section prefix =
-    let number = addresses_answered (where_missed g f) in
-    record {
-      stretches = h.stretches;
-      are_all = h.are_all;
-      prefix =
-          prefix_same old new _ _ (whole_text line scope f g h.stretches all section)
-          (prefix_after old now new (flat_map line h.stretches) (end_text scope all (if_none h.stretches number)) h.text
-          (subst (λ (m : Option ℕ). AppendsPrefix now new (end_text scope all m)) h.missed_is prefix));
-    }
+    grind (
+      arith,
+      common_steps,
+      prefix_same old new _ _ (whole_text line scope f g h.stretches all section),
+      whole_text line scope f g h.stretches all section,
+      prefix_after,
+    )

@@ -1,6 +1,7 @@
 -- The lines of the stretches at which a table answers otherwise than the rows of units.
 use Rattle.std.proofs.Common.{◌≡◌, ◌≢◌, ℕ, List, [], ◌++◌, inl, inr, Option, Some, None, IfSome, ap, codes, map, subst}
 use Rattle.std.proofs.lemmas.List.{map-append}
+use Rattle.std.proofs.lemmas.Option.{IfSome_then}
 use Rattle.lnt_io.specs.Prefixes.{AppendsPrefix}
 use Rattle.lnt_spans.specs.declared.answer.Answer.{Answer}
 use Rattle.lnt_spans.specs.declared.difference.Difference.{Difference}
@@ -26,7 +27,7 @@ use Rattle.lnt_lines.specs.Indexed.{Indexed}
 use Rattle.lnt_sequences.specs.Sequences.{line_answer, Selection}
 use Rattle.lnt_table.specs.declared.within.Scope.{Scope}
 use Rattle.lnt_table.specs.Verdicts.{no_of_fault}
-use Rattle.lnt_table.proofs.CheckLemmas.{each_known, told_addresses}
+use Rattle.lnt_table.proofs.CheckLemmas.{told_addresses}
 use Rattle.lnt_answers.proofs.ScopeLemmas.{HasMore}
 use Rattle.lnt_answers.proofs.PathStretchLemmas.{ForPathDifferences, for_path_units, HasStarted}
 use Rattle.lnt_answers.specs.DifferenceLines.{AreDifferencesBegun, path_stretch_line, stretch_line}
@@ -102,7 +103,7 @@ module _ (scope : Scope) (index : Indexed) (selection : Selection) where
       (λ f g. AreDifferencesBegun stretch_line scope f g old new)
       → IfSome table (λ text. AreStretchesBegun scope index selection text old new)
   numbered_begun of_section of_table table old new {differences} {given} same d p =
-      each_known table _ _ (for_units of_section of_table differences given selection table _ same d p) (λ text is. inr (inl is))
+      IfSome_then table (for_units of_section of_table differences given selection table _ same d p) (λ text is. inr (inl is))
 
   -- and by path
   pub path_begun : {S : Type 0} (to_come : S → List Span → Type 0) (differences : DifferencesByPath S) (version : PathVersion)
@@ -113,5 +114,5 @@ module _ (scope : Scope) (index : Indexed) (selection : Selection) where
       (λ f g. AreDifferencesBegun path_stretch_line scope f g old new)
       → IfSome table (λ text. AreStretchesBegun scope index selection text old new)
   path_begun to_come differences version table old new {path} {spans} {slice} same by is order started p =
-      each_known table _ _ (for_path_units to_come index path differences version spans slice selection table _ same by is order
-      started p) (λ text told. inr (inr (inr told)))
+      IfSome_then table (for_path_units to_come index path differences version spans slice selection table _ same by is order started p)
+      (λ text told. inr (inr (inr told)))

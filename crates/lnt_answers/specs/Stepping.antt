@@ -1,5 +1,5 @@
 -- What the bodies of this crate say of their work. No public contract speaks of it.
-use Rattle.std.specs.Prelude.{◌≡◌, ℕ, ◌-◌, Bool, true, List, [], ◌∷◌, Option, None, Some}
+use Rattle.std.specs.Prelude.{◌≡◌, ℕ, Bool, true, List, [], ◌∷◌, Option, None, Some}
 use Rattle.std.specs.List.{flat_map}
 use Rattle.std.specs.Io.KnownBytes.{Appends}
 use Rattle.lnt_spans.specs.declared.position.Position.{Position}
@@ -18,6 +18,7 @@ use Rattle.lnt_table.specs.declared.within.CheckedWithin.{CheckedWithin}
 use Rattle.lnt_table.specs.declared.within.CheckedWithin.TheVariants.{Checked as Told, Covered}
 use Rattle.lnt_table.specs.declared.within.Scope.{Scope}
 use Rattle.lnt_table.specs.declared.within.Scope.TheVariants.{All, Answered}
+use Rattle.lnt_table.specs.Within.{coverage_but}
 use Rattle.lnt_answers.specs.DifferenceLines.{AreAllIn}
 use Rattle.lnt_answers.specs.Verdicts.{checked_line}
 
@@ -52,7 +53,7 @@ pub record ArePrinted {X : Type 0} (line : Stretch X → List ℕ) (scope : Scop
 
 abbrev pub answer_of : Scope → ℕ → ℕ → CheckedWithin
 answer_of All all missed = Told (Numbered Yes)
-answer_of Answered all missed = Covered (record { answered = all - missed; all = all })
+answer_of Answered all missed = Covered (coverage_but missed all)
 
 abbrev pub end_text : Scope → ℕ → Option ℕ → List ℕ
 end_text scope all None = []

@@ -37,12 +37,11 @@ pub fn judge_section<'s, R: Source, W: Write>(
     ensures failures { CountsFailure ⟦<R as Source>⟧ section.old section.new result Halt.Read }
     ensures too_long { IsTooLongOn ⟦<R as Source>⟧ section.old section.new result Halt.TooLong }
 {
-    match index_section(alloc, section, strings, options) {
-        Ok(JudgedIndex::Good(index)) => Ok(JudgedIndex::Good(index)),
-        Ok(JudgedIndex::Bad(no)) => {
+    match index_section(alloc, section, strings, options)? {
+        JudgedIndex::Good(index) => Ok(JudgedIndex::Good(index)),
+        JudgedIndex::Bad(no) => {
             print_line(alloc, &no, out)?;
             Ok(JudgedIndex::Bad(no))
         }
-        Err(stop) => Err(Halt::from(stop)),
     }
 }

@@ -3,8 +3,8 @@
 //! [`judge_section`] gives the index of a good section, or prints why the section isn't good. From the index
 //! [`print_lookups`] and [`print_addresses`] print the answers at positions, [`print_files`] the files, [`print_sums`]
 //! whether the files have their listed MD5 sums, and [`print_table`] and [`print_path_table`] the section's table.
-//! [`print_checked`] prints the line of a check's answer, and [`print_stretches`] a line for each stretch of positions at which
-//! a table and a section answer differently.
+//! [`print_stretches`] prints a line for each stretch of positions at which a table and a section answer differently. The answer of a
+//! check is a line by itself.
 #![tactic(auto)]
 
 mod addresses;
@@ -21,7 +21,6 @@ mod stretch_lines;
 mod stretches;
 mod sums;
 mod table;
-mod verdict;
 
 pub use addresses::print_addresses;
 pub use digest::{Agreement, md5_agrees, sum_of};
@@ -31,4 +30,3 @@ pub use lookup::print_lookups;
 pub use stretches::{Stretches, print_stretches};
 pub use sums::{lists_sums, print_sums};
 pub use table::{print_path_table, print_table};
-pub use verdict::print_checked;

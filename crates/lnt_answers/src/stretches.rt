@@ -23,7 +23,7 @@ use lnt_compare::{DifferencesByPath, TableRead};
 use lnt_io::{Halt, Source, Status, print_line};
 use lnt_lines::Index;
 use lnt_records::{Paths, TableFault};
-use lnt_spans::{SpanSource, count_all};
+use lnt_spans::SpanSource;
 use lnt_table::{
     CheckedWithin, Coverage, IndexPaths, OfKind, PathDifferenceLine, Scope, TableNo, Verdict,
     differences_any, differences_by_path,
@@ -134,13 +134,7 @@ fn answer_if_none(scope: Scope, missed: u128, index: &Index<'_>) -> CheckedWithi
 {
     match scope {
         Scope::All => CheckedWithin::Checked(OfKind::Numbered(Verdict::Yes)),
-        Scope::Answered => {
-            let all = count_all(index.spans());
-            CheckedWithin::Covered(Coverage {
-                answered: all.saturating_sub(missed),
-                all,
-            })
-        }
+        Scope::Answered => CheckedWithin::Covered(Coverage::of(index, missed)),
     }
 }
 

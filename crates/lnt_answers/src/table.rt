@@ -1,20 +1,19 @@
 //! The address table of a good section.
 ghost use Rattle.std.specs.Prelude.{◌≡◌, ℕ, List, IfErr, IfOk, OnErr, OnOk};
 ghost use Rattle.std.specs.Io.KnownBytes.{Appends};
-ghost use Rattle.lnt_io.specs.Prefixes.{AppendsPrefix};
 ghost use Rattle.lnt_io.specs.Halts.{IsPrinting};
 ghost use Rattle.lnt_io.specs.declared.status.Status.TheVariants.{Done};
 ghost use Rattle.lnt_table.specs.ByPath.{told_path};
 ghost use Rattle.lnt_table.specs.Written.{BeginsTableOfUnits, IsTableOfUnits};
 ghost use Rattle.lnt_lines.specs.Indexed.{OfUnits};
-ghost use Rattle.lnt_answers.specs.PathTables.{BeginsPrintedTable, IsPrintedTable, operation_line};
+ghost use Rattle.lnt_answers.specs.PathTables.{BeginsPrintedTable, IsPrintedTable};
 ghost use Rattle.lnt_answers.specs.Stepping.{halt_of_write};
 
 use lnt_compare::PathTable;
 use lnt_io::{Halt, Status, print_line};
 use lnt_lines::Index;
 use lnt_records::{PathVersion, WriteStop};
-use lnt_spans::{Position, Version};
+use lnt_spans::Version;
 use lnt_table::{OperationLine, write_index, write_paths};
 use std::alloc::Global;
 use std::io::Write;
@@ -62,21 +61,11 @@ pub fn print_path_table<W: Write>(
     match write_paths(alloc, index, version, out) {
         Ok(PathTable::Written) => Ok(Status::Done),
         Ok(PathTable::OperationIndex(position)) => {
-            print_operation(alloc, position, out)?;
+            print_line(alloc, &OperationLine(position), out)?;
             Ok(Status::No)
         }
         Err(stop) => Err(halt_of(stop)),
     }
-}
-
-// Prints the line that says that a span begins or ends at this position, whose operation index isn't 0; if it stops, a prefix
-// of that line.
-fn print_operation<W: Write>(alloc: Global, position: Position, out: &mut W) -> Result<(), Halt>
-    ensures err { IfErr result IsPrinting }
-    ensures line { OnOk result (Appends (W.contents out.old) (W.contents out.new) (operation_line position)) }
-    ensures prefix { OnErr result (AppendsPrefix (W.contents out.old) (W.contents out.new) (operation_line position)) }
-{
-    print_line(alloc, &OperationLine(position), out)
 }
 
 // How printing ends if a table couldn't be written.

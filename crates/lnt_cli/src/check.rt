@@ -13,8 +13,7 @@ use crate::notes::Answered;
 use crate::question::options_of;
 use crate::session::Session;
 use crate::stop::FileStop;
-use lnt_answers::print_checked;
-use lnt_io::{Halt, Opener, Source, Status, Stop};
+use lnt_io::{Halt, Opener, Source, Status, Stop, print_line};
 use lnt_notes::Seen;
 use lnt_table::{CheckedWithin, Scope, check_within};
 use lnt_words::Judging;
@@ -43,7 +42,7 @@ impl<O: Opener, W: Write, N: Write> Session<'_, '_, '_, O, W, N> {
         let seen = Cell::new(Seen::nothing());
         let checked = judge_table(self.alloc, from, table, scope, self.opener, &seen)?;
         let name = String::from_str(self.alloc, table)?;
-        let printed = print_checked(self.alloc, &checked, self.out);
+        let printed = print_line(self.alloc, &checked, self.out);
         of_file(name, printed)?;
         let answered = Answered::of_check(&checked, table);
         self.tell(&answered, &seen.get(), from);

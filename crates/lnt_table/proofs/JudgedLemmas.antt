@@ -1,6 +1,7 @@
 -- What a comparison of a table of any version with a good section says of the two.
 use Rattle.std.proofs.Common.{◌≡◌, ◌∙◌, ◌-◌, ◌++◌, ℕ, List, [], Option, Some, None, IfSome, ap, append_assoc, arith, inl, inr, refl, subst, sym}
 use Rattle.std.specs.Prelude.{MatchOption}
+use Rattle.std.proofs.lemmas.Option.{IfSome_then}
 use Rattle.lnt_spans.specs.declared.difference.Difference.{Difference}
 use Rattle.lnt_spans.specs.declared.found.Found.{Found as FoundSpec}
 use Rattle.lnt_spans.specs.declared.position.Position.{Position}
@@ -48,11 +49,11 @@ use Rattle.lnt_table.specs.declared.within.Scope.TheVariants.{All, Answered}
 use Rattle.lnt_table.specs.AnyVersion.{IsTrueCheck, IsTrueCheckOfSection, told_paths}
 use Rattle.lnt_table.specs.ByPath.{indexed_path, path_at, told_path}
 use Rattle.lnt_table.specs.Headline.{told_rows}
-use Rattle.lnt_table.specs.Judged.{IsJudgedWith, covered_or, missed_in, part_check, part_checked, whole_checked, within_scope}
+use Rattle.lnt_table.specs.Judged.{IsJudgedWith, covered_or, missed_in, part_checked, whole_checked, within_scope}
 use Rattle.lnt_table.specs.Verdicts.{verdict_of}
-use Rattle.lnt_table.specs.Within.{IsMistakenOf, IsOfScope, IsRightOf, IsTrueOfSectionWithin, IsTrueWithin}
+use Rattle.lnt_table.specs.Within.{coverage_but, IsMistakenOf, IsOfScope, IsRightOf, IsTrueOfSectionWithin, IsTrueWithin}
 use Rattle.lnt_table.proofs.AnyLawLemmas.{names_differ}
-use Rattle.lnt_table.proofs.CheckLemmas.{both_known, compared_told, each_known, none_of_section, section_told, told_addresses, told_so}
+use Rattle.lnt_table.proofs.CheckLemmas.{compared_told, none_of_section, section_told, told_addresses, told_so}
 use Rattle.lnt_table.proofs.UnitPathLemmas.{told_by_units}
 
 -- ---- the comparison with an index
@@ -90,9 +91,7 @@ pub begun_by_path : (text more : Option (List ℕ)) (may_give may_still : ℕ) (
 begun_by_path text more may_give may_still first window version index selection spans outcome is passes here answers h =
     let line : List ℕ = line_text (path_column_names version) in
     first_taken text more may_give may_still first [] (λ bytes. IsJudgedWith index selection bytes (judged.ByPath outcome)) passes
-    (each_known more (λ rest. IsPathOutcome (line ++ (window ++ rest)) (λ version. spans_by_path version (indexed_path index) spans) outcome)
-    (λ rest. IsJudgedWith index selection (first ++ rest) (judged.ByPath outcome)) h
-    (λ rest o. subst (λ (bytes : List ℕ). IsJudgedWith index selection bytes (judged.ByPath outcome))
+    (IfSome_then more h (λ rest o. subst (λ (bytes : List ℕ). IsJudgedWith index selection bytes (judged.ByPath outcome))
     (sym (append_assoc line window rest) ∙ ap (λ (bytes : List ℕ). bytes ++ rest) (sym here))
     (pathed_with (line ++ (window ++ rest)) index selection spans outcome is
     (λ v begins. names_differ v version (one_beginning (line ++ (window ++ rest)) (column_names v) (path_column_names version) begins
@@ -211,25 +210,12 @@ within_told Answered line general options section table index (judged.ByPath (Ta
 abbrev pub Judges : Option (List ℕ) → Indexed → Judged → Type 0
 Judges table index told = OfUnits index (λ selection. IfSome table (λ text. IsJudgedWith index selection text told))
 
-pub any_told : (line general : List ℕ) (options : Options) (section table : Option (List ℕ)) (index : Indexed) (told : Judged)
-    → IfSome section (λ bytes. IsIndexOfSection line general options bytes index) → Judges table index told
-    → IfSome section (λ bytes. IfSome table (λ text. IsTrueCheck line general options bytes text (whole_checked told)))
-any_told line general options section table index told i h =
-    both_known section table (λ bytes. IsIndexOfSection line general options bytes index)
-    (λ bytes text. IsTrueCheck line general options bytes text (whole_checked told)) i
-    (λ bytes is. each_known table (λ text. IsJudgedWith index (selected options is.units) text told)
-    (λ text. IsTrueCheck line general options bytes text (whole_checked told)) (h (selected options is.units) is.index_is)
-    (λ text j. check_told line general options bytes text index told is j))
-
 pub scope_told : (scope : Scope) (line general : List ℕ) (options : Options) (section table : Option (List ℕ)) (index : Indexed)
     (told : Judged) (checked : CheckedWithin) → IfSome section (λ bytes. IsIndexOfSection line general options bytes index)
     → Judges table index told → OfUnits index (λ selection. checked ≡ within_scope scope told (addresses_answered (line_answer selection)))
     → IfSome section (λ bytes. IfSome table (λ text. IsTrueWithin scope line general options bytes text checked))
 scope_told scope line general options section table index told checked i h is_within =
-    both_known section table (λ bytes. IsIndexOfSection line general options bytes index)
-    (λ bytes text. IsTrueWithin scope line general options bytes text checked) i
-    (λ bytes is. each_known table (λ text. IsJudgedWith index (selected options is.units) text told)
-    (λ text. IsTrueWithin scope line general options bytes text checked) (h (selected options is.units) is.index_is)
+    IfSome_then section i (λ bytes is. IfSome_then table (h (selected options is.units) is.index_is)
     (λ text j. rw (is_within (selected options is.units) is.index_is)
     (within_told scope line general options bytes text index told is j)))
 
@@ -246,34 +232,28 @@ of_good line general options section index (judged.Numbered outcome) i = (
 )
 of_good line general options section index (judged.ByPath outcome) i = ((i.units, i.good), (i.units, i.good))
 
+-- what is so of the answer, and of all that says how much is answered
+covered_so : (IsSo : CheckedWithin → Type 0) (missed : Option ℕ) (all : ℕ) (checked : Checked) → IsSo (Told checked)
+    → ((coverage : Coverage) → IsSo (Covered coverage)) → IsSo (covered_or missed all checked)
+covered_so IsSo None all checked told covered = told
+covered_so IsSo (Some missed) all checked told covered = covered (coverage_but missed all)
+
 within_section : (line general : List ℕ) (options : Options) (section : List ℕ) (index : Indexed) (scope : Scope) (told : Judged) (all : ℕ)
     → IsIndexOfSection line general options section index
     → IsTrueOfSectionWithin line general options section (within_scope scope told all)
 within_section line general options section index All told all i = (of_good line general options section index told i).0
-within_section line general options section index Answered told all i = by_missed (missed_in told)
-  where
-    by_missed : (missed : Option ℕ) → IsTrueOfSectionWithin line general options section (covered_or missed all (part_checked told))
-    by_missed None = (of_good line general options section index told i).1
-    by_missed (Some missed) = (i.units, i.good)
-
-pub section_so : (line general : List ℕ) (options : Options) (section : Option (List ℕ)) (index : Indexed) (told : Judged)
-    → IfSome section (λ bytes. IsIndexOfSection line general options bytes index)
-    → IfSome section (λ bytes. IsTrueCheckOfSection line general options bytes (whole_checked told))
-section_so line general options section index told i =
-    each_known section (λ bytes. IsIndexOfSection line general options bytes index)
-    (λ bytes. IsTrueCheckOfSection line general options bytes (whole_checked told)) i
-    (λ bytes is. (of_good line general options bytes index told is).0)
+within_section line general options section index Answered told all i =
+    covered_so (IsTrueOfSectionWithin line general options section) (missed_in told) all (part_checked told)
+    (of_good line general options section index told i).1 (λ coverage. (i.units, i.good))
 
 pub section_within : (line general : List ℕ) (options : Options) (section : Option (List ℕ)) (index : Indexed) (scope : Scope) (told : Judged)
     (all : ℕ) → IfSome section (λ bytes. IsIndexOfSection line general options bytes index)
     → IfSome section (λ bytes. IsTrueOfSectionWithin line general options bytes (within_scope scope told all))
 section_within line general options section index scope told all i =
-    each_known section (λ bytes. IsIndexOfSection line general options bytes index)
-    (λ bytes. IsTrueOfSectionWithin line general options bytes (within_scope scope told all)) i
-    (λ bytes is. within_section line general options bytes index scope told all is)
+    IfSome_then section i (λ bytes is. within_section line general options bytes index scope told all is)
 
 -- no such answer has a reason of the section
-pub not_of_section : (told : Judged) (reason : SectionNo)
+not_of_section : (told : Judged) (reason : SectionNo)
     → (whole_checked told ≡ Numbered (No (no.Section reason)) → ⊥) × (part_checked told ≡ Numbered (No (no.Section reason)) → ⊥)
 not_of_section (judged.Numbered outcome) reason = (
   λ e. none_of_section (whole_of outcome) reason cc,
@@ -283,18 +263,13 @@ not_of_section (judged.ByPath outcome) reason = (λ e. cc e, λ e. cc e)
 
 pub not_within : (scope : Scope) (told : Judged) (all : ℕ) (reason : SectionNo)
     → within_scope scope told all ≡ Told (Numbered (No (no.Section reason))) → ⊥
-not_within All told all reason e = (not_of_section told reason).0 cc
-not_within Answered told all reason e = by_missed (missed_in told) e
-  where
-    by_missed : (missed : Option ℕ) → covered_or missed all (part_checked told) ≡ Told (Numbered (No (no.Section reason))) → ⊥
-    by_missed None e = (not_of_section told reason).1 cc
-    by_missed (Some missed) e = cc e
+not_within All told all reason = λ e. (not_of_section told reason).0 cc
+not_within Answered told all reason =
+    covered_so (λ checked. checked ≡ Told (Numbered (No (no.Section reason))) → ⊥) (missed_in told) all (part_checked told)
+    (λ e. (not_of_section told reason).1 cc) (λ coverage e. cc e)
 
 -- only in the scope of answered positions it is said how much is answered
-of_part : (checked : CheckedWithin) → IsOfScope checked Answered
-of_part (Told checked) = tt
-of_part (Covered coverage) = tt
-
 pub of_scope : (scope : Scope) (told : Judged) (all : ℕ) → IsOfScope (within_scope scope told all) scope
 of_scope All told all = tt
-of_scope Answered told all = of_part (part_check told all)
+of_scope Answered told all =
+    covered_so (λ checked. IsOfScope checked Answered) (missed_in told) all (part_checked told) tt (λ coverage. tt)

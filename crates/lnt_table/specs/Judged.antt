@@ -1,5 +1,5 @@
 -- What the bodies of this crate say of a comparison of a table of any version with a good section. No public contract speaks of it.
-use Rattle.std.specs.Prelude.{◌≢◌, ℕ, ◌-◌, List, None, Option, Some}
+use Rattle.std.specs.Prelude.{◌≢◌, ℕ, List, None, Option, Some}
 use Rattle.lnt_spans.specs.declared.difference.Difference.{Difference}
 use Rattle.lnt_spans.specs.Merged.{missed_of}
 use Rattle.lnt_sequences.specs.Sequences.{line_answer, Selection}
@@ -21,6 +21,7 @@ use Rattle.lnt_table.specs.declared.within.Scope.{Scope}
 use Rattle.lnt_table.specs.declared.within.Scope.TheVariants.{All, Answered}
 use Rattle.lnt_table.specs.ByPath.{told_path}
 use Rattle.lnt_table.specs.Verdicts.{verdict_of}
+use Rattle.lnt_table.specs.Within.{coverage_but}
 
 -- what the comparison of a table of either kind comes to
 abbrev pub Judged : Type 0
@@ -58,7 +59,7 @@ missed_in (judged.ByPath outcome) = missed_in_outcome outcome
 -- of the section's addresses, of which there are this many, the table answers at all but the missed ones
 abbrev pub covered_or : Option ℕ → ℕ → Checked → CheckedWithin
 covered_or None all checked = Told checked
-covered_or (Some missed) all checked = Covered (record { answered = all - missed; all = all })
+covered_or (Some missed) all checked = Covered (coverage_but missed all)
 
 abbrev pub part_check : Judged → ℕ → CheckedWithin
 part_check judged all = covered_or (missed_in judged) all (part_checked judged)

@@ -1,7 +1,7 @@
 -- What the answers of `check_within` say of a section and an address table of any version.
 --     line, general    the bytes of .debug_line_str and of .debug_str
 --     section, table   the bytes of .debug_line, and those of the address table
-use Rattle.std.specs.Prelude.{◌≢◌, ◌⊎◌, Bool, false, true, ℕ, List, Option}
+use Rattle.std.specs.Prelude.{◌≢◌, ◌⊎◌, ◌-◌, Bool, false, true, ℕ, List, Option}
 use Rattle.lnt_spans.specs.declared.position.Position.{Position}
 use Rattle.lnt_spans.specs.Partial.{AreCounts, IsFirstMistake, IsRightWherever}
 use Rattle.lnt_compare.specs.declared.outcome.Compared.TheVariants.{Same, Fault, Differs}
@@ -33,6 +33,10 @@ IsRightOf kind section table coverage = IsTableWhere kind.format kind.answers se
 abbrev pub IsMistakenOf : {V X Y D : Type 0} → TableKind V X Y D → (V → Position → Option Y) → List ℕ → D → Type 0
 IsMistakenOf kind section table mistake =
     IsTableWhere kind.format kind.answers section table (λ by_section by_table. IsFirstMistake by_table by_section (kind.stretch mistake))
+
+-- how much of a section a table answers that misses so many of its addresses
+abbrev pub coverage_but : ℕ → ℕ → Coverage
+coverage_but missed all = record { answered = all - missed; all = all }
 
 -- ---- the answers
 

@@ -6,13 +6,13 @@ ghost use Rattle.lnt_table.specs.AnyVersion.{IsTrueCheck, IsTrueCheckOfSection};
 ghost use Rattle.lnt_table.specs.FaultTexts.{checked_text};
 ghost use Rattle.lnt_io.specs.Stopping.{IsEitherTooLongOn, CountsFailures};
 
-use crate::judged::judge_index;
 use crate::kinds::OfKind;
 use crate::path_lines::PathDifferenceLine;
 use crate::verdict::{TableNo, Verdict};
+use crate::within::{CheckedWithin, Scope, check_within};
 use lnt_compare::{Compared, DifferenceByPath};
 use lnt_io::{Source, Stop};
-use lnt_lines::{JudgedIndex, Options, index_section};
+use lnt_lines::Options;
 use lnt_wire::Strings;
 use std::alloc::Global;
 use std::fmt;
@@ -65,10 +65,8 @@ pub fn check_any<R: Source, T: Source>(
     ensures failures { CountsFailures ⟦<R as Source>⟧ section.old section.new ⟦<T as Source>⟧ table.old table.new result Stop.Read }
     ensures too_long { IsEitherTooLongOn ⟦<R as Source>⟧ section.old section.new ⟦<T as Source>⟧ table.old table.new result Stop.TooLong }
 {
-    let index = match index_section(alloc, section, strings, options)? {
-        JudgedIndex::Good(index) => index,
-        JudgedIndex::Bad(no) => return Ok(OfKind::Numbered(Verdict::No(TableNo::Section(no)))),
-    };
-    let judged = judge_index(alloc, table, &index)?;
-    Ok(judged.whole())
+    match check_within(alloc, section, strings, table, options, Scope::All)? {
+        CheckedWithin::Checked(checked) => Ok(checked),
+        CheckedWithin::Covered(_) => unreachable!(),
+    }
 }

@@ -1,18 +1,15 @@
 //! Checks a section against an address table.
 ghost use Rattle.std.specs.Prelude.{◌≡◌, ◌-◌, ◌^◌, ◌<◌, IfOk, IfSome};
 ghost use Rattle.lnt_lines.specs.declared.no.No.{No as SectionNo};
-ghost use Rattle.lnt_lines.specs.Indexed.{OfUnits};
 ghost use Rattle.lnt_io.specs.declared.stop.Stop.TheVariants.{Read, TooLong};
-ghost use Rattle.lnt_compare.specs.Comparisons.{IsComparisonOf, in_versions, tables_by_number};
-ghost use Rattle.lnt_sequences.specs.Sequences.{line_answer};
 ghost use Rattle.lnt_table.specs.Headline.{IsTrueOfSection, IsTrueVerdict};
-ghost use Rattle.lnt_io.specs.Stopping.{IsEitherTooLongOn, CountsFailure, CountsFailures, IsTooLongOn};
+ghost use Rattle.lnt_io.specs.Stopping.{CountsFailures, IsEitherTooLongOn};
 
-use crate::verdict::{TableNo, Verdict, verdict_of};
-use lnt_compare::{Compared, compare_table};
+use crate::by_path::check_any;
+use crate::kinds::OfKind;
+use crate::verdict::{TableNo, Verdict};
 use lnt_io::{Source, Stop};
-use lnt_lines::{Index, JudgedIndex, Options, index_section};
-use lnt_spans::Difference;
+use lnt_lines::Options;
 use lnt_wire::Strings;
 use std::alloc::Global;
 
@@ -68,26 +65,8 @@ pub fn check<R: Source, T: Source>(
     ensures failures { CountsFailures ⟦<R as Source>⟧ section.old section.new ⟦<T as Source>⟧ table.old table.new result Stop.Read }
     ensures too_long { IsEitherTooLongOn ⟦<R as Source>⟧ section.old section.new ⟦<T as Source>⟧ table.old table.new result Stop.TooLong }
 {
-    let index = match index_section(alloc, section, strings, options)? {
-        JudgedIndex::Good(index) => index,
-        JudgedIndex::Bad(no) => return Ok(Verdict::No(TableNo::Section(no))),
-    };
-    let compared = compare_index(alloc, table, &index)?;
-    Ok(verdict_of(compared))
-}
-
-// Compares the table with the spans of the index. Neither is held as a list.
-fn compare_index<T: Source>(
-    alloc: Global,
-    table: &mut T,
-    index: &Index<'_>,
-) -> Result<Compared<Difference>, Stop>
-    requires { T.failures table.old < 2 ^ 64 - 1 }
-    ensures ok { IfOk result (λ compared. OfUnits index.now (λ selection. IfSome (T.remaining table.old) (λ text.
-        IsComparisonOf tables_by_number (in_versions (line_answer selection)) text compared))) }
-    ensures failures { CountsFailure ⟦<T as Source>⟧ table.old table.new result Stop.Read }
-    ensures too_long { IsTooLongOn ⟦<T as Source>⟧ table.old table.new result Stop.TooLong }
-{
-    let compared = compare_table(alloc, table, index.spans())?;
-    Ok(compared)
+    match check_any(alloc, section, strings, table, options)? {
+        OfKind::Numbered(verdict) => Ok(verdict),
+        OfKind::ByPath(_) => Ok(Verdict::No(TableNo::TableHeader)),
+    }
 }

@@ -15,12 +15,12 @@ ghost use Rattle.lnt_io.specs.Stopping.{CountsFailure, IsTooLongOn};
 
 use crate::kinds::OfKind;
 use lnt_compare::{
-    DifferencesByPath, Differing, HeldSpan, HeldTable, Remaining, TableStart, compare_all,
+    DifferencesByPath, Differing, HeldSpan, HeldTable, Remaining, TableRead, TableStart,
     differ_lines, differ_records, hold_table,
 };
 use lnt_io::{Source, Stop};
 use lnt_lines::{Index, Spans};
-use lnt_records::{PathVersion, header_of};
+use lnt_records::{PathVersion, TableFault, header_of};
 use lnt_spans::{SpanList, SpanSource, Version};
 use std::alloc::{AllocError, Global};
 
@@ -47,8 +47,10 @@ pub fn differences<'i, T: Source>(
     ensures failures { CountsFailure ⟦<T as Source>⟧ table.old table.new result Stop.Read }
     ensures too_long { IsTooLongOn ⟦<T as Source>⟧ table.old table.new result Stop.TooLong }
 {
-    let differing = compare_all(alloc, table, index.spans())?;
-    Ok(differing)
+    match differences_any(alloc, table, index)? {
+        OfKind::Numbered(differing) => Ok(differing),
+        OfKind::ByPath(_) => Ok(TableRead::Fault(TableFault::Header)),
+    }
 }
 
 /// The answer of `differences_any`.

@@ -6,8 +6,8 @@ ghost use Rattle.lnt_io.specs.declared.stop.Stop.TheVariants.{Read, TooLong};
 ghost use Rattle.lnt_sequences.specs.Sequences.{line_answer};
 ghost use Rattle.lnt_spans.specs.Counts.{addresses_answered};
 ghost use Rattle.lnt_table.specs.FaultTexts.{within_text};
-ghost use Rattle.lnt_table.specs.Judged.{part_check, within_scope};
-ghost use Rattle.lnt_table.specs.Within.{IsOfScope, IsTrueOfSectionWithin, IsTrueWithin, scope_in};
+ghost use Rattle.lnt_table.specs.Judged.{within_scope};
+ghost use Rattle.lnt_table.specs.Within.{IsOfScope, IsTrueOfSectionWithin, IsTrueWithin, coverage_but, scope_in};
 ghost use Rattle.lnt_io.specs.Stopping.{IsEitherTooLongOn, CountsFailures};
 
 use crate::by_path::Checked;
@@ -50,6 +50,20 @@ pub struct Coverage {
     pub answered: u128,
     /// The number of those at which the section does.
     pub all: u128,
+}
+
+impl Coverage {
+    /// How much of the section of an index a table answers that misses this many of its addresses.
+    pub fn of(index: &Index<'_>, missed: u128) -> Coverage
+        ensures covered { OfUnits index.now (λ selection. result ≡ coverage_but missed (addresses_answered (line_answer selection))) }
+        ensures some { result ≡ coverage_but missed result.all }
+    {
+        let all = count_all(index.spans());
+        Coverage {
+            answered: all.saturating_sub(missed),
+            all,
+        }
+    }
 }
 
 /// The answer of `check_within`.
@@ -126,21 +140,9 @@ fn within(judged: Judged, scope: Scope, index: &Index<'_>) -> CheckedWithin
 {
     match scope {
         Scope::All => CheckedWithin::Checked(judged.whole()),
-        Scope::Answered => part_of(judged, index),
+        Scope::Answered => match judged.missed() {
+            Some(missed) => CheckedWithin::Covered(Coverage::of(index, missed)),
+            None => CheckedWithin::Checked(judged.part()),
+        },
     }
-}
-
-// The answer at the positions at which the table answers.
-fn part_of(judged: Judged, index: &Index<'_>) -> CheckedWithin
-    ensures part { OfUnits index.now (λ selection. result ≡ part_check judged (addresses_answered (line_answer selection))) }
-    ensures some { (all : ℕ) × (result ≡ part_check judged all) }
-{
-    let Some(missed) = judged.missed() else {
-        return CheckedWithin::Checked(judged.part());
-    };
-    let all = count_all(index.spans());
-    CheckedWithin::Covered(Coverage {
-        answered: all.saturating_sub(missed),
-        all,
-    })
 }
