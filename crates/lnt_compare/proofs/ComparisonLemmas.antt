@@ -1,71 +1,243 @@
--- What a comparison knows after one more record, and its result.
-use Rattle.std.proofs.Common.{◌≡◌, ◌∙◌, ℕ, ◌+◌, List, [], ◌∷◌, ◌++◌, length-append, refl}
-use Rattle.std.proofs.Common.{sym, arith}
-use Rattle.lnt_spans.specs.declared.answer.Version.{Version}
+-- What a comparison knows after one more record, after lines that were passed, and in the end, by number or by path.
+use Rattle.std.proofs.Common.{◌≡◌, ◌∙◌, ℕ, ◌+◌, List, [], ◌∷◌, ◌++◌, inl, inr, length, length-append, map, None, Option, refl, subst}
+use Rattle.std.proofs.Common.{ap, append-nil, append_assoc, sym, arith}
+use Rattle.std.specs.List.{AllZip}
+use Rattle.std.specs.Option.{option_map}
+use Rattle.lnt_spans.specs.declared.answer.Answer.{Answer}
 use Rattle.lnt_spans.specs.declared.position.Position.{Position}
-use Rattle.lnt_spans.specs.declared.difference.Difference.{Difference}
 use Rattle.lnt_spans.specs.declared.span.Span.{Span}
-use Rattle.lnt_spans.specs.Comparing.{Compares}
-use Rattle.lnt_spans.specs.declared.found.Found.{Found as FoundSpec}
-use Rattle.lnt_spans.specs.Merged.{AreFound}
-use Rattle.lnt_spans.specs.Spans.{AreInOrder, span_answer, version_answer}
-use Rattle.lnt_spans.specs.Stretches.{stretch_of}
+use Rattle.lnt_spans.specs.Comparing.{end_of}
+use Rattle.lnt_spans.specs.Merged.{BeginFrom, HasMerged, HasOneMore, answer_told, end_of_records}
+use Rattle.lnt_spans.specs.Positions.{IsAtMost, IsBelow}
+use Rattle.lnt_spans.specs.Spans.{AreInOrder, span_answer}
+use Rattle.lnt_spans.proofs.AnsweringLaws.{back_in_order, prefix_in_order}
 use Rattle.lnt_spans.proofs.FoundLaws.{found_so}
+use Rattle.lnt_spans.proofs.MergedLemmas.{merged_past}
+use Rattle.lnt_spans.proofs.PassedLaws.{answer_below, answer_from, begin_after}
+use Rattle.lnt_spans.proofs.PositionLaws.{at_most_trans, below_at_most, below_is_at_most, order_cases}
 use Rattle.lnt_compare.specs.declared.comparison.Comparison.{Comparison}
-use Rattle.lnt_compare.specs.declared.outcome.TableRead.TheVariants.{Table}
-use Rattle.lnt_compare.specs.Outcomes.{IsOutcome}
-use Rattle.lnt_compare.specs.Progress.{Judges}
-use Rattle.lnt_records.specs.Table.{Fields, IsSpanRecord, RecordsOf, by_number, column_names}
-use Rattle.lnt_records.proofs.TableLaws.{table_push}
+use Rattle.lnt_compare.specs.declared.outcome.TableRead.TheVariants.{Fault, Table}
+use Rattle.lnt_compare.specs.Comparisons.{TableKind}
+use Rattle.lnt_compare.specs.Joining.{LeaveOff}
+use Rattle.lnt_compare.specs.Outcomes.{IsOutcomeOf, Outcome}
+use Rattle.lnt_compare.specs.Passing.{AreLinesOf}
+use Rattle.lnt_compare.specs.Progress.{Comes, HasCompared, HasPassed, HasPushed, HasTaken, IsPast, Judges}
+use Rattle.lnt_compare.proofs.KindLaws.{KindLaws, ToldLaws}
+use Rattle.lnt_records.specs.declared.fault.TableFault.{TableFault}
+use Rattle.lnt_records.specs.declared.fault.TableFault.TheVariants as fault
+use Rattle.lnt_records.specs.declared.record.RecordFault.{RecordFault}
+use Rattle.lnt_records.specs.Faults.{IsFaultIn, IsFaultyIn}
+use Rattle.lnt_records.specs.Passing.{AreLinesIn}
+use Rattle.lnt_records.specs.Progress.{IsRecordFault, fault_at}
+use Rattle.lnt_records.specs.Reading.{IsReadAs}
+use Rattle.lnt_records.specs.Table.{BeginsWith, Fields, IsTableIn, TableFormat}
+use Rattle.lnt_records.specs.Written.{LineFormat, lines_of}
+use Rattle.lnt_records.proofs.LineLaws.{lines_append}
+use Rattle.lnt_records.proofs.TableLaws.{faulty_at, refused, table_order, table_push}
 
--- ---- one more record
+-- ---- one more record, and what the table answers
 
--- after the header alone
-pub judges_header : {S : Type 0} (to_come : S → List Span → Type 0) (comparison : Comparison S) (section : List Span) → comparison.count ≡ 1
-    → comparison.merge.version ≡ comparison.version → Compares to_come comparison.merge section []
-    → Judges to_come comparison section (column_names comparison.version ∷ [])
-judges_header to_come comparison section count version c = record {
-  table = [];
-  is_table = (refl, record { each = tt; in_order = tt });
-  count = count;
-  version = version;
-  compares = c;
+-- a record after those that give no answer at p
+answer_push_none : {V X Y D : Type 0} (kind : TableKind V X Y D) (end : List X → Position) (laws : KindLaws kind end) (table more : List X)
+    (p : Position) → kind.answers table p ≡ None → kind.answers (table ++ more) p ≡ kind.answers more p
+answer_push_none kind end laws [] more p e = refl
+answer_push_none kind end laws (r ∷ table) more p e = elim (order_cases p (laws.low r)) [
+  | inl before ↦ laws.before r (table ++ more) p before
+      ∙ answer_push_none kind end laws table more p (sym (laws.before r table p before) ∙ e)
+  | inr from ↦ elim (order_cases p (laws.high r)) [
+    | inl under ↦ let here = laws.within r table p from under in absurd (cc (here, e))
+    | inr over ↦ laws.after r (table ++ more) p over
+        ∙ answer_push_none kind end laws table more p (sym (laws.after r table p over) ∙ e)
+  ]
+]
+
+-- a record that begins after p
+answer_push_before : {V X Y D : Type 0} (kind : TableKind V X Y D) (end : List X → Position) (laws : KindLaws kind end) (table : List X)
+    (span : X) (p : Position) → IsBelow p (laws.low span) → kind.answers (table ++ span ∷ []) p ≡ kind.answers table p
+answer_push_before kind end laws [] span p h = laws.before span [] p h
+answer_push_before kind end laws (r ∷ table) span p h = elim (order_cases p (laws.low r)) [
+  | inl before ↦ laws.before r (table ++ span ∷ []) p before ∙ answer_push_before kind end laws table span p h
+      ∙ sym (laws.before r table p before)
+  | inr from ↦ elim (order_cases p (laws.high r)) [
+    | inl under ↦ laws.within r (table ++ span ∷ []) p from under ∙ sym (laws.within r table p from under)
+    | inr over ↦ laws.after r (table ++ span ∷ []) p over ∙ answer_push_before kind end laws table span p h
+        ∙ sym (laws.after r table p over)
+  ]
+]
+
+one_more : {V X Y D : Type 0} (kind : TableKind V X Y D) (end : List X → Position) (laws : KindLaws kind end) (at : Position)
+    (table : List X) (span : X) → Comes at (laws.low span) (laws.high span)
+    → ((p : Position) → IsAtMost at p → kind.answers table p ≡ None)
+    → HasOneMore (kind.answers table) (kind.answers (table ++ span ∷ [])) at (laws.low span) (laws.high span) (laws.answer span)
+one_more kind end laws at table span h ended = record {
+  before = λ p k. answer_push_before kind end laws table span p (below_at_most k h.past);
+  gap = λ p k l. answer_push_before kind end laws table span p l ∙ ended p k;
+  says = λ p k l. answer_push_none kind end laws table (span ∷ []) p (ended p (at_most_trans h.past k)) ∙ laws.within span [] p k l;
+  ended = λ p k. answer_push_none kind end laws table (span ∷ []) p
+      (ended p (at_most_trans h.past (at_most_trans (below_is_at_most h.holds) k))) ∙ laws.after span [] p k ∙ laws.none p;
 }
 
-pub record_taken : {S : Type 0} (to_come : S → List Span → Type 0) (old new : Comparison S) (section : List Span) (records : List Fields)
-    (fields : Fields) (span : Span) → (j : Judges to_come old section records)
-    → IsSpanRecord old.version fields span → AreInOrder (j.table ++ span ∷ []) → new.version ≡ old.version → new.count ≡ old.count + 1
-    → new.merge.version ≡ old.merge.version
-    → ((spans table : List Span) → Compares to_come old.merge spans table → Compares to_come new.merge spans (table ++ span ∷ []))
-    → (k : Judges to_come new section (records ++ fields ∷ [])) × (k.table ≡ j.table ++ span ∷ [])
-record_taken to_come old new section records fields span j s o same count version step = (
-  record {
-    table = j.table ++ span ∷ [];
-    is_table = rw same (table_push by_number old.version records j.table fields span j.is_table s o);
-    count = omega (arith, j.count, count, length-append records (fields ∷ []));
-    version = version ∙ j.version ∙ sym same;
-    compares = step section j.table j.compares;
-  },
-  refl,
-)
+pub record_taken : {S D M V X Y : Type 0} (to_come : S → List Span → Type 0) (kind : TableKind V X Y D) (end : List X → Position)
+    (laws : KindLaws kind end) (tell : Answer → Y) (version : V) (old new : Comparison S D M) (section : List Span) (records : List Fields)
+    (fields : Fields) (span : X) → Judges to_come kind end tell version old section records → kind.format.Says version fields span
+    → HasPushed to_come tell kind.stretch old new (laws.low span) (laws.high span) (laws.answer span)
+    → Judges to_come kind end tell version new section (records ++ fields ∷ [])
+record_taken to_come kind end laws tell version old new section records fields span j says push = record {
+  table = j.table ++ span ∷ [];
+  is_table = table_push kind.format version records j.table fields span j.is_table says
+      (laws.push j.table span (table_order kind.format version records j.table j.is_table)
+      (subst (λ (p : Position). Comes p (laws.low span) (laws.high span)) j.at push.comes));
+  count = omega (arith, j.count, push.count, length-append records (fields ∷ []));
+  at = push.at ∙ sym (laws.ends j.table span);
+  merged = push.merged section (kind.answers j.table) (kind.answers (j.table ++ span ∷ [])) j.merged
+      (one_more kind end laws (end_of_records old.merge) j.table span push.comes j.merged.ended);
+}
+
+-- ---- a record that is faulty
+
+-- What `TakesRecords` says of the fault of a record after these.
+abbrev pub IsRefused : {V X : Type 0} → TableFormat V X → List Fields → Fields → TableFault → Type 0
+IsRefused format records fields told = (whole : Fields) (bytes : List ℕ) → IsReadAs fields whole → BeginsWith bytes (records ++ whole ∷ [])
+    → IsFaultIn format bytes told
+
+pub record_refused : {V X Y D : Type 0} (kind : TableKind V X Y D) (end : List X → Position) → KindLaws kind end → (version : V)
+    (table : List X) (records : List Fields) (fields : Fields) (number : ℕ) (found : RecordFault) (told : TableFault)
+    → IsTableIn kind.format version records table → number ≡ length records
+    → IsRecordFault kind.format.columns (length (kind.format.names version)) fields found → told ≡ fault_at number found
+    → IsRefused kind.format records fields told
+record_refused kind end laws version table records fields number found told t is h e =
+    refused kind.format laws.format version records table fields told t
+    (subst (λ (f : TableFault). IsFaultyIn kind.format version table (length records) fields f)
+    (ap (λ (n : ℕ). fault_at n found) (sym is) ∙ sym e) (faulty_at kind.format version table (length records) fields found h))
+
+pub order_refused : {V X Y D : Type 0} (kind : TableKind V X Y D) (end : List X → Position) (laws : KindLaws kind end) (version : V)
+    (at : Position) (table : List X) (records : List Fields) (fields : Fields) (span : X) (number : ℕ)
+    → IsTableIn kind.format version records table → number ≡ length records → at ≡ end table → kind.format.Says version fields span
+    → (Comes at (laws.low span) (laws.high span) → ⊥) → IsRefused kind.format records fields (fault.Order number)
+order_refused kind end laws version at table records fields span number t is ends says not =
+    refused kind.format laws.format version records table fields (fault.Order number) t (
+      is,
+      span,
+      says,
+      λ order. not (subst (λ (p : Position). Comes p (laws.low span) (laws.high span)) (sym ends) (laws.pushed table span order)),
+    )
+
+-- ---- after records with which both sides begin
+
+past_merged : {S D M V X Y : Type 0} (to_come : S → List Span → Type 0) (kind : TableKind V X Y D) (end : List X → Position)
+    (tell : Answer → Y) (told : Span → X) → ToldLaws kind end tell told → (spans : S) (comparison : Comparison S D M) (at : Position)
+    (count : ℕ) (passed list : List Span) → IsPast to_come spans comparison at count → to_come spans list → AreInOrder (passed ++ list)
+    → at ≡ end_of passed → HasMerged to_come tell kind.stretch comparison.merge (passed ++ list) (kind.answers (map told passed))
+past_merged to_come kind end tell told laws spans comparison at count passed list past coming order ends =
+    merged_past to_come tell kind.stretch comparison.merge (passed ++ list) (kind.answers (map told passed)) past.gap past.mistake past.missed
+    (λ p h. laws.answers passed p ∙ ap (option_map tell) (none p (subst (λ (q : Position). IsAtMost q p) is h)))
+    (λ p h. ap (option_map tell) (answer_below passed list p order (subst (λ (q : Position). IsBelow p q) is h)) ∙ sym (laws.answers passed p))
+    list (past.ahead list coming) (back_in_order passed list order)
+    (subst (λ (q : Position). BeginFrom q list) (sym is) (begin_after passed list order))
+    (λ p h. answer_from passed list p order (subst (λ (q : Position). IsAtMost q p) is h))
+  where
+    is : end_of_records comparison.merge ≡ end_of passed
+    is = past.at_is ∙ ends
+
+    none : (p : Position) → IsAtMost (end_of passed) p → span_answer passed p ≡ None
+    none p h = ap (λ (xs : List Span). span_answer xs p) (sym (append-nil passed))
+        ∙ answer_from passed [] p (subst AreInOrder (sym (append-nil passed)) (prefix_in_order passed list order)) h
+
+pub judges_past : {S D M V X Y : Type 0} (to_come : S → List Span → Type 0) (kind : TableKind V X Y D) (end : List X → Position)
+    (tell : Answer → Y) (told : Span → X) → ToldLaws kind end tell told → (version : V) (spans : S) (comparison : Comparison S D M)
+    (at : Position) (count : ℕ) (passed list : List Span) (records : List Fields) → IsPast to_come spans comparison at count
+    → to_come spans list → AreInOrder (passed ++ list) → at ≡ end_of passed → AllZip (kind.format.Says version) records (map told passed)
+    → count ≡ length records + 1
+    → Judges to_come kind end tell version comparison (passed ++ list) (kind.format.names version ∷ records)
+judges_past to_come kind end tell told laws version spans comparison at count passed list records past coming order ends each few = record {
+  table = map told passed;
+  is_table = (refl, record { each = each; in_order = laws.order passed (prefix_in_order passed list order) });
+  count = omega (arith, past.count_is, few);
+  at = past.at_is ∙ ends ∙ sym (laws.ends passed);
+  merged = past_merged to_come kind end tell told laws spans comparison at count passed list past coming order ends;
+}
+
+-- after the header alone
+pub judges_none : {S D M V X Y : Type 0} (to_come : S → List Span → Type 0) (kind : TableKind V X Y D) (end : List X → Position)
+    (tell : Answer → Y) (told : Span → X) → ToldLaws kind end tell told → (version : V) (spans : S) (comparison : Comparison S D M)
+    (list : List Span) → IsPast to_come spans comparison (record { address = 0; op = 0 }) 1 → to_come spans list → AreInOrder list
+    → Judges to_come kind end tell version comparison list (kind.format.names version ∷ [])
+judges_none to_come kind end tell told laws version spans comparison list past coming order =
+    judges_past to_come kind end tell told laws version spans comparison _ 1 [] list [] past coming order refl tt refl
+
+pub passed_past : {S D M V X Y : Type 0} (to_come : S → List Span → Type 0) (kind : TableKind V X Y D) (plain : LineFormat V X)
+    (end : List X → Position) (tell : Answer → Y) (told : Span → X) → ToldLaws kind end tell told → (version : V) (spans : S)
+    (comparison : Comparison S D M) (list table : List Span) (text : List ℕ) (count : ℕ) (at : Position)
+    → IsPast to_come spans comparison at count → AreLinesOf kind.format plain told version text table count at
+    → LeaveOff tell (to_come spans) list table → HasPassed to_come kind plain end tell version comparison list text
+passed_past to_come kind plain end tell told laws version spans comparison list table text count at past lines off = record {
+  records = lines.lines.records;
+  text_is = lines.lines.text_is;
+  list = table ++ off.rest;
+  alike = off.same;
+  judged = judges_past to_come kind end tell told laws version spans comparison at count table off.rest lines.lines.records past off.left
+      off.order lines.end_is lines.lines.each lines.lines.count_is;
+}
+
+-- ---- more records
+
+pub taken_none : {S D M V X Y : Type 0} (to_come : S → List Span → Type 0) (kind : TableKind V X Y D) (end : List X → Position)
+    (tell : Answer → Y) (version : V) (comparison : Comparison S D M) → HasTaken to_come kind end tell version comparison comparison []
+taken_none to_come kind end tell version comparison = record {
+  count = omega arith;
+  judged = λ section records j.
+      subst (λ (r : List Fields). Judges to_come kind end tell version comparison section r) (sym (append-nil records)) j;
+}
+
+pub taken_more : {S D M V X Y : Type 0} (to_come : S → List Span → Type 0) (kind : TableKind V X Y D) (end : List X → Position)
+    (laws : KindLaws kind end) (tell : Answer → Y) (version : V) (old now new : Comparison S D M) (more : List Fields) (fields : Fields)
+    (span : X) → HasTaken to_come kind end tell version old now more → kind.format.Says version fields span
+    → HasPushed to_come tell kind.stretch now new (laws.low span) (laws.high span) (laws.answer span)
+    → HasTaken to_come kind end tell version old new (more ++ fields ∷ [])
+taken_more to_come kind end laws tell version old now new more fields span taken says push = record {
+  count = omega (arith, taken.count, push.count, length-append more (fields ∷ []));
+  judged = λ section records j.
+      subst (λ (r : List Fields). Judges to_come kind end tell version new section r) (append_assoc records more (fields ∷ []))
+      (record_taken to_come kind end laws tell version now new section (records ++ more) fields span (taken.judged section records j) says push);
+}
+
+pub passed_more : {S D M V X Y : Type 0} (to_come : S → List Span → Type 0) (kind : TableKind V X Y D) (plain : LineFormat V X)
+    (end : List X → Position) (tell : Answer → Y) (version : V) (old new : Comparison S D M) (section : List Span) (text line : List ℕ)
+    (more : List Fields) → HasPassed to_come kind plain end tell version old section text → line ≡ lines_of plain.line more
+    → HasTaken to_come kind end tell version old new more → HasPassed to_come kind plain end tell version new section (text ++ line)
+passed_more to_come kind plain end tell version old new section text line more h e taken = record {
+  records = h.records ++ more;
+  text_is = ap (λ (t : List ℕ). t ++ line) h.text_is ∙ ap (λ (t : List ℕ). lines_of plain.line h.records ++ t) e
+      ∙ sym (lines_append plain.line h.records more);
+  list = h.list;
+  alike = h.alike;
+  judged = taken.judged h.list (kind.format.names version ∷ h.records) h.judged;
+}
+
+-- the lines that were passed
+pub lines_in : {S D M V X Y : Type 0} (to_come : S → List Span → Type 0) (kind : TableKind V X Y D) (plain : LineFormat V X)
+    (end : List X → Position) (tell : Answer → Y) (version : V) (comparison : Comparison S D M) (section : List Span) (text : List ℕ)
+    → (h : HasPassed to_come kind plain end tell version comparison section text)
+    → AreLinesIn kind.format plain version text h.judged.table comparison.count
+lines_in to_come kind plain end tell version comparison section text h = record {
+  records = h.records;
+  text_is = h.text_is;
+  each = h.judged.is_table.1.each;
+  count_is = omega (arith, h.judged.count);
+}
 
 -- ---- what is told
 
--- the section answers as the compared spans do, as far as the version tells
-abbrev pub AnswersSo : Version → List Span → List Span → Type 0
-AnswersSo version list section = (p : Position) → version_answer version list p ≡ version_answer version section p
-
-pub found_told : {S : Type 0} (to_come : S → List Span → Type 0) (bytes : List ℕ) (comparison : Comparison S) (list section : List Span)
-    (records : List Fields) (found : FoundSpec Difference) → (j : Judges to_come comparison list records) → RecordsOf bytes records
-    → AnswersSo comparison.version list section
-    → AreFound stretch_of (version_answer comparison.merge.version list) (span_answer j.table) found
-    → IsOutcome bytes section (Table found)
-found_told to_come bytes comparison list section records found j all same told =
-    let own : AreFound stretch_of (version_answer comparison.version list) (span_answer j.table) found = rw j.version at told in
-    record {
-      version = comparison.version;
-      table = j.table;
-      is_table = (records, all, j.is_table);
-      so = found_so stretch_of (span_answer j.table) (version_answer comparison.version list)
-          (version_answer comparison.version section) found same own;
-    }
+pub outcome_told : {S D V X Y : Type 0} (M : Type 0) (to_come : S → List Span → Type 0) (kind : TableKind V X Y D) (end : List X → Position)
+    (tell : Answer → Y) (version : V) (list : List Span) (passed : List Fields) (bytes : List ℕ) (section : V → Position → Option Y)
+    (outcome : Outcome D) → ((p : Position) → answer_told tell list p ≡ section version p)
+    → HasCompared {M = M} to_come tell kind.stretch (Judges to_come kind end tell version) (IsFaultIn kind.format) list passed bytes outcome
+    → IsOutcomeOf kind section bytes outcome
+outcome_told M to_come kind end tell version list passed bytes section (Fault told) same h = h
+outcome_told M to_come kind end tell version list passed bytes section (Table found) same h = record {
+  version = version;
+  table = h.judged.table;
+  is_table = (passed ++ h.more, h.all, h.judged.is_table);
+  so = found_so kind.stretch (kind.answers h.judged.table) (answer_told tell list) (section version) found same
+      (h.found_is (kind.answers h.judged.table) h.judged.merged);
+}

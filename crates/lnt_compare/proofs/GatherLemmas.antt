@@ -1,59 +1,87 @@
 -- The spans of a table's records are gathered.
-use Rattle.std.proofs.Common.{◌≡◌, ◌∙◌, ℕ, List, [], ◌∷◌, ◌++◌, append-nil, append_assoc, ap, Global, Option, Vec, refl, subst, sym}
-use Rattle.std.proofs.Common.{arith}
+use Rattle.std.proofs.Common.{◌≡◌, ◌∙◌, ℕ, ◌+◌, List, [], ◌∷◌, ◌++◌, append-nil, append_assoc, ap, Option, length, length-append, refl, subst}
+use Rattle.std.proofs.Common.{sym, arith, Global, Vec}
 use Rattle.std.specs.List.{AllByRecursion}
 use Rattle.std.specs.Prelude.{IfOk, Result}
 use Rattle.std.proofs.lemmas.Result.{IfOk-weaker}
-use Rattle.std.specs.Option.{option_map}
 use Rattle.std.specs.declared.alloc.AllocError.{AllocError}
+use Rattle.std.specs.Option.{option_map}
 use Rattle.lnt_spans.specs.declared.answer.Answer.{Answer}
 use Rattle.lnt_spans.specs.declared.answer.Version.{Version}
 use Rattle.lnt_spans.specs.declared.span.Span.{Span}
 use Rattle.lnt_spans.specs.declared.position.Position.{Position}
 use Rattle.lnt_spans.specs.Answers.{in_version}
-use Rattle.lnt_spans.specs.Comparing.{Compares, IsTold, Merging, end_of}
-use Rattle.lnt_spans.proofs.AnsweringLaws.{prefix_in_order}
-use Rattle.lnt_spans.specs.Spans.{AreInOrder, span_answer, version_answer}
+use Rattle.lnt_spans.specs.Comparing.{IsTold, end_of}
+use Rattle.lnt_spans.specs.Spans.{AreInOrder, span_answer, span_in_version, version_answer}
 use Rattle.lnt_spans.specs.declared.listed.SpanList.{SpanList}
-use Rattle.lnt_compare.specs.declared.outcome.TableRead.TheVariants.{Fault, Table}
+use Rattle.lnt_spans.proofs.ToldLaws.{told, told_order}
+use Rattle.lnt_compare.specs.declared.gather.Gathering.{Gathering}
 use Rattle.lnt_compare.specs.declared.outcome.TableRead.{TableRead}
+use Rattle.lnt_compare.specs.declared.outcome.TableRead.TheVariants.{Fault, Table}
 use Rattle.lnt_compare.specs.declared.remaining.Remaining.{Remaining}
 use Rattle.lnt_compare.specs.Differing.{Differing, IsDiffering, IsStarted}
-use Rattle.lnt_compare.specs.Progress.{Gathers, IsContinuedBy, IsGathered, Judges}
-use Rattle.lnt_compare.specs.declared.comparison.Comparison.{Comparison}
-use Rattle.lnt_compare.specs.Passing.{IsCut, LeavesOff}
-use Rattle.lnt_records.specs.Table.{Fields, IsTable, IsTableOf, RecordsOf, by_number, column_names}
-use Rattle.lnt_compare.proofs.PassingLemmas.{all_told}
-use Rattle.lnt_records.proofs.TableLaws.{table_order}
+use Rattle.lnt_compare.specs.Joining.{LeaveOff}
+use Rattle.lnt_compare.specs.Passing.{AreLinesOf}
+use Rattle.lnt_compare.specs.Progress.{Comes, Gathers, IsContinuedBy, IsGathered}
+use Rattle.lnt_records.specs.Passing.{IsCutAfter}
+use Rattle.lnt_records.specs.Table.{Fields, IsSpanRecord, IsTable, IsTableOf, by_number, column_names}
+use Rattle.lnt_records.specs.Written.{plain_by_number}
+use Rattle.lnt_compare.proofs.KindLaws.{end_added, end_told, number_laws}
+use Rattle.lnt_compare.proofs.PassingLemmas.{all_told, first_answer, first_order}
+use Rattle.lnt_records.proofs.TableLaws.{table_order, table_push}
 
 -- ---- the records of a text
 
 -- no span was gathered yet
-pub gathers_none : {S : Type 0} (to_come : S → List Span → Type 0) (comparison : Comparison S) (list : List Span) (records : List Fields)
-    (spans : List Span) → (j : Judges to_come comparison list records) → spans ≡ [] → Gathers to_come comparison spans j.table records
-gathers_none to_come comparison list records spans j none =
-    record { section = list; judged = j; table_is = rw none (sym (append-nil j.table)) }
+pub gathers_none : (version : Version) (gathering : Gathering) (table : List Span) (records : List Fields) → IsTable version records table
+    → gathering.spans.items ≡ [] → gathering.at ≡ end_of table → gathering.count ≡ length records → Gathers version gathering table records
+gathers_none version gathering table records is_table none at count =
+    let same : table ++ gathering.spans.items ≡ table = ap (λ (t : List Span). table ++ t) none ∙ append-nil table in
+    record { is_table = subst (IsTable version records) (sym same) is_table; at = at ∙ ap end_of (sym same); count = count }
 
-pub gathers_more : {S : Type 0} (to_come : S → List Span → Type 0) (old new : Comparison S) (spans pushed before : List Span)
-    (records : List Fields) (fields : Fields) (span : Span) → (h : Gathers to_come old spans before records)
-    → (j : Judges to_come new h.section (records ++ fields ∷ [])) → j.table ≡ h.judged.table ++ span ∷ [] → pushed ≡ spans ++ span ∷ []
-    → Gathers to_come new pushed before (records ++ fields ∷ [])
-gathers_more to_come old new spans pushed before records fields span h j table is = record {
-  section = h.section;
-  judged = j;
-  table_is = table ∙ ap (λ (t : List Span). t ++ span ∷ []) h.table_is ∙ append_assoc before spans (span ∷ [])
-      ∙ ap (λ (t : List Span). before ++ t) (sym is);
-}
+pub gathers_more : (version : Version) (old new : Gathering) (before : List Span) (records : List Fields) (fields : Fields) (span : Span)
+    → Gathers version old before records → IsSpanRecord version fields span → Comes old.at span.low span.high
+    → new.spans.items ≡ old.spans.items ++ span ∷ [] → new.at ≡ span.high → new.count ≡ old.count + 1
+    → Gathers version new before (records ++ fields ∷ [])
+gathers_more version old new before records fields span g says comes items at count =
+    let table : List Span = before ++ old.spans.items in
+    let same : table ++ span ∷ [] ≡ before ++ new.spans.items =
+    append_assoc before old.spans.items (span ∷ []) ∙ ap (λ (t : List Span). before ++ t) (sym items) in
+    record {
+      is_table = subst (IsTable version (records ++ fields ∷ [])) same
+          (table_push by_number version records table fields span g.is_table says (number_laws.push table span
+          (table_order by_number version records table g.is_table)
+          (subst (λ (p : Position). Comes p span.low span.high) g.at comes)));
+      at = at ∙ sym (end_added table span) ∙ ap end_of same;
+      count = omega (arith, g.count, count, length-append records (fields ∷ []));
+    }
 
-pub gathered_all : {S : Type 0} (to_come : S → List Span → Type 0) (bytes : List ℕ) (version : Version) (comparison : Comparison S)
-    (spans before : List Span) (records : List Fields) → RecordsOf bytes records → comparison.version ≡ version
-    → Gathers to_come comparison spans before records → IsTableOf version bytes (before ++ spans)
-gathered_all to_come bytes version comparison spans before records all same h = (
-  records,
-  all,
-  subst (λ (v : Version). IsTable v records (before ++ spans)) same
-      (subst (IsTable comparison.version records) h.table_is h.judged.is_table),
-)
+-- What `gather_after` gives, if the records before end at `at` and are this many with the header.
+abbrev pub GathersAfter : Version → List ℕ → Position → ℕ → Result (TableRead (Vec Span Global)) AllocError → Type 0
+GathersAfter version text at count gathered = IfOk gathered (λ it. (table : List Span) (passed : List Fields) (bytes : List ℕ)
+    → IsTable version passed table → at ≡ end_of table → count ≡ length passed → IsCutAfter (column_names version) text bytes passed
+    → IsGathered bytes version table it)
+
+-- after the lines that were passed
+pub gathered_lines : (version : Version) (text all bytes : List ℕ) (table : List Span) (count : ℕ) (at : Position)
+    (gathered : Result (TableRead (Vec Span Global)) AllocError)
+    → (lines : AreLinesOf by_number plain_by_number (span_in_version version) version text table count at) → AreInOrder table
+    → IsCutAfter (column_names version) all bytes (column_names version ∷ lines.lines.records) → GathersAfter version all at count gathered
+    → IfOk gathered (IsGathered bytes version (told version table))
+gathered_lines version text all bytes table count at gathered lines order cut h =
+    IfOk-weaker gathered _ _
+    (λ it so. so (told version table) (column_names version ∷ lines.lines.records) bytes
+    (refl, record { each = lines.lines.each; in_order = told_order version table order }) (lines.end_is ∙ sym (end_told version table))
+    (omega (arith, lines.lines.count_is)) cut)
+    h
+
+-- after the header alone
+pub gathered_all : (version : Version) (bytes : List ℕ) (gathered : Result (TableRead (Vec Span Global)) AllocError)
+    → GathersAfter version bytes (record { address = 0; op = 0 }) 1 gathered → IfOk gathered (IsGathered bytes version [])
+gathered_all version bytes gathered h =
+    IfOk-weaker gathered _ _
+    (λ it so. so [] (column_names version ∷ []) bytes (refl, record { each = tt; in_order = tt }) refl refl (λ more after rest r. r))
+    h
 
 -- ---- the stretches after the records that both sides begin with
 
@@ -68,64 +96,21 @@ version_told version bytes table t = by_records t.0 t.2
 pub version_order : (version : Version) (bytes : List ℕ) (table : List Span) → IsTableOf version bytes table → AreInOrder table
 version_order version bytes table t = table_order by_number version t.0 table t.2
 
--- A merge that was given only the spans of the first lines has judged the records of these lines.
-pub judges_off : {S : Type 0} (to_come : S → List Span → Type 0) (P : List Span → Type 0) (merge : Merging S) (version : Version)
-    (section : List Span) (text : List ℕ) (count : ℕ) (end : Position)
-    → (off : LeavesOff P version section text count end) → merge.version ≡ version → Compares to_come merge (off.table ++ []) off.table
-    → (j : Judges to_come (record { merge = merge; version = version; count = count }) (off.table ++ [])
-    (column_names version ∷ off.lines.records)) × (j.table ≡ off.table)
-judges_off to_come P merge version section text count end off same compares = (
-  record {
-    table = off.table;
-    is_table = (refl, record { each = off.lines.each; in_order = prefix_in_order off.table off.rest off.order });
-    count = omega (arith, off.lines.count_is);
-    version = same;
-    compares = compares;
-  },
-  refl,
-)
-
-pub judges_none : {S : Type 0} (to_come : S → List Span → Type 0) (merge : Merging S) (version : Version) → merge.version ≡ version
-    → Compares to_come merge [] []
-    → (j : Judges to_come (record { merge = merge; version = version; count = 1 }) [] (column_names version ∷ [])) × (j.table ≡ [])
-judges_none to_come merge version same compares = (
-  record {
-    table = [];
-    is_table = (refl, record { each = tt; in_order = tt });
-    count = refl;
-    version = same;
-    compares = compares;
-  },
-  refl,
-)
-
--- the first spans alone are in order
-pub order_alone : (table rest : List Span) → AreInOrder (table ++ rest) → AreInOrder (table ++ [])
-order_alone table rest o = subst AreInOrder (sym (append-nil table)) (prefix_in_order table rest o)
-
--- the spans gathered after the records of other spans
-pub gathered_is : {S : Type 0} (to_come : S → List Span → Type 0) (comparison : Comparison S) (list table : List Span)
-    (passed : List Fields) (bytes : List ℕ) (version : Version) (text : List ℕ) (gathered : Result (TableRead (Vec Span Global)) AllocError)
-    → (j : Judges to_come comparison list (column_names version ∷ passed)) → j.table ≡ table → IsCut version text bytes passed
-    → IfOk gathered (λ it. (list : List Span) (passed : List Fields) (bytes : List ℕ)
-    → (j : Judges to_come comparison list (column_names version ∷ passed)) → IsCut version text bytes passed
-    → IsGathered bytes version j.table it)
-    → IfOk gathered (IsGathered bytes version table)
-gathered_is to_come comparison list table passed bytes version text gathered j same cut h =
-    IfOk-weaker gathered _ _ (λ it so. subst (λ (spans : List Span). IsGathered bytes version spans it) same (so list passed bytes j cut)) h
-
--- the section answers as these spans do
-pub goes_on : (version : Version) (list table rest : List Span) (section : Position → Option Answer) (at : Position)
-    → AreInOrder (table ++ rest) → ((p : Position) → version_answer version (table ++ rest) p ≡ version_answer version list p)
-    → at ≡ end_of table → ((p : Position) → span_answer list p ≡ section p) → IsContinuedBy version section table rest at
-goes_on version list table rest section at order same end answers =
-    record { order = order; same = λ p. same p ∙ ap (option_map (in_version version)) (answers p); end_is = end }
+-- the section answers as the lines that were passed and the spans after them do
+pub goes_on : (version : Version) (ToCome : List Span → Type 0) (list table : List Span) (section : Position → Option Answer) (at : Position)
+    → (off : LeaveOff (in_version version) ToCome list table) → at ≡ end_of table → ((p : Position) → span_answer list p ≡ section p)
+    → IsContinuedBy version section (told version table) off.rest at
+goes_on version ToCome list table section at off end answers = record {
+  order = first_order version table off.rest off.order;
+  same = λ p. first_answer version table off.rest p ∙ off.same p ∙ ap (option_map (in_version version)) (answers p);
+  end_is = end ∙ sym (end_told version table);
+}
 
 -- without passed lines, all spans of the section are to come
 pub all_to_come : (version : Version) (list : List Span) (section : Position → Option Answer) → AreInOrder list
     → ((p : Position) → span_answer list p ≡ section p) → IsContinuedBy version section [] list (record { address = 0; op = 0 })
 all_to_come version list section order answers =
-    goes_on version list [] list section (record { address = 0; op = 0 }) order (λ p. refl) refl answers
+    record { order = order; same = λ p. ap (option_map (in_version version)) (answers p); end_is = refl }
 
 -- no stretch of a table was given yet
 pub started : {S : Type 0} (of_section : Remaining S → List Span → Type 0) (of_table : SpanList → List Span → Type 0) (bytes : List ℕ)

@@ -12,7 +12,7 @@ use Rattle.lnt_records.specs.Table.{BeginsWith, Fields}
 use Rattle.lnt_records.proofs.PathLaws.{path_refused, says_span, table_push}
 use Rattle.lnt_records.proofs.TableLaws.{table_order}
 use Rattle.lnt_spans.specs.declared.position.Position.{Position}
-use Rattle.lnt_spans.specs.Positions.{IsAtMost}
+use Rattle.lnt_spans.specs.Positions.{IsAtMost, IsBelow}
 use Rattle.lnt_compare.specs.declared.by_path.answer.AnswerByPath.{AnswerByPath}
 use Rattle.lnt_compare.specs.declared.by_path.held.HeldSpan.{HeldSpan}
 use Rattle.lnt_records.specs.declared.by_path.record.PathRecord.{PathRecord}
@@ -24,7 +24,6 @@ use Rattle.lnt_compare.specs.PathStretches.{told_path_answer}
 use Rattle.lnt_records.specs.PathFaults.{IsFaultyRecord, IsPathFault}
 use Rattle.lnt_records.specs.PathTables.{IsPathRecord, IsPathTable, SaysPath, by_path, path_column_names}
 use Rattle.lnt_records.specs.PathRecords.{record_answer, record_span}
-use Rattle.lnt_compare.proofs.MergingLemmas.{low_high}
 
 -- ---- where spans end
 
@@ -58,6 +57,9 @@ table_length version (first ∷ records) spans t =
     omega (arith, same, held)
 
 -- ---- one more record
+
+low_high : (said : PathRecord) → said.low < said.high → IsBelow (whole said.low) (whole said.high)
+low_high said lt = record { address = omega (arith, lt); op = λ e. absurd (omega (arith, lt, e)) }
 
 pub record_held : (version : PathVersion) (records : List Fields) (fields : Fields) (spans new : List HeldSpan) (said : PathRecord)
     (at : ℕ) (answer : AnswerByPath) → IsPathTable version records (map held_span spans)

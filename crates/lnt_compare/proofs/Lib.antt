@@ -7,10 +7,9 @@ pub mod GatherLemmas
 pub mod HeldLemmas
 pub mod JoinedLemmas
 pub mod JoiningLemmas
+pub mod KindLaws
 pub mod LineLemmas
-pub mod MergingLemmas
 pub mod PassingLemmas
-pub mod PathComparisonLemmas
 pub mod PathPassingLemmas
 pub mod PathSpanLemmas
 pub mod PathStretchLemmas

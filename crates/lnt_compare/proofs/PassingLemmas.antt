@@ -1,5 +1,5 @@
 -- The lines of a table by number are passed and compared.
-use Rattle.std.proofs.Common.{◌≡◌, ◌∙◌, ℕ, ◌+◌, ◌≤◌, Bool, true, false, cond, List, [], ◌∷◌, ◌++◌, Option, Some, None, map, subst}
+use Rattle.std.proofs.Common.{◌≡◌, ◌∙◌, ℕ, ◌+◌, ◌^◌, ◌<◌, ◌≤◌, Bool, true, false, cond, List, [], ◌∷◌, ◌++◌, Option, Some, None, map, subst}
 use Rattle.std.proofs.Common.{append-nil, append_assoc, length, length-append, not, refl, ap, sym, arith}
 use Rattle.std.proofs.lemmas.List.{map-append}
 use Rattle.std.proofs.lemmas.Option.{same_Some}
@@ -9,23 +9,29 @@ use Rattle.lnt_spans.specs.declared.answer.Answer.{Answer}
 use Rattle.lnt_spans.specs.declared.answer.More.{More}
 use Rattle.lnt_spans.specs.declared.answer.Version.{Version}
 use Rattle.lnt_spans.specs.declared.answer.Version.TheVariants.{One, Two}
+use Rattle.lnt_spans.specs.declared.difference.Difference.{Difference}
 use Rattle.lnt_spans.specs.declared.position.Position.{Position}
 use Rattle.lnt_spans.specs.declared.span.Span.{Span}
 use Rattle.lnt_spans.specs.Answers.{in_version}
-use Rattle.lnt_spans.specs.Comparing.{Compares, IsTold, Merging, end_of}
+use Rattle.lnt_spans.specs.Comparing.{IsTold, end_of}
 use Rattle.lnt_spans.specs.Remaining.{SpansAreLeft}
 use Rattle.lnt_spans.proofs.ToldLaws.{told}
 use Rattle.lnt_spans.specs.Coming.{GivesFirstSpan}
 use Rattle.lnt_spans.specs.Spans.{AreInOrder, is_in_span, span_in_version, version_answer}
 use Rattle.lnt_records.specs.Lines.{IsTextLine}
 use Rattle.lnt_records.specs.Passing.{AreLinesIn}
-use Rattle.lnt_compare.specs.Joining.{LeaveOff}
-use Rattle.lnt_compare.specs.Passing.{AreLinesOf, HasPassed, IsLineIn, LeavesOff, Passes}
+use Rattle.lnt_spans.specs.Stretches.{stretch_of}
+use Rattle.lnt_compare.specs.declared.comparison.Comparison.{Comparison}
+use Rattle.lnt_compare.specs.Comparisons.{tables_by_number}
+use Rattle.lnt_compare.specs.Passing.{AreLinesOf, IsLineIn, Passes}
+use Rattle.lnt_compare.specs.Progress.{HasPushed, HasTaken}
+use Rattle.lnt_compare.proofs.ComparisonLemmas.{taken_more, taken_none}
+use Rattle.lnt_compare.proofs.KindLaws.{end_added, number_laws}
 use Rattle.lnt_compare.specs.Remaining.{AreLeft}
-use Rattle.lnt_records.specs.Table.{Fields, IsSpanRecord, TableFormat, by_number}
-use Rattle.lnt_records.specs.Written.{LineFormat, line_text, plain_by_number}
-use Rattle.lnt_records.proofs.LineLaws.{line_some, lines_more, no_lines_in}
-use Rattle.lnt_compare.proofs.WindowLaws.{passes_both, passes_line, passes_none}
+use Rattle.lnt_records.specs.Table.{Fields, IsSpanRecord, TableFormat}
+use Rattle.lnt_records.specs.Written.{LineFormat, line_text, lines_text}
+use Rattle.lnt_records.proofs.LineLaws.{line_some, lines_append, lines_more, no_lines_in}
+use Rattle.lnt_compare.proofs.WindowLaws.{few_passed, passes_both, passes_line, passes_none}
 
 -- ---- lines
 
@@ -39,11 +45,6 @@ pub no_lines_of : {V X : Type 0} (format : TableFormat V X) (plain : LineFormat 
     → AreLinesOf format plain told version [] [] 1 (record { address = 0; op = 0 })
 no_lines_of format plain told version =
     record { lines = no_lines_in format plain version; few = omega arith; end_is = refl }
-
-pub end_added : (table : List Span) (span : Span) → end_of (table ++ span ∷ []) ≡ span.high
-end_added [] span = refl
-end_added (r ∷ []) span = refl
-end_added (r ∷ next ∷ table) span = end_added (next ∷ table) span
 
 pub line_added : {V X : Type 0} (format : TableFormat V X) (plain : LineFormat V X) (told : Span → X) (version : V) (text : List ℕ)
     (table : List Span) (count : ℕ) (end : Position) (span : Span) (bytes rest : List ℕ)
@@ -80,23 +81,13 @@ told_twice : (version : Version) (answer : Answer) → in_version version (in_ve
 told_twice One answer = refl
 told_twice Two answer = refl
 
-each_told : (version : Version) (table : List Span) → AllByRecursion (IsTold version) (told version table)
-each_told version [] = tt
-each_told version (span ∷ table) =
-    (ap (λ (answer : Answer). record span { answer = answer }) (told_twice version span.answer), each_told version table)
-
-end_told : (version : Version) (table : List Span) → end_of (told version table) ≡ end_of table
-end_told version [] = refl
-end_told version (span ∷ []) = refl
-end_told version (span ∷ next ∷ table) = end_told version (next ∷ table)
-
-first_order : (version : Version) (table rest : List Span) → AreInOrder (table ++ rest) → AreInOrder (told version table ++ rest)
+pub first_order : (version : Version) (table rest : List Span) → AreInOrder (table ++ rest) → AreInOrder (told version table ++ rest)
 first_order version [] rest h = h
 first_order version (span ∷ []) [] h = h
 first_order version (span ∷ []) (next ∷ rest) h = h
 first_order version (span ∷ next ∷ table) rest h = (h.0, h.1, first_order version (next ∷ table) rest h.2)
 
-first_answer : (version : Version) (table rest : List Span) (p : Position)
+pub first_answer : (version : Version) (table rest : List Span) (p : Position)
     → version_answer version (told version table ++ rest) p ≡ version_answer version (table ++ rest) p
 first_answer version [] rest p = refl
 first_answer version (span ∷ table) rest p = by (is_in_span p span) (first_answer version table rest p)
@@ -108,21 +99,6 @@ first_answer version (span ∷ table) rest p = by (is_in_span p span) (first_ans
         (cond test (Some span) (find (is_in_span p) (table ++ rest))))
     by true e = ap Some (told_twice version span.answer)
     by false e = e
-
--- where the lines of canonical spans end
-pub left_off : (version : Version) (ToCome : List Span → Type 0) (list table : List Span) (text : List ℕ) (count : ℕ) (end : Position)
-    → AreLinesOf by_number plain_by_number (span_in_version version) version text table count end
-    → LeaveOff (in_version version) ToCome list table → LeavesOff ToCome version list text count end
-left_off version ToCome list table text count end a l = record {
-  table = told version table;
-  rest = l.rest;
-  lines = a.lines;
-  left = l.left;
-  order = first_order version table l.rest l.order;
-  same = λ p. first_answer version table l.rest p ∙ l.same p;
-  told = each_told version table;
-  end_is = a.end_is ∙ sym (end_told version table);
-}
 
 -- ---- the spans that are left, as they come
 
@@ -161,79 +137,69 @@ left_after to_come first (Some next) spans false e (span ∷ rest) left =
 
 -- ---- lines that are read and pushed
 
--- Lines were passed and took the merge from one state to another, whatever came before them.
-pub record Reads {S : Type 0} (to_come : S → List Span → Type 0) (old new : Merging S) (version : Version) (before_count count : ℕ)
+-- Lines were passed, and their records were compared.
+pub record Reads {S M : Type 0} (to_come : S → List Span → Type 0) (version : Version) (old new : Comparison S Difference M)
     (a b : Option (List ℕ)) (la lb : ℕ) (w0 w1 : List ℕ) : Type 0 where
   pub text : List ℕ
   pub bytes : Passes a b la lb w0 w1 text
-  pub passed : (section : List Span) (before : List ℕ) → HasPassed to_come old version section before before_count
-      → HasPassed to_come new version section (before ++ text) count
-  pub list : List Span
-  pub table : List Span
-  pub compares : Compares to_come new list table
-  pub few : count ≤ before_count + length text
+  pub records : List Fields
+  pub text_is : text ≡ lines_text records
+  pub few : length records ≤ length text
+  pub taken : HasTaken to_come tables_by_number end_of (in_version version) version old new records
 
-pub reads_none : {S : Type 0} (to_come : S → List Span → Type 0) (merge : Merging S) (version : Version) (count : ℕ) (a : Option (List ℕ))
-    (la : ℕ) (w : List ℕ) (list table : List Span) → Compares to_come merge list table
-    → Reads to_come merge merge version count count a a la la w w
-reads_none to_come merge version count a la w list table c = record {
+pub reads_none : {S M : Type 0} (to_come : S → List Span → Type 0) (version : Version) (comparison : Comparison S Difference M)
+    (a : Option (List ℕ)) (la : ℕ) (w : List ℕ) → Reads to_come version comparison comparison a a la la w w
+reads_none to_come version comparison a la w = record {
   text = [];
   bytes = passes_none a la w;
-  passed = λ section before h. subst (λ (t : List ℕ). HasPassed to_come merge version section t count) (sym (append-nil before)) h;
-  list = list;
-  table = table;
-  compares = c;
+  records = [];
+  text_is = refl;
   few = omega arith;
+  taken = taken_none to_come tables_by_number end_of (in_version version) version comparison;
 }
 
-pub reads_filled : {S : Type 0} (to_come : S → List Span → Type 0) (old new : Merging S) (version : Version) (n count : ℕ)
-    (a b c : Option (List ℕ)) (la lb lc : ℕ) (w0 w1 w2 : List ℕ)
-    → Reads to_come old new version n count a b la lb w0 w1 → Passes b c lb lc w1 w2 []
-    → Reads to_come old new version n count a c la lc w0 w2
-reads_filled to_come old new version n count a b c la lb lc w0 w1 w2 r p = record {
+pub reads_filled : {S M : Type 0} (to_come : S → List Span → Type 0) (version : Version) (old new : Comparison S Difference M)
+    (a b c : Option (List ℕ)) (la lb lc : ℕ) (w0 w1 w2 : List ℕ) → Reads to_come version old new a b la lb w0 w1 → Passes b c lb lc w1 w2 []
+    → Reads to_come version old new a c la lc w0 w2
+reads_filled to_come version old new a b c la lb lc w0 w1 w2 r p = record {
   text = r.text;
   bytes = filled a b c la lb lc w0 w1 w2 r.text r.bytes p;
-  passed = r.passed;
-  list = r.list;
-  table = r.table;
-  compares = r.compares;
+  records = r.records;
+  text_is = r.text_is;
   few = r.few;
+  taken = r.taken;
 }
 
--- the effect on a merge of pushing a span that comes next
-pub record Takes {S : Type 0} (to_come : S → List Span → Type 0) (old new : Merging S) (span : Span) : Type 0 where
-  pub order : (spans records : List Span) → Compares to_come old spans records → AreInOrder (records ++ span ∷ [])
-  pub version : new.version ≡ old.version
-  pub compares : (spans records : List Span) → Compares to_come old spans records → Compares to_come new spans (records ++ span ∷ [])
+pub reads_line : {S M : Type 0} (to_come : S → List Span → Type 0) (version : Version) (first old new : Comparison S Difference M)
+    (a b : Option (List ℕ)) (la lb : ℕ) (w0 w1 w2 : List ℕ) (span : Span) → Reads to_come version first old a b la lb w0 w1
+    → IsTextLine version span w1 w2
+    → HasPushed to_come (in_version version) stretch_of old new span.low span.high span.answer
+    → Reads to_come version first new a b la lb w0 w2
+reads_line to_come version first old new a b la lb w0 w1 w2 span r line push =
+    let text : List ℕ = line_text line.fields in
+    record {
+      text = r.text ++ text;
+      bytes = passes_line a b la lb w0 w1 w2 r.text text r.bytes line.joined;
+      records = r.records ++ line.fields ∷ [];
+      text_is = ap (λ (t : List ℕ). t ++ text) r.text_is ∙ ap (λ (t : List ℕ). lines_text r.records ++ t) (sym (append-nil text))
+          ∙ sym (lines_append line_text r.records (line.fields ∷ []));
+      few = omega (arith, r.few, line_some line.fields, length-append r.text text, length-append r.records (line.fields ∷ []));
+      taken = taken_more to_come tables_by_number end_of number_laws (in_version version) version first old new r.records line.fields span
+          r.taken line.says push;
+    }
 
-line_pushed : {S : Type 0} (to_come : S → List Span → Type 0) (old new : Merging S) (version : Version) (section : List Span)
-    (text : List ℕ) (count : ℕ) (fields : Fields) (span : Span)
-    → HasPassed to_come old version section text count → IsSpanRecord version fields span → Takes to_come old new span
-    → HasPassed to_come new version section (text ++ line_text fields) (count + 1)
-line_pushed to_come old new version section text count fields span h says t = record {
-  table = h.table ++ span ∷ [];
-  order = t.order h.follows.spans h.table h.follows.compares;
-  lines = lines_more by_number plain_by_number version text h.table count fields span h.lines says;
-  follows = record {
-    spans = h.follows.spans;
-    same = h.follows.same;
-    version_is = t.version ∙ h.follows.version_is;
-    compares = t.compares h.follows.spans h.table h.follows.compares;
-  };
-}
-
-pub reads_line : {S : Type 0} (to_come : S → List Span → Type 0) (first old new : Merging S) (version : Version) (n count : ℕ)
-    (a b : Option (List ℕ)) (la lb : ℕ) (w0 w1 w2 : List ℕ) (span : Span)
-    → Reads to_come first old version n count a b la lb w0 w1 → IsTextLine version span w1 w2 → Takes to_come old new span
-    → Reads to_come first new version n (count + 1) a b la lb w0 w2
-reads_line to_come first old new version n count a b la lb w0 w1 w2 span r line t = record {
-  text = r.text ++ line_text line.fields;
-  bytes = passes_line a b la lb w0 w1 w2 r.text (line_text line.fields) r.bytes line.joined;
-  passed = λ section before h.
-      subst (λ (text : List ℕ). HasPassed to_come new version section text (count + 1)) (append_assoc before r.text (line_text line.fields))
-      (line_pushed to_come old new version section (before ++ r.text) count line.fields span (r.passed section before h) line.says t);
-  list = r.list;
-  table = r.table ++ span ∷ [];
-  compares = t.compares r.list r.table r.compares;
-  few = omega (arith, r.few, line_some line.fields, length-append r.text (line_text line.fields));
-}
+-- one more record can be counted
+pub few_read : {S M : Type 0} (to_come : S → List Span → Type 0) (version : Version) (old new : Comparison S Difference M)
+    (a b : Option (List ℕ)) (la lb : ℕ) (w0 w1 w2 : List ℕ) (span : Span) → Reads to_come version old new a b la lb w0 w1
+    → IsTextLine version span w1 w2 → length w0 + la + old.count < 2 ^ 64 → new.count + 1 < 2 ^ 64
+few_read to_come version old new a b la lb w0 w1 w2 span r line few =
+    omega (
+      arith,
+      few,
+      r.few,
+      r.taken.count,
+      few_passed a b la lb w0 w1 r.text r.bytes,
+      ap length line.joined,
+      line_some line.fields,
+      length-append (line_text line.fields) w2,
+    )

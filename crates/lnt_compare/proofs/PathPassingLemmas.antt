@@ -1,32 +1,35 @@
 -- The lines of a table by path that are passed are the records that `csv` reads.
 use Rattle.std.proofs.Common.{◌≡◌, ◌∙◌, ℕ, ◌+◌, ◌-◌, ◌<◌, ◌≤◌, List, [], ◌∷◌, ◌++◌, Some, length, length-append, length-drop, drop, take}
-use Rattle.std.proofs.Common.{refl, sym, ap, subst, append_assoc, append-nil, arith}
+use Rattle.std.proofs.Common.{◌^◌, refl, sym, ap, subst, arith}
 use Rattle.std.specs.List.{All}
 use Rattle.csv.specs.Machine.{Read, next_record}
 use Rattle.csv.specs.Reading.{Reached, default_config, strip_bom}
 use Rattle.csv.specs.Writing.{default_writer, row_text}
 use Rattle.csv.specs.declared.parser.State.{State}
 use Rattle.csv.specs.declared.parser.State.TheVariants as st
-use Rattle.lnt_spans.specs.Merged.{end_of_records}
 use Rattle.lnt_records.specs.Table.{Fields}
 use Rattle.lnt_spans.specs.declared.answer.Answer.{Answer}
 use Rattle.lnt_spans.specs.declared.span.Span.{Span}
 use Rattle.lnt_records.proofs.LineLaws as any
 use Rattle.lnt_records.proofs.ReadingLaws.{same_read}
 use Rattle.lnt_records.proofs.LineLaws.{row_some}
-use Rattle.lnt_compare.specs.declared.by_path.comparison.PathComparison.{PathComparison}
+use Rattle.lnt_compare.specs.declared.by_path.answer.DifferenceByPath.{DifferenceByPath}
+use Rattle.lnt_compare.specs.declared.comparison.Comparison.{Comparison}
+use Rattle.lnt_compare.specs.PathOutcomes.{tables_by_path}
+use Rattle.lnt_compare.specs.PathStretches.{stretch_of}
+use Rattle.lnt_compare.specs.Progress.{HasPushed, HasTaken}
 use Rattle.lnt_records.specs.declared.by_path.record.PathRecord.{PathRecord}
 use Rattle.lnt_records.specs.declared.by_path.version.PathVersion.{PathVersion}
 use Rattle.lnt_records.specs.PathLines.{IsPathLine, IsPlainByte, plain_by_path}
 use Rattle.lnt_records.specs.Passing.{IsCutAfter}
-use Rattle.lnt_compare.specs.Merging.{IsMerged, JudgesByPath}
-use Rattle.lnt_compare.specs.PathPassing.{GoesOnAs, HasTaken, IsAfter}
+use Rattle.lnt_compare.specs.PathPassing.{GoesOnAs, IsAfter}
 use Rattle.lnt_records.specs.PathAnswers.{PathAnswer}
-use Rattle.lnt_records.specs.PathSpans.{PathSpan, whole}
+use Rattle.lnt_records.specs.PathSpans.{path_end, whole}
 use Rattle.lnt_records.specs.PathTables.{by_path, path_column_names}
-use Rattle.lnt_records.specs.PathRecords.{record_span}
-use Rattle.lnt_compare.proofs.PathComparisonLemmas.{record_taken}
-use Rattle.lnt_records.proofs.PathLaws.{pathed}
+use Rattle.lnt_records.specs.PathRecords.{record_answer, record_span}
+use Rattle.lnt_compare.proofs.ComparisonLemmas.{taken_more, taken_none}
+use Rattle.lnt_compare.proofs.KindLaws.{path_laws}
+use Rattle.lnt_records.proofs.PathLaws.{pathed, says_span}
 use Rattle.lnt_records.proofs.PathLineLaws.{line_read, line_shorter, line_unmarked, plain_paths, rest_whole}
 
 -- ---- records that are reached one after another
@@ -100,92 +103,71 @@ pub after_slice : (bytes : List ℕ) (at : ℕ) (records : List Fields) → IsAf
 after_slice bytes at records h = subst (λ (t : List ℕ). IsAfter bytes t records) (sym (rest_whole bytes at)) h
 
 -- The text was cut out of the bytes, without the records that were passed before.
-pub after_cut : (version : PathVersion) (text bytes : List ℕ) (at : ℕ) (records passed more : List Fields)
-    → IsAfter text (drop at text) records → records ≡ path_column_names version ∷ more
+pub after_cut : (version : PathVersion) (text bytes : List ℕ) (at : ℕ) (passed more : List Fields)
+    → IsAfter text (drop at text) (path_column_names version ∷ more)
     → IsCutAfter (path_column_names version) text bytes (path_column_names version ∷ passed)
     → IsAfter bytes (take (length text - at) (drop at text)) (path_column_names version ∷ (passed ++ more))
-after_cut version text bytes at records passed more h e cut = record {
+after_cut version text bytes at passed more h cut = record {
   after = h.after;
   rest = h.rest;
   goes_on = record {
     last = h.goes_on.last;
-    reached = cut more h.after h.rest
-        (subst (λ (r : List Fields). Reached default_config st.StartRecord (strip_bom text) r h.after h.rest) e h.goes_on.reached);
+    reached = cut more h.after h.rest h.goes_on.reached;
     text_reached = subst (λ (t : List ℕ). Reached default_config st.StartRecord (strip_bom t) (h.goes_on.last ∷ []) h.after h.rest)
         (sym (rest_whole text at)) h.goes_on.text_reached;
     narrow = h.goes_on.narrow;
   };
 }
 
+-- What follows the last line of a text is cut out of the bytes, with that line once more.
+pub cut_after : (bytes text : List ℕ) (records : List Fields) → (h : IsAfter bytes text records)
+    → IsCutAfter h.goes_on.last text bytes records
+cut_after bytes text records h more after rest r = reached_on bytes text records more h.goes_on.last after rest h r
+
 -- ---- the loop over lines
 
 -- Lines were passed up to one index, and the last of them begins at another.
-pub record Stands {S : Type 0} (to_come : S → List Span → Type 0) (tell : Answer → PathAnswer) (version : PathVersion)
-    (old now : PathComparison S) (table : List ℕ) (before at : ℕ) (last : List ℕ) : Type 0 where
-  pub records : List Fields
-  pub goes_on : GoesOnAs table (drop before table) records st.StartRecord (drop at table)
-  pub taken : HasTaken to_come tell version old now table (drop before table) records
-  pub few : length records + length (drop at table) ≤ length table
+pub record Stands {S M : Type 0} (to_come : S → List Span → Type 0) (tell : Answer → PathAnswer) (version : PathVersion)
+    (old now : Comparison S DifferenceByPath M) (table : List ℕ) (before at : ℕ) (last : List ℕ) : Type 0 where
+  pub more : List Fields
+  pub goes_on : GoesOnAs table (drop before table) (path_column_names version ∷ more) st.StartRecord (drop at table)
+  pub taken : HasTaken to_come tables_by_path path_end tell version old now more
+  pub few : length more + length (drop before table) ≤ length table
+  pub fewer : length more + 1 + length (drop at table) ≤ length table
   pub within : before ≤ length table
   pub plain : All IsPlainByte last
 
--- none was taken yet
-pub taken_none : {S : Type 0} (to_come : S → List Span → Type 0) (tell : Answer → PathAnswer) (version : PathVersion)
-    (old : PathComparison S) (table : List ℕ) → HasTaken to_come tell version old old table table (path_column_names version ∷ [])
-taken_none to_come tell version old table = record {
+pub stands_first : {S M : Type 0} (to_come : S → List Span → Type 0) (tell : Answer → PathAnswer) (version : PathVersion)
+    (comparison : Comparison S DifferenceByPath M) (table header last : List ℕ)
+    → header ≡ row_text default_writer (path_column_names version) → table ≡ header ++ drop (length header) table → All IsPlainByte last
+    → Stands to_come tell version comparison comparison table 0 (length header) last
+stands_first to_come tell version comparison table header last e f plain = record {
   more = [];
-  records_are = refl;
-  count = omega arith;
-  few = omega arith;
-  judged = λ list passed j. subst (λ (r : List Fields). JudgesByPath to_come tell version old list (path_column_names version ∷ r))
-      (sym (append-nil passed)) j;
-}
-
-pub stands_first : {S : Type 0} (to_come : S → List Span → Type 0) (tell : Answer → PathAnswer) (version : PathVersion)
-    (old : PathComparison S) (table header last : List ℕ) → header ≡ row_text default_writer (path_column_names version)
-    → table ≡ header ++ drop (length header) table → All IsPlainByte last
-    → Stands to_come tell version old old table 0 (length header) last
-stands_first to_come tell version old table header last e f plain = record {
-  records = path_column_names version ∷ [];
   goes_on = header_passed version table header (drop (length header) table) e f;
-  taken = taken_none to_come tell version old table;
-  few = omega (arith, ap length e, row_some (path_column_names version), ap length f, length-append header (drop (length header) table));
+  taken = taken_none to_come tables_by_path path_end tell version comparison;
+  few = omega arith;
+  fewer = omega (arith, ap length e, row_some (path_column_names version), ap length f, length-append header (drop (length header) table));
   within = omega arith;
   plain = plain;
 }
 
--- the effect on the comparison of taking a record
-abbrev pub TakesRecord : {S : Type 0} → (S → List Span → Type 0) → (Answer → PathAnswer) → PathComparison S → PathComparison S → PathRecord
-    → Type 0
-TakesRecord to_come tell old new said = (list : List Span) (table : List PathSpan)
-    → IsMerged to_come tell old.merge list table → IsMerged to_come tell new.merge list (table ++ record_span said ∷ [])
-
-pub stands_more : {S : Type 0} (to_come : S → List Span → Type 0) (tell : Answer → PathAnswer) (version : PathVersion)
-    (old now new : PathComparison S) (table : List ℕ) (before at next : ℕ) (last : List ℕ) (said : PathRecord)
+pub stands_more : {S M : Type 0} (to_come : S → List Span → Type 0) (tell : Answer → PathAnswer) (version : PathVersion)
+    (old now new : Comparison S DifferenceByPath M) (table : List ℕ) (before at next : ℕ) (last : List ℕ) (said : PathRecord)
     → Stands to_come tell version old now table before at last
-    → IsPathLine version said (drop at table) (drop next table) → All IsPlainByte said.path.now → now.at ≤ said.low → said.low < said.high
-    → new.count ≡ now.count + 1 → end_of_records now.merge ≡ whole now.at → TakesRecord to_come tell now new said
+    → IsPathLine version said (drop at table) (drop next table) → All IsPlainByte said.path.now
+    → HasPushed to_come tell stretch_of now new (whole said.low) (whole said.high) (record_answer said)
     → Stands to_come tell version old new table at next said.path.now
-stands_more to_come tell version old now new table before at next last said h line plain le lt count end step =
-    let names : Fields = path_column_names version in
-    let taken = h.taken in
-    let pushed : length (h.records ++ line.fields ∷ []) ≡ length h.records + 1 = length-append h.records (line.fields ∷ []) in
-    let more : length (taken.more ++ line.fields ∷ []) ≡ length taken.more + 1 = length-append taken.more (line.fields ∷ []) in
+stands_more to_come tell version old now new table before at next last said h line plain push =
+    let longer : length (h.more ++ line.fields ∷ []) ≡ length h.more + 1 = length-append h.more (line.fields ∷ []) in
     let shorter = line_shorter version said (drop at table) (drop next table) line in
     record {
-      records = h.records ++ line.fields ∷ [];
-      goes_on = line_passed version said table (drop before table) (drop at table) (drop next table) h.records h.goes_on line;
-      taken = record {
-        more = taken.more ++ line.fields ∷ [];
-        records_are = ap (λ (r : List Fields). r ++ line.fields ∷ []) taken.records_are;
-        count = omega (arith, count, taken.count, more);
-        few = omega (arith, more, h.few, ap length taken.records_are);
-        judged = λ list passed j. subst (λ (r : List Fields). JudgesByPath to_come tell version new list (names ∷ r))
-            (append_assoc passed taken.more (line.fields ∷ []))
-            (record_taken to_come tell version now new list (names ∷ (passed ++ taken.more)) line.fields said (taken.judged list passed j)
-            line.says le lt count end step);
-      };
-      few = omega (arith, pushed, h.few, shorter);
+      more = h.more ++ line.fields ∷ [];
+      goes_on = line_passed version said table (drop before table) (drop at table) (drop next table) (path_column_names version ∷ h.more)
+          h.goes_on line;
+      taken = taken_more to_come tables_by_path path_end path_laws tell version old now new h.more line.fields (record_span said) h.taken
+          (says_span version line.fields said line.says) push;
+      few = omega (arith, longer, h.fewer);
+      fewer = omega (arith, longer, h.fewer, shorter);
       within = omega (arith, shorter, length-drop at table);
       plain = plain;
     }

@@ -16,7 +16,7 @@ use Rattle.lnt_compare.specs.declared.by_path.stretches.HeldSpans.{HeldSpans}
 use Rattle.lnt_compare.specs.declared.by_path.telling.PathMemory.{PathMemory}
 use Rattle.lnt_records.specs.declared.by_path.record.SaidPath.{SaidPath}
 use Rattle.lnt_records.specs.declared.by_path.version.PathVersion.{PathVersion}
-use Rattle.lnt_compare.specs.Merging.{IsRemembered}
+use Rattle.lnt_compare.specs.Remembering.{IsRemembered}
 use Rattle.lnt_compare.specs.Held.{held_span}
 use Rattle.lnt_records.specs.PathAnswers.{path_answer, PathAnswer, spans_by_path}
 use Rattle.lnt_records.specs.PathSpans.{path_span_answer, StandInOrder, whole}

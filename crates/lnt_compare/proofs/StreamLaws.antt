@@ -1,31 +1,36 @@
 -- A table of which some lines were passed, and the rest was read after its header.
 use Rattle.std.proofs.Common.{◌≡◌, ◌≢◌, ◌∙◌, ℕ, ◌+◌, ◌^◌, ◌<◌, List, [], ◌∷◌, ◌++◌, Option, Some, None, IfSome, append_assoc, length}
 use Rattle.std.proofs.Common.{length-append, refl, ap, subst, sym, arith}
-use Rattle.std.specs.List.{AllByRecursion}
+use Rattle.std.specs.List.{AllZip}
 use Rattle.lnt_spans.specs.declared.answer.Version.{Version}
 use Rattle.lnt_spans.specs.declared.difference.Difference.{Difference}
 use Rattle.lnt_spans.specs.declared.position.Position.{Position}
 use Rattle.lnt_spans.specs.declared.span.Span.{Span}
-use Rattle.lnt_spans.specs.Comparing.{Compares, IsTold, Merging, end_of}
-use Rattle.lnt_spans.proofs.AnsweringLaws.{prefix_in_order}
-use Rattle.lnt_spans.specs.Spans.{AreInOrder}
+use Rattle.lnt_spans.specs.Answers.{in_version}
+use Rattle.lnt_spans.specs.Comparing.{end_of}
+use Rattle.lnt_spans.specs.Spans.{span_answer}
+use Rattle.lnt_spans.specs.Stretches.{stretch_of}
+use Rattle.lnt_compare.specs.declared.comparison.Comparison.{Comparison}
+use Rattle.lnt_compare.specs.Comparisons.{in_versions, tables_by_number}
 use Rattle.lnt_compare.specs.Outcomes.{IfCompared, IsHeadedOutcome, IsOutcome, IsStartOf, Outcome}
 use Rattle.lnt_compare.specs.declared.outcome.TableRead.TheVariants.{Fault}
 use Rattle.lnt_records.specs.declared.fault.TableFault.TheVariants as fault
 use Rattle.lnt_compare.specs.declared.stream.TableStart.{TableStart}
 use Rattle.lnt_compare.specs.declared.stream.TableStart.TheVariants as start
 use Rattle.lnt_records.proofs.BeginningLaws.{first_begins}
-use Rattle.lnt_compare.specs.Passing.{AreLines, Ends, HasPassed, IsCut, LeavesOff, Passes}
+use Rattle.lnt_compare.specs.Passing.{Ends, Passes}
 use Rattle.lnt_records.specs.Passing.{AreLinesIn, IsCutAfter}
-use Rattle.lnt_compare.specs.Progress.{Judges}
-use Rattle.lnt_records.specs.Table.{BeginsWith, Fields, TableFormat, by_number, column_names}
-use Rattle.lnt_records.specs.Written.{LineFormat, line_text, lines_of, plain_by_number}
-use Rattle.lnt_compare.proofs.ComparisonLemmas.{AnswersSo}
+use Rattle.lnt_compare.specs.Progress.{HasCompared, HasPassed, Judges}
+use Rattle.lnt_records.specs.Faults.{IsFault}
+use Rattle.lnt_records.specs.Reading.{IsNarrow}
+use Rattle.lnt_records.specs.Table.{BeginsWith, Fields, IsSpanRecord, TableFormat, by_number, column_names}
+use Rattle.lnt_records.specs.Written.{LineFormat, line_text, lines_of, lines_text, plain_by_number}
+use Rattle.lnt_compare.proofs.ComparisonLemmas.{outcome_told}
+use Rattle.lnt_records.proofs.NumberLaws.{numbered}
 use Rattle.lnt_records.proofs.LineLaws.{LineLaws, all_back, cut_lines, few_records, header_begins}
 use Rattle.lnt_records.proofs.WriteLaws.{plain_numbers}
 use Rattle.lnt_compare.proofs.WindowLaws.{few_passed, passes_line}
 use Rattle.lnt_spans.specs.declared.answer.Answer.{Answer}
-use Rattle.lnt_spans.proofs.ToldLaws.{told}
 use Rattle.lnt_spans.specs.declared.listed.SpanList.{SpanList}
 use Rattle.lnt_compare.specs.declared.remaining.Remaining.{Remaining}
 use Rattle.lnt_compare.specs.Differing.{Differing, IsDiffering, IsHeadedDiffering}
@@ -37,35 +42,6 @@ pub begun : (version : Version) (a b : Option (List ℕ)) (la lb : ℕ) (w0 w1 w
     → Passes a b la lb [] w2 (line_text (column_names version))
 begun version a b la lb w0 w1 w2 none p e =
     passes_line a b la lb [] w1 w2 [] (line_text (column_names version)) (subst (λ (w : List ℕ). Passes a b la lb w w1 []) none p) e
-
-pub passed_after : {S : Type 0} (to_come : S → List Span → Type 0) (P : List Span → Type 0) (merge : Merging S) (version : Version)
-    (section : List Span) (text : List ℕ) (count : ℕ) (end : Position) → LeavesOff P version section text count end
-    → merge.version ≡ version
-    → ((passed list : List Span) → P list → AreInOrder (passed ++ list) → AllByRecursion (IsTold version) passed → end ≡ end_of passed
-    → Compares to_come merge (passed ++ list) passed)
-    → HasPassed to_come merge version section text count
-passed_after to_come P merge version section text count end l same past = record {
-  table = l.table;
-  order = prefix_in_order l.table l.rest l.order;
-  lines = l.lines;
-  follows = record {
-    spans = l.table ++ l.rest;
-    same = l.same;
-    version_is = same;
-    compares = past l.table l.rest l.left l.order l.told l.end_is;
-  };
-}
-
-pub judges_passed : {S : Type 0} (to_come : S → List Span → Type 0) (merge : Merging S) (version : Version) (section : List Span)
-    (text : List ℕ) (count : ℕ) → (h : HasPassed to_come merge version section text count)
-    → Judges to_come (record { merge = merge; version = version; count = count }) h.follows.spans (column_names version ∷ h.lines.records)
-judges_passed to_come merge version section text count h = record {
-  table = h.table;
-  is_table = (refl, record { each = h.lines.each; in_order = h.order });
-  count = omega (arith, h.lines.count_is);
-  version = h.follows.version_is;
-  compares = h.follows.compares;
-}
 
 -- ---- the rest of a table of any format, after its header
 
@@ -99,36 +75,36 @@ few_all format plain laws version a d la ld names w0 w1 text all spans count e p
       length-append names w1,
     )
 
--- The rest was cut out of the bytes that have the lines after the header.
+-- The rest was cut out of the bytes that have the lines of these records after the header.
 pub rest_cut : {V X : Type 0} (format : TableFormat V X) (plain : LineFormat V X) → LineLaws format plain → (version : V)
-    (d : Option (List ℕ)) (ld : ℕ) (names window text all : List ℕ) (spans : List X) (count : ℕ) → names ≡ plain.line (plain.names version)
-    → (ends : Ends d ld (names ++ window) all) → (lines : AreLinesIn format plain version text spans count)
+    (d : Option (List ℕ)) (ld : ℕ) (names window all : List ℕ) (spans : List X) (records : List Fields)
+    → names ≡ plain.line (plain.names version) → (ends : Ends d ld (names ++ window) all) → AllZip (format.Says version) records spans
     → IsCutAfter (plain.names version) all
-    (plain.line (plain.names version) ++ (lines_of plain.line lines.records ++ (window ++ ends.given)))
-    (plain.names version ∷ lines.records)
-rest_cut format plain laws version d ld names window text all spans count e ends lines =
+    (plain.line (plain.names version) ++ (lines_of plain.line records ++ (window ++ ends.given)))
+    (plain.names version ∷ records)
+rest_cut format plain laws version d ld names window all spans records e ends each =
     let rest : List ℕ = window ++ ends.given in
     let line : List ℕ = plain.line (plain.names version) in
-    subst (λ (t : List ℕ). IsCutAfter (plain.names version) t (line ++ (lines_of plain.line lines.records ++ rest))
-    (plain.names version ∷ lines.records)) (sym (rest_is plain version names window ends.given all e ends.joined))
-    (cut_lines format plain laws version lines.records rest (all_back format plain laws version lines.records spans lines.each))
+    subst (λ (t : List ℕ). IsCutAfter (plain.names version) t (line ++ (lines_of plain.line records ++ rest))
+    (plain.names version ∷ records)) (sym (rest_is plain version names window ends.given all e ends.joined))
+    (cut_lines format plain laws version records rest (all_back format plain laws version records spans each))
 
 -- What holds of all bytes from which the rest was cut holds of the header, the bytes that were taken then, and those of the source.
 pub whole_cut : {V X : Type 0} (format : TableFormat V X) (plain : LineFormat V X) → LineLaws format plain → (version : V)
-    (a d : Option (List ℕ)) (la ld : ℕ) (names w0 w1 text all : List ℕ) (spans : List X) (count : ℕ) (P : List ℕ → Type 0)
+    (a d : Option (List ℕ)) (la ld : ℕ) (names w0 w1 text all : List ℕ) (spans : List X) (records : List Fields) (P : List ℕ → Type 0)
     → names ≡ plain.line (plain.names version) → Passes a d la ld w0 w1 text → Ends d ld (names ++ w1) all
-    → (lines : AreLinesIn format plain version text spans count)
-    → ((bytes : List ℕ) → IsCutAfter (plain.names version) all bytes (plain.names version ∷ lines.records) → P bytes)
+    → text ≡ lines_of plain.line records → AllZip (format.Says version) records spans
+    → ((bytes : List ℕ) → IsCutAfter (plain.names version) all bytes (plain.names version ∷ records) → P bytes)
     → IfSome a (λ more. P (plain.line (plain.names version) ++ (w0 ++ more)))
-whole_cut format plain laws version None d la ld names w0 w1 text all spans count P e p ends lines h = tt
-whole_cut format plain laws version (Some x) None la ld names w0 w1 text all spans count P e p ends lines h = absurd p.pulls
-whole_cut format plain laws version (Some x) (Some y) la ld names w0 w1 text all spans count P e p ends lines h =
-    let inner : lines_of plain.line lines.records ++ (w1 ++ ends.given) ≡ w0 ++ x =
-    ap (λ (t : List ℕ). t ++ (w1 ++ ends.given)) (sym lines.text_is) ∙ sym (append_assoc text w1 ends.given)
+whole_cut format plain laws version None d la ld names w0 w1 text all spans records P e p ends is each h = tt
+whole_cut format plain laws version (Some x) None la ld names w0 w1 text all spans records P e p ends is each h = absurd p.pulls
+whole_cut format plain laws version (Some x) (Some y) la ld names w0 w1 text all spans records P e p ends is each h =
+    let inner : lines_of plain.line records ++ (w1 ++ ends.given) ≡ w0 ++ x =
+    ap (λ (t : List ℕ). t ++ (w1 ++ ends.given)) (sym is) ∙ sym (append_assoc text w1 ends.given)
     ∙ ap (λ (t : List ℕ). t ++ ends.given) (sym p.joined) ∙ append_assoc w0 p.given ends.given
     ∙ ap (λ (t : List ℕ). w0 ++ (p.given ++ t)) ends.whole ∙ ap (λ (t : List ℕ). w0 ++ t) (sym p.pulls) in
     subst P (ap (λ (t : List ℕ). plain.line (plain.names version) ++ t) inner)
-    (h _ (rest_cut format plain laws version (Some y) ld names w1 text all spans count e ends lines))
+    (h _ (rest_cut format plain laws version (Some y) ld names w1 all spans records e ends each))
 
 -- what holds of all bytes, of which the first were taken
 pub first_taken : (a b : Option (List ℕ)) (la lb : ℕ) (window text : List ℕ) (P : List ℕ → Type 0) → Passes a b la lb [] window text
@@ -159,7 +135,8 @@ pub not_header : (bytes : List ℕ) (version : Version) (section : List Span) (o
 not_header bytes version section outcome begins h e = subst (IsOutcome bytes section) e h version begins
 
 -- If a text with lines cut out begins with a header, the bytes begin with the same one.
-pub cut_begins : (version : Version) (text bytes : List ℕ) (passed : List Fields) → IsCut version text bytes passed
+pub cut_begins : (version : Version) (text bytes : List ℕ) (passed : List Fields)
+    → IsCutAfter (column_names version) text bytes (column_names version ∷ passed)
     → BeginsWith text (column_names version ∷ [])
     → BeginsWith bytes (column_names version ∷ [])
 cut_begins version text bytes passed cut b =
@@ -167,30 +144,36 @@ cut_begins version text bytes passed cut b =
 
 -- what holds of all bytes of a table by number from which the rest was cut
 pub whole_begun : (version : Version) (a b d : Option (List ℕ)) (la lb ld : ℕ) (names w0 w1 text all : List ℕ) (table : List Span)
-    (count : ℕ) (P : List ℕ → Type 0) → names ≡ line_text (column_names version)
+    (records : List Fields) (P : List ℕ → Type 0) → names ≡ line_text (column_names version)
     → Passes a b la lb [] w0 (line_text (column_names version)) → Passes b d lb ld w0 w1 text → Ends d ld (names ++ w1) all
-    → (lines : AreLines version text table count) → ((bytes : List ℕ) → IsCut version all bytes lines.records → P bytes) → IfSome a P
-whole_begun version a b d la lb ld names w0 w1 text all table count P e begun p ends lines h =
+    → text ≡ lines_text records → AllZip (IsSpanRecord version) records table
+    → ((bytes : List ℕ) → IsCutAfter (column_names version) all bytes (column_names version ∷ records) → P bytes) → IfSome a P
+whole_begun version a b d la lb ld names w0 w1 text all table records P e begun p ends is each h =
     first_taken a b la lb w0 (line_text (column_names version)) P begun
-    (whole_cut by_number plain_by_number plain_numbers version b d lb ld names w0 w1 text all table count P e p ends lines h)
+    (whole_cut by_number plain_by_number plain_numbers version b d lb ld names w0 w1 text all table records P e p ends is each h)
 
 -- the result for the rest of a table by number is the result for the whole table
-pub compared_begun : {S : Type 0} (to_come : S → List Span → Type 0) (merge : Merging S) (version : Version) (section : List Span)
-    (a b d : Option (List ℕ)) (la lb ld : ℕ) (names w0 w1 text all : List ℕ) (count : ℕ) (outcome : Outcome Difference)
+pub compared_begun : {S M : Type 0} (to_come : S → List Span → Type 0) (version : Version) (comparison : Comparison S Difference M)
+    (section : List Span) (a b d : Option (List ℕ)) (la lb ld : ℕ) (names w0 w1 text all : List ℕ) (outcome : Outcome Difference)
     → names ≡ line_text (column_names version) → Passes a b la lb [] w0 (line_text (column_names version)) → Passes b d lb ld w0 w1 text
-    → Ends d ld (names ++ w1) all → HasPassed to_come merge version section text count
-    → ((list section : List Span) (passed : List Fields) (bytes : List ℕ)
-    → Judges to_come (record { merge = merge; version = version; count = count }) list (column_names version ∷ passed)
-    → IsCut version all bytes passed → AnswersSo version list section → IsOutcome bytes section outcome)
+    → Ends d ld (names ++ w1) all
+    → HasPassed to_come tables_by_number plain_by_number end_of (in_version version) version comparison section text
+    → ((first : Fields) (list : List Span) (passed : List Fields) (bytes : List ℕ) → IsNarrow first → BeginsWith all (first ∷ [])
+    → IsCutAfter first all bytes passed
+    → Judges to_come tables_by_number end_of (in_version version) version comparison list passed
+    → HasCompared to_come (in_version version) stretch_of (Judges {M = M} to_come tables_by_number end_of (in_version version) version) IsFault
+    list passed bytes outcome)
     → IfSome a (λ bytes. IsHeadedOutcome bytes section outcome)
-compared_begun to_come merge version section a b d la lb ld names w0 w1 text all count outcome e begun p ends h compare =
-    whole_begun version a b d la lb ld names w0 w1 text all h.table count (λ (bytes : List ℕ). IsHeadedOutcome bytes section outcome) e
-    begun p ends h.lines
-    (λ bytes cut.
-    let told = compare h.follows.spans section h.lines.records bytes (judges_passed to_come merge version section text count h) cut
-    h.follows.same in
+compared_begun {M = M} to_come version comparison section a b d la lb ld names w0 w1 text all outcome e begun p ends h compare =
     let header = rest_begins by_number plain_by_number plain_numbers version d ld names w1 all e ends in
-    (told, not_header bytes version section outcome (cut_begins version all bytes h.lines.records cut header) told))
+    let passed : List Fields = column_names version ∷ h.records in
+    whole_begun version a b d la lb ld names w0 w1 text all h.judged.table h.records
+    (λ (bytes : List ℕ). IsHeadedOutcome bytes section outcome) e begun p ends h.text_is h.judged.is_table.1.each
+    (λ bytes cut.
+    let told = outcome_told M to_come tables_by_number end_of (in_version version) version h.list passed bytes
+    (in_versions (span_answer section)) outcome h.alike
+    (compare (column_names version) h.list passed bytes (numbered.narrow version) header cut h.judged) in
+    (told, not_header bytes version section outcome (cut_begins version all bytes h.records cut header) told))
 
 -- what holds of a text that is all of the bytes, of which the first were taken before
 pub all_taken : (a b : Option (List ℕ)) (la lb : ℕ) (window all : List ℕ) (P : List ℕ → Type 0) → Passes a b la lb [] window []

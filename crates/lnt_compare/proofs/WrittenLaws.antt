@@ -13,7 +13,7 @@ use Rattle.lnt_spans.proofs.CanonicalLaws.{one_list}
 use Rattle.lnt_spans.proofs.SameLaws.{same_answers}
 use Rattle.lnt_spans.proofs.ToldLaws.{told, told_answer, told_order}
 use Rattle.lnt_compare.specs.Canonical.{IsCanonicalTable, TellsAll}
-use Rattle.lnt_compare.specs.Joining.{AreApart, AreJoined, grown}
+use Rattle.lnt_compare.specs.Joining.{AreApart, AreJoined}
 use Rattle.lnt_compare.proofs.JoiningLemmas.{all_join, has_joined, IsKept}
 use Rattle.lnt_records.specs.Written.{IsOfVersion}
 use Rattle.lnt_records.proofs.VersionLaws.{HasVersion}

@@ -5,7 +5,6 @@ pub mod Differing
 pub mod Held
 pub mod Joining
 pub mod Laws
-pub mod Merging
 pub mod Outcomes
 pub mod Passing
 pub mod PathOutcomes
@@ -13,5 +12,6 @@ pub mod PathPassing
 pub mod PathStretches
 pub mod Progress
 pub mod Remaining
+pub mod Remembering
 pub mod Stretching
 pub mod TableRuns

@@ -1,44 +1,118 @@
--- How far a table by number was read and compared. No public contract speaks of it.
-use Rattle.std.specs.Prelude.{◌≡◌, ℕ, List, ◌++◌, Option, Vec, length}
+-- How far a table was read and compared, by number or by path. `tell` gives what a table contains of an answer, and `end` where spans of
+-- a table end. No public contract speaks of it.
+use Rattle.std.specs.Prelude.{◌≡◌, ℕ, ◌+◌, List, ◌∷◌, ◌++◌, None, Option, Vec, length}
 use Rattle.std.specs.Global.{Global}
 use Rattle.std.specs.Option.{option_map}
 use Rattle.lnt_spans.specs.declared.answer.Answer.{Answer}
 use Rattle.lnt_spans.specs.declared.answer.Version.{Version}
+use Rattle.lnt_spans.specs.declared.found.Found.{Found}
 use Rattle.lnt_spans.specs.declared.position.Position.{Position}
 use Rattle.lnt_spans.specs.declared.span.Span.{Span}
+use Rattle.lnt_spans.specs.Ahead.{IsAhead}
 use Rattle.lnt_spans.specs.Answers.{in_version}
-use Rattle.lnt_spans.specs.Comparing.{Compares, end_of}
+use Rattle.lnt_spans.specs.AnyStretches.{Stretch}
+use Rattle.lnt_spans.specs.Comparing.{end_of}
+use Rattle.lnt_spans.specs.Merged.{AreFound, HasMerged, HasOneMore, answer_told, end_of_records}
+use Rattle.lnt_spans.specs.Positions.{IsAtMost, IsBelow}
 use Rattle.lnt_spans.specs.Spans.{AreInOrder, version_answer}
 use Rattle.lnt_compare.specs.declared.comparison.Comparison.{Comparison}
+use Rattle.lnt_compare.specs.declared.gather.Gathering.{Gathering}
 use Rattle.lnt_compare.specs.declared.outcome.TableRead.{TableRead}
-use Rattle.lnt_compare.specs.declared.outcome.TableRead.TheVariants as gathered
+use Rattle.lnt_compare.specs.declared.outcome.TableRead.TheVariants as read
+use Rattle.lnt_compare.specs.Comparisons.{TableKind}
+use Rattle.lnt_compare.specs.Outcomes.{Outcome}
+use Rattle.lnt_records.specs.declared.fault.TableFault.{TableFault}
 use Rattle.lnt_records.specs.Faults.{IsFault}
-use Rattle.lnt_records.specs.Table.{Fields, IsTable, IsTableOf}
+use Rattle.lnt_records.specs.Table.{Fields, IsTable, IsTableIn, IsTableOf, RecordsOf}
+use Rattle.lnt_records.specs.Written.{LineFormat, lines_of}
 
--- ---- all records
+-- The spans of the two lists answer alike at every position, as a table contains it.
+abbrev pub AnswerAlike : {Y : Type 0} → (Answer → Y) → List Span → List Span → Type 0
+AnswerAlike tell list section = (p : Position) → answer_told tell list p ≡ answer_told tell section p
 
--- These records are a table so far, and were compared with the spans of a section.
-pub record Judges {S : Type 0} (to_come : S → List Span → Type 0) (comparison : Comparison S) (section : List Span)
-    (records : List Fields) : Type 0 where
-  pub table : List Span
-  pub is_table : IsTable comparison.version records table
+-- ---- records that are compared
+
+-- A record isn't empty, and doesn't begin below `at`.
+pub record Comes (at low high : Position) : Type 0 where
+  pub past : IsAtMost at low
+  pub holds : IsBelow low high
+
+-- Both sides begin with records that end at `at`; `count` is their number with the header. The spans after them are to come.
+pub record IsPast {S D M : Type 0} (to_come : S → List Span → Type 0) (spans : S) (comparison : Comparison S D M) (at : Position)
+    (count : ℕ) : Type 0 where
+  pub at_is : end_of_records comparison.merge ≡ at
+  pub count_is : comparison.count ≡ count
+  pub gap : comparison.merge.gap ≡ None
+  pub mistake : comparison.merge.mistake ≡ None
+  pub missed : comparison.merge.missed ≡ 0
+  pub ahead : (list : List Span) → to_come spans list → IsAhead to_come comparison.merge.spans list
+
+-- One more record was compared.
+pub record HasPushed {S D M Y : Type 0} (to_come : S → List Span → Type 0) (tell : Answer → Y) (value_of : D → Stretch Y)
+    (old new : Comparison S D M) (low high : Position) (said : Y) : Type 0 where
+  pub comes : Comes (end_of_records old.merge) low high
+  pub at : end_of_records new.merge ≡ high
+  pub count : new.count ≡ old.count + 1
+  pub merged : (list : List Span) (by_table by_more : Position → Option Y) → HasMerged to_come tell value_of old.merge list by_table
+      → HasOneMore by_table by_more (end_of_records old.merge) low high said → HasMerged to_come tell value_of new.merge list by_more
+
+-- These records are a table so far, and were compared with the section.
+pub record Judges {S D M V X Y : Type 0} (to_come : S → List Span → Type 0) (kind : TableKind V X Y D) (end : List X → Position)
+    (tell : Answer → Y) (version : V) (comparison : Comparison S D M) (section : List Span) (records : List Fields) : Type 0 where
+  pub table : List X
+  pub is_table : IsTableIn kind.format version records table
   pub count : comparison.count ≡ length records
-  pub version : comparison.merge.version ≡ comparison.version
-  pub compares : Compares to_come comparison.merge section table
+  pub at : end_of_records comparison.merge ≡ end table
+  pub merged : HasMerged to_come tell kind.stretch comparison.merge section (kind.answers table)
 
--- These records are a table so far, of the spans in `before` and then the gathered ones, which were compared with a section's spans.
-pub record Gathers {S : Type 0} (to_come : S → List Span → Type 0) (comparison : Comparison S) (spans before : List Span)
-    (records : List Fields) : Type 0 where
-  pub section : List Span
-  pub judged : Judges to_come comparison section records
-  pub table_is : judged.table ≡ before ++ spans
+-- More records were compared.
+pub record HasTaken {S D M V X Y : Type 0} (to_come : S → List Span → Type 0) (kind : TableKind V X Y D) (end : List X → Position)
+    (tell : Answer → Y) (version : V) (old new : Comparison S D M) (more : List Fields) : Type 0 where
+  pub count : new.count ≡ old.count + length more
+  pub judged : (section : List Span) (records : List Fields) → Judges to_come kind end tell version old section records
+      → Judges to_come kind end tell version new section (records ++ more)
 
--- ---- differences so far
+-- These lines follow the header, and their records were compared with spans that answer as the section does.
+pub record HasPassed {S D M V X Y : Type 0} (to_come : S → List Span → Type 0) (kind : TableKind V X Y D) (plain : LineFormat V X)
+    (end : List X → Position) (tell : Answer → Y) (version : V) (comparison : Comparison S D M) (section : List Span) (text : List ℕ) : Type
+    0 where
+  pub records : List Fields
+  pub text_is : text ≡ lines_of plain.line records
+  pub list : List Span
+  pub alike : AnswerAlike tell list section
+  pub judged : Judges to_come kind end tell version comparison list (kind.format.names version ∷ records)
+
+-- All records of the bytes were compared, and this was found.
+pub record HasFound {S D M Y : Type 0} (to_come : S → List Span → Type 0) (tell : Answer → Y) (value_of : D → Stretch Y)
+    (judges : Comparison S D M → List Span → List Fields → Type 0) (list : List Span) (passed : List Fields) (bytes : List ℕ)
+    (found : Found D) : Type 0 where
+  pub comparison : Comparison S D M
+  pub more : List Fields
+  pub all : RecordsOf bytes (passed ++ more)
+  pub judged : judges comparison list (passed ++ more)
+  pub found_is : (by_table : Position → Option Y) → HasMerged to_come tell value_of comparison.merge list by_table
+      → AreFound value_of (answer_told tell list) by_table found
+
+-- Or this is the first fault.
+abbrev pub HasCompared : {S D M Y : Type 0} → (S → List Span → Type 0) → (Answer → Y) → (D → Stretch Y)
+    → (Comparison S D M → List Span → List Fields → Type 0) → (List ℕ → TableFault → Type 0) → List Span → List Fields → List ℕ → Outcome D
+    → Type 0
+HasCompared to_come tell value_of judges is_fault list passed bytes (read.Fault told) = is_fault bytes told
+HasCompared to_come tell value_of judges is_fault list passed bytes (read.Table found) =
+    HasFound to_come tell value_of judges list passed bytes found
+
+-- ---- spans of a table by number that are gathered
+
+-- These records are a table so far, of the spans in `before` and then the gathered ones.
+pub record Gathers (version : Version) (gathering : Gathering) (before : List Span) (records : List Fields) : Type 0 where
+  pub is_table : IsTable version records (before ++ gathering.spans.items)
+  pub at : gathering.at ≡ end_of (before ++ gathering.spans.items)
+  pub count : gathering.count ≡ length records
 
 -- After the records of the spans in `table`, the bytes have the records of the gathered spans, or a fault.
 abbrev pub IsGathered : List ℕ → Version → List Span → TableRead (Vec Span Global) → Type 0
-IsGathered bytes version table (gathered.Fault told) = IsFault bytes told
-IsGathered bytes version table (gathered.Table spans) = IsTableOf version bytes (table ++ spans.items)
+IsGathered bytes version table (read.Fault told) = IsFault bytes told
+IsGathered bytes version table (read.Table spans) = IsTableOf version bytes (table ++ spans.items)
 
 -- The spans in `table` and then `rest` are in order and answer as the section does, in the fields of the version; the ones
 -- in `table` end at `at`.

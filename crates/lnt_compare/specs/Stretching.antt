@@ -5,7 +5,7 @@ use Rattle.lnt_spans.specs.declared.span.Span.{Span}
 use Rattle.lnt_spans.specs.AnyStretches.{Stretch}
 use Rattle.lnt_spans.specs.Stretching.{HasGiven, stretches_to_give}
 use Rattle.lnt_compare.specs.declared.by_path.stretches.DifferencesByPath.{DifferencesByPath}
-use Rattle.lnt_compare.specs.Merging.{IsRemembered}
+use Rattle.lnt_compare.specs.Remembering.{IsRemembered}
 use Rattle.lnt_records.specs.PathAnswers.{path_answer, PathAnswer}
 use Rattle.lnt_records.specs.PathRecords.{said_answer}
 use Rattle.lnt_compare.specs.TableRuns.{held_runs, IsTableAt}

@@ -1,20 +1,20 @@
 //! Compares a table with the spans of a section, record by record.
-ghost use Rattle.std.specs.Prelude.{◌≡◌, ◌+◌, ◌^◌, ◌<◌, ℕ, List, [], ◌∷◌, ◌++◌, length, IfErr, IfOk};
-ghost use Rattle.csv.specs.Records.{fields_of};
+ghost use Rattle.std.specs.Prelude.{◌≡◌, ◌+◌, ◌^◌, ◌<◌, ℕ, List, [], ◌∷◌, length, IfOk, MatchBool, OnOk};
 ghost use Rattle.lnt_spans.specs.declared.span.Span.{Span};
-ghost use Rattle.lnt_spans.specs.declared.position.Position.{Position};
-ghost use Rattle.lnt_spans.specs.Spans.{AreInOrder, version_answer};
+ghost use Rattle.lnt_spans.specs.Merged.{end_of_records};
+ghost use Rattle.lnt_spans.specs.Spans.{AreInOrder};
 ghost use Rattle.lnt_compare.specs.Comparisons.{IsComparison};
-ghost use Rattle.lnt_records.specs.Faults.{IsFaulty};
 ghost use Rattle.lnt_compare.specs.Outcomes.{IsOutcome};
-ghost use Rattle.lnt_compare.specs.Passing.{IsCut};
-ghost use Rattle.lnt_compare.specs.Progress.{Judges};
-ghost use Rattle.lnt_records.specs.Table.{BeginsWith, Fields, IsSpanRecord, IsTable, column_names};
+ghost use Rattle.lnt_compare.specs.Progress.{Comes, HasCompared, HasPushed, IsPast};
+ghost use Rattle.lnt_records.specs.Passing.{IsCutAfter};
+ghost use Rattle.lnt_records.specs.Reading.{IsNarrow};
+ghost use Rattle.lnt_records.specs.Table.{BeginsWith, Fields};
 
+use crate::line_telling::LineTelling;
 use crate::outcome::{Compared, Outcome, TableRead};
 use csv::ByteRecord;
-use lnt_records::{RecordFault, TableFault, TakesRecords, header_of, span_of, take_records};
-use lnt_spans::{Difference, MergeByNumber, Span, SpanSlice, SpanSource, Version};
+use lnt_records::{TableFault, TakesRecords, header_of, span_of, take_records};
+use lnt_spans::{Difference, Merge, Position, Span, SpanSlice, SpanSource, Telling, Version};
 use std::alloc::{AllocError, Global};
 
 /// Compares the table in these bytes with the spans of a section.
@@ -49,98 +49,124 @@ pub fn compare_records<S: SpanSource + Drop>(
     let Some(version) = header_of::<Version>(alloc, table)? else {
         return Ok(TableRead::Fault(TableFault::Header));
     };
-    compare_after(alloc, table, MergeByNumber::new(spans, version), version, 1)
+    let comparison = Comparison::past((), spans, Position { address: 0, op: 0 }, 1);
+    compare_after(alloc, table, &version, comparison)
 }
 
-// Compares the rest of a table. `text` is the table's header with the records after it, without those that the merge has
-// already compared with the spans; `count` is the number of these, including the header.
-pub(crate) fn compare_after<S: SpanSource + Drop>(
+// Compares the records of a text after its first one, as `csv` reads them, with the spans that a section has left. The comparison may
+// have taken others before them.
+pub(crate) fn compare_after<
+    S: SpanSource + Drop,
+    T: LineTelling + TakesRecords<Comparison<S, T::Difference, T::Memory>>,
+>(
     alloc: Global,
     text: &[u8],
-    merge: MergeByNumber<S>,
-    version: Version,
-    count: u64,
-) -> Result<Outcome<Difference>, AllocError>
-    requires begins { BeginsWith text.now (column_names version ∷ []) }
-    requires few { count + length text.now < 2 ^ 64 + 1 }
-    requires judged { (list : List Span) × (passed : List Fields)
-        × Judges S.to_come (record { merge = merge; version = version; count = count }) list (column_names version ∷ passed) }
-    ensures { IfOk result (λ outcome. (list section : List Span) (passed : List Fields) (bytes : List ℕ)
-        → Judges S.to_come (record { merge = merge; version = version; count = count }) list (column_names version ∷ passed)
-        → IsCut version text.now bytes passed → ((p : Position) → version_answer version list p ≡ version_answer version section p)
-        → IsOutcome bytes section outcome) }
+    telling: &T,
+    mut comparison: Comparison<S, T::Difference, T::Memory>,
+) -> Result<Outcome<T::Difference>, AllocError>
+    requires first { (first : Fields) × IsNarrow first × BeginsWith text.now (first ∷ []) }
+    requires few { (count : ℕ) × T.has_taken telling.now comparison count × (count + length text.now < 2 ^ 64 + 1) }
+    ensures { IfOk result (λ outcome. (first : Fields) (list : List Span) (passed : List Fields) (bytes : List ℕ) → IsNarrow first
+        → BeginsWith text.now (first ∷ []) → IsCutAfter first text.now bytes passed → T.judges telling.now comparison list passed
+        → HasCompared S.to_come (T.tell telling.now) T.value_of (T.judges telling.now) (T.is_fault telling.now) list passed bytes outcome) }
 {
-    let mut comparison = Comparison {
-        merge,
-        version,
-        count,
-    };
-    if let Some(fault) = take_records(alloc, text, &version, &mut comparison)? {
+    if let Some(fault) = take_records(alloc, text, telling, &mut comparison)? {
         return Ok(TableRead::Fault(fault));
     }
-    Ok(TableRead::Table(comparison.merge.finish()))
+    match telling.finish(comparison.merge) {
+        Ok(found) => Ok(TableRead::Table(found)),
+        Err(error) => Err(error),
+    }
 }
 
 // The state of a comparison: the spans of a section, and the records of a table so far.
 #[derive(Drop)]
-pub(crate) struct Comparison<S> {
-    pub(crate) merge: MergeByNumber<S>,
-    pub(crate) version: Version,
+pub(crate) struct Comparison<S, D, M> {
+    pub(crate) merge: Merge<S, D>,
+    // what is remembered of answers that were compared
+    pub(crate) memory: M,
     // the number of records so far, including the header, which is the number of the next record
     pub(crate) count: u64,
 }
 
-impl<S: SpanSource + Drop> Comparison<S> {
-    // Compares the next record and gives its span, or its fault.
-    pub(crate) fn take_span(&mut self, row: &ByteRecord) -> Result<Span, TableFault>
-        requires { (section : List Span) × (records : List Fields) × Judges S.to_come self.old section records
-            × (length records + 1 < 2 ^ 64) }
-        ensures version { self.new.version ≡ self.old.version }
-        ensures says { IfOk result (λ span. IsSpanRecord self.old.version (fields_of row.now) span) }
-        ensures taken { IfOk result (λ span. (section : List Span) (records : List Fields) → (j : Judges S.to_come self.old section records)
-            → (k : Judges S.to_come self.new section (records ++ fields_of row.now ∷ [])) × (k.table ≡ j.table ++ span ∷ [])) }
-        ensures faulty { IfErr result (λ fault. (section : List Span) (records : List Fields) → Judges S.to_come self.old section records
-            → (table : List Span) × IsTable self.old.version records table
-            × IsFaulty self.old.version table (length records) (fields_of row.now) fault) }
+impl<S: SpanSource + Drop, D: Drop, M: Drop> Comparison<S, D, M> {
+    // The state after the header and the records with which both sides begin. These end at `at`, and the source gives the section's
+    // spans after them; `count` is their number with the header.
+    pub(crate) fn past(memory: M, spans: S, at: Position, count: u64) -> Comparison<S, D, M>
+        ensures memory { result.memory ≡ memory }
+        ensures past { IsPast S.to_come spans result at count }
     {
-        let span = match span_of(row, self.version) {
-            Ok(span) => span,
-            Err(RecordFault::Fields) => return Err(TableFault::Fields(self.count)),
-            Err(RecordFault::Number(column)) => {
-                return Err(TableFault::Number(self.count, column));
-            }
-        };
-        if !self.merge.takes(&span) {
-            return Err(TableFault::Order(self.count));
+        Comparison {
+            merge: Merge::past(spans, at),
+            memory,
+            count,
         }
-        self.merge.push(&span);
+    }
+
+    // Compares one more record, if it isn't empty, and doesn't begin below the end of the one before it.
+    #[inline(always)]
+    pub(crate) fn push<T: Telling<Difference = D, Memory = M>>(
+        &mut self,
+        telling: &T,
+        low: Position,
+        high: Position,
+        held: T::Said,
+    ) -> Result<bool, T::Refusal>
+        requires sound { T.is_sound telling.now self.old.memory }
+        requires few { self.old.count + 1 < 2 ^ 64 }
+        ensures sound { OnOk result (T.is_sound telling.now self.new.memory) }
+        ensures pushed { IfOk result (λ pushed. MatchBool pushed
+            (HasPushed S.to_come (T.tell telling.now) T.value_of self.old self.new low high (T.said held))
+            ((self.new ≡ self.old) × (Comes (end_of_records self.old.merge) low high → ⊥))) }
+    {
+        if !comes(self.merge.end(), low, high) {
+            return Ok(false);
+        }
+        self.merge.push(telling, &mut self.memory, low, high, held)?;
         self.count += 1;
-        Ok(span)
+        Ok(true)
     }
 }
 
-impl<S: SpanSource + Drop> TakesRecords<Comparison<S>> for Version {
-    ghost use Rattle.std.specs.Prelude.{◌≡◌, List, length};
-    ghost use Rattle.lnt_spans.specs.declared.span.Span.{Span};
+// Whether a record isn't empty, and doesn't begin below `at`.
+#[inline(always)]
+pub(crate) fn comes(at: Position, low: Position, high: Position) -> bool
+    ensures { MatchBool result (Comes at low high) (Comes at low high → ⊥) }
+{
+    if low.is_below(at) {
+        return false;
+    }
+    low.is_below(high)
+}
+
+impl<S: SpanSource + Drop> TakesRecords<Comparison<S, Difference, ()>> for Version {
+    ghost use Rattle.std.specs.Prelude.{◌≡◌};
+    ghost use Rattle.lnt_spans.specs.Answers.{in_version};
+    ghost use Rattle.lnt_spans.specs.Comparing.{end_of};
     ghost use Rattle.lnt_records.specs.Faults.{IsFault};
+    ghost use Rattle.lnt_compare.specs.Comparisons.{tables_by_number};
     ghost use Rattle.lnt_compare.specs.Progress.{Judges};
-    ghost use Rattle.lnt_records.specs.Table.{Fields};
 
-    ghost has_taken = { λ version comparison count. (section : List Span) × (records : List Fields)
-        × Judges S.to_come comparison section records × (length records ≡ count) };
+    ghost has_taken = { λ version comparison count. comparison.count ≡ count };
 
-    ghost judges = { λ version comparison section records. (comparison.version ≡ version) × Judges S.to_come comparison section records };
+    ghost judges = { λ version comparison section records.
+        Judges S.to_come tables_by_number end_of (in_version version) version comparison section records };
 
     ghost is_fault = { λ version bytes fault. IsFault bytes fault };
 
     fn take(
         &self,
-        comparison: &mut Comparison<S>,
+        comparison: &mut Comparison<S, Difference, ()>,
         row: &ByteRecord,
     ) -> Result<Option<TableFault>, AllocError> {
-        match comparison.take_span(row) {
-            Ok(_) => Ok(None),
-            Err(fault) => Ok(Some(fault)),
+        let span = match span_of(row, *self) {
+            Ok(span) => span,
+            Err(fault) => return Ok(Some(fault.at(comparison.count))),
+        };
+        match comparison.push(self, span.low, span.high, span.answer) {
+            Ok(true) => Ok(None),
+            Ok(false) => Ok(Some(TableFault::Order(comparison.count))),
+            Err(never) => match never {},
         }
     }
 }

@@ -1,5 +1,5 @@
 //! Compares a table with the spans of a section at every position.
-ghost use Rattle.std.specs.Prelude.{◌≡◌, ◌+◌, ◌-◌, ◌^◌, ◌<◌, ℕ, List, Option, IfOk, IfSome};
+ghost use Rattle.std.specs.Prelude.{◌≡◌, ◌+◌, ◌-◌, ◌^◌, ◌<◌, ℕ, List, Option, IfOk};
 ghost use Rattle.lnt_spans.specs.declared.span.Span.{Span};
 ghost use Rattle.lnt_spans.specs.declared.answer.Answer.{Answer};
 ghost use Rattle.lnt_spans.specs.declared.position.Position.{Position as Place};
@@ -17,53 +17,25 @@ use crate::stream::TableStart;
 use crate::window::{Window, pass_header};
 use lnt_io::{Source, Stop};
 use lnt_records::{ROOM, TableFault, TableVersion, header_of};
-use lnt_spans::{
-    Differences, MergeByNumber, Position, Span, SpanList, SpanSlice, SpanSource, Version,
-};
+use lnt_spans::{Differences, Position, Span, SpanList, SpanSource, Version};
 use std::alloc::{AllocError, Global};
 
 /// What a comparison at every position comes to: this gives the stretches at which a table and the section answer differently, one
 /// after another.
 pub type Differing<S> = TableRead<Differences<Remaining<S>, SpanList>>;
 
-/// Compares the table of a source with the spans of a section, at every position.
+/// Compares the table of a source with the spans of a section, at every position, if its first line is the header of version 1 or 2.
+/// Otherwise it takes only the first bytes, and nothing is said about them.
 ///
-/// `Fault`: the bytes are not a table, as in `compare_table`. `Table`: they are one, and it gives the stretches at which the
+/// `Fault`: the bytes are not a table, as in `compare_lines`. `Table`: they are one, and it gives the stretches at which the
 /// two answer differently, one after another, in the fields of the table's version.
 ///
 /// As long as the table's lines are those that `write_canonical` writes for the spans, they are compared as text, neither
-/// parsed nor held, as in `compare_table`. The records from there on are read by `csv` from bytes that are held all at once,
-/// and their spans are held: whether all records are well formed is known only at the end of the table.
+/// parsed nor held. The records from there on are read by `csv` from bytes that are held all at once, and their spans are held:
+/// whether all records are well formed is known only at the end of the table.
 ///
 /// The caller makes sure that the spans are in order and none is empty, and that the number of the source's failures is
-/// below `u64::MAX`. Stops as `compare_table` does.
-pub fn compare_all<S: SpanSource + Drop, T: Source>(
-    alloc: Global,
-    table: &mut T,
-    spans: S,
-) -> Result<Differing<S>, Stop>
-    requires failures { T.failures table.old < 2 ^ 64 - 1 }
-    requires spans { (list : List Span) × S.to_come spans list × AreInOrder list }
-    ensures ok { IfOk result (λ differing. (list : List Span) (section : Place → Option Answer) → S.to_come spans list → AreInOrder list
-        → ((p : Place) → span_answer list p ≡ section p)
-        → IfSome (T.remaining table.old) (λ bytes. IsDiffering ⟦<Remaining<S> as SpanSource>⟧.to_come ⟦<SpanList as SpanSource>⟧.to_come
-        bytes section differing)) }
-    ensures started { IfOk result (λ differing. IsStarted ⟦<Remaining<S> as SpanSource>⟧.to_come ⟦<SpanList as SpanSource>⟧.to_come
-        differing) }
-    ensures failures { CountsFailure ⟦<T as Source>⟧ table.old table.new result Stop.Read }
-    ensures too_long { IsTooLongOn ⟦<T as Source>⟧ table.old table.new result Stop.TooLong }
-{
-    let (window, spans) = match differ_lines(alloc, table, spans)? {
-        TableStart::Compared(differing) => return Ok(differing),
-        TableStart::Other(window, spans) => (window, spans),
-    };
-    let text = window.rest_after(alloc, &[], table)?;
-    let all = differ_records(alloc, &text, spans)?;
-    Ok(all)
-}
-
-/// Compares a table as `compare_all` does, if its first line is the header of version 1 or 2. Otherwise it takes only the first
-/// bytes, and nothing is said about them. Stops as `compare_table` does.
+/// below `u64::MAX`. Stops as `compare_lines` does.
 pub fn differ_lines<S: SpanSource + Drop, T: Source>(
     alloc: Global,
     table: &mut T,
@@ -97,13 +69,12 @@ pub fn differ_lines<S: SpanSource + Drop, T: Source>(
         &mut window,
     )?;
     let text = window.rest_after(alloc, version.header_line(), table)?;
-    let merge = MergeByNumber::past(SpanSlice::of(&[]), version, passed.end);
-    let gathered = gather_after(alloc, &text, merge, version, passed.count);
+    let gathered = gather_after(alloc, &text, version, passed.end, passed.count);
     let differing = differ_after(gathered, passed.spans, version, passed.end)?;
     Ok(TableStart::Compared(differing))
 }
 
-/// Compares the table in these bytes with the spans of a source, as `compare_all` does. Fails only if memory runs out.
+/// Compares the table in these bytes with the spans of a source, as `differ_lines` does. Fails only if memory runs out.
 pub fn differ_records<S: SpanSource + Drop>(
     alloc: Global,
     text: &[u8],
@@ -119,14 +90,9 @@ pub fn differ_records<S: SpanSource + Drop>(
     let Some(version) = header_of::<Version>(alloc, text)? else {
         return Ok(TableRead::Fault(TableFault::Header));
     };
-    let merge = MergeByNumber::new(SpanSlice::of(&[]), version);
-    let gathered = gather_after(alloc, text, merge, version, 1);
-    differ_after(
-        gathered,
-        Remaining::all(spans),
-        version,
-        Position { address: 0, op: 0 },
-    )
+    let at = Position { address: 0, op: 0 };
+    let gathered = gather_after(alloc, text, version, at, 1);
+    differ_after(gathered, Remaining::all(spans), version, at)
 }
 
 // Starts the comparison after the spans with which both sides begin: the spans gathered from the table's other records, with

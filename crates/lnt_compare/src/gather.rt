@@ -1,42 +1,37 @@
 //! Gathers the spans of a table's records, to compare them at every position.
-ghost use Rattle.std.specs.Prelude.{◌+◌, ◌^◌, ◌<◌, ℕ, List, [], ◌∷◌, length, IfOk};
+ghost use Rattle.std.specs.Prelude.{◌≡◌, ◌+◌, ◌^◌, ◌<◌, ℕ, List, [], ◌∷◌, length, IfOk};
 ghost use Rattle.lnt_spans.specs.declared.span.Span.{Span};
-ghost use Rattle.lnt_compare.specs.Progress.{IsGathered, Judges};
-ghost use Rattle.lnt_compare.specs.Passing.{IsCut};
-ghost use Rattle.lnt_records.specs.Table.{BeginsWith, Fields, column_names};
+ghost use Rattle.lnt_spans.specs.Comparing.{end_of};
+ghost use Rattle.lnt_compare.specs.Progress.{IsGathered};
+ghost use Rattle.lnt_records.specs.Passing.{IsCutAfter};
+ghost use Rattle.lnt_records.specs.Table.{BeginsWith, Fields, IsTable, column_names};
 
-use crate::comparison::Comparison;
+use crate::comparison::comes;
 use crate::outcome::TableRead;
 use csv::ByteRecord;
-use lnt_records::{TableFault, TakesRecords, take_records};
-use lnt_spans::{MergeByNumber, Span, SpanSource, Version};
+use lnt_records::{TableFault, TakesRecords, span_of, take_records};
+use lnt_spans::{Position, Span, Version};
 use std::alloc::{AllocError, Global};
 
-// Gathers the spans of the rest of a table. `text` is the table's header with the records after it, without those that the
-// merge has already compared with spans; `count` is the number of these, including the header.
-pub(crate) fn gather_after<S: SpanSource + Drop>(
+// Gathers the spans of the rest of a table. `text` is the table's header with the records after it, without those that were passed
+// before: they end at `at`, and `count` is their number with the header.
+pub(crate) fn gather_after(
     alloc: Global,
     text: &[u8],
-    merge: MergeByNumber<S>,
     version: Version,
+    at: Position,
     count: u64,
 ) -> Result<TableRead<Vec<Span>>, AllocError>
     requires begins { BeginsWith text.now (column_names version ∷ []) }
     requires few { count + length text.now < 2 ^ 64 + 1 }
-    requires judged { (list : List Span) × (passed : List Fields)
-        × Judges S.to_come (record { merge = merge; version = version; count = count }) list (column_names version ∷ passed) }
-    ensures { IfOk result (λ gathered. (list : List Span) (passed : List Fields) (bytes : List ℕ)
-        → (j : Judges S.to_come (record { merge = merge; version = version; count = count }) list (column_names version ∷ passed))
-        → IsCut version text.now bytes passed → IsGathered bytes version j.table gathered) }
+    ensures { IfOk result (λ gathered. (table : List Span) (passed : List Fields) (bytes : List ℕ) → IsTable version passed table
+        → at ≡ end_of table → count ≡ length passed → IsCutAfter (column_names version) text.now bytes passed
+        → IsGathered bytes version table gathered) }
 {
-    let comparison = Comparison {
-        merge,
-        version,
-        count,
-    };
     let mut gathering = Gathering {
-        comparison,
         spans: Vec::new(alloc),
+        at,
+        count,
     };
     match take_records(alloc, text, &version, &mut gathering)? {
         Some(fault) => Ok(TableRead::Fault(fault)),
@@ -44,38 +39,42 @@ pub(crate) fn gather_after<S: SpanSource + Drop>(
     }
 }
 
-// The state of a comparison, and the spans of the records that it took.
+// The spans of the records that were taken.
 #[derive(Drop)]
-pub(crate) struct Gathering<S> {
-    comparison: Comparison<S>,
+pub(crate) struct Gathering {
     spans: Vec<Span>,
+    // the end of the last record
+    at: Position,
+    // the number of records so far, including the header, which is the number of the next record
+    count: u64,
 }
 
-impl<S: SpanSource + Drop> TakesRecords<Gathering<S>> for Version {
-    ghost use Rattle.std.specs.Prelude.{◌≡◌, ◌++◌, List, length};
-    ghost use Rattle.lnt_spans.specs.declared.span.Span.{Span};
+impl TakesRecords<Gathering> for Version {
+    ghost use Rattle.std.specs.Prelude.{◌≡◌};
     ghost use Rattle.lnt_records.specs.Faults.{IsFault};
-    ghost use Rattle.lnt_compare.specs.Progress.{Gathers, Judges};
-    ghost use Rattle.lnt_records.specs.Table.{Fields};
+    ghost use Rattle.lnt_compare.specs.Progress.{Gathers};
 
-    ghost has_taken = { λ version gathering count. (section : List Span) × (records : List Fields)
-        × Judges S.to_come gathering.comparison section records × (length records ≡ count) };
+    ghost has_taken = { λ version gathering count. gathering.count ≡ count };
 
-    ghost judges = { λ version gathering before records. (gathering.comparison.version ≡ version)
-        × Gathers S.to_come gathering.comparison gathering.spans.items before records };
+    ghost judges = { λ version gathering before records. Gathers version gathering before records };
 
     ghost is_fault = { λ version bytes fault. IsFault bytes fault };
 
     fn take(
         &self,
-        gathering: &mut Gathering<S>,
+        gathering: &mut Gathering,
         row: &ByteRecord,
     ) -> Result<Option<TableFault>, AllocError> {
-        let span = match gathering.comparison.take_span(row) {
+        let span = match span_of(row, *self) {
             Ok(span) => span,
-            Err(fault) => return Ok(Some(fault)),
+            Err(fault) => return Ok(Some(fault.at(gathering.count))),
         };
+        if !comes(gathering.at, span.low, span.high) {
+            return Ok(Some(TableFault::Order(gathering.count)));
+        }
         gathering.spans.push(span)?;
+        gathering.at = span.high;
+        gathering.count += 1;
         Ok(None)
     }
 }

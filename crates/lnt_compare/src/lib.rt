@@ -25,8 +25,8 @@ pub use by_path::{
 };
 pub use canonical::write_canonical;
 pub use comparison::{compare, compare_records};
-pub use differing::{Differing, compare_all, differ_lines, differ_records};
+pub use differing::{Differing, differ_lines, differ_records};
 pub use outcome::{Compared, Outcome, TableRead};
 pub use remaining::Remaining;
-pub use stream::{TableStart, compare_lines, compare_table};
+pub use stream::{TableStart, compare_lines};
 pub use window::{Window, pass_header};

@@ -8,14 +8,19 @@ use crate::line_telling::LineTelling;
 use crate::window::Window;
 use lnt_io::{Source, Stop};
 use lnt_records::{ROOM, TableVersion, line_of, put_span};
-use lnt_spans::{Answer, Span, Telling, Version};
+use lnt_spans::{Answer, Difference, Found, Merge, Span, SpanSource, Telling, Version};
 use std::alloc::{AllocError, Global};
 
 impl LineTelling for Version {
+    ghost use Rattle.std.specs.Prelude.{List, Option, IfOk};
     ghost use Rattle.lnt_records.specs.Table.{by_number};
     ghost use Rattle.lnt_records.specs.Written.{IsOfVersion, plain_by_number};
     ghost use Rattle.lnt_spans.specs.Answers.{in_version};
+    ghost use Rattle.lnt_spans.specs.Merged.{AreFound, HasMerged, answer_told};
     ghost use Rattle.lnt_spans.specs.Spans.{span_in_version};
+    ghost use Rattle.lnt_spans.specs.Stretches.{stretch_of};
+    ghost use Rattle.lnt_spans.specs.declared.answer.Answer.{Answer as SpecAnswer};
+    ghost use Rattle.lnt_spans.specs.declared.position.Position.{Position as SpecPosition};
     ghost use Rattle.lnt_spans.specs.declared.answer.Version.{Version as SpecVersion};
     ghost use Rattle.lnt_spans.specs.declared.span.Span.{Span as SpecSpan};
 
@@ -37,6 +42,21 @@ impl LineTelling for Version {
     fn joins(&self, memory: &mut (), one: &Answer, other: &Answer) -> Result<bool, AllocError> {
         match self.alike(memory, one, other) {
             Ok(alike) => Ok(alike),
+            Err(never) => match never {},
+        }
+    }
+
+    #[inline(always)]
+    fn finish<S: SpanSource + Drop>(
+        &self,
+        merge: Merge<S, Difference>,
+    ) -> Result<Found<Difference>, AllocError>
+        ensures { IfOk result (λ found. (spans : List SpecSpan) (by_table : SpecPosition → Option SpecAnswer)
+            → HasMerged S.to_come (in_version self.now) stretch_of merge spans by_table
+            → AreFound stretch_of (answer_told (in_version self.now) spans) by_table found) }
+    {
+        match merge.finish(self) {
+            Ok(found) => Ok(found),
             Err(never) => match never {},
         }
     }

@@ -2,7 +2,7 @@
 use crate::window::Window;
 use lnt_io::{Source, Stop};
 use lnt_records::ROOM;
-use lnt_spans::{Answer, Span, Telling};
+use lnt_spans::{Answer, Found, Merge, Span, SpanSource, Telling};
 use std::alloc::{AllocError, Global};
 
 /// How a table that contains this of an answer is written: a line for each joined span.
@@ -11,12 +11,14 @@ use std::alloc::{AllocError, Global};
 /// that version, and `told` what the line of a span of a section says. `format` and `plain` are such tables and their lines. `has_line`
 /// says that a line can tell the span.
 pub(crate) trait LineTelling: Telling {
-    ghost use Rattle.std.specs.Prelude.{◌≡◌, ◌≢◌, ◌-◌, ◌^◌, ◌<◌, ℕ, List, [], IfOk, IsErrOf, OnOk};
+    ghost use Rattle.std.specs.Prelude.{◌≡◌, ◌≢◌, ◌-◌, ◌^◌, ◌<◌, ℕ, List, [], Option, IfOk, IsErrOf, OnOk};
     ghost use Rattle.std.specs.Bool.{MatchBool};
     ghost use Rattle.lnt_io.specs.Stopping.{CountsFailure};
     ghost use Rattle.lnt_records.specs.Progress.{AddsLine};
     ghost use Rattle.lnt_records.specs.Table.{TableFormat};
     ghost use Rattle.lnt_records.specs.Written.{LineFormat};
+    ghost use Rattle.lnt_spans.specs.Merged.{AreFound, HasMerged, answer_told};
+    ghost use Rattle.lnt_spans.specs.declared.position.Position.{Position as SpecPosition};
     ghost use Rattle.lnt_spans.specs.declared.span.Span.{Span as SpecSpan};
     ghost use Rattle.lnt_compare.specs.Passing.{IsLineIn, Passes};
 
@@ -45,6 +47,15 @@ pub(crate) trait LineTelling: Telling {
         ensures sound { OnOk result (Self.is_sound self.now memory.new) }
         ensures alike { IfOk result (λ alike. MatchBool alike (Self.tell self.now one.now ≡ Self.tell self.now other.now)
             (Self.tell self.now one.now ≢ Self.tell self.now other.now)) };
+
+    /// What a comparison found, as `Merge::finish` gives it. Fails only if memory runs out.
+    fn finish<S: SpanSource + Drop>(
+        &self,
+        merge: Merge<S, Self::Difference>,
+    ) -> Result<Found<Self::Difference>, AllocError>
+        ensures { IfOk result (λ found. (spans : List SpecSpan) (by_table : SpecPosition → Option Self.Told)
+            → HasMerged S.to_come (Self.tell self.now) Self.value_of merge spans by_table
+            → AreFound Self.value_of (answer_told (Self.tell self.now) spans) by_table found) };
 
     /// The header as a line.
     fn header(&self) -> &'static [u8]

@@ -1,6 +1,6 @@
 -- Between which spans an index says that the answer lies, where it is that of the spans.
 use Rattle.std.proofs.Common.{◌≡◌, ℕ, ◌+◌, ◌-◌, ◌/◌, ◌%◌, ◌^◌, ◌<◌, ◌≤◌, List, length, map}
-use Rattle.std.proofs.Common.{get_or, min, sym, subst, arith}
+use Rattle.std.proofs.Common.{get_or, min, subst, arith}
 use Rattle.std.proofs.Math.Nat.{div-mul-le_self, mod-eq_of_lt}
 use Rattle.std.proofs.lemmas.Bool.{ltb-false, ltb-true}
 use Rattle.std.proofs.lemmas.Grind.{common_steps}

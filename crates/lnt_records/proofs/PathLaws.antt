@@ -121,14 +121,14 @@ path_refused = any.refused by_path pathed
 
 -- ---- the order
 
-order_push : (table : List PathSpan) (span : PathSpan) → StandInOrder table → IsAtMost (path_end table) span.low
+pub order_push : (table : List PathSpan) (span : PathSpan) → StandInOrder table → IsAtMost (path_end table) span.low
     → IsBelow span.low span.high
     → StandInOrder (table ++ span ∷ [])
 order_push [] span o le lt = lt
 order_push (r ∷ []) span o le lt = (o, le, lt)
 order_push (r ∷ next ∷ table) span o le lt = (o.0, o.1, order_push (next ∷ table) span o.2 le lt)
 
-order_pushed : (table : List PathSpan) (span : PathSpan) → StandInOrder (table ++ span ∷ [])
+pub order_pushed : (table : List PathSpan) (span : PathSpan) → StandInOrder (table ++ span ∷ [])
     → IsAtMost (path_end table) span.low × IsBelow span.low span.high
 order_pushed [] span o = (origin_first span.low, o)
 order_pushed (r ∷ []) span o = (o.1, o.2)

@@ -7,6 +7,8 @@ use Rattle.lnt_io.specs.Prefixes.{AppendsPrefix}
 use Rattle.lnt_spans.specs.declared.answer.Answer.{Answer}
 use Rattle.lnt_spans.specs.declared.answer.Version.{Version}
 use Rattle.lnt_spans.specs.declared.position.Position.{Position}
+use Rattle.lnt_records.specs.declared.fault.TableFault.{TableFault}
+use Rattle.lnt_records.specs.declared.fault.TableFault.TheVariants as fault
 use Rattle.lnt_records.specs.declared.record.RecordFault.{RecordFault}
 use Rattle.lnt_records.specs.declared.record.RecordFault.TheVariants as record_fault
 use Rattle.lnt_records.specs.Faults.{IsFaultyColumn}
@@ -31,6 +33,11 @@ IsColumnFault columns fields (record_fault.Number i) = IsFaultyColumn columns fi
 abbrev pub IsRecordFault : List Kind → ℕ → Fields → RecordFault → Type 0
 IsRecordFault columns count fields record_fault.Fields = length fields ≢ count
 IsRecordFault columns count fields (record_fault.Number i) = (length fields ≡ count) × IsFaultyColumn columns fields i
+
+-- the fault of a table, if the record has this number
+abbrev pub fault_at : ℕ → RecordFault → TableFault
+fault_at number record_fault.Fields = fault.Fields number
+fault_at number (record_fault.Number i) = fault.Number number i
 
 -- the position in columns i and i + 1
 pub record SaysPosition (fields : Fields) (i : ℕ) (position : Position) : Type 0 where

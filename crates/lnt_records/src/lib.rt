@@ -24,7 +24,7 @@ mod write;
 
 pub use by_path::{
     FileText, FileTexts, PathFields, PathRecord, PathVersion, Paths, SaidPath, ToldFiles,
-    addresses_before, line_at, place_before, put_line, record_after,
+    addresses_before, line_at, place_before, put_line, record_of,
 };
 pub use column::{Columns, address_at, decimal_at, field, is_field};
 pub use fault::{TableFault, WriteStop};

@@ -2,11 +2,12 @@
 ghost use Rattle.std.specs.Prelude.{◌≡◌, ◌+◌, ◌<◌, length, IfOk, IfErr, OnOk};
 ghost use Rattle.csv.specs.Records.{fields_of};
 ghost use Rattle.lnt_text.specs.Digits.{IsDecimal};
-ghost use Rattle.lnt_records.specs.Progress.{AreSoundBefore, IsColumnFault, IsColumnOf, IsRecordFault, SaysAnswer, SaysPosition};
+ghost use Rattle.lnt_records.specs.Progress.{AreSoundBefore, IsColumnFault, IsColumnOf, IsRecordFault, SaysAnswer, SaysPosition, fault_at};
 ghost use Rattle.lnt_records.specs.Table.{AreMore, IsSpanRecord, column_count, kinds};
 ghost use Rattle.lnt_records.specs.Table as table;
 
 use crate::column::{ByNumber, address_at, decimal_at, flag_at};
+use crate::fault::TableFault;
 use crate::header::columns;
 use csv::ByteRecord;
 use lnt_spans::{Answer, More, Position, Span, Version};
@@ -18,6 +19,18 @@ pub enum RecordFault {
     Fields,
     /// This column is the first whose field isn't of its kind.
     Number(u64),
+}
+
+impl RecordFault {
+    /// The fault of a table, if the record has this number.
+    pub fn at(self, number: u64) -> TableFault
+        ensures { result ≡ fault_at number self }
+    {
+        match self {
+            RecordFault::Fields => TableFault::Fields(number),
+            RecordFault::Number(column) => TableFault::Number(number, column),
+        }
+    }
 }
 
 /// The span of a record, or why it has none.

@@ -53,6 +53,20 @@ answer_from (span ∷ next ∷ passed) more p o h =
     (at_most_trans (end_above span (next ∷ passed) (prefix_in_order (span ∷ next ∷ passed) more o)) h)
     ∙ answer_from (next ∷ passed) more p o.2 h
 
+-- ---- one more span
+
+pub order_push : (spans : List Span) (span : Span) → AreInOrder spans → IsAtMost (end_of spans) span.low → IsBelow span.low span.high
+    → AreInOrder (spans ++ span ∷ [])
+order_push [] span o le lt = lt
+order_push (s ∷ []) span o le lt = (o, le, lt)
+order_push (s ∷ next ∷ spans) span o le lt = (o.0, o.1, order_push (next ∷ spans) span o.2 le lt)
+
+pub order_pushed : (spans : List Span) (span : Span) → AreInOrder (spans ++ span ∷ [])
+    → IsAtMost (end_of spans) span.low × IsBelow span.low span.high
+order_pushed [] span o = (origin_first span.low, o)
+order_pushed (s ∷ []) span o = (o.1, o.2)
+order_pushed (s ∷ next ∷ spans) span o = order_pushed (next ∷ spans) span o.2
+
 -- ---- as a version contains them
 
 told_are : (version : Version) (spans : List Span) → AllByRecursion (IsTold version) spans → told version spans ≡ spans

@@ -22,7 +22,7 @@ pub trait Telling {
     type Said: Copy;
 
     /// What is remembered of comparisons.
-    type Memory;
+    type Memory: Drop;
 
     /// What is remembered of comparisons with one record.
     type Recalled: Copy;

@@ -12,7 +12,7 @@ use crate::by_path::answer::AnswerByPath;
 use crate::by_path::telling::said_of;
 use crate::outcome::TableRead;
 use csv::ByteRecord;
-use lnt_records::{PathVersion, TableFault, TakesRecords, header_of, record_after, take_records};
+use lnt_records::{PathVersion, TableFault, TakesRecords, header_of, record_of, take_records};
 use std::alloc::{AllocError, Global};
 
 /// A span of a table by path, held in memory with its answer.
@@ -89,10 +89,13 @@ fn hold_record(
         (λ fault. IsFaultyRecord version (map held_span spans.old.items) (length records) (fields_of row.now) fault)) }
 {
     let number = spans.len() as u64 + 1;
-    let said = match record_after(row, version, end_of(spans), number) {
+    let said = match record_of(row, version) {
         Ok(said) => said,
-        Err(fault) => return Ok(Some(fault)),
+        Err(fault) => return Ok(Some(fault.at(number))),
     };
+    if !said.holds_from(end_of(spans)) {
+        return Ok(Some(TableFault::Order(number)));
+    }
     let answer = said_of(alloc, said.answer())?;
     spans.push(HeldSpan {
         low: said.low,

@@ -5,6 +5,7 @@ ghost use Rattle.lnt_spans.specs.Instructions.{IsOfInstructions};
 ghost use Rattle.lnt_records.specs.PathAnswers.{path_answer};
 ghost use Rattle.lnt_records.specs.PathLines.{IsSpanLine, path_field};
 
+use crate::by_path::answer::DifferenceByPath;
 use crate::by_path::telling::{PathMemory, PathTelling};
 use crate::line_telling::LineTelling;
 use crate::window::Window;
@@ -12,13 +13,18 @@ use lnt_io::{Source, Stop};
 use lnt_records::{
     PathVersion, Paths, ROOM, TableVersion, addresses_before, place_before, put_line,
 };
-use lnt_spans::{Answer, Span, Telling};
+use lnt_spans::{Answer, Found, Merge, Span, SpanSource, Telling};
 use std::alloc::{AllocError, Global};
 
 impl<'p, 'r, P: Paths> LineTelling for PathTelling<'p, 'r, P> {
+    ghost use Rattle.std.specs.Prelude.{List, Option, IfOk};
     ghost use Rattle.lnt_spans.specs.Instructions.{IsOfInstructions};
+    ghost use Rattle.lnt_spans.specs.Merged.{AreFound, HasMerged, answer_told};
+    ghost use Rattle.lnt_spans.specs.declared.position.Position.{Position as SpecPosition};
+    ghost use Rattle.lnt_spans.specs.declared.span.Span.{Span as SpecSpan};
+    ghost use Rattle.lnt_compare.specs.PathStretches.{stretch_of};
     ghost use Rattle.lnt_compare.specs.Joining.{tell_span};
-    ghost use Rattle.lnt_records.specs.PathAnswers.{path_answer};
+    ghost use Rattle.lnt_records.specs.PathAnswers.{PathAnswer, path_answer};
     ghost use Rattle.lnt_records.specs.PathLines.{plain_by_path};
     ghost use Rattle.lnt_records.specs.PathSpans.{PathSpan};
     ghost use Rattle.lnt_records.specs.PathTables.{by_path};
@@ -46,6 +52,18 @@ impl<'p, 'r, P: Paths> LineTelling for PathTelling<'p, 'r, P> {
         other: &Answer,
     ) -> Result<bool, AllocError> {
         self.alike(memory, one, other)
+    }
+
+    #[inline(always)]
+    fn finish<S: SpanSource + Drop>(
+        &self,
+        merge: Merge<S, DifferenceByPath>,
+    ) -> Result<Found<DifferenceByPath>, AllocError>
+        ensures { IfOk result (λ found. (spans : List SpecSpan) (by_table : SpecPosition → Option PathAnswer)
+            → HasMerged S.to_come (path_answer self.now.version (P.bytes_of self.now.paths.now)) stretch_of merge spans by_table
+            → AreFound stretch_of (answer_told (path_answer self.now.version (P.bytes_of self.now.paths.now)) spans) by_table found) }
+    {
+        merge.finish(self)
     }
 
     fn header(&self) -> &'static [u8] {

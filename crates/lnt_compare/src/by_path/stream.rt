@@ -9,8 +9,9 @@ ghost use Rattle.lnt_records.specs.PathTables.{path_column_names};
 ghost use Rattle.lnt_io.specs.Stopping.{CountsFailure, IsTooLongOn};
 
 use crate::by_path::answer::DifferenceByPath;
-use crate::by_path::comparison::{PathComparison, compare_text};
+use crate::by_path::comparison::compare_text;
 use crate::by_path::telling::{PathMemory, PathTelling};
+use crate::comparison::Comparison;
 use crate::outcome::Outcome;
 use crate::passing::pass_spans;
 use crate::window::Window;
@@ -63,8 +64,7 @@ pub fn compare_lines_by_path<S: SpanSource + Drop, P: Paths, T: Source>(
         &mut window,
     )?;
     let text = window.rest_after(alloc, version.header_line(), table)?;
-    let end = passed.end.address;
-    let comparison = PathComparison::past(memory, passed.spans, end, passed.count);
+    let comparison = Comparison::past(memory, passed.spans, passed.end, passed.count);
     let outcome = compare_text(alloc, &text, version, comparison, paths)?;
     Ok(outcome)
 }

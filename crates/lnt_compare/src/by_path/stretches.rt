@@ -6,7 +6,7 @@ ghost use Rattle.lnt_spans.specs.Counts.{addresses_answered};
 ghost use Rattle.lnt_spans.specs.Partial.{where_missed};
 ghost use Rattle.lnt_spans.specs.Spans.{AreInOrder};
 ghost use Rattle.lnt_compare.specs.declared.by_path.answer.DifferenceByPath as spec_difference;
-ghost use Rattle.lnt_compare.specs.Merging.{IsRemembered};
+ghost use Rattle.lnt_compare.specs.Remembering.{IsRemembered};
 ghost use Rattle.lnt_compare.specs.Held.{held_span};
 ghost use Rattle.lnt_records.specs.PathAnswers.{PathAnswer, spans_by_path};
 ghost use Rattle.lnt_compare.specs.PathStretches.{ArePathStretches, stretches_of, told_path_answer};

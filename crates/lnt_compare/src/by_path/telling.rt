@@ -3,7 +3,7 @@ ghost use Rattle.std.specs.Prelude.{◌≡◌, ◌≢◌, ℕ, List, IfOk};
 ghost use Rattle.std.specs.Bool.{MatchBool};
 ghost use Rattle.std.specs.Option.{option_map};
 ghost use Rattle.lnt_spans.specs.AnyStretches.{stretch_at};
-ghost use Rattle.lnt_compare.specs.Merging.{IsRemembered};
+ghost use Rattle.lnt_compare.specs.Remembering.{IsRemembered};
 ghost use Rattle.lnt_records.specs.PathAnswers.{path_answer, told_column};
 ghost use Rattle.lnt_compare.specs.PathStretches.{stretch_of, told_path_answer};
 ghost use Rattle.lnt_records.specs.PathRecords.{said_answer};
@@ -45,7 +45,7 @@ pub(crate) struct PathTelling<'p, 'r, P> {
 impl<'p, 'r, P: Paths> Telling for PathTelling<'p, 'r, P> {
     ghost use Rattle.std.specs.Prelude.{◌≡◌};
     ghost use Rattle.lnt_records.specs.KeptPaths.{AreTold};
-    ghost use Rattle.lnt_compare.specs.Merging.{IsRemembered};
+    ghost use Rattle.lnt_compare.specs.Remembering.{IsRemembered};
     ghost use Rattle.lnt_records.specs.PathAnswers.{PathAnswer, path_answer};
     ghost use Rattle.lnt_compare.specs.PathStretches.{stretch_of};
     ghost use Rattle.lnt_records.specs.PathRecords.{said_answer};

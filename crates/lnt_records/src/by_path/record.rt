@@ -1,10 +1,8 @@
 //! Reads the span of a record of a table by path.
-ghost use Rattle.std.specs.Prelude.{◌≡◌, ◌<◌, ◌≤◌, List, length, IfOk, IfErr};
+ghost use Rattle.std.specs.Prelude.{◌≡◌, ◌<◌, ◌≤◌, length, IfOk, IfErr};
 ghost use Rattle.std.specs.Bool.{MatchBool};
 ghost use Rattle.csv.specs.Records.{fields_of};
 ghost use Rattle.lnt_text.specs.Digits.{IsAddress, IsDecimal};
-ghost use Rattle.lnt_records.specs.PathSpans.{PathSpan, path_end, whole};
-ghost use Rattle.lnt_records.specs.PathFaults.{IsFaultyRecord};
 ghost use Rattle.lnt_records.specs.PathTables.{SaysColumn, SaysPath, path_column_count, path_kinds};
 ghost use Rattle.lnt_records.specs.PathRecords.{record_answer, said_answer};
 ghost use Rattle.lnt_records.specs.Progress.{AreSoundBefore, IsColumnFault, IsRecordFault};
@@ -12,7 +10,6 @@ ghost use Rattle.lnt_records.specs.Progress.{AreSoundBefore, IsColumnFault, IsRe
 use crate::by_path::header::columns;
 use crate::by_path::version::PathVersion;
 use crate::column::{Columns, address_at, decimal_at, field};
-use crate::fault::TableFault;
 use crate::record::RecordFault;
 use csv::ByteRecord;
 
@@ -73,31 +70,11 @@ impl Columns for ByPath {
     ghost columns = { path_kinds };
 }
 
-/// The values of the record with this number, or its fault, if the records before it end at this address.
-pub fn record_after<'r>(
+/// The values of a record, or why it has none.
+pub fn record_of<'r>(
     row: &'r ByteRecord,
     version: PathVersion,
-    at: u64,
-    number: u64,
-) -> Result<PathRecord<'r>, TableFault>
-    ensures ok { IfOk result (λ said. SaysPath IsAddress IsDecimal version (fields_of row.now) said.low said.high (record_answer said)) }
-    ensures order { IfOk result (λ said. (at ≤ said.low) × (said.low < said.high)) }
-    ensures err { IfErr result (λ fault. (table : List PathSpan) → whole at ≡ path_end table
-        → IsFaultyRecord version table number (fields_of row.now) fault) }
-{
-    let said = match record_of(row, version) {
-        Ok(said) => said,
-        Err(RecordFault::Fields) => return Err(TableFault::Fields(number)),
-        Err(RecordFault::Number(column)) => return Err(TableFault::Number(number, column)),
-    };
-    if !said.holds_from(at) {
-        return Err(TableFault::Order(number));
-    }
-    Ok(said)
-}
-
-// The values of a record, or why it has none.
-fn record_of<'r>(row: &'r ByteRecord, version: PathVersion) -> Result<PathRecord<'r>, RecordFault>
+) -> Result<PathRecord<'r>, RecordFault>
     ensures ok { IfOk result (λ said. SaysPath IsAddress IsDecimal version (fields_of row.now) said.low said.high (record_answer said)) }
     ensures err { IfErr result (λ fault. IsRecordFault path_kinds (path_column_count version) (fields_of row.now) fault) }
 {

@@ -1,11 +1,12 @@
-use Rattle.std.proofs.Common.{◌^◌, ◌<◌, ◌+◌, ◌++◌, ℕ, List, [], arith, length, refl}
+use Rattle.std.proofs.Common.{◌^◌, ◌<◌, ◌+◌, ◌++◌, ℕ, List, arith, length, refl}
 use Rattle.std.proofs.lemmas.Grind.{elements}
 use Rattle.lnt_spans.specs.Spans.{span_answer}
 use Rattle.lnt_compare.specs.Passing.{Ends}
 use Rattle.lnt_records.specs.Table.{by_number, column_names}
 use Rattle.lnt_records.specs.Written.{line_text, lines_text, plain_by_number}
-use Rattle.lnt_compare.proofs.GatherLemmas.{gathered_is, goes_on, judges_off, order_alone, started}
-use Rattle.lnt_compare.proofs.PassingLemmas.{left_off}
+use Rattle.lnt_spans.proofs.AnsweringLaws.{prefix_in_order}
+use Rattle.lnt_spans.proofs.ToldLaws.{told}
+use Rattle.lnt_compare.proofs.GatherLemmas.{gathered_lines, goes_on, started}
 use Rattle.lnt_compare.proofs.StreamLaws.{begun, cut_begins, few_all, no_header_fault, rest_begins, rest_cut, whole_begun}
 use Rattle.lnt_compare.proofs.WindowLaws.{few_passed}
 use Rattle.lnt_records.proofs.WriteLaws.{plain_numbers}
@@ -28,80 +29,53 @@ gather_after-gathered-requires-clause-few g c =
     let past : List ℕ = c.pass_spans.new.window in
     let ends : Ends (g.T.Source.remaining c.pass_spans.new.source) (g.T.Source.left c.pass_spans.new.source)
     (c.header_line.result.now ++ past) c.deref.result.now = rw (← c.deref.ensures.value) at c.in_ok-text.ensures.ok in
-    let known = c.requires.spans in
-    let off = left_off version _ known.0 spans.1 spans.0 _ _ spans.3 (spans.4 known.0 known.1 known.2) in
     let fits : length (line_text (column_names version)) + length c.pass_header.new.window + g.T.Source.left c.fill.new.source < 2 ^ 64 =
     omega (arith, c.left-may_give.ensures, c.left-may_give.type_inv, few_passed _ _ _ _ _ _ _ begun) in
     few_all by_number plain_by_number plain_numbers version _ _ _ _ c.header_line.result.now c.pass_header.new.window past spans.0
-    c.deref.result.now off.table c.in_ok-passed.passed.count c.header_line.ensures spans.2 ends off.lines fits
-
-pub gather_after-gathered-requires-clause-judged : goal.gather_after-gathered-requires-clause-judged
-gather_after-gathered-requires-clause-judged g c =
-    let version = c.in-Some.version in
-    let spans = c.in_ok-passed.ensures.ok in
-    let known = c.requires.spans in
-    let off = left_off version _ known.0 spans.1 spans.0 _ _ spans.3 (spans.4 known.0 known.1 known.2) in
-    let compares =
-    c.past-merge.ensures.compares off.table [] c.of.ensures (order_alone off.table off.rest off.order) off.told off.end_is in (
-      off.table ++ [],
-      off.lines.records,
-      (judges_off _ _ c.past-merge.result version known.0 spans.0 c.in_ok-passed.passed.count c.in_ok-passed.passed.end off
-          c.past-merge.ensures.version compares).0,
-    )
+    c.deref.result.now _ c.in_ok-passed.passed.count c.header_line.ensures spans.2 ends spans.3.lines fits
 
 pub returns-clause-ok : goal.returns-clause-ok
 returns-clause-ok g c list section coming order answers =
     let version = c.in-Some.version in
-    let count = c.in_ok-passed.passed.count in
     let begun = begun version _ _ _ _ c.new-window.result c.fill.new.self c.pass_header.new.window c.new-window.ensures
     c.in_ok-fill.ensures.taken c.in-Some.ensures in
     let spans = c.in_ok-passed.ensures.ok in
     let past : List ℕ = c.pass_spans.new.window in
     let ends : Ends (g.T.Source.remaining c.pass_spans.new.source) (g.T.Source.left c.pass_spans.new.source)
     (c.header_line.result.now ++ past) c.deref.result.now = rw (← c.deref.ensures.value) at c.in_ok-text.ensures.ok in
-    let off = left_off version _ list spans.1 spans.0 _ _ spans.3 (spans.4 list coming order) in
-    let compares =
-    c.past-merge.ensures.compares off.table [] c.of.ensures (order_alone off.table off.rest off.order) off.told off.end_is in
-    let j = judges_off _ _ c.past-merge.result version list spans.0 count c.in_ok-passed.passed.end off c.past-merge.ensures.version
-    compares in
+    let off = spans.4 list coming order in
+    let lines = spans.3.lines in
     let header =
     rest_begins by_number plain_by_number plain_numbers version _ _ c.header_line.result.now past c.deref.result.now c.header_line.ensures ends in
-    whole_begun version _ _ _ _ _ _ c.header_line.result.now c.pass_header.new.window past spans.0 c.deref.result.now off.table count _
-    c.header_line.ensures begun spans.2 ends off.lines
+    whole_begun version _ _ _ _ _ _ c.header_line.result.now c.pass_header.new.window past spans.0 c.deref.result.now _ lines.records _
+    c.header_line.ensures begun spans.2 ends lines.text_is lines.each
     (λ bytes cut.
-    let told = c.in_ok-differing.ensures bytes section off.table off.rest
-    (gathered_is _ (record { merge = c.past-merge.result; version = version; count = count }) (off.table ++ []) off.table
-    off.lines.records bytes version c.deref.result.now c.gather_after-gathered.result j.0 j.1 cut
-    c.gather_after-gathered.ensures)
-    (goes_on version list off.table off.rest section c.in_ok-passed.passed.end off.order off.same off.end_is answers) off.left in
-    let begins = cut_begins version c.deref.result.now bytes off.lines.records cut header in
+    let told = c.in_ok-differing.ensures bytes section (told version spans.1) off.rest
+    (gathered_lines version spans.0 c.deref.result.now bytes spans.1 _ _ c.gather_after-gathered.result spans.3
+    (prefix_in_order spans.1 off.rest off.order) cut c.gather_after-gathered.ensures)
+    (goes_on version _ list spans.1 section c.in_ok-passed.passed.end off spans.3.end_is answers) off.left in
+    let begins = cut_begins version c.deref.result.now bytes lines.records cut header in
     (told, no_header_fault _ _ bytes version section c.in_ok-differing.differing begins told))
 
 pub returns-clause-started : goal.returns-clause-started
 returns-clause-started g c =
     let version = c.in-Some.version in
-    let count = c.in_ok-passed.passed.count in
     let spans = c.in_ok-passed.ensures.ok in
     let past : List ℕ = c.pass_spans.new.window in
     let ends : Ends (g.T.Source.remaining c.pass_spans.new.source) (g.T.Source.left c.pass_spans.new.source)
     (c.header_line.result.now ++ past) c.deref.result.now = rw (← c.deref.ensures.value) at c.in_ok-text.ensures.ok in
     let known = c.requires.spans in
     let list = known.0 in
-    let off = left_off version _ list spans.1 spans.0 _ _ spans.3 (spans.4 list known.1 known.2) in
-    let compares =
-    c.past-merge.ensures.compares off.table [] c.of.ensures (order_alone off.table off.rest off.order) off.told off.end_is in
-    let j = judges_off _ _ c.past-merge.result version list spans.0 count c.in_ok-passed.passed.end off c.past-merge.ensures.version
-    compares in
-    let bytes : List ℕ = line_text (column_names version) ++ (lines_text off.lines.records ++ (past ++ ends.given)) in
-    let cut = rest_cut by_number plain_by_number plain_numbers version _ _ c.header_line.result.now past spans.0 c.deref.result.now off.table
-    count c.header_line.ensures ends off.lines in
+    let off = spans.4 list known.1 known.2 in
+    let lines = spans.3.lines in
+    let bytes : List ℕ = line_text (column_names version) ++ (lines_text lines.records ++ (past ++ ends.given)) in
+    let cut = rest_cut by_number plain_by_number plain_numbers version _ _ c.header_line.result.now past c.deref.result.now _ lines.records
+    c.header_line.ensures ends lines.each in
     started _ _ bytes (span_answer list) c.in_ok-differing.differing
-    (c.in_ok-differing.ensures bytes (span_answer list) off.table off.rest
-    (gathered_is _ (record { merge = c.past-merge.result; version = version; count = count }) (off.table ++ []) off.table
-    off.lines.records bytes version c.deref.result.now c.gather_after-gathered.result j.0 j.1 cut
-    c.gather_after-gathered.ensures)
-    (goes_on version list off.table off.rest (span_answer list) c.in_ok-passed.passed.end off.order off.same off.end_is (λ p. refl))
-    off.left)
+    (c.in_ok-differing.ensures bytes (span_answer list) (told version spans.1) off.rest
+    (gathered_lines version spans.0 c.deref.result.now bytes spans.1 _ _ c.gather_after-gathered.result spans.3
+    (prefix_in_order spans.1 off.rest off.order) cut c.gather_after-gathered.ensures)
+    (goes_on version _ list spans.1 (span_answer list) c.in_ok-passed.passed.end off spans.3.end_is (λ p. refl)) off.left)
 
 pub returns-in_err-text-clause-too_long : goal.returns-in_err-text-clause-too_long
 returns-in_err-text-clause-too_long g c = grind (arith, elements)

@@ -1,25 +1,16 @@
 use Rattle.std.proofs.Common.{[], refl}
 use Rattle.std.proofs.lemmas.Result.{IfOk-weaker}
 use Rattle.lnt_spans.specs.Spans.{span_answer}
-use Rattle.lnt_compare.proofs.GatherLemmas.{all_to_come, gathered_is, judges_none, started}
+use Rattle.lnt_compare.proofs.GatherLemmas.{all_to_come, gathered_all, started}
 use Rattle.lnt_compare.proofs.differing.differ_records.Goals as goal
-
-pub gather_after-gathered-requires-clause-judged : goal.gather_after-gathered-requires-clause-judged
-gather_after-gathered-requires-clause-judged g c = (
-  [],
-  [],
-  (judges_none _ c.new-merge.result c.in-Some.version c.new-merge.ensures.version (c.new-merge.ensures.compares [] c.of.ensures tt)).0,
-)
 
 pub returns-clause-differing : goal.returns-clause-differing
 returns-clause-differing g c =
     let version = c.in-Some.version in
-    let j = judges_none _ c.new-merge.result version c.new-merge.ensures.version (c.new-merge.ensures.compares [] c.of.ensures tt) in
     IfOk-weaker c.differ_after.result _ _
     (λ differing h list section coming order answers.
     h c.args.text.now section [] list
-    (gathered_is _ (record { merge = c.new-merge.result; version = version; count = 1 }) [] [] [] c.args.text.now version c.args.text.now
-    c.gather_after-gathered.result j.0 j.1 (λ more after rest r. r) c.gather_after-gathered.ensures)
+    (gathered_all version c.args.text.now c.gather_after-gathered.result c.gather_after-gathered.ensures)
     (all_to_come version list section order answers) (c.all.ensures list coming))
     c.differ_after.ensures
 
@@ -27,13 +18,11 @@ pub returns-clause-started : goal.returns-clause-started
 returns-clause-started g c =
     let version = c.in-Some.version in
     let known = c.requires in
-    let j = judges_none _ c.new-merge.result version c.new-merge.ensures.version (c.new-merge.ensures.compares [] c.of.ensures tt) in
     IfOk-weaker c.differ_after.result _ _
     (λ differing h.
     started _ _ c.args.text.now (span_answer known.0) differing
     (h c.args.text.now (span_answer known.0) [] known.0
-    (gathered_is _ (record { merge = c.new-merge.result; version = version; count = 1 }) [] [] [] c.args.text.now version c.args.text.now
-    c.gather_after-gathered.result j.0 j.1 (λ more after rest r. r) c.gather_after-gathered.ensures)
+    (gathered_all version c.args.text.now c.gather_after-gathered.result c.gather_after-gathered.ensures)
     (all_to_come version known.0 (span_answer known.0) known.2 (λ p. refl)) (c.all.ensures known.0 known.1)))
     c.differ_after.ensures
 

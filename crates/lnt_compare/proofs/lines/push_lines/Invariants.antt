@@ -5,9 +5,8 @@ use Rattle.lnt_compare.proofs.lines.push_lines.Given as goal
 abbrev pub invariant-loop-window : goal.invariant-loop-window
 invariant-loop-window g l = record {
   failures : g.T.Source.failures l.source ≡ g.T.Source.failures l.initial.source;
-  reads : Reads g.S.SpanSource.to_come l.initial.merge l.merge l.version l.initial.count l.count (g.T.Source.remaining l.initial.source)
-      (g.T.Source.remaining l.source) (g.T.Source.left l.initial.source) (g.T.Source.left l.source)
-      l.initial.window l.window;
+  reads : Reads g.S.SpanSource.to_come l.version l.initial.comparison l.comparison (g.T.Source.remaining l.initial.source)
+      (g.T.Source.remaining l.source) (g.T.Source.left l.initial.source) (g.T.Source.left l.source) l.initial.window l.window;
 }
 
 abbrev pub decreases-loop-window : goal.decreases-loop-window

@@ -1,6 +1,6 @@
 use Rattle.std.proofs.Common.{List, arith}
 use Rattle.lnt_spans.specs.declared.span.Span.{Span}
-use Rattle.lnt_compare.proofs.StepLemmas.{stands_apart, stands_grown}
+use Rattle.lnt_compare.proofs.StepLemmas.{stands_grown}
 use Rattle.lnt_compare.proofs.joined.Joined.next_joined.Goals as goal
 
 pub loop-span-preserved : goal.loop-span-preserved
