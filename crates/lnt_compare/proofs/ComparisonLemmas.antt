@@ -77,6 +77,14 @@ one_more kind end laws at table span h ended = record {
       (ended p (at_most_trans h.past (at_most_trans (below_is_at_most h.holds) k))) ∙ laws.after span [] p k ∙ laws.none p;
 }
 
+pub table_more : {V X Y D : Type 0} (kind : TableKind V X Y D) (end : List X → Position) (laws : KindLaws kind end) (version : V)
+    (records : List Fields) (table : List X) (fields : Fields) (span : X) → IsTableIn kind.format version records table
+    → kind.format.Says version fields span → Comes (end table) (laws.low span) (laws.high span)
+    → IsTableIn kind.format version (records ++ fields ∷ []) (table ++ span ∷ [])
+table_more kind end laws version records table fields span t says comes =
+    table_push kind.format version records table fields span t says
+    (laws.push table span (table_order kind.format version records table t) comes)
+
 pub record_taken : {S D M V X Y : Type 0} (to_come : S → List Span → Type 0) (kind : TableKind V X Y D) (end : List X → Position)
     (laws : KindLaws kind end) (tell : Answer → Y) (version : V) (old new : Comparison S D M) (section : List Span) (records : List Fields)
     (fields : Fields) (span : X) → Judges to_come kind end tell version old section records → kind.format.Says version fields span
@@ -84,9 +92,8 @@ pub record_taken : {S D M V X Y : Type 0} (to_come : S → List Span → Type 0)
     → Judges to_come kind end tell version new section (records ++ fields ∷ [])
 record_taken to_come kind end laws tell version old new section records fields span j says push = record {
   table = j.table ++ span ∷ [];
-  is_table = table_push kind.format version records j.table fields span j.is_table says
-      (laws.push j.table span (table_order kind.format version records j.table j.is_table)
-      (subst (λ (p : Position). Comes p (laws.low span) (laws.high span)) j.at push.comes));
+  is_table = table_more kind end laws version records j.table fields span j.is_table says
+      (subst (λ (p : Position). Comes p (laws.low span) (laws.high span)) j.at push.comes);
   count = omega (arith, j.count, push.count, length-append records (fields ∷ []));
   at = push.at ∙ sym (laws.ends j.table span);
   merged = push.merged section (kind.answers j.table) (kind.answers (j.table ++ span ∷ [])) j.merged

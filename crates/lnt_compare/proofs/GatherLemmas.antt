@@ -12,13 +12,14 @@ use Rattle.lnt_spans.specs.declared.span.Span.{Span}
 use Rattle.lnt_spans.specs.declared.position.Position.{Position}
 use Rattle.lnt_spans.specs.Answers.{in_version}
 use Rattle.lnt_spans.specs.Comparing.{IsTold, end_of}
-use Rattle.lnt_spans.specs.Spans.{AreInOrder, span_answer, span_in_version, version_answer}
+use Rattle.lnt_spans.specs.Spans.{AreInOrder, span_answer, span_in_version}
 use Rattle.lnt_spans.specs.declared.listed.SpanList.{SpanList}
 use Rattle.lnt_spans.proofs.ToldLaws.{told, told_order}
 use Rattle.lnt_compare.specs.declared.gather.Gathering.{Gathering}
 use Rattle.lnt_compare.specs.declared.outcome.TableRead.{TableRead}
 use Rattle.lnt_compare.specs.declared.outcome.TableRead.TheVariants.{Fault, Table}
 use Rattle.lnt_compare.specs.declared.remaining.Remaining.{Remaining}
+use Rattle.lnt_compare.specs.Comparisons.{tables_by_number}
 use Rattle.lnt_compare.specs.Differing.{Differing, IsDiffering, IsStarted}
 use Rattle.lnt_compare.specs.Joining.{LeaveOff}
 use Rattle.lnt_compare.specs.Passing.{AreLinesOf}
@@ -26,9 +27,10 @@ use Rattle.lnt_compare.specs.Progress.{Comes, Gathers, IsContinuedBy, IsGathered
 use Rattle.lnt_records.specs.Passing.{IsCutAfter}
 use Rattle.lnt_records.specs.Table.{Fields, IsSpanRecord, IsTable, IsTableOf, by_number, column_names}
 use Rattle.lnt_records.specs.Written.{plain_by_number}
+use Rattle.lnt_compare.proofs.ComparisonLemmas.{table_more}
 use Rattle.lnt_compare.proofs.KindLaws.{end_added, end_told, number_laws}
 use Rattle.lnt_compare.proofs.PassingLemmas.{all_told, first_answer, first_order}
-use Rattle.lnt_records.proofs.TableLaws.{table_order, table_push}
+use Rattle.lnt_records.proofs.TableLaws.{table_order}
 
 -- ---- the records of a text
 
@@ -49,9 +51,8 @@ gathers_more version old new before records fields span g says comes items at co
     append_assoc before old.spans.items (span ∷ []) ∙ ap (λ (t : List Span). before ++ t) (sym items) in
     record {
       is_table = subst (IsTable version (records ++ fields ∷ [])) same
-          (table_push by_number version records table fields span g.is_table says (number_laws.push table span
-          (table_order by_number version records table g.is_table)
-          (subst (λ (p : Position). Comes p span.low span.high) g.at comes)));
+          (table_more tables_by_number end_of number_laws version records table fields span g.is_table says
+          (subst (λ (p : Position). Comes p span.low span.high) g.at comes));
       at = at ∙ sym (end_added table span) ∙ ap end_of same;
       count = omega (arith, g.count, count, length-append records (fields ∷ []));
     }

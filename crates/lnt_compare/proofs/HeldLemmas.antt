@@ -1,18 +1,17 @@
 -- The spans of a table by path are held one after another.
-use Rattle.std.proofs.Common.{◌≡◌, ◌∙◌, ℕ, ◌+◌, ◌-◌, ◌<◌, ◌≤◌, List, [], ◌∷◌, ◌++◌, Option, Some, None, ap, length, map, refl, suc}
-use Rattle.std.specs.Prelude.{MatchOption}
+use Rattle.std.proofs.Common.{◌≡◌, ◌∙◌, ℕ, ◌+◌, ◌-◌, List, [], ◌∷◌, ◌++◌, Some, ap, length, map, refl, suc}
 use Rattle.std.proofs.Common.{subst, sym, arith}
 use Rattle.std.proofs.lemmas.List.{length-map, map-append}
 use Rattle.std.proofs.lemmas.Option.{slice_get_within}
 use Rattle.std.specs.List.{AllZip, slice_get}
 use Rattle.lnt_text.specs.Digits.{IsAddress, IsDecimal}
-use Rattle.lnt_records.specs.declared.fault.TableFault.{TableFault}
-use Rattle.lnt_records.specs.Reading.{IsReadAs}
-use Rattle.lnt_records.specs.Table.{BeginsWith, Fields}
-use Rattle.lnt_records.proofs.PathLaws.{path_refused, says_span, table_push}
+use Rattle.lnt_records.specs.Table.{Fields}
+use Rattle.lnt_compare.specs.PathOutcomes.{tables_by_path}
+use Rattle.lnt_compare.specs.Progress.{Comes}
+use Rattle.lnt_compare.proofs.ComparisonLemmas.{table_more}
+use Rattle.lnt_compare.proofs.KindLaws.{path_laws}
+use Rattle.lnt_records.proofs.PathLaws.{says_span}
 use Rattle.lnt_records.proofs.TableLaws.{table_order}
-use Rattle.lnt_spans.specs.declared.position.Position.{Position}
-use Rattle.lnt_spans.specs.Positions.{IsAtMost, IsBelow}
 use Rattle.lnt_compare.specs.declared.by_path.answer.AnswerByPath.{AnswerByPath}
 use Rattle.lnt_compare.specs.declared.by_path.held.HeldSpan.{HeldSpan}
 use Rattle.lnt_records.specs.declared.by_path.record.PathRecord.{PathRecord}
@@ -21,7 +20,6 @@ use Rattle.lnt_compare.specs.Held.{held_span}
 use Rattle.lnt_records.specs.PathSpans.{PathSpan, StandInOrder, path_end, whole}
 use Rattle.lnt_records.specs.PathAnswers.{PathAnswer}
 use Rattle.lnt_compare.specs.PathStretches.{told_path_answer}
-use Rattle.lnt_records.specs.PathFaults.{IsFaultyRecord, IsPathFault}
 use Rattle.lnt_records.specs.PathTables.{IsPathRecord, IsPathTable, SaysPath, by_path, path_column_names}
 use Rattle.lnt_records.specs.PathRecords.{record_answer, record_span}
 
@@ -58,35 +56,22 @@ table_length version (first ∷ records) spans t =
 
 -- ---- one more record
 
-low_high : (said : PathRecord) → said.low < said.high → IsBelow (whole said.low) (whole said.high)
-low_high said lt = record { address = omega (arith, lt); op = λ e. absurd (omega (arith, lt, e)) }
-
 pub record_held : (version : PathVersion) (records : List Fields) (fields : Fields) (spans new : List HeldSpan) (said : PathRecord)
-    (at : ℕ) (answer : AnswerByPath) → IsPathTable version records (map held_span spans)
-    → SaysPath IsAddress IsDecimal version fields said.low said.high (record_answer said) → whole at ≡ path_end (map held_span spans)
-    → at ≤ said.low → said.low < said.high → told_path_answer answer ≡ record_answer said
+    (answer : AnswerByPath) → IsPathTable version records (map held_span spans)
+    → SaysPath IsAddress IsDecimal version fields said.low said.high (record_answer said)
+    → Comes (path_end (map held_span spans)) (whole said.low) (whole said.high) → told_path_answer answer ≡ record_answer said
     → new ≡ spans ++ record { low = said.low; high = said.high; answer = answer } ∷ []
     → IsPathTable version (records ++ fields ∷ []) (map held_span new)
-record_held version records fields spans new said at answer table says end past holds told pushed =
+record_held version records fields spans new said answer table says comes told pushed =
     let span : HeldSpan = record { low = said.low; high = said.high; answer = answer } in
-    let from : IsAtMost (whole at) (whole said.low) = record { address = past; op = λ e. omega arith } in
     let same : held_span span ≡ record_span said =
     ap (λ (a : PathAnswer). record { low = whole said.low; high = whole said.high; answer = a }) told in
-    let push = table_push version records (map held_span spans) fields (record_span said) table (says_span version fields said says)
-    (subst (λ (p : Position). IsAtMost p (whole said.low)) end from) (low_high said holds) in
     let items : map held_span new ≡ map held_span spans ++ record_span said ∷ [] =
     ap (map held_span) pushed ∙ map-append held_span spans (span ∷ [])
     ∙ ap (λ (s : PathSpan). map held_span spans ++ s ∷ []) same in
-    subst (λ (t : List PathSpan). IsPathTable version (records ++ fields ∷ []) t) (sym items) push
-
--- the record's number, counted by the spans held, is the one that its fault gives
-pub record_fault : (version : PathVersion) (records : List Fields) (fields : Fields) (spans : List HeldSpan) (number : ℕ)
-    (fault : TableFault) → IsPathTable version records (map held_span spans) → number ≡ length spans + 1
-    → IsFaultyRecord version (map held_span spans) number fields fault
-    → IsFaultyRecord version (map held_span spans) (length records) fields fault
-record_fault version records fields spans number fault table is faulty =
-    subst (λ (n : ℕ). IsFaultyRecord version (map held_span spans) n fields fault) (is ∙ sym (table_length version records spans table))
-    faulty
+    subst (λ (t : List PathSpan). IsPathTable version (records ++ fields ∷ []) t) (sym items)
+    (table_more tables_by_path path_end path_laws version records (map held_span spans) fields (record_span said) table
+    (says_span version fields said says) comes)
 
 -- ---- a whole table
 
@@ -97,13 +82,3 @@ held_none version spans none = rw none (refl, record { each = tt; in_order = tt 
 pub table_in_order : (version : PathVersion) (records : List Fields) (spans : List HeldSpan)
     → IsPathTable version records (map held_span spans) → StandInOrder (map held_span spans)
 table_in_order version records spans t = table_order by_path version records (map held_span spans) t
-
--- a record was held, or its fault is that of the bytes
-pub found_held : (version : PathVersion) (records : List Fields) (old new : List HeldSpan) (fields : Fields) (found : Option TableFault)
-    → IsPathTable version records (map held_span old)
-    → MatchOption found (IsPathTable version (records ++ fields ∷ []) (map held_span new))
-    (λ fault. IsFaultyRecord version (map held_span old) (length records) fields fault)
-    → MatchOption found (IsPathTable version (records ++ fields ∷ []) (map held_span new))
-    (λ fault. (whole : Fields) (bytes : List ℕ) → IsReadAs fields whole → BeginsWith bytes (records ++ whole ∷ []) → IsPathFault bytes fault)
-found_held version records old new fields None t h = h
-found_held version records old new fields (Some fault) t h = path_refused version records (map held_span old) fields fault t h

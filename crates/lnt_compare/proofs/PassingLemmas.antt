@@ -1,6 +1,6 @@
 -- The lines of a table by number are passed and compared.
 use Rattle.std.proofs.Common.{◌≡◌, ◌∙◌, ℕ, ◌+◌, ◌^◌, ◌<◌, ◌≤◌, Bool, true, false, cond, List, [], ◌∷◌, ◌++◌, Option, Some, None, map, subst}
-use Rattle.std.proofs.Common.{append-nil, append_assoc, length, length-append, not, refl, ap, sym, arith}
+use Rattle.std.proofs.Common.{append-nil, length, length-append, not, refl, ap, sym, arith}
 use Rattle.std.proofs.lemmas.List.{map-append}
 use Rattle.std.proofs.lemmas.Option.{same_Some}
 use Rattle.std.specs.List.{AllByRecursion, AllZip, cons_option, find}

@@ -1,6 +1,6 @@
 -- The lines of a table by path that are passed are the records that `csv` reads.
-use Rattle.std.proofs.Common.{◌≡◌, ◌∙◌, ℕ, ◌+◌, ◌-◌, ◌<◌, ◌≤◌, List, [], ◌∷◌, ◌++◌, Some, length, length-append, length-drop, drop, take}
-use Rattle.std.proofs.Common.{◌^◌, refl, sym, ap, subst, arith}
+use Rattle.std.proofs.Common.{◌≡◌, ◌∙◌, ℕ, ◌+◌, ◌-◌, ◌≤◌, List, [], ◌∷◌, ◌++◌, Some, length, length-append, length-drop, drop, take}
+use Rattle.std.proofs.Common.{refl, sym, ap, subst, arith}
 use Rattle.std.specs.List.{All}
 use Rattle.csv.specs.Machine.{Read, next_record}
 use Rattle.csv.specs.Reading.{Reached, default_config, strip_bom}
@@ -154,9 +154,9 @@ stands_first to_come tell version comparison table header last e f plain = recor
 pub stands_more : {S M : Type 0} (to_come : S → List Span → Type 0) (tell : Answer → PathAnswer) (version : PathVersion)
     (old now new : Comparison S DifferenceByPath M) (table : List ℕ) (before at next : ℕ) (last : List ℕ) (said : PathRecord)
     → Stands to_come tell version old now table before at last
-    → IsPathLine version said (drop at table) (drop next table) → All IsPlainByte said.path.now
+    → IsPathLine version said (drop at table) (drop next table) → All IsPlainByte said.answer.path.now
     → HasPushed to_come tell stretch_of now new (whole said.low) (whole said.high) (record_answer said)
-    → Stands to_come tell version old new table at next said.path.now
+    → Stands to_come tell version old new table at next said.answer.path.now
 stands_more to_come tell version old now new table before at next last said h line plain push =
     let longer : length (h.more ++ line.fields ∷ []) ≡ length h.more + 1 = length-append h.more (line.fields ∷ []) in
     let shorter = line_shorter version said (drop at table) (drop next table) line in

@@ -1,6 +1,6 @@
 -- A table of which some lines were passed, and the rest was read after its header.
 use Rattle.std.proofs.Common.{◌≡◌, ◌≢◌, ◌∙◌, ℕ, ◌+◌, ◌^◌, ◌<◌, List, [], ◌∷◌, ◌++◌, Option, Some, None, IfSome, append_assoc, length}
-use Rattle.std.proofs.Common.{length-append, refl, ap, subst, sym, arith}
+use Rattle.std.proofs.Common.{length-append, ap, subst, sym, arith}
 use Rattle.std.specs.List.{AllZip}
 use Rattle.lnt_spans.specs.declared.answer.Version.{Version}
 use Rattle.lnt_spans.specs.declared.difference.Difference.{Difference}

@@ -1,24 +1,18 @@
 -- The laws of tables by path.
 use Rattle.std.proofs.Common.{arith, ◌≡◌, ◌∙◌, ℕ, zero, suc, ◌<◌, ◌≤◌, List, [], ◌∷◌, ◌++◌, Option, Some, None, get_or, length, refl, sym}
-use Rattle.std.proofs.Common.{ap, subst, ⊎_elim}
-use Rattle.std.proofs.lemmas.Bool.{cases_lt}
+use Rattle.std.proofs.Common.{ap}
 use Rattle.lnt_spans.specs.declared.position.Position.{Position}
 use Rattle.lnt_spans.specs.Positions.{IsAtMost, IsBelow}
 use Rattle.lnt_records.specs.PathSpans.{PathSpan, StandInOrder, path_end, whole}
 use Rattle.lnt_text.specs.Digits.{IsAddress, IsDecimal}
 use Rattle.lnt_text.proofs.TextLaws.{one_address_number, one_decimal_number}
-use Rattle.lnt_records.proofs.TableLaws as any
-use Rattle.lnt_records.proofs.TableLaws.{FormatLaws, table_order}
-use Rattle.lnt_records.specs.declared.fault.TableFault.{TableFault}
-use Rattle.lnt_records.specs.Reading.{IsNarrow, IsReadAs}
-use Rattle.lnt_records.specs.Table.{BeginsWith, Fields, IsOfColumn}
+use Rattle.lnt_records.proofs.TableLaws.{FormatLaws}
+use Rattle.lnt_records.specs.Table.{Fields, IsOfColumn}
 use Rattle.lnt_records.specs.declared.by_path.version.PathVersion.{PathVersion}
 use Rattle.lnt_records.specs.declared.by_path.version.PathVersion.TheVariants.{Four, Three}
 use Rattle.lnt_records.specs.PathAnswers.{PathAnswer}
-use Rattle.lnt_records.specs.PathFaults.{IsFaultyRecord, IsPathFault}
-use Rattle.lnt_records.specs.PathTables.{IsPathRecord, IsPathTable, SaysColumn, SaysPath, by_path, path_column_count, path_column_names}
+use Rattle.lnt_records.specs.PathTables.{IsPathRecord, SaysColumn, SaysPath, by_path, path_column_count, path_column_names}
 use Rattle.lnt_records.specs.PathTables.{path_kinds}
-use Rattle.lnt_records.specs.declared.fault.TableFault.TheVariants as fault
 use Rattle.lnt_records.specs.declared.by_path.record.PathRecord.{PathRecord}
 use Rattle.lnt_records.specs.PathRecords.{record_answer, record_span}
 
@@ -109,16 +103,6 @@ pathed = record {
   prefix = prefix_in_order;
 }
 
-pub says_narrow : (version : PathVersion) (fields : Fields) (low high : ℕ) (answer : PathAnswer)
-    → SaysPath IsAddress IsDecimal version fields low high answer → IsNarrow fields
-says_narrow version fields low high answer s = let few = few_names version in omega (arith, few, s.count)
-
--- the fault of a record, as `TakesRecords` tells it
-pub path_refused : (version : PathVersion) (records : List Fields) (table : List PathSpan) (fields : Fields) (told : TableFault)
-    → IsPathTable version records table → IsFaultyRecord version table (length records) fields told → (whole : Fields) (bytes : List ℕ)
-    → IsReadAs fields whole → BeginsWith bytes (records ++ whole ∷ []) → IsPathFault bytes told
-path_refused = any.refused by_path pathed
-
 -- ---- the order
 
 pub order_push : (table : List PathSpan) (span : PathSpan) → StandInOrder table → IsAtMost (path_end table) span.low
@@ -134,35 +118,7 @@ order_pushed [] span o = (origin_first span.low, o)
 order_pushed (r ∷ []) span o = (o.1, o.2)
 order_pushed (r ∷ next ∷ table) span o = order_pushed (next ∷ table) span o.2
 
-holds_some : (low high : ℕ) → IsBelow (whole low) (whole high) → low < high
-holds_some low high b = ⊎_elim (λ (h : low < high). h) (λ (h : high ≤ low). absurd (let le = b.address in
-    let z = b.op (omega (arith, h, le)) in omega (arith, z))) (cases_lt low high)
-
--- ---- one more record
-
-pub table_push : (version : PathVersion) (records : List Fields) (table : List PathSpan) (fields : Fields) (span : PathSpan)
-    → IsPathTable version records table → IsPathRecord version fields span → IsAtMost (path_end table) span.low
-    → IsBelow span.low span.high → IsPathTable version (records ++ fields ∷ []) (table ++ span ∷ [])
-table_push version records table fields span t s le lt =
-    any.table_push by_path version records table fields span t s
-    (order_push table span (table_order by_path version records table t) le lt)
-
 pub says_span : (version : PathVersion) (fields : Fields) (said : PathRecord)
     → SaysPath IsAddress IsDecimal version fields said.low said.high (record_answer said)
     → IsPathRecord version fields (record_span said)
 says_span version fields said h = record { says = h; low_op = refl; high_op = refl }
-
--- the record begins too early, or is empty
-pub order_fault : (version : PathVersion) (table : List PathSpan) (at number : ℕ) (fields : Fields) (said : PathRecord)
-    → whole at ≡ path_end table → SaysPath IsAddress IsDecimal version fields said.low said.high (record_answer said)
-    → (at ≤ said.low → said.low < said.high → ⊥) → IsFaultyRecord version table number fields (fault.Order number)
-order_fault version table at number fields said end says not = (
-  refl,
-  record_span said,
-  says_span version fields said says,
-  λ o.
-      let both = order_pushed table (record_span said) o in
-      let past : IsAtMost (whole at) (whole said.low) =
-      subst (λ (p : Position). IsAtMost p (whole said.low)) (sym end) both.0 in
-      not past.address (holds_some said.low said.high both.1),
-)

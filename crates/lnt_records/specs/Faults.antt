@@ -1,7 +1,5 @@
 -- What is wrong with a table.
 use Rattle.std.specs.Prelude.{◌≡◌, ◌≢◌, ℕ, ◌<◌, List, [], ◌∷◌, ◌++◌, length}
-use Rattle.lnt_spans.specs.declared.answer.Version.{Version}
-use Rattle.lnt_spans.specs.declared.span.Span.{Span}
 use Rattle.lnt_records.specs.declared.fault.TableFault.{TableFault}
 use Rattle.lnt_records.specs.declared.fault.TableFault.TheVariants as fault
 use Rattle.lnt_records.specs.Table.{BeginsWith, Fields, IsOfColumn, IsTableIn, Kind, TableFormat, by_number}
@@ -43,9 +41,6 @@ IsFaultIn format bytes (fault.Number k i) = HasFaultyRecordIn format bytes (faul
 IsFaultIn format bytes (fault.Order k) = HasFaultyRecordIn format bytes (fault.Order k)
 
 -- ---- a table by number
-
-abbrev pub IsFaulty : Version → List Span → ℕ → Fields → TableFault → Type 0
-IsFaulty version spans number fields told = IsFaultyIn by_number version spans number fields told
 
 abbrev pub IsFault : List ℕ → TableFault → Type 0
 IsFault bytes told = IsFaultIn by_number bytes told

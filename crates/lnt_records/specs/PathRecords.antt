@@ -16,7 +16,7 @@ said_answer said = record { path = said.path.now; line = said.line; column = sai
 
 -- the answer of a record
 abbrev pub record_answer : PathRecord → PathAnswer
-record_answer said = record { path = said.path.now; line = said.line; column = said.column }
+record_answer said = said_answer said.answer
 
 -- the span of a record
 abbrev pub record_span : PathRecord → PathSpan

@@ -112,7 +112,7 @@ impl<'p, 'r, S: SpanSource + Drop, P: Paths> TakesRecords<PathComparison<S>>
             version: self.version,
             held: PhantomData,
         };
-        if !comparison.push(&telling, whole(said.low), whole(said.high), said.answer())? {
+        if !comparison.push(&telling, whole(said.low), whole(said.high), said.answer)? {
             return Ok(Some(TableFault::Order(comparison.count)));
         }
         Ok(None)

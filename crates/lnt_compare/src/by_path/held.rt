@@ -1,18 +1,16 @@
 //! Reads a table by path and holds its spans.
-ghost use Rattle.std.specs.Prelude.{◌≡◌, List, [], ◌∷◌, ◌++◌, length, map, IfOk, MatchOption};
-ghost use Rattle.csv.specs.Records.{fields_of};
-ghost use Rattle.lnt_records.specs.PathSpans.{path_end, whole};
-ghost use Rattle.lnt_records.specs.Reading.{IsNarrow};
-ghost use Rattle.lnt_records.specs.Table.{Fields};
+ghost use Rattle.std.specs.Prelude.{◌≡◌, map, IfOk};
+ghost use Rattle.lnt_records.specs.PathSpans.{path_end};
 ghost use Rattle.lnt_compare.specs.Held.{HoldsInOrder, IsHeld, held_span};
-ghost use Rattle.lnt_records.specs.PathFaults.{IsFaultyRecord};
-ghost use Rattle.lnt_records.specs.PathTables.{IsPathTable};
 
 use crate::by_path::answer::AnswerByPath;
+use crate::by_path::comparison::whole;
 use crate::by_path::telling::said_of;
+use crate::comparison::comes;
 use crate::outcome::TableRead;
 use csv::ByteRecord;
 use lnt_records::{PathVersion, TableFault, TakesRecords, header_of, record_of, take_records};
+use lnt_spans::Position;
 use std::alloc::{AllocError, Global};
 
 /// A span of a table by path, held in memory with its answer.
@@ -72,45 +70,30 @@ impl TakesRecords<Vec<HeldSpan>> for Holder {
         spans: &mut Vec<HeldSpan>,
         row: &ByteRecord,
     ) -> Result<Option<TableFault>, AllocError> {
-        hold_record(self.alloc, spans, self.version, row)
+        let number = spans.len() as u64 + 1;
+        let said = match record_of(row, self.version) {
+            Ok(said) => said,
+            Err(fault) => return Ok(Some(fault.at(number))),
+        };
+        if !comes(end_of(spans), whole(said.low), whole(said.high)) {
+            return Ok(Some(TableFault::Order(number)));
+        }
+        let answer = said_of(self.alloc, said.answer)?;
+        spans.push(HeldSpan {
+            low: said.low,
+            high: said.high,
+            answer,
+        })?;
+        Ok(None)
     }
 }
 
-// Holds the span of the next record after those of these spans, or gives its fault.
-fn hold_record(
-    alloc: Global,
-    spans: &mut Vec<HeldSpan>,
-    version: PathVersion,
-    row: &ByteRecord,
-) -> Result<Option<TableFault>, AllocError>
-    ensures narrow { IfOk result (λ found. MatchOption found (IsNarrow (fields_of row.now)) (λ _. Unit {0})) }
-    ensures held { IfOk result (λ found. (records : List Fields) → IsPathTable version records (map held_span spans.old.items)
-        → MatchOption found (IsPathTable version (records ++ fields_of row.now ∷ []) (map held_span spans.new.items))
-        (λ fault. IsFaultyRecord version (map held_span spans.old.items) (length records) (fields_of row.now) fault)) }
-{
-    let number = spans.len() as u64 + 1;
-    let said = match record_of(row, version) {
-        Ok(said) => said,
-        Err(fault) => return Ok(Some(fault.at(number))),
-    };
-    if !said.holds_from(end_of(spans)) {
-        return Ok(Some(TableFault::Order(number)));
-    }
-    let answer = said_of(alloc, said.answer())?;
-    spans.push(HeldSpan {
-        low: said.low,
-        high: said.high,
-        answer,
-    })?;
-    Ok(None)
-}
-
-// The address where the last span ends; 0 if there is none.
-fn end_of(spans: &[HeldSpan]) -> u64
-    ensures { whole result ≡ path_end (map held_span spans.now) }
+// Where the last span ends.
+fn end_of(spans: &[HeldSpan]) -> Position
+    ensures { result ≡ path_end (map held_span spans.now) }
 {
     match spans.last() {
-        Some(last) => last.high,
-        None => 0,
+        Some(last) => whole(last.high),
+        None => whole(0),
     }
 }

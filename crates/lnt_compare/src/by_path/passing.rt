@@ -49,12 +49,12 @@ pub(crate) fn pass_lines<S: SpanSource + Drop, P: Paths>(
     let mut at = header.len();
     let mut last = b"".as_slice();
     while let Some((said, next)) = line_at(table, at, version, last) {
-        if !comparison.push(&telling, whole(said.low), whole(said.high), said.answer())? {
+        if !comparison.push(&telling, whole(said.low), whole(said.high), said.answer)? {
             return Ok(before);
         }
         before = at;
         at = next;
-        last = said.path;
+        last = said.answer.path;
     }
     Ok(before)
 }

@@ -5,7 +5,7 @@ ghost use Rattle.lnt_text.specs.Digits.{IsDecimal};
 ghost use Rattle.lnt_records.specs.PathLines.{IsPathBefore, IsPathLine, IsPlace, IsPlainByte};
 
 use crate::by_path::field::calls_for_quotes;
-use crate::by_path::record::PathRecord;
+use crate::by_path::record::{PathRecord, SaidPath};
 use crate::by_path::version::PathVersion;
 use lnt_text::{address_until, decimal_until, past};
 
@@ -20,20 +20,14 @@ pub fn line_at<'t>(
 ) -> Option<(PathRecord<'t>, usize)>
     requires { All IsPlainByte last.now }
     ensures line { IfSome result (λ found. IsPathLine version found.0 (drop at table.now) (drop found.1 table.now)) }
-    ensures plain { IfSome result (λ found. All IsPlainByte found.0.path.now) }
+    ensures plain { IfSome result (λ found. All IsPlainByte found.0.answer.path.now) }
 {
     let (low, at) = address_until(table, at, b',')?;
     let (high, at) = address_until(table, at, b',')?;
     let (path, at) = path_before(table, at, last)?;
     let ((line, column), at) = place_at(table, at, version)?;
-    let said = PathRecord {
-        low,
-        high,
-        path,
-        line,
-        column,
-    };
-    Some((said, at))
+    let answer = SaidPath { path, line, column };
+    Some((PathRecord { low, high, answer }, at))
 }
 
 // Parses the path at `at`, then a comma; gives the next index.

@@ -1,10 +1,9 @@
 //! Reads the span of a record of a table by path.
-ghost use Rattle.std.specs.Prelude.{◌≡◌, ◌<◌, ◌≤◌, length, IfOk, IfErr};
-ghost use Rattle.std.specs.Bool.{MatchBool};
+ghost use Rattle.std.specs.Prelude.{◌≡◌, length, IfOk, IfErr};
 ghost use Rattle.csv.specs.Records.{fields_of};
 ghost use Rattle.lnt_text.specs.Digits.{IsAddress, IsDecimal};
 ghost use Rattle.lnt_records.specs.PathTables.{SaysColumn, SaysPath, path_column_count, path_kinds};
-ghost use Rattle.lnt_records.specs.PathRecords.{record_answer, said_answer};
+ghost use Rattle.lnt_records.specs.PathRecords.{record_answer};
 ghost use Rattle.lnt_records.specs.Progress.{AreSoundBefore, IsColumnFault, IsRecordFault};
 
 use crate::by_path::header::columns;
@@ -24,41 +23,15 @@ pub struct SaidPath<'r> {
     pub column: Option<u64>,
 }
 
-/// The fields of a record, as values; the path is borrowed from the record.
+/// A record of a table by path, with its path borrowed.
 #[derive(Clone, Copy)]
 pub struct PathRecord<'r> {
     /// The address where the span begins.
     pub low: u64,
     /// The first address after it.
     pub high: u64,
-    /// The full path of the file, as bytes.
-    pub path: &'r [u8],
-    /// The line in the file.
-    pub line: u64,
-    /// The column in the line; `None` if the version has no columns.
-    pub column: Option<u64>,
-}
-
-impl<'r> PathRecord<'r> {
-    /// The answer, with the path borrowed.
-    #[inline(always)]
-    pub fn answer(&self) -> SaidPath<'r>
-        ensures { said_answer result ≡ record_answer self.now }
-    {
-        SaidPath {
-            path: self.path,
-            line: self.line,
-            column: self.column,
-        }
-    }
-
-    /// Whether the record begins at or above this address, and isn't empty.
-    pub fn holds_from(&self, at: u64) -> bool
-        ensures { MatchBool result ((at ≤ self.now.low) × (self.now.low < self.now.high))
-            (at ≤ self.now.low → self.now.low < self.now.high → ⊥) }
-    {
-        at <= self.low && self.low < self.high
-    }
+    /// What the record says of the positions between them.
+    pub answer: SaidPath<'r>,
 }
 
 // The columns of a table by path.
@@ -95,13 +68,8 @@ fn record_in<'r>(row: &'r ByteRecord, version: PathVersion) -> Result<PathRecord
     let path = field(row, 2);
     let line = decimal_at::<ByPath>(row, 3)?;
     let column = column_in(row, version)?;
-    Ok(PathRecord {
-        low,
-        high,
-        path,
-        line,
-        column,
-    })
+    let answer = SaidPath { path, line, column };
+    Ok(PathRecord { low, high, answer })
 }
 
 // The column, which only version 3 has.

@@ -1,4 +1,4 @@
-use Rattle.std.proofs.Common.{◌-◌, ◌++◌, ◌∷◌, drop, length, take}
+use Rattle.std.proofs.Common.{◌++◌, ◌∷◌}
 use Rattle.std.proofs.lemmas.Result.{IfOk-weaker}
 use Rattle.lnt_records.specs.PathAnswers.{path_answer, spans_by_path}
 use Rattle.lnt_records.specs.PathSpans.{path_end}

@@ -24,6 +24,6 @@ loop-said-preserved g c =
       stands_more g.S.SpanSource.to_come (path_answer c.args.version (g.P.Paths.bytes_of c.args.paths.now)) c.args.version
           c.args.comparison.now c.loop-said.comparison c.push.new.self c.args.table.now c.loop-said.before c.loop-said.at c.in-Some.next
           c.loop-said.last.now c.in-Some.said c.loop-said.invariant.0 c.in-Some.ensures.line c.in-Some.ensures.plain
-          (rw (c.whole.ensures, c.whole-in-Some.ensures, c.answer.ensures) at known),
+          (rw (c.whole.ensures, c.whole-in-Some.ensures) at known),
       c.in_ok-push.ensures.sound,
     )

@@ -34,4 +34,4 @@ returns-clause-taken g c section records j =
     record_taken g.S.SpanSource.to_come tables_by_path path_end path_laws
     (path_answer version (g.P.Paths.bytes_of c.args.self.now.paths.now)) version c.args.comparison.now c.push.new.self section records fields
     (record_span said) j (says_span version fields said c.in-Ok.ensures.ok)
-    (rw (c.whole.ensures, c.whole-2.ensures, c.answer.ensures) at known)
+    (rw (c.whole.ensures, c.whole-2.ensures) at known)
