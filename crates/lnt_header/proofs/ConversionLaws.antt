@@ -4,9 +4,8 @@ use Rattle.std.specs.List.{AllByRecursion}
 use Rattle.lnt_wire.specs.declared.format.Format.{Format}
 use Rattle.lnt_wire.specs.declared.format.Order.{Order}
 use Rattle.lnt_header.specs.Conversion.{in_format, in_order}
-use Rattle.lnt_header.specs.HeaderRules.{AreHeaderNumbers, IsHeader}
+use Rattle.lnt_header.specs.HeaderRules.{AreHeaderNumbers, IsHeader, HeaderParts}
 use Rattle.lnt_header.specs.OpRules.{Admits}
-use Rattle.lnt_header.specs.declared.header.HeaderParts.{HeaderParts}
 use Rattle.lnt_header.specs.declared.numbers.NumberParts.{NumberParts}
 use Rattle.lnt_header.specs.declared.op.Op.{Op}
 use Rattle.std.proofs.lemmas.Grind.{common_steps}

@@ -3,7 +3,6 @@ pub mod ConversionLaws
 pub mod FirstFaultLaws
 pub mod FirstLaws
 pub mod ListLaws
-mod OpLemmas
 pub mod PutLaws
 pub mod ReaderLaws
 pub mod ShortestLaws

@@ -110,12 +110,6 @@ each_at P [] i d bytes lt p = absurd (omega arith)
 each_at P (x ∷ xs) zero d bytes lt p = (p.prefix, p.first)
 each_at P (x ∷ xs) (suc i) d bytes lt p = each_at P xs i d p.back (omega arith) p.second
 
-pub each_refused : {X : Type 0} (P : X → List ℕ → Type 0) (xs : List X) (i : ℕ) (d : X) (fault : EncodeFault) → i < length xs
-    → RefusedPut P (get_or xs i d) fault → RefusedPut (Each P) xs fault
-each_refused P xs i d fault lt refused = record {
-  none = λ large bytes p. let one = each_at P xs i d bytes lt p in refused.none large one.0 one.1;
-}
-
 -- want of memory says nothing
 pub refused_memory : {X : Type 0} (Spells : X → List ℕ → Type 0) (x : X) (fault : EncodeFault) → fault ≡ Memory → RefusedPut Spells x fault
 refused_memory Spells x fault is = record { none = λ large. absurd cc }

@@ -1,22 +1,19 @@
 -- Tests of a header's parts.
-use Rattle.std.proofs.Common.{◌≡◌, ℕ, zero, suc, ◌+◌, ◌<◌, List, [], ◌∷◌, ◌++◌, length, take, min, refl, sym, ap, ◌∙◌, arith, ◌⊎◌}
-use Rattle.std.specs.Prelude.{Bool, true, false, IsTrue, ◌≢◌, map, FitsSigned}
-use Rattle.std.specs.Bool.{MatchBool}
+use Rattle.std.proofs.Common.{◌≡◌, ℕ, zero, suc, ◌+◌, ◌<◌, List, [], ◌∷◌, ◌++◌, length, take, min, refl, sym, ap, ◌∙◌, arith, ◌⊎◌, Bool}
+use Rattle.std.proofs.Common.{true, false, IsTrue, ◌≢◌, map, FitsSigned, MatchBool, w8}
 use Rattle.std.specs.List.{AllByRecursion, AllZip}
-use Rattle.std.specs.Int.{w8}
 use Rattle.lnt_wire.specs.declared.form.FormValue.{FormValue}
 use Rattle.lnt_wire.specs.FormBytes.{form_of, HasSpelling}
 use Rattle.lnt_header.specs.declared.fault.UnitFault.{UnitFault}
 use Rattle.lnt_header.specs.declared.fault.UnitFault.TheVariants.{HeaderNumber, EntryNotOfFormat, TextHoldsZero, OpNotOfUnit}
 use Rattle.lnt_header.specs.declared.header.Entry.{Entry}
-use Rattle.lnt_header.specs.declared.header.HeaderParts.{HeaderParts}
 use Rattle.lnt_header.specs.declared.numbers.NumberParts.{NumberParts}
 use Rattle.lnt_header.specs.declared.header.Pair.{Pair}
 use Rattle.lnt_header.specs.declared.header.EntryTable.TheVariants.{Directories, Files}
 use Rattle.lnt_header.proofs.FirstLaws.{first_is_wrong}
-use Rattle.lnt_header.specs.HeaderRules.{IsAddressSize, AreStandardLengths, six_bytes, AreHeaderNumbers}
+use Rattle.lnt_header.specs.HeaderRules.{IsAddressSize, AreStandardLengths, six_bytes, AreHeaderNumbers, IsEntryOf, IsEntryTable, IsHeader}
+use Rattle.lnt_header.specs.HeaderRules.{HeaderParts}
 use Rattle.lnt_header.specs.OpRules.{known_lengths, last_known}
-use Rattle.lnt_header.specs.HeaderRules.{IsEntryOf, IsEntryTable, IsHeader}
 use Rattle.lnt_header.specs.HeaderTests.{IsFormat, IsPartsFault, FitsItsForm, HoldsNoZero, FitsPair, IsOfFormat, HasSoundTexts}
 use Rattle.std.proofs.lemmas.Grind.{common_steps}
 

@@ -1,9 +1,8 @@
 -- Units by their parts, tested.
 use Rattle.std.proofs.Common.{◌≡◌, ap, ℕ, List, arith}
 use Rattle.lnt_header.specs.declared.fault.UnitFault.{UnitFault}
-use Rattle.lnt_header.specs.declared.header.HeaderParts.{HeaderParts}
 use Rattle.lnt_header.specs.declared.op.Op.{Op}
-use Rattle.lnt_header.specs.HeaderRules.{IsHeader}
+use Rattle.lnt_header.specs.HeaderRules.{IsHeader, HeaderParts}
 use Rattle.lnt_header.specs.HeaderTests.{IsFirstNot, IsPartsFault}
 use Rattle.lnt_header.proofs.FirstLaws.{first_is_wrong}
 use Rattle.lnt_header.specs.OpRules.{Admits}

@@ -5,7 +5,7 @@ use Rattle.std.specs.List.{AllByRecursion}
 use Rattle.lnt_wire.specs.FormBytes.{form_of, HasSpelling}
 use Rattle.lnt_wire.specs.declared.format.Format.{Format}
 use Rattle.lnt_header.specs.declared.header.Entry.{Entry}
-use Rattle.lnt_header.specs.declared.header.HeaderParts.{HeaderParts}
+pub use Rattle.lnt_header.specs.declared.header.HeaderParts.{HeaderParts}
 use Rattle.lnt_header.specs.declared.header.Pair.{Pair}
 use Rattle.lnt_header.specs.declared.numbers.NumberParts.{NumberParts}
 use Rattle.lnt_header.specs.OpRules.{known_lengths, last_known}

@@ -7,10 +7,9 @@ use Rattle.lnt_wire.specs.FormBytes.{form_of, HasSpelling}
 use Rattle.lnt_header.specs.declared.fault.UnitFault.{UnitFault}
 use Rattle.lnt_header.specs.declared.fault.UnitFault.TheVariants.{HeaderNumber, EntryNotOfFormat, TextHoldsZero, OpNotOfUnit}
 use Rattle.lnt_header.specs.declared.header.Entry.{Entry}
-use Rattle.lnt_header.specs.declared.header.HeaderParts.{HeaderParts}
 use Rattle.lnt_header.specs.declared.header.Pair.{Pair}
 use Rattle.lnt_header.specs.declared.header.EntryTable.TheVariants.{Directories, Files}
-use Rattle.lnt_header.specs.HeaderRules.{AreHeaderNumbers}
+use Rattle.lnt_header.specs.HeaderRules.{AreHeaderNumbers, HeaderParts}
 
 -- the first of the values that fails, and its index
 pub record IsFirstNot {X : Type 0} (IsSo : X → Type 0) (values : List X) (index : ℕ) : Type 0 where

@@ -1,6 +1,5 @@
 -- Encodings that are joined from others.
-use Rattle.std.specs.Prelude.{◌≡◌, ℕ, ◌+◌, ◌<◌, List, [], ◌∷◌, ◌++◌, length}
-use Rattle.std.specs.List.{AllPairs}
+use Rattle.std.specs.Prelude.{◌≡◌, ℕ, ◌+◌, ◌<◌, List, [], ◌∷◌, ◌++◌, length, AllPairs}
 use Rattle.lnt_wire.specs.Bytes.{Then}
 
 -- one encoding for each value, in order

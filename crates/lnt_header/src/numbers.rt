@@ -2,7 +2,7 @@
 ghost use Rattle.std.specs.Prelude.{◌≡◌, ◌<◌, IfOk};
 ghost use Rattle.lnt_header.specs.HeaderRules.{AreHeaderNumbers, IsAddressSize, six_bytes};
 
-use lnt_wire::{Items, Order};
+use lnt_wire::{Items, Order, copied};
 use std::alloc::{AllocError, Global};
 use std::marker::Model;
 
@@ -93,10 +93,9 @@ impl HeaderNumbers {
     pub fn copied(&self, alloc: Global) -> Result<HeaderNumbers, AllocError>
         ensures { IfOk result (λ numbers. numbers ≡ self.now) }
     {
-        let lengths = Vec::from_slice(alloc, self.standard_lengths())?;
         Ok(HeaderNumbers {
             parts: NumberParts {
-                standard_lengths: Items::new(lengths),
+                standard_lengths: copied(alloc, self.standard_lengths())?,
                 ..self.parts
             },
         })

@@ -200,27 +200,19 @@ impl HeaderNumbers {
     pub fn admits(&self, op: &Op) -> bool
         ensures { IsTrue result ↔ Admits self.now op.now }
     {
-        let base = self.opcode_base();
-        match op {
-            Op::Special(opcode) => *opcode >= base,
-            Op::Copy => base > 1,
-            Op::AdvancePc(_) => base > 2,
-            Op::AdvanceLine(_) => base > 3,
-            Op::SetFile(_) => base > 4,
-            Op::SetColumn(_) => base > 5,
-            Op::NegateStmt => base > 6,
-            Op::SetBasicBlock => base > 7,
-            Op::ConstAddPc => base > 8,
-            Op::FixedAdvancePc(_) => base > 9,
-            Op::SetPrologueEnd => base > 10,
-            Op::SetEpilogueBegin => base > 11,
-            Op::SetIsa(_) => base > 12,
-            Op::UnknownStandard(opcode, operands) => {
-                self.admits_unknown(*opcode, operands.as_slice().len())
-            }
-            Op::EndSequence | Op::SetDiscriminator(_) => true,
-            Op::SetAddress(address) => fits_address(*address, self.address_size()),
-            Op::UnknownExtended(code, _) => !matches!(code, 1 | 2 | 4),
+        if let Op::UnknownStandard(opcode, operands) = op {
+            return self.admits_unknown(*opcode, operands.as_slice().len());
+        }
+        match op.view().coded() {
+            CodedOp::Special(opcode) => opcode >= self.opcode_base(),
+            CodedOp::Bare(opcode)
+            | CodedOp::Unsigned(opcode, _)
+            | CodedOp::Signed(opcode, _)
+            | CodedOp::Half(opcode, _) => opcode < self.opcode_base(),
+            CodedOp::Extended(_) | CodedOp::ExtendedNumber(..) => true,
+            CodedOp::ExtendedAddress(_, address) => fits_address(address, self.address_size()),
+            CodedOp::UnknownExtended(code, _) => !matches!(code, 1 | 2 | 4),
+            CodedOp::UnknownStandard(..) => unreachable!(),
         }
     }
 

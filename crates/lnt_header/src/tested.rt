@@ -132,10 +132,7 @@ fn fits_pair(value: &FormValue, pair: &Pair) -> bool
 fn fits_its_form(value: &FormValue) -> bool
     ensures { IsTrue result ↔ FitsItsForm value.now }
 {
-    match value {
-        FormValue::Text(_) => true,
-        other => other.has_spelling(),
-    }
+    matches!(value, FormValue::Text(_)) || value.has_spelling()
 }
 
 // The index of the first entry with a zero byte in a text, at which a reader would end it; `None` if there is none.
@@ -167,8 +164,5 @@ fn has_sound_texts(entry: &Entry) -> bool
 fn holds_no_zero(value: &FormValue) -> bool
     ensures { IsTrue result ↔ HoldsNoZero value.now }
 {
-    match value {
-        FormValue::Text(_) => value.has_spelling(),
-        _ => true,
-    }
+    !matches!(value, FormValue::Text(_)) || value.has_spelling()
 }

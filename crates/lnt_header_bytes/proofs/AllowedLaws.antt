@@ -1,5 +1,5 @@
 -- What is spelled is allowed.
-use Rattle.std.proofs.Common.{◌≡◌, ℕ, List, [], ◌∷◌, refl, map}
+use Rattle.std.proofs.Common.{◌≡◌, ℕ, List, [], ◌∷◌, refl, map, arith}
 use Rattle.std.specs.List.{AllByRecursion}
 use Rattle.lnt_wire.specs.declared.format.Order.{Order}
 use Rattle.lnt_wire.specs.declared.format.Format.{Format}
@@ -15,7 +15,6 @@ use Rattle.lnt_header_bytes.specs.HeaderBytes.{HeaderFieldsBytes}
 use Rattle.lnt_header_bytes.specs.HeaderReading.{HasFields}
 use Rattle.lnt_header_bytes.specs.TableBytes.{ValuesBytes, EntryBytes, TableBytes}
 use Rattle.std.proofs.lemmas.Grind.{common_steps}
-use Rattle.std.proofs.Common.{arith}
 
 pub spelled_value : (format : Format) (order : Order) (v : FormValue) (x : List ℕ) → FormBytes format order v x → HasSpelling v
 spelled_value format order (Text t) x p = p.no_zero

@@ -14,11 +14,10 @@ use Rattle.lnt_wire.specs.declared.fault.Fault.{Fault}
 use Rattle.lnt_wire.specs.declared.format.Format.{Format}
 use Rattle.lnt_wire.specs.declared.format.Order.{Order}
 use Rattle.lnt_header.specs.declared.header.HeaderParts.{HeaderParts}
-use Rattle.lnt_header_bytes.specs.declared.numbers.Singles.{Singles}
 use Rattle.lnt_header_bytes.specs.Broken.{InHeader, sound_start, IsFirstField, BrokenHeader}
 use Rattle.lnt_header_bytes.specs.Broken.IsFirstField.{start}
 use Rattle.lnt_header_bytes.specs.FieldsBytes.{FieldsBytes}
-use Rattle.lnt_header_bytes.specs.HeaderFaults.{IsHeaderFault}
+use Rattle.lnt_header_bytes.specs.HeaderFaults.{IsHeaderFault, Singles}
 use Rattle.lnt_header_bytes.specs.HeaderBytes.{HeaderFieldsBytes, unit_body, HeaderBytesIn}
 use Rattle.lnt_header_bytes.specs.HeaderReading.{standing, IsAfterVersion, HasFields}
 use Rattle.lnt_header.specs.HeaderRules.{IsAddressSize, six_bytes}

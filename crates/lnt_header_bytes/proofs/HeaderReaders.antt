@@ -22,9 +22,8 @@ use Rattle.lnt_header.specs.OpRules.{known_lengths, last_known}
 use Rattle.lnt_header_bytes.specs.TableBytes.{TableOf}
 use Rattle.lnt_header_bytes.specs.TableFaults.{IsTableFault}
 use Rattle.lnt_header_bytes.specs.FieldsBytes.{FieldsBytes, AfterSingles, AfterLengths, TwoTables}
-use Rattle.lnt_header_bytes.specs.HeaderFaults.{TwoTablesFault, AfterSinglesFault, IsHeaderFault}
-use Rattle.lnt_header_bytes.specs.HeaderFaults.{SinglesBytes, IsSinglesFault, LengthsBytes, IsLengthsFault}
-use Rattle.lnt_header_bytes.specs.declared.numbers.Singles.{Singles}
+use Rattle.lnt_header_bytes.specs.HeaderFaults.{TwoTablesFault, AfterSinglesFault, IsHeaderFault, SinglesBytes, IsSinglesFault}
+use Rattle.lnt_header_bytes.specs.HeaderFaults.{LengthsBytes, IsLengthsFault, Singles}
 use Rattle.lnt_header_bytes.proofs.FaultLaws.{one_told, so_end, so_past}
 use Rattle.lnt_header_bytes.proofs.TableLaws.{same_table}
 use Rattle.lnt_header_bytes.proofs.TableReaders.{table_fault}

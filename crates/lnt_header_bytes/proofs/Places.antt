@@ -1,5 +1,5 @@
 -- The places of faults in a header, among the bytes of its unit.
-use Rattle.std.proofs.Common.{◌≡◌, ℕ, ◌<◌, List, [], ◌∷◌, ◌++◌, length, sym, ap, subst, ◌∙◌, append_assoc, arith, inl, inr}
+use Rattle.std.proofs.Common.{◌≡◌, ℕ, ◌<◌, List, [], ◌∷◌, ◌++◌, length, sym, ap, subst, ◌∙◌, append_assoc, arith, inl, inr, append-nil}
 use Rattle.lnt_header.specs.FieldFaults.{IsCutField}
 use Rattle.lnt_wire.specs.declared.format.Order.{Order}
 use Rattle.lnt_wire.specs.declared.fault.Reason.{Reason}
@@ -12,11 +12,9 @@ use Rattle.lnt_wire.specs.Numbers.{number_bytes, offset_size}
 use Rattle.lnt_header_bytes.specs.StartFaults.{IsStartFault}
 use Rattle.lnt_header_bytes.specs.StartFaults.IsStartFault.{address_size, selector, header_length}
 use Rattle.lnt_header.specs.FieldFaults.IsCutField.{number}
-use Rattle.std.proofs.lemmas.List.{append-nil}
 use Rattle.lnt_header_bytes.specs.Broken.{InHeader, UpToLimit, IsAt}
-use Rattle.lnt_header_bytes.specs.HeaderFaults.{TwoTablesFault, IsHeaderFault, SinglesBytes, IsSinglesFault, IsLengthsFault}
+use Rattle.lnt_header_bytes.specs.HeaderFaults.{TwoTablesFault, IsHeaderFault, SinglesBytes, IsSinglesFault, IsLengthsFault, Singles}
 use Rattle.lnt_header.specs.FirstFaults.FirstOf.{first, second}
-use Rattle.lnt_header_bytes.specs.declared.numbers.Singles.{Singles}
 use Rattle.lnt_header_bytes.proofs.WrongTables.{small_offset, IsWrongTable, wrong_after, wrong_table}
 use Rattle.lnt_header.proofs.ReaderLaws.{cut_later}
 

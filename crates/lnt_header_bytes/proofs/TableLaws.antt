@@ -1,5 +1,5 @@
 -- A table has one value for its bytes, and none begins another.
-use Rattle.std.proofs.Common.{◌≡◌, ℕ, List, [], ◌∷◌, ◌++◌, length, refl, sym, ap, subst, ◌∙◌}
+use Rattle.std.proofs.Common.{◌≡◌, ℕ, List, [], ◌∷◌, ◌++◌, length, refl, sym, ap, subst, ◌∙◌, arith}
 use Rattle.lnt_wire.specs.declared.format.Order.{Order}
 use Rattle.lnt_wire.specs.declared.format.Format.{Format}
 use Rattle.lnt_wire.specs.declared.form.Form.{Form}
@@ -16,7 +16,6 @@ use Rattle.lnt_header.proofs.ByteLaws.{byte_code}
 use Rattle.lnt_header.proofs.ListLaws.{same_each}
 use Rattle.lnt_header_bytes.specs.TableBytes.{PairBytes, ValuesBytes, EntryBytes, TableBytes}
 use Rattle.std.proofs.lemmas.Grind.{common_steps}
-use Rattle.std.proofs.Common.{arith}
 
 -- the same bytes as parts of other kinds
 pub parts_as : {A B A' B' : List ℕ → Type 0} {x : List ℕ} → (t : Then A B x) → A' t.prefix → B' t.back → Then A' B' x

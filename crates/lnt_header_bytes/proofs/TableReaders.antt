@@ -285,7 +285,7 @@ of_table format order t x p =
     parts_as p1 (record { fits = p.few_pairs; spelled = p1.first ∙ sym (one_digit order (length t.0) p.few_pairs) })
     (parts_as p2 (refl, p2.first) (parts_as p3 p3.first (λ none. ap length (p.none_without_pairs none), (refl, p3.second))))
 
-empty_list : {X : Type 0} (xs : List X) → length xs ≡ 0 → xs ≡ []
+pub empty_list : {X : Type 0} (xs : List X) → length xs ≡ 0 → xs ≡ []
 empty_list [] e = refl
 empty_list (x ∷ xs) e = absurd (omega arith)
 

@@ -11,14 +11,10 @@ use Rattle.lnt_header.specs.declared.header.Entry.{Entry}
 use Rattle.lnt_header.specs.declared.header.Pair.{Pair}
 use Rattle.lnt_header_bytes.specs.declared.read_table.EntryTableRead.{EntryTableRead}
 use Rattle.lnt_header.specs.declared.numbers.NumberParts.{NumberParts}
-use Rattle.lnt_header_bytes.specs.declared.in_place.NumbersAndFormats.{NumbersAndFormats}
-use Rattle.lnt_header_bytes.specs.Borrowed.{first_entries, BorrowedTable, borrowed_table, AreEntryBytes}
-use Rattle.lnt_header_bytes.specs.Stepping.{PassesAll}
-use Rattle.lnt_header_bytes.specs.Borrowed.{header_over, directories_over, files_over}
-use Rattle.lnt_header_bytes.specs.Stepping.{IsEntryTableRead, AreFieldsRead, lying_table}
-use Rattle.lnt_header_bytes.specs.Borrowed.{IsHeaderOver}
-use Rattle.lnt_header_bytes.specs.declared.numbers.Singles.{Singles}
-use Rattle.lnt_header_bytes.specs.HeaderFaults.{SinglesBytes, LengthsBytes}
+use Rattle.lnt_header_bytes.specs.Borrowed.{first_entries, BorrowedTable, borrowed_table, AreEntryBytes, header_over, directories_over}
+use Rattle.lnt_header_bytes.specs.Borrowed.{files_over, IsHeaderOver, NumbersAndFormats}
+use Rattle.lnt_header_bytes.specs.Stepping.{PassesAll, IsEntryTableRead, AreFieldsRead, lying_table}
+use Rattle.lnt_header_bytes.specs.HeaderFaults.{SinglesBytes, LengthsBytes, Singles}
 use Rattle.lnt_header_bytes.specs.HeaderReading.{HasFields, numbers_with}
 use Rattle.lnt_header.specs.HeaderRules.{header_of, IsAddressSize}
 use Rattle.lnt_header.specs.Joins.{Each, Several}

@@ -1,6 +1,5 @@
 -- What is wrong where a table isn't read, by its place among the bytes before it alone.
-use Rattle.std.proofs.Common.{◌≡◌, ℕ, ◌<◌, ◌≤◌, List, [], ◌∷◌, ◌++◌, length, sym, ap, subst, ◌∙◌, append_assoc, arith, inl}
-use Rattle.std.proofs.lemmas.List.{append-nil}
+use Rattle.std.proofs.Common.{◌≡◌, ℕ, ◌<◌, ◌≤◌, List, [], ◌∷◌, ◌++◌, length, sym, ap, subst, ◌∙◌, append_assoc, arith, inl, append-nil}
 use Rattle.lnt_wire.specs.FormBytes.{IsUnknownForm}
 use Rattle.lnt_wire.specs.FormFaults.{IsCutText, IsBlockFault, IsValueFault}
 use Rattle.lnt_wire.specs.FormFaults.IsBlockFault.{no_length, cut_block}

@@ -1,6 +1,6 @@
 -- Tables whose entries are given as bytes, and headers of such tables: what they stand for. That the bytes encode the
 -- entries is `EntryBytes`; the functions here say which entries these are, as a reader finds them.
-use Rattle.std.specs.Prelude.{◌≡◌, ℕ, zero, suc, ◌+◌, ◌≤◌, List, [], ◌∷◌, length, take, drop}
+use Rattle.std.specs.Prelude.{◌≡◌, ℕ, zero, suc, ◌+◌, List, [], ◌∷◌, drop}
 use Rattle.lnt_wire.specs.declared.format.Order.{Order}
 use Rattle.lnt_wire.specs.declared.format.Format.{Format}
 use Rattle.lnt_wire.specs.declared.form.FormValue.{FormValue}
@@ -11,7 +11,7 @@ use Rattle.lnt_header.specs.declared.header.Pair.{Pair}
 use Rattle.lnt_header.specs.HeaderRules.{header_of, IsHeader}
 use Rattle.lnt_header.specs.declared.numbers.NumberParts.{NumberParts}
 use Rattle.lnt_header.specs.Joins.{Each}
-use Rattle.lnt_header_bytes.specs.declared.in_place.NumbersAndFormats.{NumbersAndFormats}
+pub use Rattle.lnt_header_bytes.specs.declared.in_place.NumbersAndFormats.{NumbersAndFormats}
 use Rattle.lnt_header_bytes.specs.Layouts.{entry_of}
 use Rattle.lnt_header_bytes.specs.TableBytes.{EntryBytes}
 
@@ -93,15 +93,3 @@ pub record IsHeaderOver (plain : NumbersAndFormats) (directories : ℕ) (directo
   pub header : IsHeader (header_over plain directories directory_bytes files file_bytes extra)
   pub directories_lie : AreEntryBytes (directories_over plain directories directory_bytes) directory_bytes
   pub files_lie : AreEntryBytes (files_over plain files file_bytes) file_bytes
-
--- the same, with the bytes of the directories, those of the files and the last ones in one list
-abbrev pub header_in_bytes : NumbersAndFormats → ℕ → ℕ → List ℕ → ℕ → ℕ → HeaderParts
-header_in_bytes plain directories files bytes directory_size file_size =
-    header_over plain directories (take directory_size bytes) files (take file_size (drop directory_size bytes))
-    (drop file_size (drop directory_size bytes))
-
-pub record IsHeaderInBytes (plain : NumbersAndFormats) (directories files : ℕ) (bytes : List ℕ) (directory_size file_size : ℕ) : Type 0 where
-  pub over : IsHeaderOver plain directories (take directory_size bytes) files (take file_size (drop directory_size bytes))
-      (drop file_size (drop directory_size bytes))
-  pub first : directory_size ≤ length bytes
-  pub second : file_size ≤ length (drop directory_size bytes)

@@ -6,9 +6,8 @@ use Rattle.lnt_wire.specs.declared.format.Order.{Order}
 use Rattle.lnt_header.specs.Joins.{Both}
 use Rattle.lnt_header.specs.declared.header.Entry.{Entry}
 use Rattle.lnt_header.specs.declared.header.Pair.{Pair}
-use Rattle.lnt_header_bytes.specs.declared.numbers.Singles.{Singles}
 use Rattle.lnt_header_bytes.specs.TableBytes.{TableOf}
-use Rattle.lnt_header_bytes.specs.HeaderFaults.{SinglesBytes, LengthsBytes}
+use Rattle.lnt_header_bytes.specs.HeaderFaults.{SinglesBytes, LengthsBytes, Singles}
 
 abbrev pub Table : Type 0
 Table = List Pair × List Entry

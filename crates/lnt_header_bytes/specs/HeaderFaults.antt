@@ -7,7 +7,7 @@ use Rattle.lnt_wire.specs.declared.format.Format.{Format}
 use Rattle.lnt_wire.specs.declared.format.Order.{Order}
 use Rattle.lnt_wire.specs.declared.fault.Reason.{Reason}
 use Rattle.lnt_wire.specs.declared.fault.Reason.TheVariants.{Truncated, MaxOpsZero, LineRangeZero, OpcodeBaseZero, StandardLength}
-use Rattle.lnt_header_bytes.specs.declared.numbers.Singles.{Singles}
+pub use Rattle.lnt_header_bytes.specs.declared.numbers.Singles.{Singles}
 use Rattle.lnt_header.specs.HeaderRules.{AreStandardLengths}
 use Rattle.lnt_header.specs.OpRules.{known_lengths, last_known}
 use Rattle.lnt_header.specs.FirstFaults.{FirstOf}

@@ -4,7 +4,7 @@ use Rattle.lnt_wire.specs.At.{At}
 use Rattle.lnt_wire.specs.Bytes.{Appends}
 use Rattle.lnt_wire.specs.FrameBytes.{version_five, frame_bytes}
 use Rattle.lnt_wire.specs.InitialLength.{LengthFits}
-use Rattle.lnt_wire.specs.Numbers.{number_bytes, offset_size, NumberBytes}
+use Rattle.lnt_wire.specs.Numbers.{number_bytes, offset_size}
 use Rattle.lnt_wire.specs.Reading.{Reads}
 use Rattle.lnt_wire.specs.declared.format.Format.{Format}
 use Rattle.lnt_wire.specs.declared.format.Order.{Order}
@@ -32,12 +32,6 @@ around order format size fields program =
 pub record AddsAround (order : Order) (format : Format) (size : ℕ) (fields program old new : List ℕ) : Type 0 where
   pub fits : LengthFits format (length (around order format size fields program))
   pub joined : new ≡ old ++ frame_bytes order format (around order format size fields program)
-
--- The version was added, and after it the address size and the segment selector size.
-pub record AddsVersion (order : Order) (size : ℕ) (old new : List ℕ) : Type 0 where
-  pub begun : List ℕ
-  pub version : Appends (NumberBytes order 2) 5 old begun
-  pub sizes : new ≡ (begun ++ size ∷ []) ++ 0 ∷ []
 
 -- the values of an entry, one after the other
 abbrev pub EntryParts : Format → Order → Entry → List ℕ → Type 0

@@ -1,6 +1,5 @@
 -- Why a header isn't written in its format: an offset is too large for it, or the unit is too long (DWARF 5, sections 7.4 and 7.5.5).
-use Rattle.std.specs.Prelude.{◌≡◌, ◌⊎◌, ℕ, List, length}
-use Rattle.std.specs.List.{Contains}
+use Rattle.std.specs.Prelude.{◌≡◌, ◌⊎◌, ℕ, List, length, Contains}
 use Rattle.lnt_wire.specs.declared.form.FormValue.{FormValue}
 use Rattle.lnt_wire.specs.declared.format.Format.{Format}
 use Rattle.lnt_wire.specs.declared.put.EncodeFault.{EncodeFault}

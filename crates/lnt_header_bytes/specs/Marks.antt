@@ -1,8 +1,6 @@
 -- Marks in a table: where some of its entries begin, so that these are found without walking those before them.
-use Rattle.std.specs.Prelude.{ℕ, ◌≤◌, List, length, take, drop}
-use Rattle.std.specs.List.{All}
-use Rattle.lnt_header_bytes.specs.Borrowed.{BorrowedTable, AreEntryBytes, directories_over, files_over, IsHeaderInBytes}
-use Rattle.lnt_header_bytes.specs.declared.in_place.NumbersAndFormats.{NumbersAndFormats}
+use Rattle.std.specs.Prelude.{ℕ, ◌≤◌, List, length, drop, All}
+use Rattle.lnt_header_bytes.specs.Borrowed.{BorrowedTable, AreEntryBytes, directories_over, files_over, NumbersAndFormats}
 use Rattle.lnt_header_bytes.specs.declared.marks.Mark.{Mark}
 
 -- the table with its entries from this number on
@@ -29,10 +27,3 @@ pub record AreMarksOver (plain : NumbersAndFormats) (directories : ℕ) (directo
     (directory_marks file_marks : List Mark) : Type 0 where
   pub of_directories : AreMarks (directories_over plain directories directory_bytes) directory_bytes directory_marks
   pub of_files : AreMarks (files_over plain files file_bytes) file_bytes file_marks
-
--- a header in these bytes, with its marks
-pub record IsMarkedHeader (plain : NumbersAndFormats) (directories files : ℕ) (bytes : List ℕ) (directory_size file_size : ℕ)
-    (directory_marks file_marks : List Mark) : Type 0 where
-  pub lies : IsHeaderInBytes plain directories files bytes directory_size file_size
-  pub marks : AreMarksOver plain directories (take directory_size bytes) files (take file_size (drop directory_size bytes))
-      directory_marks file_marks

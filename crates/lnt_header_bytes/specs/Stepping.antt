@@ -15,8 +15,7 @@ use Rattle.lnt_header_bytes.specs.declared.read_table.EntryTableRead.{EntryTable
 use Rattle.lnt_header_bytes.specs.FieldsBytes.{FieldsBytes}
 use Rattle.lnt_header.specs.Joins.{Each}
 use Rattle.lnt_header_bytes.specs.TableBytes.{TableOf}
-use Rattle.lnt_header_bytes.specs.Borrowed.{BorrowedTable, borrowed_table, AreEntryBytes, header_over}
-use Rattle.lnt_header_bytes.specs.declared.in_place.NumbersAndFormats.{NumbersAndFormats}
+use Rattle.lnt_header_bytes.specs.Borrowed.{BorrowedTable, borrowed_table, AreEntryBytes, header_over, NumbersAndFormats}
 use Rattle.lnt_header_bytes.specs.declared.kept.KeptEntries.{KeptEntries}
 use Rattle.lnt_header_bytes.specs.Kept.{kept_header, IsKeptHeader}
 

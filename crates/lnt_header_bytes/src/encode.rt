@@ -7,7 +7,7 @@ ghost use Rattle.lnt_wire.specs.InitialLength.{initial_length, LengthFits};
 ghost use Rattle.lnt_wire.specs.Numbers.{offset_size};
 ghost use Rattle.lnt_header.specs.Conversion.{in_format};
 ghost use Rattle.lnt_header.specs.Encoding.{RefusedPut};
-ghost use Rattle.lnt_header_bytes.specs.HeaderPuts.{EntryParts, around, AddsAround, AddsVersion, table_to_put};
+ghost use Rattle.lnt_header_bytes.specs.HeaderPuts.{EntryParts, around, AddsAround, table_to_put};
 ghost use Rattle.lnt_header_bytes.specs.HeaderBytes.{HeaderFieldsBytes, HeaderBytesIn};
 ghost use Rattle.lnt_header.specs.HeaderRules.{IsEntryTable, six_bytes};
 ghost use Rattle.lnt_header_bytes.specs.Large.{HasLargeEntry, HasLargeOffset, HasLargeValue, IfTooLarge, IsTooLong};
@@ -153,20 +153,12 @@ pub fn add_around(
 {
     let length = unit_length(format, fields.len(), program.len())?;
     add_initial_length(out, length, format, order)?;
-    add_version(out, address_size, order)?;
+    put_u16(out, 5, order)?;
+    out.push(address_size)?;
+    out.push(0)?;
     put_offset(out, fields.len() as u64, format, order)?;
     add_both(out, fields, program)?;
     Ok(())
-}
-
-// Adds the version, the address size and the segment selector size.
-fn add_version(out: &mut Vec<u8>, address_size: u8, order: Order) -> Result<(), AllocError>
-    ensures ok { OnOk result (AddsVersion order address_size out.old.items out.new.items) }
-    ensures extends { OnErr result (Extends out.old.items out.new.items) }
-{
-    put_u16(out, 5, order)?;
-    out.push(address_size)?;
-    Ok(out.push(0)?)
 }
 
 /// Adds the first bytes, and then the second. After a refusal a part of them may be there.

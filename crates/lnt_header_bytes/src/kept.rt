@@ -1,5 +1,5 @@
 //! Headers that are kept without the bytes of their units.
-ghost use Rattle.std.specs.Prelude.{◌≡◌, ◌++◌, IsTrue, IfOk, IfSome};
+ghost use Rattle.std.specs.Prelude.{◌≡◌, ◌++◌, IsTrue, IfOk};
 ghost use Rattle.lnt_header_bytes.specs.Borrowed.{IsHeaderOver};
 ghost use Rattle.lnt_header_bytes.specs.Stepping.{AreKept};
 ghost use Rattle.lnt_header.specs.HeaderRules.{IsHeader};
@@ -156,40 +156,12 @@ fn shared(
 ) -> Result<Rc<NumbersAndFormats>, AllocError>
     ensures { IfOk result (λ shared. shared.value ≡ plain) }
 {
-    match same_numbers(&plain, other) {
-        Some(shared) => {
+    match other {
+        Some(other) if are_same(&plain, other.plain.as_ref()) => {
             drop(plain);
-            shared.clone()
+            other.plain.clone()
         }
-        None => alone(alloc, plain),
-    }
-}
-
-// The numbers and formats of the other header, if they are these.
-fn same_numbers<'a>(
-    plain: &NumbersAndFormats,
-    other: Option<&'a KeptHeader>,
-) -> Option<&'a Rc<NumbersAndFormats>>
-    ensures { IfSome result (λ shared. shared.now.value ≡ plain.entry.now) }
-{
-    let other = other?;
-    if are_same(plain, other.plain.as_ref()) {
-        Some(&other.plain)
-    } else {
-        None
-    }
-}
-
-// These numbers and formats, not shared yet.
-fn alone(alloc: Global, plain: NumbersAndFormats) -> Result<Rc<NumbersAndFormats>, AllocError>
-    ensures { IfOk result (λ shared. shared.value ≡ plain) }
-{
-    match Rc::new(alloc, plain) {
-        Ok(shared) => Ok(shared),
-        Err(failed) => {
-            drop(failed);
-            Err(AllocError)
-        }
+        _ => Ok(Rc::new(alloc, plain)?),
     }
 }
 

@@ -11,7 +11,7 @@ use lnt_wire::{Cursor, Format, Order};
 use std::alloc::{AllocError, Global};
 
 // An entry is marked if it begins at least this many bytes after the last marked one, or after the first entry.
-const STEP: usize = 256;
+const STEP: usize = 64;
 
 /// A mark: the place at which an entry begins.
 #[derive(Clone, Copy, Debug)]
@@ -46,8 +46,8 @@ impl<'a> Marks<'a> {
 }
 
 /// The marks of a table of this format and order, whose entries consist of these pairs. Between the last mark before
-/// an entry and that entry are fewer than 256 bytes. Fails only if memory runs out. Allocates nothing for a table of at most
-/// 256 bytes, and for any other a sixteenth of its bytes.
+/// an entry and that entry are fewer than 64 bytes. Fails only if memory runs out. Allocates nothing for a table of at most
+/// 64 bytes, and for any other a quarter of its bytes.
 pub(crate) fn marks_of(
     alloc: Global,
     format: Format,

@@ -50,36 +50,14 @@ fn layout_of(pairs: &[Pair]) -> Layout
     ensures { IsLayout result pairs.now }
 {
     match pairs {
-        [
-            Pair {
-                form: Form::LineStrp,
-                ..
-            },
-        ] => Layout::Path,
-        [
-            Pair {
-                form: Form::LineStrp,
-                ..
-            },
-            Pair {
-                form: Form::Udata,
-                ..
-            },
-        ] => Layout::IndexedPath,
-        [
-            Pair {
-                form: Form::LineStrp,
-                ..
-            },
-            Pair {
-                form: Form::Udata,
-                ..
-            },
-            Pair {
-                form: Form::Data16,
-                ..
-            },
-        ] => Layout::SummedPath,
+        [path] if path.form == Form::LineStrp => Layout::Path,
+        [path, directory] if path.form == Form::LineStrp && directory.form == Form::Udata => {
+            Layout::IndexedPath
+        }
+        [path, directory, sum]
+            if path.form == Form::LineStrp
+                && directory.form == Form::Udata
+                && sum.form == Form::Data16 => { Layout::SummedPath }
         _ => Layout::Other,
     }
 }

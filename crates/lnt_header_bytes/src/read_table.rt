@@ -1,5 +1,5 @@
 //! Tables of a header, read without keeping their entries.
-ghost use Rattle.std.specs.Prelude.{◌≡◌, IfOk, IfErr};
+ghost use Rattle.std.specs.Prelude.{IfOk, IfErr};
 ghost use Rattle.lnt_wire.specs.Reading.{RefusesOr};
 ghost use Rattle.lnt_header_bytes.specs.Stepping.{IsEntryTableRead};
 ghost use Rattle.lnt_header_bytes.specs.TableBytes.{TableOf};

@@ -2,14 +2,13 @@
 ghost use Rattle.std.specs.Prelude.{◌≡◌, ◌∷◌, ◌++◌, [], IfOk, IfErr, OnOk};
 ghost use Rattle.lnt_header.specs.Joins.{Several};
 ghost use Rattle.lnt_wire.specs.Reading.{Reads, Refuses, RefusesOr};
-ghost use Rattle.lnt_header_bytes.specs.Layouts.{entry_of};
 ghost use Rattle.lnt_header_bytes.specs.Stepping.{ReadsNext};
 ghost use Rattle.lnt_header_bytes.specs.TableBytes.{PairBytes, ValuesBytes, EntryBytes};
 ghost use Rattle.lnt_header_bytes.specs.TableFaults.{IsPairFault, IsPairsFault, IsEntryFault, IsEntriesFault};
 
 use lnt_header::{Entry, Pair};
 use lnt_wire::{Cursor, Fault, Form, FormValue, Format, Items, Reason};
-use std::alloc::{AllocError, Global};
+use std::alloc::Global;
 
 // Reads a pair of a format: a content type and the code of a form.
 #[tactic(auto, using(crate::proofs::TableReaders::reads_pair, crate::proofs::TableReaders::refuses_pair_content, crate::proofs::TableReaders::refuses_pair_form, crate::proofs::TableReaders::refuses_unknown))]
@@ -135,19 +134,13 @@ fn read_entry(
         (EntryBytes format cursor.old.order pairs.now) cursor.old fault) }
 {
     let values = read_values(alloc, cursor, format, pairs)?;
-    if push_entry(entries, values).is_err() {
+    let entry = Entry {
+        values: Items::new(values),
+    };
+    if entries.push(entry).is_err() {
         return Err(no_memory(cursor));
     }
     Ok(())
-}
-
-// Appends an entry of these values to `entries`. Fails only if memory runs out.
-fn push_entry(entries: &mut Vec<Entry>, values: Vec<FormValue>) -> Result<(), AllocError>
-    ensures { OnOk result (entries.new.items ≡ entries.old.items ++ entry_of values.items ∷ []) }
-{
-    Ok(entries.push(Entry {
-        values: Items::new(values),
-    })?)
 }
 
 // The fault `Memory`, at the place of the cursor.

@@ -89,7 +89,7 @@ impl<'a> EntryTableView<'a> {
     }
 
     /// A cursor before the entry of this number or an earlier one, and the number of that entry. If the table has marks,
-    /// fewer than 256 bytes are between the two.
+    /// fewer than 64 bytes are between the two.
     pub fn cursor_before(&self, number: u64) -> (u64, Cursor<'_>)
         ensures before { result.0 ≤ number }
         ensures there { result.0 ≤ length self.now.entries }

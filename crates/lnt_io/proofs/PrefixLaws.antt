@@ -1,7 +1,6 @@
 -- Prefixes of what is written: laws that the proofs of the crates above cite.
-use Rattle.std.proofs.Common.{◌≡◌, ◌∙◌, ℕ, ◌+◌, ◌<◌, List, [], ◌∷◌, ◌++◌, append-nil, append_assoc, length, get_or, take, drop}
-use Rattle.std.proofs.Common.{Option, Result, OnErr, ap, subst, sym, take-append-drop, refl, arith}
-use Rattle.std.specs.List.{flat_map}
+use Rattle.std.proofs.Common.{◌≡◌, ◌∙◌, ℕ, ◌+◌, ◌<◌, List, [], ◌∷◌, ◌++◌, append-nil, append_assoc, length, get_or, take, drop, Option}
+use Rattle.std.proofs.Common.{Result, OnErr, ap, subst, sym, take-append-drop, refl, arith, flat_map}
 use Rattle.std.specs.Io.KnownBytes.{Appends, Keeps, append_known}
 use Rattle.std.proofs.KnownBytes.{Appends-nil}
 use Rattle.std.proofs.lemmas.List.{take_more}

@@ -1,6 +1,5 @@
 //! Reads the bytes of a source: all that remain, or a block of them.
-ghost use Rattle.std.specs.Prelude.{◌≡◌, ◌+◌, ◌-◌, ◌^◌, ◌<◌, ◌≤◌, length, take};
-ghost use Rattle.std.specs.Prelude.{IfOk, IsErrOf, IfSome, MatchResult};
+ghost use Rattle.std.specs.Prelude.{◌≡◌, ◌+◌, ◌-◌, ◌^◌, ◌<◌, ◌≤◌, length, take, IfOk, IsErrOf, IfSome, MatchResult};
 ghost use Rattle.lnt_io.specs.Pulling.{Pulls, GivesMore, IsAtEnd};
 ghost use Rattle.lnt_io.specs.Stopping.{CountsFailure, IsTooLongOn};
 

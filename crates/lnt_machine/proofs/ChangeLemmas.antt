@@ -1,7 +1,6 @@
 -- Registers that an operation changes are those that looking back gives with this operation added.
-use Rattle.std.proofs.Common.{◌≡◌, ℕ, zero, suc, ◌+◌, ◌*◌, ◌/◌, ◌%◌, ◌^◌, ◌<◌, List, ◌∷◌, refl, sym, ap, subst, ◌∙◌}
-use Rattle.std.proofs.Common.{arith, zero-add, add-zero, mul-zero, pow-add}
-use Rattle.std.specs.Prelude.{ℤ, pos, negsuc, ◌+ℤ◌, ◌≤ℤ◌, unsigned_abs, Some}
+use Rattle.std.proofs.Common.{◌≡◌, ℕ, zero, suc, ◌+◌, ◌*◌, ◌/◌, ◌%◌, ◌^◌, ◌<◌, List, ◌∷◌, refl, sym, ap, subst, ◌∙◌, arith, zero-add}
+use Rattle.std.proofs.Common.{add-zero, mul-zero, pow-add, ℤ, pos, negsuc, ◌+ℤ◌, ◌≤ℤ◌, unsigned_abs, Some}
 use Rattle.std.proofs.Math.Nat.{mod-add-mod, mod-eq_of_lt, pow-suc, zero-div, zero-mod}
 use Rattle.std.proofs.Math.Pow.{pow_pos}
 use Rattle.std.proofs.lemmas.Int.{ints}
@@ -9,11 +8,10 @@ use Rattle.lnt_header.specs.declared.numbers.NumberParts.{NumberParts}
 use Rattle.lnt_header.specs.declared.op.Op.{Op}
 use Rattle.lnt_header.specs.declared.op.Op.TheVariants.{Special, Copy, AdvancePc, AdvanceLine, ConstAddPc}
 use Rattle.lnt_header.specs.declared.op.Op.TheVariants.{FixedAdvancePc, EndSequence, SetAddress}
-use Rattle.lnt_machine.specs.declared.row.Row.{Row}
 use Rattle.lnt_machine.specs.Registers.{address, advance_of_special, advances, base, IsLine, line, line_increment}
 use Rattle.lnt_machine.specs.Registers.{line_sum, moved, op_index, part, registers_after}
 use Rattle.lnt_machine.specs.Changes.{advanced, changed, initial_registers, IsAllowed, line_reached, made, unmarked}
-use Rattle.lnt_machine.specs.Matrix.{row_made}
+use Rattle.lnt_machine.specs.Matrix.{row_made, Row}
 use Rattle.lnt_machine.proofs.AdvanceLemmas.{div_more, mod_more}
 
 zero_add_z : (z : ℤ) → pos 0 +ℤ z ≡ z

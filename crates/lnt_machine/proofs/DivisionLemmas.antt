@@ -1,6 +1,5 @@
 -- A byte divided by another one, by a product with a reciprocal.
-use Rattle.std.proofs.Common.{Fits, ◌≡◌, ℕ, ◌+◌, ◌-◌, ◌*◌, ◌/◌, ◌%◌, ◌<◌, ◌≤◌, sym, ap, subst, ◌∙◌, arith}
-use Rattle.std.specs.Int.{w8, w32}
+use Rattle.std.proofs.Common.{Fits, ◌≡◌, ℕ, ◌+◌, ◌-◌, ◌*◌, ◌/◌, ◌%◌, ◌<◌, ◌≤◌, sym, ap, subst, ◌∙◌, arith, w8, w32}
 use Rattle.std.proofs.Math.Nat.{mod-add-div, mod-lt, mod-eq-sub-div-mul, div-le_self, div-mul-le_self, div-eq_of_lt-le}
 use Rattle.std.proofs.Math.Nat.{le-div_iff_mul-le, mul-le-mul, mul-le-mul_left, mul-le-mul_right, mul_comm}
 

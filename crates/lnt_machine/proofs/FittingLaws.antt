@@ -1,7 +1,6 @@
 -- The numbers of rows are of at most 64 bits: those of operations are, since bytes spell them, and those of a header are.
-use Rattle.std.proofs.Common.{◌≡◌, ℕ, ◌*◌, ◌^◌, ◌<◌, ◌≤◌, List, [], ◌∷◌, ◌++◌, length, refl, sym, ap, subst, ◌∙◌}
-use Rattle.std.proofs.Common.{arith, inl, inr}
-use Rattle.std.specs.Prelude.{reverse, slice_index_or}
+use Rattle.std.proofs.Common.{◌≡◌, ℕ, ◌*◌, ◌^◌, ◌<◌, ◌≤◌, List, [], ◌∷◌, ◌++◌, length, refl, sym, ap, subst, ◌∙◌, arith, inl, inr, reverse}
+use Rattle.std.proofs.Common.{slice_index_or}
 use Rattle.std.specs.List.{AllByRecursion, cons_option}
 use Rattle.std.proofs.Math.Nat.{mod-lt}
 use Rattle.std.proofs.Math.Pow.{pow_pos}
@@ -16,9 +15,7 @@ use Rattle.lnt_ops.proofs.OpLaws.{op_allowed}
 use Rattle.lnt_ops.specs.OpBytes.{OpBytes}
 use Rattle.lnt_ops.specs.Spelled.{FitsOp}
 use Rattle.lnt_header.specs.declared.unit_parts.UnitParts.{UnitParts}
-use Rattle.lnt_machine.specs.declared.row.Row.{Row}
-use Rattle.lnt_machine.specs.declared.row.Sequence.{Sequence}
-use Rattle.lnt_machine.specs.Matrix.{end_row_of, row_made, row_of, rows_after, sequences, sequences_of}
+use Rattle.lnt_machine.specs.Matrix.{end_row_of, row_made, row_of, rows_after, sequences, sequences_of, Row, Sequence}
 use Rattle.lnt_machine.specs.Parts.{AtStart, rows_of_ops}
 use Rattle.lnt_machine.specs.Registers.{column, discriminator, file, isa, IsLine, line, registers_after}
 use Rattle.lnt_machine.specs.Walking.{IsPlaceOf, KeptProgram, KeepsProgram, LinesAfter}

@@ -1,20 +1,17 @@
 -- The rows of a unit's program, kept while it is run.
-use Rattle.std.proofs.Common.{◌≡◌, ℕ, ◌+◌, ◌^◌, ◌<◌, ◌≤◌, List, [], ◌∷◌, ◌++◌, length, take, get_or, sym, ap, subst, ◌∙◌}
-use Rattle.std.specs.Prelude.{Option, Some}
+use Rattle.std.proofs.Common.{◌≡◌, ℕ, ◌+◌, ◌^◌, ◌<◌, ◌≤◌, List, [], ◌∷◌, ◌++◌, length, take, get_or, sym, ap, subst, ◌∙◌, Option, Some}
+use Rattle.std.proofs.Common.{append-nil, take_all}
 use Rattle.std.specs.List.{cons_option}
-use Rattle.std.proofs.lemmas.List.{append-nil, take_all}
 use Rattle.lnt_header.specs.declared.unit_parts.UnitParts.{UnitParts}
 use Rattle.lnt_header.specs.declared.op.Op.{Op}
 use Rattle.lnt_header.specs.declared.op.OpView.{OpView}
 use Rattle.lnt_header.specs.OpRules.{StandsFor}
 use Rattle.lnt_machine.specs.declared.fault.RunFault.{RunFault}
 use Rattle.lnt_machine.specs.declared.fault.RunFault.TheVariants.{LineOutOfRange}
-use Rattle.lnt_machine.specs.declared.row.Row.{Row}
-use Rattle.lnt_machine.specs.declared.row.Sequence.{Sequence}
 use Rattle.lnt_machine.proofs.RanLaws.{no_row, out_taken, ran_taken, rows_taken}
 use Rattle.lnt_machine.specs.Cuts.{IsCut}
 use Rattle.lnt_machine.proofs.SequenceLaws.{cut_is}
-use Rattle.lnt_machine.specs.Matrix.{IsRunFault, sequences}
+use Rattle.lnt_machine.specs.Matrix.{IsRunFault, sequences, Row, Sequence}
 use Rattle.lnt_machine.specs.Parts.{rows_of_ops}
 use Rattle.lnt_machine.specs.Running.{RunsOn, RunState}
 use Rattle.lnt_machine.specs.Steps.{LeavesRange}

@@ -10,12 +10,10 @@ use Rattle.lnt_header.specs.Conversion.{in_order}
 use Rattle.lnt_machine.specs.Laws.{SameMatrix}
 use Rattle.lnt_machine.specs.Matrix.{row_of, end_row_of, row_made, rows_after, sequences_of, joined_rows, done}
 use Rattle.lnt_machine.specs.Matrix.{LinesFit, RunsBy, IsRunFaultBy}
-use Rattle.lnt_machine.specs.Registers.{advance_of, advances, moved, base, line_increment, line_sum, line, IsLine, part}
-use Rattle.lnt_machine.specs.Registers.{file, column, isa, discriminator, is_stmt, basic_block, prologue_end}
-use Rattle.lnt_machine.specs.Registers.{epilogue_begin, registers_after}
+use Rattle.lnt_machine.specs.Registers.{advance_of, advances, moved, base, line_increment, line_sum, line, IsLine, part, file, column, isa}
+use Rattle.lnt_machine.specs.Registers.{discriminator, is_stmt, basic_block, prologue_end, epilogue_begin, registers_after, Row}
 use Rattle.lnt_machine.specs.declared.fault.RunFault.{RunFault}
 use Rattle.lnt_machine.specs.declared.fault.RunFault.TheVariants.{LineOutOfRange, OpenSequence, Memory}
-use Rattle.lnt_machine.specs.declared.row.Row.{Row}
 
 -- ---- registers
 

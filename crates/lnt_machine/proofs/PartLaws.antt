@@ -1,16 +1,13 @@
 -- Programs in parts, each of whole sequences.
-use Rattle.std.proofs.Common.{◌≡◌, ℕ, ◌+◌, Bool, true, false, List, [], ◌∷◌, ◌++◌, length, refl, sym, ap, subst, ◌∙◌, arith}
-use Rattle.std.specs.Prelude.{reverse, cond}
+use Rattle.std.proofs.Common.{◌≡◌, ℕ, ◌+◌, Bool, true, false, List, [], ◌∷◌, ◌++◌, length, refl, sym, ap, subst, ◌∙◌, arith, reverse, cond}
+use Rattle.std.proofs.Common.{true≢false}
 use Rattle.std.specs.List.{cons_option}
-use Rattle.std.proofs.lemmas.Bool.{true≢false}
 use Rattle.std.proofs.lemmas.List.{append-nil, reverse-append, reverse-reverse}
 use Rattle.lnt_header.specs.declared.numbers.NumberParts.{NumberParts}
 use Rattle.lnt_header.specs.declared.op.Op.{Op}
 use Rattle.lnt_header.specs.declared.op.Op.TheVariants.{Special, Copy, EndSequence, SetAddress, FixedAdvancePc}
-use Rattle.lnt_machine.specs.declared.row.Row.{Row}
-use Rattle.lnt_machine.specs.declared.row.Sequence.{Sequence}
 use Rattle.lnt_machine.proofs.RowLaws.{cons_option-append, reverse-cons, rows_after-append}
-use Rattle.lnt_machine.specs.Matrix.{onto_first, row_made, rows_after, sequences_of}
+use Rattle.lnt_machine.specs.Matrix.{onto_first, row_made, rows_after, sequences_of, Row, Sequence}
 use Rattle.lnt_machine.specs.Parts.{AreWhole, AtStart, first_sequence, rows_of_ops, RowsOfParts}
 use Rattle.lnt_machine.specs.Registers.{advance_of, advances, base, part}
 use Rattle.lnt_machine.specs.State.{StandsAfter, MachineState}

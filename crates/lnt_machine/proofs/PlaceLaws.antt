@@ -1,7 +1,6 @@
 -- The places of the sequences of a program.
-use Rattle.std.proofs.Common.{◌≡◌, ℕ, ◌+◌, ◌-◌, ◌<◌, true, List, [], ◌∷◌, ◌++◌, length, refl, sym, ap, subst, ◌∙◌}
-use Rattle.std.proofs.Common.{append_assoc, arith, inl, inr}
-use Rattle.std.specs.Prelude.{reverse, slice_index_or, Some, None}
+use Rattle.std.proofs.Common.{◌≡◌, ℕ, ◌+◌, ◌-◌, ◌<◌, true, List, [], ◌∷◌, ◌++◌, length, refl, sym, ap, subst, ◌∙◌, append_assoc, arith, inl}
+use Rattle.std.proofs.Common.{inr, reverse, slice_index_or, Some, None}
 use Rattle.std.proofs.lemmas.Bool.{cases_lt, true≢false}
 use Rattle.std.proofs.lemmas.Option.{same_Some}
 use Rattle.std.proofs.lemmas.List.{get_or_append_left, length-append, reverse-append}
@@ -18,11 +17,9 @@ use Rattle.lnt_ops.specs.Left.{IsPlace}
 use Rattle.lnt_ops.specs.OpBytes.{OpBytes}
 use Rattle.lnt_ops.specs.Stepping.{OpsSoFar}
 use Rattle.lnt_header.specs.declared.unit_parts.UnitParts.{UnitParts}
-use Rattle.lnt_machine.specs.declared.row.Row.{Row}
-use Rattle.lnt_machine.specs.declared.row.Sequence.{Sequence}
 use Rattle.lnt_machine.proofs.PartLaws.{first_of, rows_at_start, sequences_of_parts}
 use Rattle.lnt_machine.proofs.RanLaws.{done_next}
-use Rattle.lnt_machine.specs.Matrix.{LinesFit, row_made, rows_after, sequences, sequences_of}
+use Rattle.lnt_machine.specs.Matrix.{LinesFit, row_made, rows_after, sequences, sequences_of, Row, Sequence}
 use Rattle.lnt_machine.specs.Parts.{AtStart, first_sequence, rows_of_ops}
 use Rattle.lnt_machine.specs.Registers.{IsLine, line}
 use Rattle.lnt_machine.specs.Walking.{IsPlaceOf, IsSequencePlace, KeptProgram, KeepsProgram, LinesAfter, SequenceWalk, WillGive}

@@ -1,9 +1,7 @@
 -- A program that is run operation by operation.
 use Rattle.std.proofs.Common.{◌≡◌, ℕ, zero, suc, ◌+◌, ◌^◌, ◌<◌, ◌≤◌, Bool, true, false, List, [], ◌∷◌, ◌++◌, length, take, drop, get_or}
-use Rattle.std.proofs.Common.{refl, sym, ap, subst, ◌∙◌, append_assoc, arith}
-use Rattle.std.specs.Prelude.{not, reverse, Option, Some, None, Result, Ok, Err}
+use Rattle.std.proofs.Common.{refl, sym, ap, subst, ◌∙◌, append_assoc, arith, not, reverse, Option, Some, None, Result, Ok, Err, true≢false}
 use Rattle.std.specs.List.{cons_option}
-use Rattle.std.proofs.lemmas.Bool.{true≢false}
 use Rattle.std.proofs.lemmas.List.{append-nil, drop_more, length-append, length-take-le, reverse-append, take_all, take_more}
 use Rattle.std.proofs.lemmas.List.{take-append-drop, take-append-le}
 use Rattle.lnt_wire.specs.declared.fault.Fault.{Fault}
@@ -14,12 +12,10 @@ use Rattle.lnt_header.specs.declared.op.OpView.{OpView}
 use Rattle.lnt_header.specs.OpRules.{Admits, StandsFor}
 use Rattle.lnt_ops.specs.Walks.{Fails, GivesOperation, Walk, WalkStep}
 use Rattle.lnt_machine.specs.declared.fault.RunFault.TheVariants.{LineOutOfRange, OpenSequence}
-use Rattle.lnt_machine.specs.declared.row.Row.{Row}
-use Rattle.lnt_machine.specs.declared.row.Sequence.{Sequence}
 use Rattle.lnt_machine.proofs.RowLaws.{lines_more, rows_after-append}
 use Rattle.lnt_machine.specs.Cuts.{are_some, IsCut}
 use Rattle.lnt_machine.proofs.SequenceLaws.{cut_closed, cut_end, cut_more, cut_none, cut_open, some_after}
-use Rattle.lnt_machine.specs.Matrix.{done, IsRunFault, IsRunFaultBy, joined_rows, LinesFit, row_made, RunsBy, sequences_of}
+use Rattle.lnt_machine.specs.Matrix.{done, IsRunFault, IsRunFaultBy, joined_rows, LinesFit, row_made, RunsBy, sequences_of, Row, Sequence}
 use Rattle.lnt_machine.specs.Parts.{rows_of_ops}
 use Rattle.lnt_machine.specs.Registers.{IsLine, line}
 use Rattle.lnt_machine.specs.Running.{HasDone, open_with, RunsOn, RunState}

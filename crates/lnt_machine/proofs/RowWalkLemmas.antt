@@ -1,6 +1,5 @@
 -- Operations that are given and run, one after another, and make no row.
-use Rattle.std.proofs.Common.{◌≡◌, List, [], ◌∷◌, ◌++◌, refl, sym, subst}
-use Rattle.std.specs.Prelude.{Option, Some, None}
+use Rattle.std.proofs.Common.{◌≡◌, List, [], ◌∷◌, ◌++◌, refl, sym, subst, Option, Some, None}
 use Rattle.lnt_header.specs.declared.op.OpView.{OpView}
 use Rattle.lnt_ops.specs.Walks.{GivesEach, GivesOperation, Walk}
 use Rattle.lnt_machine.specs.declared.fault.RowFault.TheVariants.{Run}

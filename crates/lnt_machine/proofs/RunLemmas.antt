@@ -1,12 +1,10 @@
 -- A program that is run, and an operation more.
-use Rattle.std.proofs.Common.{◌≡◌, Bool, List, ◌∷◌, refl, ap, subst, ◌∙◌}
-use Rattle.std.specs.Prelude.{Option, Some, None}
+use Rattle.std.proofs.Common.{◌≡◌, Bool, List, ◌∷◌, refl, ap, subst, ◌∙◌, Option, Some, None}
 use Rattle.lnt_header.specs.declared.numbers.NumberParts.{NumberParts}
 use Rattle.lnt_header.specs.declared.op.Op.{Op}
 use Rattle.lnt_header.specs.declared.op.Op.TheVariants.{Special, Copy, EndSequence}
 use Rattle.lnt_header.specs.declared.op.OpView.{OpView}
-use Rattle.lnt_machine.specs.declared.row.Row.{Row}
-use Rattle.lnt_machine.specs.Matrix.{row_made}
+use Rattle.lnt_machine.specs.Matrix.{row_made, Row}
 use Rattle.lnt_machine.specs.Running.{leaves_open, open_with, RunsOn, RunState}
 use Rattle.lnt_machine.specs.State.{MachineState}
 use Rattle.lnt_machine.specs.Steps.{Steps}

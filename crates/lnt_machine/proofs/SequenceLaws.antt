@@ -2,9 +2,7 @@
 use Rattle.std.proofs.Common.{◌≡◌, ◌≤◌, Bool, true, false, cond, List, [], ◌∷◌, ◌++◌, length, refl, sym, ap, ◌∙◌, append_assoc, arith}
 use Rattle.std.specs.List.{AllByRecursion}
 use Rattle.std.proofs.lemmas.List.{append-nil, length-append}
-use Rattle.lnt_machine.specs.declared.row.Row.{Row}
-use Rattle.lnt_machine.specs.declared.row.Sequence.{Sequence}
-use Rattle.lnt_machine.specs.Matrix.{joined_rows, onto_first, sequences_of}
+use Rattle.lnt_machine.specs.Matrix.{joined_rows, onto_first, sequences_of, Row, Sequence}
 use Rattle.lnt_machine.specs.Cuts.{are_some, AreOpen, IsEnded, IsCut}
 
 pub cut_none : IsCut [] [] []

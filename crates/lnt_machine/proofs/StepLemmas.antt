@@ -13,9 +13,8 @@ use Rattle.lnt_header.specs.declared.op.OpView.TheVariants as views
 use Rattle.lnt_header.specs.HeaderRules.{AreHeaderNumbers}
 use Rattle.lnt_header.specs.OpRules.{op_of, StandsFor, Admits}
 use Rattle.lnt_ops.proofs.ViewLaws.{is_op_of, operands_of}
-use Rattle.lnt_machine.specs.declared.row.Row.{Row}
 use Rattle.lnt_machine.specs.Changes.{changed, Changes, initial_registers, IsAllowed, line_reached, made, plain}
-use Rattle.lnt_machine.specs.Matrix.{row_made}
+use Rattle.lnt_machine.specs.Matrix.{row_made, Row}
 use Rattle.lnt_machine.specs.Registers.{IsLine, line, registers_after}
 use Rattle.lnt_machine.specs.State.{IsBounded, StandsAfter, MachineState}
 use Rattle.lnt_machine.specs.Steps.{LeavesRange, Steps}

@@ -1,8 +1,7 @@
 -- A machine that does the operations which a walk gives, from some place of a program on.
-use Rattle.std.proofs.Common.{◌≡◌, ℕ, Bool, true, false, List, [], ◌∷◌, refl, sym, ap, subst, ◌∙◌}
-use Rattle.std.specs.Prelude.{reverse, cond, Option, Some, None, drop}
+use Rattle.std.proofs.Common.{◌≡◌, ℕ, Bool, true, false, List, [], ◌∷◌, refl, sym, ap, subst, ◌∙◌, reverse, cond, Option, Some, None, drop}
+use Rattle.std.proofs.Common.{true≢false}
 use Rattle.std.specs.List.{cons_option}
-use Rattle.std.proofs.lemmas.Bool.{true≢false}
 use Rattle.lnt_wire.specs.declared.fault.Fault.{Fault}
 use Rattle.lnt_header.specs.declared.numbers.NumberParts.{NumberParts}
 use Rattle.lnt_header.specs.declared.op.Op.{Op}
@@ -10,10 +9,9 @@ use Rattle.lnt_header.specs.declared.op.OpView.{OpView}
 use Rattle.lnt_header.specs.HeaderRules.{AreHeaderNumbers}
 use Rattle.lnt_ops.proofs.LeftLaws.{left_at, left_ends, left_fails, left_next}
 use Rattle.lnt_ops.specs.Walks.{Ends, Fails, GivesOperation, Walk}
-use Rattle.lnt_machine.specs.declared.row.Row.{Row}
 use Rattle.lnt_machine.proofs.PartLaws.{stands_at_start}
 use Rattle.lnt_machine.proofs.RanLaws.{no_row}
-use Rattle.lnt_machine.specs.Matrix.{row_made, rows_after}
+use Rattle.lnt_machine.specs.Matrix.{row_made, rows_after, Row}
 use Rattle.lnt_machine.specs.Parts.{first_sequence}
 use Rattle.lnt_machine.specs.Registers.{IsLine, line}
 use Rattle.lnt_machine.specs.State.{StandsAfter, MachineState}

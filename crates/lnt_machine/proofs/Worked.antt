@@ -1,7 +1,6 @@
 -- The rows of small units, computed from the definitions: nothing here is proved of the code.
-use Rattle.std.proofs.Common.{◌≡◌, ℕ, zero, suc, ◌≤◌, Bool, true, false, List, [], ◌∷◌, refl, lit<, arith}
+use Rattle.std.proofs.Common.{◌≡◌, ℕ, zero, suc, ◌≤◌, Bool, true, false, List, [], ◌∷◌, refl, lit<, arith, pos, negsuc, map, length}
 use Rattle.std.proofs.lemmas.Int.{ints}
-use Rattle.std.specs.Prelude.{pos, negsuc, map, length}
 use Rattle.lnt_wire.specs.declared.format.Order.TheVariants.{Little}
 use Rattle.lnt_wire.specs.declared.format.Format.TheVariants.{D32}
 use Rattle.lnt_header.specs.declared.unit_parts.UnitParts.{UnitParts}
@@ -10,10 +9,9 @@ use Rattle.lnt_header.specs.declared.op.Op.TheVariants.{Special, Copy, AdvancePc
 use Rattle.lnt_header.specs.declared.op.Op.TheVariants.{SetBasicBlock, ConstAddPc, FixedAdvancePc, SetPrologueEnd}
 use Rattle.lnt_header.specs.declared.op.Op.TheVariants.{UnknownStandard, EndSequence, SetAddress, SetDiscriminator}
 use Rattle.lnt_header.specs.OpRules.{known_lengths}
-use Rattle.lnt_machine.specs.declared.row.Row.{Row}
 use Rattle.lnt_machine.specs.declared.fault.RunFault.TheVariants.{LineOutOfRange}
 use Rattle.lnt_machine.specs.Registers.{line, IsLine}
-use Rattle.lnt_machine.specs.Matrix.{done, IsRunFault, joined_rows, rows, sequences}
+use Rattle.lnt_machine.specs.Matrix.{done, IsRunFault, joined_rows, rows, sequences, Row}
 
 -- A unit whose header has these numbers: minimum_instruction_length, max_ops, opcode_base and the standard lengths. Rows depend
 -- on no table.

@@ -2,9 +2,7 @@
 -- speak of it, and no public contract.
 use Rattle.std.specs.Prelude.{◌≡◌, Bool, true, false, List, [], ◌∷◌, ◌++◌}
 use Rattle.std.specs.List.{AllByRecursion}
-use Rattle.lnt_machine.specs.declared.row.Row.{Row}
-use Rattle.lnt_machine.specs.declared.row.Sequence.{Sequence}
-use Rattle.lnt_machine.specs.Matrix.{joined_rows}
+use Rattle.lnt_machine.specs.Matrix.{joined_rows, Row, Sequence}
 
 -- whether there is a row
 abbrev pub are_some : List Row → Bool

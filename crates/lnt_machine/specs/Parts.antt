@@ -4,8 +4,7 @@ use Rattle.std.specs.Prelude.{◌≡◌, cond, List, [], ◌∷◌, ◌++◌, re
 use Rattle.lnt_header.specs.declared.numbers.NumberParts.{NumberParts}
 use Rattle.lnt_header.specs.declared.op.Op.{Op}
 use Rattle.lnt_header.specs.declared.op.Op.TheVariants.{EndSequence}
-use Rattle.lnt_machine.specs.declared.row.Row.{Row}
-use Rattle.lnt_machine.specs.Matrix.{rows_after, sequences_of}
+use Rattle.lnt_machine.specs.Matrix.{rows_after, sequences_of, Row}
 
 -- After the operations of `back`, the newest first, a sequence begins: there are none, or the newest is an EndSequence.
 abbrev pub AtStart : List Op → Type 0

@@ -6,11 +6,10 @@ use Rattle.std.specs.Prelude.{Option, Some, None, unwrap_or, ℤ, pos, ◌+ℤ�
 use Rattle.std.specs.List.{list_any}
 use Rattle.lnt_header.specs.declared.numbers.NumberParts.{NumberParts}
 use Rattle.lnt_header.specs.declared.op.Op.{Op}
-use Rattle.lnt_header.specs.declared.op.Op.TheVariants.{Special, Copy, AdvancePc, AdvanceLine, SetFile, SetColumn}
-use Rattle.lnt_header.specs.declared.op.Op.TheVariants.{NegateStmt, SetBasicBlock, ConstAddPc, FixedAdvancePc}
-use Rattle.lnt_header.specs.declared.op.Op.TheVariants.{SetPrologueEnd, SetEpilogueBegin, SetIsa, EndSequence}
-use Rattle.lnt_header.specs.declared.op.Op.TheVariants.{SetAddress, SetDiscriminator}
-use Rattle.lnt_machine.specs.declared.row.Row.{Row}
+use Rattle.lnt_header.specs.declared.op.Op.TheVariants.{Special, Copy, AdvancePc, AdvanceLine, SetFile, SetColumn, NegateStmt}
+use Rattle.lnt_header.specs.declared.op.Op.TheVariants.{SetBasicBlock, ConstAddPc, FixedAdvancePc, SetPrologueEnd, SetEpilogueBegin, SetIsa}
+use Rattle.lnt_header.specs.declared.op.Op.TheVariants.{EndSequence, SetAddress, SetDiscriminator}
+pub use Rattle.lnt_machine.specs.declared.row.Row.{Row}
 
 -- ---- looking back
 

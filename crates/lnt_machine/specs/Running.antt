@@ -4,8 +4,7 @@ use Rattle.std.specs.List.{list_any}
 use Rattle.lnt_header.specs.declared.op.Op.{Op}
 use Rattle.lnt_header.specs.declared.op.OpView.{OpView}
 use Rattle.lnt_header.specs.OpRules.{StandsFor}
-use Rattle.lnt_machine.specs.declared.row.Row.{Row}
-use Rattle.lnt_machine.specs.Registers.{is_copy_or_special, part}
+use Rattle.lnt_machine.specs.Registers.{is_copy_or_special, part, Row}
 use Rattle.lnt_machine.specs.State.{StandsAfter, MachineState}
 use Rattle.lnt_machine.specs.Steps.{Steps}
 

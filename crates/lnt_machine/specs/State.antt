@@ -2,8 +2,7 @@
 use Rattle.std.specs.Prelude.{◌≡◌, ℕ, ◌*◌, ◌^◌, ◌<◌, List}
 use Rattle.lnt_header.specs.declared.numbers.NumberParts.{NumberParts}
 use Rattle.lnt_header.specs.declared.op.Op.{Op}
-use Rattle.lnt_machine.specs.declared.row.Row.{Row}
-use Rattle.lnt_machine.specs.Registers.{IsLine, line, registers_after}
+use Rattle.lnt_machine.specs.Registers.{IsLine, line, registers_after, Row}
 
 -- the header with which operations are read, the registers, and the number of operations done
 pub record MachineState : Type 0 where

@@ -5,10 +5,8 @@ use Rattle.lnt_header.specs.declared.op.Op.{Op}
 use Rattle.lnt_header.specs.Joins.{Each}
 use Rattle.lnt_ops.specs.OpBytes.{OpBytes}
 use Rattle.lnt_ops.specs.Walks.{Walk}
-use Rattle.lnt_machine.specs.declared.row.Row.{Row}
-use Rattle.lnt_machine.specs.declared.row.Sequence.{Sequence}
 use Rattle.lnt_machine.specs.Cuts.{are_some, IsCut}
-use Rattle.lnt_machine.specs.Matrix.{LinesFit, sequences_of}
+use Rattle.lnt_machine.specs.Matrix.{LinesFit, sequences_of, Row, Sequence}
 use Rattle.lnt_machine.specs.Parts.{AtStart, rows_of_ops}
 use Rattle.lnt_machine.specs.Running.{RunState}
 use Rattle.lnt_machine.specs.State.{MachineState, StandsAfter}

@@ -7,8 +7,7 @@ use Rattle.lnt_header.specs.HeaderRules.{AreHeaderNumbers}
 use Rattle.lnt_ops.specs.Left.{OperationsAreLeft, IsPlace}
 use Rattle.lnt_ops.specs.Walks.{Walk}
 use Rattle.lnt_header.specs.declared.unit_parts.UnitParts.{UnitParts}
-use Rattle.lnt_machine.specs.declared.row.Row.{Row}
-use Rattle.lnt_machine.specs.Matrix.{rows_after, sequences, sequences_of}
+use Rattle.lnt_machine.specs.Matrix.{rows_after, sequences, sequences_of, Row}
 use Rattle.lnt_machine.specs.Parts.{AtStart, first_sequence, rows_of_ops}
 use Rattle.lnt_machine.specs.Registers.{IsLine, line}
 use Rattle.lnt_machine.specs.State.{StandsAfter, MachineState}
@@ -55,8 +54,7 @@ GivesRow old result new = (rows : List Row) → WillGive rows old → GivesFirst
 -- A short operation was done, if one came next. The first of the rows was given, or the same rows are still to come.
 abbrev pub ComesShort : SequenceWalk → Option (Option Row) → SequenceWalk → Type 0
 ComesShort old (Some (Some row)) new = GivesRow old (Some row) new
-ComesShort old (Some None) new = (rows : List Row) → WillGive rows old → WillGive rows new
-ComesShort old None new = (rows : List Row) → WillGive rows old → WillGive rows new
+ComesShort old _ new = (rows : List Row) → WillGive rows old → WillGive rows new
 
 -- A sequence begins at this place of the program, after the earlier operations, and the lines of the later ones are in range.
 pub record IsSequencePlace (h : NumberParts) (program : List ℕ) (earlier later : List Op) (place : ℕ) : Type 0 where

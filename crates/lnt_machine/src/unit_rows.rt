@@ -1,8 +1,7 @@
 //! All rows of a unit, in its sequences.
 ghost use Rattle.std.specs.Prelude.{◌≡◌, not, List, [], ◌∷◌, ◌++◌, IfOk, OnOk, IfErr};
 ghost use Rattle.lnt_machine.specs.Cuts.{IsCut, are_some};
-ghost use Rattle.lnt_machine.specs.Matrix.{IsRunFault, Runs, sequences};
-ghost use Rattle.lnt_machine.specs.declared.row.Row.{Row};
+ghost use Rattle.lnt_machine.specs.Matrix.{IsRunFault, Runs, sequences, Row};
 
 use crate::fault::RunFault;
 use crate::row::{Row, Sequence};

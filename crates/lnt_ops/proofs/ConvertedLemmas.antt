@@ -1,12 +1,12 @@
 -- Programs in another byte order, operation by operation.
-use Rattle.std.proofs.Common.{◌≡◌, ℕ, List, [], ◌∷◌, ◌++◌, refl, sym, subst, false}
+use Rattle.std.proofs.Common.{◌≡◌, ℕ, List, [], ◌∷◌, ◌++◌, refl, sym, subst, false, arith}
 use Rattle.lnt_wire.specs.Bytes.{Appends, Extends}
 use Rattle.lnt_wire.specs.declared.format.Order.{Order}
 use Rattle.lnt_header.specs.declared.numbers.NumberParts.{NumberParts}
 use Rattle.lnt_header.specs.declared.op.Op.{Op}
-use Rattle.lnt_header.specs.declared.op.Op.TheVariants.{Special}
 use Rattle.lnt_header.specs.declared.op.OpView.{OpView}
 use Rattle.lnt_header.specs.Joins.{Each}
+use Rattle.lnt_header.proofs.ConversionLaws.{op_in_order}
 use Rattle.lnt_header.specs.OpRules.{Admits}
 use Rattle.lnt_header.proofs.PutLaws.{each_begun, each_put}
 use Rattle.lnt_ops.proofs.OpPutLemmas.{appended_extends}
@@ -17,7 +17,6 @@ use Rattle.lnt_ops.specs.OpPuts.{IsOpOf, AddsView, AddsOps}
 use Rattle.lnt_ops.specs.Stepping.{OpsSoFar}
 use Rattle.lnt_ops.specs.Walks.{Walk, Ends, GivesOperation}
 use Rattle.std.proofs.lemmas.Grind.{common_steps}
-use Rattle.std.proofs.Common.{arith}
 
 -- the operations that a walk has given so far were added
 pub record ConvertedSoFar (h : NumberParts) (place : ℕ) (program : List ℕ) (order : Order) (old : List ℕ) (walk : Walk)
@@ -33,11 +32,6 @@ pub converted_none : (h : NumberParts) (place : ℕ) (program : List ℕ) (order
     → ConvertedSoFar h place program order old walk old
 converted_none h place program order old walk same going placed rest ordered = grind (arith, common_steps, ops_none, each_begun)
 
--- the same operations are admitted in another order
-admitted_in_order : (h : NumberParts) (order : Order) (op : Op) → Admits h op → Admits (in_order h order) op
-admitted_in_order h order (Special c) a = a
-admitted_in_order h order op a = a
-
 pub converted_more : (h : NumberParts) (place : ℕ) (program : List ℕ) (order : Order) (size : ℕ) (old middle new : List ℕ) (view : OpView)
     (walk next : Walk) → ConvertedSoFar h place program order old walk middle → GivesOperation view walk next
     → size ≡ h.address_size → AddsView order size view middle new → ConvertedSoFar h place program order old next new
@@ -52,7 +46,7 @@ converted_more h place program order size old middle new view walk next so step 
       adds =
           let admitted = subst (λ (g : NumberParts). Admits g op) so.header_is step.gives.admitted in
           each_put (OpBytes (in_order h order)) so.ops op old middle new so.adds
-          (put.adds (in_order h order) op refl (sym sized) step.gives.stands (admitted_in_order h order op admitted));
+          (put.adds (in_order h order) op refl (sym sized) step.gives.stands (op_in_order h order op admitted));
     }
 
 -- a view that a walk gives is one of the header's

@@ -2,7 +2,7 @@
 use Rattle.std.proofs.Common.{◌≡◌, ℕ, zero, suc, ◌+◌, ◌<◌, ◌≤◌, List, [], ◌∷◌, ◌++◌, length, take, drop, get_or, refl, sym}
 use Rattle.std.proofs.Common.{ap, subst, ◌∙◌, append_assoc, arith}
 use Rattle.std.proofs.Math.Seq.{drop-length}
-use Rattle.std.proofs.lemmas.List.{length-append, length-drop, append-nil, take_more, drop_more, take-append-drop, take_all}
+use Rattle.std.proofs.lemmas.List.{length-append, length-drop, append-nil, drop_more, take-append-drop, take_all}
 use Rattle.lnt_wire.specs.At.{At}
 use Rattle.lnt_wire.specs.Bytes.{TakenBytes, Exactly, ◌⨾◌}
 use Rattle.lnt_wire.specs.declared.fault.Fault.{Fault}
@@ -10,6 +10,7 @@ use Rattle.lnt_wire.specs.declared.fault.Reason.{Reason}
 use Rattle.lnt_wire.specs.declared.fault.Reason.TheVariants.{Truncated, LebTooLarge}
 use Rattle.lnt_wire.specs.FormBytes.{BlockBytes}
 use Rattle.lnt_wire.proofs.CodeLaws.{same_leb}
+use Rattle.lnt_wire.proofs.LebLemmas.{leb_push}
 use Rattle.lnt_wire.specs.Leb128.{IsLeb, AreHigh, UnsignedLeb, IsLargeUnsigned, IsLebFault}
 use Rattle.lnt_wire.specs.Numbers.{NumberBytes}
 use Rattle.lnt_wire.specs.Reading.{Reads, RefusesField, IsCutShort}
@@ -23,19 +24,11 @@ use Rattle.lnt_header.specs.OpRules.Taken.{takes_address, takes_any, takes_nothi
 use Rattle.lnt_ops.proofs.StandardReaders.{refused_at}
 use Rattle.lnt_ops.specs.OpBytes.{CodingBytes, Extended}
 use Rattle.lnt_ops.specs.OpFaults.IsFirstFault.{no_length, cut_counted, wrong_counted, large_counted}
-use Rattle.lnt_ops.specs.OpSteps.{GivesAfter, RefusesAfter, ExtendedBody, IsRightOperand, GivesCounted}
-use Rattle.lnt_ops.specs.OpSteps.{IsCountedOpFault, IsLargeNumber}
+use Rattle.lnt_ops.specs.OpSteps.{GivesAfter, RefusesAfter, ExtendedBody, IsRightOperand, GivesCounted, IsCountedOpFault, IsLargeNumber}
 use Rattle.lnt_ops.specs.OpSteps.IsCountedOpFault.{wrong_operand, large_number}
 use Rattle.std.proofs.lemmas.Grind.{common_steps}
 
 -- ---- a number in groups of seven bits, and nothing else
-
-high_push : (prefix : List ℕ) (b : ℕ) → AreHigh prefix → 128 ≤ b → AreHigh (prefix ++ b ∷ [])
-high_push [] b h k = (k, tt)
-high_push (a ∷ prefix) b h k = (h.0, high_push prefix b h.1 k)
-
-pub leb_more : (bytes : List ℕ) (i : ℕ) → i < length bytes → AreHigh (take i bytes) → 128 ≤ get_or bytes i 0 → AreHigh (take (i + 1) bytes)
-leb_more bytes i lt h k = subst AreHigh (sym (take_more bytes i 0 lt)) (high_push (take i bytes) (get_or bytes i 0) h k)
 
 -- the first byte below 128 is the last one
 leb_ends : (prefix : List ℕ) (b : ℕ) (more : List ℕ) → AreHigh prefix → b < 128 → IsLeb (prefix ++ b ∷ more) → more ≡ []
@@ -43,11 +36,6 @@ leb_ends [] b [] h lt p = refl
 leb_ends [] b (c ∷ more) h lt p = absurd (omega (arith, p.0, lt))
 leb_ends (a ∷ []) b more h lt p = leb_ends [] b more tt lt p.1
 leb_ends (a ∷ c ∷ prefix) b more h lt p = leb_ends (c ∷ prefix) b more h.1 lt p.1
-
-leb_push : (prefix : List ℕ) (b : ℕ) → AreHigh prefix → b < 128 → IsLeb (prefix ++ b ∷ [])
-leb_push [] b h k = k
-leb_push (a ∷ []) b h k = (h.0, k)
-leb_push (a ∷ c ∷ prefix) b h k = (h.0, leb_push (c ∷ prefix) b h.1 k)
 
 cut_at : (bytes : List ℕ) (i : ℕ) → i < length bytes → bytes ≡ take i bytes ++ get_or bytes i 0 ∷ drop (i + 1) bytes
 cut_at bytes i lt = sym (take-append-drop i bytes) ∙ ap (λ (z : List ℕ). take i bytes ++ z) (drop_more bytes i 0 lt)

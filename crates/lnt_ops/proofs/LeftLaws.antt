@@ -1,8 +1,6 @@
 -- Walks over a program whose operations are known, from some place on.
-use Rattle.std.proofs.Common.{◌≡◌, ℕ, List, [], ◌∷◌, ◌++◌, length, refl, sym, ap, subst, ◌∙◌, arith, true, false, ◌⊎◌, inl, inr}
-use Rattle.std.specs.Prelude.{drop}
-use Rattle.std.proofs.lemmas.Bool.{true≢false}
-use Rattle.std.proofs.lemmas.List.{append-nil, length-append}
+use Rattle.std.proofs.Common.{◌≡◌, ℕ, List, [], ◌∷◌, ◌++◌, length, refl, sym, ap, subst, ◌∙◌, arith, true, false, ◌⊎◌, inl, inr, drop}
+use Rattle.std.proofs.Common.{true≢false, append-nil, length-append}
 use Rattle.std.proofs.Math.Seq.{drop-append_seam}
 use Rattle.lnt_wire.proofs.CodeLaws.{peel}
 use Rattle.lnt_wire.proofs.LengthLaws.{same_rest}
@@ -15,11 +13,18 @@ use Rattle.lnt_header.specs.Joins.{Each}
 use Rattle.lnt_header.specs.OpRules.{StandsFor}
 use Rattle.lnt_ops.proofs.OpLaws.{op_code, op_is_some}
 use Rattle.lnt_ops.specs.Left.{OperationsAreLeft, IsPlace}
-use Rattle.lnt_ops.specs.Stepping.{IsNextOf}
 use Rattle.lnt_ops.specs.OpBytes.{OpBytes}
 use Rattle.lnt_ops.specs.OpReading.{GivesOp}
 use Rattle.lnt_ops.specs.Walks.{Walk, Ends, GivesOperation, Fails}
 use Rattle.std.proofs.lemmas.Grind.{common_steps}
+
+-- The view stands for the first of the operations, and the others are left.
+pub record IsNextOf (h : NumberParts) (later : List Op) (view : OpView) (new : Walk) : Type 0 where
+  pub op : Op
+  pub others : List Op
+  pub later_is : later ≡ op ∷ others
+  pub stands : StandsFor view op
+  pub left : OperationsAreLeft h others new
 
 -- the next operation
 pub left_next : (h : NumberParts) (later : List Op) (view : OpView) (old new : Walk) → AreHeaderNumbers h → OperationsAreLeft h later old

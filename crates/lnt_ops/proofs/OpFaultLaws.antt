@@ -16,8 +16,7 @@ use Rattle.lnt_header.specs.FirstFaults.{FirstOfSeveral}
 use Rattle.lnt_header.specs.FirstFaults.FirstOfSeveral.{next}
 use Rattle.lnt_header.specs.HeaderRules.{AreHeaderNumbers}
 use Rattle.lnt_header.specs.Joins.{Each, Several}
-use Rattle.lnt_header.specs.OpRules.{Coding, coding, Following, following, known_followings, last_known, Operand}
-use Rattle.lnt_header.specs.OpRules.{standard_length, taken_by}
+use Rattle.lnt_header.specs.OpRules.{Coding, coding, Following, following, known_followings, last_known, Operand, standard_length, taken_by}
 use Rattle.lnt_header.specs.OpRules.Following.{as_listed, by_length, nothing_more, one_signed, one_unsigned, two_bytes}
 use Rattle.lnt_header.specs.OpRules.Taken.{takes_address, takes_any, takes_nothing, takes_number}
 use Rattle.lnt_header.specs.declared.numbers.NumberParts.{NumberParts}

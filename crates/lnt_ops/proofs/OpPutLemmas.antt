@@ -1,9 +1,6 @@
 -- What is written of operations.
-use Rattle.std.proofs.Common.{Bor, ◌≡◌, ℕ, suc, ◌+◌, ◌-◌, ◌<◌, ◌≤◌, List, [], ◌∷◌, ◌++◌, length, take, get_or}
-use Rattle.std.proofs.Common.{refl, sym, ap, subst, ◌∙◌, append_assoc, append-nil, arith}
-use Rattle.std.proofs.lemmas.List.{length-append}
-use Rattle.std.proofs.Math.Seq.{take-append_seam}
-use Rattle.std.specs.Prelude.{slice_set, Result, Ok, Err, OnOk, OnErr}
+use Rattle.std.proofs.Common.{Bor, ◌≡◌, ℕ, suc, ◌+◌, ◌-◌, ◌<◌, ◌≤◌, List, [], ◌∷◌, ◌++◌, length, take, get_or, refl, sym, ap, subst, ◌∙◌}
+use Rattle.std.proofs.Common.{append_assoc, append-nil, arith, length-append, slice_set, Result, Ok, Err, OnOk, OnErr}
 use Rattle.lnt_wire.specs.declared.format.Order.{Order}
 use Rattle.lnt_wire.specs.Bytes.{Exactly, IsShortest, Appends, Extends}
 use Rattle.lnt_wire.specs.At.{At}
@@ -20,8 +17,7 @@ use Rattle.lnt_header.specs.declared.op.OpView.{OpView}
 use Rattle.lnt_header.specs.declared.op.OpView.TheVariants as views
 use Rattle.lnt_header.specs.declared.op.Operands.{Operands}
 use Rattle.lnt_header.specs.declared.op.Operands.TheVariants.{Spelled, Listed}
-use Rattle.lnt_header.specs.OpRules.{AreOperands, StandsFor, Admits, AdmitsCoding, Coding, coding, coding_of}
-use Rattle.lnt_header.specs.OpRules.{Operand}
+use Rattle.lnt_header.specs.OpRules.{AreOperands, StandsFor, Admits, AdmitsCoding, Coding, coding, coding_of, Operand}
 use Rattle.lnt_header.specs.Joins.{Each}
 use Rattle.lnt_header.proofs.PutLaws.{put_as, each_begun, each_put, each_more}
 use Rattle.lnt_ops.proofs.OpLaws.{extended_parts, same_whole}
@@ -29,9 +25,10 @@ use Rattle.lnt_ops.proofs.ViewLaws.{leb_is_some, is_coded, IsListed, is_op_of, o
 use Rattle.lnt_ops.specs.OpBytes.{CodingBytes, OpBytes, Standard, Extended}
 use Rattle.lnt_ops.specs.OpPuts.{IsOpOf, AddsView}
 use Rattle.lnt_ops.specs.Stepping.{AddsSpelled, AddsOperands}
-use Rattle.lnt_ops.specs.OperandLists.{SpellsNumbers, NumbersSoFar}
+use Rattle.lnt_ops.specs.OperandLists.{SpellsNumbers}
 use Rattle.lnt_ops.specs.OpSpellings.{Coded, ExtendedCoded, ExtendedStart}
 use Rattle.lnt_ops.proofs.OwnedLemmas as owned
+use Rattle.lnt_ops.proofs.OwnedLemmas.{NumbersSoFar}
 use Rattle.lnt_ops.proofs.LebSizes.{shortest_of_less, at_most_ten, one_group}
 use Rattle.std.proofs.lemmas.Grind.{common_steps}
 
@@ -288,6 +285,3 @@ unchanged_extends old new same = record { more = []; joined = same ∙ sym (appe
 
 pub extends_more : (old middle new : List ℕ) → Extends old middle → Extends middle new → Extends old new
 extends_more old middle new p q = grind (arith, common_steps, append_assoc)
-
-pub taken_back : (old new : List ℕ) (start : ℕ) → start ≡ length old → Extends old new → take start new ≡ old
-taken_back old new start is e = rw (is, e.joined) (take-append_seam old e.more)

@@ -16,7 +16,7 @@ use Rattle.lnt_header.specs.declared.op.OpView.TheVariants as views
 use Rattle.lnt_header.specs.declared.op.Operands.{Operands}
 use Rattle.lnt_ops.proofs.ProgramLaws.{none_filled}
 use Rattle.lnt_ops.proofs.ViewLaws.{leb_is_some}
-use Rattle.lnt_ops.specs.OperandLists.{IsOperands, SpellsNumbers, NumbersSoFar}
+use Rattle.lnt_ops.specs.OperandLists.{IsOperands, SpellsNumbers}
 use Rattle.lnt_ops.specs.Stepping.{StandsForSome}
 
 operands_of : (k : ℕ) (operands : Operands) (op : Op) → StandsFor (views.UnknownStandard k operands) op → IsOperands operands
@@ -32,6 +32,12 @@ whole_list : (bytes numbers prefix rest : List ℕ) → Each UnsignedLeb numbers
 whole_list bytes numbers prefix [] p whole none others q = subst (Each UnsignedLeb numbers) (sym (whole ∙ append-nil prefix)) p
 whole_list bytes numbers prefix (b ∷ rest) p whole none others q =
     absurd (none_filled UnsignedLeb numbers prefix (b ∷ rest) bytes unsigned_code p (omega arith) whole none others q)
+
+-- the numbers of the bytes up to a cursor
+pub record NumbersSoFar (bytes numbers : List ℕ) (at : At) : Type 0 where
+  pub prefix : List ℕ
+  pub spelled : Each UnsignedLeb numbers prefix
+  pub whole : bytes ≡ prefix ++ at.rest
 
 pub numbers_none : (bytes : List ℕ) (at : At) → at.rest ≡ bytes → NumbersSoFar bytes [] at
 numbers_none bytes at e = record { prefix = []; spelled = refl; whole = sym e }

@@ -1,7 +1,6 @@
 -- Operations that were read one after another.
-use Rattle.std.proofs.Common.{◌≡◌, ℕ, ◌<◌, List, [], ◌∷◌, ◌++◌, length, refl, sym, ap, subst, ◌∙◌, append_assoc}
-use Rattle.std.proofs.Common.{add-zero, arith, true, false, ◌⊎◌, inl, inr}
-use Rattle.std.proofs.lemmas.Bool.{true≢false}
+use Rattle.std.proofs.Common.{◌≡◌, ℕ, ◌<◌, List, [], ◌∷◌, ◌++◌, length, refl, sym, ap, subst, ◌∙◌, append_assoc, add-zero, arith, true}
+use Rattle.std.proofs.Common.{false, ◌⊎◌, inl, inr, true≢false}
 use Rattle.std.proofs.lemmas.List.{nil_from_length, length-append, append-nil}
 use Rattle.std.specs.List.{AllByRecursion}
 use Rattle.lnt_wire.specs.At.{At}

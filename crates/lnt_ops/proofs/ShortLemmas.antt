@@ -1,11 +1,10 @@
 -- Operations with short operands, at the beginning of bytes.
-use Rattle.std.proofs.Common.{◌≡◌, ◌≢◌, ◌==◌, ℕ, zero, suc, ◌+◌, ◌-◌, ◌*◌, ◌%◌, ◌<◌, ◌≤◌, cond, false, List, [], ◌∷◌, ◌++◌}
-use Rattle.std.proofs.Common.{length, take, drop, get_or, add-one, refl, sym, ap, subst, ◌∙◌, arith, inl, inr}
-use Rattle.std.specs.Prelude.{ℤ, pos, neg_ℤ, ◌+ℤ◌, ◌-ℤ◌, ◌*ℤ◌, ◌≤ℤ◌, ◌<ℤ◌, FitsSigned}
-use Rattle.std.specs.Int.{w64}
+use Rattle.std.proofs.Common.{◌≡◌, ◌≢◌, ◌==◌, ℕ, zero, suc, ◌+◌, ◌-◌, ◌*◌, ◌%◌, ◌<◌, ◌≤◌, false, List, [], ◌∷◌, ◌++◌, length, take, drop}
+use Rattle.std.proofs.Common.{get_or, add-one, refl, sym, ap, subst, ◌∙◌, arith, inl, inr, ℤ, pos, neg_ℤ, ◌+ℤ◌, ◌-ℤ◌, ◌*ℤ◌, ◌≤ℤ◌, ◌<ℤ◌}
+use Rattle.std.proofs.Common.{FitsSigned, w64, length-append, length-take-le, take-append-drop}
 use Rattle.std.proofs.lemmas.Bool.{lt-leb, le-leb, cases_lt}
 use Rattle.std.proofs.lemmas.Int.{ints}
-use Rattle.std.proofs.lemmas.List.{length-append, length-take-le, take-append-drop}
+use Rattle.lnt_wire.proofs.LebLemmas.{one_high}
 use Rattle.lnt_wire.specs.At.{At}
 use Rattle.lnt_wire.specs.Leb128.{IsLeb, UnsignedLeb, SignedLeb, signed_groups}
 use Rattle.lnt_header.specs.declared.numbers.NumberParts.{NumberParts}
@@ -57,14 +56,11 @@ one_less (b ∷ bytes) some = omega arith
 pub one_unsigned : (bytes : List ℕ) (b : ℕ) → 0 < length bytes → get_or bytes 0 0 ≡ b → b < 128 → UnsignedLeb b (take 1 bytes)
 one_unsigned bytes b some is low = grind (arith, common_steps, one_taken)
 
-high_groups : (b : ℕ) → 64 ≤ b → b < 128 → signed_groups (b ∷ []) ≡ pos b -ℤ pos 128
-high_groups b le lt = grind (arith, common_steps, cond, le-leb)
-
 pub group_low : (b : ℕ) (z : ℤ) → z ≡ pos b → b < 64 → IsGroup b z
 group_low b z is lt = grind (arith, common_steps, lt-leb)
 
 pub group_high : (b : ℕ) (z : ℤ) → z ≡ pos b -ℤ pos 128 → 64 ≤ b → b < 128 → IsGroup b z
-group_high b z is le lt = grind (arith, common_steps, high_groups)
+group_high b z is le lt = grind (arith, common_steps, one_high)
 
 group_fits : (z : ℤ) → neg_ℤ (pos 64) ≤ℤ z → z <ℤ pos 64 → FitsSigned w64 z
 group_fits z least most = omega (arith, ints, least, most)

@@ -1,6 +1,5 @@
 -- The operands of standard operations.
-use Rattle.std.proofs.Common.{◌≡◌, ℕ, ◌<◌, List, [], ◌∷◌, refl, sym, ap, ◌∙◌, add-zero, rules}
-use Rattle.std.specs.Prelude.{ℤ}
+use Rattle.std.proofs.Common.{◌≡◌, ℕ, ◌<◌, List, [], ◌∷◌, refl, sym, ap, ◌∙◌, add-zero, rules, arith, ℤ}
 use Rattle.lnt_wire.specs.At.{At}
 use Rattle.lnt_wire.specs.declared.fault.Fault.{Fault}
 use Rattle.lnt_wire.specs.Leb128.{UnsignedLeb, SignedLeb, IsLargeUnsigned, IsLargeSigned, IsLebFault}
@@ -19,7 +18,6 @@ use Rattle.lnt_ops.specs.OpFaults.{IsFirstFault}
 use Rattle.lnt_ops.specs.OpFaults.IsFirstFault.{unsigned_operand, signed_operand, fixed_operand}
 use Rattle.lnt_ops.specs.OpSteps.{GivesAfter, RefusesAfter}
 use Rattle.std.proofs.lemmas.Grind.{common_steps}
-use Rattle.std.proofs.Common.{arith}
 
 pub after_opcode : (h : NumberParts) (k : ℕ) (Operand : List ℕ → Type 0) (y : List ℕ) → k < h.opcode_base → Operand y
     → Standard h k Operand (k ∷ y)

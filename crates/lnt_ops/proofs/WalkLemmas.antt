@@ -1,5 +1,5 @@
 -- GivesOperation of a walk over operations.
-use Rattle.std.proofs.Common.{◌≡◌, ◌<◌, true, false, length, refl, ◌∙◌, inl, inr}
+use Rattle.std.proofs.Common.{◌≡◌, ◌<◌, true, false, length, refl, ◌∙◌, inl, inr, arith}
 use Rattle.lnt_wire.specs.At.{At}
 use Rattle.lnt_wire.specs.declared.fault.Fault.{Fault}
 use Rattle.lnt_wire.specs.declared.format.Order.{Order}
@@ -12,7 +12,6 @@ use Rattle.lnt_ops.specs.OpFaults.{IsOpFault, IsFirstFault}
 use Rattle.lnt_ops.specs.OpReading.{GivesOp}
 use Rattle.lnt_ops.specs.Walks.{Walk, Ends, GivesOperation, Fails}
 use Rattle.std.proofs.lemmas.Grind.{common_steps}
-use Rattle.std.proofs.Common.{arith}
 
 pub ends_failed : (walk : Walk) → walk.failed ≡ true → Ends walk walk
 ends_failed walk e = record { ended = inl e; unchanged = refl }

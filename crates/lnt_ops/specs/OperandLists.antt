@@ -1,6 +1,5 @@
 -- The operands of unknown standard operations as lists. No public contract speaks of these.
-use Rattle.std.specs.Prelude.{◌≡◌, ℕ, List, ◌++◌}
-use Rattle.lnt_wire.specs.At.{At}
+use Rattle.std.specs.Prelude.{ℕ, List}
 use Rattle.lnt_wire.specs.Leb128.{UnsignedLeb}
 use Rattle.lnt_header.specs.declared.op.Operands.{Operands}
 use Rattle.lnt_header.specs.Joins.{Each}
@@ -15,9 +14,3 @@ pub record IsOperands (operands : Operands) : Type 0 where
 pub record SpellsNumbers (bytes : List ℕ) : Type 0 where
   pub numbers : List ℕ
   pub spelled : Each UnsignedLeb numbers bytes
-
--- the numbers of the bytes up to a cursor
-pub record NumbersSoFar (bytes numbers : List ℕ) (at : At) : Type 0 where
-  pub prefix : List ℕ
-  pub spelled : Each UnsignedLeb numbers prefix
-  pub whole : bytes ≡ prefix ++ at.rest

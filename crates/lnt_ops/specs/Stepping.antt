@@ -8,8 +8,6 @@ use Rattle.lnt_header.specs.Joins.{Each}
 use Rattle.lnt_header.specs.OpRules.{Admits, StandsFor, AreOperands}
 use Rattle.lnt_ops.specs.OpBytes.{OpBytes}
 use Rattle.lnt_header.specs.declared.op.OpView.{OpView}
-use Rattle.lnt_ops.specs.Walks.{Walk}
-use Rattle.lnt_ops.specs.Left.{OperationsAreLeft}
 use Rattle.lnt_wire.specs.Bytes.{Appends}
 use Rattle.lnt_wire.specs.Leb128.{UnsignedLeb, signed_groups}
 use Rattle.lnt_header.specs.declared.op.Operands.{Operands}
@@ -23,16 +21,6 @@ pub record OpsSoFar (h : NumberParts) (place : ℕ) (program : List ℕ) (ops : 
   pub whole : program ≡ prefix ++ at.rest
   pub place_is : at.place ≡ place + length prefix
   pub order_is : at.order ≡ h.order
-
--- ---- the next operation
-
--- The view stands for the first of the operations, and the others are left.
-pub record IsNextOf (h : NumberParts) (later : List Op) (view : OpView) (new : Walk) : Type 0 where
-  pub op : Op
-  pub others : List Op
-  pub later_is : later ≡ op ∷ others
-  pub stands : StandsFor view op
-  pub left : OperationsAreLeft h others new
 
 -- ---- an operation that is kept
 

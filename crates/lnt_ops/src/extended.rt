@@ -5,8 +5,7 @@ ghost use Rattle.lnt_wire.specs.Numbers.{NumberBytes};
 ghost use Rattle.lnt_header.specs.FieldFaults.{IsWrongOperand};
 ghost use Rattle.lnt_header.specs.OpRules.{taken_by};
 ghost use Rattle.lnt_header.specs.OpRules.Taken.{takes_number};
-ghost use Rattle.lnt_ops.specs.OpSteps.{RefusesAfter, GivesAfter, IsRightOperand, GivesCounted, IsCountedOpFault};
-ghost use Rattle.lnt_ops.specs.OpSteps.{IsLargeNumber};
+ghost use Rattle.lnt_ops.specs.OpSteps.{RefusesAfter, GivesAfter, IsRightOperand, GivesCounted, IsCountedOpFault, IsLargeNumber};
 
 use lnt_header::{HeaderNumbers, OpView};
 use lnt_wire::{Cursor, Fault, Reason};
@@ -77,7 +76,7 @@ fn has_right_operand(bytes: &[u8], numbers: &HeaderNumbers) -> bool
 }
 
 // Whether these bytes are one number in groups of seven bits: the last byte is the first below 128.
-#[tactic(auto, using(crate::proofs::ExtendedReaders::leb_more, crate::proofs::ExtendedReaders::leb_found, crate::proofs::ExtendedReaders::leb_last, crate::proofs::ExtendedReaders::leb_all))]
+#[tactic(auto, using(lnt_wire::proofs::LebLemmas::high_more, crate::proofs::ExtendedReaders::leb_found, crate::proofs::ExtendedReaders::leb_last, crate::proofs::ExtendedReaders::leb_all))]
 fn is_leb(bytes: &[u8]) -> bool
     ensures { IsTrue result ↔ IsLeb bytes.now }
 {

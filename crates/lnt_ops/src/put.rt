@@ -20,20 +20,18 @@ use std::alloc::AllocError;
 /// Appends the bytes of the operations in a unit with the header, one after the other, each LEB128 in its shortest
 /// encoding. The caller ensures that the header admits each of them (`Header::admits`). Fails only if memory runs out, and
 /// then leaves `out` unchanged.
-#[tactic(auto, using(crate::proofs::OpPutLemmas::taken_back))]
+#[tactic(auto, using(lnt_wire::proofs::PutLemmas::taken_back))]
 pub fn put_ops(out: &mut Vec<u8>, numbers: &HeaderNumbers, ops: &[Op]) -> Result<(), AllocError>
     requires { AllByRecursion (Admits numbers.now) ops.now }
     ensures ok { OnOk result (Appends (Each (OpBytes numbers.now)) ops.now out.old.items out.new.items) }
     ensures unchanged { OnErr result (out.new.items ≡ out.old.items) }
 {
     let start = out.len();
-    match add_ops(out, numbers, ops) {
-        Ok(()) => Ok(()),
-        Err(error) => {
-            out.truncate(start);
-            Err(error)
-        }
+    let ended = add_ops(out, numbers, ops);
+    if ended.is_err() {
+        out.truncate(start);
     }
+    ended
 }
 
 // Appends operations. After an error a part of them may have been added.

@@ -1,7 +1,6 @@
 -- Why no unit stands in a frame: the frame, its header or its operations are at fault.
 use Rattle.std.proofs.Common.{◌≡◌, ℕ, ◌+◌, ◌<◌, List, [], ◌∷◌, ◌++◌, length, refl, sym, ap, subst, ◌∙◌, append_assoc, arith, inl}
-use Rattle.std.specs.Prelude.{slice_index}
-use Rattle.std.proofs.lemmas.List.{append-nil, length-append}
+use Rattle.std.proofs.Common.{slice_index, append-nil, length-append}
 use Rattle.lnt_wire.specs.At.{At}
 use Rattle.lnt_wire.specs.FrameBytes.{FrameBytes, version_five}
 use Rattle.lnt_wire.specs.FrameFaults.{InFrame, IsFrameFault}

@@ -1,7 +1,6 @@
 -- Units of a section that are converted one after another.
-use Rattle.std.proofs.Common.{◌≡◌, ℕ, ◌+◌, ◌<◌, List, [], ◌∷◌, ◌++◌, length, refl, sym, ap, subst, ◌∙◌, append_assoc, arith}
-use Rattle.std.proofs.lemmas.List.{append-nil, length-append}
-use Rattle.std.specs.Prelude.{map}
+use Rattle.std.proofs.Common.{◌≡◌, ℕ, ◌+◌, ◌<◌, List, [], ◌∷◌, ◌++◌, length, refl, sym, ap, subst, ◌∙◌, append_assoc, arith, append-nil}
+use Rattle.std.proofs.Common.{length-append, map}
 use Rattle.lnt_wire.specs.At.{At}
 use Rattle.lnt_wire.specs.Bytes.{IsShortest, Appends}
 use Rattle.lnt_wire.specs.declared.format.Format.{Format}
@@ -10,6 +9,7 @@ use Rattle.lnt_wire.proofs.LengthLaws.{same_rest}
 use Rattle.lnt_header.specs.Encoding.{NoSpelling}
 use Rattle.lnt_header.specs.Joins.{Each}
 use Rattle.lnt_header.proofs.ReaderLaws.{each_push}
+use Rattle.lnt_header_bytes.proofs.TableReaders.{empty_list}
 use Rattle.lnt_unit.specs.BrokenUnits.{BrokenUnit, IsTrueFault}
 use Rattle.lnt_unit.specs.ConvertedUnits.{Converts, ConvertsUnit, IsNextStop}
 use Rattle.lnt_unit.specs.ConversionSteps.{ConvertedTo}
@@ -110,13 +110,9 @@ whole_converted order section format to units bytes sound put =
     let all = placed to 0 (units_in_format units format to) bytes put in
     record { units = units; others = all.others; sound = sound; same = all.same; spelled = all.spelled; shortest = put }
 
-pub no_length : {X : Type 0} (xs : List X) → length xs ≡ 0 → xs ≡ []
-no_length [] e = refl
-no_length (x ∷ xs) e = absurd (omega arith)
-
 pub converted_all : (order : Order) (section : List ℕ) (format : Format) (to : Order) (at : At) (bytes : List ℕ)
     → ConvertedTo order section format to at bytes → length at.rest ≡ 0 → IsConverted order section format to bytes
-converted_all order section format to at bytes p ended = grind (arith, common_steps, no_length, append-nil, whole_converted)
+converted_all order section format to at bytes p ended = grind (arith, common_steps, empty_list, append-nil, whole_converted)
 
 -- ---- why a unit of a section that has a conversion isn't converted
 

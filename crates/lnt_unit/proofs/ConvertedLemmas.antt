@@ -1,5 +1,5 @@
 -- Units that are converted.
-use Rattle.std.proofs.Common.{◌≡◌, ◌≢◌, ℕ, ◌+◌, List, [], ◌++◌, sym, ap, subst, ◌∙◌, true, false}
+use Rattle.std.proofs.Common.{◌≡◌, ◌≢◌, ℕ, ◌+◌, List, [], ◌++◌, sym, ap, subst, ◌∙◌, true, false, arith}
 use Rattle.lnt_wire.specs.At.{At}
 use Rattle.lnt_wire.specs.Bytes.{Appends, IsShortest}
 use Rattle.lnt_wire.specs.FrameBytes.{frame_bytes, IsFrame}
@@ -30,7 +30,6 @@ use Rattle.lnt_header.specs.declared.unit_parts.UnitParts.{UnitParts}
 use Rattle.lnt_unit.proofs.EncodeLaws.{unit_put, unit_refused}
 use Rattle.lnt_unit.proofs.ReadLaws.{unit_read, frame_without_unit}
 use Rattle.std.proofs.lemmas.Grind.{common_steps}
-use Rattle.std.proofs.Common.{arith}
 
 -- ---- the unit of a frame
 

@@ -1,6 +1,5 @@
 -- Units by their parts, written.
-use Rattle.std.proofs.Common.{◌≡◌, Vec, Global, ℕ, List, [], subst, arith}
-use Rattle.std.specs.Prelude.{Result, Ok, Err, IfOk, IfErr}
+use Rattle.std.proofs.Common.{◌≡◌, Vec, Global, ℕ, List, [], subst, arith, Result, Ok, Err, IfOk, IfErr}
 use Rattle.lnt_wire.specs.declared.format.Order.{Order}
 use Rattle.lnt_wire.specs.declared.put.EncodeFault.{EncodeFault}
 use Rattle.lnt_wire.specs.Bytes.{IsShortest, Appends}

@@ -1,22 +1,30 @@
 -- Sections that are judged, unit by unit, whether they have a conversion.
-use Rattle.std.proofs.Common.{◌≡◌, ℕ, ◌<◌, List, [], ◌∷◌, ◌++◌, length, refl, sym, subst, append_assoc, Bool}
-use Rattle.std.proofs.Common.{true, false, Option, Some, None}
+use Rattle.std.proofs.Common.{◌≡◌, ℕ, ◌<◌, List, [], ◌∷◌, ◌++◌, length, refl, sym, subst, append_assoc, Bool, true, false, Option, Some}
+use Rattle.std.proofs.Common.{None, arith}
 use Rattle.lnt_wire.specs.At.{At}
 use Rattle.lnt_wire.specs.declared.fault.Fault.{Fault}
 use Rattle.lnt_wire.specs.declared.format.Format.{Format}
 use Rattle.lnt_wire.specs.declared.format.Order.{Order}
 use Rattle.lnt_unit.specs.BrokenUnits.{BrokenUnit}
 use Rattle.lnt_unit.specs.ConvertedUnits.{Converts}
-use Rattle.lnt_unit.specs.ConversionSteps.{JudgesUnit, IsSaid, IsToldAs, IsConversionJudged, first_large}
+use Rattle.lnt_wire.specs.Bytes.{IsShortest}
+use Rattle.lnt_header.specs.Joins.{Each}
+use Rattle.lnt_unit.specs.UnitBytes.{UnitBytesIn}
+use Rattle.lnt_unit.specs.ConversionSteps.{JudgesUnit, IsSaid, IsToldAs, first_large}
 use Rattle.lnt_unit.specs.Converting.{units_in_format}
 use Rattle.lnt_unit.specs.ConvertFaults.{IsFirstLarge, HasFirstLarge, IsConvertFault}
-use Rattle.lnt_unit.proofs.ConvertedLaws.{units_more, each_spelled, whole_converted, no_length}
+use Rattle.lnt_unit.proofs.ConvertedLaws.{units_more, each_spelled, whole_converted}
+use Rattle.lnt_header_bytes.proofs.TableReaders.{empty_list}
 use Rattle.lnt_unit.specs.declared.convert.ConvertFault.{ConvertFault}
 use Rattle.lnt_unit.specs.declared.convert.ConvertFault.TheVariants.{Malformed, TooLarge, Memory}
 use Rattle.lnt_header.specs.declared.unit_parts.UnitParts.{UnitParts}
 use Rattle.lnt_unit.proofs.SectionLaws as sections
 use Rattle.std.proofs.lemmas.Grind.{common_steps}
-use Rattle.std.proofs.Common.{arith}
+
+-- the first of the units that has no encoding, if there is one
+abbrev pub IsConversionJudged : Format → Order → List (ℕ × UnitParts) → Option ℕ → Type 0
+IsConversionJudged format to units None = (bytes : List ℕ) × Each (IsShortest (UnitBytesIn to)) (units_in_format units format to) bytes
+IsConversionJudged format to units (Some offset) = IsFirstLarge format to units offset
 
 -- the units up to a cursor, of which it is told which is the first that nothing spells
 pub record JudgedTo (order : Order) (section : List ℕ) (format : Format) (to : Order) (large : Option ℕ) (at : At) : Type 0 where
@@ -64,11 +72,11 @@ judged_long order format to converts at next j = sections.unit_long order j.unit
 
 pub judged_sound : (order : Order) (section : List ℕ) (format : Format) (to : Order) (large : Option ℕ) (at : At)
     → JudgedTo order section format to large at → large ≡ None → length at.rest ≡ 0 → Converts order section format to
-judged_sound order section format to large at p is ended = grind (arith, common_steps, no_length, whole_converted)
+judged_sound order section format to large at p is ended = grind (arith, common_steps, empty_list, whole_converted)
 
 pub judged_large : (order : Order) (section : List ℕ) (format : Format) (to : Order) (large : Option ℕ) (offset : ℕ) (at : At)
     → JudgedTo order section format to large at → large ≡ Some offset → length at.rest ≡ 0 → HasFirstLarge order section format to offset
-judged_large order section format to large offset at p is ended = grind (arith, common_steps, no_length)
+judged_large order section format to large offset at p is ended = grind (arith, common_steps, empty_list)
 
 -- a unit that isn't there
 pub judged_broken : (order : Order) (section : List ℕ) (format : Format) (to : Order) (large : Option ℕ) (at : At) (fault : Fault)

@@ -1,8 +1,6 @@
 -- What is too large for its format where a unit isn't written.
-use Rattle.std.proofs.Common.{◌≡◌, ◌⊎◌, Vec, Global, ℕ, List, subst, inl, inr}
-use Rattle.std.specs.Prelude.{Result, Ok, Err, IfErr}
+use Rattle.std.proofs.Common.{◌⊎◌, Vec, Global, ℕ, List, subst, inl, inr, Result, Ok, Err, IfErr}
 use Rattle.lnt_wire.specs.declared.put.EncodeFault.{EncodeFault}
-use Rattle.lnt_wire.specs.declared.put.EncodeFault.TheVariants.{Memory}
 use Rattle.lnt_wire.specs.Bytes.{IsShortest}
 use Rattle.lnt_header.specs.declared.header.HeaderParts.{HeaderParts}
 use Rattle.lnt_header.specs.Joins.{Each}
@@ -11,10 +9,6 @@ use Rattle.lnt_ops.specs.OpBytes.{OpBytes}
 use Rattle.lnt_header.specs.declared.unit_parts.UnitParts.{UnitParts}
 use Rattle.lnt_unit.specs.TooLong.{IsTooLongUnit}
 use Rattle.lnt_unit.proofs.EncodeLaws.{Program}
-
--- want of memory says nothing
-pub memory_not_large : (IsSo : Type 0) (fault : EncodeFault) → fault ≡ Memory → IfTooLarge IsSo fault
-memory_not_large IsSo fault is = record { is_so = λ large. absurd cc }
 
 either : (unit : UnitParts) (program : List ℕ) → IsShortest (Each (OpBytes unit.header.numbers)) unit.ops program
     → HasLargeOffset unit.header

@@ -1,8 +1,7 @@
 -- Of one section at most one fault is true.
-use Rattle.std.proofs.Common.{◌≡◌, ℕ, ◌+◌, List, [], ◌∷◌, ◌++◌, length, get_or, refl, sym, ap, subst, ◌∙◌, append_assoc, arith, inl}
-use Rattle.std.proofs.Common.{inr}
+use Rattle.std.proofs.Common.{◌≡◌, ℕ, ◌+◌, List, [], ◌∷◌, ◌++◌, length, get_or, refl, sym, ap, subst, ◌∙◌, append_assoc, arith, inl, inr}
+use Rattle.std.proofs.Common.{length-append}
 use Rattle.std.proofs.lemmas.Bool.{cases_eq}
-use Rattle.std.proofs.lemmas.List.{length-append}
 use Rattle.lnt_wire.specs.Bytes.{NoneSpelled}
 use Rattle.lnt_wire.specs.FrameBytes.{version_five}
 use Rattle.lnt_wire.specs.InitialLength.{initial_length}

@@ -1,36 +1,30 @@
 -- What a call of a reader makes of the bytes that it took.
-use Rattle.std.proofs.Common.{◌≡◌, ℕ, ◌<◌, List, [], ◌∷◌, ◌++◌, length, Bool, true, false, MatchBool, Option, Some, None, IfSome}
-use Rattle.std.proofs.Common.{refl, sym, ap, subst, ◌∙◌, append_assoc, arith}
-use Rattle.std.proofs.lemmas.List.{length-append, append-nil}
+use Rattle.std.proofs.Common.{◌≡◌, ℕ, ◌<◌, List, [], ◌∷◌, ◌++◌, length, Bool, true, false, MatchBool, Option, Some, None, IfSome, refl, sym}
+use Rattle.std.proofs.Common.{ap, subst, ◌∙◌, append_assoc, arith, length-append, append-nil}
 use Rattle.lnt_wire.specs.declared.format.Order.{Order}
-use Rattle.lnt_wire.specs.declared.format.Format.{Format}
 use Rattle.lnt_wire.specs.declared.fault.Fault.{Fault}
 use Rattle.lnt_wire.specs.declared.fault.Reason.{Reason}
 use Rattle.lnt_wire.specs.declared.fault.Reason.TheVariants.{Truncated, ReservedLength, VersionNotFive}
 use Rattle.lnt_wire.specs.Bytes.{NoneSpelled}
 use Rattle.lnt_wire.specs.FrameBytes.{FrameBytes}
-use Rattle.lnt_wire.specs.FrameFaults.{InFrame, IsCutFrame, IsFrameFault}
+use Rattle.lnt_wire.specs.FrameFaults.{IsCutFrame, IsFrameFault}
 use Rattle.lnt_wire.specs.FrameFaults.IsCutFrame.{no_length}
 use Rattle.lnt_wire.specs.Numbers.{number_bytes}
 use Rattle.lnt_io.specs.Pulling.{Pulls}
 use Rattle.lnt_wire.specs.Reading.{Refuses}
 use Rattle.lnt_wire.proofs.FrameLaws.{no_frame}
+use Rattle.lnt_unit.proofs.FrameLaws.{in_frame}
 use Rattle.lnt_io.specs.declared.stop.Stop.{Stop}
 use Rattle.lnt_io.specs.declared.stop.Stop.TheVariants as source
 use Rattle.lnt_unit.specs.Stops.{IfFault, stop_of}
 use Rattle.lnt_unit.specs.Units.{SectionEndsBy}
-use Rattle.std.proofs.lemmas.Grind.{common_steps}
 
 -- ---- a fault of bytes that are not cut is one whatever follows
-
-in_frame_more : (order : Order) (format : Format) (fields left before from more : List ℕ) → InFrame order format fields left before from
-    → InFrame order format fields left before (from ++ more)
-in_frame_more order format fields left before from more h = grind (arith, common_steps, append_assoc)
 
 fault_more : (order : Order) (reason : Reason) (before from more : List ℕ) → (IsCutFrame order (before ++ from) → ⊥)
     → IsFrameFault order reason before from → IsFrameFault order reason before (from ++ more)
 fault_more order Truncated [] from more uncut h = absurd (uncut h)
-fault_more order Truncated (b ∷ before) from more uncut h = (h.0, h.1, h.2, in_frame_more order h.0 [] h.1 (b ∷ before) from more h.3)
+fault_more order Truncated (b ∷ before) from more uncut h = (h.0, h.1, h.2, in_frame order h.0 [] h.1 (b ∷ before) from more h.3)
 fault_more order ReservedLength before from more uncut h = (
   h.0,
   record {
@@ -42,7 +36,7 @@ fault_more order ReservedLength before from more uncut h = (
   },
 )
 fault_more order (VersionNotFive v) before from more uncut h =
-    (h.0, h.1, h.2, h.3, in_frame_more order h.0 [] (number_bytes order 2 v ++ h.1) before from more h.4)
+    (h.0, h.1, h.2, h.3, in_frame order h.0 [] (number_bytes order 2 v ++ h.1) before from more h.4)
 fault_more order reason before from more uncut h = absurd h
 
 refuses_more : (order : Order) (offset : ℕ) (bytes more : List ℕ) (fault : Fault) → (IsCutFrame order bytes → ⊥)

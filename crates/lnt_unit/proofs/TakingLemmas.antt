@@ -1,6 +1,5 @@
 -- Bytes that are taken from a source, one pull after another.
-use Rattle.std.proofs.Common.{ℕ, ◌+◌, ◌≤◌, List, ◌++◌, length, Option, sym, subst, append_assoc, arith}
-use Rattle.std.proofs.lemmas.List.{length-append}
+use Rattle.std.proofs.Common.{ℕ, ◌+◌, ◌≤◌, List, ◌++◌, length, Option, sym, subst, append_assoc, arith, length-append}
 use Rattle.lnt_wire.specs.declared.format.Order.{Order}
 use Rattle.lnt_io.specs.Pulling.{GivesMore}
 use Rattle.lnt_io.proofs.PullLaws.{pulls_none, pulls_more, more_from_start}

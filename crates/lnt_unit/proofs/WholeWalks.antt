@@ -1,8 +1,7 @@
 -- Whole walks, over the operations of a unit and over the units of a section.
-use Rattle.std.proofs.Common.{ℕ, ◌+◌, ◌<◌, ◌≤◌, List, [], ◌∷◌, ◌++◌, length, refl, sym, subst}
-use Rattle.std.proofs.Common.{append_assoc, append-nil, arith}
+use Rattle.std.proofs.Common.{ℕ, ◌+◌, ◌<◌, ◌≤◌, List, [], ◌∷◌, ◌++◌, length, refl, sym, subst, append_assoc, append-nil, arith}
+use Rattle.std.proofs.Common.{length-append}
 use Rattle.std.specs.List.{AllZip}
-use Rattle.std.proofs.lemmas.List.{length-append}
 use Rattle.lnt_wire.specs.declared.fault.Fault.{Fault}
 use Rattle.lnt_wire.specs.declared.format.Order.{Order}
 use Rattle.lnt_wire.specs.FrameBytes.{FrameBytes}

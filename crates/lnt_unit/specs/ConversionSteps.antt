@@ -14,7 +14,6 @@ use Rattle.lnt_header.specs.Conversion.{unit_in_format}
 use Rattle.lnt_unit.specs.Converting.{units_in_format}
 use Rattle.lnt_unit.specs.UnitBytes.{UnitBytesIn, SectionBytes}
 use Rattle.lnt_header.specs.declared.unit_parts.UnitParts.{UnitParts}
-use Rattle.lnt_unit.specs.ConvertFaults.{IsFirstLarge}
 use Rattle.lnt_unit.specs.declared.convert.ConvertFault.{ConvertFault}
 use Rattle.lnt_unit.specs.declared.convert.ConvertFault.TheVariants.{Malformed, TooLarge, Memory}
 
@@ -64,12 +63,7 @@ pub record ConvertedTo (order : Order) (section : List ℕ) (format : Format) (t
   pub order_is : at.order ≡ order
   pub put : Each (IsShortest (UnitBytesIn to)) (units_in_format units format to) bytes
 
--- the first of the units that has no encoding, if there is one
-abbrev pub IsConversionJudged : Format → Order → List (ℕ × UnitParts) → Option ℕ → Type 0
-IsConversionJudged format to units None = (bytes : List ℕ) × Each (IsShortest (UnitBytesIn to)) (units_in_format units format to) bytes
-IsConversionJudged format to units (Some offset) = IsFirstLarge format to units offset
-
--- the first of them, where there was none or this one, and the unit at an offset is judged
+-- the first unit that has no encoding, where there was none or this one, and the unit at an offset is judged
 abbrev pub first_large : Option ℕ → Bool → ℕ → Option ℕ
 first_large (Some first) converts offset = Some first
 first_large None true offset = None

@@ -15,7 +15,7 @@ use std::alloc::Global;
 /// The bytes of the unit in its format and order, each LEB128 in its shortest encoding (DWARF 5, sections 6.2.4 and 6.2.5).
 /// Fails with `TooLarge` if the unit has no encoding in its format: an offset in its tables is 2^32 or more in the 32-bit
 /// format, or the unit is too long for the format. Otherwise fails only with `Memory`.
-#[tactic(auto, using(lnt_header::proofs::PutLaws::refused_memory, crate::proofs::LargeUnits::memory_not_large))]
+#[tactic(auto, using(lnt_header::proofs::PutLaws::refused_memory, lnt_header_bytes::proofs::LargeLemmas::memory_not_large))]
 pub fn encode_unit(alloc: Global, unit: &Unit) -> Result<Vec<u8>, EncodeFault>
     ensures ok { IfOk result (λ bytes. IsShortest (UnitBytesIn unit.now.header.numbers.order) unit.now bytes.items) }
     ensures err { IfErr result (λ fault. RefusedPut (UnitBytesIn unit.now.header.numbers.order) unit.now fault) }

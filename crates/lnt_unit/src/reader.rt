@@ -1,6 +1,5 @@
 //! The reader of a section, which returns one unit after another.
-ghost use Rattle.std.specs.Prelude.{◌≡◌, ◌+◌, ◌-◌, ◌^◌, ◌<◌, length};
-ghost use Rattle.std.specs.Prelude.{false, IfOk, IfErr, IsErrOf, IfSome, IfNone};
+ghost use Rattle.std.specs.Prelude.{◌≡◌, ◌+◌, ◌-◌, ◌^◌, ◌<◌, length, false, IfOk, IfErr, IsErrOf, IfSome, IfNone};
 ghost use Rattle.lnt_unit.specs.Stops.{IfFault};
 ghost use Rattle.lnt_unit.specs.Units.{IsNextUnit, SectionEndsBy};
 ghost use Rattle.lnt_unit.specs.declared.reader.Progress.TheVariants.{Reading};

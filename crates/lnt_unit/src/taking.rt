@@ -1,6 +1,5 @@
 //! The bytes of a unit, read from a source block by block, and none after them.
-ghost use Rattle.std.specs.Prelude.{◌≡◌, ◌+◌, ◌-◌, ◌^◌, ◌<◌, [], length};
-ghost use Rattle.std.specs.Prelude.{IfOk, IfSome, OnOk, false, MatchBool};
+ghost use Rattle.std.specs.Prelude.{◌≡◌, ◌+◌, ◌-◌, ◌^◌, ◌<◌, [], length, IfOk, IfSome, OnOk, false, MatchBool};
 ghost use Rattle.lnt_wire.specs.FrameFaults.{IsCutFrame};
 ghost use Rattle.lnt_io.specs.Pulling.{Pulls};
 ghost use Rattle.lnt_unit.specs.Sizes.{IsLeastSize};

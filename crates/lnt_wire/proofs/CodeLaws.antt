@@ -1,9 +1,8 @@
 -- Kinds of spelling of which none is the prefix of another, and each spells one value. Crates above cite these.
 use Rattle.std.proofs.Common.{◌≡◌, ℕ, List, [], ◌∷◌, ◌++◌, length, sym, ap, ◌∙◌, append_assoc, arith}
-use Rattle.lnt_wire.specs.declared.format.Order.{Order}
 use Rattle.lnt_wire.specs.Bytes.{TakenBytes, Then, IsCode}
 use Rattle.lnt_wire.specs.Leb128.{IsLeb, UnsignedLeb, SignedLeb}
-use Rattle.lnt_wire.specs.Numbers.{NumberBytes}
+use Rattle.lnt_wire.specs.Numbers.{NumberBytes, Order}
 use Rattle.lnt_wire.proofs.LengthLaws.{IsWidth, length-number_bytes, same_prefix, same_rest}
 use Rattle.std.proofs.lemmas.Grind.{common_steps}
 

@@ -1,20 +1,14 @@
 -- Where a field has a fault, no value of it is spelled, and no other fault of it is so of the same bytes. Crates above cite these.
-use Rattle.std.proofs.Common.{◌≡◌, ℕ, List, ◌++◌, length, ap, ◌∙◌, append_assoc, arith}
-use Rattle.std.proofs.lemmas.List.{length-append}
-use Rattle.lnt_wire.specs.declared.fault.Reason.{Reason}
-use Rattle.lnt_wire.specs.declared.form.Form.{Form}
+use Rattle.std.proofs.Common.{◌≡◌, ℕ, List, ◌++◌, length, ap, ◌∙◌, append_assoc, arith, length-append}
 use Rattle.lnt_wire.specs.declared.form.Form.TheVariants as forms
-use Rattle.lnt_wire.specs.declared.form.FormValue.{FormValue}
 use Rattle.lnt_wire.specs.declared.form.FormValue.TheVariants.{Text, LineStrp, Strp, Udata, Data1, Data2, Data4, Data8, Data16}
 use Rattle.lnt_wire.specs.declared.form.FormValue.TheVariants.{Block, Block1, Block2, Block4}
-use Rattle.lnt_wire.specs.declared.format.Format.{Format}
-use Rattle.lnt_wire.specs.declared.format.Order.{Order}
 use Rattle.lnt_wire.specs.Bytes.{IsCode, NoneSpelled, TakenBytes}
-use Rattle.lnt_wire.specs.FormBytes.{BlockBytes, form_of, FormBytes, TextBytes, ValueBytes}
+use Rattle.lnt_wire.specs.FormBytes.{BlockBytes, form_of, FormBytes, TextBytes, ValueBytes, Form, FormValue}
 use Rattle.lnt_wire.specs.FormFaults.{IsBlockFault, IsCutText, IsValueFault}
 use Rattle.lnt_wire.specs.Leb128.{UnsignedLeb, SignedLeb, IsLargeUnsigned, IsLargeSigned, IsLebFault}
-use Rattle.lnt_wire.specs.Numbers.{NumberBytes, offset_size}
-use Rattle.lnt_wire.specs.Reading.{IsCutShort}
+use Rattle.lnt_wire.specs.Numbers.{NumberBytes, offset_size, Format, Order}
+use Rattle.lnt_wire.specs.Reading.{IsCutShort, Reason}
 use Rattle.lnt_wire.proofs.CodeLaws.{number_code, same_leb, unsigned_code}
 use Rattle.lnt_wire.proofs.LebLemmas.{no_leb}
 use Rattle.lnt_wire.proofs.ValueLemmas.{no_text}

@@ -4,17 +4,13 @@ use Rattle.std.proofs.lemmas.Bool.Decides.{nat_tests}
 use Rattle.std.proofs.lemmas.List.{length-append}
 use Rattle.std.proofs.Math.Seq.{take-append_seam, drop-append_seam}
 use Rattle.byteorder.specs.Numbers.{little_number-reads_back, big_number-reads_back}
-use Rattle.lnt_wire.specs.declared.format.Order.{Order}
 use Rattle.lnt_wire.specs.declared.format.Order.TheVariants.{Little, Big}
-use Rattle.lnt_wire.specs.declared.format.Format.{Format}
-use Rattle.lnt_wire.specs.declared.form.Form.{Form}
-use Rattle.lnt_wire.specs.declared.form.FormValue.{FormValue}
 use Rattle.lnt_wire.specs.declared.form.FormValue.TheVariants.{Text, LineStrp, Strp, Udata, Data1, Data2, Data4, Data8, Data16}
 use Rattle.lnt_wire.specs.declared.form.FormValue.TheVariants.{Block, Block1, Block2, Block4}
 use Rattle.lnt_wire.specs.FirstValues.{first_number, first_leb, first_text, after_length, first_value, first_size}
-use Rattle.lnt_wire.specs.FormBytes.{form_of, HasNoZero, BlockBytes, FormBytes, ValueBytes}
+use Rattle.lnt_wire.specs.FormBytes.{form_of, HasNoZero, BlockBytes, FormBytes, ValueBytes, Form, FormValue}
 use Rattle.lnt_wire.specs.Leb128.{IsLeb, groups, UnsignedLeb}
-use Rattle.lnt_wire.specs.Numbers.{NumberBytes, offset_size}
+use Rattle.lnt_wire.specs.Numbers.{NumberBytes, offset_size, Order, Format}
 use Rattle.lnt_wire.proofs.LengthLaws.{length-number_bytes}
 use Rattle.std.proofs.lemmas.Grind.{common_steps}
 

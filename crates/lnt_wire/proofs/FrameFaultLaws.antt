@@ -1,15 +1,12 @@
 -- Two faults of the same bytes lie in one frame, or outside of any. Crates above cite these.
-use Rattle.std.proofs.Common.{◌≡◌, ℕ, List, [], ◌∷◌, ◌++◌, length, refl, sym, ◌∙◌, append_assoc, arith}
-use Rattle.std.proofs.lemmas.List.{length-append}
+use Rattle.std.proofs.Common.{◌≡◌, ℕ, List, [], ◌∷◌, ◌++◌, length, refl, sym, ◌∙◌, append_assoc, arith, length-append}
 use Rattle.lnt_wire.specs.FrameBytes.{version_five}
 use Rattle.lnt_wire.specs.FrameFaults.{InFrame, IsCutFrame, IsFrameFault, IsReserved}
 use Rattle.lnt_wire.specs.InitialFaults.{IsVersionFault}
 use Rattle.lnt_wire.specs.InitialLength.{initial_length}
-use Rattle.lnt_wire.specs.Numbers.{number_bytes}
+use Rattle.lnt_wire.specs.Numbers.{number_bytes, Format, Order}
 use Rattle.lnt_wire.specs.declared.fault.Reason.{Reason}
 use Rattle.lnt_wire.specs.declared.fault.Reason.TheVariants.{ReservedLength, Truncated, VersionNotFive}
-use Rattle.lnt_wire.specs.declared.format.Format.{Format}
-use Rattle.lnt_wire.specs.declared.format.Order.{Order}
 use Rattle.lnt_wire.proofs.FrameLaws.{cut_none, reserved_none}
 use Rattle.lnt_wire.proofs.LengthLaws.{length-number_bytes, same_prefix, same_length, same_number_prefix, width_2, width_4}
 use Rattle.std.proofs.lemmas.Grind.{common_steps}

@@ -2,9 +2,8 @@
 use Rattle.std.proofs.Common.{◌≡◌, ℕ, ◌<◌, List, length, get_or, sym, arith}
 use Rattle.std.proofs.lemmas.Nat.{le_bytes_2, be_bytes_2, le_bytes_4, be_bytes_4, le_bytes_8, be_bytes_8}
 use Rattle.byteorder.specs.Endian.{little_number, big_number}
-use Rattle.lnt_wire.specs.declared.format.Order.{Order}
 use Rattle.lnt_wire.specs.declared.format.Order.TheVariants.{Little, Big}
-use Rattle.lnt_wire.specs.Numbers.{NumberBytes}
+use Rattle.lnt_wire.specs.Numbers.{NumberBytes, Order}
 use Rattle.std.proofs.lemmas.Grind.{common_steps}
 
 -- what byteorder reads

@@ -2,24 +2,16 @@
 use Rattle.std.proofs.Common.{◌≡◌, ℕ, List, Result, IsErr, IsErrAnd, IfOk, IfErr, OnErr, arith}
 use Rattle.lnt_wire.specs.At.{At}
 use Rattle.lnt_wire.specs.Bytes.{TakenBytes}
-use Rattle.lnt_wire.specs.declared.format.Order.{Order}
-use Rattle.lnt_wire.specs.declared.format.Format.{Format}
-use Rattle.lnt_wire.specs.declared.fault.Fault.{Fault}
-use Rattle.lnt_wire.specs.declared.fault.Reason.{Reason}
-use Rattle.lnt_wire.specs.declared.form.Form.{Form}
 use Rattle.lnt_wire.specs.declared.form.Form.TheVariants as forms
-use Rattle.lnt_wire.specs.declared.form.FormValue.{FormValue}
-use Rattle.lnt_wire.specs.declared.form.FormValue.TheVariants.{Text, LineStrp, Strp, Udata, Data1, Data2, Data4, Data8, Data16}
-use Rattle.lnt_wire.specs.declared.form.FormValue.TheVariants.{Block, Block1, Block2, Block4}
 use Rattle.lnt_wire.specs.declared.form.BlockLength.TheVariants.{Leb, One, Two, Four}
 use Rattle.lnt_wire.specs.declared.view.ValueView.{ValueView}
 use Rattle.lnt_wire.specs.Borrowed.{value_of}
-use Rattle.lnt_wire.specs.FormBytes.{TextBytes, BlockBytes, ValueBytes, FormBytes, form_of}
+use Rattle.lnt_wire.specs.FormBytes.{TextBytes, BlockBytes, ValueBytes, FormBytes, form_of, Form, FormValue}
 use Rattle.lnt_wire.specs.FormFaults.{IsCutText, IsValueFault}
 use Rattle.lnt_wire.specs.Leb128.{UnsignedLeb, IsLargeUnsigned, IsLebFault}
-use Rattle.lnt_wire.specs.Numbers.{NumberBytes, OffsetBytes, offset_size}
+use Rattle.lnt_wire.specs.Numbers.{NumberBytes, OffsetBytes, offset_size, Format}
 use Rattle.lnt_wire.specs.BlockLengths.{LengthBytes, IsBlockValueFault}
-use Rattle.lnt_wire.specs.Reading.{Reads, RefusesField, IsCutShort}
+use Rattle.lnt_wire.specs.Reading.{Reads, RefusesField, IsCutShort, Fault, Reason}
 use Rattle.std.proofs.lemmas.Grind.{common_steps}
 
 -- no value of one kind, where there is none of another that each has
@@ -33,21 +25,13 @@ refused_in : (format : Format) (form known : Form) (old : At) (fault : Fault) �
     → RefusesField (IsValueFault format old.order form) (ValueBytes format old.order form) old fault
 refused_in format form known old fault is r = grind (arith, common_steps)
 
-data1_part : (format : Format) (order : Order) (value : FormValue) (bytes : List ℕ) → ValueBytes format order forms.Data1 value bytes
-    → (n : ℕ) × NumberBytes order 1 n bytes
-data1_part format order value bytes p = grind (arith, common_steps)
-
 pub refuses_data1 : (format : Format) (form : Form) (old : At) (fault : Fault) → form ≡ forms.Data1
     → RefusesField (IsCutShort 1) (NumberBytes old.order 1) old fault
     → RefusesField (IsValueFault format old.order form) (ValueBytes format old.order form) old fault
 refuses_data1 format form old fault is r =
     refused_in format form forms.Data1 old fault is
     (refused_as (IsCutShort 1) (NumberBytes old.order 1) (ValueBytes format old.order forms.Data1) old fault
-    (data1_part format old.order) r)
-
-data2_part : (format : Format) (order : Order) (value : FormValue) (bytes : List ℕ) → ValueBytes format order forms.Data2 value bytes
-    → (n : ℕ) × NumberBytes order 2 n bytes
-data2_part format order value bytes p = grind (arith, common_steps)
+    (λ value bytes p. grind (arith, common_steps)) r)
 
 pub refuses_data2 : (format : Format) (form : Form) (old : At) (fault : Fault) → form ≡ forms.Data2
     → RefusesField (IsCutShort 2) (NumberBytes old.order 2) old fault
@@ -55,11 +39,7 @@ pub refuses_data2 : (format : Format) (form : Form) (old : At) (fault : Fault) �
 refuses_data2 format form old fault is r =
     refused_in format form forms.Data2 old fault is
     (refused_as (IsCutShort 2) (NumberBytes old.order 2) (ValueBytes format old.order forms.Data2) old fault
-    (data2_part format old.order) r)
-
-data4_part : (format : Format) (order : Order) (value : FormValue) (bytes : List ℕ) → ValueBytes format order forms.Data4 value bytes
-    → (n : ℕ) × NumberBytes order 4 n bytes
-data4_part format order value bytes p = grind (arith, common_steps)
+    (λ value bytes p. grind (arith, common_steps)) r)
 
 pub refuses_data4 : (format : Format) (form : Form) (old : At) (fault : Fault) → form ≡ forms.Data4
     → RefusesField (IsCutShort 4) (NumberBytes old.order 4) old fault
@@ -67,11 +47,7 @@ pub refuses_data4 : (format : Format) (form : Form) (old : At) (fault : Fault) �
 refuses_data4 format form old fault is r =
     refused_in format form forms.Data4 old fault is
     (refused_as (IsCutShort 4) (NumberBytes old.order 4) (ValueBytes format old.order forms.Data4) old fault
-    (data4_part format old.order) r)
-
-data8_part : (format : Format) (order : Order) (value : FormValue) (bytes : List ℕ) → ValueBytes format order forms.Data8 value bytes
-    → (n : ℕ) × NumberBytes order 8 n bytes
-data8_part format order value bytes p = grind (arith, common_steps)
+    (λ value bytes p. grind (arith, common_steps)) r)
 
 pub refuses_data8 : (format : Format) (form : Form) (old : At) (fault : Fault) → form ≡ forms.Data8
     → RefusesField (IsCutShort 8) (NumberBytes old.order 8) old fault
@@ -79,22 +55,15 @@ pub refuses_data8 : (format : Format) (form : Form) (old : At) (fault : Fault) �
 refuses_data8 format form old fault is r =
     refused_in format form forms.Data8 old fault is
     (refused_as (IsCutShort 8) (NumberBytes old.order 8) (ValueBytes format old.order forms.Data8) old fault
-    (data8_part format old.order) r)
-
-data16_part : (format : Format) (order : Order) (value : FormValue) (bytes : List ℕ) → ValueBytes format order forms.Data16 value bytes
-    → (b : List ℕ) × TakenBytes 16 b bytes
-data16_part format order value bytes p = grind (arith, common_steps)
+    (λ value bytes p. grind (arith, common_steps)) r)
 
 pub refuses_data16 : (format : Format) (form : Form) (old : At) (fault : Fault) → form ≡ forms.Data16
     → RefusesField (IsCutShort 16) (TakenBytes 16) old fault
     → RefusesField (IsValueFault format old.order form) (ValueBytes format old.order form) old fault
 refuses_data16 format form old fault is r =
     refused_in format form forms.Data16 old fault is
-    (refused_as (IsCutShort 16) (TakenBytes 16) (ValueBytes format old.order forms.Data16) old fault (data16_part format old.order) r)
-
-strp_part : (format : Format) (order : Order) (value : FormValue) (bytes : List ℕ) → ValueBytes format order forms.Strp value bytes
-    → (n : ℕ) × OffsetBytes format order n bytes
-strp_part format order value bytes p = grind (arith, common_steps)
+    (refused_as (IsCutShort 16) (TakenBytes 16) (ValueBytes format old.order forms.Data16) old fault
+    (λ value bytes p. grind (arith, common_steps)) r)
 
 pub refuses_strp : (format : Format) (form : Form) (old : At) (fault : Fault) → form ≡ forms.Strp
     → RefusesField (IsCutShort (offset_size format)) (OffsetBytes format old.order) old fault
@@ -102,11 +71,7 @@ pub refuses_strp : (format : Format) (form : Form) (old : At) (fault : Fault) �
 refuses_strp format form old fault is r =
     refused_in format form forms.Strp old fault is
     (refused_as (IsCutShort (offset_size format)) (OffsetBytes format old.order) (ValueBytes format old.order forms.Strp) old fault
-    (strp_part format old.order) r)
-
-line_strp_part : (format : Format) (order : Order) (value : FormValue) (bytes : List ℕ)
-    → ValueBytes format order forms.LineStrp value bytes → (n : ℕ) × OffsetBytes format order n bytes
-line_strp_part format order value bytes p = grind (arith, common_steps)
+    (λ value bytes p. grind (arith, common_steps)) r)
 
 pub refuses_line_strp : (format : Format) (form : Form) (old : At) (fault : Fault) → form ≡ forms.LineStrp
     → RefusesField (IsCutShort (offset_size format)) (OffsetBytes format old.order) old fault
@@ -114,31 +79,22 @@ pub refuses_line_strp : (format : Format) (form : Form) (old : At) (fault : Faul
 refuses_line_strp format form old fault is r =
     refused_in format form forms.LineStrp old fault is
     (refused_as (IsCutShort (offset_size format)) (OffsetBytes format old.order) (ValueBytes format old.order forms.LineStrp) old fault
-    (line_strp_part format old.order) r)
-
-udata_part : (format : Format) (order : Order) (value : FormValue) (bytes : List ℕ) → ValueBytes format order forms.Udata value bytes
-    → (n : ℕ) × UnsignedLeb n bytes
-udata_part format order value bytes p = grind (arith, common_steps)
+    (λ value bytes p. grind (arith, common_steps)) r)
 
 pub refuses_udata : (format : Format) (form : Form) (old : At) (fault : Fault) → form ≡ forms.Udata
     → RefusesField (IsLebFault IsLargeUnsigned) UnsignedLeb old fault
     → RefusesField (IsValueFault format old.order form) (ValueBytes format old.order form) old fault
-refuses_udata format form old fault is r = grind (arith, common_steps, refused_in, refused_as, udata_part)
-
-string_part : (format : Format) (order : Order) (value : FormValue) (bytes : List ℕ) → ValueBytes format order forms.Text value bytes
-    → (b : List ℕ) × TextBytes b bytes
-string_part format order value bytes p = grind (arith, common_steps)
+refuses_udata format form old fault is r =
+    refused_in format form forms.Udata old fault is
+    (refused_as (IsLebFault IsLargeUnsigned) UnsignedLeb (ValueBytes format old.order forms.Udata) old fault
+    (λ value bytes p. grind (arith, common_steps)) r)
 
 pub refuses_string : (format : Format) (form : Form) (old : At) (fault : Fault) → form ≡ forms.Text
     → RefusesField IsCutText TextBytes old fault
     → RefusesField (IsValueFault format old.order form) (ValueBytes format old.order form) old fault
 refuses_string format form old fault is r =
     refused_in format form forms.Text old fault is
-    (refused_as IsCutText TextBytes (ValueBytes format old.order forms.Text) old fault (string_part format old.order) r)
-
-block_part : (format : Format) (order : Order) (value : FormValue) (bytes : List ℕ) → ValueBytes format order forms.Block value bytes
-    → (b : List ℕ) × BlockBytes (LengthBytes order Leb) b bytes
-block_part format order value bytes p = grind (arith, common_steps)
+    (refused_as IsCutText TextBytes (ValueBytes format old.order forms.Text) old fault (λ value bytes p. grind (arith, common_steps)) r)
 
 pub refuses_block : (format : Format) (form : Form) (old : At) (fault : Fault) → form ≡ forms.Block
     → RefusesField (IsBlockValueFault old.order Leb) (BlockBytes (LengthBytes old.order Leb)) old fault
@@ -146,11 +102,7 @@ pub refuses_block : (format : Format) (form : Form) (old : At) (fault : Fault) �
 refuses_block format form old fault is r =
     refused_in format form forms.Block old fault is
     (refused_as (IsBlockValueFault old.order Leb) (BlockBytes (LengthBytes old.order Leb))
-    (ValueBytes format old.order forms.Block) old fault (block_part format old.order) r)
-
-block1_part : (format : Format) (order : Order) (value : FormValue) (bytes : List ℕ) → ValueBytes format order forms.Block1 value bytes
-    → (b : List ℕ) × BlockBytes (LengthBytes order One) b bytes
-block1_part format order value bytes p = grind (arith, common_steps)
+    (ValueBytes format old.order forms.Block) old fault (λ value bytes p. grind (arith, common_steps)) r)
 
 pub refuses_block1 : (format : Format) (form : Form) (old : At) (fault : Fault) → form ≡ forms.Block1
     → RefusesField (IsBlockValueFault old.order One) (BlockBytes (LengthBytes old.order One)) old fault
@@ -158,11 +110,7 @@ pub refuses_block1 : (format : Format) (form : Form) (old : At) (fault : Fault) 
 refuses_block1 format form old fault is r =
     refused_in format form forms.Block1 old fault is
     (refused_as (IsBlockValueFault old.order One) (BlockBytes (LengthBytes old.order One))
-    (ValueBytes format old.order forms.Block1) old fault (block1_part format old.order) r)
-
-block2_part : (format : Format) (order : Order) (value : FormValue) (bytes : List ℕ) → ValueBytes format order forms.Block2 value bytes
-    → (b : List ℕ) × BlockBytes (LengthBytes order Two) b bytes
-block2_part format order value bytes p = grind (arith, common_steps)
+    (ValueBytes format old.order forms.Block1) old fault (λ value bytes p. grind (arith, common_steps)) r)
 
 pub refuses_block2 : (format : Format) (form : Form) (old : At) (fault : Fault) → form ≡ forms.Block2
     → RefusesField (IsBlockValueFault old.order Two) (BlockBytes (LengthBytes old.order Two)) old fault
@@ -170,11 +118,7 @@ pub refuses_block2 : (format : Format) (form : Form) (old : At) (fault : Fault) 
 refuses_block2 format form old fault is r =
     refused_in format form forms.Block2 old fault is
     (refused_as (IsBlockValueFault old.order Two) (BlockBytes (LengthBytes old.order Two))
-    (ValueBytes format old.order forms.Block2) old fault (block2_part format old.order) r)
-
-block4_part : (format : Format) (order : Order) (value : FormValue) (bytes : List ℕ) → ValueBytes format order forms.Block4 value bytes
-    → (b : List ℕ) × BlockBytes (LengthBytes order Four) b bytes
-block4_part format order value bytes p = grind (arith, common_steps)
+    (ValueBytes format old.order forms.Block2) old fault (λ value bytes p. grind (arith, common_steps)) r)
 
 pub refuses_block4 : (format : Format) (form : Form) (old : At) (fault : Fault) → form ≡ forms.Block4
     → RefusesField (IsBlockValueFault old.order Four) (BlockBytes (LengthBytes old.order Four)) old fault
@@ -182,7 +126,7 @@ pub refuses_block4 : (format : Format) (form : Form) (old : At) (fault : Fault) 
 refuses_block4 format form old fault is r =
     refused_in format form forms.Block4 old fault is
     (refused_as (IsBlockValueFault old.order Four) (BlockBytes (LengthBytes old.order Four))
-    (ValueBytes format old.order forms.Block4) old fault (block4_part format old.order) r)
+    (ValueBytes format old.order forms.Block4) old fault (λ value bytes p. grind (arith, common_steps)) r)
 
 -- the refusal of each form, which the reader of values cites
 pub ruleset value_refusals = (

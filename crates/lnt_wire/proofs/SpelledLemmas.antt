@@ -1,20 +1,15 @@
 -- Numbers and values in range have a spelling, and one than which none is shorter.
-use Rattle.std.proofs.Common.{ℕ, zero, suc, ◌+◌, ◌-◌, ◌/◌, ◌%◌, ◌^◌, ◌<◌, ◌≤◌, List, [], ◌∷◌, ◌++◌, length, refl, ap, arith, ⊎_elim}
-use Rattle.std.specs.Prelude.{ℤ, pos, negsuc, FitsSigned}
-use Rattle.std.specs.Int.{w64}
+use Rattle.std.proofs.Common.{ℕ, zero, suc, ◌+◌, ◌-◌, ◌/◌, ◌%◌, ◌^◌, ◌<◌, ◌≤◌, List, [], ◌∷◌, ◌++◌, length, refl, ap, arith, ⊎_elim, ℤ, pos}
+use Rattle.std.proofs.Common.{negsuc, FitsSigned, w64, length-append}
 use Rattle.std.proofs.lemmas.Int.{ints}
 use Rattle.std.proofs.lemmas.Bool.{cases_lt}
-use Rattle.std.proofs.lemmas.List.{length-append}
-use Rattle.lnt_wire.specs.declared.format.Order.{Order}
-use Rattle.lnt_wire.specs.declared.format.Format.{Format}
-use Rattle.lnt_wire.specs.declared.form.FormValue.{FormValue}
 use Rattle.lnt_wire.specs.declared.form.FormValue.TheVariants.{Text, LineStrp, Strp, Udata, Data1, Data2, Data4, Data8}
 use Rattle.lnt_wire.specs.declared.form.FormValue.TheVariants.{Data16, Block, Block1, Block2, Block4}
 use Rattle.lnt_wire.specs.Bytes.{Appends}
-use Rattle.lnt_wire.specs.FormBytes.{BlockBytes, FormBytes, HasSpelling, IsTooLarge}
+use Rattle.lnt_wire.specs.FormBytes.{BlockBytes, FormBytes, HasSpelling, IsTooLarge, FormValue}
 use Rattle.lnt_wire.specs.Laws.{SpelledValues}
 use Rattle.lnt_wire.specs.Leb128.{SignedLeb, UnsignedLeb}
-use Rattle.lnt_wire.specs.Numbers.{IsLargeOffset, NumberBytes, number_bytes, offset_size}
+use Rattle.lnt_wire.specs.Numbers.{IsLargeOffset, NumberBytes, number_bytes, offset_size, Order, Format}
 use Rattle.lnt_wire.specs.Spelled.{FitsForm, HasShortest}
 use Rattle.lnt_wire.proofs.PutLemmas.{Begun, begun_signed, begun_unsigned, IsDivided, last_signed, last_unsigned}
 use Rattle.lnt_wire.proofs.PutLemmas.{put_signed, put_unsigned, quotient_fits}

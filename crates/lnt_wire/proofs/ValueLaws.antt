@@ -1,19 +1,13 @@
 -- Values of one form have spellings of which none is the prefix of another, and each spells one value. Crates above cite these.
 use Rattle.std.proofs.Common.{◌≡◌, ℕ, List, [], ◌∷◌, ◌++◌, length, refl, sym, ap, ◌∙◌, arith}
-use Rattle.lnt_wire.specs.declared.format.Order.{Order}
-use Rattle.lnt_wire.specs.declared.format.Format.{Format}
-use Rattle.lnt_wire.specs.declared.form.Form.{Form}
-use Rattle.lnt_wire.specs.declared.form.Form.TheVariants as forms
-use Rattle.lnt_wire.specs.declared.form.FormValue.{FormValue}
 use Rattle.lnt_wire.specs.declared.form.FormValue.TheVariants.{Text, LineStrp, Strp, Udata, Data1, Data2, Data4, Data8, Data16}
 use Rattle.lnt_wire.specs.declared.form.FormValue.TheVariants.{Block, Block1, Block2, Block4}
-use Rattle.lnt_wire.specs.declared.form.BlockLength.{BlockLength}
 use Rattle.lnt_wire.specs.declared.form.BlockLength.TheVariants.{Leb, One, Two, Four}
 use Rattle.lnt_wire.specs.Bytes.{IsCode}
-use Rattle.lnt_wire.specs.FormBytes.{form_code, form_of, HasNoZero, BlockBytes, FormBytes}
-use Rattle.lnt_wire.specs.BlockLengths.{LengthBytes}
+use Rattle.lnt_wire.specs.FormBytes.{form_code, form_of, HasNoZero, BlockBytes, FormBytes, Form, FormValue}
+use Rattle.lnt_wire.specs.BlockLengths.{LengthBytes, BlockLength}
 use Rattle.lnt_wire.specs.Laws.{OneNumber, OneLeb, OneValue}
-use Rattle.lnt_wire.specs.Numbers.{offset_size}
+use Rattle.lnt_wire.specs.Numbers.{offset_size, Order, Format}
 use Rattle.lnt_wire.proofs.CodeLaws.{number_code, unsigned_code, signed_code, taken_code, peel, same_join}
 use Rattle.lnt_wire.proofs.LengthLaws.{IsWidth, width_1, width_2, width_4, width_8, same_prefix}
 use Rattle.std.proofs.lemmas.Grind.{common_steps}

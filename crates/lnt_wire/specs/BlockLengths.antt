@@ -1,16 +1,14 @@
 -- The lengths of blocks, by how they are encoded: in an unsigned LEB128 number, or in 1, 2 or 4 bytes (DWARF 5, section 7.5.6). No
 -- public contract speaks of these: `FormBytes` and `FormFaults` define the same by form.
 use Rattle.std.specs.Prelude.{ℕ, ◌^◌, ◌<◌, List}
-use Rattle.lnt_wire.specs.declared.format.Order.{Order}
-use Rattle.lnt_wire.specs.declared.fault.Reason.{Reason}
 use Rattle.lnt_wire.specs.declared.form.Form.{Form}
 use Rattle.lnt_wire.specs.declared.form.Form.TheVariants as forms
-use Rattle.lnt_wire.specs.declared.form.BlockLength.{BlockLength}
+pub use Rattle.lnt_wire.specs.declared.form.BlockLength.{BlockLength}
 use Rattle.lnt_wire.specs.declared.form.BlockLength.TheVariants.{Leb, One, Two, Four}
 use Rattle.lnt_wire.specs.FormFaults.{IsBlockFault}
 use Rattle.lnt_wire.specs.Leb128.{UnsignedLeb, IsLargeUnsigned, IsLebFault}
-use Rattle.lnt_wire.specs.Numbers.{NumberBytes}
-use Rattle.lnt_wire.specs.Reading.{IsCutShort}
+use Rattle.lnt_wire.specs.Numbers.{NumberBytes, Order}
+use Rattle.lnt_wire.specs.Reading.{IsCutShort, Reason}
 
 -- The bytes encode the length.
 abbrev pub LengthBytes : Order → BlockLength → ℕ → List ℕ → Type 0

@@ -4,16 +4,14 @@
 -- `lnt_header_bytes` they say which entries a table has whose entries are read in place (`Borrowed`).
 use Rattle.std.specs.Prelude.{ℕ, zero, suc, ◌+◌, cond, nat_lt, List, [], ◌∷◌, length, take, drop}
 use Rattle.byteorder.specs.Endian.{little_number, big_number}
-use Rattle.lnt_wire.specs.declared.format.Order.{Order}
 use Rattle.lnt_wire.specs.declared.format.Order.TheVariants.{Little, Big}
-use Rattle.lnt_wire.specs.declared.format.Format.{Format}
 use Rattle.lnt_wire.specs.declared.form.Form.{Form}
 use Rattle.lnt_wire.specs.declared.form.Form.TheVariants as forms
 use Rattle.lnt_wire.specs.declared.form.FormValue.{FormValue}
 use Rattle.lnt_wire.specs.declared.form.FormValue.TheVariants.{Text, LineStrp, Strp, Udata, Data1, Data2, Data4, Data8, Data16}
 use Rattle.lnt_wire.specs.declared.form.FormValue.TheVariants.{Block, Block1, Block2, Block4}
 use Rattle.lnt_wire.specs.Leb128.{groups}
-use Rattle.lnt_wire.specs.Numbers.{offset_size}
+use Rattle.lnt_wire.specs.Numbers.{offset_size, Order, Format}
 
 -- the number that the first `size` bytes encode
 abbrev pub first_number : Order → ℕ → List ℕ → ℕ

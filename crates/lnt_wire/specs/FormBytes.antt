@@ -2,16 +2,14 @@
 -- 7.5.6).
 use Rattle.std.specs.Prelude.{◌≡◌, ◌≢◌, ℕ, ◌^◌, ◌<◌, List, [], ◌∷◌, ◌++◌, length}
 use Rattle.std.specs.List.{AllByRecursion}
-use Rattle.lnt_wire.specs.declared.format.Order.{Order}
-use Rattle.lnt_wire.specs.declared.format.Format.{Format}
-use Rattle.lnt_wire.specs.declared.form.Form.{Form}
+pub use Rattle.lnt_wire.specs.declared.form.Form.{Form}
 use Rattle.lnt_wire.specs.declared.form.Form.TheVariants as forms
-use Rattle.lnt_wire.specs.declared.form.FormValue.{FormValue}
+pub use Rattle.lnt_wire.specs.declared.form.FormValue.{FormValue}
 use Rattle.lnt_wire.specs.declared.form.FormValue.TheVariants.{Text, LineStrp, Strp, Udata, Data1, Data2, Data4, Data8, Data16}
 use Rattle.lnt_wire.specs.declared.form.FormValue.TheVariants.{Block, Block1, Block2, Block4}
 use Rattle.lnt_wire.specs.Bytes.{Exactly, TakenBytes, ◌⨾◌}
 use Rattle.lnt_wire.specs.Leb128.{UnsignedLeb}
-use Rattle.lnt_wire.specs.Numbers.{NumberBytes, OffsetBytes, IsLargeOffset}
+use Rattle.lnt_wire.specs.Numbers.{NumberBytes, OffsetBytes, IsLargeOffset, Order, Format}
 
 -- The code of each form (DWARF 5, section 7.5.6).
 abbrev pub form_code : Form → ℕ

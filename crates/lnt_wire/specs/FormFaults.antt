@@ -1,16 +1,12 @@
 -- What is wrong with bytes that don't begin with a value in a form (DWARF 5, section 7.5.6). The place of each fault is the
 -- value's first byte, so `bytes` are those from there on, up to the end of what may be read.
 use Rattle.std.specs.Prelude.{◌≡◌, ℕ, ◌<◌, List, ◌++◌, length}
-use Rattle.lnt_wire.specs.declared.format.Order.{Order}
-use Rattle.lnt_wire.specs.declared.format.Format.{Format}
-use Rattle.lnt_wire.specs.declared.form.Form.{Form}
 use Rattle.lnt_wire.specs.declared.form.Form.TheVariants as forms
-use Rattle.lnt_wire.specs.declared.fault.Reason.{Reason}
 use Rattle.lnt_wire.specs.declared.fault.Reason.TheVariants.{Truncated}
-use Rattle.lnt_wire.specs.FormBytes.{HasNoZero}
+use Rattle.lnt_wire.specs.FormBytes.{HasNoZero, Form}
 use Rattle.lnt_wire.specs.Leb128.{UnsignedLeb, IsLargeUnsigned, IsLebFault}
-use Rattle.lnt_wire.specs.Numbers.{NumberBytes, offset_size}
-use Rattle.lnt_wire.specs.Reading.{IsCutShort}
+use Rattle.lnt_wire.specs.Numbers.{NumberBytes, offset_size, Order, Format}
+use Rattle.lnt_wire.specs.Reading.{IsCutShort, Reason}
 
 -- No zero byte follows, so the text doesn't end.
 pub record IsCutText (reason : Reason) (bytes : List ℕ) : Type 0 where

@@ -1,10 +1,9 @@
 -- Frames: the units of a section, delimited by their initial lengths, with their versions checked (DWARF 5, sections 6.2.4
 -- and 7.4).
 use Rattle.std.specs.Prelude.{◌≡◌, ℕ, ◌+◌, ◌^◌, ◌<◌, List, [], ◌∷◌, ◌++◌, length}
-use Rattle.lnt_wire.specs.declared.format.Order.{Order}
-use Rattle.lnt_wire.specs.declared.format.Format.{Format}
-use Rattle.lnt_wire.specs.declared.frame.Frame.{Frame}
-use Rattle.lnt_wire.specs.Numbers.{number_bytes}
+pub use Rattle.lnt_wire.specs.declared.format.Order.{Order}
+pub use Rattle.lnt_wire.specs.declared.frame.Frame.{Frame}
+use Rattle.lnt_wire.specs.Numbers.{number_bytes, Format}
 use Rattle.lnt_wire.specs.InitialLength.{initial_length, LengthFits}
 
 -- The 2 bytes of version 5.

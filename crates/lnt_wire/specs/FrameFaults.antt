@@ -3,11 +3,9 @@
 --     before   the bytes before the place of the fault
 --     from     the bytes from the place on, to the end of the section
 use Rattle.std.specs.Prelude.{◌≡◌, ◌≢◌, ℕ, ◌^◌, ◌<◌, ◌≤◌, List, [], ◌∷◌, ◌++◌, length}
-use Rattle.lnt_wire.specs.declared.format.Order.{Order}
-use Rattle.lnt_wire.specs.declared.format.Format.{Format}
 use Rattle.lnt_wire.specs.declared.fault.Reason.{Reason}
 use Rattle.lnt_wire.specs.declared.fault.Reason.TheVariants.{Truncated, ReservedLength, VersionNotFive}
-use Rattle.lnt_wire.specs.Numbers.{number_bytes}
+use Rattle.lnt_wire.specs.Numbers.{number_bytes, Order, Format}
 use Rattle.lnt_wire.specs.InitialLength.{initial_length, LengthFits}
 
 -- The bytes begin with a whole unit, judged by its initial length. Its body is the fields before the place, and the rest from

@@ -1,11 +1,10 @@
 -- Why the readers of a frame's parts fail: that of the initial length, and that of the version. Why bytes don't begin with a
 -- frame is `IsFrameFault`.
 use Rattle.std.specs.Prelude.{◌≡◌, ◌≢◌, ℕ, ◌^◌, ◌<◌, List, ◌++◌, length}
-use Rattle.lnt_wire.specs.declared.format.Order.{Order}
 use Rattle.lnt_wire.specs.declared.fault.Reason.{Reason}
 use Rattle.lnt_wire.specs.declared.fault.Reason.TheVariants.{Truncated, ReservedLength, VersionNotFive}
 use Rattle.lnt_wire.specs.FrameFaults.{IsCutFrame, IsReserved}
-use Rattle.lnt_wire.specs.Numbers.{number_bytes}
+use Rattle.lnt_wire.specs.Numbers.{number_bytes, Order}
 
 -- Why the bytes don't begin with an initial length.
 abbrev pub IsInitialFault : Order → Reason → List ℕ → Type 0

@@ -1,9 +1,7 @@
 -- The initial length of a unit (DWARF 5, section 7.4).
 use Rattle.std.specs.Prelude.{◌≡◌, ℕ, ◌^◌, ◌<◌, List, ◌++◌}
-use Rattle.lnt_wire.specs.declared.format.Order.{Order}
-use Rattle.lnt_wire.specs.declared.format.Format.{Format}
 use Rattle.lnt_wire.specs.declared.format.Format.TheVariants.{D32, D64}
-use Rattle.lnt_wire.specs.Numbers.{number_bytes}
+use Rattle.lnt_wire.specs.Numbers.{number_bytes, Order, Format}
 
 -- The bytes of an initial length: 4 in the 32-bit format; in the 64-bit format 0xffffffff, and then 8.
 abbrev pub initial_length : Format → Order → ℕ → List ℕ

@@ -1,14 +1,10 @@
 -- What is encoded is read back, whatever follows: in each kind, no encoding is a prefix of another, and each encodes one value.
 use Rattle.std.specs.Prelude.{ℕ, ◌^◌, ◌<◌, List, ℤ, FitsSigned}
 use Rattle.std.specs.Int.{w64}
-use Rattle.lnt_wire.specs.declared.format.Order.{Order}
-use Rattle.lnt_wire.specs.declared.format.Format.{Format}
-use Rattle.lnt_wire.specs.declared.form.Form.{Form}
-use Rattle.lnt_wire.specs.declared.form.FormValue.{FormValue}
 use Rattle.lnt_wire.specs.Bytes.{IsCode}
-use Rattle.lnt_wire.specs.FormBytes.{FormBytes, HasSpelling, IsTooLarge, ValueBytes}
+use Rattle.lnt_wire.specs.FormBytes.{FormBytes, HasSpelling, IsTooLarge, ValueBytes, Form, FormValue}
 use Rattle.lnt_wire.specs.Leb128.{UnsignedLeb, SignedLeb}
-use Rattle.lnt_wire.specs.Numbers.{NumberBytes, OffsetBytes}
+use Rattle.lnt_wire.specs.Numbers.{NumberBytes, OffsetBytes, Order, Format}
 use Rattle.lnt_wire.specs.Spelled.{FitsForm, HasShortest}
 
 -- numbers of 1, 2, 4 and 8 bytes, and offsets

@@ -1,9 +1,9 @@
 -- Fixed-width numbers in either byte order, and offsets in either format (DWARF 5, sections 7.4 and 7.5.5).
 use Rattle.std.specs.Prelude.{◌≡◌, ℕ, ◌^◌, ◌<◌, ◌≤◌, List}
 use Rattle.std.specs.Int.{bytes_low_first, bytes_high_first}
-use Rattle.lnt_wire.specs.declared.format.Order.{Order}
+pub use Rattle.lnt_wire.specs.declared.format.Order.{Order}
 use Rattle.lnt_wire.specs.declared.format.Order.TheVariants.{Little, Big}
-use Rattle.lnt_wire.specs.declared.format.Format.{Format}
+pub use Rattle.lnt_wire.specs.declared.format.Format.{Format}
 use Rattle.lnt_wire.specs.declared.format.Format.TheVariants.{D32, D64}
 
 -- the size lowest bytes of n, in the order

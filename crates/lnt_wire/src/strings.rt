@@ -1,6 +1,5 @@
 //! The texts of values: the string sections, and what an offset into them refers to (DWARF 5, sections 7.5.5 and 7.5.6).
-ghost use Rattle.std.specs.Prelude.{◌≡◌, ◌<◌, length, take, drop, get_or, MatchOption};
-ghost use Rattle.std.specs.Option.{option_map};
+ghost use Rattle.std.specs.Prelude.{◌≡◌, ◌<◌, length, take, drop, get_or, MatchOption, option_map};
 ghost use Rattle.lnt_wire.specs.Borrowed.{value_of};
 ghost use Rattle.lnt_wire.specs.FormBytes.{HasNoZero};
 ghost use Rattle.lnt_wire.specs.Texts.{text_of, up_to_zero};

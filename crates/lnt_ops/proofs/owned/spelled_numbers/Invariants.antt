@@ -1,5 +1,5 @@
 use Rattle.std.proofs.Common.{length}
-use Rattle.lnt_ops.specs.OperandLists.{NumbersSoFar}
+use Rattle.lnt_ops.proofs.OwnedLemmas.{NumbersSoFar}
 use Rattle.lnt_ops.proofs.owned.spelled_numbers.Given as goal
 
 abbrev pub invariant-loop-number : goal.invariant-loop-number

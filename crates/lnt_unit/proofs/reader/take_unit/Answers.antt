@@ -1,28 +1,24 @@
-use Rattle.std.proofs.Common.{◌≡◌, ℕ, ◌+◌, List, Some, [], ◌∷◌, length, refl, ap, sym, subst, vec_len, ◌∙◌, arith, rules}
-use Rattle.std.proofs.lemmas.Bool.{eqb-true}
+use Rattle.std.proofs.Common.{◌≡◌, ◌+◌, Some, length, ap, sym, subst, vec_len, ◌∙◌, arith, rules, eqb-true}
 use Rattle.std.proofs.lemmas.Result.{err_from_is_err_and}
 use Rattle.lnt_wire.specs.declared.fault.Fault.{Fault}
 use Rattle.lnt_io.specs.Pulling.{Pulls}
+use Rattle.lnt_header_bytes.proofs.TableReaders.{empty_list}
 use Rattle.lnt_unit.specs.Units.{BufferedUnit, SectionEndsBy}
 use Rattle.lnt_unit.proofs.ReaderLemmas.{section_ends, ended_short, no_fault, unit_exits}
 use Rattle.lnt_unit.proofs.reader.take_unit.Goals as goal
-
-no_bytes : (bytes : List ℕ) → length bytes ≡ 0 → bytes ≡ []
-no_bytes [] none = refl
-no_bytes (byte ∷ bytes) none = absurd (omega arith)
 
 pub returns-then-is_empty-clause-end : goal.returns-then-is_empty-clause-end
 returns-then-is_empty-clause-end g c =
     let none : vec_len c.take_unit_bytes.new.taken ≡ 0 = eqb-true _ _ (sym c.is_empty.ensures ∙ c.if-is_empty.true) in
     section_ends c.args.offset c.args.order c.in_ok-take_unit_bytes.field-0 _ _ c.take_unit_bytes.new.taken.items
     c.in_ok-take_unit_bytes.ensures.pulls c.in_ok-take_unit_bytes.ensures.whole
-    (no_bytes _ (omega (arith, none, c.take_unit_bytes.new.taken.ok.0)))
+    (empty_list _ (omega (arith, none, c.take_unit_bytes.new.taken.ok.0)))
 
 pub returns-then-is_empty-clause-not_long : goal.returns-then-is_empty-clause-not_long
 returns-then-is_empty-clause-not_long g c =
     let none : vec_len c.take_unit_bytes.new.taken ≡ 0 = eqb-true _ _ (sym c.is_empty.ensures ∙ c.if-is_empty.true) in
     ended_short c.args.order c.in_ok-take_unit_bytes.field-0 _ c.take_unit_bytes.new.taken.items _ c.in_ok-take_unit_bytes.ensures.whole
-    (no_bytes _ (omega (arith, none, c.take_unit_bytes.new.taken.ok.0))) c.in_ok-take_unit_bytes.ensures.ended
+    (empty_list _ (omega (arith, none, c.take_unit_bytes.new.taken.ok.0))) c.in_ok-take_unit_bytes.ensures.ended
 
 pub returns-in_err-of-clause-fault : goal.returns-in_err-of-clause-fault
 returns-in_err-of-clause-fault g c = search (rules, unit_exits)

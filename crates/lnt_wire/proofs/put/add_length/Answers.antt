@@ -1,8 +1,7 @@
 use Rattle.std.proofs.Common.{◌≡◌, ◌<◌, ◌++◌, [], ◌∷◌, subst, sym, arith}
 use Rattle.std.proofs.lemmas.Grind.{common_steps}
-use Rattle.lnt_wire.specs.declared.form.BlockLength.{BlockLength}
 use Rattle.lnt_wire.specs.Bytes.{Appends}
-use Rattle.lnt_wire.specs.BlockLengths.{LengthBytes, BlockLengthFits}
+use Rattle.lnt_wire.specs.BlockLengths.{LengthBytes, BlockLengthFits, BlockLength}
 use Rattle.lnt_wire.proofs.PutLemmas.{put_byte}
 use Rattle.lnt_wire.proofs.put.add_length.Goals as goal
 

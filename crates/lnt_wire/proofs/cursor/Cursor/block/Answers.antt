@@ -1,8 +1,7 @@
 use Rattle.std.proofs.Common.{refl, arith}
-use Rattle.lnt_wire.specs.declared.fault.Fault.{Fault}
 use Rattle.lnt_wire.specs.FormBytes.{BlockBytes}
 use Rattle.lnt_wire.specs.BlockLengths.{LengthBytes, IsBlockValueFault}
-use Rattle.lnt_wire.specs.Reading.{RefusesField}
+use Rattle.lnt_wire.specs.Reading.{RefusesField, Fault}
 use Rattle.lnt_wire.proofs.RefusedForms.{passed_on}
 use Rattle.lnt_wire.proofs.ValueLemmas.{refuses_no_length, refuses_cut_block, reads_block}
 use Rattle.lnt_wire.proofs.cursor.Cursor.block.Goals as goal

@@ -1,9 +1,7 @@
 use Rattle.std.proofs.Common.{ℕ, IfOk, IfErr, sym, subst, rules}
-use Rattle.lnt_wire.specs.declared.fault.Fault.{Fault}
-use Rattle.lnt_wire.specs.declared.form.BlockLength.{BlockLength}
 use Rattle.lnt_wire.specs.Numbers.{NumberBytes}
-use Rattle.lnt_wire.specs.BlockLengths.{LengthBytes, IsLengthFault}
-use Rattle.lnt_wire.specs.Reading.{Reads, RefusesField}
+use Rattle.lnt_wire.specs.BlockLengths.{LengthBytes, IsLengthFault, BlockLength}
+use Rattle.lnt_wire.specs.Reading.{Reads, RefusesField, Fault}
 use Rattle.lnt_wire.proofs.RefusedForms.{passed_on, gives_none, leaves_it}
 use Rattle.lnt_wire.proofs.cursor.Cursor.length.Goals as goal
 
@@ -34,14 +32,10 @@ returns-in_err-u8-in-One-clause-err c =
     (sym c.in-One.is) c.in_err-u8-in-One.ensures.err)
 
 pub returns-in_err-u8-in-One-clause-ok : goal.returns-in_err-u8-in-One-clause-ok
-returns-in_err-u8-in-One-clause-ok c =
-    gives_none c.from_residual.result
-    (λ (n : ℕ). Reads (LengthBytes c.args.self.now.order c.args.encoding) n c.args.self.now c.u8.new.self)
-    c.from_residual.ensures.0
+returns-in_err-u8-in-One-clause-ok c = gives_none _ _ c.from_residual.ensures.0
 
 pub returns-in_err-u8-in-One-clause-unchanged : goal.returns-in_err-u8-in-One-clause-unchanged
-returns-in_err-u8-in-One-clause-unchanged c =
-    leaves_it c.from_residual.result c.args.self.now c.u8.new.self c.in_err-u8-in-One.ensures.unchanged
+returns-in_err-u8-in-One-clause-unchanged c = leaves_it _ _ _ c.in_err-u8-in-One.ensures.unchanged
 
 pub returns-in_ok-u8-in-One-clause-ok : goal.returns-in_ok-u8-in-One-clause-ok
 returns-in_ok-u8-in-One-clause-ok c =
@@ -60,14 +54,10 @@ returns-in_err-u16-in-Two-clause-err c =
     (sym c.in-Two.is) c.in_err-u16-in-Two.ensures.err)
 
 pub returns-in_err-u16-in-Two-clause-ok : goal.returns-in_err-u16-in-Two-clause-ok
-returns-in_err-u16-in-Two-clause-ok c =
-    gives_none c.from_residual-in_err-u16-in-Two.result
-    (λ (n : ℕ). Reads (LengthBytes c.args.self.now.order c.args.encoding) n c.args.self.now c.u16.new.self)
-    c.from_residual-in_err-u16-in-Two.ensures.0
+returns-in_err-u16-in-Two-clause-ok c = gives_none _ _ c.from_residual-in_err-u16-in-Two.ensures.0
 
 pub returns-in_err-u16-in-Two-clause-unchanged : goal.returns-in_err-u16-in-Two-clause-unchanged
-returns-in_err-u16-in-Two-clause-unchanged c =
-    leaves_it c.from_residual-in_err-u16-in-Two.result c.args.self.now c.u16.new.self c.in_err-u16-in-Two.ensures.unchanged
+returns-in_err-u16-in-Two-clause-unchanged c = leaves_it _ _ _ c.in_err-u16-in-Two.ensures.unchanged
 
 pub returns-in_err-u32-in-Four-clause-err : goal.returns-in_err-u32-in-Four-clause-err
 returns-in_err-u32-in-Four-clause-err c =
@@ -79,14 +69,10 @@ returns-in_err-u32-in-Four-clause-err c =
     (sym c.in-Four.is) c.in_err-u32-in-Four.ensures.err)
 
 pub returns-in_err-u32-in-Four-clause-ok : goal.returns-in_err-u32-in-Four-clause-ok
-returns-in_err-u32-in-Four-clause-ok c =
-    gives_none c.from_residual-in_err-u32-in-Four.result
-    (λ (n : ℕ). Reads (LengthBytes c.args.self.now.order c.args.encoding) n c.args.self.now c.u32.new.self)
-    c.from_residual-in_err-u32-in-Four.ensures.0
+returns-in_err-u32-in-Four-clause-ok c = gives_none _ _ c.from_residual-in_err-u32-in-Four.ensures.0
 
 pub returns-in_err-u32-in-Four-clause-unchanged : goal.returns-in_err-u32-in-Four-clause-unchanged
-returns-in_err-u32-in-Four-clause-unchanged c =
-    leaves_it c.from_residual-in_err-u32-in-Four.result c.args.self.now c.u32.new.self c.in_err-u32-in-Four.ensures.unchanged
+returns-in_err-u32-in-Four-clause-unchanged c = leaves_it _ _ _ c.in_err-u32-in-Four.ensures.unchanged
 
 pub returns-in_ok-u32-in-Four-clause-ok : goal.returns-in_ok-u32-in-Four-clause-ok
 returns-in_ok-u32-in-Four-clause-ok c =
