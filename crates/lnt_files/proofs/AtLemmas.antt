@@ -1,22 +1,17 @@
 -- Entries by their numbers.
 use Rattle.std.proofs.Common.{◌≡◌, ℕ, zero, suc, ◌+◌, ◌<◌, ◌≤◌, List, [], ◌∷◌, ◌++◌, length, take, take-append-drop, length-take-le, Option}
-use Rattle.std.proofs.Common.{Some, None, refl, sym, ap, subst, ◌∙◌, arith}
-use Rattle.std.specs.Prelude.{IsSome}
-use Rattle.std.specs.List.{slice_get}
-use Rattle.std.specs.Option.{option_and_then}
+use Rattle.std.proofs.Common.{Some, None, refl, sym, ap, subst, ◌∙◌, arith, IsSome, slice_get, option_and_then, option_map}
 use Rattle.std.proofs.lemmas.Option.{slice_get_past}
 use Rattle.lnt_header_bytes.specs.Borrowed.{BorrowedTable}
 use Rattle.lnt_header_bytes.specs.Marks.{from_entry}
 use Rattle.lnt_header.specs.declared.header.Entry.{Entry}
 use Rattle.lnt_header.specs.declared.header.HeaderParts.{HeaderParts}
 use Rattle.lnt_header.specs.declared.header.Pair.{Pair}
-use Rattle.lnt_files.specs.declared.walk.EntryView.{EntryView}
 use Rattle.lnt_files.specs.Contents.{content_md5, path_text, place_of}
-use Rattle.lnt_files.specs.Paths.{directory_text, file_path, listed_sum}
+use Rattle.lnt_files.specs.Paths.{directory_text, file_path, listed_sum, path_bytes}
 use Rattle.lnt_files.specs.Seen.{EntryAt, HasSeenEntries}
-use Rattle.lnt_files.specs.Tables.{AreUsableTables}
-use Rattle.lnt_files.specs.Walks.{Says, EntryStep}
-use Rattle.lnt_files.proofs.PathLemmas.{path_there, within}
+use Rattle.lnt_files.specs.Walks.{Says, EntryStep, EntryView}
+use Rattle.lnt_files.proofs.PathLemmas.{within}
 use Rattle.lnt_files.proofs.JudgedLemmas.{seen_more, says_in, some_left}
 use Rattle.std.proofs.lemmas.Grind.{common_steps}
 
@@ -86,17 +81,22 @@ pub file_there : (h : HeaderParts) (table : BorrowedTable) (number : ℕ) (view 
     → (entry : Entry) × (slice_get h.files number ≡ Some entry) × Says h.file_format entry view
 file_there h table number view pairs_are entries_are at = grind (arith, common_steps)
 
-some_is_not_none : (o : Option (List ℕ)) → IsSome o → None ≡ o → ⊥
+pub some_is_not_none : (o : Option (List ℕ)) → IsSome o → None ≡ o → ⊥
 some_is_not_none o h e = grind (arith, common_steps)
 
--- under usable tables each file's pieces are there
-pub never_without : (line general : List ℕ) (h : HeaderParts) (table : BorrowedTable) (number : ℕ) (view : EntryView)
-    → AreUsableTables line general h → table.pairs ≡ h.file_format → table.entries ≡ h.files
-    → EntryAt table number (Some view) → ((entry : Entry) → Says h.file_format entry view → None ≡ file_path line general h entry) → ⊥
-never_without line general h table number view usable pairs_are entries_are at none =
-    let there = file_there h table number view pairs_are entries_are at in
-    some_is_not_none (file_path line general h there.0) (path_there line general h number there.0 usable (sym there.1))
-    (none there.0 there.2)
+mapped_same : (o : Option (List ℕ)) → option_map (λ path. [] ++ path) o ≡ o
+mapped_same None = refl
+mapped_same (Some path) = refl
+
+-- a path that is made with nothing before it
+pub path_made : (line general : List ℕ) (h : HeaderParts) (number : ℕ) (entry : Entry) (old new : List ℕ) → old ≡ []
+    → slice_get h.files number ≡ Some entry → option_map (λ path. old ++ path) (file_path line general h entry) ≡ Some new
+    → Some new ≡ path_bytes line general h number
+path_made line general h number entry old new none at made =
+    sym made
+    ∙ subst (λ (z : List ℕ). option_map (λ path. z ++ path) (file_path line general h entry) ≡ file_path line general h entry) (sym none)
+    (mapped_same (file_path line general h entry))
+    ∙ sym (ap (option_and_then (file_path line general h)) at)
 
 pub within_files : (h : HeaderParts) (table : BorrowedTable) (number : ℕ) (view : EntryView) → table.pairs ≡ h.file_format
     → table.entries ≡ h.files → EntryAt table number (Some view) → number < length h.files

@@ -1,8 +1,6 @@
 -- Where the texts of a section end.
-use Rattle.std.proofs.Common.{◌≡◌, ◌≢◌, ℕ, zero, suc, ◌-◌, ◌<◌, ◌≤◌, List, [], ◌∷◌, length, get_or, drop, Option, None, refl, ap}
-use Rattle.std.proofs.Common.{arith, ◌⊎◌, inl, inr, false}
-use Rattle.std.specs.Prelude.{IsSome}
-use Rattle.std.specs.Option.{option_map, is_some}
+use Rattle.std.proofs.Common.{◌≡◌, ◌≢◌, ℕ, zero, suc, ◌-◌, ◌<◌, ◌≤◌, List, [], ◌∷◌, length, get_or, drop, Option, None, refl, ap, arith}
+use Rattle.std.proofs.Common.{◌⊎◌, inl, inr, false, IsSome, option_map, is_some}
 use Rattle.lnt_wire.specs.FormBytes.{HasNoZero}
 use Rattle.lnt_wire.specs.Texts.{up_to_zero}
 use Rattle.lnt_files.specs.TextEnds.{TextsEndAt}

@@ -1,56 +1,26 @@
 -- What entries say that are read where they lie.
-use Rattle.std.proofs.Common.{◌≡◌, ◌≢◌, ℕ, zero, suc, ◌+◌, ◌<◌, ◌≤◌, List, [], ◌∷◌, ◌++◌, length, get_or, Option, Some, None, refl, ap}
-use Rattle.std.proofs.Common.{subst, lit≤, arith}
-use Rattle.std.specs.List.{slice_get}
-use Rattle.std.proofs.lemmas.List.{length-append}
+use Rattle.std.proofs.Common.{◌≡◌, ◌≢◌, ℕ, zero, suc, ◌+◌, ◌<◌, ◌≤◌, List, [], ◌∷◌, ◌++◌, length, get_or, Option, Some, None, refl, ap, sym}
+use Rattle.std.proofs.Common.{subst, lit≤, arith, slice_get, length-append}
 use Rattle.lnt_wire.specs.At.{At}
 use Rattle.lnt_wire.specs.Borrowed.{value_of}
 use Rattle.lnt_wire.specs.Bytes.{NoneSpelled}
 use Rattle.lnt_wire.specs.FormBytes.{ValueBytes}
 use Rattle.lnt_wire.specs.Reading.{Reads}
-use Rattle.lnt_wire.specs.declared.form.Form.{Form}
 use Rattle.lnt_wire.specs.declared.form.Form.TheVariants.{LineStrp, Udata, Data16}
 use Rattle.lnt_wire.specs.declared.form.FormValue.{FormValue}
 use Rattle.lnt_wire.specs.declared.format.Format.{Format}
 use Rattle.lnt_wire.specs.declared.view.ValueView.{ValueView}
-use Rattle.lnt_header_bytes.specs.Layouts.{forms_of, entry_of}
+use Rattle.lnt_header_bytes.specs.Layouts.{entry_of}
 use Rattle.lnt_header_bytes.proofs.ValueLaws.{AreReadTo, read_none, read_more, entry_read, no_entry}
 use Rattle.lnt_header_bytes.specs.TableBytes.{EntryBytes}
 use Rattle.lnt_header.specs.declared.header.Pair.{Pair}
-use Rattle.lnt_files.specs.Contents.{content_path, content_directory_index, content_md5}
 use Rattle.lnt_files.specs.declared.components.Places.{Places}
 use Rattle.lnt_files.specs.declared.components.Usual.TheVariants.{Path, IndexedPath, SummedPath}
-use Rattle.lnt_files.specs.declared.walk.EntryView.{EntryView}
-use Rattle.lnt_files.specs.Walks.{Says, contents_of, IsUsual, ArePlaces}
+use Rattle.lnt_files.specs.Walks.{Says, IsUsual, ArePlaces, path_pair, directory_pair, sum_pair, EntryView}
 use Rattle.lnt_files.specs.Stepping.{ReadsEntry, IsComponent, AreComponents}
 use Rattle.std.proofs.lemmas.Grind.{common_steps}
 
--- ---- the usual formats
-
-abbrev pair_of : ℕ → Form → Pair
-pair_of content form = record { content = content; form = form }
-
--- the pairs of these content types and forms
-abbrev pairs_of : List ℕ → List Form → List Pair
-pairs_of [] forms = []
-pairs_of (content ∷ contents) [] = []
-pairs_of (content ∷ contents) (form ∷ forms) = pair_of content form ∷ pairs_of contents forms
-
-their_pairs : (pairs : List Pair) → pairs_of (contents_of pairs) (forms_of pairs) ≡ pairs
-their_pairs [] = refl
-their_pairs (pair ∷ pairs) = ap (λ (ps : List Pair). pair ∷ ps) (their_pairs pairs)
-
-are_pairs : (pairs : List Pair) (contents : List ℕ) (forms : List Form) → contents_of pairs ≡ contents → forms_of pairs ≡ forms
-    → pairs_of contents forms ≡ pairs
-are_pairs pairs contents forms e f = grind (arith, common_steps, their_pairs)
-
-abbrev directory_pair : Pair
-directory_pair = pair_of content_directory_index Udata
-
-abbrev sum_pair : Pair
-sum_pair = pair_of content_md5 Data16
-
--- ---- their values
+-- ---- the values of the usual formats
 
 -- an entry of these values
 says_read : (format : Format) (pairs : List Pair) (count : ℕ) (values : List FormValue) (view : EntryView) (old new : At)
@@ -59,21 +29,20 @@ says_read : (format : Format) (pairs : List Pair) (count : ℕ) (values : List F
 says_read format pairs count values view old new le r says = grind (arith, common_steps, entry_read)
 
 first_to : (format : Format) (more : List Pair) (u : FormValue) (old new : At) → Reads (ValueBytes format old.order LineStrp) u old new
-    → AreReadTo format (pair_of content_path LineStrp ∷ more) 1 (u ∷ []) old new
+    → AreReadTo format (path_pair ∷ more) 1 (u ∷ []) old new
 first_to format more u old new r = grind (arith, common_steps, read_more, read_none)
 
 second_to : (format : Format) (more : List Pair) (u v : FormValue) (old middle new : At)
     → Reads (ValueBytes format old.order LineStrp) u old middle → Reads (ValueBytes format middle.order Udata) v middle new
-    → AreReadTo format (pair_of content_path LineStrp ∷ directory_pair ∷ more) 2 (u ∷ v ∷ []) old new
+    → AreReadTo format (path_pair ∷ directory_pair ∷ more) 2 (u ∷ v ∷ []) old new
 second_to format more u v old middle new r s =
-    let pairs = pair_of content_path LineStrp ∷ directory_pair ∷ more in
-    read_more format pairs 1 (pair_of content_path LineStrp) (u ∷ []) v old middle new (omega arith)
+    read_more format (path_pair ∷ directory_pair ∷ more) 1 path_pair (u ∷ []) v old middle new (omega arith)
     (first_to format (directory_pair ∷ more) u old middle r) s
 
 -- an entry of a usual format
 module _ (format : Format) (pairs : List Pair) where
   -- the pairs of the format are those of the table
-  usual_read : (theirs : List Pair) (count : ℕ) (values : List FormValue) (view said : EntryView) (old new : At) → theirs ≡ pairs
+  usual_read : (theirs : List Pair) (count : ℕ) (values : List FormValue) (view said : EntryView) (old new : At) → pairs ≡ theirs
       → view ≡ said → length theirs ≤ count → AreReadTo format theirs count values old new → Says theirs (entry_of values) said
       → ReadsEntry format pairs view old new
   usual_read theirs count values view said old new same view_is le r says = grind (arith, common_steps, says_read)
@@ -82,18 +51,16 @@ module _ (format : Format) (pairs : List Pair) where
       → view ≡ record { path = Some u; directory = None; sum = None } → Reads (ValueBytes format old.order LineStrp) (value_of u) old new
       → ReadsEntry format pairs view old new
   path_read u view old new e view_is r =
-      usual_read (pair_of content_path LineStrp ∷ []) 1 (value_of u ∷ []) view (record { path = Some u; directory = None; sum = None }) old
-      new (are_pairs pairs (content_path ∷ []) (LineStrp ∷ []) e.0 e.1) view_is (lit≤ tt) (first_to format [] (value_of u) old new r)
-      (record { path = refl; directory = refl; sum = refl })
+      usual_read (path_pair ∷ []) 1 (value_of u ∷ []) view (record { path = Some u; directory = None; sum = None }) old new e view_is
+      (lit≤ tt) (first_to format [] (value_of u) old new r) (record { path = refl; directory = refl; sum = refl })
 
   pub indexed_path_read : (u v : ValueView) (view : EntryView) (old middle new : At) → IsUsual IndexedPath pairs
       → view ≡ record { path = Some u; directory = Some v; sum = None }
       → Reads (ValueBytes format old.order LineStrp) (value_of u) old middle
       → Reads (ValueBytes format middle.order Udata) (value_of v) middle new → ReadsEntry format pairs view old new
   indexed_path_read u v view old middle new e view_is r s =
-      usual_read (pair_of content_path LineStrp ∷ directory_pair ∷ []) 2 (value_of u ∷ value_of v ∷ []) view
-      (record { path = Some u; directory = Some v; sum = None }) old new
-      (are_pairs pairs (content_path ∷ content_directory_index ∷ []) (LineStrp ∷ Udata ∷ []) e.0 e.1) view_is (lit≤ tt)
+      usual_read (path_pair ∷ directory_pair ∷ []) 2 (value_of u ∷ value_of v ∷ []) view
+      (record { path = Some u; directory = Some v; sum = None }) old new e view_is (lit≤ tt)
       (second_to format [] (value_of u) (value_of v) old middle new r s) (record { path = refl; directory = refl; sum = refl })
 
   pub summed_path_read : (u v w : ValueView) (view : EntryView) (old m1 m2 new : At) → IsUsual SummedPath pairs
@@ -101,42 +68,38 @@ module _ (format : Format) (pairs : List Pair) where
       → Reads (ValueBytes format old.order LineStrp) (value_of u) old m1 → Reads (ValueBytes format m1.order Udata) (value_of v) m1 m2
       → Reads (ValueBytes format m2.order Data16) (value_of w) m2 new → ReadsEntry format pairs view old new
   summed_path_read u v w view old m1 m2 new e view_is r s t =
-      let theirs = pair_of content_path LineStrp ∷ directory_pair ∷ sum_pair ∷ [] in
+      let theirs = path_pair ∷ directory_pair ∷ sum_pair ∷ [] in
       usual_read theirs 3 (value_of u ∷ value_of v ∷ value_of w ∷ []) view (record { path = Some u; directory = Some v; sum = Some w }) old
-      new (are_pairs pairs (content_path ∷ content_directory_index ∷ content_md5 ∷ []) (LineStrp ∷ Udata ∷ Data16 ∷ []) e.0 e.1) view_is
-      (lit≤ tt)
-      (read_more format theirs 2 (pair_of content_path LineStrp) (value_of u ∷ value_of v ∷ []) (value_of w) old m2 new (omega arith)
+      new e view_is (lit≤ tt)
+      (read_more format theirs 2 path_pair (value_of u ∷ value_of v ∷ []) (value_of w) old m2 new (omega arith)
       (second_to format (sum_pair ∷ []) (value_of u) (value_of v) old m1 m2 r s) t) (record { path = refl; directory = refl; sum = refl })
 
   -- a value isn't there
-  pub no_path : (contents : List ℕ) (forms : List Form) (old : At) → contents_of pairs ≡ content_path ∷ contents
-      → forms_of pairs ≡ LineStrp ∷ forms → NoneSpelled (ValueBytes format old.order LineStrp) old.rest
+  none_read : (theirs : List Pair) (i : ℕ) (values : List FormValue) (old middle : At) → pairs ≡ theirs → i < length theirs
+      → AreReadTo format theirs i values old middle
+      → NoneSpelled (ValueBytes format middle.order (get_or theirs i path_pair).form) middle.rest
       → NoneSpelled (EntryBytes format old.order pairs) old.rest
-  no_path contents forms old e f none =
-      let theirs = pair_of content_path LineStrp ∷ pairs_of contents forms in
-      subst (λ (ps : List Pair). NoneSpelled (EntryBytes format old.order ps) old.rest)
-      (are_pairs pairs (content_path ∷ contents) (LineStrp ∷ forms) e f)
-      (no_entry format theirs 0 (pair_of content_path LineStrp) [] old old (omega arith) (read_none format theirs old) none)
+  none_read theirs i values old middle e lt r none =
+      subst (λ (ps : List Pair). NoneSpelled (EntryBytes format old.order ps) old.rest) (sym e)
+      (no_entry format theirs i path_pair values old middle lt r none)
 
-  pub no_index : (contents : List ℕ) (forms : List Form) (u : FormValue) (old middle : At)
-      → contents_of pairs ≡ content_path ∷ content_directory_index ∷ contents → forms_of pairs ≡ LineStrp ∷ Udata ∷ forms
+  pub no_path : (more : List Pair) (old : At) → pairs ≡ path_pair ∷ more → NoneSpelled (ValueBytes format old.order LineStrp) old.rest
+      → NoneSpelled (EntryBytes format old.order pairs) old.rest
+  no_path more old e none = none_read (path_pair ∷ more) 0 [] old old e (omega arith) (read_none format (path_pair ∷ more) old) none
+
+  pub no_index : (more : List Pair) (u : FormValue) (old middle : At) → pairs ≡ path_pair ∷ directory_pair ∷ more
       → Reads (ValueBytes format old.order LineStrp) u old middle → NoneSpelled (ValueBytes format middle.order Udata) middle.rest
       → NoneSpelled (EntryBytes format old.order pairs) old.rest
-  no_index contents forms u old middle e f r none =
-      let more = directory_pair ∷ pairs_of contents forms in
-      subst (λ (ps : List Pair). NoneSpelled (EntryBytes format old.order ps) old.rest)
-      (are_pairs pairs (content_path ∷ content_directory_index ∷ contents) (LineStrp ∷ Udata ∷ forms) e f)
-      (no_entry format (pair_of content_path LineStrp ∷ more) 1 (pair_of content_path LineStrp) (u ∷ []) old middle (omega arith)
-      (first_to format more u old middle r) none)
+  no_index more u old middle e r none =
+      none_read (path_pair ∷ directory_pair ∷ more) 1 (u ∷ []) old middle e (omega arith)
+      (first_to format (directory_pair ∷ more) u old middle r) none
 
   pub no_sum : (u v : FormValue) (old m1 m2 : At) → IsUsual SummedPath pairs → Reads (ValueBytes format old.order LineStrp) u old m1
       → Reads (ValueBytes format m1.order Udata) v m1 m2 → NoneSpelled (ValueBytes format m2.order Data16) m2.rest
       → NoneSpelled (EntryBytes format old.order pairs) old.rest
   no_sum u v old m1 m2 e r s none =
-      subst (λ (ps : List Pair). NoneSpelled (EntryBytes format old.order ps) old.rest)
-      (are_pairs pairs (content_path ∷ content_directory_index ∷ content_md5 ∷ []) (LineStrp ∷ Udata ∷ Data16 ∷ []) e.0 e.1)
-      (no_entry format (pair_of content_path LineStrp ∷ directory_pair ∷ sum_pair ∷ []) 2 (pair_of content_path LineStrp) (u ∷ v ∷ []) old
-      m2 (omega arith) (second_to format (sum_pair ∷ []) u v old m1 m2 r s) none)
+      none_read (path_pair ∷ directory_pair ∷ sum_pair ∷ []) 2 (u ∷ v ∷ []) old m2 e (omega arith)
+      (second_to format (sum_pair ∷ []) u v old m1 m2 r s) none
 
 -- ---- components that are kept
 

@@ -1,7 +1,6 @@
 -- Tables that are judged in one walk.
 use Rattle.std.proofs.Common.{◌≡◌, ℕ, ◌+◌, ◌<◌, ◌≤◌, ◌↔◌, List, [], ◌∷◌, ◌++◌, length, Option, Some, None, refl, sym, ap, subst, ◌∙◌}
-use Rattle.std.proofs.Common.{append_assoc, arith}
-use Rattle.std.specs.Prelude.{Bool, false, IsTrue, MatchOption}
+use Rattle.std.proofs.Common.{append_assoc, arith, Bool, false, IsTrue, MatchOption}
 use Rattle.std.specs.List.{AllByRecursion}
 use Rattle.std.proofs.lemmas.List.{length-append, append-nil, nil_from_length}
 use Rattle.lnt_header_bytes.specs.Borrowed.{BorrowedTable}
@@ -11,11 +10,10 @@ use Rattle.lnt_header.specs.declared.header.HeaderParts.{HeaderParts}
 use Rattle.lnt_header.specs.declared.header.Pair.{Pair}
 use Rattle.lnt_files.specs.declared.tables.EntryTableFault.{EntryTableFault}
 use Rattle.lnt_files.specs.declared.tables.EntryTableFault.TheVariants.{DirectoryNumber}
-use Rattle.lnt_files.specs.declared.walk.EntryView.{EntryView}
 use Rattle.lnt_files.specs.Contents.{directory_number}
 use Rattle.lnt_files.specs.Seen.{first_missing, NamesDirectoryBelow, HasAll, IsFilesFault, HasSeenEntries}
 use Rattle.lnt_files.specs.Tables.{HasUsableFormat, HasPath, AreUsableTables, IsTablesFault}
-use Rattle.lnt_files.specs.Walks.{Says, EntryStep, GivesEntry}
+use Rattle.lnt_files.specs.Walks.{Says, EntryStep, GivesEntry, EntryView}
 use Rattle.std.proofs.lemmas.Grind.{common_steps}
 
 -- ---- what was seen

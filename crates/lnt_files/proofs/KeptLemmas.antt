@@ -1,20 +1,25 @@
 -- Files as they are kept.
 use Rattle.std.proofs.Common.{◌≡◌, ℕ, zero, suc, ◌+◌, ◌-◌, ◌<◌, ◌≤◌, List, [], ◌∷◌, ◌++◌, length, get_or, take, drop, Option, Some, None}
-use Rattle.std.proofs.Common.{refl, sym, ap, subst, ◌∙◌, arith, length-append, length-drop}
-use Rattle.std.proofs.lemmas.List.{drop_at, take-append-le, drop-append-le, take_more, take_all}
+use Rattle.std.proofs.Common.{refl, sym, ap, subst, ◌∙◌, append_assoc, arith, length-append, length-drop, IsSome, option_map}
+use Rattle.std.proofs.Common.{option_and_then}
+use Rattle.std.proofs.lemmas.List.{append-nil, drop_at, nil_from_length, take-append-le, drop-append-le, take_all}
 use Rattle.std.proofs.lemmas.Option.{slice_get_within}
 use Rattle.std.proofs.lemmas.Slice.{between_is}
 use Rattle.std.proofs.lemmas.Slice.Zip.{all_zipped_more, AllZip-long}
-use Rattle.std.specs.List.{AllZip, slice_get, slice_range}
-use Rattle.std.specs.Option.{option_map, option_and_then}
+use Rattle.std.specs.List.{AllByRecursion, AllZip, slice_get, slice_range}
 use Rattle.lnt_header.specs.declared.header.Entry.{Entry}
 use Rattle.lnt_header.specs.declared.header.HeaderParts.{HeaderParts}
+use Rattle.lnt_header.specs.declared.header.Pair.{Pair}
+use Rattle.lnt_header_bytes.specs.Borrowed.{BorrowedTable}
 use Rattle.lnt_files.specs.declared.files.PathEnd.{PathEnd}
 use Rattle.lnt_files.specs.Contents.{sum_of}
 use Rattle.lnt_files.specs.Files.{KeptFile, kept_path, kept_sum, AreFilesOf}
 use Rattle.lnt_files.specs.Kept.{kept_files, EndAt}
 use Rattle.lnt_files.specs.Stepping.{start_of, IsKeptFile, KeepsFiles}
 use Rattle.lnt_files.specs.Paths.{file_path}
+use Rattle.lnt_files.specs.Tables.{AreUsableTables}
+use Rattle.lnt_files.specs.Walks.{EntryStep, GivesEntry, Says, EntryView}
+use Rattle.lnt_files.proofs.PathLemmas.{files_there}
 use Rattle.std.proofs.lemmas.Grind.{common_steps}
 
 -- ---- one file of those that are kept
@@ -106,37 +111,87 @@ kept_more paths more start (first ∷ files) file h e =
     ap (λ (z : List ℕ). record { path = z; listed = first.listed } ∷ kept_files (paths ++ more) first.end (files ++ file ∷ [])) same
     ∙ ap (λ (z : List KeptFile). record { path = slice_range paths start first.end; listed = first.listed } ∷ z) rest
 
-pub keeps_none : (line general : List ℕ) (h : HeaderParts) (files : List Entry) → KeepsFiles line general h (take 0 files) [] []
-keeps_none line general h files = record { ends = refl; same = tt }
-
-keeps_path : (line general : List ℕ) (h : HeaderParts) (files : List Entry) (i : ℕ) (d : Entry) (paths more : List ℕ) (kept : List PathEnd)
+keeps_path : (line general : List ℕ) (h : HeaderParts) (seen : List Entry) (entry : Entry) (paths more : List ℕ) (kept : List PathEnd)
     (file : PathEnd)
-    → KeepsFiles line general h (take i files) paths kept → i < length files
-    → file_path line general h (get_or files i d) ≡ Some more → sum_of h.file_format (get_or files i d) ≡ file.listed
+    → KeepsFiles line general h seen paths kept → file_path line general h entry ≡ Some more → sum_of h.file_format entry ≡ file.listed
     → file.end ≡ length (paths ++ more)
-    → KeepsFiles line general h (take (i + 1) files) (paths ++ more) (kept ++ file ∷ [])
-keeps_path line general h files i d paths more kept file k lt path sum end =
-    grind (arith, common_steps, length-append, all_zipped_more, ends_more, take_more, kept_more)
+    → KeepsFiles line general h (seen ++ entry ∷ []) (paths ++ more) (kept ++ file ∷ [])
+keeps_path line general h seen entry paths more kept file k path sum end =
+    grind (arith, common_steps, length-append, all_zipped_more, ends_more, kept_more)
 
-pub keeps_more : (line general : List ℕ) (h : HeaderParts) (files : List Entry) (i : ℕ) (entry : Entry) (paths new : List ℕ)
-    (kept : List PathEnd) (file : PathEnd)
-    → KeepsFiles line general h (take i h.files) paths kept → files ≡ h.files → i < length files → entry ≡ get_or files i entry
-    → option_map (λ path. paths ++ path) (file_path line general h entry) ≡ Some new → sum_of h.file_format entry ≡ file.listed
-    → file.end ≡ length new
-    → KeepsFiles line general h (take (i + 1) h.files) new (kept ++ file ∷ [])
-keeps_more line general h files i entry paths new kept file k those lt is path sum end = by_path (file_path line general h entry) refl path
-  where
-    by_path : (o : Option (List ℕ)) → file_path line general h entry ≡ o → option_map (λ path. paths ++ path) o ≡ Some new
-        → KeepsFiles line general h (take (i + 1) h.files) new (kept ++ file ∷ [])
-    by_path None e p = absurd cc
-    by_path (Some more) e p =
-        let same : paths ++ more ≡ new = cc in
-        let at : entry ≡ get_or h.files i entry = subst (λ (z : List Entry). entry ≡ get_or z i entry) those is in
-        let path' = subst (λ (f : Entry). file_path line general h f ≡ Some more) at e in
-        let sum' = subst (λ (f : Entry). sum_of h.file_format f ≡ file.listed) at sum in
-        subst (λ (z : List ℕ). KeepsFiles line general h (take (i + 1) h.files) z (kept ++ file ∷ [])) same
-        (keeps_path line general h h.files i entry paths more kept file k (subst (λ (z : List Entry). i < length z) those lt) path' sum'
-        (end ∙ ap length (sym same)))
+keeps_new : (line general : List ℕ) (h : HeaderParts) (seen : List Entry) (entry : Entry) (paths new : List ℕ) (kept : List PathEnd)
+    (file : PathEnd) (o : Option (List ℕ)) → KeepsFiles line general h seen paths kept → file_path line general h entry ≡ o
+    → option_map (λ path. paths ++ path) o ≡ Some new → sum_of h.file_format entry ≡ file.listed → file.end ≡ length new
+    → KeepsFiles line general h (seen ++ entry ∷ []) new (kept ++ file ∷ [])
+keeps_new line general h seen entry paths new kept file None k is path sum end = absurd cc
+keeps_new line general h seen entry paths new kept file (Some more) k is path sum end =
+    let same : paths ++ more ≡ new = cc in
+    subst (λ (z : List ℕ). KeepsFiles line general h (seen ++ entry ∷ []) z (kept ++ file ∷ [])) same
+    (keeps_path line general h seen entry paths more kept file k is sum (end ∙ ap length (sym same)))
+
+-- A walk over the files of a header stands after so many, whose paths and ends are kept.
+pub record KeepsSeen (line general : List ℕ) (h : HeaderParts) (walk : BorrowedTable) (count : ℕ) (paths : List ℕ) (kept : List PathEnd)
+    : Type 0 where
+  pub seen : List Entry
+  pub joined : h.files ≡ seen ++ walk.entries
+  pub count_is : length seen ≡ count
+  pub pairs_are : walk.pairs ≡ h.file_format
+  pub keeps : KeepsFiles line general h seen paths kept
+
+pub keeps_begun : (line general : List ℕ) (h : HeaderParts) (files walk : BorrowedTable) (paths : List ℕ) (kept : List PathEnd)
+    → files.pairs ≡ h.file_format → files.entries ≡ h.files → walk ≡ files → paths ≡ [] → kept ≡ []
+    → KeepsSeen line general h walk 0 paths kept
+keeps_begun line general h files walk paths kept pairs entries same none no_end =
+    subst (λ (z : List PathEnd). KeepsSeen line general h walk 0 paths z) (sym no_end)
+    (subst (λ (z : List ℕ). KeepsSeen line general h walk 0 z []) (sym none)
+    (subst (λ (w : BorrowedTable). KeepsSeen line general h w 0 [] []) (sym same)
+    (record { seen = []; joined = sym entries; count_is = refl; pairs_are = pairs; keeps = record { ends = refl; same = tt } })))
+
+in_middle : {X : Type 0} (P : X → Type 0) (xs ys : List X) (y : X) → AllByRecursion P (xs ++ y ∷ ys) → P y
+in_middle P [] ys y all = all.0
+in_middle P (x ∷ xs) ys y all = in_middle P xs ys y all.1
+
+module _ {line general : List ℕ} {h : HeaderParts} {old : BorrowedTable} {count : ℕ} {paths : List ℕ} {kept : List PathEnd}
+    (k : KeepsSeen line general h old count paths kept) where
+  pub never_ends : (new : BorrowedTable) (n : ℕ) (entries : List Entry) → count < n → n ≡ length entries → entries ≡ h.files
+      → EntryStep old None new → ⊥
+  never_ends new n entries lt all same ends =
+      omega (arith, lt, all, ap length same, ap length k.joined, length-append k.seen old.entries, k.count_is, ap length ends.0)
+
+  -- the entry of the next file, which has a path
+  pub next_file : {new : BorrowedTable} {view : EntryView} → AreUsableTables line general h → GivesEntry old view new
+      → (entry : Entry) × Says h.file_format entry view × IsSome (file_path line general h entry)
+  next_file {new} {view} usable g =
+      let joined : h.files ≡ k.seen ++ g.entry ∷ new.entries = k.joined ∙ ap (λ (z : List Entry). k.seen ++ z) g.entries_are in (
+        g.entry,
+        subst (λ (ps : List Pair). Says ps g.entry view) k.pairs_are g.says,
+        in_middle (λ file. IsSome (file_path line general h file)) k.seen new.entries g.entry
+            (subst (AllByRecursion (λ file. IsSome (file_path line general h file))) joined (files_there line general h usable)),
+      )
+
+  pub keeps_more : {new : BorrowedTable} {view : EntryView} (more : List ℕ) (file : PathEnd) → GivesEntry old view new
+      → ((entry : Entry) → Says h.file_format entry view
+      → option_map (λ path. paths ++ path) (file_path line general h entry) ≡ Some more)
+      → ((pairs : List Pair) (entry : Entry) → Says pairs entry view → file.listed ≡ sum_of pairs entry) → file.end ≡ length more
+      → KeepsSeen line general h new (count + 1) more (kept ++ file ∷ [])
+  keeps_more {new} {view} more file g path sum end =
+      let says = subst (λ (ps : List Pair). Says ps g.entry view) k.pairs_are g.says in
+      record {
+        seen = k.seen ++ g.entry ∷ [];
+        joined = k.joined ∙ ap (λ (z : List Entry). k.seen ++ z) g.entries_are ∙ sym (append_assoc k.seen (g.entry ∷ []) new.entries);
+        count_is = omega (arith, length-append k.seen (g.entry ∷ []), k.count_is);
+        pairs_are = g.pairs_are ∙ k.pairs_are;
+        keeps = keeps_new line general h k.seen g.entry paths more kept file (file_path line general h g.entry) k.keeps refl
+            (path g.entry says) (sym (sum h.file_format g.entry says)) end;
+      }
+
+  pub all_kept : (n : ℕ) (entries : List Entry) → n ≤ count → n ≡ length entries → entries ≡ h.files
+      → KeepsFiles line general h h.files paths kept
+  all_kept n entries le all same =
+      let none : old.entries ≡ [] = nil_from_length old.entries
+      (omega (arith, le, all, ap length same, ap length k.joined, length-append k.seen old.entries, k.count_is)) in
+      let seen : k.seen ≡ h.files = sym (k.joined ∙ ap (λ (z : List Entry). k.seen ++ z) none ∙ append-nil k.seen) in
+      subst (λ (z : List Entry). KeepsFiles line general h z paths kept) seen k.keeps
 
 -- ---- all files
 
@@ -155,10 +210,6 @@ same_sum line general h [] [] n all = refl
 same_sum line general h (file ∷ files) (k ∷ kept) zero all = sym all.0.sum
 same_sum line general h (file ∷ files) (k ∷ kept) (suc n) all = same_sum line general h files kept n all.1
 same_sum line general h _ _ n all = absurd all
-
-pub all_kept : (line general : List ℕ) (h : HeaderParts) (n : ℕ) (paths : List ℕ) (kept : List PathEnd)
-    → KeepsFiles line general h (take n h.files) paths kept → length h.files ≤ n → KeepsFiles line general h h.files paths kept
-all_kept line general h n paths kept k le = grind (arith, common_steps, take_all)
 
 pub are_files : (line general : List ℕ) (h : HeaderParts) (paths : List ℕ) (kept : List PathEnd)
     → KeepsFiles line general h h.files paths kept → AreFilesOf line general h (kept_files paths 0 kept)

@@ -1,9 +1,8 @@
 -- Under usable tables each file has a path.
-use Rattle.std.proofs.Common.{◌≡◌, ℕ, zero, suc, ◌<◌, List, [], ◌∷◌, length, get_or, Option, Some, refl, sym, subst, arith}
+use Rattle.std.proofs.Common.{◌≡◌, ℕ, zero, suc, ◌<◌, List, [], ◌∷◌, length, get_or, Option, Some, refl, sym, subst, arith, Bool, true}
+use Rattle.std.proofs.Common.{false, cond, IsSome, option_map, option_and_then}
 use Rattle.std.proofs.lemmas.Option.{slice_get_within, get_or_from_slice_get}
-use Rattle.std.specs.Prelude.{Bool, true, false, cond, IsSome}
 use Rattle.std.specs.List.{AllByRecursion, slice_get}
-use Rattle.std.specs.Option.{option_map, option_and_then}
 use Rattle.lnt_header.specs.declared.header.Entry.{Entry}
 use Rattle.lnt_header.specs.declared.header.HeaderParts.{HeaderParts}
 use Rattle.lnt_header.proofs.FirstLaws.{all_at}
@@ -72,11 +71,3 @@ pub path_there : (line general : List ℕ) (h : HeaderParts) (number : ℕ) (fil
 path_there line general h number file usable e =
     let lt = within h.files number file e in
     path_at line general h number file usable lt (sym (get_or_from_slice_get h.files number file file (sym e)))
-
--- the same of a file that a loop over the files has come to
-pub path_in : (line general : List ℕ) (h : HeaderParts) (files : List Entry) (number : ℕ) (file : Entry) → AreUsableTables line general h
-    → files ≡ h.files → number < length files → file ≡ get_or files number file
-    → IsSome (file_path line general h file)
-path_in line general h files number file usable same lt is =
-    path_at line general h number file usable (subst (λ (z : List Entry). number < length z) same lt)
-    (subst (λ (z : List Entry). file ≡ get_or z number file) same is)

@@ -1,6 +1,5 @@
 -- What an entry says, by its components.
-use Rattle.std.proofs.Common.{◌≡◌, ◌↔◌, ℕ, List, Option, Some, None, sym, ap, ◌∙◌, arith}
-use Rattle.std.specs.Prelude.{Bool, false, IsTrue, IsSome}
+use Rattle.std.proofs.Common.{◌≡◌, ◌↔◌, ℕ, List, Option, Some, None, sym, ap, ◌∙◌, arith, Bool, false, IsTrue, IsSome}
 use Rattle.std.specs.Option.{option_map, option_and_then, option_map_or}
 use Rattle.lnt_wire.specs.Borrowed.{value_of}
 use Rattle.lnt_wire.specs.Texts.{text_of}
@@ -9,8 +8,7 @@ use Rattle.lnt_header.specs.declared.header.Entry.{Entry}
 use Rattle.lnt_header.specs.declared.header.Pair.{Pair}
 use Rattle.lnt_files.specs.Contents.{path_text, number_of, directory_number, bytes_of_sum, sum_of}
 use Rattle.lnt_files.specs.Tables.{HasPath}
-use Rattle.lnt_files.specs.Walks.{Says}
-use Rattle.lnt_files.specs.declared.walk.EntryView.{EntryView}
+use Rattle.lnt_files.specs.Walks.{Says, EntryView}
 use Rattle.std.proofs.lemmas.Grind.{common_steps}
 
 -- the path's text

@@ -12,8 +12,7 @@ use Rattle.lnt_header.specs.declared.header.Entry.{Entry}
 use Rattle.lnt_header.specs.declared.header.Pair.{Pair}
 use Rattle.lnt_files.specs.declared.components.Places.{Places}
 use Rattle.lnt_files.specs.declared.components.Usual.{Usual}
-use Rattle.lnt_files.specs.declared.walk.EntryView.{EntryView}
-use Rattle.lnt_files.specs.Walks.{IsUsual, ArePlaces, GivesEntry, left_of, IsWalk}
+use Rattle.lnt_files.specs.Walks.{IsUsual, ArePlaces, GivesEntry, left_of, IsWalk, EntryView}
 use Rattle.lnt_files.specs.Stepping.{ReadsEntry}
 use Rattle.std.proofs.lemmas.Grind.{common_steps}
 

@@ -1,7 +1,6 @@
 -- The entries of a table by their content types (DWARF 5, sections 6.2.4.1 and 7.22). In an entry the first component of a
 -- content type counts.
-use Rattle.std.specs.Prelude.{ℕ, ◌==◌, List, Option, Some, None}
-use Rattle.std.specs.List.{position, slice_get}
+use Rattle.std.specs.Prelude.{ℕ, ◌==◌, List, Option, Some, None, position, slice_get}
 use Rattle.std.specs.Option.{option_map, option_and_then, option_map_or}
 use Rattle.lnt_wire.specs.declared.form.Form.{Form}
 use Rattle.lnt_wire.specs.declared.form.FormValue.{FormValue}

@@ -1,7 +1,5 @@
 -- What is kept of the files of a header: the full path of each, and its sum if one is listed.
-use Rattle.std.specs.Prelude.{◌≡◌, ℕ, List, length, Option}
-use Rattle.std.specs.List.{slice_get}
-use Rattle.std.specs.Option.{option_map, option_and_then}
+use Rattle.std.specs.Prelude.{◌≡◌, ℕ, List, length, Option, slice_get, option_map, option_and_then}
 use Rattle.lnt_header.specs.declared.header.HeaderParts.{HeaderParts}
 use Rattle.lnt_files.specs.Paths.{path_bytes, listed_sum}
 

@@ -1,6 +1,5 @@
 -- How the files of a header are kept: the paths of all in one list of bytes, one after the other, and the end of each.
-use Rattle.std.specs.Prelude.{◌≡◌, ℕ, ◌≤◌, List, [], ◌∷◌}
-use Rattle.std.specs.List.{slice_range}
+use Rattle.std.specs.Prelude.{◌≡◌, ℕ, ◌≤◌, List, [], ◌∷◌, slice_range}
 use Rattle.lnt_files.specs.declared.files.PathEnd.{PathEnd}
 use Rattle.lnt_files.specs.Files.{KeptFile}
 

@@ -1,8 +1,7 @@
 -- The full paths of files (DWARF 5, section 6.2.4.1). Directory 0 is the compilation directory.
 --     line, general   the bytes of .debug_line_str and of .debug_str
-use Rattle.std.specs.Prelude.{ℕ, ◌-◌, ◌==◌, ◌||◌, Bool, false, cond, List, [], ◌∷◌, ◌++◌, length, Option, Some, None}
-use Rattle.std.specs.List.{slice_get}
-use Rattle.std.specs.Option.{option_map, option_and_then}
+use Rattle.std.specs.Prelude.{ℕ, ◌-◌, ◌==◌, ◌||◌, Bool, false, cond, List, [], ◌∷◌, ◌++◌, length, Option, Some, None, slice_get, option_map}
+use Rattle.std.specs.Prelude.{option_and_then}
 use Rattle.lnt_header.specs.declared.header.Entry.{Entry}
 use Rattle.lnt_header.specs.declared.header.HeaderParts.{HeaderParts}
 use Rattle.lnt_files.specs.Contents.{path_text, directory_number, sum_of}

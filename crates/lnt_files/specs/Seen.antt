@@ -8,10 +8,9 @@ use Rattle.lnt_header.specs.declared.header.Pair.{Pair}
 use Rattle.lnt_header.specs.declared.header.EntryTable.TheVariants.{Files}
 use Rattle.lnt_files.specs.declared.tables.EntryTableFault.{EntryTableFault}
 use Rattle.lnt_files.specs.declared.tables.EntryTableFault.TheVariants.{StringOutside, DirectoryNumber}
-use Rattle.lnt_files.specs.declared.walk.EntryView.{EntryView}
 use Rattle.lnt_files.specs.Contents.{directory_number}
 use Rattle.lnt_files.specs.Tables.{HasPath}
-use Rattle.lnt_files.specs.Walks.{Says}
+use Rattle.lnt_files.specs.Walks.{Says, EntryView}
 
 -- the first missing index, once it is known whether this one exists
 abbrev pub first_missing : Option ℕ → ℕ → Bool → Option ℕ

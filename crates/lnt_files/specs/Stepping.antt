@@ -1,11 +1,9 @@
 -- What the bodies of this crate say of one step. No public contract speaks of it.
-use Rattle.std.specs.Prelude.{◌≡◌, ℕ, zero, suc, List, [], ◌∷◌, length, Option, Some}
+use Rattle.std.specs.Prelude.{◌≡◌, ℕ, zero, suc, List, [], ◌∷◌, length, Option, Some, option_map, option_and_then}
 use Rattle.std.specs.List.{AllZip, slice_get}
-use Rattle.std.specs.Option.{option_map, option_and_then}
 use Rattle.lnt_wire.specs.At.{At}
 use Rattle.lnt_wire.specs.Borrowed.{value_of}
 use Rattle.lnt_wire.specs.Reading.{Reads}
-use Rattle.lnt_wire.specs.declared.form.Form.{Form}
 use Rattle.lnt_wire.specs.declared.form.FormValue.{FormValue}
 use Rattle.lnt_wire.specs.declared.format.Format.{Format}
 use Rattle.lnt_wire.specs.declared.view.ValueView.{ValueView}
@@ -15,12 +13,11 @@ use Rattle.lnt_header.specs.declared.header.HeaderParts.{HeaderParts}
 use Rattle.lnt_header.specs.declared.header.Pair.{Pair}
 use Rattle.lnt_files.specs.declared.components.Places.{Places}
 use Rattle.lnt_files.specs.declared.files.PathEnd.{PathEnd}
-use Rattle.lnt_files.specs.declared.walk.EntryView.{EntryView}
 use Rattle.lnt_files.specs.Contents.{sum_of}
 use Rattle.lnt_files.specs.Files.{KeptFile}
 use Rattle.lnt_files.specs.Kept.{EndAt, kept_files}
 use Rattle.lnt_files.specs.Paths.{file_path}
-use Rattle.lnt_files.specs.Walks.{Says}
+use Rattle.lnt_files.specs.Walks.{Says, EntryView}
 
 -- ---- the components of an entry
 
@@ -29,10 +26,6 @@ pub record ReadsEntry (format : Format) (pairs : List Pair) (view : EntryView) (
   pub entry : Entry
   pub says : Says pairs entry view
   pub read : Reads (EntryBytes format old.order pairs) entry old new
-
--- a pair of this content type and form
-abbrev pub IsPair : ℕ → Form → Pair → Type 0
-IsPair content form pair = (pair.content ≡ content) × (pair.form ≡ form)
 
 -- the component is the value at the place, if that was read
 abbrev pub IsComponent : Option ℕ → List FormValue → Option ValueView → Type 0

@@ -1,17 +1,16 @@
 -- Entries that are read in place, one after another. No public contract speaks of it.
-use Rattle.std.specs.Prelude.{◌≡◌, ℕ, List, [], ◌∷◌, map, Option, Some, None}
-use Rattle.std.specs.Option.{option_map}
+use Rattle.std.specs.Prelude.{◌≡◌, ℕ, List, [], ◌∷◌, Option, Some, None, option_map}
 use Rattle.lnt_wire.specs.At.{At}
 use Rattle.lnt_wire.specs.Borrowed.{value_of}
+use Rattle.lnt_wire.specs.declared.form.Form.{Form}
 use Rattle.lnt_wire.specs.declared.form.Form.TheVariants.{LineStrp, Udata, Data16}
 use Rattle.lnt_header_bytes.specs.Borrowed.{BorrowedTable, borrowed_table, AreEntryBytes}
-use Rattle.lnt_header_bytes.specs.Layouts.{forms_of}
 use Rattle.lnt_header.specs.declared.header.Entry.{Entry}
 use Rattle.lnt_header.specs.declared.header.Pair.{Pair}
 use Rattle.lnt_files.specs.declared.components.Places.{Places}
 use Rattle.lnt_files.specs.declared.components.Usual.{Usual}
 use Rattle.lnt_files.specs.declared.components.Usual.TheVariants.{Path, IndexedPath, SummedPath, Other}
-use Rattle.lnt_files.specs.declared.walk.EntryView.{EntryView}
+pub use Rattle.lnt_files.specs.declared.walk.EntryView.{EntryView}
 use Rattle.lnt_files.specs.Contents.{content_path, content_directory_index, content_md5, place_of, component}
 
 -- ---- the components of an entry
@@ -36,16 +35,25 @@ EntryStep old (Some view) new = GivesEntry old view new
 
 -- ---- how it is read
 
--- the content types of the pairs
-abbrev pub contents_of : List Pair → List ℕ
-contents_of pairs = map (λ pair. pair.content) pairs
+-- the pair of this content type and form
+abbrev pub pair_of : ℕ → Form → Pair
+pair_of content form = record { content = content; form = form }
 
--- The pairs have the content types and the forms of this one of the usual formats; another format isn't restricted.
+-- the pairs of the usual formats: a path, the number of a directory, and a sum
+abbrev pub path_pair : Pair
+path_pair = pair_of content_path LineStrp
+
+abbrev pub directory_pair : Pair
+directory_pair = pair_of content_directory_index Udata
+
+abbrev pub sum_pair : Pair
+sum_pair = pair_of content_md5 Data16
+
+-- The pairs are those of this one of the usual formats; another format isn't restricted.
 abbrev pub IsUsual : Usual → List Pair → Type 0
-IsUsual Path pairs = (contents_of pairs ≡ content_path ∷ []) × (forms_of pairs ≡ LineStrp ∷ [])
-IsUsual IndexedPath pairs = (contents_of pairs ≡ content_path ∷ content_directory_index ∷ []) × (forms_of pairs ≡ LineStrp ∷ Udata ∷ [])
-IsUsual SummedPath pairs =
-    (contents_of pairs ≡ content_path ∷ content_directory_index ∷ content_md5 ∷ []) × (forms_of pairs ≡ LineStrp ∷ Udata ∷ Data16 ∷ [])
+IsUsual Path pairs = pairs ≡ path_pair ∷ []
+IsUsual IndexedPath pairs = pairs ≡ path_pair ∷ directory_pair ∷ []
+IsUsual SummedPath pairs = pairs ≡ path_pair ∷ directory_pair ∷ sum_pair ∷ []
 IsUsual Other pairs = Unit {0}
 
 -- the first component of each of the three content types stands at these places

@@ -4,10 +4,8 @@ ghost use Rattle.lnt_header_bytes.specs.TableBytes.{EntryBytes};
 ghost use Rattle.lnt_wire.specs.Borrowed.{value_of};
 ghost use Rattle.lnt_wire.specs.Bytes.{NoneSpelled};
 ghost use Rattle.lnt_wire.specs.declared.form.FormValue.{FormValue};
-ghost use Rattle.lnt_wire.specs.declared.form.Form.TheVariants.{LineStrp, Udata, Data16};
-ghost use Rattle.lnt_files.specs.Contents.{content_path, content_directory_index, content_md5};
-ghost use Rattle.lnt_files.specs.Walks.{IsUsual, ArePlaces};
-ghost use Rattle.lnt_files.specs.Stepping.{IsPair, IsComponent, AreComponents, ReadsEntry};
+ghost use Rattle.lnt_files.specs.Walks.{IsUsual, ArePlaces, pair_of};
+ghost use Rattle.lnt_files.specs.Stepping.{IsComponent, AreComponents, ReadsEntry};
 
 use crate::contents::place_of;
 use crate::walk::EntryView;
@@ -53,45 +51,23 @@ pub(crate) fn usual_of(pairs: &[Pair]) -> Usual
     ensures { IsUsual result pairs.now }
 {
     match pairs {
-        [path] => {
-            if is_path(path) {
-                return Usual::Path;
-            }
-        }
-        [path, directory] => {
-            if is_path(path) && is_directory(directory) {
-                return Usual::IndexedPath;
-            }
-        }
-        [path, directory, sum] => {
-            if is_path(path) && is_directory(directory) && is_sum(sum) {
-                return Usual::SummedPath;
-            }
-        }
-        _ => {}
+        [path] if is_pair(path, PATH, Form::LineStrp) => Usual::Path,
+        [path, directory]
+            if is_pair(path, PATH, Form::LineStrp)
+                && is_pair(directory, DIRECTORY_INDEX, Form::Udata) => { Usual::IndexedPath }
+        [path, directory, sum]
+            if is_pair(path, PATH, Form::LineStrp)
+                && is_pair(directory, DIRECTORY_INDEX, Form::Udata)
+                && is_pair(sum, MD5, Form::Data16) => { Usual::SummedPath }
+        _ => Usual::Other,
     }
-    Usual::Other
 }
 
-// Whether the pair is that of a path in `.debug_line_str`.
-fn is_path(pair: &Pair) -> bool
-    ensures { IsTrue result ↔ IsPair content_path LineStrp pair.now }
+// Whether the pair has this content type and form.
+fn is_pair(pair: &Pair, content: u64, form: Form) -> bool
+    ensures { IsTrue result ↔ (pair.now ≡ pair_of content form) }
 {
-    pair.content == PATH && matches!(pair.form, Form::LineStrp)
-}
-
-// Whether the pair is that of a directory number as `udata`.
-fn is_directory(pair: &Pair) -> bool
-    ensures { IsTrue result ↔ IsPair content_directory_index Udata pair.now }
-{
-    pair.content == DIRECTORY_INDEX && matches!(pair.form, Form::Udata)
-}
-
-// Whether the pair is that of an MD5 sum.
-fn is_sum(pair: &Pair) -> bool
-    ensures { IsTrue result ↔ IsPair content_md5 Data16 pair.now }
-{
-    pair.content == MD5 && matches!(pair.form, Form::Data16)
+    pair.content == content && pair.form == form
 }
 
 /// The components of the next entry.

@@ -1,15 +1,13 @@
 //! The files of a header, kept without its bytes.
-ghost use Rattle.std.specs.Prelude.{◌≡◌, ◌+◌, ◌<◌, [], IfOk, length};
-ghost use Rattle.std.specs.List.{slice_get};
-ghost use Rattle.std.specs.Option.{option_map, option_and_then, option_copied};
+ghost use Rattle.std.specs.Prelude.{◌≡◌, ◌+◌, ◌<◌, [], IfOk, length, slice_get, option_map, option_and_then, option_copied};
 ghost use Rattle.lnt_files.specs.Files.{AreFilesOf, kept_path, kept_sum};
 ghost use Rattle.lnt_files.specs.Kept.{EndAt, kept_files};
 ghost use Rattle.lnt_files.specs.Stepping.{start_of, KeepsFiles};
 ghost use Rattle.lnt_files.specs.Tables.{AreUsableTables};
 
-use crate::contents::sum_of;
 use crate::paths::add_path;
-use lnt_header::Header;
+use crate::walk::Entries;
+use lnt_header_bytes::HeaderView;
 use lnt_wire::Strings;
 use std::alloc::{AllocError, Global};
 use std::marker::Model;
@@ -49,9 +47,13 @@ impl Model for Files {
 impl Files {
     /// The files of the header. The caller ensures that its tables are usable, which `tables_fault` checks. Fails only if
     /// memory runs out. All paths are in one block of bytes.
-    pub fn of(alloc: Global, header: &Header, strings: &Strings<'_>) -> Result<Files, AllocError>
-        requires { AreUsableTables strings.now.line.now strings.now.general.now header.now }
-        ensures { IfOk result (λ files. AreFilesOf strings.now.line.now strings.now.general.now header.now files) }
+    pub fn of<'s>(
+        alloc: Global,
+        header: &'s HeaderView<'s>,
+        strings: Strings<'s>,
+    ) -> Result<Files, AllocError>
+        requires { AreUsableTables strings.line.now strings.general.now header.now }
+        ensures { IfOk result (λ files. AreFilesOf strings.entry.line.now strings.entry.general.now header.entry.now files) }
     {
         let mut paths = Vec::with_capacity(alloc, ROOM)?;
         match ends_of(alloc, &mut paths, header, strings) {
@@ -92,24 +94,30 @@ impl Files {
 }
 
 // Appends the full paths of the header's files to `paths`, which is empty at first, and returns their ends with the sums.
-#[tactic(auto, using(crate::proofs::KeptLemmas::keeps_none))]
-fn ends_of(
+#[tactic(auto, using(crate::proofs::KeptLemmas::keeps_begun, crate::proofs::KeptLemmas::never_ends, crate::proofs::KeptLemmas::all_kept))]
+fn ends_of<'s>(
     alloc: Global,
     paths: &mut Vec<u8>,
-    header: &Header,
-    strings: &Strings<'_>,
+    header: &'s HeaderView<'s>,
+    strings: Strings<'s>,
 ) -> Result<Vec<PathEnd>, AllocError>
-    requires usable { AreUsableTables strings.now.line.now strings.now.general.now header.now }
+    requires usable { AreUsableTables strings.line.now strings.general.now header.now }
     requires empty { paths.old.items ≡ [] }
-    ensures { IfOk result (λ kept. KeepsFiles strings.now.line.now strings.now.general.now header.now header.now.files paths.new.items
-        kept.items) }
+    ensures { IfOk result (λ kept. KeepsFiles strings.entry.line.now strings.entry.general.now header.entry.now header.entry.now.files
+        paths.new.items kept.items) }
 {
-    let mut kept = Vec::with_capacity(alloc, header.files().len())?;
-    for file in header.files() {
-        add_path(paths, header, strings, file)?;
+    let files = header.files();
+    let count = files.count();
+    let mut entries = Entries::of(files);
+    let mut kept = Vec::with_capacity(alloc, count as usize)?;
+    for _ in 0..count {
+        let Some(file) = entries.next_entry() else {
+            unreachable!()
+        };
+        add_path(paths, header, strings, &file)?;
         kept.push(PathEnd {
             end: paths.len(),
-            listed: sum_of(header.file_format(), file),
+            listed: file.listed(),
         })?;
     }
     Ok(kept)

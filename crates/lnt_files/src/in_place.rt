@@ -5,4 +5,5 @@ mod judged;
 mod paths;
 
 pub use judged::tables_fault;
+pub(crate) use paths::entry_at;
 pub use paths::{file_count, listed, path_of};

@@ -1,32 +1,35 @@
 //! The paths of the files of a header (DWARF 5, section 6.2.4.1).
-ghost use Rattle.std.specs.Prelude.{◌≡◌, ◌≤◌, ◌++◌, length, take, drop, OnOk, IsSome};
-ghost use Rattle.std.specs.Option.{option_map};
+ghost use Rattle.std.specs.Prelude.{◌≡◌, ◌≤◌, ◌++◌, length, take, drop, OnOk, IsSome, Some, option_map};
+ghost use Rattle.lnt_header.specs.declared.header.Entry.{Entry};
 ghost use Rattle.lnt_files.specs.Paths.{begins_with_slash, ends_with_slash, join, directory_text, directory_path, file_path};
 ghost use Rattle.lnt_files.specs.Pieces.{whole_path};
+ghost use Rattle.lnt_files.specs.Walks.{Says};
 
-use crate::contents::{directory_number, path_text};
-use lnt_header::{Entry, Header};
+use crate::in_place::entry_at;
+use crate::walk::EntryView;
+use lnt_header_bytes::HeaderView;
 use lnt_wire::Strings;
 use std::alloc::AllocError;
 
-/// The pieces of a path: directory 0, the file's directory and the file's name. The first two are empty if the path doesn't
-/// need them.
+// The pieces of a path: directory 0, the file's directory and the file's name. The first two are empty if the path doesn't
+// need them.
 #[derive(Clone, Copy)]
-pub(crate) struct Pieces<'s> {
-    pub(crate) first: &'s [u8],
-    pub(crate) directory: &'s [u8],
-    pub(crate) name: &'s [u8],
+struct Pieces<'s> {
+    first: &'s [u8],
+    directory: &'s [u8],
+    name: &'s [u8],
 }
 
-// The pieces of the file's path. `None` if a text is missing.
+// The pieces of the path of the file with these components. `None` if a text is missing.
 fn pieces_of<'s>(
-    header: &'s Header,
-    strings: &'s Strings<'_>,
-    file: &'s Entry,
+    header: &'s HeaderView<'s>,
+    strings: Strings<'s>,
+    file: &EntryView<'s>,
 ) -> Option<Pieces<'s>>
-    ensures { option_map whole_path result ≡ file_path strings.now.line.now strings.now.general.now header.now file.now }
+    ensures { (entry : Entry) → Says header.entry.now.file_format entry file.now
+        → option_map whole_path result ≡ file_path strings.entry.line.now strings.entry.general.now header.entry.now entry }
 {
-    let name = path_text(strings, header.file_format(), file)?;
+    let name = file.path_text(strings)?;
     if begins_with_slash(name) {
         return Some(Pieces {
             first: &[],
@@ -34,8 +37,7 @@ fn pieces_of<'s>(
             name,
         });
     }
-    let number = directory_number(header.file_format(), file);
-    let (first, directory) = directory_pieces(header, strings, number)?;
+    let (first, directory) = directory_pieces(header, strings, file.directory_number())?;
     Some(Pieces {
         first,
         directory,
@@ -45,12 +47,12 @@ fn pieces_of<'s>(
 
 // The two pieces of a directory's path.
 fn directory_pieces<'s>(
-    header: &'s Header,
-    strings: &'s Strings<'_>,
+    header: &'s HeaderView<'s>,
+    strings: Strings<'s>,
     number: u64,
 ) -> Option<(&'s [u8], &'s [u8])>
     ensures { option_map (λ pieces. join pieces.0.now pieces.1.now) result
-        ≡ directory_path strings.now.line.now strings.now.general.now header.now number }
+        ≡ directory_path strings.entry.line.now strings.entry.general.now header.entry.now number }
 {
     let directory = directory_text(header, strings, number)?;
     if number == 0 || begins_with_slash(directory) {
@@ -60,15 +62,21 @@ fn directory_pieces<'s>(
     Some((first, directory))
 }
 
-fn directory_text<'s>(header: &'s Header, strings: &'s Strings<'_>, number: u64) -> Option<&'s [u8]>
-    ensures { option_map (λ text. text.now) result ≡ directory_text strings.now.line.now strings.now.general.now header.now number }
+// The text of the directory with this number.
+#[tactic(auto, using(crate::proofs::AtLemmas::directory_text_is, crate::proofs::AtLemmas::no_directory_text))]
+fn directory_text<'s>(
+    header: &'s HeaderView<'s>,
+    strings: Strings<'s>,
+    number: u64,
+) -> Option<&'s [u8]>
+    ensures { option_map (λ text. text.now) result ≡ directory_text strings.entry.line.now strings.entry.general.now header.entry.now
+        number }
 {
-    let directory = header.directories().get(number as usize)?;
-    path_text(strings, header.directory_format(), directory)
+    entry_at(header.directories(), number)?.path_text(strings)
 }
 
-/// Whether the path begins with `/`.
-pub(crate) fn begins_with_slash(path: &[u8]) -> bool
+// Whether the path begins with `/`.
+fn begins_with_slash(path: &[u8]) -> bool
     ensures { result ≡ begins_with_slash path.now }
 {
     matches!(path.first(), Some(b'/'))
@@ -80,16 +88,18 @@ fn ends_with_slash(path: &[u8]) -> bool
     matches!(path.last(), Some(b'/'))
 }
 
-/// Appends the path of the file, whose texts exist.
-pub(crate) fn add_path(
+/// Appends the path of the file with these components, whose texts exist.
+pub(crate) fn add_path<'s>(
     out: &mut Vec<u8>,
-    header: &Header,
-    strings: &Strings<'_>,
-    file: &Entry,
+    header: &'s HeaderView<'s>,
+    strings: Strings<'s>,
+    file: &EntryView<'s>,
 ) -> Result<(), AllocError>
-    requires { IsSome (file_path strings.now.line.now strings.now.general.now header.now file.now) }
-    ensures { OnOk result (option_map (λ path. out.old.items ++ path)
-        (file_path strings.now.line.now strings.now.general.now header.now file.now) ≡ Some out.new.items) }
+    requires { (entry : Entry) × Says header.now.file_format entry file.now
+        × IsSome (file_path strings.line.now strings.general.now header.now entry) }
+    ensures { OnOk result ((entry : Entry) → Says header.entry.now.file_format entry file.now
+        → option_map (λ path. out.old.items ++ path)
+        (file_path strings.entry.line.now strings.entry.general.now header.entry.now entry) ≡ Some out.new.items) }
 {
     let Some(pieces) = pieces_of(header, strings, file) else {
         unreachable!()
@@ -97,8 +107,8 @@ pub(crate) fn add_path(
     add_pieces(out, &pieces)
 }
 
-/// Appends the path of these pieces.
-pub(crate) fn add_pieces(out: &mut Vec<u8>, pieces: &Pieces<'_>) -> Result<(), AllocError>
+// Appends the path of these pieces.
+fn add_pieces(out: &mut Vec<u8>, pieces: &Pieces<'_>) -> Result<(), AllocError>
     ensures { OnOk result (out.new.items ≡ out.old.items ++ whole_path pieces.now) }
 {
     let start = out.len();

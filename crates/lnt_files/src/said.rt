@@ -1,6 +1,5 @@
 //! The components of an entry that is read in place.
-ghost use Rattle.std.specs.Prelude.{◌≡◌, ◌↔◌, List, IsTrue};
-ghost use Rattle.std.specs.Option.{option_map};
+ghost use Rattle.std.specs.Prelude.{◌≡◌, ◌↔◌, List, IsTrue, option_map};
 ghost use Rattle.lnt_header.specs.declared.header.Entry.{Entry};
 ghost use Rattle.lnt_header.specs.declared.header.Pair.{Pair};
 ghost use Rattle.lnt_wire.specs.Borrowed.{value_of};
@@ -20,10 +19,7 @@ impl<'a> EntryView<'a> {
         ensures { (pairs : List Pair) (entry : Entry) → Says pairs entry self.now
             → IsTrue result ↔ HasPath ends.now.line ends.now.general pairs entry }
     {
-        match self.path {
-            Some(value) => ends.has_text(value),
-            None => false,
-        }
+        matches!(self.path, Some(value) if ends.has_text(value))
     }
 
     /// The text of the entry's path. `None` if there is none.
@@ -32,10 +28,7 @@ impl<'a> EntryView<'a> {
         ensures { (pairs : List Pair) (entry : Entry) → Says pairs entry self.now
             → option_map (λ text. text.now) result ≡ path_text strings.entry.line.now strings.entry.general.now pairs entry }
     {
-        match self.path {
-            Some(value) => strings.view_text(value),
-            None => None,
-        }
+        strings.view_text(self.path?)
     }
 
     /// The number of the file's directory, or 0 if the entry has none.
@@ -55,10 +48,7 @@ impl<'a> EntryView<'a> {
     pub(crate) fn listed(&self) -> Option<[u8; 16]>
         ensures { (pairs : List Pair) (entry : Entry) → Says pairs entry self.now → result ≡ sum_of pairs entry }
     {
-        match self.sum {
-            Some(value) => bytes_of_sum(value),
-            None => None,
-        }
+        bytes_of_sum(self.sum?)
     }
 }
 

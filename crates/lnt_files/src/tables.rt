@@ -66,47 +66,23 @@ pub(crate) fn is_usable_format(pairs: &[Pair]) -> bool
 fn has_path_form(pairs: &[Pair]) -> bool
     ensures { IsTrue result ↔ IsSomeAnd (form_at content_path pairs.now) IsPathForm }
 {
-    match form_at(PATH, pairs) {
-        Some(form) => is_path_form(form),
-        None => false,
-    }
+    matches!(
+        form_at(PATH, pairs),
+        Some(Form::Text | Form::LineStrp | Form::Strp)
+    )
 }
 
 fn has_number_form(pairs: &[Pair]) -> bool
     ensures { IsTrue result ↔ IfSome (form_at content_directory_index pairs.now) IsNumberForm }
 {
-    match form_at(DIRECTORY_INDEX, pairs) {
-        Some(form) => is_number_form(form),
-        None => true,
-    }
+    matches!(
+        form_at(DIRECTORY_INDEX, pairs),
+        None | Some(Form::Udata | Form::Data1 | Form::Data2 | Form::Data4 | Form::Data8)
+    )
 }
 
 fn has_sum_form(pairs: &[Pair]) -> bool
     ensures { IsTrue result ↔ IfSome (form_at content_md5 pairs.now) IsSumForm }
 {
-    match form_at(MD5, pairs) {
-        Some(form) => is_sum_form(form),
-        None => true,
-    }
-}
-
-fn is_path_form(form: Form) -> bool
-    ensures { IsTrue result ↔ IsPathForm form }
-{
-    matches!(form, Form::Text | Form::LineStrp | Form::Strp)
-}
-
-fn is_number_form(form: Form) -> bool
-    ensures { IsTrue result ↔ IsNumberForm form }
-{
-    matches!(
-        form,
-        Form::Udata | Form::Data1 | Form::Data2 | Form::Data4 | Form::Data8
-    )
-}
-
-fn is_sum_form(form: Form) -> bool
-    ensures { IsTrue result ↔ IsSumForm form }
-{
-    matches!(form, Form::Data16)
+    matches!(form_at(MD5, pairs), None | Some(Form::Data16))
 }

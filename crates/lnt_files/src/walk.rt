@@ -60,7 +60,7 @@ impl<'t> Entries<'t> {
     }
 
     /// A walk before the entry with this number or an earlier one, and the number of the entry before which it is. If the
-    /// table has marks, fewer than 256 bytes are between the two.
+    /// table has marks, fewer than 64 bytes are between the two.
     #[tactic(auto, using(crate::proofs::WalkLemmas::walk_before, crate::proofs::WalkLemmas::before_is))]
     pub(crate) fn before(table: &'t EntryTableView<'t>, number: u64) -> (u64, Entries<'t>)
         requires { number < length table.now.entries }

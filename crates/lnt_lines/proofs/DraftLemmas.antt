@@ -1,6 +1,5 @@
 -- Units added to a draft, one at a time.
-use Rattle.std.proofs.Common.{◌≡◌, ℕ, ◌+◌, ◌<◌, ◌≤◌, List, [], ◌∷◌, ◌++◌, map, length, sym, ap, subst, ◌∙◌, arith}
-use Rattle.std.specs.Prelude.{Option}
+use Rattle.std.proofs.Common.{◌≡◌, ℕ, ◌+◌, ◌<◌, ◌≤◌, List, [], ◌∷◌, ◌++◌, map, length, sym, ap, subst, ◌∙◌, arith, Option, IsPermutation}
 use Rattle.std.specs.List.{All, AllByRecursion, AllZip}
 use Rattle.std.proofs.lemmas.List.{map-append}
 use Rattle.std.proofs.lemmas.List.Elements.{All-cons, All-nil, All-weaker}
@@ -16,7 +15,6 @@ use Rattle.lnt_machine.proofs.SequenceLaws.{all-append}
 use Rattle.lnt_machine.specs.Walking.{KeptProgram, KeepsProgram}
 use Rattle.lnt_files.specs.Tables.{AreUsableTables}
 use Rattle.lnt_sequences.proofs.UnitLaws.{distinct_sequences, offsets_differ, ordered-append}
-use Rattle.std.specs.List.Sorted.{IsPermutation}
 use Rattle.lnt_header.specs.Joins.{AreRising}
 use Rattle.lnt_sequences.specs.declared.extent.Extent.{Extent}
 use Rattle.lnt_sequences.specs.Extents.{AreSettled, extents_of}

@@ -1,8 +1,7 @@
 -- A good section has no flaw.
-use Rattle.std.proofs.Common.{◌≡◌, ◌≢◌, ℕ, ◌+◌, List, [], ◌∷◌, ◌++◌, length, refl, sym, ap, subst, ◌∙◌, append_assoc, arith}
-use Rattle.std.specs.Prelude.{Option}
+use Rattle.std.proofs.Common.{◌≡◌, ◌≢◌, ℕ, ◌+◌, List, [], ◌∷◌, ◌++◌, length, refl, sym, ap, subst, ◌∙◌, append_assoc, arith, Option}
+use Rattle.std.proofs.Common.{length-append}
 use Rattle.std.specs.List.{AllByRecursion}
-use Rattle.std.proofs.lemmas.List.{length-append}
 use Rattle.lnt_wire.specs.declared.format.Order.{Order}
 use Rattle.lnt_wire.proofs.LengthLaws.{same_rest}
 use Rattle.lnt_header.specs.declared.header.HeaderParts.{HeaderParts}
@@ -20,12 +19,10 @@ use Rattle.lnt_files.specs.Tables.{AreUsableTables, IsTablesFault}
 use Rattle.lnt_sequences.specs.Laws.{FallIsNotOrdered, MissingFileIsNotThere, OverlapIsNotApart}
 use Rattle.lnt_sequences.specs.Rules.{AreApart}
 use Rattle.lnt_sequences.specs.Sequences.{kept_sequences, placed_in}
-use Rattle.lnt_lines.specs.declared.no.No.{No}
 use Rattle.lnt_lines.specs.declared.no.No.TheVariants as no
-use Rattle.lnt_lines.specs.declared.options.Options.{Options}
-use Rattle.lnt_lines.specs.Good.{IsGood, IsSoundUnit, selected}
+use Rattle.lnt_lines.specs.Good.{IsGood, IsSoundUnit, selected, Options}
 use Rattle.lnt_lines.specs.Laws.{GoodHasNoFlaw}
-use Rattle.lnt_lines.specs.Nos.{IsFirstFlaw, IsFlaw}
+use Rattle.lnt_lines.specs.Nos.{IsFirstFlaw, IsFlaw, No}
 
 -- ---- a sound unit has no flaw
 

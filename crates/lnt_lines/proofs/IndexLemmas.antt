@@ -1,9 +1,7 @@
 -- The sequence that holds a position, found again in the program of its unit.
 use Rattle.std.proofs.Common.{◌≡◌, ℕ, zero, suc, ◌==◌, ◌<◌, ◌≤◌, Bool, true, false, List, [], ◌∷◌, Option, Some, None, refl, sym, ap, ◌∙◌}
-use Rattle.std.proofs.Common.{subst, arith, length, get_or}
-use Rattle.std.specs.Prelude.{cond, IfNone, IfSome, IsSomeAnd, map}
+use Rattle.std.proofs.Common.{subst, arith, length, get_or, cond, IfNone, IfSome, IsSomeAnd, map, option_map}
 use Rattle.std.specs.List.{AllByRecursion, AllZip, Contains, position}
-use Rattle.std.specs.Option.{option_map}
 use Rattle.std.proofs.lemmas.List.{length-map}
 use Rattle.std.proofs.lemmas.Slice.Zip.{AllZip-long}
 use Rattle.std.proofs.lemmas.Option.{same_Some}

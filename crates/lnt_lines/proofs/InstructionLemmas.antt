@@ -1,7 +1,6 @@
 -- Where no instruction has more than one operation, each row stands at operation index 0, and so does each border of a span.
-use Rattle.std.proofs.Common.{◌≡◌, ◌∙◌, ℕ, ◌%◌, List, [], ◌∷◌, ap, sym}
+use Rattle.std.proofs.Common.{◌≡◌, ◌∙◌, ℕ, ◌%◌, List, [], ◌∷◌, ap, sym, IsPermutation}
 use Rattle.std.specs.List.{All, AllByRecursion, AllZip, cons_option}
-use Rattle.std.specs.List.Sorted.{IsPermutation}
 use Rattle.std.proofs.lemmas.List.Elements.{recursion_from_All}
 use Rattle.std.proofs.lemmas.List.Sorted.{All-permutation}
 use native.Mathlib.Nat.{mod-one}

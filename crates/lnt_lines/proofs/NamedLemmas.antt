@@ -1,7 +1,6 @@
 -- What an index answers names a file that has a path.
-use Rattle.std.proofs.Common.{◌≡◌, ℕ, ◌<◌, ◌==◌, List, [], length, get_or, Option, None, Some, sym, ap, ◌∙◌, subst, arith}
-use Rattle.std.specs.Prelude.{IfSome, IsSome}
-use Rattle.std.specs.List.{position, slice_get}
+use Rattle.std.proofs.Common.{◌≡◌, ℕ, ◌<◌, ◌==◌, List, [], length, get_or, Option, None, Some, sym, ap, ◌∙◌, subst, arith, IfSome, IsSome}
+use Rattle.std.proofs.Common.{position, slice_get}
 use Rattle.std.specs.Option.{option_and_then, option_map, option_map_or}
 use Rattle.std.proofs.lemmas.List.Elements.{recursion_from_All}
 use Rattle.std.proofs.lemmas.Option.{slice_get-get_or}

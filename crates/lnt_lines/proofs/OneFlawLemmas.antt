@@ -1,7 +1,6 @@
 -- A unit has one first flaw.
 use Rattle.std.proofs.Common.{◌≡◌, ◌≢◌, ℕ, ◌+◌, ◌<◌, ◌≤◌, List, [], ◌∷◌, ◌++◌, length, refl, sym, ap, subst, ◌∙◌, append_assoc, arith}
-use Rattle.std.proofs.Common.{⊎_elim}
-use Rattle.std.specs.Prelude.{Option}
+use Rattle.std.proofs.Common.{⊎_elim, Option}
 use Rattle.std.specs.List.{AllByRecursion}
 use Rattle.std.proofs.lemmas.Bool.{cases_lt}
 use Rattle.std.proofs.lemmas.Grind.{flat_map-append}
@@ -22,10 +21,9 @@ use Rattle.lnt_sequences.specs.Evidence.{IsFirstFall, IsFirstMissingFile, rows_o
 use Rattle.lnt_sequences.specs.Laws.{MissingFileIsNotThere}
 use Rattle.lnt_sequences.specs.Rules.{HaveFiles}
 use Rattle.lnt_sequences.specs.Sequences.{live_in, Placed, placed_in}
-use Rattle.lnt_lines.specs.declared.no.No.{No}
 use Rattle.lnt_lines.specs.declared.no.No.TheVariants as no
 use Rattle.lnt_lines.specs.Good.{IsWellFormed}
-use Rattle.lnt_lines.specs.Nos.{IsFlaw}
+use Rattle.lnt_lines.specs.Nos.{IsFlaw, No}
 use Rattle.lnt_lines.specs.Refusals.{table_no}
 use Rattle.lnt_lines.proofs.FlawLemmas.{runs_well, tables_well}
 

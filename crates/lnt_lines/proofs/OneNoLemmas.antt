@@ -1,6 +1,5 @@
 -- Of a section one thing is wrong first.
-use Rattle.std.proofs.Common.{◌≡◌, ℕ, ◌+◌, List, [], ◌∷◌, ◌++◌, length, refl, sym, ap, subst, ◌∙◌, append_assoc}
-use Rattle.std.specs.Prelude.{Option}
+use Rattle.std.proofs.Common.{◌≡◌, ℕ, ◌+◌, List, [], ◌∷◌, ◌++◌, length, refl, sym, ap, subst, ◌∙◌, append_assoc, Option}
 use Rattle.std.specs.List.{AllByRecursion}
 use Rattle.lnt_wire.specs.Bytes.{NoneSpelled}
 use Rattle.lnt_wire.specs.declared.fault.Fault.{Fault}
@@ -15,12 +14,10 @@ use Rattle.lnt_sequences.specs.Extents.{IsFirstOverlap}
 use Rattle.lnt_sequences.specs.Laws.{FallIsNotOrdered, MissingFileIsNotThere}
 use Rattle.lnt_sequences.proofs.KeptLaws.{kept_distinct}
 use Rattle.lnt_sequences.specs.Sequences.{kept_sequences, live_sequences}
-use Rattle.lnt_lines.specs.declared.no.No.{No}
 use Rattle.lnt_lines.specs.declared.no.No.TheVariants as no
-use Rattle.lnt_lines.specs.declared.options.Options.{Options}
-use Rattle.lnt_lines.specs.Good.{IsSoundUnit, selected}
+use Rattle.lnt_lines.specs.Good.{IsSoundUnit, selected, Options}
 use Rattle.lnt_lines.specs.Laws.{OneNo}
-use Rattle.lnt_lines.specs.Nos.{IsFirstFlaw, IsFlaw, IsMalformed, IsOverlap, IsTrueNo}
+use Rattle.lnt_lines.specs.Nos.{IsFirstFlaw, IsFlaw, IsMalformed, IsOverlap, IsTrueNo, No}
 use Rattle.lnt_lines.proofs.DraftLemmas.{distinct}
 use Rattle.lnt_lines.proofs.FlawLemmas.{all_at, same_pair, sound_well, units_begin}
 use Rattle.lnt_lines.proofs.OneFlawLemmas.{one_flaw}

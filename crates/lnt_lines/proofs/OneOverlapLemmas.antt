@@ -1,6 +1,5 @@
 -- Sequences have one first overlap.
-use Rattle.std.proofs.Common.{◌≡◌, ◌≢◌, ◌⊎◌, ℕ, List, sym, ap, subst, ◌∙◌, arith, get_or, inl, inr, ⊎_elim}
-use Rattle.std.specs.List.{Contains}
+use Rattle.std.proofs.Common.{◌≡◌, ◌≢◌, ◌⊎◌, ℕ, List, sym, ap, subst, ◌∙◌, arith, get_or, inl, inr, ⊎_elim, Contains}
 use Rattle.std.proofs.lemmas.Bool.{cases_eq}
 use Rattle.std.proofs.lemmas.List.{get_or_default}
 use Rattle.std.proofs.lemmas.Option.{same_Some}

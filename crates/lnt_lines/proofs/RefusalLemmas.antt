@@ -1,12 +1,10 @@
 -- Refusals of units.
-use Rattle.std.proofs.Common.{◌≢◌, ℕ, List, sym, subst}
-use Rattle.std.specs.Prelude.{Option}
+use Rattle.std.proofs.Common.{◌≢◌, ℕ, List, sym, subst, Option}
 use Rattle.lnt_wire.specs.declared.fault.Fault.{Fault}
 use Rattle.lnt_wire.specs.declared.fault.Reason.TheVariants.{Memory}
 use Rattle.lnt_unit.specs.Units.{BufferedUnit}
 use Rattle.lnt_unit.specs.BrokenUnits.{BrokenUnit}
-use Rattle.lnt_lines.specs.declared.refusal.Refusal.{Refusal}
-use Rattle.lnt_lines.specs.Judging.{IsUnitRefusal}
+use Rattle.lnt_lines.specs.Judging.{IsUnitRefusal, Refusal}
 use Rattle.lnt_lines.specs.Refusals.{IsFaultRefusal}
 use Rattle.lnt_lines.specs.Refusals.IsFaultRefusal.{malformed, memory}
 

@@ -1,7 +1,6 @@
 -- A section judged, unit by unit.
-use Rattle.std.proofs.Common.{◌≡◌, ℕ, ◌+◌, ◌<◌, List, [], ◌∷◌, ◌++◌, length, sym, ap, subst, ◌∙◌, append_assoc, arith}
-use Rattle.std.specs.Prelude.{IfSome, None, Option, Some}
-use Rattle.std.proofs.lemmas.List.{length-append}
+use Rattle.std.proofs.Common.{◌≡◌, ℕ, ◌+◌, ◌<◌, List, [], ◌∷◌, ◌++◌, length, sym, ap, subst, ◌∙◌, append_assoc, arith, IfSome, None, Option}
+use Rattle.std.proofs.Common.{Some, length-append}
 use Rattle.lnt_header.specs.Joins.{AreRising}
 use Rattle.lnt_wire.specs.declared.fault.Fault.{Fault}
 use Rattle.lnt_wire.specs.declared.format.Order.{Order}
@@ -27,16 +26,14 @@ use Rattle.lnt_sequences.specs.Rules.{AreApart}
 use Rattle.lnt_sequences.specs.Sequences.{kept_of, live_sequences, Placed}
 use Rattle.lnt_sequences.specs.Watching.{Collects}
 use Rattle.lnt_lines.specs.declared.draft.Draft.{Draft}
-use Rattle.lnt_lines.specs.declared.no.No.{No}
 use Rattle.lnt_lines.specs.declared.no.No.TheVariants as bad
 use Rattle.lnt_lines.specs.declared.options.Options.{Options}
-use Rattle.lnt_lines.specs.declared.refusal.Refusal.{Refusal}
 use Rattle.lnt_lines.specs.declared.refusal.Refusal.TheVariants as refusal
 use Rattle.lnt_lines.specs.Drafts.{IsIndexOfSection}
 use Rattle.lnt_lines.specs.Stepping.{HasAdded, IsDraftOf, IsDraftOfSection, IsRefusal, IsWholeDraft}
 use Rattle.lnt_lines.specs.Indexed.{Indexed, IsIndexOf}
-use Rattle.lnt_lines.specs.Judging.{HasFlaw, IsUnitNo, IsUnitRefusal}
-use Rattle.lnt_lines.specs.Nos.{IsFirstFlaw, IsMalformed, IsTrueNo}
+use Rattle.lnt_lines.specs.Judging.{HasFlaw, IsUnitNo, IsUnitRefusal, Refusal}
+use Rattle.lnt_lines.specs.Nos.{IsFirstFlaw, IsMalformed, IsTrueNo, No}
 use Rattle.lnt_lines.specs.Refusals.{IsStopRefusal}
 use Rattle.lnt_lines.proofs.DraftLemmas.{distinct, numbers_from, rising_from}
 

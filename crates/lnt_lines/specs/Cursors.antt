@@ -1,7 +1,6 @@
 -- All spans of an index, one after another: a sequence is decoded when its spans come next.
-use Rattle.std.specs.Prelude.{◌≡◌, ℕ, ◌+◌, ◌≤◌, List, [], ◌∷◌, ◌++◌, length, Option, Some, None}
+use Rattle.std.specs.Prelude.{◌≡◌, ℕ, ◌+◌, ◌≤◌, List, [], ◌∷◌, ◌++◌, length, Option, Some, None, IsPermutation}
 use Rattle.std.specs.List.{AllZip}
-use Rattle.std.specs.List.Sorted.{IsPermutation}
 use Rattle.lnt_machine.specs.declared.row.Row.{Row}
 use Rattle.lnt_machine.specs.Walking.{KeptProgram, SequenceWalk}
 use Rattle.lnt_spans.specs.declared.position.Position.{Position}

@@ -3,13 +3,12 @@
 --     dead            the address at which sequences of dead code begin, if one is given
 use Rattle.std.specs.Prelude.{◌≡◌, ℕ, List}
 use Rattle.lnt_header.specs.declared.unit_parts.UnitParts.{UnitParts}
-use Rattle.lnt_lines.specs.declared.options.Options.{Options}
 use Rattle.lnt_lines.specs.declared.section.Judged.{Judged}
 use Rattle.lnt_lines.specs.declared.section.Judged.TheVariants.{Good, Bad}
 use Rattle.lnt_lines.specs.declared.section.JudgedIndex.{JudgedIndex}
 use Rattle.lnt_lines.specs.declared.section.JudgedIndex.TheVariants as index
 use Rattle.lnt_lines.specs.Contents.{Contents, TellsOf}
-use Rattle.lnt_lines.specs.Good.{IsGood, selected}
+use Rattle.lnt_lines.specs.Good.{IsGood, selected, Options}
 use Rattle.lnt_lines.specs.Indexed.{Indexed, IsIndexOf}
 use Rattle.lnt_lines.specs.Nos.{IsTrueNo}
 

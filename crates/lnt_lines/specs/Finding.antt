@@ -1,7 +1,5 @@
 -- The sequence that holds a position, and what is kept of the sequences of an index. No public contract speaks of it.
-use Rattle.std.specs.Prelude.{◌≡◌, List, Option}
-use Rattle.std.specs.List.{All}
-use Rattle.std.specs.Option.{option_map}
+use Rattle.std.specs.Prelude.{◌≡◌, List, Option, All, option_map}
 use Rattle.lnt_machine.specs.declared.row.Row.{Row}
 use Rattle.lnt_spans.specs.declared.answer.Answer.{Answer}
 use Rattle.lnt_spans.specs.declared.position.Position.{Position}

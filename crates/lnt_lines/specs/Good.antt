@@ -9,7 +9,7 @@ use Rattle.lnt_machine.specs.Matrix.{Runs}
 use Rattle.lnt_files.specs.Tables.{AreUsableTables}
 use Rattle.lnt_sequences.specs.Rules.{AreApart, AreOrdered, HaveFiles}
 use Rattle.lnt_sequences.specs.Sequences.{kept_sequences, live_in, Selection}
-use Rattle.lnt_lines.specs.declared.options.Options.{Options}
+pub use Rattle.lnt_lines.specs.declared.options.Options.{Options}
 
 -- A unit whose program runs, and whose tables are usable: each file's directory exists, and each path has its text.
 pub record IsWellFormed (line general : List ℕ) (unit : UnitParts) : Type 0 where

@@ -1,7 +1,6 @@
 -- What is kept of a good section by its sequences: the place of each, the programs of their units, and the string sections.
-use Rattle.std.specs.Prelude.{◌≡◌, ◌<◌, ◌==◌, ℕ, List, length, map, get_or, Option, Some}
+use Rattle.std.specs.Prelude.{◌≡◌, ◌<◌, ◌==◌, ℕ, List, length, map, get_or, Option, Some, IsPermutation}
 use Rattle.std.specs.List.{AllByRecursion, AllZip, position, slice_get}
-use Rattle.std.specs.List.Sorted.{IsPermutation}
 use Rattle.std.specs.Option.{option_and_then, option_map, option_map_or}
 use Rattle.lnt_header.specs.Joins.{AreRising}
 use Rattle.lnt_header.specs.declared.header.HeaderParts.{HeaderParts}

@@ -17,13 +17,12 @@ use Rattle.lnt_sequences.specs.declared.watch.Watch.{Watch}
 use Rattle.lnt_sequences.specs.Sequences.{live_sequences, Placed}
 use Rattle.lnt_sequences.specs.Watching.{Collects, CollectsRows, HasSeenAll}
 use Rattle.lnt_lines.specs.declared.judge.SoundUnit.{SoundUnit}
-use Rattle.lnt_lines.specs.declared.no.No.{No}
 use Rattle.lnt_lines.specs.declared.no.No.TheVariants as no
-use Rattle.lnt_lines.specs.declared.refusal.Refusal.{Refusal}
+pub use Rattle.lnt_lines.specs.declared.refusal.Refusal.{Refusal}
 use Rattle.lnt_lines.specs.declared.refusal.Refusal.TheVariants as refusal
 use Rattle.lnt_io.specs.declared.stop.Stop.TheVariants as stop
 use Rattle.lnt_lines.specs.Good.{IsSoundUnit}
-use Rattle.lnt_lines.specs.Nos.{IsFlaw}
+use Rattle.lnt_lines.specs.Nos.{IsFlaw, No}
 
 -- The bytes of the buffer are those of a unit with this flaw.
 pub record HasFlaw (line general : List ℕ) (dead : Option ℕ) (buffer : BufferedUnit) (reason : No) : Type 0 where

@@ -1,8 +1,7 @@
 -- What the laws of judged sections say.
 --     line, general   the bytes of .debug_line_str and of .debug_str
 --     dead            the address at which sequences of dead code begin, if one is given
-use Rattle.std.specs.Prelude.{◌≡◌, ◌≢◌, ℕ, List, length, None, Some}
-use Rattle.std.specs.List.{All, Contains}
+use Rattle.std.specs.Prelude.{◌≡◌, ◌≢◌, ℕ, List, length, None, Some, All, Contains}
 use Rattle.lnt_wire.specs.declared.format.Order.{Order}
 use Rattle.lnt_header.specs.declared.unit_parts.UnitParts.{UnitParts}
 use Rattle.lnt_unit.specs.UnitBytes.{SectionBytes}
@@ -11,12 +10,10 @@ use Rattle.lnt_spans.specs.declared.position.Position.{Position}
 use Rattle.lnt_sequences.specs.Laws.{IsLastAt}
 use Rattle.lnt_sequences.specs.Sequences.{answer_of, Holds, kept_sequences, line_answer, Placed, Selection}
 use Rattle.lnt_files.specs.Paths.{listed_sum, path_bytes}
-use Rattle.lnt_lines.specs.declared.no.No.{No}
-use Rattle.lnt_lines.specs.declared.options.Options.{Options}
 use Rattle.lnt_lines.specs.Contents.{Contents, count_in, files_of, path_in, sum_in, TellsOf}
-use Rattle.lnt_lines.specs.Good.{IsGood, selected}
+use Rattle.lnt_lines.specs.Good.{IsGood, selected, Options}
 use Rattle.lnt_lines.specs.Indexed.{header_in, Indexed, IsIndexOf}
-use Rattle.lnt_lines.specs.Nos.{IsTrueNo}
+use Rattle.lnt_lines.specs.Nos.{IsTrueNo, No}
 
 -- No reason is true of a good section.
 abbrev pub GoodHasNoFlaw : Type 0

@@ -16,10 +16,9 @@ use Rattle.lnt_sequences.specs.Evidence.{IsFirstFall, IsFirstMissingFile}
 use Rattle.lnt_sequences.specs.Extents.{IsFirstOverlap}
 use Rattle.lnt_sequences.specs.Rules.{HaveFiles}
 use Rattle.lnt_sequences.specs.Sequences.{kept_sequences, live_in, placed_in}
-use Rattle.lnt_lines.specs.declared.no.No.{No}
+pub use Rattle.lnt_lines.specs.declared.no.No.{No}
 use Rattle.lnt_lines.specs.declared.no.No.TheVariants as no
-use Rattle.lnt_lines.specs.declared.options.Options.{Options}
-use Rattle.lnt_lines.specs.Good.{IsSoundUnit, IsWellFormed, selected}
+use Rattle.lnt_lines.specs.Good.{IsSoundUnit, IsWellFormed, selected, Options}
 
 -- The unit at this offset has the flaw that is reported, and none of a lower number; and it is the first of its number. A
 -- reason that isn't about one unit isn't a flaw.

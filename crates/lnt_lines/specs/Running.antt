@@ -14,11 +14,10 @@ use Rattle.lnt_sequences.specs.declared.collected.Collected.{Collected}
 use Rattle.lnt_sequences.specs.declared.watch.Watch.{Watch}
 use Rattle.lnt_sequences.specs.Sequences.{Placed}
 use Rattle.lnt_sequences.specs.Watching.{Collects, CollectsRows, HasSeen}
-use Rattle.lnt_lines.specs.declared.refusal.Refusal.{Refusal}
 use Rattle.lnt_lines.specs.declared.refusal.Refusal.TheVariants as refusal
 use Rattle.lnt_lines.specs.declared.run.Watched.{Watched}
 use Rattle.lnt_io.specs.declared.stop.Stop.TheVariants as stop
-use Rattle.lnt_lines.specs.Judging.{IsRefusalOfRun}
+use Rattle.lnt_lines.specs.Judging.{IsRefusalOfRun, Refusal}
 
 -- What was run so far: the operations that the walk has given, whose rows the watch has seen. For each ended sequence the place where
 -- it begins in the program is known.

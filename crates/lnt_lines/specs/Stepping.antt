@@ -11,10 +11,9 @@ use Rattle.lnt_sequences.specs.Rules.{AreDistinct}
 use Rattle.lnt_sequences.specs.Sequences.{live_sequences}
 use Rattle.lnt_sequences.specs.Watching.{Collects}
 use Rattle.lnt_lines.specs.declared.draft.Draft.{Draft}
-use Rattle.lnt_lines.specs.declared.options.Options.{Options}
 use Rattle.lnt_lines.specs.declared.refusal.Refusal.{Refusal}
 use Rattle.lnt_lines.specs.declared.refusal.Refusal.TheVariants as refusal
-use Rattle.lnt_lines.specs.Good.{IsSoundUnit}
+use Rattle.lnt_lines.specs.Good.{IsSoundUnit, Options}
 use Rattle.lnt_lines.specs.Nos.{IsTrueNo}
 use Rattle.lnt_spans.specs.declared.span.Span.{Span}
 use Rattle.lnt_spans.specs.Coming.{GivesFirstSpan}

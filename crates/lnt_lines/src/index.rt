@@ -1,9 +1,7 @@
 //! What a good section answers, with its rows decoded again when they are needed.
-ghost use Rattle.std.specs.Prelude.{◌≡◌, ◌↔◌, ◌+◌, ◌-◌, ◌^◌, ◌<◌, ◌≤◌, ℕ, List, length, Option, None, IfNone, IfOk, IfSome};
-ghost use Rattle.std.specs.Prelude.{IsSome, IsSomeAnd, IsTrue};
+ghost use Rattle.std.specs.Prelude.{◌≡◌, ◌↔◌, ◌+◌, ◌-◌, ◌^◌, ◌<◌, ◌≤◌, ℕ, List, length, Option, None, IfNone, IfOk, IfSome, IsSome};
+ghost use Rattle.std.specs.Prelude.{IsSomeAnd, IsTrue, IsPermutation, option_map};
 ghost use Rattle.std.specs.List.{All, AllByRecursion, AllZip};
-ghost use Rattle.std.specs.List.Sorted.{IsPermutation};
-ghost use Rattle.std.specs.Option.{option_map};
 ghost use Rattle.lnt_header.specs.Joins.{AreRising};
 ghost use Rattle.lnt_machine.specs.declared.row.Row.{Row};
 ghost use Rattle.lnt_machine.specs.Walking.{WillGive};
@@ -13,7 +11,6 @@ ghost use Rattle.lnt_sequences.specs.RowSpans.{spans_of};
 ghost use Rattle.lnt_sequences.specs.Sequences.{kept_sequences, line_answer};
 ghost use Rattle.lnt_sequences.specs.Spanning.{rows_left};
 ghost use Rattle.lnt_spans.specs.declared.span.Span.{Span};
-ghost use Rattle.lnt_lines.specs.Contents.{TellsOf};
 ghost use Rattle.lnt_lines.specs.Cursors.{GivesAllOf, room_of};
 ghost use Rattle.lnt_lines.specs.Finding.{Answers};
 ghost use Rattle.lnt_lines.specs.Indexed.{HasOneOperation, IsIndex, IsSequenceIn};
@@ -121,9 +118,7 @@ impl<'a> Index<'a> {
         ensures rises { probes.old ≤ probes.new }
         ensures counted { (digits : ℕ) → length self.now.entries < 2 ^ digits → probes.new ≤ probes.old + digits }
     {
-        let Some(held) = self.held(position, probes) else {
-            return None;
-        };
+        let held = self.held(position, probes)?;
         let Some(rows) = self.rows(held.id) else {
             unreachable!()
         };
@@ -140,9 +135,7 @@ impl<'a> Index<'a> {
         ensures counted { (digits : ℕ) → length self.now.entries < 2 ^ digits → probes.new ≤ probes.old + digits }
     {
         holder_answers();
-        let Some(place) = holder(&self.entries, position, probes) else {
-            return None;
-        };
+        let place = holder(&self.entries, position, probes)?;
         let id = self.entries[place].id;
         Some(Held { place, id })
     }
@@ -295,18 +288,9 @@ fn files_of(
 {
     let mut all = Vec::new(alloc);
     for program in programs {
-        all.push(files_in(alloc, program, strings)?)?;
+        all.push(Files::of(alloc, &program.header(), *strings)?)?;
     }
     Ok(all)
-}
-
-// The files of the header of a program.
-fn files_in(alloc: Global, program: &Program, strings: &Strings<'_>) -> Result<Files, AllocError>
-    requires { AreUsableTables strings.now.line.now strings.now.general.now program.now.header }
-    ensures { IfOk result (AreFilesOf strings.now.line.now strings.now.general.now program.now.header) }
-{
-    let header = program.header().to_header(alloc)?;
-    Files::of(alloc, &header, strings)
 }
 
 // The rows of the sequence with an id.

@@ -1,7 +1,5 @@
 //! One unit, judged.
-ghost use Rattle.std.specs.Prelude.{◌≡◌, ◌≤◌, length, IfOk, IfErr, MatchOption};
-ghost use Rattle.std.specs.Option.{option_map};
-ghost use Rattle.lnt_files.specs.Tables.{AreUsableTables, IsTablesFault};
+ghost use Rattle.std.specs.Prelude.{◌≡◌, ◌≤◌, length, IfOk, IfErr, MatchOption, option_map};
 ghost use Rattle.lnt_lines.specs.declared.no.No.TheVariants.{Falls};
 ghost use Rattle.lnt_lines.specs.Judging.{IsFlawedRun, IsJudgedSound, IsSoundRun, IsUnitRefusal, kept_program_of};
 ghost use Rattle.lnt_lines.specs.Refusals.{missing_no, table_no};

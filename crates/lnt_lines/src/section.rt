@@ -62,14 +62,7 @@ pub fn verify<R: Source>(
     ensures too_long { IsTooLongOn ⟦<R as Source>⟧ section.old section.new result Stop.TooLong }
 {
     match index_section(alloc, section, strings, options)? {
-        JudgedIndex::Good(index) => {
-            let lines = lines_of(alloc, &index);
-            drop(index);
-            match lines {
-                Ok(lines) => Ok(Judged::Good(lines)),
-                Err(_) => Err(Stop::Memory),
-            }
-        }
+        JudgedIndex::Good(index) => Ok(Judged::Good(lines_of(alloc, &index)?)),
         JudgedIndex::Bad(no) => Ok(Judged::Bad(no)),
     }
 }

@@ -1,7 +1,6 @@
 -- The kept sequences of units have no more spans than the units have rows, all together.
-use Rattle.std.proofs.Common.{ℕ, ◌+◌, ◌≤◌, Bool, true, false, not, cond, List, [], ◌∷◌, Option, length, ap, arith}
-use Rattle.std.specs.List.{filter, flat_map}
-use Rattle.std.proofs.lemmas.List.{length-append}
+use Rattle.std.proofs.Common.{ℕ, ◌+◌, ◌≤◌, Bool, true, false, not, cond, List, [], ◌∷◌, Option, length, ap, arith, filter, flat_map}
+use Rattle.std.proofs.Common.{length-append}
 use Rattle.std.proofs.lemmas.List.Concat.{flat_map-append}
 use Rattle.lnt_header.specs.declared.unit_parts.UnitParts.{UnitParts}
 use Rattle.lnt_machine.specs.declared.row.Row.{Row}
@@ -9,8 +8,7 @@ use Rattle.lnt_machine.specs.declared.row.Sequence.{Sequence}
 use Rattle.lnt_machine.specs.Matrix.{joined_rows, rows}
 use Rattle.lnt_machine.proofs.SequenceLaws.{joined_within}
 use Rattle.lnt_sequences.specs.RowSpans.{row_spans, span_between, spans_after, spans_of}
-use Rattle.lnt_sequences.specs.Sequences.{is_copy, kept_of, kept_sequences, live_in, live_sequences, Placed}
-use Rattle.lnt_sequences.specs.Sequences.{Selection}
+use Rattle.lnt_sequences.specs.Sequences.{is_copy, kept_of, kept_sequences, live_in, live_sequences, Placed, Selection}
 use Rattle.lnt_sequences.proofs.WalkLaws.{placed_from}
 use Rattle.std.proofs.lemmas.Grind.{common_steps}
 

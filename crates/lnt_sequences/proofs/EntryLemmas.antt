@@ -1,12 +1,8 @@
 -- The sequences that settled extents are of, in the order of these.
-use Rattle.std.proofs.Common.{◌≡◌, ◌⊎◌, ℕ, suc, ◌+◌, ◌-◌, ◌<◌, ◌≤◌, Bool, true, false, cond, List, [], ◌∷◌, ◌++◌}
-use Rattle.std.proofs.Common.{Option, None, refl, sym, ap, ◌∙◌, subst, arith, length, inl, inr, ⊎_elim}
-use Rattle.std.specs.Prelude.{slice_index_or}
+use Rattle.std.proofs.Common.{◌≡◌, ◌⊎◌, ℕ, suc, ◌+◌, ◌-◌, ◌<◌, ◌≤◌, Bool, true, false, cond, List, [], ◌∷◌, ◌++◌, Option, None, refl, sym}
+use Rattle.std.proofs.Common.{ap, ◌∙◌, subst, arith, length, inl, inr, ⊎_elim, slice_index_or, IsPermutation, option_and_then, option_map}
+use Rattle.std.proofs.Common.{true≢false, length-append}
 use Rattle.std.specs.List.{AllByRecursion, AllZip, Contains, find}
-use Rattle.std.specs.List.Sorted.{IsPermutation}
-use Rattle.std.specs.Option.{option_and_then, option_map}
-use Rattle.std.proofs.lemmas.Bool.{true≢false}
-use Rattle.std.proofs.lemmas.List.{length-append}
 use Rattle.std.proofs.lemmas.List.Elements.{All-cons, All-nil}
 use Rattle.std.proofs.lemmas.List.Sorted.{Contains-permutation, IsPermutation-sym}
 use Rattle.lnt_machine.specs.declared.row.Row.{Row}
@@ -15,8 +11,7 @@ use Rattle.lnt_spans.specs.Positions.{IsAtMost, is_below}
 use Rattle.lnt_spans.proofs.EachTwoLaws.{find_only}
 use Rattle.lnt_spans.proofs.PositionLaws.{at_most_from_not_below, at_most_itself, at_most_trans, not_both}
 use Rattle.lnt_spans.specs.Spans.{AreInOrder}
-use Rattle.lnt_sequences.specs.declared.extent.Extent.{Extent}
-use Rattle.lnt_sequences.specs.Extents.{AreApartUpTo, extents_of, IsIn, NoneHolds}
+use Rattle.lnt_sequences.specs.Extents.{AreApartUpTo, extents_of, IsIn, NoneHolds, Extent}
 use Rattle.lnt_sequences.specs.InTurn.{EntriesInTurn, IsExtentOf, StandInTurn}
 use Rattle.lnt_sequences.specs.RowSpans.{row_spans, spans_after, spans_of}
 use Rattle.lnt_sequences.specs.Rules.{AreApart, AreOrdered, IsOrdered}

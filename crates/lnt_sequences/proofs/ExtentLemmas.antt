@@ -1,7 +1,6 @@
 -- A sequence and its extent hold the same positions.
-use Rattle.std.proofs.Common.{◌≡◌, ◌≢◌, ◌⊎◌, ℕ, suc, Bool, true, false, ◌&&◌, List, [], ◌∷◌, ◌++◌}
-use Rattle.std.proofs.Common.{Some, None, refl, sym, ap, ◌∙◌, subst, arith, get_or, inl, inr, ⊎_elim}
-use Rattle.std.specs.List.{AllPairs, All, Contains}
+use Rattle.std.proofs.Common.{◌≡◌, ◌≢◌, ◌⊎◌, ℕ, suc, Bool, true, false, ◌&&◌, List, [], ◌∷◌, ◌++◌, Some, None, refl, sym, ap, ◌∙◌, subst}
+use Rattle.std.proofs.Common.{arith, get_or, inl, inr, ⊎_elim, AllPairs, All, Contains}
 use Rattle.std.proofs.lemmas.Bool.{false_from_ne_true}
 use Rattle.std.proofs.lemmas.List.{get_or_default}
 use Rattle.std.proofs.lemmas.List.Elements.{All-cons, All-head, All-tail, All-nil, All-weaker}
@@ -12,15 +11,13 @@ use Rattle.lnt_spans.specs.Positions.{IsBelow, IsAtMost, is_below, is_at_most}
 use Rattle.lnt_spans.proofs.EachTwoLaws.{each_two_from_pairs, pairs_nil, pairs_cons, pairs_head, pairs_tail}
 use Rattle.lnt_spans.proofs.PositionLaws.{at_most_from_not_below, at_most_from_test, at_most_itself, at_most_trans}
 use Rattle.lnt_spans.proofs.PositionLaws.{below_from_test, not_both, test_at_most, test_below}
-use Rattle.lnt_sequences.specs.declared.extent.Extent.{Extent}
 use Rattle.lnt_sequences.specs.declared.extent.Overlap.{Overlap}
-use Rattle.lnt_sequences.specs.declared.sequence.SeqId.{SeqId}
-use Rattle.lnt_sequences.specs.Extents.{BeginsNoLater, ComesNoLater, extent_of, extents_of, IsFirstOverlap, IsIn, IsNotLater}
+use Rattle.lnt_sequences.specs.Extents.{BeginsNoLater, ComesNoLater, extent_of, extents_of, IsFirstOverlap, IsIn, IsNotLater, Extent}
 use Rattle.lnt_sequences.specs.Laws.{OverlapIsNotApart, SequenceSpans}
 use Rattle.lnt_sequences.specs.Overlaps.{ExtentsDisjoint, ExtentsOverlap}
 use Rattle.lnt_sequences.proofs.WalkLaws.{last_row_is}
 use Rattle.lnt_sequences.specs.Rules.{AreApart}
-use Rattle.lnt_sequences.specs.Sequences.{first_row, holds, Holds, Placed, position_of}
+use Rattle.lnt_sequences.specs.Sequences.{first_row, holds, Holds, Placed, position_of, SeqId}
 use Rattle.lnt_sequences.specs.Watching.{last_after}
 use Rattle.lnt_sequences.proofs.RowLemmas.{holds_is, rising_list, row_spans_answer}
 use Rattle.std.proofs.lemmas.Grind.{common_steps}

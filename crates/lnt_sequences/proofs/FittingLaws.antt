@@ -1,5 +1,5 @@
 -- Where programs are kept, the numbers of their rows are of at most 64 bits, and so are those of the spans between these.
-use Rattle.std.proofs.Common.{ℕ, ◌^◌, ◌<◌, List, [], ◌∷◌}
+use Rattle.std.proofs.Common.{ℕ, ◌^◌, ◌<◌, List, [], ◌∷◌, arith}
 use Rattle.std.specs.List.{All, AllByRecursion, AllZip}
 use Rattle.lnt_header.specs.declared.unit_parts.UnitParts.{UnitParts}
 use Rattle.lnt_machine.specs.Walking.{KeepsProgram, KeptProgram}
@@ -9,7 +9,6 @@ use Rattle.lnt_sequences.specs.RowSpans.{spans_of}
 use Rattle.lnt_sequences.specs.Sequences.{kept_sequences, Selection}
 use Rattle.lnt_sequences.proofs.EachLaws.{Between, each_kept_span, EachIn}
 use Rattle.std.proofs.lemmas.Grind.{common_steps}
-use Rattle.std.proofs.Common.{arith}
 
 abbrev IsSmall : ℕ → Type 0
 IsSmall offset = offset < 2 ^ 64

@@ -1,8 +1,6 @@
 -- A live sequence, found again by its id.
-use Rattle.std.proofs.Common.{◌≡◌, ℕ, suc, ◌+◌, ◌<◌, Bool, true, false, List, [], ◌∷◌, ◌++◌, Option, refl, sym}
-use Rattle.std.proofs.Common.{ap, ◌∙◌, arith, length, get_or, inl, inr, ◌⊎◌, ⊎_elim}
-use Rattle.std.specs.Prelude.{cond}
-use Rattle.std.specs.List.{Contains, filter}
+use Rattle.std.proofs.Common.{◌≡◌, ℕ, suc, ◌+◌, ◌<◌, Bool, true, false, List, [], ◌∷◌, ◌++◌, Option, refl, sym, ap, ◌∙◌, arith, length}
+use Rattle.std.proofs.Common.{get_or, inl, inr, ◌⊎◌, ⊎_elim, cond, Contains, filter}
 use Rattle.lnt_header.specs.declared.unit_parts.UnitParts.{UnitParts}
 use Rattle.lnt_machine.specs.declared.row.Sequence.{Sequence}
 use Rattle.lnt_machine.specs.Matrix.{sequences}

@@ -1,9 +1,6 @@
 -- The extent that holds a position, found by bisection, and what its sequence answers.
-use Rattle.std.proofs.Common.{◌≡◌, ◌≢◌, ℕ, ◌+◌, ◌-◌, ◌<◌, ◌≤◌, true, false, List, Option}
-use Rattle.std.proofs.Common.{None, sym, ap, subst, arith, length, get_or, ⊎_elim}
-use Rattle.std.specs.List.{All}
-use Rattle.std.specs.List.Sorted.{IsPermutation}
-use Rattle.std.specs.Option.{option_and_then, option_map}
+use Rattle.std.proofs.Common.{◌≡◌, ◌≢◌, ℕ, ◌+◌, ◌-◌, ◌<◌, ◌≤◌, true, false, List, Option, None, sym, ap, subst, arith, length, get_or}
+use Rattle.std.proofs.Common.{⊎_elim, All, IsPermutation, option_and_then, option_map}
 use Rattle.std.proofs.lemmas.Bool.{cases_eq, cases_lt}
 use Rattle.std.proofs.lemmas.List.{get_or_default}
 use Rattle.std.proofs.lemmas.List.Elements.{Contains-get_or}
@@ -12,8 +9,7 @@ use Rattle.lnt_spans.specs.declared.position.Position.{Position}
 use Rattle.lnt_spans.specs.Positions.{IsBelow, IsAtMost}
 use Rattle.lnt_spans.proofs.EachTwoLaws.{each_two_from_pairs, find_none, find_only}
 use Rattle.lnt_spans.proofs.PositionLaws.{at_most_trans, below_at_most, below_is_at_most, not_both}
-use Rattle.lnt_sequences.specs.declared.extent.Extent.{Extent}
-use Rattle.lnt_sequences.specs.Extents.{AnswersFor, AreSettled, extents_of, HolderAnswers, IsHolder, IsHolderAt, IsIn, NoneHolds}
+use Rattle.lnt_sequences.specs.Extents.{AnswersFor, AreSettled, extents_of, HolderAnswers, IsHolder, IsHolderAt, IsIn, NoneHolds, Extent}
 use Rattle.lnt_sequences.specs.Rules.{AreApart}
 use Rattle.lnt_sequences.specs.Sequences.{answer_in, answer_of, holds, Placed, row_at}
 use Rattle.lnt_sequences.proofs.ExtentLemmas.{all_back, holds_from_test, IsEmpty, IsSketch, not_held, of_sequence, sketch, test_from_holds}

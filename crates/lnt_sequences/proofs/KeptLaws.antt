@@ -10,15 +10,14 @@ use Rattle.std.proofs.lemmas.List.Folds.{list_any-append, list_any_at, list_any_
 use Rattle.std.proofs.lemmas.List.Kept.{AllPairs-filter}
 use Rattle.lnt_header.specs.declared.unit_parts.UnitParts.{UnitParts}
 use Rattle.lnt_machine.specs.declared.row.Row.{Row}
-use Rattle.lnt_sequences.specs.declared.sequence.SeqId.{SeqId}
 use Rattle.lnt_spans.specs.declared.position.Position.{Position}
 use Rattle.lnt_spans.specs.Positions.{is_below}
 use Rattle.lnt_spans.proofs.EachTwoLaws.{pairs_append, pairs_cons, pairs_head, pairs_nil, pairs_tail}
 use Rattle.lnt_machine.specs.declared.row.Sequence.{Sequence}
 use Rattle.lnt_machine.specs.Matrix.{rows, sequences_of}
 use Rattle.lnt_sequences.specs.Rules.{AreDistinct, AreOrdered}
-use Rattle.lnt_sequences.specs.Sequences.{ends_alike, first_row, hold_alike, is_copy, is_live, is_same, kept_of, last_row}
-use Rattle.lnt_sequences.specs.Sequences.{live_in, live_sequences, Placed, placed_in, position_of, stands_before}
+use Rattle.lnt_sequences.specs.Sequences.{ends_alike, first_row, hold_alike, is_copy, is_live, is_same, kept_of, last_row, live_in}
+use Rattle.lnt_sequences.specs.Sequences.{live_sequences, Placed, placed_in, position_of, stands_before, SeqId}
 use Rattle.lnt_sequences.proofs.FoundLaws.{of_filter}
 use Rattle.lnt_sequences.proofs.UnitLaws.{all_from, all_of, IsFrom, IsOf}
 use Rattle.lnt_sequences.proofs.WalkLaws.{placed_from}

@@ -1,8 +1,6 @@
 -- The extents of the kept sequences are those of all that are no copies.
-use Rattle.std.proofs.Common.{◌≡◌, ◌≢◌, Bool, true, false, not, ◌&&◌, ◌||◌, cond, List, [], ◌∷◌, ◌++◌}
-use Rattle.std.proofs.Common.{refl, sym, ap, ◌∙◌, arith, ⊎_elim, ℕ, length, take}
-use Rattle.std.specs.List.{All, AllPairs, filter}
-use Rattle.std.specs.List.Sorted.{IsPermutation}
+use Rattle.std.proofs.Common.{◌≡◌, ◌≢◌, Bool, true, false, not, ◌&&◌, ◌||◌, cond, List, [], ◌∷◌, ◌++◌, refl, sym, ap, ◌∙◌, arith, ⊎_elim, ℕ}
+use Rattle.std.proofs.Common.{length, take, All, AllPairs, filter, IsPermutation}
 use Rattle.std.proofs.Math.Seq.{take-append_seam}
 use Rattle.std.proofs.lemmas.Bool.{and_right}
 use Rattle.std.proofs.lemmas.Bool.Decides.{nat_tests}
@@ -12,16 +10,13 @@ use Rattle.lnt_spans.specs.declared.position.Position.{Position}
 use Rattle.lnt_spans.specs.Positions.{IsBelow, is_below}
 use Rattle.lnt_spans.proofs.EachTwoLaws.{each_two_from_pairs, each_two_permutation, pairs_from_each_two}
 use Rattle.lnt_spans.proofs.PositionLaws.{at_most_itself, below_from_test, test_below}
-use Rattle.lnt_sequences.specs.declared.extent.Extent.{Extent}
-use Rattle.lnt_sequences.specs.declared.extent.Overlap.{Overlap}
-use Rattle.lnt_sequences.specs.declared.sequence.SeqId.{SeqId}
 use Rattle.lnt_sequences.specs.Copies.{end_alike, is_copied, kept_extents}
-use Rattle.lnt_sequences.specs.Extents.{extents_of, IsFirstOverlap}
+use Rattle.lnt_sequences.specs.Extents.{extents_of, IsFirstOverlap, Extent, Overlap}
 use Rattle.lnt_sequences.specs.Overlaps.{ExtentsDisjoint, ExtentsOverlap}
 use Rattle.lnt_sequences.proofs.WalkLaws.{last_row_is}
 use Rattle.lnt_sequences.proofs.KeptLaws.{kept_distinct}
 use Rattle.lnt_sequences.specs.Rules.{AreApart, AreDistinct}
-use Rattle.lnt_sequences.specs.Sequences.{hold_alike, is_copy, is_same, kept_of, Placed, position_of, stands_before}
+use Rattle.lnt_sequences.specs.Sequences.{hold_alike, is_copy, is_same, kept_of, Placed, position_of, stands_before, SeqId}
 use Rattle.lnt_sequences.specs.Watching.{last_after}
 use Rattle.lnt_sequences.proofs.ExtentLemmas.{apart_from_disjoint, extents_ids, extents_some, holds_after, IsEmpty}
 use Rattle.lnt_sequences.proofs.ExtentLemmas.{IsSketch, overlap_of_sequences, sketch}

@@ -1,8 +1,6 @@
 -- The rows of a sequence walked over from a place in them, and the last of them that isn't above a position.
-use Rattle.std.proofs.Common.{◌≡◌, suc, List, [], ◌∷◌, ◌++◌, cond, Option, Some, None, refl, sym, ap, ◌∙◌, subst, arith}
-use Rattle.std.specs.List.{All}
+use Rattle.std.proofs.Common.{◌≡◌, suc, List, [], ◌∷◌, ◌++◌, cond, Option, Some, None, refl, sym, ap, ◌∙◌, subst, arith, All, append_assoc}
 use Rattle.std.specs.Option.{option_or}
-use Rattle.std.proofs.lemmas.List.{append_assoc}
 use Rattle.lnt_machine.specs.declared.row.Row.{Row}
 use Rattle.lnt_machine.specs.Walking.{GivesFirstRow, GivesRow, SequenceWalk, WillGive}
 use Rattle.lnt_spans.specs.declared.position.Position.{Position}

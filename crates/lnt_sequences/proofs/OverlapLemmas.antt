@@ -1,9 +1,7 @@
 -- Extents in order: disjoint where none begins below the end of the one before it; else the first such neighbours are the
 -- first to overlap.
-use Rattle.std.proofs.Common.{◌≡◌, ◌≢◌, ◌⊎◌, ℕ, zero, suc, ◌+◌, ◌-◌, ◌<◌, ◌≤◌, false, List, sym, ap}
-use Rattle.std.proofs.Common.{subst, arith, length, get_or, inl, inr, ⊎_elim, add-one, is_lt, nat_cmp}
-use Rattle.std.specs.List.{AllPairs, All}
-use Rattle.std.specs.List.Sorted.{IsPermutation}
+use Rattle.std.proofs.Common.{◌≡◌, ◌≢◌, ◌⊎◌, ℕ, zero, suc, ◌+◌, ◌-◌, ◌<◌, ◌≤◌, false, List, sym, ap, subst, arith, length, get_or, inl, inr}
+use Rattle.std.proofs.Common.{⊎_elim, add-one, is_lt, nat_cmp, AllPairs, All, IsPermutation}
 use Rattle.std.specs.Ordering.{ordering_then}
 use Rattle.std.proofs.lemmas.List.Sorted.{IsPermutation-sym, Contains-permutation, All-permutation}
 use Rattle.std.proofs.lemmas.List.Elements.{Contains-get_or}
@@ -13,9 +11,8 @@ use Rattle.lnt_spans.specs.declared.position.Position.{Position}
 use Rattle.lnt_spans.specs.Positions.{IsBelow, IsAtMost}
 use Rattle.lnt_spans.proofs.EachTwoLaws.{EachTwo, each_two_from_pairs, pairs_from_each_two, each_two_permutation}
 use Rattle.lnt_spans.proofs.PositionLaws.{at_most_itself, at_most_trans, not_both}
-use Rattle.lnt_sequences.specs.declared.extent.Extent.{Extent}
 use Rattle.lnt_sequences.specs.declared.sequence.SeqId.{SeqId}
-use Rattle.lnt_sequences.specs.Extents.{AreApartUpTo, AreSorted, ComesNoLater, IsIn, IsNotLater}
+use Rattle.lnt_sequences.specs.Extents.{AreApartUpTo, AreSorted, ComesNoLater, IsIn, IsNotLater, Extent}
 use Rattle.lnt_sequences.specs.Overlaps.{AreFirstToOverlap, ExtentsDisjoint}
 use Rattle.std.proofs.lemmas.Grind.{common_steps}
 

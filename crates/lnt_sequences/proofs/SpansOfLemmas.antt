@@ -1,9 +1,7 @@
 -- The spans of the sequences of entries are those of all sequences.
-use Rattle.std.proofs.Common.{◌≡◌, ℕ, zero, suc, ◌<◌, List, [], ◌∷◌, ◌++◌, length, get_or, set, Option, Some, None}
-use Rattle.std.proofs.Common.{refl, sym, ap, ◌∙◌, subst, arith, ⊎_elim}
+use Rattle.std.proofs.Common.{◌≡◌, ℕ, zero, suc, ◌<◌, List, [], ◌∷◌, ◌++◌, length, get_or, set, Option, Some, None, refl, sym, ap, ◌∙◌}
+use Rattle.std.proofs.Common.{subst, arith, ⊎_elim, IsPermutation, append_assoc}
 use Rattle.std.specs.List.{AllZip, Contains, find, flat_map, swap}
-use Rattle.std.specs.List.Sorted.{IsPermutation}
-use Rattle.std.proofs.lemmas.List.{append_assoc}
 use Rattle.std.proofs.lemmas.List.Edits.{swap_is}
 use Rattle.std.proofs.lemmas.List.Sorted.{IsPermutation-append_comm, IsPermutation-append_left}
 use Rattle.std.proofs.lemmas.List.Sorted.{IsPermutation-append_right, IsPermutation-keeps, IsPermutation-refl, IsPermutation-trans}
@@ -13,8 +11,7 @@ use Rattle.lnt_spans.specs.declared.span.Span.{Span}
 use Rattle.lnt_spans.specs.Positions.{IsAtMost, IsBelow}
 use Rattle.lnt_spans.proofs.EachTwoLaws.{find_only}
 use Rattle.lnt_spans.proofs.PositionLaws.{at_most_itself, at_most_trans, order_cases}
-use Rattle.lnt_sequences.specs.declared.extent.Extent.{Extent}
-use Rattle.lnt_sequences.specs.Extents.{extents_of, IsIn}
+use Rattle.lnt_sequences.specs.Extents.{extents_of, IsIn, Extent}
 use Rattle.lnt_sequences.specs.RowSpans.{row_spans, span_between, spans_after, spans_of}
 use Rattle.lnt_sequences.specs.Rules.{AreApart, AreOrdered, IsOrdered}
 use Rattle.lnt_sequences.specs.Sequences.{holds, Holds, Placed, position_of}

@@ -1,17 +1,15 @@
 -- Rows seen one after another, and the sequences that they are cut into.
-use Rattle.std.proofs.Common.{◌≡◌, ℕ, ◌+◌, Bool, true, false, cond, List, [], ◌∷◌, ◌++◌, map, Option, Some, None, refl}
-use Rattle.std.proofs.Common.{sym, ap, ◌∙◌, arith, append_assoc, length, add-zero}
+use Rattle.std.proofs.Common.{◌≡◌, ℕ, ◌+◌, Bool, true, false, cond, List, [], ◌∷◌, ◌++◌, map, Option, Some, None, refl, sym, ap, ◌∙◌, arith}
+use Rattle.std.proofs.Common.{append_assoc, length, add-zero, append-nil, length-append}
 use Rattle.std.specs.List.{AllByRecursion, enumerate_from, filter, flat_map}
 use Rattle.std.specs.Option.{option_or}
-use Rattle.std.proofs.lemmas.List.{append-nil, length-append}
 use Rattle.lnt_machine.specs.declared.row.Row.{Row}
 use Rattle.lnt_machine.specs.declared.row.Sequence.{Sequence}
 use Rattle.lnt_machine.specs.Cuts.{AreOpen, IsEnded}
 use Rattle.lnt_machine.specs.Matrix.{joined_rows, onto_first, sequences_of}
 use Rattle.lnt_spans.proofs.PositionLaws.{at_most_itself, test_not_below}
-use Rattle.lnt_sequences.specs.declared.extent.Extent.{Extent}
 use Rattle.lnt_sequences.specs.declared.watch.Current.{Current}
-use Rattle.lnt_sequences.specs.Extents.{extent_between, extent_of}
+use Rattle.lnt_sequences.specs.Extents.{extent_between, extent_of, Extent}
 use Rattle.lnt_sequences.specs.Sequences.{are_live, is_live, last_row, Placed, position_of}
 use Rattle.lnt_sequences.specs.Watching.{closed, current_of, extent_from, extent_shown, first_shown, grown, is_in_live}
 use Rattle.lnt_sequences.specs.Watching.{last_after, longer, next, shown, RowsSoFar, walked}

@@ -1,7 +1,6 @@
 -- What a watch remembers, and what is collected, one row more.
-use Rattle.std.proofs.Common.{◌≡◌, ℕ, ◌+◌, ◌^◌, ◌<◌, ◌≤◌, Bool, true, false, cond, List, [], ◌∷◌, ◌++◌, Option}
-use Rattle.std.proofs.Common.{Some, None, refl, sym, arith, append_assoc, length}
-use Rattle.std.proofs.lemmas.List.{length-append}
+use Rattle.std.proofs.Common.{◌≡◌, ℕ, ◌+◌, ◌^◌, ◌<◌, ◌≤◌, Bool, true, false, cond, List, [], ◌∷◌, ◌++◌, Option, Some, None, refl, sym}
+use Rattle.std.proofs.Common.{arith, append_assoc, length, length-append}
 use Rattle.lnt_machine.specs.declared.row.Row.{Row}
 use Rattle.lnt_sequences.specs.declared.collected.Collected.{Collected}
 use Rattle.lnt_sequences.specs.declared.watch.Current.{Current}

@@ -66,12 +66,6 @@ pub record IsAdded (row : Row) (old new : BriefRows) : Type 0 where
   pub in_brief : IsInBrief old.base row one
   pub added : new.rows.items ≡ old.rows.items ++ one ∷ []
 
--- The last of the first `count` rows isn't above a place, and the row after it is.
-pub record IsReached (rows : List BriefRow) (at : Position) (count : ℕ) : Type 0 where
-  pub within : count ≤ length rows
-  pub last : (d : BriefRow) → 0 < count → IsAtMost (place_of (get_or rows (count - 1) d)) at
-  pub next : (d : BriefRow) → count < length rows → IsBelow at (place_of (get_or rows count d))
-
 -- The number of rows at or below a place is between these two: the last of the first rows isn't above the place, and the row after the
 -- second is.
 pub record IsBetween (rows : List BriefRow) (at : Position) (found : ℕ × ℕ) : Type 0 where
@@ -79,6 +73,10 @@ pub record IsBetween (rows : List BriefRow) (at : Position) (found : ℕ × ℕ)
   pub within : found.1 ≤ length rows
   pub last : (d : BriefRow) → 0 < found.0 → IsAtMost (place_of (get_or rows (found.0 - 1) d)) at
   pub next : (d : BriefRow) → found.1 < length rows → IsBelow at (place_of (get_or rows found.1 d))
+
+-- The last of the first `count` rows isn't above a place, and the row after it is.
+abbrev pub IsReached : List BriefRow → Position → ℕ → Type 0
+IsReached rows at count = IsBetween rows at (count, count)
 
 -- So it is with a position, and there is a row after it, unless all rows are kept.
 pub record IsReachedIn (brief : BriefRows) (p : Position) (count : ℕ) : Type 0 where

@@ -2,8 +2,7 @@
 use Rattle.std.specs.Prelude.{◌≡◌, ℕ, ◌+◌, ◌<◌, Bool, true, false, not, ◌&&◌, List, length, slice_index_or}
 use Rattle.std.specs.List.{filter, list_any}
 use Rattle.lnt_spans.specs.Positions.{IsAtMost}
-use Rattle.lnt_sequences.specs.declared.extent.Extent.{Extent}
-use Rattle.lnt_sequences.specs.Extents.{IsNotLater}
+use Rattle.lnt_sequences.specs.Extents.{IsNotLater, Extent}
 use Rattle.lnt_sequences.specs.Sequences.{is_same, stands_before}
 
 -- whether two begin and end at the same positions

@@ -1,6 +1,5 @@
 -- Rows that break a rule, by their index among all rows of the sequences of their unit.
-use Rattle.std.specs.Prelude.{◌≡◌, ℕ, ◌<◌, ◌≤◌, true, false, List, ◌∷◌, ◌++◌, length, Option, Some}
-use Rattle.std.specs.List.{flat_map}
+use Rattle.std.specs.Prelude.{◌≡◌, ℕ, ◌<◌, ◌≤◌, true, false, List, ◌∷◌, ◌++◌, length, Option, Some, flat_map}
 use Rattle.lnt_machine.specs.declared.row.Row.{Row}
 use Rattle.lnt_spans.specs.Positions.{IsBelow}
 use Rattle.lnt_sequences.specs.declared.watch.MissingFile.{MissingFile}

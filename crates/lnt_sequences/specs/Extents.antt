@@ -1,17 +1,13 @@
 -- The positions that sequences hold, each from its first position up to its last, and the first that two of them hold.
-use Rattle.std.specs.Prelude.{◌≡◌, ◌≢◌, ◌⊎◌, ℕ, ◌+◌, ◌-◌, ◌<◌, ◌≤◌, cond, List, [], ◌∷◌}
-use Rattle.std.specs.Prelude.{Option, Some, None, length, slice_index_or}
-use Rattle.std.specs.List.{flat_map, All, AllPairs, Contains}
-use Rattle.std.specs.List.Sorted.{IsPermutation}
-use Rattle.std.specs.Option.{option_map}
+use Rattle.std.specs.Prelude.{◌≡◌, ◌≢◌, ◌⊎◌, ℕ, ◌+◌, ◌-◌, ◌<◌, ◌≤◌, cond, List, [], ◌∷◌, Option, Some, None, length, slice_index_or}
+use Rattle.std.specs.Prelude.{flat_map, All, AllPairs, Contains, IsPermutation, option_map}
 use Rattle.lnt_machine.specs.declared.row.Row.{Row}
 use Rattle.lnt_spans.specs.declared.position.Position.{Position}
 use Rattle.lnt_spans.specs.Positions.{IsBelow, IsAtMost, is_below}
-use Rattle.lnt_sequences.specs.declared.extent.Extent.{Extent}
-use Rattle.lnt_sequences.specs.declared.extent.Overlap.{Overlap}
-use Rattle.lnt_sequences.specs.declared.sequence.SeqId.{SeqId}
+pub use Rattle.lnt_sequences.specs.declared.extent.Extent.{Extent}
+pub use Rattle.lnt_sequences.specs.declared.extent.Overlap.{Overlap}
 use Rattle.lnt_sequences.specs.Rules.{AreApart}
-use Rattle.lnt_sequences.specs.Sequences.{answer_in, answer_of, position_of, first_row, last_row, Holds, Placed, row_at}
+use Rattle.lnt_sequences.specs.Sequences.{answer_in, answer_of, position_of, first_row, last_row, Holds, Placed, row_at, SeqId}
 
 -- ---- which comes first
 

@@ -1,13 +1,11 @@
 -- Sequences one after another, and that their spans are in order.
-use Rattle.std.specs.Prelude.{◌≡◌, ◌≤◌, List, [], ◌∷◌, length}
+use Rattle.std.specs.Prelude.{◌≡◌, ◌≤◌, List, [], ◌∷◌, length, IsPermutation}
 use Rattle.std.specs.List.{AllZip, Contains}
-use Rattle.std.specs.List.Sorted.{IsPermutation}
 use Rattle.lnt_machine.specs.declared.row.Row.{Row}
 use Rattle.lnt_spans.specs.declared.position.Position.{Position}
 use Rattle.lnt_spans.specs.Positions.{IsAtMost}
 use Rattle.lnt_spans.specs.Spans.{AreInOrder, span_answer}
-use Rattle.lnt_sequences.specs.declared.extent.Extent.{Extent}
-use Rattle.lnt_sequences.specs.Extents.{AreSettled, extents_of}
+use Rattle.lnt_sequences.specs.Extents.{AreSettled, extents_of, Extent}
 use Rattle.lnt_sequences.specs.RowSpans.{spans_of}
 use Rattle.lnt_sequences.specs.Rules.{AreApart, AreOrdered}
 use Rattle.lnt_sequences.specs.Sequences.{answer_in, Placed, position_of}

@@ -1,7 +1,6 @@
 -- What the laws of sequences, their spans and their extents say.
-use Rattle.std.specs.Prelude.{◌≡◌, ◌≢◌, ℕ, ◌^◌, ◌<◌, true, false, List, ◌∷◌, ◌++◌, get_or, length, None, Some, Option}
+use Rattle.std.specs.Prelude.{◌≡◌, ◌≢◌, ℕ, ◌^◌, ◌<◌, true, false, List, ◌∷◌, ◌++◌, get_or, length, None, Some, Option, option_map}
 use Rattle.std.specs.List.{AllByRecursion, AllPairs, Contains}
-use Rattle.std.specs.Option.{option_map}
 use Rattle.lnt_wire.specs.declared.format.Format.{Format}
 use Rattle.lnt_wire.specs.declared.format.Order.{Order}
 use Rattle.lnt_unit.specs.Converting.{IsConverted}
@@ -13,10 +12,9 @@ use Rattle.lnt_spans.specs.declared.position.Position.{Position}
 use Rattle.lnt_spans.specs.Positions.{IsAtMost, IsBelow}
 use Rattle.lnt_spans.specs.Spans.{span_answer}
 use Rattle.lnt_sequences.specs.declared.collected.Collected.{Collected}
-use Rattle.lnt_sequences.specs.declared.extent.Overlap.{Overlap}
 use Rattle.lnt_sequences.specs.declared.watch.MissingFile.{MissingFile}
 use Rattle.lnt_sequences.specs.Evidence.{IsFall, IsMissingFile}
-use Rattle.lnt_sequences.specs.Extents.{IsFirstOverlap}
+use Rattle.lnt_sequences.specs.Extents.{IsFirstOverlap, Overlap}
 use Rattle.lnt_sequences.specs.RowSpans.{row_spans, spans_of}
 use Rattle.lnt_sequences.specs.Rules.{AreApart, AreDistinct, AreOrdered, HaveFiles, IsOrdered}
 use Rattle.lnt_sequences.specs.Sequences.{Placed, Holds, answer_in, answer_of, hold_alike, kept_sequences, line_answer}

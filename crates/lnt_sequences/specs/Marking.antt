@@ -1,6 +1,5 @@
 -- Places in the rows of one sequence, from which lookups continue.
-use Rattle.std.specs.Prelude.{◌≡◌, List, ◌++◌, Option, IfSome}
-use Rattle.std.specs.List.{All}
+use Rattle.std.specs.Prelude.{◌≡◌, List, ◌++◌, Option, IfSome, All}
 use Rattle.lnt_machine.specs.declared.row.Row.{Row}
 use Rattle.lnt_machine.specs.Walking.{WillGive}
 use Rattle.lnt_spans.specs.declared.position.Position.{Position}

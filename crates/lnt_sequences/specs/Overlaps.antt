@@ -1,11 +1,8 @@
 -- Extents of which no two hold the same position, or the first two that do. No public contract speaks of it.
-use Rattle.std.specs.Prelude.{◌≡◌, ◌≢◌, ◌⊎◌, List}
-use Rattle.std.specs.List.{All, AllPairs, Contains}
+use Rattle.std.specs.Prelude.{◌≡◌, ◌≢◌, ◌⊎◌, List, All, AllPairs, Contains}
 use Rattle.lnt_spans.specs.declared.position.Position.{Position}
 use Rattle.lnt_spans.specs.Positions.{IsBelow}
-use Rattle.lnt_sequences.specs.declared.extent.Extent.{Extent}
-use Rattle.lnt_sequences.specs.declared.extent.Overlap.{Overlap}
-use Rattle.lnt_sequences.specs.Extents.{ComesNoLater, IsIn}
+use Rattle.lnt_sequences.specs.Extents.{ComesNoLater, IsIn, Extent, Overlap}
 
 -- no position is held by both
 abbrev pub ExtentsDisjoint : Extent → Extent → Type 0

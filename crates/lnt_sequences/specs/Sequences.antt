@@ -8,7 +8,7 @@ use Rattle.lnt_machine.specs.Matrix.{rows, sequences_of}
 use Rattle.lnt_spans.specs.declared.answer.Answer.{Answer}
 use Rattle.lnt_spans.specs.declared.position.Position.{Position}
 use Rattle.lnt_spans.specs.Positions.{IsBelow, IsAtMost, is_below, is_at_most}
-use Rattle.lnt_sequences.specs.declared.sequence.SeqId.{SeqId}
+pub use Rattle.lnt_sequences.specs.declared.sequence.SeqId.{SeqId}
 
 -- the position of a row
 abbrev pub position_of : Row → Position

@@ -2,18 +2,16 @@
 --
 -- A caller needs only Collects, HasSeen, HasSeenAll and CollectsRows. What they mean once all rows of a unit were seen is
 -- said without a watch, in the contracts of `missing_file` and `falls` and in the law `collected_unit`.
-use Rattle.std.specs.Prelude.{◌≡◌, ℕ, ◌+◌, ◌^◌, ◌<◌, Bool, false, not, cond, ◌&&◌, nat_le, List, [], ◌∷◌}
-use Rattle.std.specs.Prelude.{◌++◌, length, Option, Some, None}
+use Rattle.std.specs.Prelude.{◌≡◌, ℕ, ◌+◌, ◌^◌, ◌<◌, Bool, false, not, cond, ◌&&◌, nat_le, List, [], ◌∷◌, ◌++◌, length, Option, Some, None}
 use Rattle.std.specs.Option.{option_or}
 use Rattle.lnt_machine.specs.declared.row.Row.{Row}
 use Rattle.lnt_machine.specs.Matrix.{joined_rows, sequences_of}
 use Rattle.lnt_spans.specs.Positions.{is_below}
 use Rattle.lnt_sequences.specs.declared.collected.Collected.{Collected}
-use Rattle.lnt_sequences.specs.declared.extent.Extent.{Extent}
 use Rattle.lnt_sequences.specs.declared.watch.Current.{Current}
 use Rattle.lnt_sequences.specs.declared.watch.MissingFile.{MissingFile}
 use Rattle.lnt_sequences.specs.declared.watch.Watch.{Watch}
-use Rattle.lnt_sequences.specs.Extents.{extent_between, extents_of}
+use Rattle.lnt_sequences.specs.Extents.{extent_between, extents_of, Extent}
 use Rattle.lnt_sequences.specs.Sequences.{begins_live, position_of, Placed}
 
 -- It is collected of these sequences: the extents of the nonempty ones.

@@ -1,9 +1,8 @@
 //! The rows of a sequence in few bytes each, which a lookup finds without decoding.
-ghost use Rattle.std.specs.Prelude.{◌≡◌, ◌-◌, ◌<◌, ◌≤◌, List, None, Some, get_or, length, IfOk, IfSome};
+ghost use Rattle.std.specs.Prelude.{◌≡◌, ◌-◌, ◌<◌, ◌≤◌, List, None, Some, get_or, length, IfOk, IfSome, MatchBool};
 ghost use Rattle.lnt_machine.specs.Walking.{WillGive};
 ghost use Rattle.lnt_machine.specs.declared.row.Row as spec;
 ghost use Rattle.lnt_sequences.specs.declared.brief.BriefRow as brief;
-ghost use Rattle.std.specs.Bool.{MatchBool};
 ghost use Rattle.lnt_sequences.specs.Briefs.{AreInBrief, AreKept, IsAdded, IsInBrief, IsReached, IsReachedIn, WereKept, brief_answer, place_of};
 
 use crate::buckets::Buckets;
@@ -91,7 +90,7 @@ impl BriefRows {
         ensures { IfOk result (λ brief. (list : List spec.Row) → WillGive list rows.entry → AreInBrief list brief) }
     {
         let mut brief = BriefRows {
-            base: first_address(&rows),
+            base: rows.fork().next().map_or(0, |row| row.address),
             rows: Vec::new(alloc),
             is_whole: false,
         };
@@ -195,12 +194,4 @@ fn reached(rows: &[BriefRow], buckets: &Buckets, at: Position) -> usize
         }
     }
     low
-}
-
-// The address of the first of these rows, or 0.
-fn first_address(rows: &SequenceRows<'_>) -> u64 {
-    match rows.fork().next() {
-        Some(row) => row.address,
-        None => 0,
-    }
 }

@@ -56,10 +56,7 @@ impl Buckets {
     // The number of rows before a range. 0 if it isn't known.
     #[inline(always)]
     fn first(&self, bucket: usize) -> usize {
-        match self.firsts.get(bucket) {
-            Some(first) => *first as usize,
-            None => 0,
-        }
+        self.firsts.get(bucket).map_or(0, |first| *first as usize)
     }
 }
 

@@ -1,6 +1,5 @@
 //! The positions that the live sequences of a section hold.
-ghost use Rattle.std.specs.Prelude.{◌≡◌, ◌++◌, [], IfOk, OnOk, IfErr, List};
-ghost use Rattle.std.specs.List.Sorted.{IsPermutation};
+ghost use Rattle.std.specs.Prelude.{◌≡◌, ◌++◌, [], IfOk, OnOk, IfErr, List, IsPermutation};
 ghost use Rattle.lnt_sequences.specs.Extents.{AreSettled, IsFirstOverlap, extent_between, extents_of};
 ghost use Rattle.lnt_sequences.specs.Rules.{AreApart, AreDistinct};
 ghost use Rattle.lnt_sequences.specs.Sequences as spec;

@@ -1,11 +1,9 @@
 //! The positions that sequences hold, and the first position that two of them hold.
-ghost use Rattle.std.specs.Prelude.{◌≡◌, ◌≢◌, ◌+◌, ◌-◌, ◌<◌, length, slice_index_or, IfNone, IfSome, MatchOption, Some};
-ghost use Rattle.std.specs.List.{All, AllPairs};
-ghost use Rattle.std.specs.List.Sorted.{IsPermutation};
+ghost use Rattle.std.specs.Prelude.{◌≡◌, ◌≢◌, ◌+◌, ◌-◌, ◌<◌, length, slice_index_or, IfNone, IfSome, MatchOption, Some, All, AllPairs};
+ghost use Rattle.std.specs.Prelude.{IsPermutation};
 ghost use Rattle.lnt_spans.specs.Positions.{IsBelow};
-ghost use Rattle.lnt_sequences.specs.declared.extent.Extent.{Extent};
 ghost use Rattle.lnt_sequences.specs.Copies.{AreGathered, kept_extents};
-ghost use Rattle.lnt_sequences.specs.Extents.{AreApartUpTo, AreSettled, AreSorted};
+ghost use Rattle.lnt_sequences.specs.Extents.{AreApartUpTo, AreSettled, AreSorted, Extent};
 ghost use Rattle.lnt_sequences.specs.FaultTexts.{overlap_text};
 ghost use Rattle.lnt_sequences.specs.Overlaps.{ExtentsDisjoint, ExtentsOverlap};
 
@@ -53,14 +51,14 @@ pub struct Extent {
 
 // The extents without the copies, if these are skipped: of those that begin and end at the same positions, the one that
 // comes first in the section is kept. Allocates nothing.
-pub(crate) fn kept(extents: Vec<Extent>, skip_copies: bool) -> Vec<Extent>
+pub(crate) fn kept(mut extents: Vec<Extent>, skip_copies: bool) -> Vec<Extent>
     requires { AllPairs (λ one other. one.id ≢ other.id) extents.items }
     ensures { IsPermutation (kept_extents skip_copies extents.items) result.items }
 {
     if !skip_copies {
         return extents;
     }
-    let mut extents = gathered(extents);
+    gather(&mut extents);
     extents.dedup_by(|next, last| {
         (next.low.address == last.low.address && next.low.op == last.low.op)
             && (next.high.address == last.high.address && next.high.op == last.high.op)
@@ -68,16 +66,7 @@ pub(crate) fn kept(extents: Vec<Extent>, skip_copies: bool) -> Vec<Extent>
     extents
 }
 
-// The extents in order by first position, then by last position, and then by place: copies are adjacent.
-fn gathered(mut extents: Vec<Extent>) -> Vec<Extent>
-    ensures permutation { IsPermutation extents.items result.items }
-    ensures gathered { AreGathered result.items }
-{
-    gather(&mut extents);
-    extents
-}
-
-// Sorts extents by first position, then by last position, and then by place in the section.
+// Sorts extents by first position, then by last position, and then by place in the section: copies are adjacent.
 fn gather(extents: &mut [Extent])
     ensures permutation { IsPermutation extents.old extents.new }
     ensures gathered { AreGathered extents.new }

@@ -1,6 +1,5 @@
 //! Answers at a position, by the extents of sequences and by the rows of the one that holds it.
-ghost use Rattle.std.specs.Prelude.{◌≡◌, ◌+◌, ◌^◌, ◌<◌, ◌≤◌, ℕ, List, length, MatchOption};
-ghost use Rattle.std.specs.Option.{option_map};
+ghost use Rattle.std.specs.Prelude.{◌≡◌, ◌+◌, ◌^◌, ◌<◌, ◌≤◌, ℕ, List, length, MatchOption, option_map};
 ghost use Rattle.lnt_machine.specs.Walking.{WillGive};
 ghost use Rattle.lnt_machine.specs.declared.row.Row as spec;
 ghost use Rattle.lnt_sequences.specs.Extents.{AreSettled, IsHolderAt, NoneHolds};
@@ -64,8 +63,5 @@ pub fn answer_at(unit: u64, rows: SequenceRows<'_>, position: Position) -> Optio
 pub(crate) fn said_by(unit: u64, row: Option<Row>) -> Option<Answer>
     ensures { result ≡ option_map (sequence.answer_of unit) row }
 {
-    match row {
-        Some(row) => Some(answer_of(unit, &row)),
-        None => None,
-    }
+    Some(answer_of(unit, &row?))
 }

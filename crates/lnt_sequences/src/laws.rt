@@ -1,9 +1,8 @@
 //! Laws of what rows say of positions, each the contract of a function without parameters that does nothing.
 ghost use Rattle.lnt_sequences.specs.Extents.{HolderAnswers};
 ghost use Rattle.lnt_sequences.specs.InTurn.{EntriesInTurn, SpansInTurn};
-ghost use Rattle.lnt_sequences.specs.Laws.{AnswersAsHolder, CollectedUnit, ConvertedAnswers, DistinctSequences};
-ghost use Rattle.lnt_sequences.specs.Laws.{FallIsNotOrdered, KeptSequences, MissingFileIsNotThere, OverlapIsNotApart};
-ghost use Rattle.lnt_sequences.specs.Laws.{SequenceSpans, SpansAnswer};
+ghost use Rattle.lnt_sequences.specs.Laws.{AnswersAsHolder, CollectedUnit, ConvertedAnswers, DistinctSequences, FallIsNotOrdered};
+ghost use Rattle.lnt_sequences.specs.Laws.{KeptSequences, MissingFileIsNotThere, OverlapIsNotApart, SequenceSpans, SpansAnswer};
 
 /// The spans of sequences whose positions never fall answer at every position as their rows do.
 #[tactic(auto, using(crate::proofs::RowLemmas::spans_answer))]

@@ -1,7 +1,5 @@
 //! Marks in the rows of one sequence, from which lookups go on.
-ghost use Rattle.std.specs.Prelude.{◌≡◌, ◌<◌, List, None, IfOk, false, true};
-ghost use Rattle.std.specs.Bool.{MatchBool};
-ghost use Rattle.std.specs.Option.{option_map};
+ghost use Rattle.std.specs.Prelude.{◌≡◌, ◌<◌, List, None, IfOk, false, true, MatchBool};
 ghost use Rattle.lnt_machine.specs.Walking.{WillGive};
 ghost use Rattle.lnt_machine.specs.declared.row.Row as spec;
 ghost use Rattle.lnt_sequences.specs.Marking.{AreMarksIn, IsMarkIn, IsNotAbove};
@@ -10,9 +8,8 @@ ghost use Rattle.lnt_sequences.specs.Sequences as sequence;
 ghost use Rattle.lnt_sequences.specs.Spanning.{rows_left};
 
 use crate::collected::position_of;
-use crate::held::said_by;
 use lnt_machine::{Row, SequenceRows};
-use lnt_spans::{Answer, Position};
+use lnt_spans::Position;
 use std::alloc::{AllocError, Global};
 
 // The number of rows from one mark to the next. A mark takes 200 bytes, and a row of a section one at least.
@@ -76,10 +73,7 @@ impl<'a> Mark<'a> {
     fn is_above(&self, position: Position) -> bool
         ensures { result ≡ false → IsNotAbove self.now.last position }
     {
-        match &self.last {
-            Some(row) => position.is_below(position_of(row)),
-            None => false,
-        }
+        matches!(&self.last, Some(row) if position.is_below(position_of(row)))
     }
 }
 
@@ -104,24 +98,10 @@ impl<'a> Marks<'a> {
         self.marks.is_empty()
     }
 
-    // What the sequence that the marks are in answers at a position. It walks over the rows after the last mark that isn't above
-    // the position, and adds a mark wherever it comes to a next one. The one error is that memory ran out. The marks are in the
-    // same sequence then, too.
-    pub(crate) fn answer_at(
-        &mut self,
-        unit: u64,
-        rows: SequenceRows<'a>,
-        position: Position,
-    ) -> Result<Option<Answer>, AllocError>
-        ensures marks { (list : List spec.Row) → WillGive list rows.entry → AreMarksIn list self.old → AreMarksIn list self.new }
-        ensures answer { IfOk result (λ answer. (list : List spec.Row) → WillGive list rows.entry → AreMarksIn list self.old
-            → IsOrdered list → answer ≡ option_map (sequence.answer_of unit) (sequence.row_at position list)) }
-    {
-        Ok(said_by(unit, self.row_at(rows, position)?))
-    }
-
-    // The last row of the sequence that isn't above the position.
-    fn row_at(
+    // The last row of the sequence that the marks are in that isn't above the position. It walks over the rows after the last
+    // mark that isn't above the position, and adds a mark wherever it comes to a next one. The one error is that memory ran out.
+    // The marks are in the same sequence then, too.
+    pub(crate) fn row_at(
         &mut self,
         rows: SequenceRows<'a>,
         position: Position,
@@ -142,16 +122,7 @@ impl<'a> Marks<'a> {
         ensures in_rows { (list : List spec.Row) → WillGive list rows.entry → AreMarksIn list self.now → IsMarkIn list result }
         ensures not_above { IsNotAbove result.last position }
     {
-        let mut low = 0;
-        let mut high = self.marks.len();
-        while low < high {
-            let middle = low + (high - low) / 2;
-            if self.marks[middle].is_above(position) {
-                high = middle;
-            } else {
-                low = middle + 1;
-            }
-        }
+        let low = self.marks.partition_point(|mark| !mark.is_above(position));
         if low > 0 && !self.marks[low - 1].is_above(position) {
             return self.marks[low - 1].fork();
         }

@@ -1,6 +1,5 @@
 //! What is kept of the rows of one sequence, for later lookups.
-ghost use Rattle.std.specs.Prelude.{◌≡◌, List, IfOk, IfSome};
-ghost use Rattle.std.specs.Option.{option_map};
+ghost use Rattle.std.specs.Prelude.{◌≡◌, List, IfOk, IfSome, option_map};
 ghost use Rattle.lnt_machine.specs.Walking.{WillGive};
 ghost use Rattle.lnt_machine.specs.declared.row.Row as spec;
 ghost use Rattle.lnt_sequences.specs.Briefs.{IsCacheOf};
@@ -9,6 +8,7 @@ ghost use Rattle.lnt_sequences.specs.Sequences as sequence;
 
 use crate::brief::BriefRows;
 use crate::buckets::Buckets;
+use crate::held::said_by;
 use crate::marks::Marks;
 use lnt_machine::SequenceRows;
 use lnt_spans::{Answer, Position};
@@ -77,7 +77,7 @@ impl<'a> RowCache<'a> {
     {
         match self.said_at(unit, position) {
             Some(answer) => Ok(answer),
-            None => self.marks.answer_at(unit, rows, position),
+            None => Ok(said_by(unit, self.marks.row_at(rows, position)?)),
         }
     }
 }

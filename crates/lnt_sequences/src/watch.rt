@@ -3,7 +3,6 @@ ghost use Rattle.std.specs.Prelude.{◌≡◌, ℕ, ◌∷◌, ◌++◌, [], Lis
 ghost use Rattle.lnt_machine.specs.declared.row.Row.{Row};
 ghost use Rattle.lnt_sequences.specs.Evidence.{IsFirstFall, IsFirstMissingFile};
 ghost use Rattle.lnt_sequences.specs.Rules.{AreOrdered, HaveFiles};
-ghost use Rattle.lnt_sequences.specs.Sequences as sequence;
 ghost use Rattle.lnt_sequences.specs.Sequences.{Placed, live_of, placed_rows};
 ghost use Rattle.lnt_sequences.specs.Stepping as step;
 ghost use Rattle.lnt_sequences.specs.Watching as spec;
@@ -176,21 +175,10 @@ fn grown(dead: Option<u64>, current: Option<Current>, row: &Row) -> Current
             ..current
         },
         None => Current {
-            live: begins_live(dead, row),
+            live: dead != Some(row.address),
             low: position_of(row),
             last: position_of(row),
         },
-    }
-}
-
-// Whether the sequence that begins with this row is live.
-#[inline(always)]
-fn begins_live(dead: Option<u64>, row: &Row) -> bool
-    ensures { result ≡ sequence.begins_live dead row.now }
-{
-    match dead {
-        Some(marker) => row.address != marker,
-        None => true,
     }
 }
 
@@ -199,10 +187,7 @@ fn begins_live(dead: Option<u64>, row: &Row) -> bool
 fn falls_after(current: &Option<Current>, row: &Row) -> bool
     ensures { result ≡ spec.falls_after current.now row.now }
 {
-    match current {
-        Some(current) => position_of(row).is_below(current.last),
-        None => false,
-    }
+    matches!(current, Some(current) if position_of(row).is_below(current.last))
 }
 
 // Whether a row names a file that isn't among the first `files`. An end row names none.

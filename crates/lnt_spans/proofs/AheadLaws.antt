@@ -1,11 +1,9 @@
 -- Spans that come one after another, the next one already taken: which is the first of them.
 use Rattle.std.proofs.Common.{◌≡◌, List, [], ◌∷◌, Some, None, arith}
 use Rattle.std.proofs.lemmas.Option.{same_Some}
-use Rattle.lnt_spans.specs.declared.ahead.Ahead.{Ahead}
-use Rattle.lnt_spans.specs.declared.span.Span.{Span}
-use Rattle.lnt_spans.specs.Ahead.{IsAhead}
+use Rattle.lnt_spans.specs.Ahead.{IsAhead, Ahead}
 use Rattle.lnt_spans.specs.Remaining.{EndsAfter}
-use Rattle.lnt_spans.specs.Spans.{AreInOrder}
+use Rattle.lnt_spans.specs.Spans.{AreInOrder, Span}
 use Rattle.lnt_spans.proofs.AnsweringLaws.{first_holds}
 use Rattle.lnt_spans.proofs.PositionLaws.{at_most_below}
 use Rattle.std.proofs.lemmas.Grind.{common_steps}

@@ -1,11 +1,10 @@
 -- Of all stretches at which a table and a section answer differently, those at which the table answers are its mistakes.
 use Rattle.std.proofs.Common.{◌≡◌, List, [], ◌∷◌, ◌⊎◌, inl, inr, Option, None, IsSome, refl, arith}
 use Rattle.std.specs.List.{AllByRecursion}
-use Rattle.lnt_spans.specs.declared.position.Position.{Position}
 use Rattle.lnt_spans.specs.AnyStretches.{AreAllStretches, AreRising, IsInOne, IsInStretch, Stretch}
 use Rattle.lnt_spans.specs.Partial.{AreAllMistakes}
 use Rattle.lnt_spans.specs.PartialLaws.{answered_stretches, if_some}
-use Rattle.lnt_spans.specs.Positions.{IsBelow}
+use Rattle.lnt_spans.specs.Positions.{IsBelow, Position}
 use Rattle.lnt_spans.proofs.PositionLaws.{below_at_most, below_is_at_most}
 use Rattle.std.proofs.lemmas.Grind.{common_steps}
 

@@ -1,10 +1,7 @@
 -- What a list of spans answers, in terms of its first span.
-use Rattle.std.proofs.Common.{◌≡◌, ◌∙◌, true, false, Bool, List, [], ◌∷◌, ◌++◌, refl, Some, None, arith}
-use Rattle.std.specs.Prelude.{◌&&◌}
-use Rattle.lnt_spans.specs.declared.position.Position.{Position}
-use Rattle.lnt_spans.specs.declared.span.Span.{Span}
-use Rattle.lnt_spans.specs.Positions.{IsBelow, IsAtMost}
-use Rattle.lnt_spans.specs.Spans.{AreInOrder, span_answer}
+use Rattle.std.proofs.Common.{◌≡◌, ◌∙◌, true, false, Bool, List, [], ◌∷◌, ◌++◌, refl, Some, None, arith, ◌&&◌}
+use Rattle.lnt_spans.specs.Positions.{IsBelow, IsAtMost, Position}
+use Rattle.lnt_spans.specs.Spans.{AreInOrder, span_answer, Span}
 use Rattle.lnt_spans.proofs.PositionLaws.{test_below, test_not_below, test_at_most, test_not_at_most, below_at_most}
 use Rattle.lnt_spans.proofs.PositionLaws.{below_is_at_most, order_cases}
 use Rattle.std.proofs.lemmas.Grind.{common_steps}

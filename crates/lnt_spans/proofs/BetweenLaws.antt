@@ -1,11 +1,8 @@
 -- Spans in order, described by where they begin and end.
-use Rattle.std.proofs.Common.{◌≡◌, Bool, true, false, ◌&&◌, ◌∙◌, List, [], ◌∷◌, ◌++◌, None, refl, arith}
-use Rattle.std.specs.List.{AllPairs, All}
+use Rattle.std.proofs.Common.{◌≡◌, Bool, true, false, ◌&&◌, ◌∙◌, List, [], ◌∷◌, ◌++◌, None, refl, arith, AllPairs, All}
 use Rattle.std.proofs.lemmas.List.Elements.{All-cons, All-nil, All-weaker}
-use Rattle.lnt_spans.specs.declared.position.Position.{Position}
-use Rattle.lnt_spans.specs.declared.span.Span.{Span}
-use Rattle.lnt_spans.specs.Positions.{IsBelow, IsAtMost}
-use Rattle.lnt_spans.specs.Spans.{AreInOrder, is_in_span, span_answer}
+use Rattle.lnt_spans.specs.Positions.{IsBelow, IsAtMost, Position}
+use Rattle.lnt_spans.specs.Spans.{AreInOrder, is_in_span, span_answer, Span}
 use Rattle.lnt_spans.proofs.AnsweringLaws.{answer_before}
 use Rattle.lnt_spans.proofs.EachTwoLaws.{pairs_nil, pairs_cons}
 use Rattle.lnt_spans.proofs.PositionLaws.{at_most_from_test, at_most_itself, at_most_trans, below_at_most}

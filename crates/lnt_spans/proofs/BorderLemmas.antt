@@ -1,10 +1,8 @@
 -- Between two neighbouring borders the answer doesn't change.
 use Rattle.std.proofs.Common.{◌≡◌, ◌∙◌, List, [], ◌∷◌, ◌++◌, ◌⊎◌, inl, inr, refl, sym, None}
 use Rattle.std.specs.List.{AllByRecursion}
-use Rattle.lnt_spans.specs.declared.position.Position.{Position}
-use Rattle.lnt_spans.specs.declared.span.Span.{Span}
-use Rattle.lnt_spans.specs.Positions.{IsBelow, IsAtMost}
-use Rattle.lnt_spans.specs.Spans.{span_answer}
+use Rattle.lnt_spans.specs.Positions.{IsBelow, IsAtMost, Position}
+use Rattle.lnt_spans.specs.Spans.{span_answer, Span}
 use Rattle.lnt_spans.specs.Laws.{Borders, AgreeAt, borders}
 use Rattle.lnt_spans.proofs.PositionLaws.{order_cases, at_most_below, at_most_trans, at_most_itself, below_is_at_most}
 use Rattle.lnt_spans.proofs.AnsweringLaws.{answer_in, answer_before, answer_after}

@@ -4,10 +4,8 @@ use Rattle.std.specs.Option.{option_map}
 use Rattle.std.proofs.lemmas.List.Elements.{Contains-get_or}
 use Rattle.std.proofs.lemmas.Bool.{cases_eq, cases_lt}
 use Rattle.std.proofs.lemmas.List.{get_or_default}
-use Rattle.lnt_spans.specs.declared.position.Position.{Position}
-use Rattle.lnt_spans.specs.declared.span.Span.{Span}
-use Rattle.lnt_spans.specs.Positions.{IsBelow, IsAtMost}
-use Rattle.lnt_spans.specs.Spans.{is_in_span, span_answer, AreInOrder}
+use Rattle.lnt_spans.specs.Positions.{IsBelow, IsAtMost, Position}
+use Rattle.lnt_spans.specs.Spans.{is_in_span, span_answer, AreInOrder, Span}
 use Rattle.lnt_spans.proofs.PositionLaws.{at_most_trans, below_at_most, below_is_at_most, not_both}
 use Rattle.lnt_spans.proofs.EachTwoLaws.{find_only, find_none, each_two_from_pairs}
 use Rattle.lnt_spans.proofs.BetweenLaws.{InSpan, in_span, test_in_span, ends_before, none_empty}

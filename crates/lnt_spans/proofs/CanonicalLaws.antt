@@ -1,10 +1,7 @@
 -- Canonical lists.
 use Rattle.std.proofs.Common.{◌≡◌, ◌∙◌, List, [], ◌∷◌, inl, inr, refl, sym, Some, arith}
-use Rattle.lnt_spans.specs.declared.position.Position.{Position}
-use Rattle.lnt_spans.specs.declared.answer.Answer.{Answer}
-use Rattle.lnt_spans.specs.declared.span.Span.{Span}
-use Rattle.lnt_spans.specs.Positions.{IsBelow}
-use Rattle.lnt_spans.specs.Spans.{AreInOrder, DifferWhereTheyTouch, IsCanonical, span_answer}
+use Rattle.lnt_spans.specs.Positions.{IsBelow, Position}
+use Rattle.lnt_spans.specs.Spans.{AreInOrder, DifferWhereTheyTouch, IsCanonical, span_answer, Answer, Span}
 use Rattle.lnt_spans.specs.Laws.{OneCanonical, AgreeEverywhere}
 use Rattle.lnt_spans.proofs.PositionLaws.{order_cases, order_three, at_most_below, at_most_itself, below_is_at_most, same_position}
 use Rattle.lnt_spans.proofs.AnsweringLaws.{answer_in, answer_after, first_holds, rest_in_order, none_before, rest_none}

@@ -1,6 +1,5 @@
 -- Spans that a source gives one after another.
-use Rattle.std.proofs.Common.{◌≡◌, List, [], ◌∷◌, ◌++◌, Some, None, refl, append_assoc, arith}
-use Rattle.std.proofs.lemmas.List.{append-nil}
+use Rattle.std.proofs.Common.{◌≡◌, List, [], ◌∷◌, ◌++◌, Some, None, refl, append_assoc, arith, append-nil}
 use Rattle.lnt_spans.specs.declared.span.Span.{Span}
 use Rattle.lnt_spans.specs.Coming.{GivesFirstSpan}
 use Rattle.std.proofs.lemmas.Grind.{common_steps}

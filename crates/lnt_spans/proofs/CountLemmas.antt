@@ -3,16 +3,14 @@ use Rattle.std.proofs.Common.{◌≡◌, ◌∙◌, ℕ, zero, suc, ◌+◌, ◌
 use Rattle.std.proofs.Common.{List, [], ◌∷◌, Option, Some, None, inl, inr, refl, sym, ap, subst, arith, ⊎_elim}
 use Rattle.std.specs.List.{AllByRecursion}
 use Rattle.std.proofs.lemmas.Bool.{cases_lt}
-use Rattle.lnt_spans.specs.declared.position.Position.{Position}
-use Rattle.lnt_spans.specs.declared.span.Span.{Span}
 use Rattle.lnt_spans.specs.Coming.{GivesFirstSpan}
 use Rattle.lnt_spans.specs.Counts.{addresses_answered, addresses_between, addresses_of, count_below, is_answered}
 use Rattle.lnt_spans.specs.Counts.{CountsTo, is_between, whole}
 use Rattle.lnt_spans.specs.Fitting.{FitSpans}
 use Rattle.lnt_spans.specs.Instructions.{IsOfInstructions}
 use Rattle.lnt_spans.specs.PartialLaws.{AnswersAddresses, AnswersMore, ChangesAtInstructions}
-use Rattle.lnt_spans.specs.Positions.{IsBelow, IsAtMost, is_below, is_at_most}
-use Rattle.lnt_spans.specs.Spans.{AreInOrder, span_answer}
+use Rattle.lnt_spans.specs.Positions.{IsBelow, IsAtMost, is_below, is_at_most, Position}
+use Rattle.lnt_spans.specs.Spans.{AreInOrder, span_answer, Span}
 use Rattle.lnt_spans.proofs.AnsweringLaws.{answer_after, answer_before, answer_in, rest_in_order, rest_none}
 use Rattle.lnt_spans.proofs.PositionLaws.{order_cases, test_at_most, test_below, test_not_at_most, test_not_below}
 use Rattle.std.proofs.lemmas.Grind.{common_steps}

@@ -1,8 +1,7 @@
 -- What a comparison found, of answers that are the same at every position.
 use Rattle.std.proofs.Common.{◌≡◌, Option, arith}
 use Rattle.lnt_spans.specs.declared.found.Found.{Found}
-use Rattle.lnt_spans.specs.declared.position.Position.{Position}
-use Rattle.lnt_spans.specs.AnyStretches.{Stretch}
+use Rattle.lnt_spans.specs.AnyStretches.{Stretch, Position}
 use Rattle.lnt_spans.specs.Merged.{AreFound}
 use Rattle.lnt_spans.specs.Partial.{IsRightAt}
 use Rattle.lnt_spans.proofs.CountLemmas.{same_addresses}

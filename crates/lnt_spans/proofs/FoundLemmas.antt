@@ -1,20 +1,16 @@
 -- What a comparison found, once no record of the table follows.
 use Rattle.std.proofs.Common.{◌≡◌, ◌∙◌, ℕ, ◌+◌, ◌^◌, ◌≤◌, true, false, List, ◌∷◌, ◌⊎◌, inl, inr, refl, ap, subst, Some, None, Option, arith}
-use Rattle.std.specs.Option.{is_some, option_map}
-use Rattle.std.proofs.lemmas.Bool.{true≢false}
+use Rattle.std.proofs.Common.{is_some, option_map, true≢false}
 use Rattle.std.proofs.lemmas.Option.{same_Some}
-use Rattle.lnt_spans.specs.declared.answer.Answer.{Answer}
 use Rattle.lnt_spans.specs.declared.merge.Merge.{Merge}
-use Rattle.lnt_spans.specs.declared.position.Position.{Position}
-use Rattle.lnt_spans.specs.declared.span.Span.{Span}
 use Rattle.lnt_spans.specs.Ahead.{IsAhead}
 use Rattle.lnt_spans.specs.AnyStretches.{Stretch}
 use Rattle.lnt_spans.specs.Counts.{CountsTo, addresses_answered, addresses_between, addresses_of, is_answered, whole}
 use Rattle.lnt_spans.specs.Differences.{IsFirstDifference}
 use Rattle.lnt_spans.specs.Merged.{AreCounted, AreFound, ArePassed, HasGap, HasMerged, answer_told, until}
 use Rattle.lnt_spans.specs.Partial.{IsRightWherever, where_missed}
-use Rattle.lnt_spans.specs.Positions.{IsAtMost}
-use Rattle.lnt_spans.specs.Spans.{span_answer}
+use Rattle.lnt_spans.specs.Positions.{IsAtMost, Position}
+use Rattle.lnt_spans.specs.Spans.{span_answer, Answer, Span}
 use Rattle.lnt_spans.proofs.AheadLaws.{left_first}
 use Rattle.lnt_spans.proofs.CountLemmas.{addresses_of_spans, count_either, most_addresses, one_if, same_addresses}
 use Rattle.lnt_spans.proofs.PositionLaws.{order_cases}

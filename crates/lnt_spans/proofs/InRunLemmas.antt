@@ -1,16 +1,11 @@
 -- A side within one of its runs: how the run is entered, followed and left.
-use Rattle.std.proofs.Common.{◌≡◌, List, None, Option, arith}
-use Rattle.std.specs.Option.{option_map}
-use Rattle.lnt_spans.specs.declared.answer.Answer.{Answer}
-use Rattle.lnt_spans.specs.declared.any_stretches.Stretches.{Stretches}
-use Rattle.lnt_spans.specs.declared.position.Position.{Position}
+use Rattle.std.proofs.Common.{◌≡◌, List, None, Option, arith, option_map}
 use Rattle.lnt_spans.specs.declared.runs.Run.{Run}
-use Rattle.lnt_spans.specs.declared.span.Span.{Span}
 use Rattle.lnt_spans.specs.AnyStretches.{Stretch}
-use Rattle.lnt_spans.specs.Positions.{IsAtMost}
-use Rattle.lnt_spans.specs.Runs.{IsBefore, IsRun, IsSideAt, IsUpTo}
+use Rattle.lnt_spans.specs.Positions.{IsAtMost, Position}
+use Rattle.lnt_spans.specs.Runs.{IsBefore, IsRun, IsSideAt, IsUpTo, Answer, Span}
 use Rattle.lnt_spans.specs.Stepping.{IsInRun}
-use Rattle.lnt_spans.specs.Stretching.{HasGiven}
+use Rattle.lnt_spans.specs.Stretching.{HasGiven, Stretches}
 use Rattle.lnt_spans.proofs.PositionLaws.{at_most_itself, at_most_trans, below_is_at_most}
 use Rattle.std.proofs.lemmas.Grind.{common_steps}
 

@@ -1,10 +1,7 @@
 -- Joining a span with one that touches it and answers the same.
 use Rattle.std.proofs.Common.{append_assoc, ◌≡◌, ◌≢◌, List, [], ◌∷◌, ◌++◌, subst, None, false, arith}
-use Rattle.lnt_spans.specs.declared.answer.Version.{Version}
-use Rattle.lnt_spans.specs.declared.position.Position.{Position}
-use Rattle.lnt_spans.specs.declared.span.Span.{Span}
-use Rattle.lnt_spans.specs.Positions.{IsBelow}
-use Rattle.lnt_spans.specs.Spans.{AreInOrder, DifferWhereTheyTouch, span_answer, span_in_version, version_answer}
+use Rattle.lnt_spans.specs.Positions.{IsBelow, Position}
+use Rattle.lnt_spans.specs.Spans.{AreInOrder, DifferWhereTheyTouch, span_answer, span_in_version, version_answer, Version, Span}
 use Rattle.lnt_spans.proofs.AnsweringLaws.{answer_in, answer_before, answer_after, answer_same, first_holds, rest_in_order}
 use Rattle.lnt_spans.proofs.PositionLaws.{order_cases, below_at_most, below_is_at_most}
 use Rattle.lnt_spans.proofs.ToldLaws.{told, told_answer, told_order}

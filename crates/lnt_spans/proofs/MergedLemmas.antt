@@ -1,24 +1,17 @@
 -- A section's spans are compared with the records of a table, one after another, whatever a table contains of an answer.
-use Rattle.std.proofs.Common.{◌≡◌, ◌≢◌, ◌∙◌, ℕ, ◌+◌, ◌^◌, ◌≤◌, true, false, List, [], ◌∷◌, inl, inr, refl, ap, sym, subst}
-use Rattle.std.proofs.Common.{Some, None, Option, arith}
-use Rattle.std.specs.Option.{is_some, option_map}
-use Rattle.std.specs.Prelude.{IfSome, MatchOption}
-use Rattle.std.proofs.lemmas.Bool.{true≢false}
+use Rattle.std.proofs.Common.{◌≡◌, ◌≢◌, ◌∙◌, ℕ, ◌+◌, ◌^◌, ◌≤◌, true, false, List, [], ◌∷◌, inl, inr, refl, ap, sym, subst, Some, None}
+use Rattle.std.proofs.Common.{Option, arith, is_some, option_map, IfSome, MatchOption, true≢false}
 use Rattle.std.proofs.lemmas.Option.{same_Some}
-use Rattle.lnt_spans.specs.declared.ahead.Ahead.{Ahead}
-use Rattle.lnt_spans.specs.declared.answer.Answer.{Answer}
 use Rattle.lnt_spans.specs.declared.merge.Merge.{Merge}
-use Rattle.lnt_spans.specs.declared.position.Position.{Position}
-use Rattle.lnt_spans.specs.declared.span.Span.{Span}
-use Rattle.lnt_spans.specs.Ahead.{IsAhead}
+use Rattle.lnt_spans.specs.Ahead.{IsAhead, Ahead}
 use Rattle.lnt_spans.specs.AnyStretches.{Stretch}
 use Rattle.lnt_spans.specs.Counts.{addresses_answered, addresses_between}
 use Rattle.lnt_spans.specs.Differences.{IsFirstDifference}
 use Rattle.lnt_spans.specs.Merged.{AnswersNothing, AreCounted, AreMergedBy, ArePassed, BeginFrom, HasGap, HasMerged}
 use Rattle.lnt_spans.specs.Merged.{HasOneMore, IsMistakenIn, Says, answer_told, until}
 use Rattle.lnt_spans.specs.Partial.{IsRightAt, where_missed, where_none}
-use Rattle.lnt_spans.specs.Positions.{IsBelow, IsAtMost}
-use Rattle.lnt_spans.specs.Spans.{AreInOrder, span_answer}
+use Rattle.lnt_spans.specs.Positions.{IsBelow, IsAtMost, Position}
+use Rattle.lnt_spans.specs.Spans.{AreInOrder, span_answer, Answer, Span}
 use Rattle.lnt_spans.proofs.AheadLaws.{left_first}
 use Rattle.lnt_spans.proofs.AnsweringLaws.{answer_after, answer_in, first_holds, none_before, rest_in_order}
 use Rattle.lnt_spans.proofs.CountLemmas.{added_range, most_addresses, no_addresses, same_addresses}

@@ -2,8 +2,7 @@
 use Rattle.std.proofs.Common.{◌≡◌, ℕ, true, false, ◌⊎◌, inl, inr, sym, refl, arith}
 use Rattle.std.proofs.lemmas.Bool.{cases_Bool}
 use Rattle.std.proofs.lemmas.Bool.Decides.{nat_tests}
-use Rattle.lnt_spans.specs.declared.position.Position.{Position}
-use Rattle.lnt_spans.specs.Positions.{IsBelow, IsAtMost, is_below, is_at_most}
+use Rattle.lnt_spans.specs.Positions.{IsBelow, IsAtMost, is_below, is_at_most, Position}
 use Rattle.std.proofs.lemmas.Grind.{common_steps}
 
 -- ---- what the tests say

@@ -1,16 +1,12 @@
 -- Two sides are followed run by run, whatever they answer: how long both answers stay, and that what was told so far of where
 -- they differ is a prefix of all that there is to tell.
-use Rattle.std.proofs.Common.{◌≡◌, ◌≢◌, ◌∙◌, ℕ, zero, suc, ◌+◌, ◌<◌, ◌≤◌, List, [], ◌∷◌, ◌++◌, ◌⊎◌, inl, inr, ap}
-use Rattle.std.proofs.Common.{Some, None, Option, arith, length, append-nil, append_assoc, refl, subst, sym}
+use Rattle.std.proofs.Common.{◌≡◌, ◌≢◌, ◌∙◌, ℕ, zero, suc, ◌+◌, ◌<◌, ◌≤◌, List, [], ◌∷◌, ◌++◌, ◌⊎◌, inl, inr, ap, Some, None, Option, arith}
+use Rattle.std.proofs.Common.{length, append-nil, append_assoc, refl, subst, sym, option_map}
 use Rattle.std.proofs.lemmas.Option.{same_Some}
-use Rattle.std.specs.Option.{option_map}
-use Rattle.lnt_spans.specs.declared.answer.Answer.{Answer}
-use Rattle.lnt_spans.specs.declared.position.Position.{Position}
-use Rattle.lnt_spans.specs.declared.span.Span.{Span}
 use Rattle.lnt_spans.specs.AnyStretches.{AreAnswers, Stay}
-use Rattle.lnt_spans.specs.Positions.{IsBelow, IsAtMost}
+use Rattle.lnt_spans.specs.Positions.{IsBelow, IsAtMost, Position}
 use Rattle.lnt_spans.specs.Remaining.{EndsAfter}
-use Rattle.lnt_spans.specs.Spans.{AreInOrder, span_answer}
+use Rattle.lnt_spans.specs.Spans.{AreInOrder, span_answer, Answer, Span}
 use Rattle.lnt_spans.specs.Runs.{IsBefore, IsRun, IsUpTo, run_end}
 use Rattle.lnt_spans.proofs.AnsweringLaws.{answer_after, answer_in, first_holds, none_before, rest_in_order}
 use Rattle.lnt_spans.proofs.PositionLaws.{at_most_below, at_most_itself, at_most_trans, below_at_most, below_is_at_most}

@@ -1,15 +1,10 @@
 -- One side's answers, followed from one end of an answer to the next.
-use Rattle.std.proofs.Common.{◌≡◌, ◌∙◌, List, ◌∷◌, ap, sym, subst, Some, None, Option, arith}
-use Rattle.std.specs.Option.{option_map}
-use Rattle.lnt_spans.specs.declared.ahead.Ahead.{Ahead}
-use Rattle.lnt_spans.specs.declared.answer.Answer.{Answer}
-use Rattle.lnt_spans.specs.declared.position.Position.{Position}
-use Rattle.lnt_spans.specs.declared.span.Span.{Span}
-use Rattle.lnt_spans.specs.Ahead.{IsAhead}
-use Rattle.lnt_spans.specs.Positions.{IsBelow, IsAtMost}
+use Rattle.std.proofs.Common.{◌≡◌, ◌∙◌, List, ◌∷◌, ap, sym, subst, Some, None, Option, arith, option_map}
+use Rattle.lnt_spans.specs.Ahead.{IsAhead, Ahead}
+use Rattle.lnt_spans.specs.Positions.{IsBelow, IsAtMost, Position}
 use Rattle.lnt_spans.specs.Remaining.{EndsAfter}
 use Rattle.lnt_spans.specs.Runs.{IsAheadAt, IsRun, IsSideAt, IsUpTo, run_end}
-use Rattle.lnt_spans.specs.Spans.{AreInOrder, span_answer}
+use Rattle.lnt_spans.specs.Spans.{AreInOrder, span_answer, Answer, Span}
 use Rattle.lnt_spans.proofs.AheadLaws.{left_first, none_left}
 use Rattle.lnt_spans.proofs.AnsweringLaws.{answer_after, answer_in, none_before, rest_in_order}
 use Rattle.lnt_spans.proofs.PositionLaws.{at_most_trans}

@@ -1,21 +1,15 @@
 -- The stretches given so far are a prefix of the list of all stretches.
-use Rattle.std.proofs.Common.{◌≡◌, ◌∙◌, List, [], ◌∷◌, ◌++◌, Option, ap, map, refl, subst, sym}
+use Rattle.std.proofs.Common.{◌≡◌, ◌∙◌, List, [], ◌∷◌, ◌++◌, Option, ap, map, refl, subst, sym, option_map}
 use Rattle.std.proofs.lemmas.List.{map-append}
-use Rattle.std.specs.Option.{option_map}
 use Rattle.lnt_spans.specs.declared.ahead.Ahead.{Ahead}
-use Rattle.lnt_spans.specs.declared.answer.Answer.{Answer}
-use Rattle.lnt_spans.specs.declared.any_stretches.Stretches.{Stretches}
-use Rattle.lnt_spans.specs.declared.difference.Difference.{Difference}
-use Rattle.lnt_spans.specs.declared.position.Position.{Position}
-use Rattle.lnt_spans.specs.declared.span.Span.{Span}
 use Rattle.lnt_spans.specs.declared.stretches.Differences.{Differences}
 use Rattle.lnt_spans.specs.Answers.{in_version}
-use Rattle.lnt_spans.specs.AnyStretches.{AreAllStretches, Stretch, stretch_at}
+use Rattle.lnt_spans.specs.AnyStretches.{AreAllStretches, Stretch, stretch_at, Position}
 use Rattle.lnt_spans.specs.Differing.{HasTold}
 use Rattle.lnt_spans.specs.Runs.{IsAheadAt, IsSideAt}
-use Rattle.lnt_spans.specs.Spans.{span_answer}
-use Rattle.lnt_spans.specs.Stretches.{AreStretches, stretch_of, stretches_of}
-use Rattle.lnt_spans.specs.Stretching.{HasGiven}
+use Rattle.lnt_spans.specs.Spans.{span_answer, Answer, Span}
+use Rattle.lnt_spans.specs.Stretches.{AreStretches, stretch_of, stretches_of, Difference}
+use Rattle.lnt_spans.specs.Stretching.{HasGiven, Stretches}
 use Rattle.lnt_spans.specs.ToldStretches.{AreToldBelow}
 use Rattle.lnt_spans.proofs.RunLaws.{AreDecided, GoesOn, HasRuns, all_told, span_runs}
 use Rattle.lnt_spans.proofs.SameLaws.{same_answers, same_options}

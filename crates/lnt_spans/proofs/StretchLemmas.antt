@@ -1,15 +1,8 @@
 -- Both sides, followed step by step as their stretches are told, and where nothing is told yet.
-use Rattle.std.proofs.Common.{◌≡◌, ◌∙◌, ℕ, ◌+◌, ◌^◌, ◌≤◌, Bool, true, false, cond, List, [], ◌∷◌, ◌++◌, ◌⊎◌, inl, inr, arith, is_some}
-use Rattle.std.proofs.Common.{ap, sym, subst, Some, None, Option}
+use Rattle.std.proofs.Common.{◌≡◌, ◌∙◌, ℕ, ◌+◌, ◌^◌, ◌≤◌, Bool, true, false, cond, List, [], ◌∷◌, ◌++◌, ◌⊎◌, inl, inr, arith, is_some, ap}
+use Rattle.std.proofs.Common.{sym, subst, Some, None, Option, option_map}
 use Rattle.std.specs.List.{AllByRecursion}
-use Rattle.std.specs.Option.{option_map}
-use Rattle.lnt_spans.specs.declared.ahead.Ahead.{Ahead}
-use Rattle.lnt_spans.specs.declared.answer.Answer.{Answer}
-use Rattle.lnt_spans.specs.declared.answer.Version.{Version}
-use Rattle.lnt_spans.specs.declared.any_stretches.Stretches.{Stretches}
-use Rattle.lnt_spans.specs.declared.position.Position.{Position}
-use Rattle.lnt_spans.specs.declared.span.Span.{Span}
-use Rattle.lnt_spans.specs.Ahead.{IsAhead}
+use Rattle.lnt_spans.specs.Ahead.{IsAhead, Ahead}
 use Rattle.lnt_spans.specs.Answers.{in_version}
 use Rattle.lnt_spans.specs.AnyStretches.{AreAllStretches, AreRising, IsInOne, Stretch, stretch_at}
 use Rattle.lnt_spans.specs.Comparing.{IsTold, end_of}
@@ -18,11 +11,11 @@ use Rattle.lnt_spans.specs.Differing.{HasTold}
 use Rattle.lnt_spans.specs.Laws.{FirstStretch}
 use Rattle.lnt_spans.specs.Merged.{until}
 use Rattle.lnt_spans.specs.Partial.{where_missed}
-use Rattle.lnt_spans.specs.Positions.{IsBelow, IsAtMost}
+use Rattle.lnt_spans.specs.Positions.{IsBelow, IsAtMost, Position}
 use Rattle.lnt_spans.specs.Runs.{IsAheadAt, IsRun, IsSideAt, IsUpTo}
-use Rattle.lnt_spans.specs.Spans.{AreInOrder, span_answer, version_answer}
+use Rattle.lnt_spans.specs.Spans.{AreInOrder, span_answer, version_answer, Answer, Version, Span}
 use Rattle.lnt_spans.specs.Stepping.{IsKnown, missed_between}
-use Rattle.lnt_spans.specs.Stretching.{HasBegun, HasGiven}
+use Rattle.lnt_spans.specs.Stretching.{HasBegun, HasGiven, Stretches}
 use Rattle.lnt_spans.specs.ToldStretches.{AreToldBelow}
 use Rattle.lnt_spans.proofs.AnsweringLaws.{back_in_order}
 use Rattle.lnt_spans.proofs.CountLemmas.{added_range, most_addresses, no_addresses, same_addresses}

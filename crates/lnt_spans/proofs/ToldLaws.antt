@@ -1,11 +1,8 @@
 -- Spans as a version of the address table tells them.
-use Rattle.std.proofs.Common.{◌≡◌, ◌∙◌, List, [], ◌∷◌, inl, inr, map, refl, ap, sym}
-use Rattle.std.specs.Option.{option_map}
-use Rattle.lnt_spans.specs.declared.answer.Version.{Version}
+use Rattle.std.proofs.Common.{◌≡◌, ◌∙◌, List, [], ◌∷◌, inl, inr, map, refl, ap, sym, option_map}
 use Rattle.lnt_spans.specs.declared.position.Position.{Position}
-use Rattle.lnt_spans.specs.declared.span.Span.{Span}
 use Rattle.lnt_spans.specs.Answers.{in_version}
-use Rattle.lnt_spans.specs.Spans.{AreInOrder, span_answer, span_in_version, version_answer}
+use Rattle.lnt_spans.specs.Spans.{AreInOrder, span_answer, span_in_version, version_answer, Version, Span}
 use Rattle.lnt_spans.proofs.AnsweringLaws.{answer_before, answer_after, answer_in}
 use Rattle.lnt_spans.proofs.PositionLaws.{order_cases}
 

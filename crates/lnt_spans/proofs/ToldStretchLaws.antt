@@ -2,9 +2,8 @@
 -- next.
 use Rattle.std.proofs.Common.{◌≡◌, ◌≢◌, ◌∙◌, List, [], ◌∷◌, ◌++◌, ◌⊎◌, inl, inr, sym, None, Option, arith}
 use Rattle.std.specs.List.{AllByRecursion}
-use Rattle.lnt_spans.specs.declared.position.Position.{Position}
 use Rattle.lnt_spans.specs.AnyStretches.{AreAllStretches, AreRising, BeginsStretch, IsInOne, IsInStretch, Stay, Stretch}
-use Rattle.lnt_spans.specs.Positions.{IsBelow, IsAtMost}
+use Rattle.lnt_spans.specs.Positions.{IsBelow, IsAtMost, Position}
 use Rattle.lnt_spans.specs.ToldStretches.{AreToldBelow, IsOpen}
 use Rattle.lnt_spans.proofs.PositionLaws.{at_most_itself, at_most_trans, below_at_most, below_is_at_most, order_cases}
 use Rattle.lnt_spans.proofs.RunLaws.{Moves, last_answers, stay_on}

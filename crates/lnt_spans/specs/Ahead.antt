@@ -1,9 +1,8 @@
 -- Spans that come one after another, the next one already taken: which are still to come, and how many at most.
 use Rattle.std.specs.Prelude.{ℕ, ◌+◌, cond, List, Option, Some, None}
-use Rattle.lnt_spans.specs.declared.position.Position.{Position}
 use Rattle.lnt_spans.specs.declared.span.Span.{Span}
-use Rattle.lnt_spans.specs.declared.ahead.Ahead.{Ahead}
-use Rattle.lnt_spans.specs.Positions.{is_below}
+pub use Rattle.lnt_spans.specs.declared.ahead.Ahead.{Ahead}
+use Rattle.lnt_spans.specs.Positions.{is_below, Position}
 use Rattle.lnt_spans.specs.Remaining.{SpansAreLeft}
 
 -- These spans, including the current one, are still to come.

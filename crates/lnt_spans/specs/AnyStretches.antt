@@ -4,7 +4,7 @@
 -- the table's.
 use Rattle.std.specs.Prelude.{◌≡◌, ◌≢◌, ◌⊎◌, List, [], ◌∷◌, Option}
 use Rattle.std.specs.List.{AllByRecursion}
-use Rattle.lnt_spans.specs.declared.position.Position.{Position}
+pub use Rattle.lnt_spans.specs.declared.position.Position.{Position}
 use Rattle.lnt_spans.specs.Positions.{IsBelow, IsAtMost}
 
 -- the first position of a stretch, and its two answers

@@ -1,9 +1,7 @@
 -- The records of a table by number, and where they end.
 use Rattle.std.specs.Prelude.{◌≡◌, List, [], ◌∷◌}
-use Rattle.lnt_spans.specs.declared.answer.Version.{Version}
 use Rattle.lnt_spans.specs.declared.position.Position.{Position}
-use Rattle.lnt_spans.specs.declared.span.Span.{Span}
-use Rattle.lnt_spans.specs.Spans.{span_in_version}
+use Rattle.lnt_spans.specs.Spans.{span_in_version, Version, Span}
 
 -- the end of the last record, or the origin if there is none
 abbrev pub end_of : List Span → Position

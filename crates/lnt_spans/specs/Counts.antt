@@ -1,9 +1,8 @@
 -- How many addresses answer. Of the positions at an address, the one with operation index 0 stands for it, and addresses have 64
 -- bits.
 use Rattle.std.specs.Prelude.{◌≡◌, ℕ, zero, suc, ◌+◌, ◌^◌, ◌≤◌, Bool, ◌&&◌, cond, is_some, List, [], ◌∷◌, Option}
-use Rattle.lnt_spans.specs.declared.position.Position.{Position}
 use Rattle.lnt_spans.specs.declared.span.Span.{Span}
-use Rattle.lnt_spans.specs.Positions.{is_below, is_at_most}
+use Rattle.lnt_spans.specs.Positions.{is_below, is_at_most, Position}
 
 -- how many of the numbers below n pass the test
 unfoldable pub count_below : (ℕ → Bool) → ℕ → ℕ

@@ -1,15 +1,9 @@
 -- Where a section and a table first answer differently.
 use Rattle.std.specs.Prelude.{◌≡◌, ◌≢◌, Option}
 use Rattle.lnt_spans.specs.declared.answer.Answer.{Answer}
-use Rattle.lnt_spans.specs.declared.difference.Difference.{Difference}
-use Rattle.lnt_spans.specs.declared.position.Position.{Position}
 use Rattle.lnt_spans.specs.AnyStretches.{Stretch}
-use Rattle.lnt_spans.specs.Positions.{IsBelow}
-use Rattle.lnt_spans.specs.Stretches.{stretch_of}
-
--- The two answer the same at every position.
-abbrev pub Agree : (Position → Option Answer) → (Position → Option Answer) → Type 0
-Agree by_section by_table = (p : Position) → by_section p ≡ by_table p
+use Rattle.lnt_spans.specs.Positions.{IsBelow, Position}
+use Rattle.lnt_spans.specs.Stretches.{stretch_of, Difference}
 
 -- At this position the two sides answer differently, with the answers given here, and at every lower one they answer alike.
 pub record IsFirstDifference {X : Type 0} (by_section by_table : Position → Option X) (first : Stretch X) : Type 0 where

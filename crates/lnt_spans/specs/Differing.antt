@@ -1,13 +1,10 @@
 -- How far the stretches of a section and a table by number were given: what contracts see of `Differences`.
 use Rattle.std.specs.Prelude.{ℕ, List, Option}
-use Rattle.lnt_spans.specs.declared.answer.Answer.{Answer}
-use Rattle.lnt_spans.specs.declared.difference.Difference.{Difference}
 use Rattle.lnt_spans.specs.declared.position.Position.{Position}
-use Rattle.lnt_spans.specs.declared.span.Span.{Span}
 use Rattle.lnt_spans.specs.declared.stretches.Differences.{Differences}
 use Rattle.lnt_spans.specs.Answers.{in_version}
-use Rattle.lnt_spans.specs.Runs.{IsAheadAt, runs_left}
-use Rattle.lnt_spans.specs.Stretches.{stretches_of}
+use Rattle.lnt_spans.specs.Runs.{IsAheadAt, runs_left, Answer, Span}
+use Rattle.lnt_spans.specs.Stretches.{stretches_of, Difference}
 use Rattle.lnt_spans.specs.Stretching.{HasGiven, stretches_to_give}
 
 -- These stretches were given, and the sources have the spans from there on still to come.

@@ -2,18 +2,15 @@
 -- contracts see of a `Merge`. The table is a function from positions to answers.
 use Rattle.std.specs.Prelude.{◌≡◌, ℕ, cond, List, [], ◌∷◌, MatchOption, Option, Some, None}
 use Rattle.std.specs.Option.{option_map, option_or}
-use Rattle.lnt_spans.specs.declared.answer.Answer.{Answer}
 use Rattle.lnt_spans.specs.declared.found.Found.{Found}
 use Rattle.lnt_spans.specs.declared.merge.Merge.{Merge}
-use Rattle.lnt_spans.specs.declared.position.Position.{Position}
-use Rattle.lnt_spans.specs.declared.span.Span.{Span}
 use Rattle.lnt_spans.specs.Ahead.{IsAhead}
 use Rattle.lnt_spans.specs.AnyStretches.{Stretch}
 use Rattle.lnt_spans.specs.Counts.{addresses_answered}
 use Rattle.lnt_spans.specs.Differences.{IsFirstDifference}
 use Rattle.lnt_spans.specs.Partial.{IsFirstMistake, IsRightAt, IsRightWherever, where_missed}
-use Rattle.lnt_spans.specs.Positions.{IsBelow, IsAtMost, is_below}
-use Rattle.lnt_spans.specs.Spans.{AreInOrder, span_answer}
+use Rattle.lnt_spans.specs.Positions.{IsBelow, IsAtMost, is_below, Position}
+use Rattle.lnt_spans.specs.Spans.{AreInOrder, span_answer, Answer, Span}
 
 -- what spans answer at a position, as a table contains it
 abbrev pub answer_told : {X : Type 0} → (Answer → X) → List Span → Position → Option X

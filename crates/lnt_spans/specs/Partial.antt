@@ -1,10 +1,9 @@
 -- Tables that answer a part of the positions, and are right there, whatever an answer is.
 use Rattle.std.specs.Prelude.{◌≡◌, ◌≢◌, ◌⊎◌, ℕ, List, Option, Some, None, IsSome}
 use Rattle.std.specs.List.{AllByRecursion}
-use Rattle.lnt_spans.specs.declared.position.Position.{Position}
 use Rattle.lnt_spans.specs.AnyStretches.{AreRising, BeginsStretch, IsInOne, Stretch}
 use Rattle.lnt_spans.specs.Counts.{addresses_answered}
-use Rattle.lnt_spans.specs.Positions.{IsBelow}
+use Rattle.lnt_spans.specs.Positions.{IsBelow, Position}
 
 -- At p the table has no answer, or that of the section.
 abbrev pub IsRightAt : {X : Type 0} → (Position → Option X) → (Position → Option X) → Position → Type 0

@@ -1,19 +1,15 @@
 -- What the laws of tables that answer a part say, and those of counts of addresses, for any type of answers.
 use Rattle.std.specs.Prelude.{◌≡◌, ◌↔◌, ℕ, ◌+◌, ◌^◌, ◌≤◌, is_some, IsSome, List, [], ◌∷◌, Option, Some, None}
 use Rattle.std.specs.List.{AllByRecursion}
-use Rattle.lnt_spans.specs.declared.answer.Answer.{Answer}
-use Rattle.lnt_spans.specs.declared.difference.Difference.{Difference}
-use Rattle.lnt_spans.specs.declared.position.Position.{Position}
-use Rattle.lnt_spans.specs.declared.span.Span.{Span}
 use Rattle.lnt_spans.specs.AnyStretches.{AreAllStretches, Stretch}
 use Rattle.lnt_spans.specs.Counts.{addresses_answered, addresses_between, addresses_of, whole}
 use Rattle.lnt_spans.specs.Differences.{IsLeastDifference}
 use Rattle.lnt_spans.specs.Fitting.{FitSpans}
 use Rattle.lnt_spans.specs.Instructions.{IsOfInstructions}
 use Rattle.lnt_spans.specs.Partial.{AreAllMistakes, AreCounts, IsFirstMistake, IsRightWherever, where_answered, where_missed}
-use Rattle.lnt_spans.specs.Positions.{IsBelow, IsAtMost}
-use Rattle.lnt_spans.specs.Spans.{AreInOrder, span_answer}
-use Rattle.lnt_spans.specs.Stretches.{stretch_of}
+use Rattle.lnt_spans.specs.Positions.{IsBelow, IsAtMost, Position}
+use Rattle.lnt_spans.specs.Spans.{AreInOrder, span_answer, Answer, Span}
+use Rattle.lnt_spans.specs.Stretches.{stretch_of, Difference}
 
 -- Both answer the same at every position.
 abbrev pub AnswerAlike : {X : Type 0} → (Position → Option X) → (Position → Option X) → Type 0

@@ -1,6 +1,6 @@
 -- Positions: pairs of an address and an operation index, ordered by address, then by operation index.
 use Rattle.std.specs.Prelude.{◌≡◌, ◌<◌, ◌≤◌, Bool, ◌&&◌, ◌||◌, nat_lt, nat_le, ◌==◌}
-use Rattle.lnt_spans.specs.declared.position.Position.{Position}
+pub use Rattle.lnt_spans.specs.declared.position.Position.{Position}
 
 -- p comes before q: its address isn't greater, and at the same address its operation index is lower.
 pub record IsBelow (p q : Position) : Type 0 where

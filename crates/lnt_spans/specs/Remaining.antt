@@ -1,9 +1,8 @@
 -- The spans that are left of a source, from a position on: the next one is already taken, and the others are to come.
 use Rattle.std.specs.Prelude.{◌≡◌, ℕ, ◌-◌, List, [], ◌∷◌, drop, length, Option, Some, None}
 use Rattle.lnt_spans.specs.declared.listed.SpanList.{SpanList}
-use Rattle.lnt_spans.specs.declared.position.Position.{Position}
 use Rattle.lnt_spans.specs.declared.span.Span.{Span}
-use Rattle.lnt_spans.specs.Positions.{IsBelow}
+use Rattle.lnt_spans.specs.Positions.{IsBelow, Position}
 
 -- These spans are left: the next one is already taken, if there is one, and the others are to come.
 abbrev pub SpansAreLeft : {S : Type 0} → (S → List Span → Type 0) → Option Span → S → List Span → Type 0

@@ -1,12 +1,9 @@
 -- Answers from a position on, run by run, whatever an answer is: each run holds for as long as the answer stays the same.
-use Rattle.std.specs.Prelude.{◌≡◌, ℕ, ◌+◌, cond, List, Option, Some, None}
-use Rattle.std.specs.Option.{option_map}
-use Rattle.lnt_spans.specs.declared.ahead.Ahead.{Ahead}
-use Rattle.lnt_spans.specs.declared.answer.Answer.{Answer}
-use Rattle.lnt_spans.specs.declared.position.Position.{Position}
-use Rattle.lnt_spans.specs.declared.span.Span.{Span}
-use Rattle.lnt_spans.specs.Ahead.{count_ahead, gap_before, IsAhead}
-use Rattle.lnt_spans.specs.Positions.{IsBelow, IsAtMost, is_below}
+use Rattle.std.specs.Prelude.{◌≡◌, ℕ, ◌+◌, cond, List, Option, Some, None, option_map}
+pub use Rattle.lnt_spans.specs.declared.answer.Answer.{Answer}
+pub use Rattle.lnt_spans.specs.declared.span.Span.{Span}
+use Rattle.lnt_spans.specs.Ahead.{count_ahead, gap_before, IsAhead, Ahead}
+use Rattle.lnt_spans.specs.Positions.{IsBelow, IsAtMost, is_below, Position}
 use Rattle.lnt_spans.specs.Remaining.{EndsAfter}
 use Rattle.lnt_spans.specs.Spans.{AreInOrder, span_answer}
 

@@ -1,19 +1,14 @@
 -- What the bodies of this crate say of one step. No public contract speaks of it.
 use Rattle.std.specs.Prelude.{◌≡◌, ◌≢◌, ◌⊎◌, ℕ, ◌<◌, ◌≤◌, Bool, ◌&&◌, cond, is_some, is_none, List, [], ◌∷◌, ◌++◌, Option, Some, None}
-use Rattle.std.specs.Bool.{MatchBool}
-use Rattle.std.specs.Option.{option_map}
-use Rattle.lnt_spans.specs.declared.answer.Answer.{Answer}
+use Rattle.std.specs.Prelude.{MatchBool, option_map}
 use Rattle.lnt_spans.specs.declared.any_stretches.Step.{Step}
-use Rattle.lnt_spans.specs.declared.any_stretches.Stretches.{Stretches}
-use Rattle.lnt_spans.specs.declared.position.Position.{Position}
 use Rattle.lnt_spans.specs.declared.runs.Run.{Run}
-use Rattle.lnt_spans.specs.declared.span.Span.{Span}
 use Rattle.lnt_spans.specs.AnyStretches.{AreAllStretches, Stretch, stretch_at}
 use Rattle.lnt_spans.specs.Counts.{addresses_answered, addresses_between}
 use Rattle.lnt_spans.specs.Partial.{where_missed}
-use Rattle.lnt_spans.specs.Positions.{IsAtMost}
-use Rattle.lnt_spans.specs.Runs.{IsBefore, IsUpTo, runs_left}
-use Rattle.lnt_spans.specs.Stretching.{HasGiven}
+use Rattle.lnt_spans.specs.Positions.{IsAtMost, Position}
+use Rattle.lnt_spans.specs.Runs.{IsBefore, IsUpTo, runs_left, Answer, Span}
+use Rattle.lnt_spans.specs.Stretching.{HasGiven, Stretches}
 
 -- Within this run of a side, which began at `from`: the side still stands there, and up to the run's end it answers as the run does.
 pub record IsInRun {N A V : Type 0} (is_at : N → Position → (Position → Option V) → Type 0) (value_of : A → V) (run : Run A)

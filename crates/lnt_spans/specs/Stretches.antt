@@ -2,9 +2,8 @@
 -- answers that stay the same from there on.
 use Rattle.std.specs.Prelude.{List, Option, map}
 use Rattle.lnt_spans.specs.declared.answer.Answer.{Answer}
-use Rattle.lnt_spans.specs.declared.difference.Difference.{Difference}
-use Rattle.lnt_spans.specs.declared.position.Position.{Position}
-use Rattle.lnt_spans.specs.AnyStretches.{AreAllStretches, Stretch}
+pub use Rattle.lnt_spans.specs.declared.difference.Difference.{Difference}
+use Rattle.lnt_spans.specs.AnyStretches.{AreAllStretches, Stretch, Position}
 
 -- a difference as a stretch
 abbrev pub stretch_of : Difference → Stretch Answer

@@ -1,17 +1,13 @@
 -- How far the stretches of a section and a table were given, whatever a table contains of an answer: what contracts see of
 -- `Stretches`.
-use Rattle.std.specs.Prelude.{◌≡◌, ℕ, ◌+◌, List, Option, None}
-use Rattle.std.specs.Option.{option_map}
-use Rattle.lnt_spans.specs.declared.answer.Answer.{Answer}
-use Rattle.lnt_spans.specs.declared.any_stretches.Stretches.{Stretches}
-use Rattle.lnt_spans.specs.declared.position.Position.{Position}
-use Rattle.lnt_spans.specs.declared.span.Span.{Span}
+use Rattle.std.specs.Prelude.{◌≡◌, ℕ, ◌+◌, List, Option, None, option_map}
+pub use Rattle.lnt_spans.specs.declared.any_stretches.Stretches.{Stretches}
 use Rattle.lnt_spans.specs.Ahead.{IsAhead}
-use Rattle.lnt_spans.specs.AnyStretches.{Stretch}
+use Rattle.lnt_spans.specs.AnyStretches.{Stretch, Position}
 use Rattle.lnt_spans.specs.Counts.{addresses_answered}
 use Rattle.lnt_spans.specs.Merged.{until}
 use Rattle.lnt_spans.specs.Partial.{where_missed}
-use Rattle.lnt_spans.specs.Runs.{IsAheadAt, IsSideAt, runs_left}
+use Rattle.lnt_spans.specs.Runs.{IsAheadAt, IsSideAt, runs_left, Answer, Span}
 use Rattle.lnt_spans.specs.ToldStretches.{AreToldBelow}
 
 -- These stretches were given, both sides answer so from there on, and below, the section answers at as many addresses at which the

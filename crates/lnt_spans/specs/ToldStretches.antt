@@ -1,9 +1,8 @@
 -- Which stretches were given, for any kind of answer: exactly those that begin below a position.
 use Rattle.std.specs.Prelude.{◌≡◌, ◌⊎◌, List, Option}
 use Rattle.std.specs.List.{AllByRecursion}
-use Rattle.lnt_spans.specs.declared.position.Position.{Position}
 use Rattle.lnt_spans.specs.AnyStretches.{AreAnswers, AreRising, BeginsStretch, IsInOne, Stay, Stretch}
-use Rattle.lnt_spans.specs.Positions.{IsBelow, IsAtMost}
+use Rattle.lnt_spans.specs.Positions.{IsBelow, IsAtMost, Position}
 
 -- The positions from `at` on, for as long as both sides keep these two answers, all lie in one of the stretches given.
 abbrev pub IsOpen : {X : Type 0} → (Position → Option X) → (Position → Option X) → Position → Option X → Option X → List (Stretch X)

@@ -1,20 +1,17 @@
 //! Lists all stretches of positions at which a section and a table answer differently, one after another.
-ghost use Rattle.std.specs.Prelude.{◌≡◌, ◌≢◌, ◌⊎◌, ◌+◌, ◌^◌, ◌<◌, ◌≤◌, List, ◌∷◌, ◌++◌, [], None, Option, Some, MatchOption};
-ghost use Rattle.std.specs.Prelude.{IfOk, IfSome, OnOk};
-ghost use Rattle.std.specs.Bool.{MatchBool};
-ghost use Rattle.std.specs.Option.{option_map};
+ghost use Rattle.std.specs.Prelude.{◌≡◌, ◌≢◌, ◌⊎◌, ◌+◌, ◌^◌, ◌<◌, ◌≤◌, List, ◌∷◌, ◌++◌, [], None, Option, Some, MatchOption, IfOk, IfSome};
+ghost use Rattle.std.specs.Prelude.{OnOk, MatchBool, option_map};
 ghost use Rattle.lnt_spans.specs.declared.position.Position as spec_position;
 ghost use Rattle.lnt_spans.specs.AnyStretches.{AreAllStretches, Stretch};
 ghost use Rattle.lnt_spans.specs.Counts.{addresses_answered};
 ghost use Rattle.lnt_spans.specs.Partial.{where_missed};
-ghost use Rattle.lnt_spans.specs.Positions.{IsAtMost, IsBelow};
 ghost use Rattle.lnt_spans.specs.Runs.{IsBefore, IsUpTo};
 ghost use Rattle.lnt_spans.specs.Stepping.{HasFewerOrEnds, HasGivenIn, IsInRun, IsKnown, StretchStep, missed_between};
 ghost use Rattle.lnt_spans.specs.Stretching.{HasBegun, HasGiven, stretches_to_give};
 
 use crate::ahead::Ahead;
 use crate::answer::Answer;
-use crate::counts::AddressCount;
+use crate::counts::add_between;
 use crate::position::Position;
 use crate::runs::{Run, Runs};
 use crate::source::SpanSource;
@@ -34,7 +31,7 @@ pub struct Stretches<S, N, A> {
     // both answers right below `at`
     before: Both<A>,
     // the addresses below `at` at which the section answers and the table doesn't
-    missed: AddressCount,
+    missed: u128,
 }
 
 // The answers of a section and a table.
@@ -66,7 +63,7 @@ impl<S: SpanSource, N, A> Stretches<S, N, A> {
                 section: None,
                 table: None,
             },
-            missed: AddressCount::new(),
+            missed: 0,
         }
     }
 
@@ -74,7 +71,7 @@ impl<S: SpanSource, N, A> Stretches<S, N, A> {
     pub fn missed(&self) -> u128
         ensures { result ≡ self.now.missed }
     {
-        self.missed.count()
+        self.missed
     }
 }
 
@@ -197,30 +194,21 @@ fn earlier_end(one: Option<Position>, other: Option<Position>) -> Option<Positio
     ensures { MatchOption result ((one ≡ None) × (other ≡ None))
         (λ end. IsUpTo end one × IsUpTo end other × ((one ≡ Some end) ⊎ (other ≡ Some end))) }
 {
-    let Some(first) = one else {
-        return other;
-    };
-    let Some(second) = other else {
-        return one;
-    };
-    Some(earlier(first, second))
-}
-
-#[inline(always)]
-fn earlier(p: Position, q: Position) -> Position
-    ensures { (IsBelow q p × (result ≡ q)) ⊎ (IsAtMost p q × (result ≡ p)) }
-{
-    if q.is_below(p) { q } else { p }
+    match (one, other) {
+        (Some(first), Some(second)) if second.is_below(first) => other,
+        (None, _) => other,
+        _ => one,
+    }
 }
 
 // Adds the addresses from a position up to another, if the section answers there and the table doesn't.
 #[inline(always)]
-fn count_missed<A: Copy>(missed: &mut AddressCount, both: Both<A>, at: Position, end: Position)
+fn count_missed<A: Copy>(missed: &mut u128, both: Both<A>, at: Position, end: Position)
     ensures { missed.old + missed_between both.section both.table at end ≤ 2 ^ 64
         → missed.new ≡ missed.old + missed_between both.section both.table at end }
 {
     if both.section.is_some() && both.table.is_none() {
-        missed.add(at, end);
+        add_between(missed, at, end);
     }
 }
 

@@ -7,54 +7,21 @@ ghost use Rattle.lnt_spans.specs.Spans.{AreInOrder, span_answer};
 
 use crate::position::Position;
 use crate::source::SpanSource;
-use std::marker::Model;
 
-/// The number of addresses in ranges of positions, added up range by range. An address is in a range if its position with
-/// operation index 0 is.
-///
-/// Contracts see the number. There are 2^64 addresses, so a `u64` doesn't hold every such number.
-#[derive(Debug, Drop)]
-pub struct AddressCount {
-    count: u128,
-}
-
-impl Model for AddressCount {
-    ghost use Rattle.std.specs.Prelude.{ℕ};
-
-    ghost Value = { ℕ };
-
-    ghost view = { λ c. c.count };
-}
-
-impl AddressCount {
-    /// The number of addresses in no range.
-    pub fn new() -> AddressCount
-        ensures { result ≡ 0 }
-    {
-        AddressCount { count: 0 }
-    }
-
-    /// Adds the addresses in the half-open range from `low` up to `high`. The sum is right as long as it is at most 2^64, as
-    /// it is if no two ranges hold the same address.
-    #[inline(always)]
-    pub fn add(&mut self, low: Position, high: Position)
-        ensures { self.old + addresses_between low high ≤ 2 ^ 64 → self.new ≡ self.old + addresses_between low high }
-    {
-        self.count = self.count.saturating_add(count_between(low, high));
-    }
-
-    /// The number so far.
-    pub fn count(&self) -> u128
-        ensures { result ≡ self.now }
-    {
-        self.count
-    }
-}
-
-/// The number of addresses in the half-open range of positions from `low` up to `high`: of those whose position with
-/// operation index 0 is in the range.
+// Adds the addresses in the half-open range of positions from `low` up to `high` to a number of addresses, as `count_between`
+// counts them. The sum is right as long as it is at most 2^64, as it is if no two ranges hold the same address. There are 2^64
+// addresses, so a `u64` doesn't hold every such number.
 #[inline(always)]
-pub fn count_between(low: Position, high: Position) -> u128
+pub(crate) fn add_between(count: &mut u128, low: Position, high: Position)
+    ensures { count.old + addresses_between low high ≤ 2 ^ 64 → count.new ≡ count.old + addresses_between low high }
+{
+    *count = count.saturating_add(count_between(low, high));
+}
+
+// The number of addresses in the half-open range of positions from `low` up to `high`: of those whose position with
+// operation index 0 is in the range.
+#[inline(always)]
+fn count_between(low: Position, high: Position) -> u128
     ensures count { result ≡ addresses_between low high }
     ensures bound { result ≤ 2 ^ 64 }
 {
@@ -81,17 +48,15 @@ fn first_from(position: Position) -> u128
 pub fn count_all<S: SpanSource + Drop>(spans: S) -> u128
     ensures { (list : List spec.Span) → S.to_come spans list → AreInOrder list → result ≡ addresses_answered (span_answer list) }
 {
-    count_rest(spans, AddressCount::new())
+    count_rest(spans, 0)
 }
 
 // The number of addresses that were counted, with those of the spans that are left.
-pub(crate) fn count_rest<S: SpanSource + Drop>(spans: S, count: AddressCount) -> u128
+pub(crate) fn count_rest<S: SpanSource + Drop>(mut spans: S, mut count: u128) -> u128
     ensures { (total : ℕ) (list : List spec.Span) → CountsTo S.to_come total spans count list → result ≡ total }
 {
-    let mut spans = spans;
-    let mut count = count;
     while let Some(span) = spans.next_span() {
-        count.add(span.low, span.high);
+        add_between(&mut count, span.low, span.high);
     }
-    count.count()
+    count
 }

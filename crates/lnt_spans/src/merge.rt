@@ -1,6 +1,5 @@
 //! Finds where a section and a table first answer differently, and where the table is first wrong, in one pass over both.
-ghost use Rattle.std.specs.Prelude.{◌≡◌, List, Option, IfOk, IfSome, MatchOption, None, OnOk, Some};
-ghost use Rattle.std.specs.Option.{option_map};
+ghost use Rattle.std.specs.Prelude.{◌≡◌, List, Option, IfOk, IfSome, MatchOption, None, OnOk, Some, option_map};
 ghost use Rattle.lnt_spans.specs.declared.answer.Answer.{Answer as SpecAnswer};
 ghost use Rattle.lnt_spans.specs.declared.position.Position as spec_position;
 ghost use Rattle.lnt_spans.specs.declared.span.Span as spec;
@@ -10,7 +9,7 @@ ghost use Rattle.lnt_spans.specs.Merged.{Says, answer_told, end_of_records};
 ghost use Rattle.lnt_spans.specs.Positions.{IsAtMost, IsBelow};
 
 use crate::ahead::Ahead;
-use crate::counts::{AddressCount, count_rest};
+use crate::counts::{add_between, count_rest};
 use crate::found::Found;
 use crate::position::Position;
 use crate::source::SpanSource;
@@ -32,7 +31,7 @@ pub struct Merge<S, D> {
     // the first position below `at` at which the table answers, and the section otherwise or not at all
     mistake: Option<D>,
     // the addresses below `at` at which the section answers and the table doesn't, if there is no mistake
-    missed: AddressCount,
+    missed: u128,
 }
 
 impl<S: SpanSource + Drop, D: Drop> Merge<S, D> {
@@ -49,7 +48,7 @@ impl<S: SpanSource + Drop, D: Drop> Merge<S, D> {
             at,
             gap: None,
             mistake: None,
-            missed: AddressCount::new(),
+            missed: 0,
         }
     }
 
@@ -109,16 +108,8 @@ impl<S: SpanSource + Drop, D: Drop> Merge<S, D> {
             mut missed,
             ..
         } = self;
-        if mistake.is_some() {
-            let missed = missed.count();
-            return Ok(Found {
-                gap,
-                mistake,
-                missed,
-            });
-        }
-        let Some(span) = spans.next else {
-            let missed = missed.count();
+        let next = if mistake.is_some() { None } else { spans.next };
+        let Some(span) = next else {
             return Ok(Found {
                 gap,
                 mistake,
@@ -129,7 +120,7 @@ impl<S: SpanSource + Drop, D: Drop> Merge<S, D> {
             Some(gap) => gap,
             None => telling.difference(span.low, None, Some(span.answer))?,
         };
-        missed.add(span.low, span.high);
+        add_between(&mut missed, span.low, span.high);
         Ok(Found {
             gap: Some(gap),
             mistake: None,
@@ -145,7 +136,7 @@ fn pass_gap<S: SpanSource, T: Telling>(
     telling: &T,
     spans: &mut Ahead<S>,
     gap: &mut Option<T::Difference>,
-    missed: &mut AddressCount,
+    missed: &mut u128,
     end: Position,
 ) -> Result<(), T::Refusal>
     ensures { OnOk result ((list : List spec.Span) (by_table : spec_position.Position → Option T.Told) (at : spec_position.Position)
@@ -167,11 +158,7 @@ fn pass_gap<S: SpanSource, T: Telling>(
 
 // Passes the spans of a section below `end`, where the table doesn't answer, and counts their addresses. `T` says what the table
 // contains of an answer.
-fn pass_below<S: SpanSource, T: Telling>(
-    spans: &mut Ahead<S>,
-    missed: &mut AddressCount,
-    end: Position,
-)
+fn pass_below<S: SpanSource, T: Telling>(spans: &mut Ahead<S>, missed: &mut u128, end: Position)
     ensures { (tell : SpecAnswer → T.Told) (list : List spec.Span) (by_table : spec_position.Position → Option T.Told)
         (at : spec_position.Position) → IsAtMost at end → AnswersNothing by_table at end
         → AreCounted tell list by_table at (IsAhead S.to_come spans.old) missed.old
@@ -179,11 +166,11 @@ fn pass_below<S: SpanSource, T: Telling>(
 {
     while let Some(span) = begun_below(spans.next, end) {
         if end.is_below(span.high) {
-            missed.add(span.low, end);
+            add_between(missed, span.low, end);
             spans.next = Some(Span { low: end, ..span });
             return;
         }
-        missed.add(span.low, span.high);
+        add_between(missed, span.low, span.high);
         spans.pass();
     }
 }
@@ -234,12 +221,7 @@ fn first_mistake<S: SpanSource, T: Telling>(
 fn begun_below(next: Option<Span>, at: Position) -> Option<Span>
     ensures { MatchOption result (IfSome next (λ span. IsAtMost at span.low)) (λ span. (next ≡ Some span) × IsBelow span.low at) }
 {
-    let span = next?;
-    if span.low.is_below(at) {
-        Some(span)
-    } else {
-        None
-    }
+    next.filter(|span| span.low.is_below(at))
 }
 
 // The span, if there is one and it begins at or below a position.
@@ -247,10 +229,5 @@ fn begun_below(next: Option<Span>, at: Position) -> Option<Span>
 fn begun_by(next: Option<Span>, at: Position) -> Option<Span>
     ensures { MatchOption result (IfSome next (λ span. IsBelow at span.low)) (λ span. (next ≡ Some span) × IsAtMost span.low at) }
 {
-    let span = next?;
-    if at.is_below(span.low) {
-        None
-    } else {
-        Some(span)
-    }
+    next.filter(|span| !at.is_below(span.low))
 }

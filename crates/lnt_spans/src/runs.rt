@@ -1,6 +1,5 @@
 //! Follows the answers of a section or a table, one after another.
-ghost use Rattle.std.specs.Prelude.{◌≡◌, None};
-ghost use Rattle.std.specs.Option.{option_map};
+ghost use Rattle.std.specs.Prelude.{◌≡◌, None, option_map};
 
 use crate::ahead::Ahead;
 use crate::answer::Answer;

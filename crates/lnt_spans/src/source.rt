@@ -23,10 +23,9 @@ pub trait SpanSource {
 }
 
 /// Collects all spans of a source. Fails only if memory runs out.
-pub fn collect<S: SpanSource + Drop>(alloc: Global, spans: S) -> Result<Vec<Span>, AllocError>
+pub fn collect<S: SpanSource + Drop>(alloc: Global, mut spans: S) -> Result<Vec<Span>, AllocError>
     ensures { IfOk result (λ all. (list : List spec.Span) → S.to_come spans list → all.items ≡ list) }
 {
-    let mut spans = spans;
     let mut all = Vec::new(alloc);
     while let Some(span) = spans.next_span() {
         all.push(span)?;

@@ -1,6 +1,5 @@
 //! How much of an answer a table contains.
-ghost use Rattle.std.specs.Prelude.{◌≡◌, ◌≢◌, IfOk, OnOk};
-ghost use Rattle.std.specs.Bool.{MatchBool};
+ghost use Rattle.std.specs.Prelude.{◌≡◌, ◌≢◌, IfOk, OnOk, MatchBool};
 
 use crate::answer::Answer;
 use crate::position::Position;

@@ -85,10 +85,7 @@ fn files_fault(
         }
         missing = first_missing(missing, index, file.directory_number() < directories);
     }
-    match missing {
-        Some(index) => Some(EntryTableFault::DirectoryNumber(index)),
-        None => None,
-    }
+    Some(EntryTableFault::DirectoryNumber(missing?))
 }
 
 // The first missing index among those up to `index`. `missing` is the first before it.

@@ -1,15 +1,11 @@
 //! The paths and MD5 sums of files, each built on request (DWARF 5, section 6.2.4.1).
-ghost use Rattle.std.specs.Prelude.{◌≡◌, ◌<◌, ◌↔◌, length, IfOk, IsSome};
-ghost use Rattle.std.specs.Option.{option_map};
-ghost use Rattle.lnt_header.specs.declared.header.Entry.{Entry};
-ghost use Rattle.lnt_files.specs.Paths.{join, directory_text, directory_path, file_path, path_bytes, listed_sum};
-ghost use Rattle.lnt_files.specs.Pieces.{whole_path};
+ghost use Rattle.std.specs.Prelude.{◌≡◌, ◌<◌, ◌↔◌, length, IfOk, IsSome, option_map};
+ghost use Rattle.lnt_files.specs.Paths.{path_bytes, listed_sum};
 ghost use Rattle.lnt_files.specs.Seen.{EntryAt};
 ghost use Rattle.lnt_files.specs.Tables.{AreUsableTables};
-ghost use Rattle.lnt_files.specs.Walks.{Says};
 
 use crate::contents::place_of;
-use crate::paths::{Pieces, add_pieces, begins_with_slash};
+use crate::paths::add_path;
 use crate::walk::{Entries, EntryView};
 use lnt_header::content::MD5;
 use lnt_header_bytes::{EntryTableView, HeaderView};
@@ -32,10 +28,7 @@ pub fn listed(header: &HeaderView<'_>, file: u64) -> Option<[u8; 16]>
 {
     let files = header.files();
     place_of(MD5, files.pairs())?;
-    match entry_at(files, file) {
-        Some(entry) => entry.listed(),
-        None => None,
-    }
+    entry_at(files, file)?.listed()
 }
 
 /// The path of the file: its text, below the path of its directory unless it begins with `/`. The path of a directory is
@@ -59,11 +52,8 @@ pub fn path_of(
     let Some(entry) = entry_at(header.files(), file) else {
         return Ok(None);
     };
-    let Some(pieces) = pieces_of(header, strings, &entry) else {
-        unreachable!()
-    };
     let mut path = Vec::new(alloc);
-    match add_pieces(&mut path, &pieces) {
+    match add_path(&mut path, header, strings, &entry) {
         Ok(()) => Ok(Some(path)),
         Err(error) => {
             drop(path);
@@ -72,9 +62,9 @@ pub fn path_of(
     }
 }
 
-// The components of the entry with this number. `None` if there is no such entry.
+/// The components of the entry with this number. `None` if there is no such entry.
 #[tactic(auto, using(crate::proofs::AtLemmas::after_first, crate::proofs::AtLemmas::after_more, crate::proofs::AtLemmas::not_there, crate::proofs::AtLemmas::entry_is, crate::proofs::AtLemmas::there))]
-fn entry_at<'t>(table: &'t EntryTableView<'t>, number: u64) -> Option<EntryView<'t>>
+pub(crate) fn entry_at<'t>(table: &'t EntryTableView<'t>, number: u64) -> Option<EntryView<'t>>
     ensures { EntryAt table.entry.now number result }
 {
     if number >= table.count() {
@@ -87,62 +77,4 @@ fn entry_at<'t>(table: &'t EntryTableView<'t>, number: u64) -> Option<EntryView<
         }
     }
     entries.next_entry()
-}
-
-// The pieces of the path of the file with these components. `None` if a text is missing.
-fn pieces_of<'s>(
-    header: &'s HeaderView<'s>,
-    strings: Strings<'s>,
-    file: &EntryView<'s>,
-) -> Option<Pieces<'s>>
-    ensures { (entry : Entry) → Says header.entry.now.file_format entry file.now
-        → option_map whole_path result ≡ file_path strings.entry.line.now strings.entry.general.now header.entry.now entry }
-{
-    let name = file.path_text(strings)?;
-    if begins_with_slash(name) {
-        return Some(Pieces {
-            first: &[],
-            directory: &[],
-            name,
-        });
-    }
-    let (first, directory) = directory_pieces(header, strings, file.directory_number())?;
-    Some(Pieces {
-        first,
-        directory,
-        name,
-    })
-}
-
-// The two pieces of a directory's path.
-fn directory_pieces<'s>(
-    header: &'s HeaderView<'s>,
-    strings: Strings<'s>,
-    number: u64,
-) -> Option<(&'s [u8], &'s [u8])>
-    ensures { option_map (λ pieces. join pieces.0.now pieces.1.now) result
-        ≡ directory_path strings.entry.line.now strings.entry.general.now header.entry.now number }
-{
-    let directory = directory_text(header, strings, number)?;
-    if number == 0 || begins_with_slash(directory) {
-        return Some((&[], directory));
-    }
-    let first = directory_text(header, strings, 0)?;
-    Some((first, directory))
-}
-
-// The text of the directory with this number.
-#[tactic(auto, using(crate::proofs::AtLemmas::directory_text_is, crate::proofs::AtLemmas::no_directory_text))]
-fn directory_text<'s>(
-    header: &'s HeaderView<'s>,
-    strings: Strings<'s>,
-    number: u64,
-) -> Option<&'s [u8]>
-    ensures { option_map (λ text. text.now) result ≡ directory_text strings.entry.line.now strings.entry.general.now header.entry.now
-        number }
-{
-    match entry_at(header.directories(), number) {
-        Some(entry) => entry.path_text(strings),
-        None => None,
-    }
 }

@@ -10,4 +10,4 @@ returns-clause-ok c =
 pub returns-in_err-path-clause-err : goal.returns-in_err-path-clause-err
 returns-in_err-path-clause-err c =
     let p = err_from_is_err_and c.from_residual.result c.from_residual.ensures.1 in
-    rw p.1 (no_path c.args.format c.args.pairs.now _ _ c.args.cursor.now c.requires.0 c.requires.1 c.in_err-path.ensures.err.none)
+    rw p.1 (no_path c.args.format c.args.pairs.now _ c.args.cursor.now c.requires c.in_err-path.ensures.err.none)

@@ -11,12 +11,12 @@ returns-clause-ok c =
 pub returns-in_err-path-clause-err : goal.returns-in_err-path-clause-err
 returns-in_err-path-clause-err c =
     let p = err_from_is_err_and c.from_residual.result c.from_residual.ensures.1 in
-    rw p.1 (no_path c.args.format c.args.pairs.now _ _ c.args.cursor.now c.requires.0 c.requires.1 c.in_err-path.ensures.err.none)
+    rw p.1 (no_path c.args.format c.args.pairs.now _ c.args.cursor.now c.requires c.in_err-path.ensures.err.none)
 
 pub returns-in_err-directory-clause-err : goal.returns-in_err-directory-clause-err
 returns-in_err-directory-clause-err c =
     let p = err_from_is_err_and c.from_residual-in_err-directory.result c.from_residual-in_err-directory.ensures.1 in
-    rw p.1 (no_index c.args.format c.args.pairs.now _ _ _ c.args.cursor.now _ c.requires.0 c.requires.1 c.in_ok-path.ensures.ok
+    rw p.1 (no_index c.args.format c.args.pairs.now _ _ c.args.cursor.now _ c.requires c.in_ok-path.ensures.ok
     c.in_err-directory.ensures.err.none)
 
 pub returns-in_err-sum-clause-err : goal.returns-in_err-sum-clause-err

@@ -1,8 +1,7 @@
-use Rattle.std.proofs.Common.{◌≡◌, ◌∙◌, ap, length, List, subst, sym}
+use Rattle.std.proofs.Common.{◌≡◌, ◌∙◌, ap, length, List, subst, sym, IsPermutation}
 use Rattle.lnt_spans.specs.declared.span.Span.{Span}
 use Rattle.lnt_spans.specs.declared.position.Position.{Position}
 use Rattle.lnt_spans.specs.Spans.{AreInOrder, span_answer}
-use Rattle.std.specs.List.Sorted.{IsPermutation}
 use Rattle.lnt_header.specs.Joins.{AreRising}
 use Rattle.lnt_sequences.specs.RowSpans.{spans_of}
 use Rattle.lnt_sequences.specs.Sequences.{kept_sequences, line_answer}

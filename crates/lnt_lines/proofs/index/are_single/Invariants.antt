@@ -1,5 +1,4 @@
-use Rattle.std.specs.Prelude.{take}
-use Rattle.std.specs.List.{All}
+use Rattle.std.proofs.Common.{take, All}
 use Rattle.lnt_lines.specs.Indexed.{HasOneOperation}
 use Rattle.lnt_lines.proofs.index.are_single.Given as goal
 

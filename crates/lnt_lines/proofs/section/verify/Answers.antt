@@ -1,9 +1,7 @@
-use Rattle.std.proofs.Common.{ℕ, List, None, Option, Some, subst}
-use Rattle.std.specs.Prelude.{IfSome}
-use Rattle.lnt_lines.specs.declared.options.Options.{Options}
+use Rattle.std.proofs.Common.{ℕ, List, None, Option, Some, subst, IfSome}
 use Rattle.lnt_lines.specs.Contents.{Contents, TellsOf}
 use Rattle.lnt_lines.specs.Drafts.{AreLinesOf, IsIndexOfSection}
-use Rattle.lnt_lines.specs.Good.{selected}
+use Rattle.lnt_lines.specs.Good.{selected, Options}
 use Rattle.lnt_lines.specs.Indexed.{Indexed, OfUnits}
 use Rattle.lnt_lines.proofs.section.verify.Goals as goal
 
@@ -22,5 +20,5 @@ told text general options (Some bytes) index lines i tells =
           (subst (λ (g : List ℕ). TellsOf index.line g selection lines) i.general_is (tells selection i.index_is));
     }
 
-pub returns-in-Ok-clause-judged : goal.returns-in-Ok-clause-judged
-returns-in-Ok-clause-judged g c = told _ _ _ _ _ _ (rw c.in-Good.is at c.in_ok-index.ensures.judged) c.in-Ok.ensures
+pub returns-in_ok-lines_of-in-Good-clause-judged : goal.returns-in_ok-lines_of-in-Good-clause-judged
+returns-in_ok-lines_of-in-Good-clause-judged g c = told _ _ _ _ _ _ (rw c.in-Good.is at c.in_ok-index.ensures.judged) c.in_ok-lines_of-in-Good.ensures

@@ -1,5 +1,4 @@
-use Rattle.std.proofs.Common.{Option, ap, ◌∙◌}
-use Rattle.std.specs.Option.{option_map}
+use Rattle.std.proofs.Common.{Option, ap, ◌∙◌, option_map}
 use Rattle.lnt_machine.specs.declared.row.Row.{Row}
 use Rattle.lnt_sequences.specs.Sequences.{answer_of}
 use Rattle.lnt_sequences.proofs.held.answer_at.Goals as goal

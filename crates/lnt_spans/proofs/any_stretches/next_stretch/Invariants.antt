@@ -1,6 +1,5 @@
 use Rattle.std.proofs.Common.{◌≤◌, List, Option}
-use Rattle.lnt_spans.specs.declared.position.Position.{Position}
-use Rattle.lnt_spans.specs.AnyStretches.{Stretch}
+use Rattle.lnt_spans.specs.AnyStretches.{Stretch, Position}
 use Rattle.lnt_spans.specs.Stretching.{HasGiven, stretches_to_give}
 use Rattle.lnt_spans.proofs.any_stretches.next_stretch.Given as goal
 

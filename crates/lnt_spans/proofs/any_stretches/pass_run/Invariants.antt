@@ -1,7 +1,5 @@
-use Rattle.std.proofs.Common.{◌≡◌, ◌≤◌, List, Option}
-use Rattle.std.specs.Prelude.{IfSome}
-use Rattle.lnt_spans.specs.declared.position.Position.{Position}
-use Rattle.lnt_spans.specs.AnyStretches.{Stretch}
+use Rattle.std.proofs.Common.{◌≡◌, ◌≤◌, List, Option, IfSome}
+use Rattle.lnt_spans.specs.AnyStretches.{Stretch, Position}
 use Rattle.lnt_spans.specs.Runs.{IsBefore, runs_left}
 use Rattle.lnt_spans.specs.Stepping.{IsInRun}
 use Rattle.lnt_spans.specs.Stretching.{HasGiven}

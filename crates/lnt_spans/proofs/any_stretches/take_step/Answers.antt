@@ -1,5 +1,4 @@
-use Rattle.std.proofs.Common.{inl, inr, subst}
-use Rattle.std.specs.Option.{option_map}
+use Rattle.std.proofs.Common.{inl, inr, subst, option_map}
 use Rattle.lnt_spans.specs.Runs.{IsAheadAt, IsUpTo}
 use Rattle.lnt_spans.specs.Stepping.{IsInRun}
 use Rattle.lnt_spans.proofs.InRunLemmas.{followed, run_on}

@@ -8,14 +8,14 @@ loop-span-init g c tell list by_table at le nothing counted = (at, le, nothing, 
 pub returns-then-is_below : goal.returns-then-is_below
 returns-then-is_below g c tell list by_table at le nothing counted =
     let now = c.loop-span.invariant tell list by_table at le nothing counted in
-    counted_part g.S.SpanSource.to_come tell list by_table c.loop-span.spans now.0 c.args.end c.loop-span.missed c.add.new.self
-    c.in-Some.span c.in-Some.ensures.0 c.in-Some.ensures.1 c.if-is_below.ensures now.2 c.add.ensures now.3
+    counted_part g.S.SpanSource.to_come tell list by_table c.loop-span.spans now.0 c.args.end c.loop-span.missed c.add_between.new.count
+    c.in-Some.span c.in-Some.ensures.0 c.in-Some.ensures.1 c.if-is_below.ensures now.2 c.add_between.ensures now.3
 
 pub loop-span-preserved : goal.loop-span-preserved
 loop-span-preserved g c tell list by_table at le nothing counted =
     let now = c.loop-span.invariant tell list by_table at le nothing counted in
     let next = counted_span g.S.SpanSource.to_come tell list by_table c.loop-span.spans c.pass.new.self now.0 c.args.end c.loop-span.missed
-    c.add-in-Some.new.self c.in-Some.span c.in-Some.ensures.0 c.if-is_below.ensures c.pass.ensures.passed now.2 c.add-in-Some.ensures now.3 in
+    c.add_between-in-Some.new.count c.in-Some.span c.in-Some.ensures.0 c.if-is_below.ensures c.pass.ensures.passed now.2 c.add_between-in-Some.ensures now.3 in
     (c.in-Some.span.high, c.if-is_below.ensures, λ p h k. now.2 p (at_most_trans next.0 h) k, next.1)
 
 pub returns : goal.returns

@@ -16,8 +16,8 @@ loop-index-preserved c =
     (files_stepped c.loop-index.invariant c.has_path.result below c.directory_number.result c.in-Some.ensures c.has_path.ensures
     c.if-not-has_path.false c.directory_number.ensures (Decides-ltb c.directory_number.result c.args.directories))
 
-pub returns-in-None : goal.returns-in-None
-returns-in-None c = grind (arith, common_steps)
+pub returns-in_err-missing : goal.returns-in_err-missing
+returns-in_err-missing c = grind (arith, common_steps)
 
-pub returns-in-Some-missing : goal.returns-in-Some-missing
-returns-in-Some-missing c = grind (arith, common_steps)
+pub returns : goal.returns
+returns c = grind (arith, common_steps)

@@ -1,5 +1,4 @@
-use Rattle.std.proofs.Common.{List, subst, sym}
-use Rattle.std.specs.List.{All}
+use Rattle.std.proofs.Common.{List, subst, sym, All}
 use Rattle.lnt_machine.specs.Walking.{KeptProgram}
 use Rattle.lnt_files.specs.Tables.{AreUsableTables}
 use Rattle.lnt_lines.proofs.IndexLemmas.{usable_at}

@@ -1,5 +1,4 @@
-use Rattle.std.proofs.Common.{subst, ◌↔◌, IsTrue}
-use Rattle.std.specs.List.{All}
+use Rattle.std.proofs.Common.{subst, ◌↔◌, IsTrue, All}
 use Rattle.lnt_lines.specs.Indexed.{HasOneOperation, Indexed}
 use Rattle.lnt_lines.proofs.InstructionLemmas.{spans_of_instructions}
 use Rattle.lnt_lines.proofs.index.Index.has_single_operations.Goals as goal

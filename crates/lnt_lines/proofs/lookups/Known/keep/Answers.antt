@@ -1,5 +1,4 @@
-use Rattle.std.proofs.Common.{subst, sym}
-use Rattle.std.specs.List.{All}
+use Rattle.std.proofs.Common.{subst, sym, All}
 use Rattle.lnt_lines.specs.Finding.{IsCachedOf}
 use Rattle.lnt_lines.proofs.LookupLemmas.{known_more}
 use Rattle.lnt_lines.proofs.lookups.Known.keep.Goals as goal

@@ -1,5 +1,4 @@
-use Rattle.std.proofs.Common.{◌≡◌, ◌-◌, [], ◌∷◌, ◌++◌, ◌∙◌, arith, length, sym, refl}
-use Rattle.std.proofs.lemmas.Bool.{true≢false}
+use Rattle.std.proofs.Common.{◌≡◌, ◌-◌, [], ◌∷◌, ◌++◌, ◌∙◌, arith, length, sym, refl, true≢false}
 use Rattle.std.proofs.lemmas.Grind.{common_steps}
 use Rattle.std.proofs.lemmas.Result.{err_from_is_err_and}
 use Rattle.lnt_lines.proofs.RunLemmas.{out_at, ran_quiet, ran_row}
@@ -11,6 +10,11 @@ returns-in_err-row-clause-err c =
     rw (p.1, p.2) (λ other dead view old walk walk' ran step. out_at ran step c.in_err-row.ensures.out_of_range
     c.in_err-row.ensures.fault)
 
+pub returns-in_err-see-clause-err : goal.returns-in_err-see-clause-err
+returns-in_err-see-clause-err c =
+    let p = err_from_is_err_and c.from_residual-in_err-see.result c.from_residual-in_err-see.ensures.1 in
+    rw p.1 (λ other. absurd (other p.2))
+
 pub returns-in_default-clause-goes_on : goal.returns-in_default-clause-goes_on
 returns-in_default-clause-goes_on c dead view old walk walk' ran step room left =
     ran_quiet ran step c.in_ok-row.ensures.ok room.0 c.in_default.not-Some
@@ -20,10 +24,10 @@ returns-else-is_err-clause-goes_on c dead view old walk walk' ran step room left
     let watched = c.args.self.now in
     let items : c.push.new.self.items ≡ c.args.places.now.items ++ watched.place ∷ [] = grind (arith, common_steps) in
     let here : watched.length - c.args.left ≡ length view.program - length walk'.at.rest = omega (arith, room.1, left) in
-    ran_row ran step c.in_ok-row.ensures.ok room.0 c.in-Some.is c.in-Ok.ensures.seen c.in-Ok.ensures.collects (λ e. (items, here))
+    ran_row ran step c.in_ok-row.ensures.ok room.0 c.in-Some.is c.in_ok-see.ensures.seen c.in_ok-see.ensures.collects (λ e. (items, here))
     (λ e. absurd (true≢false (sym c.if-row.true ∙ e)))
 
 pub returns-else-row-clause-goes_on : goal.returns-else-row-clause-goes_on
 returns-else-row-clause-goes_on c dead view old walk walk' ran step room left =
-    ran_row ran step c.in_ok-row.ensures.ok room.0 c.in-Some.is c.in-Ok.ensures.seen c.in-Ok.ensures.collects
+    ran_row ran step c.in_ok-row.ensures.ok room.0 c.in-Some.is c.in_ok-see.ensures.seen c.in_ok-see.ensures.collects
     (λ e. absurd (true≢false (sym e ∙ c.if-row.false))) (λ e. (refl, refl))

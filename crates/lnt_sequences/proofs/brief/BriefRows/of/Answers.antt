@@ -13,7 +13,7 @@ returns-then-not-branch c list will = kept_some list c.add_short.new.self
     (c.add_short.ensures.part ∙ c.loop.invariant.0)
 
 pub returns-in_default : goal.returns-in_default
-returns-in_default c list will = kept_all list c.add_short.new.self _ c.add_short.new.left c.next.new.self
+returns-in_default c list will = kept_all list c.add_short.new.self _ c.add_short.new.left c.next-in-loop.new.self
     (was_kept _ _ c.in_ok-add_short.field-0 (c.in_ok-add_short.ensures.kept list (c.loop.invariant.1 list will)) c.if-not-branch.false)
     c.in_default.ensures.steps refl refl
 
@@ -28,7 +28,7 @@ returns-then-not-branch-2 c list will =
 pub loop-preserved : goal.loop-preserved
 loop-preserved c = (
   c.add.ensures.part ∙ c.add_short.ensures.part ∙ c.loop.invariant.0,
-  λ list will. kept_more list c.add_short.new.self c.add.new.self c.add_short.new.left c.next.new.self c.in-Some.row
+  λ list will. kept_more list c.add_short.new.self c.add.new.self c.add_short.new.left c.next-in-loop.new.self c.in-Some.row
       (was_kept _ _ c.in_ok-add_short.field-0 (c.in_ok-add_short.ensures.kept list (c.loop.invariant.1 list will)) c.if-not-branch.false)
       c.in-Some.ensures.steps (was_kept _ _ c.in_ok-add.field-0 c.in_ok-add.ensures.kept c.if-not-branch-2.false) c.add.ensures.base,
 )

@@ -1,5 +1,4 @@
-use Rattle.std.proofs.Common.{subst, sym}
-use Rattle.std.specs.List.{All}
+use Rattle.std.proofs.Common.{subst, sym, All}
 use Rattle.lnt_sequences.specs.Marking.{IsMarkIn}
 use Rattle.lnt_sequences.proofs.MarkLemmas.{marks_more}
 use Rattle.lnt_sequences.proofs.marks.Marks.row_at.Goals as goal
