@@ -1,6 +1,5 @@
 -- Laws of what comparisons of tables of any kind come to.
-use Rattle.std.proofs.Common.{◌≡◌, ◌∙◌, ℕ, List, Option, None, Some, ap, inl, inr, refl, subst, sym}
-use Rattle.std.specs.Prelude.{MatchOption}
+use Rattle.std.proofs.Common.{◌≡◌, ◌∙◌, ℕ, List, Option, None, Some, ap, inl, inr, refl, subst, sym, MatchOption}
 use Rattle.lnt_spans.specs.declared.position.Position.{Position}
 use Rattle.lnt_spans.specs.AnyStretches.{Stretch, stretch_at}
 use Rattle.lnt_spans.specs.Differences.{IsFirstDifference}
@@ -9,7 +8,6 @@ use Rattle.lnt_spans.specs.PartialLaws.{AnswerAlike}
 use Rattle.lnt_spans.specs.Positions.{IsBelow}
 use Rattle.lnt_spans.proofs.FoundLaws.{found_so}
 use Rattle.lnt_spans.proofs.PositionLaws.{order_three}
-use Rattle.lnt_compare.specs.declared.outcome.Compared.{Compared}
 use Rattle.lnt_compare.specs.declared.outcome.Compared.TheVariants.{Same, Fault, Differs}
 use Rattle.lnt_compare.specs.Outcomes.{IsOutcomeOf, Outcome, compared_of, whole_of}
 use Rattle.lnt_compare.specs.declared.outcome.TableRead.TheVariants as outcome
@@ -34,15 +32,6 @@ one_difference {X} by_section by_table one other d e =
     ap (λ (p : Position). stretch_at p one.by_section one.by_table) same
     ∙ ap (λ (o : Option X). stretch_at other.position o one.by_table) (d.section ∙ ap by_section same ∙ sym e.section)
     ∙ ap (stretch_at other.position other.by_section) (d.table ∙ ap by_table same ∙ sym e.table)
-
-difference_so : {X : Type 0} (by_table one other : Position → Option X) (first : Stretch X) → AnswerAlike one other
-    → IsFirstDifference one by_table first → IsFirstDifference other by_table first
-difference_so by_table one other first same d = record {
-  section = d.section ∙ same first.position;
-  table = d.table;
-  differ = d.differ;
-  least = λ p below. sym (same p) ∙ d.least p below;
-}
 
 -- ---- what is so of a table and of a section's answers
 
@@ -75,17 +64,6 @@ outcome_so kind bytes f g (outcome.Table found) same h =
     where_so kind f g bytes (λ by_section by_table. AreFound kind.stretch by_section by_table found)
     (λ by_section by_table. AreFound kind.stretch by_section by_table found)
     (λ version by_table is. found_so kind.stretch by_table (f version) (g version) found (same version) is) h
-
-pub comparison_so : {V X Y D : Type 0} (kind : TableKind V X Y D) (bytes : List ℕ) (f g : V → Position → Option Y) (compared : Compared D)
-    → ((version : V) → AnswerAlike (f version) (g version)) → IsComparisonOf kind f bytes compared → IsComparisonOf kind g bytes compared
-comparison_so kind bytes f g Same same h =
-    where_so kind f g bytes (λ by_section by_table. AnswerAlike by_section by_table)
-    (λ by_section by_table. AnswerAlike by_section by_table) (λ version by_table agree p. sym (same version p) ∙ agree p) h
-comparison_so kind bytes f g (Fault told) same h = h
-comparison_so kind bytes f g (Differs difference) same h =
-    where_so kind f g bytes (λ by_section by_table. IsFirstDifference by_section by_table (kind.stretch difference))
-    (λ by_section by_table. IsFirstDifference by_section by_table (kind.stretch difference))
-    (λ version by_table first. difference_so by_table (f version) (g version) (kind.stretch difference) (same version) first) h
 
 -- ---- an outcome at all positions
 

@@ -1,8 +1,7 @@
 -- What a comparison knows after one more record, after lines that were passed, and in the end, by number or by path.
-use Rattle.std.proofs.Common.{◌≡◌, ◌∙◌, ℕ, ◌+◌, List, [], ◌∷◌, ◌++◌, inl, inr, length, length-append, map, None, Option, refl, subst}
-use Rattle.std.proofs.Common.{ap, append-nil, append_assoc, sym, arith}
+use Rattle.std.proofs.Common.{◌≡◌, ◌∙◌, ℕ, ◌+◌, List, [], ◌∷◌, ◌++◌, inl, inr, length, length-append, map, None, Option, refl, subst, ap}
+use Rattle.std.proofs.Common.{append-nil, append_assoc, sym, arith, option_map}
 use Rattle.std.specs.List.{AllZip}
-use Rattle.std.specs.Option.{option_map}
 use Rattle.lnt_spans.specs.declared.answer.Answer.{Answer}
 use Rattle.lnt_spans.specs.declared.position.Position.{Position}
 use Rattle.lnt_spans.specs.declared.span.Span.{Span}
@@ -15,13 +14,12 @@ use Rattle.lnt_spans.proofs.FoundLaws.{found_so}
 use Rattle.lnt_spans.proofs.MergedLemmas.{merged_past}
 use Rattle.lnt_spans.proofs.PassedLaws.{answer_below, answer_from, begin_after}
 use Rattle.lnt_spans.proofs.PositionLaws.{at_most_trans, below_at_most, below_is_at_most, order_cases}
-use Rattle.lnt_compare.specs.declared.comparison.Comparison.{Comparison}
 use Rattle.lnt_compare.specs.declared.outcome.TableRead.TheVariants.{Fault, Table}
 use Rattle.lnt_compare.specs.Comparisons.{TableKind}
 use Rattle.lnt_compare.specs.Joining.{LeaveOff}
 use Rattle.lnt_compare.specs.Outcomes.{IsOutcomeOf, Outcome}
 use Rattle.lnt_compare.specs.Passing.{AreLinesOf}
-use Rattle.lnt_compare.specs.Progress.{Comes, HasCompared, HasPassed, HasPushed, HasTaken, IsPast, Judges}
+use Rattle.lnt_compare.specs.Progress.{Comes, HasCompared, HasPassed, HasPushed, HasTaken, IsPast, Judges, Comparison}
 use Rattle.lnt_compare.proofs.KindLaws.{KindLaws, ToldLaws}
 use Rattle.lnt_records.specs.declared.fault.TableFault.{TableFault}
 use Rattle.lnt_records.specs.declared.fault.TableFault.TheVariants as fault

@@ -1,6 +1,5 @@
 -- The line of a span is passed, by number and by path.
-use Rattle.std.proofs.Common.{◌≡◌, ◌∙◌, ℕ, Bool, true, false, List, [], ◌++◌, ap, append-nil, subst}
-use Rattle.std.specs.Bool.{MatchBool}
+use Rattle.std.proofs.Common.{◌≡◌, ◌∙◌, ℕ, Bool, true, false, List, [], ◌++◌, ap, append-nil, subst, MatchBool}
 use Rattle.lnt_spans.specs.declared.answer.Answer.{Answer}
 use Rattle.lnt_spans.specs.declared.answer.Version.{Version}
 use Rattle.lnt_spans.specs.declared.span.Span.{Span}

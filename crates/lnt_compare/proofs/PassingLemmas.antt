@@ -1,10 +1,9 @@
 -- The lines of a table by number are passed and compared.
 use Rattle.std.proofs.Common.{◌≡◌, ◌∙◌, ℕ, ◌+◌, ◌^◌, ◌<◌, ◌≤◌, Bool, true, false, cond, List, [], ◌∷◌, ◌++◌, Option, Some, None, map, subst}
-use Rattle.std.proofs.Common.{append-nil, length, length-append, not, refl, ap, sym, arith}
+use Rattle.std.proofs.Common.{append-nil, length, length-append, not, refl, ap, sym, arith, is_some, option_map}
 use Rattle.std.proofs.lemmas.List.{map-append}
 use Rattle.std.proofs.lemmas.Option.{same_Some}
 use Rattle.std.specs.List.{AllByRecursion, AllZip, cons_option, find}
-use Rattle.std.specs.Option.{is_some, option_map}
 use Rattle.lnt_spans.specs.declared.answer.Answer.{Answer}
 use Rattle.lnt_spans.specs.declared.answer.More.{More}
 use Rattle.lnt_spans.specs.declared.answer.Version.{Version}
@@ -21,10 +20,9 @@ use Rattle.lnt_spans.specs.Spans.{AreInOrder, is_in_span, span_in_version, versi
 use Rattle.lnt_records.specs.Lines.{IsTextLine}
 use Rattle.lnt_records.specs.Passing.{AreLinesIn}
 use Rattle.lnt_spans.specs.Stretches.{stretch_of}
-use Rattle.lnt_compare.specs.declared.comparison.Comparison.{Comparison}
 use Rattle.lnt_compare.specs.Comparisons.{tables_by_number}
 use Rattle.lnt_compare.specs.Passing.{AreLinesOf, IsLineIn, Passes}
-use Rattle.lnt_compare.specs.Progress.{HasPushed, HasTaken}
+use Rattle.lnt_compare.specs.Progress.{HasPushed, HasTaken, Comparison}
 use Rattle.lnt_compare.proofs.ComparisonLemmas.{taken_more, taken_none}
 use Rattle.lnt_compare.proofs.KindLaws.{end_added, number_laws}
 use Rattle.lnt_compare.specs.Remaining.{AreLeft}

@@ -1,7 +1,6 @@
 -- The lines of a table by path that are passed are the records that `csv` reads.
-use Rattle.std.proofs.Common.{◌≡◌, ◌∙◌, ℕ, ◌+◌, ◌-◌, ◌≤◌, List, [], ◌∷◌, ◌++◌, Some, length, length-append, length-drop, drop, take}
-use Rattle.std.proofs.Common.{refl, sym, ap, subst, arith}
-use Rattle.std.specs.List.{All}
+use Rattle.std.proofs.Common.{◌≡◌, ◌∙◌, ℕ, ◌+◌, ◌-◌, ◌≤◌, List, [], ◌∷◌, ◌++◌, Some, length, length-append, length-drop, drop, take, refl}
+use Rattle.std.proofs.Common.{sym, ap, subst, arith, All}
 use Rattle.csv.specs.Machine.{Read, next_record}
 use Rattle.csv.specs.Reading.{Reached, default_config, strip_bom}
 use Rattle.csv.specs.Writing.{default_writer, row_text}
@@ -14,10 +13,9 @@ use Rattle.lnt_records.proofs.LineLaws as any
 use Rattle.lnt_records.proofs.ReadingLaws.{same_read}
 use Rattle.lnt_records.proofs.LineLaws.{row_some}
 use Rattle.lnt_compare.specs.declared.by_path.answer.DifferenceByPath.{DifferenceByPath}
-use Rattle.lnt_compare.specs.declared.comparison.Comparison.{Comparison}
 use Rattle.lnt_compare.specs.PathOutcomes.{tables_by_path}
 use Rattle.lnt_compare.specs.PathStretches.{stretch_of}
-use Rattle.lnt_compare.specs.Progress.{HasPushed, HasTaken}
+use Rattle.lnt_compare.specs.Progress.{HasPushed, HasTaken, Comparison}
 use Rattle.lnt_records.specs.declared.by_path.record.PathRecord.{PathRecord}
 use Rattle.lnt_records.specs.declared.by_path.version.PathVersion.{PathVersion}
 use Rattle.lnt_records.specs.PathLines.{IsPathLine, IsPlainByte, plain_by_path}

@@ -6,42 +6,26 @@ use Rattle.lnt_spans.specs.declared.answer.Version.{Version}
 use Rattle.lnt_spans.specs.declared.difference.Difference.{Difference}
 use Rattle.lnt_spans.specs.declared.position.Position.{Position}
 use Rattle.lnt_spans.specs.declared.span.Span.{Span}
-use Rattle.lnt_spans.specs.Answers.{in_version}
-use Rattle.lnt_spans.specs.Comparing.{end_of}
-use Rattle.lnt_spans.specs.Spans.{span_answer}
-use Rattle.lnt_spans.specs.Stretches.{stretch_of}
-use Rattle.lnt_compare.specs.declared.comparison.Comparison.{Comparison}
-use Rattle.lnt_compare.specs.Comparisons.{in_versions, tables_by_number}
-use Rattle.lnt_compare.specs.Outcomes.{IfCompared, IsHeadedOutcome, IsOutcome, IsStartOf, Outcome}
+use Rattle.lnt_compare.specs.Comparisons.{TableKind}
+use Rattle.lnt_compare.specs.Outcomes.{IsOutcome, IsOutcomeOf, Outcome}
 use Rattle.lnt_compare.specs.declared.outcome.TableRead.TheVariants.{Fault}
 use Rattle.lnt_records.specs.declared.fault.TableFault.TheVariants as fault
-use Rattle.lnt_compare.specs.declared.stream.TableStart.{TableStart}
-use Rattle.lnt_compare.specs.declared.stream.TableStart.TheVariants as start
-use Rattle.lnt_records.proofs.BeginningLaws.{first_begins}
 use Rattle.lnt_compare.specs.Passing.{Ends, Passes}
 use Rattle.lnt_records.specs.Passing.{AreLinesIn, IsCutAfter}
-use Rattle.lnt_compare.specs.Progress.{HasCompared, HasPassed, Judges}
-use Rattle.lnt_records.specs.Faults.{IsFault}
+use Rattle.lnt_compare.specs.Progress.{HasCompared, HasPassed, Judges, Comparison}
+use Rattle.lnt_records.specs.Faults.{IsFaultIn}
 use Rattle.lnt_records.specs.Reading.{IsNarrow}
-use Rattle.lnt_records.specs.Table.{BeginsWith, Fields, IsSpanRecord, TableFormat, by_number, column_names}
-use Rattle.lnt_records.specs.Written.{LineFormat, line_text, lines_of, lines_text, plain_by_number}
+use Rattle.lnt_records.specs.Table.{BeginsWith, Fields, TableFormat, column_names}
+use Rattle.lnt_records.specs.Written.{LineFormat, lines_of}
 use Rattle.lnt_compare.proofs.ComparisonLemmas.{outcome_told}
-use Rattle.lnt_records.proofs.NumberLaws.{numbered}
+use Rattle.lnt_records.proofs.TableLaws.{FormatLaws}
+use Rattle.lnt_spans.specs.Merged.{answer_told}
 use Rattle.lnt_records.proofs.LineLaws.{LineLaws, all_back, cut_lines, few_records, header_begins}
-use Rattle.lnt_records.proofs.WriteLaws.{plain_numbers}
 use Rattle.lnt_compare.proofs.WindowLaws.{few_passed, passes_line}
 use Rattle.lnt_spans.specs.declared.answer.Answer.{Answer}
 use Rattle.lnt_spans.specs.declared.listed.SpanList.{SpanList}
 use Rattle.lnt_compare.specs.declared.remaining.Remaining.{Remaining}
-use Rattle.lnt_compare.specs.Differing.{Differing, IsDiffering, IsHeadedDiffering}
-
--- ---- the stages
-
-pub begun : (version : Version) (a b : Option (List ℕ)) (la lb : ℕ) (w0 w1 w2 : List ℕ) → w0 ≡ [] → Passes a b la lb w0 w1 []
-    → w1 ≡ line_text (column_names version) ++ w2
-    → Passes a b la lb [] w2 (line_text (column_names version))
-begun version a b la lb w0 w1 w2 none p e =
-    passes_line a b la lb [] w1 w2 [] (line_text (column_names version)) (subst (λ (w : List ℕ). Passes a b la lb w w1 []) none p) e
+use Rattle.lnt_compare.specs.Differing.{Differing, IsDiffering}
 
 -- ---- the rest of a table of any format, after its header
 
@@ -106,6 +90,29 @@ whole_cut format plain laws version (Some x) (Some y) la ld names w0 w1 text all
     subst P (ap (λ (t : List ℕ). plain.line (plain.names version) ++ t) inner)
     (h _ (rest_cut format plain laws version (Some y) ld names w1 all spans records e ends each))
 
+-- The outcome for the rest of a table is the outcome for the whole table.
+pub rest_compared : {S D M V X Y : Type 0} (to_come : S → List Span → Type 0) (kind : TableKind V X Y D) (plain : LineFormat V X)
+    (end : List X → Position) → LineLaws kind.format plain → FormatLaws kind.format → (tell : Answer → Y) (version : V)
+    (comparison : Comparison S D M) (section : List Span) (a d : Option (List ℕ)) (la ld : ℕ) (names w0 w1 text all : List ℕ)
+    (answers : V → Position → Option Y) (outcome : Outcome D) → names ≡ plain.line (plain.names version) → Passes a d la ld w0 w1 text
+    → Ends d ld (names ++ w1) all → ((p : Position) → answer_told tell section p ≡ answers version p)
+    → HasPassed to_come kind plain end tell version comparison section text
+    → ((first : Fields) (list : List Span) (passed : List Fields) (bytes : List ℕ) → IsNarrow first → BeginsWith all (first ∷ [])
+    → IsCutAfter first all bytes passed → Judges to_come kind end tell version comparison list passed
+    → HasCompared to_come tell kind.stretch (Judges {M = M} to_come kind end tell version) (IsFaultIn kind.format) list passed bytes outcome)
+    → IfSome a (λ more. IsOutcomeOf kind answers (plain.line (plain.names version) ++ (w0 ++ more)) outcome)
+rest_compared {M = M} to_come kind plain end laws format tell version comparison section a d la ld names w0 w1 text all answers outcome e p
+    ends same h compare =
+    let passed : List Fields = plain.names version ∷ h.records in
+    let narrow = subst IsNarrow (sym (laws.names version)) (format.narrow version) in
+    let header = rest_begins kind.format plain laws version d ld names w1 all e ends in
+    let judged = subst (λ (names : Fields). Judges to_come kind end tell version comparison h.list (names ∷ h.records))
+    (sym (laws.names version)) h.judged in
+    whole_cut kind.format plain laws version a d la ld names w0 w1 text all h.judged.table h.records
+    (λ (bytes : List ℕ). IsOutcomeOf kind answers bytes outcome) e p ends h.text_is h.judged.is_table.1.each
+    (λ bytes cut. outcome_told M to_come kind end tell version h.list passed bytes answers outcome (λ p. h.alike p ∙ same p)
+    (compare (plain.names version) h.list passed bytes narrow header cut judged))
+
 -- what holds of all bytes, of which the first were taken
 pub first_taken : (a b : Option (List ℕ)) (la lb : ℕ) (window text : List ℕ) (P : List ℕ → Type 0) → Passes a b la lb [] window text
     → IfSome b (λ more. P (text ++ (window ++ more))) → IfSome a P
@@ -114,17 +121,22 @@ first_taken (Some x) None la lb window text P p h = absurd p.pulls
 first_taken (Some x) (Some y) la lb window text P p h =
     subst P (sym (append_assoc text window y) ∙ ap (λ (t : List ℕ). t ++ y) (sym p.joined) ∙ sym p.pulls) h
 
+-- the same, where the first bytes taken begin with this line
+pub line_taken : (a b : Option (List ℕ)) (la lb : ℕ) (first line window : List ℕ) (P : List ℕ → Type 0) → Passes a b la lb [] first []
+    → first ≡ line ++ window → IfSome b (λ more. P (line ++ (window ++ more))) → IfSome a P
+line_taken a b la lb first line window P p e h =
+    first_taken a b la lb window line P (passes_line a b la lb [] first window [] line p e) h
+
 -- what holds of a text that is the first bytes and the rest
 pub rest_taken : (a : Option (List ℕ)) (la : ℕ) (window all : List ℕ) (P : List ℕ → Type 0) → Ends a la window all → P all
     → IfSome a (λ more. P (window ++ more))
 rest_taken None la window all P ends h = tt
 rest_taken (Some bytes) la window all P ends h = subst P (ends.joined ∙ ap (λ (t : List ℕ). window ++ t) ends.whole) h
 
--- ---- what came of a table that was compared
-
-pub if_compared : {C S : Type 0} (begun : TableStart C S) (told : C) (IsSo : C → Type 0) → begun ≡ start.Compared told
-    → IfCompared begun IsSo → IsSo told
-if_compared begun told IsSo e h = rw e at h
+-- what holds of a text that is all of the bytes, of which the first were taken before
+pub all_taken : (a b : Option (List ℕ)) (la lb : ℕ) (window all : List ℕ) (P : List ℕ → Type 0) → Passes a b la lb [] window []
+    → Ends b lb window all → P all → IfSome a P
+all_taken a b la lb window all P p ends h = first_taken a b la lb window [] P p (rest_taken b lb window all P ends h)
 
 -- ---- the header's fault
 
@@ -134,54 +146,6 @@ pub not_header : (bytes : List ℕ) (version : Version) (section : List Span) (o
     → IsOutcome bytes section outcome → outcome ≢ Fault fault.Header
 not_header bytes version section outcome begins h e = subst (IsOutcome bytes section) e h version begins
 
--- If a text with lines cut out begins with a header, the bytes begin with the same one.
-pub cut_begins : (version : Version) (text bytes : List ℕ) (passed : List Fields)
-    → IsCutAfter (column_names version) text bytes (column_names version ∷ passed)
-    → BeginsWith text (column_names version ∷ [])
-    → BeginsWith bytes (column_names version ∷ [])
-cut_begins version text bytes passed cut b =
-    first_begins bytes (column_names version) (passed ++ []) (b.0, b.1, cut [] b.0 b.1 b.2)
-
--- what holds of all bytes of a table by number from which the rest was cut
-pub whole_begun : (version : Version) (a b d : Option (List ℕ)) (la lb ld : ℕ) (names w0 w1 text all : List ℕ) (table : List Span)
-    (records : List Fields) (P : List ℕ → Type 0) → names ≡ line_text (column_names version)
-    → Passes a b la lb [] w0 (line_text (column_names version)) → Passes b d lb ld w0 w1 text → Ends d ld (names ++ w1) all
-    → text ≡ lines_text records → AllZip (IsSpanRecord version) records table
-    → ((bytes : List ℕ) → IsCutAfter (column_names version) all bytes (column_names version ∷ records) → P bytes) → IfSome a P
-whole_begun version a b d la lb ld names w0 w1 text all table records P e begun p ends is each h =
-    first_taken a b la lb w0 (line_text (column_names version)) P begun
-    (whole_cut by_number plain_by_number plain_numbers version b d lb ld names w0 w1 text all table records P e p ends is each h)
-
--- the result for the rest of a table by number is the result for the whole table
-pub compared_begun : {S M : Type 0} (to_come : S → List Span → Type 0) (version : Version) (comparison : Comparison S Difference M)
-    (section : List Span) (a b d : Option (List ℕ)) (la lb ld : ℕ) (names w0 w1 text all : List ℕ) (outcome : Outcome Difference)
-    → names ≡ line_text (column_names version) → Passes a b la lb [] w0 (line_text (column_names version)) → Passes b d lb ld w0 w1 text
-    → Ends d ld (names ++ w1) all
-    → HasPassed to_come tables_by_number plain_by_number end_of (in_version version) version comparison section text
-    → ((first : Fields) (list : List Span) (passed : List Fields) (bytes : List ℕ) → IsNarrow first → BeginsWith all (first ∷ [])
-    → IsCutAfter first all bytes passed
-    → Judges to_come tables_by_number end_of (in_version version) version comparison list passed
-    → HasCompared to_come (in_version version) stretch_of (Judges {M = M} to_come tables_by_number end_of (in_version version) version) IsFault
-    list passed bytes outcome)
-    → IfSome a (λ bytes. IsHeadedOutcome bytes section outcome)
-compared_begun {M = M} to_come version comparison section a b d la lb ld names w0 w1 text all outcome e begun p ends h compare =
-    let header = rest_begins by_number plain_by_number plain_numbers version d ld names w1 all e ends in
-    let passed : List Fields = column_names version ∷ h.records in
-    whole_begun version a b d la lb ld names w0 w1 text all h.judged.table h.records
-    (λ (bytes : List ℕ). IsHeadedOutcome bytes section outcome) e begun p ends h.text_is h.judged.is_table.1.each
-    (λ bytes cut.
-    let told = outcome_told M to_come tables_by_number end_of (in_version version) version h.list passed bytes
-    (in_versions (span_answer section)) outcome h.alike
-    (compare (column_names version) h.list passed bytes (numbered.narrow version) header cut h.judged) in
-    (told, not_header bytes version section outcome (cut_begins version all bytes h.records cut header) told))
-
--- what holds of a text that is all of the bytes, of which the first were taken before
-pub all_taken : (a b : Option (List ℕ)) (la lb : ℕ) (window all : List ℕ) (P : List ℕ → Type 0) → Passes a b la lb [] window []
-    → Ends b lb window all → P all → IfSome a P
-all_taken a b la lb window all P p ends h = first_taken a b la lb window [] P p (rest_taken b lb window all P ends h)
-
--- ---- the stretches after the records that both sides begin with
-
 -- bytes that begin with a header don't have the header's fault
 pub no_header_fault : {S : Type 0} (of_section : Remaining S → List Span → Type 0) (of_table : SpanList → List Span → Type 0)
     (bytes : List ℕ) (version : Version) (section : Position → Option Answer) (differing : Differing S)
@@ -189,10 +153,3 @@ pub no_header_fault : {S : Type 0} (of_section : Remaining S → List Span → T
     → differing ≢ Fault fault.Header
 no_header_fault of_section of_table bytes version section differing begins h e =
     subst (IsDiffering of_section of_table bytes section) e h version begins
-
--- what holds of a table that was compared
-pub headed_in : {S : Type 0} (of_section : Remaining S → List Span → Type 0) (of_table : SpanList → List Span → Type 0)
-    (section : Position → Option Answer) (table : Option (List ℕ)) (begun : TableStart (Differing S) S) (told : Differing S)
-    → begun ≡ start.Compared told → IsStartOf table (λ bytes told. IsHeadedDiffering of_section of_table bytes section told) begun
-    → IfSome table (λ bytes. IsHeadedDiffering of_section of_table bytes section told)
-headed_in of_section of_table section table begun told e h = rw e at h

@@ -1,7 +1,6 @@
 -- The bytes of a table are taken from a source and passed.
 use Rattle.std.proofs.Common.{◌≡◌, ◌∙◌, ℕ, ◌+◌, List, [], ◌++◌, Option, IfSome, append-nil, append_assoc, drop, length, length-append, ap}
-use Rattle.std.proofs.Common.{sym, arith}
-use Rattle.std.proofs.lemmas.List.{drop-drop}
+use Rattle.std.proofs.Common.{sym, arith, drop-drop}
 use Rattle.lnt_io.specs.Pulling.{GivesMore, HasMoreThan}
 use Rattle.lnt_io.proofs.PullLaws.{more_from_start, pulls_all, pulls_append, pulls_none}
 use Rattle.lnt_compare.specs.Passing.{Ends, Passes}

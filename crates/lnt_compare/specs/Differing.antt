@@ -1,5 +1,5 @@
 -- A table compared with a section's spans at every position.
-use Rattle.std.specs.Prelude.{◌≢◌, ℕ, List, [], Option}
+use Rattle.std.specs.Prelude.{ℕ, List, [], Option}
 use Rattle.lnt_spans.specs.declared.answer.Answer.{Answer}
 use Rattle.lnt_spans.specs.declared.listed.SpanList.{SpanList}
 use Rattle.lnt_spans.specs.declared.stretches.Differences.{Differences}
@@ -9,7 +9,6 @@ use Rattle.lnt_spans.specs.Differing.{HasTold}
 use Rattle.lnt_spans.specs.Spans.{span_answer}
 use Rattle.lnt_compare.specs.declared.outcome.TableRead.{TableRead}
 use Rattle.lnt_compare.specs.declared.outcome.TableRead.TheVariants as differing
-use Rattle.lnt_records.specs.declared.fault.TableFault.TheVariants as fault
 use Rattle.lnt_compare.specs.declared.remaining.Remaining.{Remaining}
 use Rattle.lnt_compare.specs.Comparisons.{IsTableWhere, in_versions}
 use Rattle.lnt_records.specs.Faults.{IsFault}
@@ -33,9 +32,3 @@ IsStarted of_section of_table (differing.Fault told) = Unit {0}
 IsStarted of_section of_table (differing.Table differences) =
     (by_section : Position → Option Answer) × (by_table : Position → Option Answer)
     × HasTold of_section of_table differences by_section by_table []
-
--- The same of bytes that begin with the header of version 1 or 2, so the fault isn't the header's.
-abbrev pub IsHeadedDiffering : {S : Type 0} → (Remaining S → List Span → Type 0) → (SpanList → List Span → Type 0) → List ℕ
-    → (Position → Option Answer) → Differing S → Type 0
-IsHeadedDiffering of_section of_table bytes section told =
-    IsDiffering of_section of_table bytes section told × (told ≢ differing.Fault fault.Header)

@@ -1,7 +1,6 @@
 -- All stretches at which a section and a table by path answer differently, each as a difference: its first position, and the
 -- two answers that stay the same from there on.
-use Rattle.std.specs.Prelude.{List, Option, map}
-use Rattle.std.specs.Option.{option_map}
+use Rattle.std.specs.Prelude.{List, Option, map, option_map}
 use Rattle.lnt_compare.specs.declared.by_path.answer.AnswerByPath.{AnswerByPath}
 use Rattle.lnt_records.specs.PathAnswers.{PathAnswer}
 use Rattle.lnt_spans.specs.declared.position.Position.{Position}

@@ -1,8 +1,7 @@
 -- How far a table was read and compared, by number or by path. `tell` gives what a table contains of an answer, and `end` where spans of
 -- a table end. No public contract speaks of it.
-use Rattle.std.specs.Prelude.{◌≡◌, ℕ, ◌+◌, List, ◌∷◌, ◌++◌, None, Option, Vec, length}
+use Rattle.std.specs.Prelude.{◌≡◌, ℕ, ◌+◌, List, ◌∷◌, ◌++◌, None, Option, Vec, length, option_map}
 use Rattle.std.specs.Global.{Global}
-use Rattle.std.specs.Option.{option_map}
 use Rattle.lnt_spans.specs.declared.answer.Answer.{Answer}
 use Rattle.lnt_spans.specs.declared.answer.Version.{Version}
 use Rattle.lnt_spans.specs.declared.found.Found.{Found}
@@ -15,7 +14,7 @@ use Rattle.lnt_spans.specs.Comparing.{end_of}
 use Rattle.lnt_spans.specs.Merged.{AreFound, HasMerged, HasOneMore, answer_told, end_of_records}
 use Rattle.lnt_spans.specs.Positions.{IsAtMost, IsBelow}
 use Rattle.lnt_spans.specs.Spans.{AreInOrder, version_answer}
-use Rattle.lnt_compare.specs.declared.comparison.Comparison.{Comparison}
+pub use Rattle.lnt_compare.specs.declared.comparison.Comparison.{Comparison}
 use Rattle.lnt_compare.specs.declared.gather.Gathering.{Gathering}
 use Rattle.lnt_compare.specs.declared.outcome.TableRead.{TableRead}
 use Rattle.lnt_compare.specs.declared.outcome.TableRead.TheVariants as read

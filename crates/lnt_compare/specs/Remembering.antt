@@ -6,5 +6,5 @@ use Rattle.lnt_records.specs.PathLines.{AreFieldsOf}
 
 -- All that is remembered of paths is correct.
 pub record IsRemembered (path : ℕ → ℕ → List ℕ) (memory : PathMemory) : Type 0 where
-  pub known : AreTextsOf path memory.known.paths
+  pub known : AreTextsOf path memory.known
   pub fields : AreFieldsOf path memory.fields

@@ -1,22 +1,22 @@
 //! Compares a table with the spans of a section at every position.
-ghost use Rattle.std.specs.Prelude.{◌≡◌, ◌+◌, ◌-◌, ◌^◌, ◌<◌, ℕ, List, Option, IfOk};
+ghost use Rattle.std.specs.Prelude.{◌≡◌, ◌+◌, ◌-◌, ◌^◌, ◌<◌, ◌++◌, ℕ, List, Option, length, IfOk, IfSome};
 ghost use Rattle.lnt_spans.specs.declared.span.Span.{Span};
 ghost use Rattle.lnt_spans.specs.declared.answer.Answer.{Answer};
 ghost use Rattle.lnt_spans.specs.declared.position.Position.{Position as Place};
 ghost use Rattle.lnt_spans.specs.Spans.{AreInOrder, span_answer};
-ghost use Rattle.lnt_compare.specs.Differing.{IsDiffering, IsHeadedDiffering, IsStarted};
-ghost use Rattle.lnt_compare.specs.Outcomes.{HasBegun, IfCompared, IsStartOf};
+ghost use Rattle.lnt_compare.specs.Differing.{IsDiffering, IsStarted};
 ghost use Rattle.lnt_compare.specs.Progress.{IsContinuedBy, IsGathered};
 ghost use Rattle.lnt_io.specs.Stopping.{CountsFailure, IsTooLongOn};
+ghost use Rattle.lnt_records.specs.Table.{column_names};
+ghost use Rattle.lnt_records.specs.Written.{line_text};
 
 use crate::gather::gather_after;
 use crate::outcome::TableRead;
 use crate::passing::pass_spans;
 use crate::remaining::Remaining;
-use crate::stream::TableStart;
-use crate::window::{Window, pass_header};
+use crate::window::Window;
 use lnt_io::{Source, Stop};
-use lnt_records::{ROOM, TableFault, TableVersion, header_of};
+use lnt_records::{TableFault, TableVersion, header_of};
 use lnt_spans::{Differences, Position, Span, SpanList, SpanSource, Version};
 use std::alloc::{AllocError, Global};
 
@@ -24,8 +24,8 @@ use std::alloc::{AllocError, Global};
 /// after another.
 pub type Differing<S> = TableRead<Differences<Remaining<S>, SpanList>>;
 
-/// Compares the table of a source with the spans of a section, at every position, if its first line is the header of version 1 or 2.
-/// Otherwise it takes only the first bytes, and nothing is said about them.
+/// Compares a table by number of this version with the spans of a section, at every position. The header, a line of its own, was passed;
+/// `window` has the bytes after it that were taken from the source so far.
 ///
 /// `Fault`: the bytes are not a table, as in `compare_lines`. `Table`: they are one, and it gives the stretches at which the
 /// two answer differently, one after another, in the fields of the table's version.
@@ -34,32 +34,26 @@ pub type Differing<S> = TableRead<Differences<Remaining<S>, SpanList>>;
 /// parsed nor held. The records from there on are read by `csv` from bytes that are held all at once, and their spans are held:
 /// whether all records are well formed is known only at the end of the table.
 ///
-/// The caller makes sure that the spans are in order and none is empty, and that the number of the source's failures is
-/// below `u64::MAX`. Stops as `compare_lines` does.
+/// The caller makes sure of what `compare_lines` asks for. Stops as it does.
 pub fn differ_lines<S: SpanSource + Drop, T: Source>(
     alloc: Global,
     table: &mut T,
+    mut window: Window,
+    version: Version,
     spans: S,
-) -> Result<TableStart<Differing<S>, S>, Stop>
+) -> Result<Differing<S>, Stop>
     requires failures { T.failures table.old < 2 ^ 64 - 1 }
+    requires few { length (line_text (column_names version)) + length window + T.left table.old < 2 ^ 64 }
     requires spans { (list : List Span) × S.to_come spans list × AreInOrder list }
-    ensures ok { IfOk result (λ start. (list : List Span) (section : Place → Option Answer) → S.to_come spans list → AreInOrder list
-        → ((p : Place) → span_answer list p ≡ section p) → IsStartOf (T.remaining table.old) (λ bytes told.
-        IsHeadedDiffering ⟦<Remaining<S> as SpanSource>⟧.to_come ⟦<SpanList as SpanSource>⟧.to_come bytes section told) start) }
-    ensures started { IfOk result (λ start. IfCompared start (λ told.
-        IsStarted ⟦<Remaining<S> as SpanSource>⟧.to_come ⟦<SpanList as SpanSource>⟧.to_come told)) }
-    ensures begun { IfOk result (λ start. HasBegun (T.remaining table.old) (T.remaining table.new) (T.left table.old) (T.left table.new)
-        spans start) }
+    ensures ok { IfOk result (λ differing. (list : List Span) (section : Place → Option Answer) → S.to_come spans list → AreInOrder list
+        → ((p : Place) → span_answer list p ≡ section p) → IfSome (T.remaining table.old) (λ more.
+        IsDiffering ⟦<Remaining<S> as SpanSource>⟧.to_come ⟦<SpanList as SpanSource>⟧.to_come
+        (line_text (column_names version) ++ (window ++ more)) section differing)) }
+    ensures started { IfOk result (λ differing. IsStarted ⟦<Remaining<S> as SpanSource>⟧.to_come ⟦<SpanList as SpanSource>⟧.to_come
+        differing) }
     ensures failures { CountsFailure ⟦<T as Source>⟧ table.old table.new result Stop.Read }
     ensures too_long { IsTooLongOn ⟦<T as Source>⟧ table.old table.new result Stop.TooLong }
 {
-    // For the proofs: a table has no more records than its source may give bytes, so their number fits.
-    let _may_give = table.left();
-    let mut window = Window::new(alloc);
-    window.fill(alloc, table, ROOM)?;
-    let Some(version) = pass_header(&mut window, Version::One, Version::Two) else {
-        return Ok(TableStart::Other(window, spans));
-    };
     let passed = pass_spans::<S, Version, T, Differing<S>>(
         alloc,
         spans,
@@ -71,7 +65,7 @@ pub fn differ_lines<S: SpanSource + Drop, T: Source>(
     let text = window.rest_after(alloc, version.header_line(), table)?;
     let gathered = gather_after(alloc, &text, version, passed.end, passed.count);
     let differing = differ_after(gathered, passed.spans, version, passed.end)?;
-    Ok(TableStart::Compared(differing))
+    Ok(differing)
 }
 
 /// Compares the table in these bytes with the spans of a source, as `differ_lines` does. Fails only if memory runs out.

@@ -28,5 +28,5 @@ pub use comparison::{compare, compare_records};
 pub use differing::{Differing, differ_lines, differ_records};
 pub use outcome::{Compared, Outcome, TableRead};
 pub use remaining::Remaining;
-pub use stream::{TableStart, compare_lines};
+pub use stream::compare_lines;
 pub use window::{Window, pass_header};

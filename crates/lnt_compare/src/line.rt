@@ -1,6 +1,5 @@
 //! The lines of spans in tables by number.
-ghost use Rattle.std.specs.Prelude.{◌≡◌};
-ghost use Rattle.std.specs.Bool.{MatchBool};
+ghost use Rattle.std.specs.Prelude.{◌≡◌, MatchBool};
 ghost use Rattle.lnt_records.specs.Lines.{IsTextLine};
 ghost use Rattle.lnt_records.specs.Written.{IsOfVersion};
 

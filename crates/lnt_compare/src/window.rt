@@ -1,12 +1,11 @@
 //! The bytes of a table that were taken from its source but not parsed yet.
-ghost use Rattle.std.specs.Prelude.{◌≡◌, ◌+◌, ◌-◌, ◌^◌, ◌<◌, ◌≤◌, ◌++◌, [], drop, length, IfOk, IsErrOf, MatchOption, OnOk};
-ghost use Rattle.std.specs.Bool.{MatchBool};
+ghost use Rattle.std.specs.Prelude.{◌≡◌, ◌+◌, ◌-◌, ◌^◌, ◌<◌, ◌≤◌, ◌++◌, [], drop, length, IfOk, IsErrOf, MatchOption, OnOk, MatchBool};
 ghost use Rattle.lnt_compare.specs.Passing.{Ends, Passes};
 ghost use Rattle.lnt_records.specs.Written.{line_text};
 ghost use Rattle.lnt_io.specs.Stopping.{CountsFailure, IsTooLongOn};
 
 use lnt_io::{BLOCK, Source, Stop, take_block};
-use lnt_records::TableVersion;
+use lnt_records::{ROOM, TableVersion};
 use std::alloc::{AllocError, Global};
 use std::marker::Model;
 
@@ -29,14 +28,18 @@ impl Model for Window {
 }
 
 impl Window {
-    // A window with no bytes.
-    pub(crate) fn new(alloc: Global) -> Window
-        ensures { result ≡ [] }
+    /// The first bytes of a source, as many as there are in any line by number, or all if there are fewer. Stops as `fill` does.
+    pub fn of<T: Source>(alloc: Global, source: &mut T) -> Result<Window, Stop>
+        requires { T.failures source.old < 2 ^ 64 - 1 }
+        ensures taken { IfOk result (λ window. Passes (T.remaining source.old) (T.remaining source.new) (T.left source.old)
+            (T.left source.new) [] window []) }
+        ensures failures { CountsFailure ⟦<T as Source>⟧ source.old source.new result Stop.Read }
+        ensures not_long { IsErrOf result Stop.TooLong → ⊥ }
     {
-        Window {
-            block: Vec::new(alloc),
-            at: 0,
-        }
+        let block = Vec::new(alloc);
+        let mut window = Window { block, at: 0 };
+        window.fill(alloc, source, ROOM)?;
+        Ok(window)
     }
 
     /// The current bytes.
@@ -97,9 +100,7 @@ impl Window {
         ensures failures { CountsFailure ⟦<T as Source>⟧ source.old source.new result Stop.Read }
         ensures not_long { IsErrOf result Stop.TooLong → ⊥ }
     {
-        let Ok(mut block) = Vec::from_slice(alloc, self.bytes()) else {
-            return Err(Stop::Memory);
-        };
+        let mut block = Vec::from_slice(alloc, self.bytes())?;
         fill_block(source, &mut block, count)?;
         *self = Window { block, at: 0 };
         Ok(())
@@ -118,9 +119,7 @@ impl Window {
         ensures failures { CountsFailure ⟦<T as Source>⟧ source.old source.new result Stop.Read }
         ensures too_long { IsTooLongOn ⟦<T as Source>⟧ source.old source.new result Stop.TooLong }
     {
-        let Ok(mut all) = joined(alloc, text, self.bytes()) else {
-            return Err(Stop::Memory);
-        };
+        let mut all = joined(alloc, text, self.bytes())?;
         read_rest(source, &mut all)?;
         Ok(all)
     }

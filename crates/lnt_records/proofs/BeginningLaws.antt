@@ -4,8 +4,7 @@ use Rattle.csv.specs.Machine.{Read}
 use Rattle.csv.specs.Reading.{Reached, default_config, strip_bom}
 use Rattle.csv.specs.declared.parser.State.{State}
 use Rattle.csv.specs.declared.parser.State.TheVariants as state
-use Rattle.lnt_records.specs.declared.fault.TableFault.{TableFault}
-use Rattle.lnt_records.specs.Faults.{HasFaultyRecordIn}
+use Rattle.lnt_records.specs.Faults.{HasFaultyRecordIn, TableFault}
 use Rattle.lnt_records.specs.Table.{BeginsWith, Fields, IsTableIn, IsTableOfIn, RecordsOf, TableFormat}
 
 -- a state reached after several records was reached through the first of them

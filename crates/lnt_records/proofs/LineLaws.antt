@@ -1,10 +1,9 @@
 -- Tables of any format on plain lines: `csv` reads them back, spans have one of them, and they are written block by block.
 use Rattle.std.proofs.Common.{◌≡◌, ◌∙◌, ℕ, ◌+◌, ◌<◌, ◌≤◌, List, [], ◌∷◌, ◌++◌, Option, Some, length, refl, sym, ap, subst, append-nil}
-use Rattle.std.proofs.Common.{append_assoc, arith, if◌then◌else◌, length-append, ◌-◌, drop, length-drop, take}
+use Rattle.std.proofs.Common.{append_assoc, arith, if◌then◌else◌, length-append, ◌-◌, drop, length-drop, take, take_all}
 use Rattle.std.proofs.KnownBytes.{Appends-nil, Appends-trans}
 use Rattle.std.specs.Io.KnownBytes.{Appends}
 use Rattle.std.specs.List.{AllByRecursion, AllZip}
-use Rattle.std.proofs.lemmas.List.{take_all}
 use Rattle.csv.specs.Machine.{Read, next_record}
 use Rattle.csv.specs.Reading.{Reached, default_config, strip_bom}
 use Rattle.csv.specs.Writing.{default_writer, is_blank, row_body, row_text}

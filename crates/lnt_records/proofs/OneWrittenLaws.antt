@@ -1,7 +1,5 @@
 -- A span has one plain record, so spans have one plain table.
-use Rattle.std.proofs.Common.{◌≡◌, ◌∙◌, ℕ, zero, suc, ◌<◌, Bool, true, false, List, [], Option, Some, None, get_or}
-use Rattle.std.proofs.Common.{sym, arith}
-use Rattle.std.proofs.lemmas.List.{ext_get_or}
+use Rattle.std.proofs.Common.{◌≡◌, ◌∙◌, ℕ, zero, suc, ◌<◌, Bool, true, false, List, [], Option, Some, None, get_or, sym, arith, ext_get_or}
 use Rattle.lnt_text.specs.Digits.{IsPlainDecimal}
 use Rattle.lnt_text.proofs.OneTextLaws.{one_address, one_decimal}
 use Rattle.lnt_spans.specs.declared.answer.More.{More}

@@ -10,10 +10,9 @@ use Rattle.lnt_text.specs.Digits.{IsAddress, IsDecimal, IsPlainAddress, IsPlainD
 use Rattle.lnt_text.proofs.OneTextLaws.{one_address, one_decimal}
 use Rattle.lnt_records.specs.Table.{BeginsWith, Fields}
 use Rattle.lnt_records.proofs.LineLaws.{HasOneRecord, IsReadBack, LineLaws, row_end, row_some}
-use Rattle.lnt_records.specs.declared.by_path.version.PathVersion.{PathVersion}
 use Rattle.lnt_records.specs.declared.by_path.version.PathVersion.TheVariants.{Four, Three}
 use Rattle.lnt_records.specs.PathSpans.{PathSpan}
-use Rattle.lnt_records.specs.PathTables.{IsPathRecord, SaysColumn, SaysPath, by_path, path_column_count, path_column_names}
+use Rattle.lnt_records.specs.PathTables.{IsPathRecord, SaysColumn, SaysPath, by_path, path_column_count, path_column_names, PathVersion}
 use Rattle.lnt_records.specs.PathLines.{IsLineOf, IsPathLine, IsPlace, IsPlainByte, IsPlainPathRecord, IsSpanLine, field_with_comma}
 use Rattle.lnt_records.specs.PathLines.{path_field, plain_by_path, plain_told}
 use Rattle.csv.specs.Machine.{next_record}

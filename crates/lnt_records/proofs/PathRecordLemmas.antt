@@ -1,14 +1,12 @@
 -- Records of a table by path, and record 0.
-use Rattle.std.proofs.Common.{◌≡◌, ◌≢◌, ℕ, ◌≤◌, List, [], Option, length, get_or, refl, sym, subst, arith}
-use Rattle.std.specs.Prelude.{codes}
+use Rattle.std.proofs.Common.{◌≡◌, ◌≢◌, ℕ, ◌≤◌, List, [], Option, length, get_or, refl, sym, subst, arith, codes}
 use Rattle.lnt_text.specs.Digits.{IsAddress, IsDecimal}
 use Rattle.lnt_records.proofs.ColumnLemmas.{sound_more}
 use Rattle.lnt_records.proofs.HeaderLaws.{all_named}
 use Rattle.lnt_records.specs.Progress.{AreSoundBefore}
 use Rattle.lnt_records.specs.Table.{AreNamed, Fields}
-use Rattle.lnt_records.specs.declared.by_path.version.PathVersion.{PathVersion}
 use Rattle.lnt_records.specs.declared.by_path.version.PathVersion.TheVariants.{Three, Four}
-use Rattle.lnt_records.specs.PathTables.{SaysColumn, SaysPath, path_column_count, path_column_names, path_kinds}
+use Rattle.lnt_records.specs.PathTables.{SaysColumn, SaysPath, path_column_count, path_column_names, path_kinds, PathVersion}
 use Rattle.lnt_records.specs.PathRecords.{place_names}
 
 -- ---- record 0

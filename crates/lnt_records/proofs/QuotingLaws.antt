@@ -1,6 +1,5 @@
 -- Fields that `csv` writes without quotes, and what it reads of a record that it wrote.
-use Rattle.std.proofs.Common.{◌≡◌, ℕ, ◌≤◌, false, List, [], ◌∷◌, None, length, refl, arith}
-use Rattle.std.proofs.lemmas.Bool.{ne_eqb}
+use Rattle.std.proofs.Common.{◌≡◌, ℕ, ◌≤◌, false, List, [], ◌∷◌, None, length, refl, arith, ne_eqb}
 use Rattle.std.specs.List.{AllByRecursion, list_any}
 use Rattle.csv.specs.Machine.{next_record}
 use Rattle.csv.specs.Reading.{default_config}

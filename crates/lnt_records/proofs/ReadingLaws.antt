@@ -1,8 +1,6 @@
 -- Records are read one by one from bytes in memory.
 use Rattle.std.proofs.Common.{Bor, ◌≡◌, ◌≢◌, ◌∙◌, ℕ, ◌<◌, ◌≤◌, Bool, true, false, List, [], ◌∷◌, ◌++◌, Option, Some, None, length}
-use Rattle.std.proofs.Common.{length-append, refl, sym, ap, subst, arith, inl}
-use Rattle.std.specs.Bool.{MatchBool}
-use Rattle.std.specs.Prelude.{MatchOption, ◌==◌, if◌then◌else◌}
+use Rattle.std.proofs.Common.{length-append, refl, sym, ap, subst, arith, inl, MatchBool, MatchOption, ◌==◌, if◌then◌else◌}
 use Rattle.csv.specs.Machine.{Read, after_end, ends_at_end, ends_with, field_after, fields_after, in_field, is_end, next_record}
 use Rattle.csv.specs.Machine.{start_field, start_record, step}
 use Rattle.csv.specs.Reading.{NextIs, Reached, ReadRecord, default_config, is_bom, is_flexible, pending_of, reader_state, strip_bom}

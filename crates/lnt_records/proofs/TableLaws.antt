@@ -1,11 +1,10 @@
 -- Laws of a table of any format: bytes are at most one table, a table has no fault, and at most one fault is the first of some bytes.
 use Rattle.std.proofs.Common.{◌≡◌, ◌∙◌, ℕ, ◌<◌, ◌≤◌, List, [], ◌∷◌, ◌++◌, length, refl, sym, ap, subst, arith, inl, inr}
 use Rattle.std.specs.List.{AllZip}
-use Rattle.lnt_records.specs.declared.fault.TableFault.{TableFault}
 use Rattle.lnt_records.specs.declared.fault.TableFault.TheVariants as fault
 use Rattle.lnt_records.specs.declared.record.RecordFault.{RecordFault}
 use Rattle.lnt_records.specs.declared.record.RecordFault.TheVariants as record_fault
-use Rattle.lnt_records.specs.Faults.{HasFaultyRecordIn, IsFaultIn, IsFaultyIn}
+use Rattle.lnt_records.specs.Faults.{HasFaultyRecordIn, IsFaultIn, IsFaultyIn, TableFault}
 use Rattle.lnt_records.specs.Progress.{IsRecordFault, fault_at}
 use Rattle.lnt_records.specs.Reading.{IsNarrow, IsReadAs}
 use Rattle.lnt_records.specs.Table.{BeginsWith, Fields, IsOfColumn, IsTableIn, IsTableOfIn, RecordsOf, TableFormat}

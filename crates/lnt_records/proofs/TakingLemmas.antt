@@ -1,7 +1,5 @@
 -- Records that are taken one after another.
-use Rattle.std.proofs.Common.{◌≡◌, ℕ, Bool, true, false, List, [], ◌∷◌, ◌++◌, append_assoc}
-use Rattle.std.proofs.Common.{sym, subst}
-use Rattle.std.specs.Bool.{MatchBool}
+use Rattle.std.proofs.Common.{◌≡◌, ℕ, Bool, true, false, List, [], ◌∷◌, ◌++◌, append_assoc, sym, subst, MatchBool}
 use Rattle.std.specs.List.{AllByRecursion}
 use Rattle.lnt_records.specs.Passing.{IsCutAfter}
 use Rattle.lnt_records.specs.Reading.{BytesReader, HasRead, IsNarrow, IsReadAs, IsReadFor}

@@ -1,8 +1,6 @@
 -- A text that is cut off in its first record: with more bytes that record keeps the fields that it has, or gets more.
 use Rattle.std.proofs.Common.{◌≡◌, ◌∙◌, ℕ, ◌+◌, ◌≤◌, Bool, true, false, List, [], ◌∷◌, ◌++◌, Option, Some, None, length, take, drop}
-use Rattle.std.proofs.Common.{length-append, refl, sym, ap, arith}
-use Rattle.std.specs.Prelude.{◌==◌, if◌then◌else◌}
-use Rattle.std.proofs.lemmas.List.{take-append-drop}
+use Rattle.std.proofs.Common.{length-append, refl, sym, ap, arith, ◌==◌, if◌then◌else◌, take-append-drop}
 use Rattle.csv.specs.Machine.{Read, after_end, ends_at_end, ends_with, field_after, fields_after, in_field, is_end, next_record}
 use Rattle.csv.specs.Machine.{start_field, start_record, step}
 use Rattle.csv.specs.Reading.{Reached, default_config, is_bom, strip_bom}

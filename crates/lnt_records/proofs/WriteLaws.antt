@@ -1,8 +1,7 @@
 -- Tables by number on plain lines, and how they are written.
 use Rattle.std.proofs.Common.{◌≡◌, ◌∙◌, ℕ, suc, ◌+◌, ◌<◌, ◌≤◌, Bool, true, false, List, [], ◌∷◌, ◌++◌, Option, None, length, get_or, take}
-use Rattle.std.proofs.Common.{drop, take-append-drop, refl, sym, ap, subst, arith, Result, Ok, Err, OnOk, is_ok}
+use Rattle.std.proofs.Common.{drop, take-append-drop, refl, sym, ap, subst, arith, Result, Ok, Err, OnOk, is_ok, if◌then◌else◌}
 use Rattle.std.proofs.lemmas.List.{append-nil, take_more, take_all}
-use Rattle.std.specs.Bool.{if◌then◌else◌}
 use Rattle.std.specs.Io.KnownBytes.{Appends}
 use Rattle.std.specs.List.{AllByRecursion}
 use Rattle.csv.specs.Reading.{strip_bom}

@@ -1,6 +1,6 @@
 -- What is wrong with a table.
 use Rattle.std.specs.Prelude.{◌≡◌, ◌≢◌, ℕ, ◌<◌, List, [], ◌∷◌, ◌++◌, length}
-use Rattle.lnt_records.specs.declared.fault.TableFault.{TableFault}
+pub use Rattle.lnt_records.specs.declared.fault.TableFault.{TableFault}
 use Rattle.lnt_records.specs.declared.fault.TableFault.TheVariants as fault
 use Rattle.lnt_records.specs.Table.{BeginsWith, Fields, IsOfColumn, IsTableIn, Kind, TableFormat, by_number}
 

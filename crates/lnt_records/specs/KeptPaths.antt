@@ -1,7 +1,5 @@
 -- What is remembered of paths that were compared. No public contract speaks of it.
-use Rattle.std.specs.Prelude.{◌≡◌, ◌≢◌, ℕ, List, Option, IfSome}
-use Rattle.std.specs.Bool.{MatchBool}
-use Rattle.std.specs.List.{All}
+use Rattle.std.specs.Prelude.{◌≡◌, ◌≢◌, ℕ, List, Option, IfSome, MatchBool, All}
 use Rattle.lnt_records.specs.declared.by_path.kept.FileText.{FileText}
 use Rattle.lnt_records.specs.declared.by_path.kept.FileTexts.{FileTexts}
 use Rattle.lnt_records.specs.declared.by_path.fields.ComparedFiles.{ComparedFiles}

@@ -1,7 +1,6 @@
 -- What the laws of tables of any format say.
 use Rattle.std.specs.Prelude.{◌≡◌, ℕ, List}
-use Rattle.lnt_records.specs.declared.fault.TableFault.{TableFault}
-use Rattle.lnt_records.specs.Faults.{IsFaultIn}
+use Rattle.lnt_records.specs.Faults.{IsFaultIn, TableFault}
 use Rattle.lnt_records.specs.Table.{IsTableOfIn, TableFormat}
 
 -- Bytes are a table of at most one version and one list of spans.

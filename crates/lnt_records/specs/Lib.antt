@@ -1,5 +1,6 @@
 pub mod FaultTexts
 pub mod Faults
+pub mod Halts
 pub mod KeptPaths
 pub mod Laws
 pub mod Lines

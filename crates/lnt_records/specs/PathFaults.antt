@@ -1,7 +1,6 @@
 -- What is wrong with a table by path.
 use Rattle.std.specs.Prelude.{ℕ, List}
-use Rattle.lnt_records.specs.declared.fault.TableFault.{TableFault}
-use Rattle.lnt_records.specs.Faults.{IsFaultIn}
+use Rattle.lnt_records.specs.Faults.{IsFaultIn, TableFault}
 use Rattle.lnt_records.specs.PathTables.{by_path}
 
 -- This is the first fault of the bytes.

@@ -1,7 +1,5 @@
 -- Spans of positions with answers by path: what a list of them answers, and the canonical list for each way to answer.
-use Rattle.std.specs.Prelude.{◌≡◌, ◌≢◌, ℕ, Bool, ◌&&◌, List, [], ◌∷◌, Option}
-use Rattle.std.specs.List.{find}
-use Rattle.std.specs.Option.{option_map}
+use Rattle.std.specs.Prelude.{◌≡◌, ◌≢◌, ℕ, Bool, ◌&&◌, List, [], ◌∷◌, Option, find, option_map}
 use Rattle.lnt_spans.specs.declared.position.Position.{Position}
 use Rattle.lnt_spans.specs.Positions.{IsAtMost, IsBelow, is_at_most, is_below}
 use Rattle.lnt_records.specs.PathAnswers.{PathAnswer}

@@ -3,7 +3,7 @@ use Rattle.std.specs.Prelude.{◌≡◌, ℕ, List, [], ◌∷◌, Option, Some,
 use Rattle.lnt_text.specs.Digits.{IsAddress, IsDecimal}
 use Rattle.lnt_records.specs.Table.Kind.{address, decimal, text}
 use Rattle.lnt_records.specs.Table.{Fields, IsTableIn, IsTableOfIn, Kind, TableFormat}
-use Rattle.lnt_records.specs.declared.by_path.version.PathVersion.{PathVersion}
+pub use Rattle.lnt_records.specs.declared.by_path.version.PathVersion.{PathVersion}
 use Rattle.lnt_records.specs.declared.by_path.version.PathVersion.TheVariants.{Three, Four}
 use Rattle.lnt_records.specs.PathAnswers.{PathAnswer}
 use Rattle.lnt_records.specs.PathSpans.{PathSpan, StandInOrder}

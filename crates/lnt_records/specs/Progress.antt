@@ -7,11 +7,10 @@ use Rattle.lnt_io.specs.Prefixes.{AppendsPrefix}
 use Rattle.lnt_spans.specs.declared.answer.Answer.{Answer}
 use Rattle.lnt_spans.specs.declared.answer.Version.{Version}
 use Rattle.lnt_spans.specs.declared.position.Position.{Position}
-use Rattle.lnt_records.specs.declared.fault.TableFault.{TableFault}
 use Rattle.lnt_records.specs.declared.fault.TableFault.TheVariants as fault
 use Rattle.lnt_records.specs.declared.record.RecordFault.{RecordFault}
 use Rattle.lnt_records.specs.declared.record.RecordFault.TheVariants as record_fault
-use Rattle.lnt_records.specs.Faults.{IsFaultyColumn}
+use Rattle.lnt_records.specs.Faults.{IsFaultyColumn, TableFault}
 use Rattle.lnt_records.specs.Table.{AreMore, Fields, IsFlag, IsOfColumn, Kind, text}
 use Rattle.lnt_records.specs.Written.{LineFormat, lines_of}
 

@@ -1,7 +1,9 @@
 //! What is wrong with a table, and why a call stopped.
 ghost use Rattle.std.specs.Prelude.{◌≡◌, Some};
 ghost use Rattle.lnt_records.specs.FaultTexts.{table_fault_text, write_stop_text};
+ghost use Rattle.lnt_records.specs.Halts.{halt_of_write};
 
+use lnt_io::Halt;
 use std::alloc::AllocError;
 use std::error::Error;
 use std::fmt;
@@ -67,5 +69,16 @@ impl From<AllocError> for WriteStop {
 
     fn from(_error: AllocError) -> WriteStop {
         WriteStop::Memory
+    }
+}
+
+impl From<WriteStop> for Halt {
+    ghost from_gives = { λ stop halt. halt ≡ halt_of_write stop };
+
+    fn from(stop: WriteStop) -> Halt {
+        match stop {
+            WriteStop::Memory => Halt::Memory,
+            WriteStop::Write => Halt::Write,
+        }
     }
 }

@@ -1,6 +1,5 @@
 -- What a comparison of a table with the lines of a good section says of the two.
-use Rattle.std.proofs.Common.{◌≡◌, ℕ, List, Option, Some, None, ap, is_some, refl}
-use Rattle.std.specs.Option.{option_map}
+use Rattle.std.proofs.Common.{◌≡◌, ℕ, List, Option, Some, None, ap, is_some, refl, option_map}
 use Rattle.lnt_spans.specs.declared.answer.Version.{Version}
 use Rattle.lnt_spans.specs.declared.difference.Difference.{Difference}
 use Rattle.lnt_spans.specs.declared.position.Position.{Position}

@@ -1,6 +1,5 @@
 -- What a comparison of a table of any version with a good section says of the two.
-use Rattle.std.proofs.Common.{◌≡◌, ◌∙◌, ◌-◌, ◌++◌, ℕ, List, [], Option, Some, None, IfSome, ap, append_assoc, arith, inl, inr, refl, subst, sym}
-use Rattle.std.specs.Prelude.{MatchOption}
+use Rattle.std.proofs.Common.{◌≡◌, ◌≢◌, ◌-◌, ◌++◌, ℕ, List, [], Option, Some, None, IfSome, arith, inl, inr, refl, subst, MatchOption}
 use Rattle.std.proofs.lemmas.Option.{IfSome_then}
 use Rattle.lnt_spans.specs.declared.difference.Difference.{Difference}
 use Rattle.lnt_spans.specs.declared.found.Found.{Found as FoundSpec}
@@ -14,16 +13,19 @@ use Rattle.lnt_spans.specs.Spans.{span_answer}
 use Rattle.lnt_spans.proofs.PartialLemmas.{answered_and_missed}
 use Rattle.lnt_sequences.specs.Sequences.{line_answer, Selection}
 use Rattle.lnt_records.specs.declared.fault.TableFault.TheVariants as fault
-use Rattle.lnt_compare.specs.Outcomes.{IsHeadedOutcome, IsOutcomeOf, Outcome, compared_of, part_of, whole_of}
+use Rattle.lnt_compare.specs.Outcomes.{IsOutcome, IsOutcomeOf, Outcome, compared_of, part_of, whole_of}
 use Rattle.lnt_compare.specs.declared.outcome.TableRead.TheVariants.{Fault, Table}
 use Rattle.lnt_compare.specs.Comparisons.{TableKind, in_versions, tables_by_number}
 use Rattle.lnt_records.specs.Faults.{IsUnnumbered}
 use Rattle.lnt_compare.specs.Passing.{Passes}
-use Rattle.lnt_records.specs.Table.{column_names}
-use Rattle.lnt_records.specs.Written.{line_text}
+use Rattle.lnt_records.specs.Table.{by_number, column_names}
+use Rattle.lnt_records.specs.Written.{line_text, plain_by_number}
+use Rattle.lnt_records.proofs.LineLaws as lines
+use Rattle.lnt_records.proofs.WriteLaws.{plain_numbers}
+use Rattle.lnt_spans.specs.declared.answer.Version.{Version}
 use Rattle.lnt_records.proofs.BeginningLaws.{one_beginning}
 use Rattle.lnt_compare.proofs.ComparedLaws.{compared_whole, outcome_so}
-use Rattle.lnt_compare.proofs.StreamLaws.{first_taken}
+use Rattle.lnt_compare.proofs.StreamLaws.{line_taken, not_header}
 use Rattle.lnt_compare.specs.declared.by_path.answer.DifferenceByPath.{DifferenceByPath}
 use Rattle.lnt_records.specs.declared.by_path.version.PathVersion.{PathVersion}
 use Rattle.lnt_records.specs.PathAnswers.{path_answer, spans_by_path}
@@ -35,9 +37,9 @@ use Rattle.lnt_lines.specs.declared.options.Options.{Options}
 use Rattle.lnt_lines.specs.Drafts.{IsIndexOfSection}
 use Rattle.lnt_lines.specs.Good.{selected}
 use Rattle.lnt_lines.specs.Indexed.{Indexed, IsIndexOf, OfUnits}
-use Rattle.lnt_table.specs.Verdicts.{Checked}
+use Rattle.lnt_table.specs.Verdicts.{Checked, verdict_of}
 use Rattle.lnt_table.specs.declared.kinds.OfKind.TheVariants.{Numbered, ByPath}
-use Rattle.lnt_table.specs.Judged.{Judged}
+use Rattle.lnt_table.specs.Judged.{Judged, IsJudgedWith, covered_or, missed_in, part_checked, whole_checked, within_scope}
 use Rattle.lnt_table.specs.declared.kinds.OfKind.TheVariants as judged
 use Rattle.lnt_table.specs.declared.verdict.TableNo.TheVariants as no
 use Rattle.lnt_table.specs.declared.verdict.Verdict.TheVariants.{No}
@@ -49,8 +51,6 @@ use Rattle.lnt_table.specs.declared.within.Scope.TheVariants.{All, Answered}
 use Rattle.lnt_table.specs.AnyVersion.{IsTrueCheck, IsTrueCheckOfSection, told_paths}
 use Rattle.lnt_table.specs.ByPath.{indexed_path, path_at, told_path}
 use Rattle.lnt_table.specs.Headline.{told_rows}
-use Rattle.lnt_table.specs.Judged.{IsJudgedWith, covered_or, missed_in, part_checked, whole_checked, within_scope}
-use Rattle.lnt_table.specs.Verdicts.{verdict_of}
 use Rattle.lnt_table.specs.Within.{coverage_but, IsMistakenOf, IsOfScope, IsRightOf, IsTrueOfSectionWithin, IsTrueWithin}
 use Rattle.lnt_table.proofs.AnyLawLemmas.{names_differ}
 use Rattle.lnt_table.proofs.CheckLemmas.{compared_told, none_of_section, section_told, told_addresses, told_so}
@@ -61,7 +61,7 @@ use Rattle.lnt_table.proofs.UnitPathLemmas.{told_by_units}
 -- a table with the header of version 1 or 2
 pub numbered_with : (bytes : List ℕ) (index : Indexed) (selection : Selection) (spans : List Span)
     (outcome : Outcome Difference) → ((p : Position) → span_answer spans p ≡ line_answer selection p)
-    → IsHeadedOutcome bytes spans outcome → IsJudgedWith index selection bytes (judged.Numbered outcome)
+    → IsOutcome bytes spans outcome × (outcome ≢ Fault fault.Header) → IsJudgedWith index selection bytes (judged.Numbered outcome)
 numbered_with bytes index selection spans outcome answers is = (
   outcome_so tables_by_number bytes (in_versions (span_answer spans)) (in_versions (line_answer selection)) outcome
       (λ version. told_so version selection spans answers) is.0,
@@ -80,7 +80,22 @@ pathed_with bytes index selection spans outcome is other answers h = (
       (λ version. told_by_units version index selection spans is answers) h,
 )
 
--- The table's first line is a header of version 3 or 4, and this holds of its other bytes.
+-- The table's first line is a header of version 1 or 2, and this holds of its other bytes.
+pub begun_by_number : (text more : Option (List ℕ)) (may_give may_still : ℕ) (first window : List ℕ) (version : Version) (index : Indexed)
+    (selection : Selection) (spans : List Span) (outcome : Outcome Difference) → Passes text more may_give may_still [] first []
+    → first ≡ line_text (column_names version) ++ window → ((p : Position) → span_answer spans p ≡ line_answer selection p)
+    → IfSome more (λ rest. IsOutcome (line_text (column_names version) ++ (window ++ rest)) spans outcome)
+    → IfSome text (λ bytes. IsJudgedWith index selection bytes (judged.Numbered outcome))
+begun_by_number text more may_give may_still first window version index selection spans outcome passes here answers h =
+    let line : List ℕ = line_text (column_names version) in
+    line_taken text more may_give may_still first line window (λ bytes. IsJudgedWith index selection bytes (judged.Numbered outcome)) passes
+    here (IfSome_then more h (λ rest o. numbered_with (line ++ (window ++ rest)) index selection spans outcome answers (
+      o,
+      not_header (line ++ (window ++ rest)) version spans outcome
+          (lines.header_begins by_number plain_by_number plain_numbers version (window ++ rest)) o,
+    )))
+
+-- The same of a header of version 3 or 4.
 pub begun_by_path : (text more : Option (List ℕ)) (may_give may_still : ℕ) (first window : List ℕ) (version : PathVersion) (index : Indexed)
     (selection : Selection) (spans : List Span) (outcome : Outcome DifferenceByPath)
     → IsIndexOf selection index → Passes text more may_give may_still [] first [] → first ≡ line_text (path_column_names version) ++ window
@@ -90,12 +105,10 @@ pub begun_by_path : (text more : Option (List ℕ)) (may_give may_still : ℕ) (
     → IfSome text (λ bytes. IsJudgedWith index selection bytes (judged.ByPath outcome))
 begun_by_path text more may_give may_still first window version index selection spans outcome is passes here answers h =
     let line : List ℕ = line_text (path_column_names version) in
-    first_taken text more may_give may_still first [] (λ bytes. IsJudgedWith index selection bytes (judged.ByPath outcome)) passes
-    (IfSome_then more h (λ rest o. subst (λ (bytes : List ℕ). IsJudgedWith index selection bytes (judged.ByPath outcome))
-    (sym (append_assoc line window rest) ∙ ap (λ (bytes : List ℕ). bytes ++ rest) (sym here))
-    (pathed_with (line ++ (window ++ rest)) index selection spans outcome is
+    line_taken text more may_give may_still first line window (λ bytes. IsJudgedWith index selection bytes (judged.ByPath outcome)) passes
+    here (IfSome_then more h (λ rest o. pathed_with (line ++ (window ++ rest)) index selection spans outcome is
     (λ v begins. names_differ v version (one_beginning (line ++ (window ++ rest)) (column_names v) (path_column_names version) begins
-    (header_begins version (window ++ rest)))) answers o)))
+    (header_begins version (window ++ rest)))) answers o))
 
 -- the answers of the index are those of the units in the section
 own_path : (line general : List ℕ) (options : Options) (section table : List ℕ) (index : Indexed) (outcome : Outcome DifferenceByPath)

@@ -5,9 +5,8 @@ use Rattle.lnt_compare.specs.Laws.{OneComparison}
 use Rattle.lnt_compare.specs.declared.by_path.answer.DifferenceByPath.{DifferenceByPath}
 use Rattle.lnt_compare.specs.PathOutcomes.{tables_by_path}
 use Rattle.lnt_lines.specs.declared.options.Options.{Options}
-use Rattle.lnt_table.specs.Verdicts.{Checked}
+use Rattle.lnt_table.specs.Verdicts.{Checked, Verdict}
 use Rattle.lnt_table.specs.declared.kinds.OfKind.TheVariants.{Numbered, ByPath}
-use Rattle.lnt_table.specs.declared.verdict.Verdict.{Verdict}
 use Rattle.lnt_table.specs.AnyVersion.{IsTrueCheck, told_paths}
 use Rattle.lnt_table.specs.Laws.{OneCheck, OneNumbered, OneVerdict, SayTheSame}
 use Rattle.lnt_table.proofs.OneVerdictLemmas.{one_told}

@@ -17,11 +17,10 @@ use Rattle.lnt_lines.specs.declared.options.Options.{Options}
 use Rattle.lnt_lines.specs.Laws.{GoodHasNoFlaw, OneNo}
 use Rattle.lnt_lines.specs.Nos.{IsTrueNo}
 use Rattle.lnt_table.specs.declared.verdict.TableNo.TheVariants as no
-use Rattle.lnt_table.specs.declared.verdict.Verdict.{Verdict}
 use Rattle.lnt_table.specs.declared.verdict.Verdict.TheVariants.{Yes, No}
 use Rattle.lnt_table.specs.Headline.{IsGoodWith, IsTrueByNumber, IsTrueVerdict, told_rows}
 use Rattle.lnt_table.specs.Laws.{OneVerdict}
-use Rattle.lnt_table.specs.Verdicts.{no_of_fault, verdict_of}
+use Rattle.lnt_table.specs.Verdicts.{no_of_fault, verdict_of, Verdict}
 
 -- ---- comparisons of tables of any kind with a section
 

@@ -1,8 +1,6 @@
 -- The answers of a section by path.
 --     line, general   the bytes of .debug_line_str and of .debug_str
-use Rattle.std.specs.Prelude.{◌==◌, ℕ, List, Option}
-use Rattle.std.specs.List.{find}
-use Rattle.std.specs.Option.{option_and_then, option_map}
+use Rattle.std.specs.Prelude.{◌==◌, ℕ, List, Option, find, option_and_then, option_map}
 use Rattle.lnt_header.specs.declared.header.HeaderParts.{HeaderParts}
 use Rattle.lnt_header.specs.declared.unit_parts.UnitParts.{UnitParts}
 use Rattle.lnt_spans.specs.declared.position.Position.{Position}

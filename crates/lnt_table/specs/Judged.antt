@@ -11,7 +11,7 @@ use Rattle.lnt_records.specs.Faults.{IsUnnumbered}
 use Rattle.lnt_compare.specs.declared.by_path.answer.DifferenceByPath.{DifferenceByPath}
 use Rattle.lnt_compare.specs.PathOutcomes.{tables_by_path}
 use Rattle.lnt_lines.specs.Indexed.{Indexed}
-use Rattle.lnt_table.specs.Verdicts.{Checked}
+use Rattle.lnt_table.specs.Verdicts.{Checked, verdict_of}
 use Rattle.lnt_table.specs.declared.kinds.OfKind.TheVariants.{Numbered, ByPath}
 use Rattle.lnt_table.specs.declared.kinds.OfKind.{OfKind}
 use Rattle.lnt_table.specs.declared.kinds.OfKind.TheVariants as judged
@@ -20,7 +20,6 @@ use Rattle.lnt_table.specs.declared.within.CheckedWithin.TheVariants.{Checked as
 use Rattle.lnt_table.specs.declared.within.Scope.{Scope}
 use Rattle.lnt_table.specs.declared.within.Scope.TheVariants.{All, Answered}
 use Rattle.lnt_table.specs.ByPath.{told_path}
-use Rattle.lnt_table.specs.Verdicts.{verdict_of}
 use Rattle.lnt_table.specs.Within.{coverage_but}
 
 -- what the comparison of a table of either kind comes to

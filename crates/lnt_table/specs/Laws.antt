@@ -14,11 +14,10 @@ use Rattle.lnt_records.specs.declared.by_path.version.PathVersion.{PathVersion}
 use Rattle.lnt_records.specs.PathAnswers.{PathAnswer}
 use Rattle.lnt_compare.specs.PathStretches.{stretch_of}
 use Rattle.lnt_compare.specs.Canonical.{IsCanonicalPathTable}
-use Rattle.lnt_table.specs.Verdicts.{Checked}
+use Rattle.lnt_table.specs.Verdicts.{Checked, Verdict}
 use Rattle.lnt_table.specs.declared.kinds.OfKind.TheVariants.{Numbered, ByPath}
 use Rattle.lnt_table.specs.AnyVersion.{IsTrueCheck}
 use Rattle.lnt_table.specs.ByPath.{answer_by_path}
-use Rattle.lnt_table.specs.declared.verdict.Verdict.{Verdict}
 use Rattle.lnt_table.specs.declared.verdict.Verdict.TheVariants.{Yes}
 use Rattle.lnt_table.specs.Headline.{AnswersRight, IsTrueVerdict}
 use Rattle.lnt_table.specs.Written.{IsTableOfLines, IsTableOfUnits}

@@ -8,7 +8,7 @@ use Rattle.lnt_compare.specs.declared.by_path.answer.DifferenceByPath.{Differenc
 use Rattle.lnt_table.specs.declared.kinds.OfKind.{OfKind}
 use Rattle.lnt_table.specs.declared.verdict.TableNo.{TableNo}
 use Rattle.lnt_table.specs.declared.verdict.TableNo.TheVariants as no
-use Rattle.lnt_table.specs.declared.verdict.Verdict.{Verdict}
+pub use Rattle.lnt_table.specs.declared.verdict.Verdict.{Verdict}
 use Rattle.lnt_table.specs.declared.verdict.Verdict.TheVariants.{Yes, No}
 
 -- the reason against a table that its first fault stands for

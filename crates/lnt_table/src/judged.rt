@@ -9,12 +9,12 @@ use crate::kinds::OfKind;
 use crate::paths::IndexPaths;
 use crate::verdict::verdict_of;
 use lnt_compare::{
-    DifferenceByPath, Outcome, TableRead, TableStart, compare_by_path, compare_lines,
+    DifferenceByPath, Outcome, TableRead, Window, compare_by_path, compare_lines,
     compare_lines_by_path, compare_records, pass_header,
 };
 use lnt_io::{Source, Stop};
 use lnt_lines::Index;
-use lnt_records::{PathVersion, header_of};
+use lnt_records::{PathVersion, TableFault};
 use lnt_spans::{Difference, Version};
 use std::alloc::{AllocError, Global};
 
@@ -68,13 +68,14 @@ pub(crate) fn judge_index<T: Source>(
 {
     // For the proofs: a table has no more bytes than its source may give, so their number fits.
     let _may_give = table.left();
-    let (mut window, spans) = match compare_lines(alloc, table, index.spans())? {
-        TableStart::Compared(outcome) => return Ok(OfKind::Numbered(outcome)),
-        TableStart::Other(window, spans) => (window, spans),
-    };
+    let mut window = Window::of(alloc, table)?;
+    if let Some(version) = pass_header(&mut window, Version::One, Version::Two) {
+        let outcome = compare_lines(alloc, table, window, version, index.spans())?;
+        return Ok(OfKind::Numbered(outcome));
+    }
     if let Some(version) = pass_header(&mut window, PathVersion::Three, PathVersion::Four) {
         let paths = IndexPaths { index };
-        let outcome = compare_lines_by_path(alloc, table, window, version, spans, &paths)?;
+        let outcome = compare_lines_by_path(alloc, table, window, version, index.spans(), &paths)?;
         return Ok(OfKind::ByPath(outcome));
     }
     let text = window.rest_after(alloc, &[], table)?;
@@ -86,14 +87,10 @@ pub(crate) fn judge_index<T: Source>(
 fn judge_text(alloc: Global, text: &[u8], index: &Index<'_>) -> Result<Judged, AllocError>
     ensures { IfOk result (λ judged. OfUnits index.now (λ selection. IsJudgedWith index.now selection text.now judged)) }
 {
-    match header_of::<Version>(alloc, text)? {
-        Some(_) => {
-            let outcome = compare_records(alloc, text, index.spans())?;
-            Ok(OfKind::Numbered(outcome))
-        }
-        None => {
-            let outcome = compare_by_path(alloc, text, index.spans(), &IndexPaths { index })?;
-            Ok(OfKind::ByPath(outcome))
-        }
+    let outcome = compare_records(alloc, text, index.spans())?;
+    if let TableRead::Fault(TableFault::Header) = outcome {
+        let outcome = compare_by_path(alloc, text, index.spans(), &IndexPaths { index })?;
+        return Ok(OfKind::ByPath(outcome));
     }
+    Ok(OfKind::Numbered(outcome))
 }

@@ -1,7 +1,6 @@
 //! Laws of answers and verdicts, each the contract of a function without parameters that does nothing.
 ghost use Rattle.lnt_spans.specs.Laws.{Borders};
-ghost use Rattle.lnt_table.specs.Laws.{OneCheck, OneNumbered, OneVerdict, OneWritten, OnlyYes};
-ghost use Rattle.lnt_table.specs.Laws.{OwnTable, OwnTableByPath, OwnTableOfUnits};
+ghost use Rattle.lnt_table.specs.Laws.{OneCheck, OneNumbered, OneVerdict, OneWritten, OnlyYes, OwnTable, OwnTableByPath, OwnTableOfUnits};
 
 /// If two lists of spans, each in order and without empty spans, give the same answer at each position where a span of
 /// either begins or ends, they give the same answer at every position. So the spans of a table and of a section need to be

@@ -15,12 +15,12 @@ ghost use Rattle.lnt_io.specs.Stopping.{CountsFailure, IsTooLongOn};
 
 use crate::kinds::OfKind;
 use lnt_compare::{
-    DifferencesByPath, Differing, HeldSpan, HeldTable, Remaining, TableRead, TableStart,
-    differ_lines, differ_records, hold_table,
+    DifferencesByPath, Differing, HeldSpan, HeldTable, Remaining, TableRead, Window, differ_lines,
+    differ_records, hold_table, pass_header,
 };
 use lnt_io::{Source, Stop};
 use lnt_lines::{Index, Spans};
-use lnt_records::{PathVersion, TableFault, header_of};
+use lnt_records::{PathVersion, TableFault};
 use lnt_spans::{SpanList, SpanSource, Version};
 use std::alloc::{AllocError, Global};
 
@@ -79,10 +79,13 @@ pub fn differences_any<'i, T: Source>(
     ensures failures { CountsFailure ⟦<T as Source>⟧ table.old table.new result Stop.Read }
     ensures too_long { IsTooLongOn ⟦<T as Source>⟧ table.old table.new result Stop.TooLong }
 {
-    let window = match differ_lines(alloc, table, index.spans())? {
-        TableStart::Compared(differing) => return Ok(OfKind::Numbered(differing)),
-        TableStart::Other(window, _) => window,
-    };
+    // For the proofs: a table has no more bytes than its source may give, so their number fits.
+    let _may_give = table.left();
+    let mut window = Window::of(alloc, table)?;
+    if let Some(version) = pass_header(&mut window, Version::One, Version::Two) {
+        let differing = differ_lines(alloc, table, window, version, index.spans())?;
+        return Ok(OfKind::Numbered(differing));
+    }
     let text = window.rest_after(alloc, &[], table)?;
     let any = differ_text(alloc, &text, index)?;
     Ok(any)
@@ -99,16 +102,12 @@ fn differ_text<'i>(
     ensures started { IfOk result (λ any. IsStartedAny ⟦<Remaining<Spans<'i>> as SpanSource>⟧.to_come ⟦<SpanList as SpanSource>⟧.to_come
         any) }
 {
-    match header_of::<Version>(alloc, text)? {
-        Some(_) => {
-            let differing = differ_records(alloc, text, index.spans())?;
-            Ok(OfKind::Numbered(differing))
-        }
-        None => {
-            let held = hold_table(alloc, text)?;
-            Ok(OfKind::ByPath(held))
-        }
+    let differing = differ_records(alloc, text, index.spans())?;
+    if let TableRead::Fault(TableFault::Header) = differing {
+        let held = hold_table(alloc, text)?;
+        return Ok(OfKind::ByPath(held));
     }
+    Ok(OfKind::Numbered(differing))
 }
 
 /// The stretches at which two answers differ, with the full path of each file: those of a table by path with these spans, in

@@ -2,9 +2,8 @@
 use Rattle.std.proofs.Common.{◌≡◌, ℕ, ◌^◌, ◌<◌, ◌≤◌, ◌⊎◌, inl, inr, List, [], ◌∷◌, length, refl, subst, arith}
 use Rattle.std.proofs.lemmas.Bool.{cases_eq, cases_lt}
 use Rattle.std.specs.List.{AllByRecursion}
-use Rattle.lnt_text.specs.declared.radix.Radix.{Radix}
 use Rattle.lnt_text.specs.declared.radix.Radix.TheVariants.{Ten, Sixteen}
-use Rattle.lnt_text.specs.Digits.{IsAddress, IsDecimal, IsDigit, IsNumber, radix_base, digits_value, most_digits}
+use Rattle.lnt_text.specs.Digits.{IsAddress, IsDecimal, IsDigit, IsNumber, radix_base, digits_value, most_digits, Radix}
 use Rattle.std.proofs.lemmas.Grind.{common_steps}
 
 -- ---- digits

@@ -1,15 +1,12 @@
 -- A number that ends before a certain byte.
 use Rattle.std.proofs.Common.{◌≡◌, ◌∙◌, ℕ, ◌+◌, ◌*◌, ◌^◌, ◌%◌, ◌<◌, ◌≤◌, Bool, true, false, List, [], ◌∷◌, ◌++◌, length, length-append}
-use Rattle.std.proofs.Common.{get_or, drop, append_assoc, refl, sym, ap, arith}
+use Rattle.std.proofs.Common.{get_or, drop, append_assoc, refl, sym, ap, arith, MatchBool, ◌&&◌}
 use Rattle.std.proofs.Math.Nat.{pow-le-pow_right}
 use Rattle.std.proofs.lemmas.Grind.{pow_more, common_steps}
 use Rattle.std.proofs.lemmas.List.{drop_more}
-use Rattle.std.specs.Bool.{MatchBool}
 use Rattle.std.specs.List.{AllByRecursion}
-use Rattle.std.specs.Prelude.{◌&&◌}
-use Rattle.lnt_text.specs.declared.radix.Radix.{Radix}
 use Rattle.lnt_text.specs.declared.radix.Radix.TheVariants.{Ten, Sixteen}
-use Rattle.lnt_text.specs.Digits.{IsAddress, IsDigit, IsHexadecimalDigit, IsNumber, radix_base, digit_value, digits_value}
+use Rattle.lnt_text.specs.Digits.{IsAddress, IsDigit, IsHexadecimalDigit, IsNumber, radix_base, digit_value, digits_value, Radix}
 use Rattle.lnt_text.specs.Delimited.{Begins}
 
 all_push : (P : ℕ → Type 0) (prefix : List ℕ) (b : ℕ) → AllByRecursion P prefix → P b → AllByRecursion P (prefix ++ b ∷ [])

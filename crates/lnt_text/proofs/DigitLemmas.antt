@@ -3,8 +3,7 @@ use Rattle.std.proofs.Common.{◌≡◌, ◌+◌, ◌*◌, ◌^◌, ◌/◌, ◌
 use Rattle.std.proofs.Math.Nat.{le-mul_of_pos_right}
 use Rattle.std.proofs.lemmas.Bool.Decides.{nat_tests, leb_tells}
 use Rattle.std.proofs.lemmas.Grind.{pow_more, common_steps}
-use Rattle.lnt_text.specs.declared.radix.Radix.{Radix}
-use Rattle.lnt_text.specs.Digits.{IsDigit, IsLower, radix_base, digit_code, digit_value, digits_value}
+use Rattle.lnt_text.specs.Digits.{IsDigit, IsLower, radix_base, digit_code, digit_value, digits_value, Radix}
 
 -- ---- the base
 

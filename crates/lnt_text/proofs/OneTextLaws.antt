@@ -3,9 +3,8 @@ use Rattle.std.proofs.Common.{◌≡◌, ◌∙◌, ℕ, ◌+◌, ◌*◌, ◌<�
 use Rattle.std.proofs.lemmas.Bool.{cases_lt}
 use Rattle.std.proofs.lemmas.Bool.Decides.{nat_tests}
 use Rattle.std.specs.List.{AllByRecursion}
-use Rattle.lnt_text.specs.declared.radix.Radix.{Radix}
 use Rattle.lnt_text.specs.declared.radix.Radix.TheVariants.{Ten, Sixteen}
-use Rattle.lnt_text.specs.Digits.{IsDigit, IsLower, IsPlain, radix_base, digit_value, digits_value}
+use Rattle.lnt_text.specs.Digits.{IsDigit, IsLower, IsPlain, radix_base, digit_value, digits_value, Radix}
 use Rattle.lnt_text.specs.Laws.{OneAddress, OneDecimal}
 use Rattle.std.proofs.lemmas.Grind.{common_steps}
 

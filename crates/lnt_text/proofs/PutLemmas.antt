@@ -5,10 +5,9 @@ use Rattle.std.proofs.Math.ListN.{length-set}
 use Rattle.std.proofs.Math.Seq.{take-set-lt}
 use Rattle.std.proofs.lemmas.List.{drop-set-lt, drop_all, length-take-le, take_all, take-set-le}
 use Rattle.std.specs.List.{AllByRecursion}
-use Rattle.lnt_text.specs.declared.radix.Radix.{Radix}
 use Rattle.lnt_text.specs.declared.radix.Radix.TheVariants.{Ten, Sixteen}
 use Rattle.lnt_text.specs.Digits.{HasNoLeadingZero, IsDigit, IsLower, IsPlain, IsPlainAddress, IsPlainDecimal, radix_base, digit_code}
-use Rattle.lnt_text.specs.Digits.{digits_value, most_digits}
+use Rattle.lnt_text.specs.Digits.{digits_value, most_digits, Radix}
 use Rattle.lnt_text.proofs.DigitLemmas.{code_is_digit, code_is_lower, code_not_zero, code_worth, fewer_digits}
 use Rattle.lnt_text.proofs.DigitLemmas.{last_digit, last_digit_below, lone_digit}
 use Rattle.std.proofs.lemmas.Grind.{common_steps}

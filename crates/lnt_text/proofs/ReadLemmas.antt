@@ -2,8 +2,7 @@
 use Rattle.std.proofs.Common.{◌≡◌, ℕ, ◌+◌, ◌*◌, ◌^◌, ◌<◌, ◌≤◌, List, length, get_or, take, drop, arith}
 use Rattle.std.proofs.lemmas.List.{drop_more}
 use Rattle.std.specs.List.{AllByRecursion}
-use Rattle.lnt_text.specs.declared.radix.Radix.{Radix}
-use Rattle.lnt_text.specs.Digits.{IsDigit, IsNumber, radix_base, digit_value, digits_value, most_digits}
+use Rattle.lnt_text.specs.Digits.{IsDigit, IsNumber, radix_base, digit_value, digits_value, most_digits, Radix}
 use Rattle.lnt_text.proofs.DigitLemmas.{base_some, value_grows}
 use Rattle.std.proofs.lemmas.Grind.{common_steps}
 

@@ -1,9 +1,8 @@
 -- What the bytes of a number's text are, and that a text says one number.
 use Rattle.std.proofs.Common.{◌≡◌, ◌∙◌, ℕ, ◌≤◌, List, [], ◌∷◌, sym, arith}
 use Rattle.std.specs.List.{AllByRecursion}
-use Rattle.lnt_text.specs.declared.radix.Radix.{Radix}
 use Rattle.lnt_text.specs.declared.radix.Radix.TheVariants.{Ten}
-use Rattle.lnt_text.specs.Digits.{IsAddress, IsDecimal, IsDigit, IsPlainAddress}
+use Rattle.lnt_text.specs.Digits.{IsAddress, IsDecimal, IsDigit, IsPlainAddress, Radix}
 use Rattle.std.proofs.lemmas.Grind.{common_steps}
 
 -- ---- one number

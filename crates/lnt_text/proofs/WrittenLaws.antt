@@ -5,9 +5,8 @@ use Rattle.std.proofs.lemmas.Bool.{eqb-false, eqb-true}
 use Rattle.std.proofs.lemmas.List.{drop-take}
 use Rattle.std.proofs.lemmas.List.Folds.{drop_split}
 use Rattle.std.specs.Fmt.{digits, digits_onto}
-use Rattle.lnt_text.specs.declared.radix.Radix.{Radix}
 use Rattle.lnt_text.specs.declared.radix.Radix.TheVariants.{Ten, Sixteen}
-use Rattle.lnt_text.specs.Digits.{IsPlain, IsPlainAddress, IsPlainDecimal, digit_code, most_digits, radix_base}
+use Rattle.lnt_text.specs.Digits.{IsPlain, IsPlainAddress, IsPlainDecimal, digit_code, most_digits, radix_base, Radix}
 use Rattle.lnt_text.proofs.DigitLemmas.{fewer_digits}
 use Rattle.lnt_text.proofs.OneTextLaws.{one_address, one_decimal}
 use Rattle.lnt_text.proofs.PutLemmas.{IsPut, digit_first, digit_put, no_room}

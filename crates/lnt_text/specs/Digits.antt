@@ -1,7 +1,7 @@
 -- Numbers as text.
 use Rattle.std.specs.Prelude.{◌≡◌, ℕ, ◌+◌, ◌-◌, ◌*◌, ◌^◌, ◌<◌, ◌≤◌, ◌⊎◌, List, [], ◌∷◌, ◌++◌, length, if◌then◌else◌, nat_lt}
 use Rattle.std.specs.List.{AllByRecursion}
-use Rattle.lnt_text.specs.declared.radix.Radix.{Radix}
+pub use Rattle.lnt_text.specs.declared.radix.Radix.{Radix}
 use Rattle.lnt_text.specs.declared.radix.Radix.TheVariants.{Ten, Sixteen}
 
 -- ---- digits

@@ -48,10 +48,6 @@ abbrev pub count_text : Option ℕ → List ℕ
 count_text (Some count) = codes " (" ++ (decimal count ++ codes " of them)")
 count_text None = []
 
--- how sequences that begin at an address are left out
-abbrev pub advice_text : ℕ → List ℕ
-advice_text address = codes "; --dead " ++ (hexadecimal address ++ codes " leaves them out")
-
 -- the line of the text where a record begins, if that is known
 abbrev pub line_text : Option ℕ → List ℕ
 line_text (Some line) = codes "line " ++ (decimal line ++ codes " of the table: ")
@@ -96,7 +92,8 @@ note_text Older = codes "linetab upgrade writes units of versions 2 to 4 anew in
 note_text (NoStrings section) = strings_text section
 note_text (MaybeDead count address) =
     codes "sequences begin at " ++ (hexadecimal address ++
-    (codes ", where linkers leave discarded code" ++ (count_text count ++ advice_text address)))
+    (codes ", where linkers leave discarded code" ++ (count_text count ++
+    (codes "; --dead " ++ (hexadecimal address ++ codes " leaves them out")))))
 note_text (NoneDead address) = codes "no sequence begins at " ++ (hexadecimal address ++ codes ", so --dead leaves nothing out")
 note_text Copies =
     codes "the two hold the same positions, as where a linker kept one of several copies of some code; --skip-copies leaves out the others"

@@ -1,6 +1,5 @@
 -- Texts between quotes.
-use Rattle.std.specs.Prelude.{ℕ, List, [], ◌∷◌, ◌++◌, ◌==◌, ◌||◌, ◌/◌, ◌%◌, Bool, codes, false, if◌then◌else◌, nat_lt}
-use Rattle.std.specs.List.{flat_map}
+use Rattle.std.specs.Prelude.{ℕ, List, [], ◌∷◌, ◌++◌, ◌==◌, ◌||◌, ◌/◌, ◌%◌, Bool, codes, false, if◌then◌else◌, nat_lt, flat_map}
 use Rattle.std.specs.Fmt.{digits}
 
 -- whether a byte is written by its digits: it isn't printable, or it is a quote or a backslash

@@ -28,10 +28,7 @@ pub fn decimal_until(text: &[u8], at: usize, end: u8) -> Option<(u64, usize)>
 fn digit_until(text: &[u8], at: usize, end: u8) -> Option<(u64, usize)>
     ensures { IfSome result (λ found. Begins IsDecimal (drop at text.now) found.0 end (drop found.1 text.now)) }
 {
-    if at >= text.len() {
-        return None;
-    }
-    let digit = decimal_value(text[at])?;
+    let digit = decimal_value(*text.get(at)?)?;
     let next = past(text, at + 1, end)?;
     Some((digit, next))
 }

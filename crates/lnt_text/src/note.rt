@@ -1,6 +1,6 @@
 //! Notes: help for the user, after an answer, which they don't change.
 ghost use Rattle.std.specs.Prelude.{◌≡◌, Some};
-ghost use Rattle.lnt_text.specs.Notes.{advice_text, argument_text, column_kind, column_name, count_text, line_text};
+ghost use Rattle.lnt_text.specs.Notes.{argument_text, column_kind, column_name, count_text, line_text};
 ghost use Rattle.lnt_text.specs.Notes.{look_text, note_text, rule_text, strings_text};
 
 use lnt_wire::Order;
@@ -131,10 +131,11 @@ impl fmt::Display for Note {
             ),
             Note::NoStrings(section) => f.write_str(missing_option(section)),
             Note::MaybeDead(count, address) => {
-                let (counted, advice) = (CountText(count), AdviceText(address));
+                let counted = CountText(count);
                 write!(
                     f,
-                    "sequences begin at 0x{address:x}, where linkers leave discarded code{counted}{advice}"
+                    "sequences begin at 0x{address:x}, where linkers leave discarded code{counted}; \
+                     --dead 0x{address:x} leaves them out"
                 )
             }
             Note::NoneDead(address) => write!(
@@ -167,12 +168,8 @@ impl fmt::Display for RecordRule {
                 f.write_str("each record has as many fields as the header has names")
             }
             RecordRule::Kind(column) => {
-                write!(
-                    f,
-                    "{} is {}",
-                    name_of_column(column),
-                    kind_of_column(column)
-                )
+                let (name, kind) = (name_of_column(column), kind_of_column(column));
+                write!(f, "{name} is {kind}")
             }
             RecordRule::Order => f.write_str(
                 "each span ends above its low, which isn't below the high of the span before",
@@ -254,19 +251,6 @@ impl fmt::Display for CountText {
             Some(count) => write!(f, " ({count} of them)"),
             None => Ok(()),
         }
-    }
-}
-
-// The option that leaves out sequences that begin at this address.
-#[derive(Clone, Copy)]
-struct AdviceText(u64);
-
-impl fmt::Display for AdviceText {
-    ghost output = { λ text. Some (advice_text text.0) };
-
-    fn fmt<W: fmt::Write>(&self, f: &mut fmt::Formatter<W>) -> fmt::Result {
-        let address = self.0;
-        write!(f, "; --dead 0x{address:x} leaves them out")
     }
 }
 

@@ -2,11 +2,10 @@
 //!
 //! The digits are those that `Display` writes. They are written from the last one on, into the text that they belong to, so that none is
 //! counted before, or moved or copied after.
-ghost use Rattle.std.specs.Prelude.{◌≡◌, ℕ, ◌+◌, ◌++◌, ◌<◌, ◌≤◌, List, drop, length, take, OnOk, OnErr};
-ghost use Rattle.lnt_text.specs.declared.radix.Radix.TheVariants.{Ten, Sixteen};
-ghost use Rattle.lnt_text.specs.Digits.{IsPlain, IsPlainAddress, IsPlainDecimal, Puts, most_digits};
+ghost use Rattle.std.specs.Prelude.{◌≡◌, ◌+◌, ◌<◌, ◌≤◌, drop, length, take, OnOk, OnErr};
+ghost use Rattle.lnt_text.specs.Digits.{IsPlainAddress, IsPlainDecimal, Puts};
 
-use crate::radix::{Radix, decimal_byte, digit_byte};
+use crate::radix::{decimal_byte, digit_byte};
 use std::alloc::AllocError;
 
 // The most decimal digits that a number below 2^64 has.
@@ -50,55 +49,10 @@ pub fn decimal_before(text: &mut [u8], end: usize, n: u64) -> usize
     ensures before { take result text.new ≡ take result text.old }
     ensures after { drop end text.new ≡ drop end text.old }
 {
-    digits_before(text, end, n, Radix::Ten)
-}
-
-/// Writes `0x` and the hexadecimal digits of a number, in lower case and with no leading zeros, into a text, so that they
-/// end before index `end`, and returns the index of the first character. The text before and after them is unchanged. The
-/// caller ensures that `end` is at least 18 and not past the text's end.
-#[inline(always)]
-pub fn address_before(text: &mut [u8], end: usize, n: u64) -> usize
-    requires { (18 ≤ end) × (end ≤ length text.old) }
-    ensures begins { (result < end) × (end ≤ result + 18) }
-    ensures written { IsPlainAddress (drop result (take end text.new)) n }
-    ensures before { take result text.new ≡ take result text.old }
-    ensures after { drop end text.new ≡ drop end text.old }
-{
-    let start = digits_before(text, end, n, Radix::Sixteen);
-    text[start - 1] = b'x';
-    text[start - 2] = b'0';
-    start - 2
-}
-
-// Writes the digits of a number into a text, so that they end before index `end`, and returns the index of the first.
-#[inline(always)]
-fn digits_before(text: &mut [u8], end: usize, n: u64, radix: Radix) -> usize
-    requires { (most_digits radix ≤ end) × (end ≤ length text.old) }
-    ensures within { result < end }
-    ensures room { end ≤ result + most_digits radix }
-    ensures written { IsPlain radix (drop result (take end text.new)) n }
-    ensures before { (k : ℕ) → k ≤ result → take k text.new ≡ take k text.old }
-    ensures after { drop end text.new ≡ drop end text.old }
-{
-    match radix {
-        Radix::Ten => decimal_digits_before(text, end, n),
-        Radix::Sixteen => hexadecimal_digits_before(text, end, n),
-    }
-}
-
-// The same for decimal digits. Each division after the first gives two of them, since it has to wait for the one before it.
-#[inline(always)]
-fn decimal_digits_before(text: &mut [u8], end: usize, n: u64) -> usize
-    requires { (20 ≤ end) × (end ≤ length text.old) }
-    ensures within { result < end }
-    ensures room { end ≤ result + 20 }
-    ensures written { IsPlain Ten (drop result (take end text.new)) n }
-    ensures before { (k : ℕ) → k ≤ result → take k text.new ≡ take k text.old }
-    ensures after { drop end text.new ≡ drop end text.old }
-{
     let mut start = end - 1;
     text[start] = decimal_byte(n % 10);
     let mut left = n / 10;
+    // Each division after the first gives two digits, since it has to wait for the one before it.
     while left >= 10 {
         let pair = left % 100;
         text[start - 1] = decimal_byte(pair % 10);
@@ -113,14 +67,15 @@ fn decimal_digits_before(text: &mut [u8], end: usize, n: u64) -> usize
     start - 1
 }
 
-// The same for hexadecimal digits.
+/// Writes `0x` and the hexadecimal digits of a number, in lower case and with no leading zeros, into a text, so that they
+/// end before index `end`, and returns the index of the first character. The text before and after them is unchanged. The
+/// caller ensures that `end` is at least 18 and not past the text's end.
 #[inline(always)]
-fn hexadecimal_digits_before(text: &mut [u8], end: usize, n: u64) -> usize
-    requires { (16 ≤ end) × (end ≤ length text.old) }
-    ensures within { result < end }
-    ensures room { end ≤ result + 16 }
-    ensures written { IsPlain Sixteen (drop result (take end text.new)) n }
-    ensures before { (k : ℕ) → k ≤ result → take k text.new ≡ take k text.old }
+pub fn address_before(text: &mut [u8], end: usize, n: u64) -> usize
+    requires { (18 ≤ end) × (end ≤ length text.old) }
+    ensures begins { (result < end) × (end ≤ result + 18) }
+    ensures written { IsPlainAddress (drop result (take end text.new)) n }
+    ensures before { take result text.new ≡ take result text.old }
     ensures after { drop end text.new ≡ drop end text.old }
 {
     let mut start = end - 1;
@@ -131,5 +86,7 @@ fn hexadecimal_digits_before(text: &mut [u8], end: usize, n: u64) -> usize
         text[start] = digit_byte(left % 16);
         left /= 16;
     }
-    start
+    text[start - 1] = b'x';
+    text[start - 2] = b'0';
+    start - 2
 }

@@ -1,6 +1,5 @@
 //! Digits and their values.
-ghost use Rattle.std.specs.Prelude.{◌≡◌, ◌+◌, ◌<◌, ◌≤◌, MatchOption};
-ghost use Rattle.std.specs.Bool.{MatchBool};
+ghost use Rattle.std.specs.Prelude.{◌≡◌, ◌+◌, ◌<◌, ◌≤◌, MatchOption, MatchBool};
 ghost use Rattle.lnt_text.specs.Digits.{IsDecimalDigit, IsDigit, IsHexadecimalDigit, radix_base, digit_code, digit_value, most_digits};
 
 // The base in which a number is written.
@@ -64,11 +63,7 @@ pub(crate) fn decimal_value(byte: u8) -> Option<u64>
 fn hexadecimal_value(byte: u8) -> Option<u64>
     ensures { MatchOption result (IsHexadecimalDigit byte → ⊥) (λ d. IsHexadecimalDigit byte × (d ≡ digit_value byte) × (d < 16)) }
 {
-    if is_hexadecimal(byte) {
-        Some(letter_or_digit_value(byte))
-    } else {
-        None
-    }
+    is_hexadecimal(byte).then_some(letter_or_digit_value(byte))
 }
 
 // Whether a byte is a hexadecimal digit of either case.

@@ -1,6 +1,6 @@
 //! Numbers read from text.
-ghost use Rattle.std.specs.Prelude.{◌≡◌, ℕ, ◌+◌, ◌*◌, ◌^◌, ◌<◌, ◌≤◌, MatchOption};
-ghost use Rattle.lnt_text.specs.Digits.{IsAddress, IsDecimal, IsNumber, radix_base};
+ghost use Rattle.std.specs.Prelude.{ℕ, MatchOption};
+ghost use Rattle.lnt_text.specs.Digits.{IsAddress, IsDecimal, IsNumber};
 
 use crate::radix::Radix;
 
@@ -29,24 +29,10 @@ fn number(digits: &[u8], radix: Radix) -> Option<u64>
     if digits.is_empty() || digits.len() > radix.most_digits() {
         return None;
     }
-    let mut value = 0;
+    let mut value: u64 = 0;
     for byte in digits {
-        let Some(digit) = radix.value_of(*byte) else {
-            return None;
-        };
-        let Some(more) = with_digit(value, radix, digit) else {
-            return None;
-        };
-        value = more;
+        let digit = radix.value_of(*byte)?;
+        value = value.checked_mul(radix.base())?.checked_add(digit)?;
     }
     Some(value)
-}
-
-// The number with one more digit after its last. `None` if that is 2^64 or more.
-#[inline(always)]
-fn with_digit(value: u64, radix: Radix, digit: u64) -> Option<u64>
-    ensures { MatchOption result (2 ^ 64 ≤ value * radix_base radix + digit)
-        (λ more. (more ≡ value * radix_base radix + digit) × (more < 2 ^ 64)) }
-{
-    value.checked_mul(radix.base())?.checked_add(digit)
 }

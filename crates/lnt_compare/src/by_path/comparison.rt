@@ -45,36 +45,35 @@ pub fn compare_by_path<S: SpanSource + Drop, P: Paths>(
     };
     let memory = PathMemory::new(alloc)?;
     let comparison = Comparison::past(memory, spans, whole(0), 1);
-    compare_text(alloc, table, version, comparison, paths)
-}
-
-// Compares the records of a text after its header with the spans that a section has left, line by line as long as that works. The
-// comparison may have taken others before them.
-pub(crate) fn compare_text<S: SpanSource + Drop, P: Paths>(
-    alloc: Global,
-    text: &[u8],
-    version: PathVersion,
-    mut comparison: PathComparison<S>,
-    paths: &P,
-) -> Result<Outcome<DifferenceByPath>, AllocError>
-    requires sound { IsRemembered (P.bytes_of paths.now) comparison.memory }
-    requires header { BeginsWith text.now (path_column_names version ∷ []) }
-    requires few { comparison.count + length text.now < 2 ^ 64 + 1 }
-    ensures { IfOk result (λ outcome. (bytes : List ℕ) (passed : List Fields) (list section : List spec.Span)
-        → IsCutAfter (path_column_names version) text.now bytes (path_column_names version ∷ passed)
-        → Judges S.to_come tables_by_path path_end (path_answer version (P.bytes_of paths.now)) version comparison list
-        (path_column_names version ∷ passed)
-        → AnswerAlike (path_answer version (P.bytes_of paths.now)) list section
-        → IsPathOutcome bytes (λ version. spans_by_path version (P.bytes_of paths.now) section) outcome) }
-{
-    let at = pass_lines(alloc, &mut comparison, paths, version, text)?;
     let telling = PathTelling {
         alloc,
         paths,
         version,
         held: PhantomData,
     };
-    compare_after(alloc, &text[at..], &telling, comparison)
+    compare_text(alloc, table, &telling, comparison)
+}
+
+// Compares the records of a text after its header with the spans that a section has left, line by line as long as that works. The
+// comparison may have taken others before them.
+pub(crate) fn compare_text<'t, S: SpanSource + Drop, P: Paths>(
+    alloc: Global,
+    text: &'t [u8],
+    telling: &PathTelling<'_, 't, P>,
+    mut comparison: PathComparison<S>,
+) -> Result<Outcome<DifferenceByPath>, AllocError>
+    requires sound { IsRemembered (P.bytes_of telling.now.paths.now) comparison.memory }
+    requires header { BeginsWith text.now (path_column_names telling.now.version ∷ []) }
+    requires few { comparison.count + length text.now < 2 ^ 64 + 1 }
+    ensures { IfOk result (λ outcome. (bytes : List ℕ) (passed : List Fields) (list section : List spec.Span)
+        → IsCutAfter (path_column_names telling.now.version) text.now bytes (path_column_names telling.now.version ∷ passed)
+        → Judges S.to_come tables_by_path path_end (path_answer telling.now.version (P.bytes_of telling.now.paths.now)) telling.now.version
+        comparison list (path_column_names telling.now.version ∷ passed)
+        → AnswerAlike (path_answer telling.now.version (P.bytes_of telling.now.paths.now)) list section
+        → IsPathOutcome bytes (λ version. spans_by_path version (P.bytes_of telling.now.paths.now) section) outcome) }
+{
+    let at = pass_lines(&mut comparison, telling, text)?;
+    compare_after(alloc, &text[at..], telling, comparison)
 }
 
 // The state of a comparison with a table by path.

@@ -1,6 +1,5 @@
 //! The lines of spans in tables by path.
-ghost use Rattle.std.specs.Prelude.{◌≡◌, ◌++◌, ℕ, List, IfSome};
-ghost use Rattle.std.specs.Bool.{MatchBool};
+ghost use Rattle.std.specs.Prelude.{◌≡◌, ◌++◌, ℕ, List, IfSome, MatchBool};
 ghost use Rattle.lnt_spans.specs.Instructions.{IsOfInstructions};
 ghost use Rattle.lnt_records.specs.PathAnswers.{path_answer};
 ghost use Rattle.lnt_records.specs.PathLines.{IsSpanLine, path_field};

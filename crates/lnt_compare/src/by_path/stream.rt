@@ -65,6 +65,6 @@ pub fn compare_lines_by_path<S: SpanSource + Drop, P: Paths, T: Source>(
     )?;
     let text = window.rest_after(alloc, version.header_line(), table)?;
     let comparison = Comparison::past(memory, passed.spans, passed.end, passed.count);
-    let outcome = compare_text(alloc, &text, version, comparison, paths)?;
+    let outcome = compare_text(alloc, &text, &telling, comparison)?;
     Ok(outcome)
 }

@@ -1,7 +1,5 @@
 //! What tables by path contain of an answer.
-ghost use Rattle.std.specs.Prelude.{◌≡◌, ◌≢◌, ℕ, List, IfOk};
-ghost use Rattle.std.specs.Bool.{MatchBool};
-ghost use Rattle.std.specs.Option.{option_map};
+ghost use Rattle.std.specs.Prelude.{◌≡◌, ◌≢◌, ℕ, List, IfOk, MatchBool, option_map};
 ghost use Rattle.lnt_spans.specs.AnyStretches.{stretch_at};
 ghost use Rattle.lnt_compare.specs.Remembering.{IsRemembered};
 ghost use Rattle.lnt_records.specs.PathAnswers.{path_answer, told_column};
@@ -9,16 +7,22 @@ ghost use Rattle.lnt_compare.specs.PathStretches.{stretch_of, told_path_answer};
 ghost use Rattle.lnt_records.specs.PathRecords.{said_answer};
 
 use crate::by_path::answer::{AnswerByPath, DifferenceByPath};
-use crate::by_path::known::KnownPaths;
-use lnt_records::{PathFields, PathVersion, Paths, SaidPath, ToldFiles};
+use crate::by_path::known::has_told_path;
+use lnt_records::{FileTexts, PathFields, PathVersion, Paths, SaidPath, ToldFiles};
 use lnt_spans::{Answer, Position, Telling};
 use std::alloc::{AllocError, Global};
 use std::marker::PhantomData;
 
+// The number of paths kept at most.
+const SLOTS: u64 = 4096;
+
+// The number of bytes of the longest path that is kept, so that all of them together take 2 MiB at most.
+const LONGEST: usize = 512;
+
 // What is remembered of the paths of files.
 #[derive(Drop)]
 pub(crate) struct PathMemory {
-    known: KnownPaths,
+    known: FileTexts,
     pub(crate) fields: PathFields,
 }
 
@@ -27,7 +31,7 @@ impl PathMemory {
     pub(crate) fn new(alloc: Global) -> Result<PathMemory, AllocError>
         ensures { IfOk result (λ memory. (path : ℕ → ℕ → List ℕ) → IsRemembered path memory) }
     {
-        let known = KnownPaths::new(alloc)?;
+        let known = FileTexts::new(alloc, SLOTS, LONGEST)?;
         let fields = PathFields::new(alloc)?;
         Ok(PathMemory { known, fields })
     }
@@ -100,9 +104,8 @@ impl<'p, 'r, P: Paths> Telling for PathTelling<'p, 'r, P> {
         if answer.line != held.line || column_in(self.version, answer.column) != held.column {
             return Ok(false);
         }
-        memory
-            .known
-            .has_told_path(self.alloc, self.paths, recalled, answer, held.path)
+        let known = &mut memory.known;
+        has_told_path(self.alloc, self.paths, known, recalled, answer, held.path)
     }
 
     fn same_said(&self, one: SaidPath<'r>, other: SaidPath<'r>) -> bool {
@@ -169,10 +172,7 @@ fn same_place(version: PathVersion, one: &Answer, other: &Answer) -> bool
         × (told_column version one.now.column ≡ told_column version other.now.column))
         (one.now.line ≡ other.now.line → told_column version one.now.column ≢ told_column version other.now.column) }
 {
-    match version {
-        PathVersion::Three => one.line == other.line && one.column == other.column,
-        PathVersion::Four => one.line == other.line,
-    }
+    one.line == other.line && column_in(version, one.column) == column_in(version, other.column)
 }
 
 // The column, if the version has columns.

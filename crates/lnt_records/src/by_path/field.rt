@@ -1,7 +1,5 @@
 //! The path of a file as a field of a record.
-ghost use Rattle.std.specs.Prelude.{◌≡◌, ◌∷◌, [], IfOk, IsTrue};
-ghost use Rattle.std.specs.Bool.{MatchBool};
-ghost use Rattle.std.specs.List.{All};
+ghost use Rattle.std.specs.Prelude.{◌≡◌, ◌∷◌, [], IfOk, IsTrue, MatchBool, All};
 ghost use Rattle.csv.specs.Writing.{default_writer, row_text};
 ghost use Rattle.lnt_records.specs.PathLines.{IsPlainByte, field_with_comma};
 

@@ -1,6 +1,5 @@
 //! Caches the paths of files as fields of a record, and which files have the same path.
-ghost use Rattle.std.specs.Prelude.{◌≡◌, ◌≢◌, ◌<◌, ℕ, List, IfOk, IfSome, OnOk};
-ghost use Rattle.std.specs.Bool.{MatchBool};
+ghost use Rattle.std.specs.Prelude.{◌≡◌, ◌≢◌, ◌<◌, ℕ, List, IfOk, IfSome, OnOk, MatchBool};
 ghost use Rattle.lnt_records.specs.KeptPaths.{IsTextOf};
 ghost use Rattle.lnt_records.specs.PathLines.{AreFieldsOf, path_field};
 

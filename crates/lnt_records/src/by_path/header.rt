@@ -1,11 +1,9 @@
 //! Record 0 of a table by path, which names its columns.
-ghost use Rattle.std.specs.Prelude.{◌≡◌, ◌≢◌, ◌≤◌, length};
-ghost use Rattle.std.specs.Bool.{MatchBool};
+ghost use Rattle.std.specs.Prelude.{◌≡◌, ◌≢◌, ◌≤◌, length, MatchBool};
 ghost use Rattle.csv.specs.Records.{fields_of};
 ghost use Rattle.lnt_records.specs.Table.{AreNamed};
-ghost use Rattle.lnt_records.specs.declared.by_path.version.PathVersion.{PathVersion};
 ghost use Rattle.lnt_records.specs.declared.by_path.version.PathVersion.TheVariants as version;
-ghost use Rattle.lnt_records.specs.PathTables.{path_column_count, path_column_names};
+ghost use Rattle.lnt_records.specs.PathTables.{path_column_count, path_column_names, PathVersion};
 ghost use Rattle.lnt_records.specs.PathRecords.{place_names};
 
 use crate::by_path::version::PathVersion;

@@ -1,6 +1,5 @@
 //! Keeps what was made for files, so that it isn't made again for code that alternates between files.
-ghost use Rattle.std.specs.Prelude.{◌≡◌, ◌≢◌, ℕ, List, IfOk, IfSome, IsTrue};
-ghost use Rattle.std.specs.Bool.{MatchBool};
+ghost use Rattle.std.specs.Prelude.{◌≡◌, ◌≢◌, ℕ, List, IfOk, IfSome, IsTrue, MatchBool};
 ghost use Rattle.lnt_records.specs.KeptPaths.{AreTextsOf, IsTextOf};
 
 use std::alloc::{AllocError, Global};

@@ -1,6 +1,5 @@
 //! Parses lines of a table by path that have nothing in quotes, each in one pass over its bytes.
-ghost use Rattle.std.specs.Prelude.{◌≤◌, drop, length, IfSome};
-ghost use Rattle.std.specs.List.{All};
+ghost use Rattle.std.specs.Prelude.{◌≤◌, drop, length, IfSome, All};
 ghost use Rattle.lnt_text.specs.Digits.{IsDecimal};
 ghost use Rattle.lnt_records.specs.PathLines.{IsPathBefore, IsPathLine, IsPlace, IsPlainByte};
 

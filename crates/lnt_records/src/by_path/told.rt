@@ -1,6 +1,5 @@
 //! Remembers which files have a path, so that it isn't compared again for code that alternates between files.
-ghost use Rattle.std.specs.Prelude.{◌≡◌, ◌≢◌, ◌<◌, ℕ, List, IfSome};
-ghost use Rattle.std.specs.Bool.{MatchBool};
+ghost use Rattle.std.specs.Prelude.{◌≡◌, ◌≢◌, ◌<◌, ℕ, List, IfSome, MatchBool};
 ghost use Rattle.lnt_records.specs.KeptPaths.{AreTold};
 
 // The number of results kept at most, of each kind.

@@ -1,4 +1,4 @@
-use Rattle.std.proofs.Common.{◌^◌, ◌<◌, ◌+◌, ◌++◌, ℕ, List, arith, length, refl}
+use Rattle.std.proofs.Common.{◌++◌, ℕ, List, arith, refl}
 use Rattle.std.proofs.lemmas.Grind.{elements}
 use Rattle.lnt_spans.specs.Spans.{span_answer}
 use Rattle.lnt_compare.specs.Passing.{Ends}
@@ -7,14 +7,14 @@ use Rattle.lnt_records.specs.Written.{line_text, lines_text, plain_by_number}
 use Rattle.lnt_spans.proofs.AnsweringLaws.{prefix_in_order}
 use Rattle.lnt_spans.proofs.ToldLaws.{told}
 use Rattle.lnt_compare.proofs.GatherLemmas.{gathered_lines, goes_on, started}
-use Rattle.lnt_compare.proofs.StreamLaws.{begun, cut_begins, few_all, no_header_fault, rest_begins, rest_cut, whole_begun}
-use Rattle.lnt_compare.proofs.WindowLaws.{few_passed}
+use Rattle.lnt_compare.proofs.StreamLaws.{few_all, rest_begins, rest_cut, whole_cut}
+use Rattle.lnt_records.proofs.LineLaws.{line_some}
 use Rattle.lnt_records.proofs.WriteLaws.{plain_numbers}
 use Rattle.lnt_compare.proofs.differing.differ_lines.Goals as goal
 
 pub gather_after-gathered-requires-clause-begins : goal.gather_after-gathered-requires-clause-begins
 gather_after-gathered-requires-clause-begins g c =
-    let version = c.in-Some.version in
+    let version = c.args.version in
     let past : List ℕ = c.pass_spans.new.window in
     let ends : Ends (g.T.Source.remaining c.pass_spans.new.source) (g.T.Source.left c.pass_spans.new.source)
     (c.header_line.result.now ++ past) c.deref.result.now = rw (← c.deref.ensures.value) at c.in_ok-text.ensures.ok in
@@ -22,44 +22,37 @@ gather_after-gathered-requires-clause-begins g c =
 
 pub gather_after-gathered-requires-clause-few : goal.gather_after-gathered-requires-clause-few
 gather_after-gathered-requires-clause-few g c =
-    let version = c.in-Some.version in
-    let begun = begun version _ _ _ _ c.new-window.result c.fill.new.self c.pass_header.new.window c.new-window.ensures
-    c.in_ok-fill.ensures.taken c.in-Some.ensures in
+    let version = c.args.version in
     let spans = c.in_ok-passed.ensures.ok in
     let past : List ℕ = c.pass_spans.new.window in
     let ends : Ends (g.T.Source.remaining c.pass_spans.new.source) (g.T.Source.left c.pass_spans.new.source)
     (c.header_line.result.now ++ past) c.deref.result.now = rw (← c.deref.ensures.value) at c.in_ok-text.ensures.ok in
-    let fits : length (line_text (column_names version)) + length c.pass_header.new.window + g.T.Source.left c.fill.new.source < 2 ^ 64 =
-    omega (arith, c.left-may_give.ensures, c.left-may_give.type_inv, few_passed _ _ _ _ _ _ _ begun) in
-    few_all by_number plain_by_number plain_numbers version _ _ _ _ c.header_line.result.now c.pass_header.new.window past spans.0
-    c.deref.result.now _ c.in_ok-passed.passed.count c.header_line.ensures spans.2 ends spans.3.lines fits
+    few_all by_number plain_by_number plain_numbers version _ _ _ _ c.header_line.result.now c.args.window past spans.0
+    c.deref.result.now _ c.in_ok-passed.passed.count c.header_line.ensures spans.2 ends spans.3.lines c.requires.few
+
+pub pass_spans-requires-clause-few : goal.pass_spans-requires-clause-few
+pass_spans-requires-clause-few g c = omega (arith, c.requires.few, line_some (column_names c.args.version))
 
 pub returns-clause-ok : goal.returns-clause-ok
 returns-clause-ok g c list section coming order answers =
-    let version = c.in-Some.version in
-    let begun = begun version _ _ _ _ c.new-window.result c.fill.new.self c.pass_header.new.window c.new-window.ensures
-    c.in_ok-fill.ensures.taken c.in-Some.ensures in
+    let version = c.args.version in
     let spans = c.in_ok-passed.ensures.ok in
     let past : List ℕ = c.pass_spans.new.window in
     let ends : Ends (g.T.Source.remaining c.pass_spans.new.source) (g.T.Source.left c.pass_spans.new.source)
     (c.header_line.result.now ++ past) c.deref.result.now = rw (← c.deref.ensures.value) at c.in_ok-text.ensures.ok in
     let off = spans.4 list coming order in
     let lines = spans.3.lines in
-    let header =
-    rest_begins by_number plain_by_number plain_numbers version _ _ c.header_line.result.now past c.deref.result.now c.header_line.ensures ends in
-    whole_begun version _ _ _ _ _ _ c.header_line.result.now c.pass_header.new.window past spans.0 c.deref.result.now _ lines.records _
-    c.header_line.ensures begun spans.2 ends lines.text_is lines.each
+    whole_cut by_number plain_by_number plain_numbers version _ _ _ _ c.header_line.result.now c.args.window past spans.0
+    c.deref.result.now _ lines.records _ c.header_line.ensures spans.2 ends lines.text_is lines.each
     (λ bytes cut.
-    let told = c.in_ok-differing.ensures bytes section (told version spans.1) off.rest
+    c.in_ok-differing.ensures bytes section (told version spans.1) off.rest
     (gathered_lines version spans.0 c.deref.result.now bytes spans.1 _ _ c.gather_after-gathered.result spans.3
     (prefix_in_order spans.1 off.rest off.order) cut c.gather_after-gathered.ensures)
-    (goes_on version _ list spans.1 section c.in_ok-passed.passed.end off spans.3.end_is answers) off.left in
-    let begins = cut_begins version c.deref.result.now bytes lines.records cut header in
-    (told, no_header_fault _ _ bytes version section c.in_ok-differing.differing begins told))
+    (goes_on version _ list spans.1 section c.in_ok-passed.passed.end off spans.3.end_is answers) off.left)
 
 pub returns-clause-started : goal.returns-clause-started
 returns-clause-started g c =
-    let version = c.in-Some.version in
+    let version = c.args.version in
     let spans = c.in_ok-passed.ensures.ok in
     let past : List ℕ = c.pass_spans.new.window in
     let ends : Ends (g.T.Source.remaining c.pass_spans.new.source) (g.T.Source.left c.pass_spans.new.source)

@@ -1,5 +1,4 @@
-use Rattle.std.proofs.Common.{◌<◌, ◌≤◌, [], ◌∷◌, length, arith}
-use Rattle.std.proofs.lemmas.Bool.{ltb-true}
+use Rattle.std.proofs.Common.{◌<◌, ◌≤◌, [], ◌∷◌, length, arith, ltb-true}
 use Rattle.csv.specs.Records.{fields_of}
 use Rattle.lnt_records.specs.Reading.{HasRead}
 use Rattle.lnt_records.proofs.WideLemmas.{prefix_fields}

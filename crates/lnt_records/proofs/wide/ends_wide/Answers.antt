@@ -1,5 +1,4 @@
-use Rattle.std.proofs.Common.{[], ◌∷◌, ◌++◌, refl, arith}
-use Rattle.std.proofs.lemmas.Bool.{ltb-true}
+use Rattle.std.proofs.Common.{[], ◌∷◌, ◌++◌, refl, arith, ltb-true}
 use Rattle.csv.specs.Records.{fields_of}
 use Rattle.lnt_records.proofs.PrefixLaws.{ends_in}
 use Rattle.lnt_records.proofs.wide.ends_wide.Goals as goal

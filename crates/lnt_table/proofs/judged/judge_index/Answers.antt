@@ -1,11 +1,22 @@
-use Rattle.std.proofs.Common.{arith, ap, length, length-append}
-use Rattle.std.proofs.lemmas.Option.{IfSome_then}
+use Rattle.std.proofs.Common.{arith, ap, length, length-append, sym, ◌∙◌}
+use Rattle.lnt_records.specs.Table.{column_names}
 use Rattle.lnt_records.specs.Written.{line_text}
 use Rattle.lnt_compare.proofs.WindowLaws.{few_passed, longer_from_start}
 use Rattle.lnt_compare.proofs.StreamLaws.{all_taken}
 use Rattle.lnt_records.specs.PathTables.{path_column_names}
-use Rattle.lnt_table.proofs.JudgedLemmas.{begun_by_path, numbered_with}
+use Rattle.lnt_table.proofs.JudgedLemmas.{begun_by_number, begun_by_path}
 use Rattle.lnt_table.proofs.judged.judge_index.Goals as goal
+
+pub compare_lines-requires-clause-few : goal.compare_lines-requires-clause-few
+compare_lines-requires-clause-few g c =
+    omega (
+      arith,
+      few_passed _ _ _ _ _ _ _ c.in_ok-window.ensures.taken,
+      ap length c.in-Some.ensures,
+      length-append (line_text (column_names c.in-Some.version)) c.pass_header.new.window,
+      c.left-may_give.ensures,
+      c.left-may_give.type_inv,
+    )
 
 pub compare_lines-requires-clause-spans : goal.compare_lines-requires-clause-spans
 compare_lines-requires-clause-spans g c =
@@ -13,53 +24,49 @@ compare_lines-requires-clause-spans g c =
     let all = c.spans.ensures.gives known.selection known.index_is in
     (all.spans, all.to_come, all.in_order)
 
-pub returns-in-Compared-clause-ok : goal.returns-in-Compared-clause-ok
-returns-in-Compared-clause-ok g c selection is =
+pub returns-in-Some-clause-ok : goal.returns-in-Some-clause-ok
+returns-in-Some-clause-ok g c selection is =
     let all = c.spans.ensures.gives selection is in
-    IfSome_then (g.T.Source.remaining c.args.table.now) (rw c.in-Compared.is at c.in_ok-outcome.ensures.ok all.spans all.to_come all.in_order)
-    (λ bytes told. numbered_with bytes c.args.index.now selection all.spans c.in-Compared.outcome all.answers told)
+    begun_by_number _ _ _ _ c.in_ok-window.window c.pass_header.new.window c.in-Some.version c.args.index.now selection all.spans
+    c.in_ok-outcome.outcome c.in_ok-window.ensures.taken c.in-Some.ensures all.answers
+    (c.in_ok-outcome.ensures.ok all.spans all.to_come all.in_order)
 
 pub compare_lines_by_path-requires-clause-few : goal.compare_lines_by_path-requires-clause-few
 compare_lines_by_path-requires-clause-few g c =
-    let begun = rw c.in-Other.is at c.in_ok-outcome.ensures.begun in
     omega (
       arith,
-      few_passed _ _ _ _ _ _ _ begun.0,
-      ap length c.in-Some.ensures,
-      length-append (line_text (path_column_names c.in-Some.version)) c.pass_header.new.window,
+      few_passed _ _ _ _ _ _ _ c.in_ok-window.ensures.taken,
+      ap length (sym c.in_default.ensures ∙ c.in-Some-pass_header.ensures),
+      length-append (line_text (path_column_names c.in-Some-pass_header.version)) c.pass_header-2.new.window,
       c.left-may_give.ensures,
       c.left-may_give.type_inv,
     )
 
 pub compare_lines_by_path-requires-clause-spans : goal.compare_lines_by_path-requires-clause-spans
 compare_lines_by_path-requires-clause-spans g c =
-    let begun = rw c.in-Other.is at c.in_ok-outcome.ensures.begun in
-    let known = c.spans.ensures.is_index in
-    let all = c.spans.ensures.gives known.selection known.index_is in
-    (all.spans, rw begun.1 all.to_come, all.in_order)
+    let known = c.spans-in-Some-pass_header.ensures.is_index in
+    let all = c.spans-in-Some-pass_header.ensures.gives known.selection known.index_is in
+    (all.spans, all.to_come, all.in_order)
 
-pub returns-in-Some-clause-ok : goal.returns-in-Some-clause-ok
-returns-in-Some-clause-ok g c selection is =
-    let begun = rw c.in-Other.is at c.in_ok-outcome.ensures.begun in
-    let all = c.spans.ensures.gives selection is in
-    begun_by_path _ _ _ _ c.in-Other.window c.pass_header.new.window c.in-Some.version c.args.index.now selection all.spans
-    c.in_ok-outcome-2.outcome is begun.0 c.in-Some.ensures all.answers
-    (c.in_ok-outcome-2.ensures.ok all.spans (rw begun.1 all.to_come) all.in_order)
+pub returns-in-Some-pass_header-clause-ok : goal.returns-in-Some-pass_header-clause-ok
+returns-in-Some-pass_header-clause-ok g c selection is =
+    let all = c.spans-in-Some-pass_header.ensures.gives selection is in
+    begun_by_path _ _ _ _ c.in_ok-window.window c.pass_header-2.new.window c.in-Some-pass_header.version c.args.index.now selection all.spans
+    c.in_ok-outcome-2.outcome is c.in_ok-window.ensures.taken (sym c.in_default.ensures ∙ c.in-Some-pass_header.ensures) all.answers
+    (c.in_ok-outcome-2.ensures.ok all.spans all.to_come all.in_order)
 
 pub returns-in_err-text-clause-too_long : goal.returns-in_err-text-clause-too_long
 returns-in_err-text-clause-too_long g c e =
-    let begun = rw c.in-Other.is at c.in_ok-outcome.ensures.begun in
     grind (
       arith,
       c.in_err-text.ensures.too_long,
       c.from_residual-in_err-text.ensures,
-      longer_from_start _ _ _ _ _ _ _ begun.0,
+      longer_from_start _ _ _ _ _ _ _ c.in_ok-window.ensures.taken,
       e,
     )
 
 pub returns-clause-ok : goal.returns-clause-ok
 returns-clause-ok g c selection index =
-    let begun = rw c.in-Other.is at c.in_ok-outcome.ensures.begun in
-    let ends = rw c.in_default.ensures at c.in_ok-text.ensures.ok in
+    let ends = rw (c.in_default-pass_header.ensures, c.in_default.ensures) at c.in_ok-text.ensures.ok in
     let found = rw c.deref.ensures.value at c.in_ok-judged.ensures in
-    all_taken _ _ _ _ c.in-Other.window c.in_ok-text.text.items _ begun.0 ends (found selection index)
+    all_taken _ _ _ _ c.in_ok-window.window c.in_ok-text.text.items _ c.in_ok-window.ensures.taken ends (found selection index)

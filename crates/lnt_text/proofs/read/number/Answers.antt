@@ -1,11 +1,17 @@
-use Rattle.std.proofs.Common.{arith}
+use Rattle.std.proofs.Common.{arith, rules}
 use Rattle.std.proofs.lemmas.Grind.{common_steps}
 use Rattle.lnt_text.proofs.ReadLemmas.{too_large}
 use Rattle.lnt_text.proofs.read.number.Goals as goal
 
-pub returns-in_default-with_digit : goal.returns-in_default-with_digit
-returns-in_default-with_digit c =
-    too_large _ _ _ _ _ c.loop-byte-test.true c.loop-byte.invariant c.in-Some.ensures.1 c.in_default-with_digit.ensures
+pub returns-in_err-checked_mul : goal.returns-in_err-checked_mul
+returns-in_err-checked_mul c =
+    rw c.from_residual-in_err-checked_mul.ensures
+    (too_large _ _ _ _ _ c.loop-byte-test.true c.loop-byte.invariant c.in_ok-digit.ensures.1 (search rules))
+
+pub returns-in_err-value : goal.returns-in_err-value
+returns-in_err-value c =
+    rw c.from_residual-in_err-value.ensures
+    (too_large _ _ _ _ _ c.loop-byte-test.true c.loop-byte.invariant c.in_ok-digit.ensures.1 (search rules))
 
 pub loop-byte-preserved : goal.loop-byte-preserved
 loop-byte-preserved c = grind (arith, common_steps)
@@ -13,5 +19,5 @@ loop-byte-preserved c = grind (arith, common_steps)
 pub returns : goal.returns
 returns c = grind (arith, common_steps)
 
-pub returns-in_default : goal.returns-in_default
-returns-in_default c = grind (arith, common_steps)
+pub returns-in_err-digit : goal.returns-in_err-digit
+returns-in_err-digit c = grind (arith, common_steps)

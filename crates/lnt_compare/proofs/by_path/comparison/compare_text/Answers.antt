@@ -11,13 +11,13 @@ use Rattle.lnt_compare.proofs.by_path.comparison.compare_text.Goals as goal
 pub compare_after-requires-clause-first : goal.compare_after-requires-clause-first
 compare_after-requires-clause-first g c =
     let passed = c.in_ok-at.ensures.passed in
-    let after = after_slice c.args.text.now c.in_ok-at.at (path_column_names c.args.version ∷ passed.0) passed.1 in
+    let after = after_slice c.args.text.now c.in_ok-at.at (path_column_names c.args.telling.now.version ∷ passed.0) passed.1 in
     (after.goes_on.last, after.goes_on.narrow, (after.after, after.rest, after.goes_on.text_reached))
 
 pub returns : goal.returns
 returns g c =
-    let version = c.args.version in
-    let path = g.P.Paths.bytes_of c.args.paths.now in
+    let version = c.args.telling.now.version in
+    let path = g.P.Paths.bytes_of c.args.telling.now.paths.now in
     let names = path_column_names version in
     let lines = c.in_ok-at.ensures.passed in
     IfOk-weaker c.compare_after.result _ _

@@ -1,6 +1,4 @@
-use Rattle.std.proofs.Common.{rules, subst, length, ◌<◌, ◌≤◌}
-use Rattle.std.specs.List.{All}
-use Rattle.std.proofs.lemmas.List.{take_all}
+use Rattle.std.proofs.Common.{rules, subst, length, ◌<◌, ◌≤◌, All, take_all}
 use Rattle.std.proofs.lemmas.List.Elements.{All-more}
 use Rattle.lnt_records.specs.PathLines.{IsPlainByte}
 use Rattle.lnt_records.proofs.by_path.field.is_plain.Goals as goal

@@ -1,5 +1,4 @@
-use Rattle.std.specs.Prelude.{take}
-use Rattle.std.specs.List.{All}
+use Rattle.std.proofs.Common.{take, All}
 use Rattle.lnt_records.specs.PathLines.{IsPlainByte}
 use Rattle.lnt_records.proofs.by_path.field.is_plain.Given as goal
 

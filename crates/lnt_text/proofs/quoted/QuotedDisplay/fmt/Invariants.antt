@@ -1,6 +1,5 @@
-use Rattle.std.proofs.Common.{◌++◌, codes, take}
+use Rattle.std.proofs.Common.{◌++◌, codes, take, flat_map}
 use Rattle.std.specs.Fmt.{HasWritten, IsPlainFormatter}
-use Rattle.std.specs.List.{flat_map}
 use Rattle.lnt_text.specs.Quotes.{quoted_byte}
 use Rattle.lnt_text.proofs.quoted.QuotedDisplay.fmt.Given as goal
 

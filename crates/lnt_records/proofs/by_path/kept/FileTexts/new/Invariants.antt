@@ -1,5 +1,4 @@
-use Rattle.std.specs.Prelude.{ℕ, List, IfSome}
-use Rattle.std.specs.List.{All}
+use Rattle.std.proofs.Common.{ℕ, List, IfSome, All}
 use Rattle.lnt_records.specs.KeptPaths.{IsTextOf}
 use Rattle.lnt_records.proofs.by_path.kept.FileTexts.new.Given as goal
 

@@ -1,6 +1,6 @@
 use Rattle.lnt_text.specs.declared.radix.Radix.TheVariants.{Sixteen}
 use Rattle.lnt_text.proofs.PutLemmas.{Written}
-use Rattle.lnt_text.proofs.put.hexadecimal_digits_before.Given as goal
+use Rattle.lnt_text.proofs.put.address_before.Given as goal
 
 abbrev pub invariant-loop-left : goal.invariant-loop-left
 invariant-loop-left l = Written Sixteen l.n l.end l.fn.text l.text l.start l.left
