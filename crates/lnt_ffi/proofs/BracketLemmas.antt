@@ -1,8 +1,6 @@
 -- Between which spans an index says that the answer lies, where it is that of the spans.
-use Rattle.std.proofs.Common.{◌≡◌, ℕ, ◌+◌, ◌-◌, ◌/◌, ◌%◌, ◌^◌, ◌<◌, ◌≤◌, List, length, map}
-use Rattle.std.proofs.Common.{get_or, min, subst, arith}
+use Rattle.std.proofs.Common.{◌≡◌, ℕ, ◌+◌, ◌-◌, ◌/◌, ◌%◌, ◌^◌, ◌<◌, ◌≤◌, List, length, map, get_or, min, subst, arith, ltb-false, ltb-true}
 use Rattle.std.proofs.Math.Nat.{div-mul-le_self, mod-eq_of_lt}
-use Rattle.std.proofs.lemmas.Bool.{ltb-false, ltb-true}
 use Rattle.std.proofs.lemmas.Grind.{common_steps}
 use Rattle.std.proofs.lemmas.List.{length-map}
 use Rattle.std.proofs.lemmas.List.Sums.{prefix_len-le-length, prefix_len_passes, prefix_len_stops}
@@ -14,8 +12,7 @@ use Rattle.lnt_spans.specs.Positions.{IsBelow, IsAtMost}
 use Rattle.lnt_spans.specs.Spans.{AreInOrder}
 use Rattle.lnt_spans.proofs.BetweenLaws.{ends_before, none_empty}
 use Rattle.lnt_spans.specs.Brackets.{IsBracket}
-use Rattle.lnt_ffi.specs.declared.flat.FlatSpan.{FlatSpan}
-use Rattle.lnt_ffi.specs.Flat.{span_of}
+use Rattle.lnt_ffi.specs.Flat.{span_of, FlatSpan}
 use Rattle.lnt_ffi.specs.Index.{begins_below, bucket, first_low, IsBucketIndex, last_low, spans_below}
 use Rattle.lnt_ffi.proofs.IndexLemmas.{more_below, unseen}
 use Rattle.lnt_ffi.proofs.LookLemmas.{at}

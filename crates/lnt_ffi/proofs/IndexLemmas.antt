@@ -1,10 +1,8 @@
 -- How many spans, from the first on, begin below a bucket.
-use Rattle.std.proofs.Common.{◌≡◌, ℕ, ◌+◌, ◌-◌, ◌^◌, ◌<◌, ◌≤◌, List, length, get_or, set, min, arith, true, false}
-use Rattle.std.proofs.lemmas.Bool.{lt-ltb, ltb-true}
-use Rattle.std.proofs.lemmas.List.{get_or-set_same, get_or-set_other, length-set}
+use Rattle.std.proofs.Common.{◌≡◌, ℕ, ◌+◌, ◌-◌, ◌^◌, ◌<◌, ◌≤◌, List, length, get_or, set, min, arith, true, false, lt-ltb, ltb-true}
+use Rattle.std.proofs.Common.{get_or-set_same, get_or-set_other, length-set}
 use Rattle.std.proofs.lemmas.List.Sums.{prefix_len-le-length, prefix_len_passes, prefix_len_stops}
-use Rattle.lnt_ffi.specs.declared.flat.FlatSpan.{FlatSpan}
-use Rattle.lnt_ffi.specs.Flat.{nothing}
+use Rattle.lnt_ffi.specs.Flat.{nothing, FlatSpan}
 use Rattle.lnt_ffi.specs.Index.{begins_below, bucket, first_low, spans_below}
 
 -- a span that is never looked at

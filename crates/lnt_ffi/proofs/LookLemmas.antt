@@ -8,8 +8,7 @@ use Rattle.lnt_spans.specs.Positions.{IsBelow, IsAtMost}
 use Rattle.lnt_spans.specs.Spans.{AreInOrder, span_answer}
 use Rattle.lnt_spans.specs.Brackets.{IsBracket}
 use Rattle.lnt_spans.proofs.BracketLaws.{bracket_below, bracket_above, found_inside, found_nowhere}
-use Rattle.lnt_ffi.specs.declared.flat.FlatSpan.{FlatSpan}
-use Rattle.lnt_ffi.specs.Flat.{answer_of, span_of}
+use Rattle.lnt_ffi.specs.Flat.{answer_of, span_of, FlatSpan}
 
 -- what is at a place among the flat ones is what is there among the spans
 pub at : (spans : List FlatSpan) (k : ℕ) (d : FlatSpan) (e : Span) → k < length spans

@@ -1,13 +1,11 @@
 -- Spans that are put into the first places of a room as they come.
-use Rattle.std.proofs.Common.{◌≡◌, ℕ, ◌+◌, ◌<◌, ◌≤◌, List, [], ◌∷◌, ◌++◌, Some, length, map, set, take, ap}
-use Rattle.std.proofs.Common.{arith}
+use Rattle.std.proofs.Common.{◌≡◌, ℕ, ◌+◌, ◌<◌, ◌≤◌, List, [], ◌∷◌, ◌++◌, Some, length, map, set, take, ap, arith}
 use Rattle.std.proofs.lemmas.Grind.{common_steps}
 use Rattle.std.proofs.lemmas.List.{length-append, map-append, take_more_set}
 use Rattle.lnt_spans.specs.declared.span.Span.{Span}
 use Rattle.lnt_spans.specs.Coming.{GivesFirstSpan}
 use Rattle.lnt_spans.proofs.ComingLaws.{HasGiven, one_given}
-use Rattle.lnt_ffi.specs.declared.flat.FlatSpan.{FlatSpan}
-use Rattle.lnt_ffi.specs.Flat.{span_of}
+use Rattle.lnt_ffi.specs.Flat.{span_of, FlatSpan}
 
 -- So many of the spans that were to come were given, and they are the first places of the room, if it is long enough.
 pub record HasPut (list : List Span) (count : ℕ) (room : List FlatSpan) (AreLeft : List Span → Type 0) : Type 0 where

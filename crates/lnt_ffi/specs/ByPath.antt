@@ -70,10 +70,6 @@ verdict_of_check (Told (ByPath compared)) = verdict_of_compared compared
 verdict_of_check (Covered coverage) = of_coverage coverage
 
 -- the path that the table answers where the two differ by path, and that of the section
-abbrev pub table_path : CheckedWithin → List ℕ
-table_path (Told (ByPath (Differs difference))) = path_in difference.by_table
-table_path other = []
-
-abbrev pub section_path : CheckedWithin → List ℕ
-section_path (Told (ByPath (Differs difference))) = path_in difference.by_section
-section_path other = []
+abbrev pub paths_in : CheckedWithin → List ℕ × List ℕ
+paths_in (Told (ByPath (Differs difference))) = (path_in difference.by_table, path_in difference.by_section)
+paths_in other = ([], [])

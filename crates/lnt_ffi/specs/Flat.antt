@@ -1,12 +1,12 @@
 -- Sections, answers and spans as C sees them, and what they stand for.
-use Rattle.std.specs.Prelude.{if◌then◌else◌, true, false, None, Option, Some}
+use Rattle.std.specs.Prelude.{if◌then◌else◌, false, is_some, None, Option, Some}
+use Rattle.std.specs.Option.{option_map_or}
 use Rattle.lnt_wire.specs.declared.format.Order.TheVariants.{Big, Little}
 use Rattle.lnt_lines.specs.declared.options.Options.{Options}
 use Rattle.lnt_spans.specs.declared.answer.Answer.{Answer}
-use Rattle.lnt_spans.specs.declared.answer.More.{More}
 use Rattle.lnt_spans.specs.declared.span.Span.{Span}
 use Rattle.lnt_ffi.specs.declared.flat.FlatAnswer.{FlatAnswer}
-use Rattle.lnt_ffi.specs.declared.flat.FlatSpan.{FlatSpan}
+pub use Rattle.lnt_ffi.specs.declared.flat.FlatSpan.{FlatSpan}
 use Rattle.lnt_ffi.specs.declared.section.FlatSection.{FlatSection}
 
 -- how a section is to be read
@@ -41,17 +41,18 @@ span_of flat = record {
 abbrev pub nothing : FlatAnswer
 nothing = record { unit = 0; file = 0; line = 0; column = 0; isa = 0; discriminator = 0; is_stmt = false; is_wide = false }
 
-abbrev pub narrow_answer : Answer → FlatAnswer
-narrow_answer answer =
-    record nothing { unit = answer.unit; file = answer.file; line = answer.line; column = answer.column; is_stmt = answer.is_stmt }
-
--- with the instruction set and the discriminator if they are known
-abbrev pub widened : FlatAnswer → Option More → FlatAnswer
-widened flat None = flat
-widened flat (Some more) = record flat { isa = more.isa; discriminator = more.discriminator; is_wide = true }
-
+-- the instruction set and the discriminator are 0 where they aren't known
 abbrev pub flat_answer : Answer → FlatAnswer
-flat_answer answer = widened (narrow_answer answer) answer.more
+flat_answer answer = record {
+  unit = answer.unit;
+  file = answer.file;
+  line = answer.line;
+  column = answer.column;
+  isa = option_map_or (λ more. more.isa) answer.more 0;
+  discriminator = option_map_or (λ more. more.discriminator) answer.more 0;
+  is_stmt = answer.is_stmt;
+  is_wide = is_some answer.more;
+}
 
 -- what one side of a difference answers, which may be nothing
 abbrev pub flat_side : Option Answer → FlatAnswer

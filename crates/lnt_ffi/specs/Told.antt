@@ -19,12 +19,11 @@ use Rattle.lnt_table.specs.declared.within.Scope.{Scope}
 use Rattle.lnt_table.specs.declared.within.Scope.TheVariants.{All}
 use Rattle.lnt_table.specs.Within.{IsTrueWithin}
 use Rattle.lnt_table.specs.Written.{IsTableOfUnits}
-use Rattle.lnt_ffi.specs.declared.flat.FlatSpan.{FlatSpan}
 use Rattle.lnt_ffi.specs.declared.section.FlatSection.{FlatSection}
 use Rattle.lnt_ffi.specs.declared.unit.FlatUnit.{FlatUnit}
 use Rattle.lnt_ffi.specs.declared.verdict.FlatVerdict.{FlatVerdict}
-use Rattle.lnt_ffi.specs.ByPath.{section_path, table_path, verdict_of_check}
-use Rattle.lnt_ffi.specs.Flat.{options_of, span_of}
+use Rattle.lnt_ffi.specs.ByPath.{paths_in, verdict_of_check}
+use Rattle.lnt_ffi.specs.Flat.{options_of, span_of, FlatSpan}
 use Rattle.lnt_ffi.specs.Verdicts.{numbered, verdict_of_no, yes}
 
 -- memory ran out
@@ -84,7 +83,7 @@ pub data IsToldOfTable (section : FlatSection) (text : List ℕ) (told : FlatVer
 pub data IsToldOfPaths (scope : Scope) (section : FlatSection) (text old_table new_table old_section new_section : List ℕ)
     (told : FlatVerdict) : Type 0 where
   judged : (found : CheckedWithin) → IsFound scope section text found → told ≡ verdict_of_check found
-      → new_table ≡ with_prefix (table_path found) old_table → new_section ≡ with_prefix (section_path found) old_section
+      → new_table ≡ with_prefix (paths_in found).0 old_table → new_section ≡ with_prefix (paths_in found).1 old_section
       → IsToldOfPaths scope section text old_table new_table old_section new_section told
   stopped : told ≡ memory → new_table ≡ old_table → new_section ≡ old_section
       → IsToldOfPaths scope section text old_table new_table old_section new_section told

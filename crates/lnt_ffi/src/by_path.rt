@@ -1,10 +1,10 @@
 //! The verdict on a table of any version, as C sees it.
 ghost use Rattle.std.specs.Prelude.{◌≡◌, ◌/◌, ◌%◌, ◌^◌};
-ghost use Rattle.lnt_ffi.specs.ByPath.{flat_place, of_coverage, of_difference, path_in, section_path, table_path};
-ghost use Rattle.lnt_ffi.specs.ByPath.{tells_column, verdict_of_check, verdict_of_compared};
+ghost use Rattle.lnt_ffi.specs.ByPath.{flat_place, of_coverage, of_difference, path_in, paths_in, tells_column};
+ghost use Rattle.lnt_ffi.specs.ByPath.{verdict_of_check, verdict_of_compared};
 
-use crate::flat::{FlatAnswer, NOTHING};
-use crate::verdict::{FlatVerdict, YES, at, verdict_of_table};
+use crate::flat::{FlatAnswer, nothing};
+use crate::verdict::{FlatVerdict, at, verdict_of_table, yes};
 use lnt_compare::{AnswerByPath, Compared, DifferenceByPath};
 use lnt_table::{CheckedWithin, Coverage, OfKind, TableNo, Verdict};
 
@@ -24,7 +24,7 @@ fn of_compared(compared: &Compared<DifferenceByPath>) -> FlatVerdict
     ensures { result ≡ verdict_of_compared compared.now }
 {
     match compared {
-        Compared::Same => YES,
+        Compared::Same => yes(),
         Compared::Fault(fault) => verdict_of_table(Verdict::No(TableNo::from(*fault))),
         Compared::Differs(difference) => of_difference(difference),
     }
@@ -41,7 +41,7 @@ fn of_coverage(coverage: &Coverage) -> FlatVerdict
         index,
         value,
         other_offset,
-        ..YES
+        ..yes()
     }
 }
 
@@ -82,9 +82,9 @@ fn flat_place(answer: &Option<AnswerByPath>) -> FlatAnswer
         Some(answer) => FlatAnswer {
             line: answer.line,
             column: answer.column.unwrap_or(0),
-            ..NOTHING
+            ..nothing()
         },
-        None => NOTHING,
+        None => nothing(),
     }
 }
 
@@ -92,10 +92,13 @@ fn flat_place(answer: &Option<AnswerByPath>) -> FlatAnswer
 fn tells_column(answer: &Option<AnswerByPath>) -> bool
     ensures { result ≡ tells_column answer.now }
 {
-    match answer {
-        Some(answer) => answer.column.is_some(),
-        None => false,
-    }
+    matches!(
+        answer,
+        Some(AnswerByPath {
+            column: Some(_),
+            ..
+        })
+    )
 }
 
 // The path of one side; no bytes where it answers nothing.
@@ -108,26 +111,18 @@ fn path_in(answer: &Option<AnswerByPath>) -> &[u8]
     }
 }
 
-// The path that the table answers where the two differ; no bytes where it answers none.
-pub(crate) fn table_path(found: &CheckedWithin) -> &[u8]
-    ensures { result.now ≡ table_path found.now }
+// The paths that the table and the section answer where the two differ; no bytes where one answers none.
+pub(crate) fn paths_in(found: &CheckedWithin) -> (&[u8], &[u8])
+    ensures table { result.0.now ≡ (paths_in found.now).0 }
+    ensures section { result.1.now ≡ (paths_in found.now).1 }
 {
     match found {
         CheckedWithin::Checked(OfKind::ByPath(Compared::Differs(difference))) => {
-            path_in(&difference.by_table)
+            (
+                path_in(&difference.by_table),
+                path_in(&difference.by_section),
+            )
         }
-        _ => &[],
-    }
-}
-
-// The path that the section answers where the two differ; no bytes where it answers none.
-pub(crate) fn section_path(found: &CheckedWithin) -> &[u8]
-    ensures { result.now ≡ section_path found.now }
-{
-    match found {
-        CheckedWithin::Checked(OfKind::ByPath(Compared::Differs(difference))) => {
-            path_in(&difference.by_section)
-        }
-        _ => &[],
+        _ => (&[], &[]),
     }
 }

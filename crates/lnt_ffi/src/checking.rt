@@ -1,11 +1,11 @@
 //! Sections checked against address tables.
 ghost use Rattle.std.specs.Prelude.{◌≡◌, length};
-ghost use Rattle.lnt_ffi.specs.ByPath.{section_path, table_path, verdict_of_check};
+ghost use Rattle.lnt_ffi.specs.ByPath.{paths_in, verdict_of_check};
 ghost use Rattle.lnt_ffi.specs.Told.{IsToldOfPaths, IsToldOfTable, with_prefix};
 ghost use Rattle.lnt_table.specs.Within.{scope_in};
 ghost use Rattle.lnt_table.specs.declared.within.Scope.TheVariants as Scope;
 
-use crate::by_path::{section_path, table_path, verdict_of_check};
+use crate::by_path::{paths_in, verdict_of_check};
 use crate::bytes::Bytes;
 use crate::room::put_bytes;
 use crate::section::FlatSection;
@@ -104,10 +104,11 @@ fn put_found(found: &CheckedWithin, by_table: &mut [u8], by_section: &mut [u8]) 
     ensures verdict { result ≡ verdict_of_check found.now }
     ensures table_room { length by_table.new ≡ length by_table.old }
     ensures section_room { length by_section.new ≡ length by_section.old }
-    ensures by_table { by_table.new ≡ with_prefix (table_path found.now) by_table.old }
-    ensures by_section { by_section.new ≡ with_prefix (section_path found.now) by_section.old }
+    ensures by_table { by_table.new ≡ with_prefix (paths_in found.now).0 by_table.old }
+    ensures by_section { by_section.new ≡ with_prefix (paths_in found.now).1 by_section.old }
 {
-    put_bytes(table_path(found), by_table);
-    put_bytes(section_path(found), by_section);
+    let (table, section) = paths_in(found);
+    put_bytes(table, by_table);
+    put_bytes(section, by_section);
     verdict_of_check(found)
 }

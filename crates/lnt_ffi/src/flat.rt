@@ -1,12 +1,12 @@
 //! Spans and answers as C sees them: structs of numbers, one after another.
 ghost use Rattle.std.specs.Prelude.{◌≡◌};
-ghost use Rattle.lnt_ffi.specs.Flat.{answer_of, flat_answer, flat_side, span_of};
+ghost use Rattle.lnt_ffi.specs.Flat.{answer_of, flat_answer, flat_side, nothing, span_of};
 
 use lnt_spans::{Answer, Position, Span};
 
 /// What is answered at a position: `struct linetab_answer`.
 #[repr(C)]
-#[derive(Clone, Copy)]
+#[derive(Clone, Copy, Default)]
 pub struct FlatAnswer {
     /// The offset in the section of the unit that says so.
     pub unit: u64,
@@ -67,38 +67,26 @@ impl FlatSpan {
 }
 
 // No answer.
-pub(crate) const NOTHING: FlatAnswer = FlatAnswer {
-    unit: 0,
-    file: 0,
-    line: 0,
-    column: 0,
-    isa: 0,
-    discriminator: 0,
-    is_stmt: false,
-    is_wide: false,
-};
+pub(crate) fn nothing() -> FlatAnswer
+    ensures { result ≡ nothing }
+{
+    FlatAnswer::default()
+}
 
 // The answer as C sees it.
 pub(crate) fn flat_answer(answer: Answer) -> FlatAnswer
     ensures flat { result ≡ flat_answer answer }
     ensures same { answer_of result ≡ answer }
 {
-    let narrow = FlatAnswer {
+    FlatAnswer {
         unit: answer.unit,
         file: answer.file,
         line: answer.line,
         column: answer.column,
+        isa: answer.more.map_or(0, |more| more.isa),
+        discriminator: answer.more.map_or(0, |more| more.discriminator),
         is_stmt: answer.is_stmt,
-        ..NOTHING
-    };
-    match answer.more {
-        Some(more) => FlatAnswer {
-            isa: more.isa,
-            discriminator: more.discriminator,
-            is_wide: true,
-            ..narrow
-        },
-        None => narrow,
+        is_wide: answer.more.is_some(),
     }
 }
 
@@ -108,7 +96,7 @@ pub(crate) fn flat_side(answer: Option<Answer>) -> FlatAnswer
 {
     match answer {
         Some(answer) => flat_answer(answer),
-        None => NOTHING,
+        None => nothing(),
     }
 }
 

@@ -36,20 +36,14 @@ pub extern "C" fn linetab_index(spans: &[FlatSpan], index: &mut [u32])
 fn first_low(spans: &[FlatSpan]) -> u64
     ensures { result ≡ first_low spans.now }
 {
-    match spans.first() {
-        Some(span) => span.low,
-        None => 0,
-    }
+    spans.first().map_or(0, |span| span.low)
 }
 
 // The address at which the last span begins; 0 where there is none.
 fn last_low(spans: &[FlatSpan]) -> u64
     ensures { result ≡ last_low spans.now }
 {
-    match spans.last() {
-        Some(span) => span.low,
-        None => 0,
-    }
+    spans.last().map_or(0, |span| span.low)
 }
 
 // The least shift, up to 63, by which an index of `len` entries has one for the bucket of the last address and one for the

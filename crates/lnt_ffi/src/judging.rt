@@ -1,13 +1,14 @@
 //! Sections judged, and the spans of good ones.
-ghost use Rattle.std.specs.Prelude.{◌≡◌, ◌+◌, ◌^◌, ◌<◌, ◌≤◌, List, [], ◌∷◌, ◌++◌, IfErr, IfOk, drop, length, map, take};
+ghost use Rattle.std.specs.Prelude.{◌≡◌, ◌+◌, ◌^◌, ◌<◌, ◌≤◌, List, [], ◌∷◌, ◌++◌, IfNone, IfSome, drop, length, map, take};
 ghost use Rattle.lnt_spans.specs.declared.span.Span as spec;
-ghost use Rattle.lnt_ffi.specs.Flat.{options_of, span_of};
+ghost use Rattle.lnt_ffi.specs.Flat.{span_of};
 ghost use Rattle.lnt_ffi.specs.Told.{IsIndexOfFlat, IsRefused, IsToldOfSpans};
+ghost use Rattle.lnt_ffi.specs.Verdicts.{yes};
 
 use crate::bytes::Bytes;
 use crate::flat::{FlatSpan, flat_span};
 use crate::section::FlatSection;
-use crate::verdict::{FlatVerdict, YES, verdict_of_no, verdict_of_stop};
+use crate::verdict::{FlatVerdict, verdict_of_no, verdict_of_stop, yes};
 use lnt_lines::{Index, JudgedIndex, index_section};
 use lnt_spans::{Span, SpanSource};
 use std::alloc::Global;
@@ -28,30 +29,36 @@ pub extern "C" fn linetab_verify(
     ensures length { length spans.new ≡ length spans.old }
     ensures told { IsToldOfSpans section.now result spans.old spans.new verdict.new }
 {
-    let index = match index_of(alloc, section) {
-        Ok(index) => index,
-        Err(refused) => {
-            *verdict = refused;
-            return 0;
-        }
-    };
-    *verdict = YES;
-    put_spans(index.spans(), spans)
+    match index_of(alloc, section, verdict) {
+        Some(index) => put_spans(index.spans(), spans),
+        None => 0,
+    }
 }
 
-// The index of a good section, or the verdict of another one.
+// The index of a good section. None where it isn't good, or memory ran out. The verdict says which.
 pub(crate) fn index_of<'a>(
     alloc: Global,
     section: &FlatSection<'a>,
-) -> Result<Index<'a>, FlatVerdict>
-    ensures good { IfOk result (IsIndexOfFlat section.now) }
-    ensures refused { IfErr result (IsRefused section.now) }
+    verdict: &mut FlatVerdict,
+) -> Option<Index<'a>>
+    ensures good { IfSome result (IsIndexOfFlat section.now) }
+    ensures yes { IfSome result (λ _. verdict.new ≡ yes) }
+    ensures refused { IfNone result (IsRefused section.now verdict.new) }
 {
     let mut source = Bytes::of(section.line);
     match index_section(alloc, &mut source, &section.strings(), &section.options()) {
-        Ok(JudgedIndex::Good(index)) => Ok(index),
-        Ok(JudgedIndex::Bad(no)) => Err(verdict_of_no(no)),
-        Err(stop) => Err(verdict_of_stop(stop)),
+        Ok(JudgedIndex::Good(index)) => {
+            *verdict = yes();
+            Some(index)
+        }
+        Ok(JudgedIndex::Bad(no)) => {
+            *verdict = verdict_of_no(no);
+            None
+        }
+        Err(stop) => {
+            *verdict = verdict_of_stop(stop);
+            None
+        }
     }
 }
 

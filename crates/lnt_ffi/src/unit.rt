@@ -1,12 +1,11 @@
 //! The units of a section, and the paths of their files.
 ghost use Rattle.std.specs.Prelude.{◌≡◌, length, map};
-ghost use Rattle.lnt_lines.specs.Indexed.{file_path_in};
 ghost use Rattle.lnt_ffi.specs.Told.{IsToldOfPath, IsToldOfUnits, unit_in, with_prefix};
 
 use crate::judging::index_of;
 use crate::room::put_bytes;
 use crate::section::FlatSection;
-use crate::verdict::{FlatVerdict, YES, verdict_of_stop};
+use crate::verdict::{FlatVerdict, verdict_of_stop};
 use lnt_io::Stop;
 use lnt_lines::Index;
 use std::alloc::Global;
@@ -36,15 +35,9 @@ pub extern "C" fn linetab_units(
     ensures length { length units.new ≡ length units.old }
     ensures told { IsToldOfUnits section.now result units.old units.new verdict.new }
 {
-    match index_of(alloc, section) {
-        Ok(index) => {
-            *verdict = YES;
-            put_units(&index, units)
-        }
-        Err(refused) => {
-            *verdict = refused;
-            0
-        }
+    match index_of(alloc, section, verdict) {
+        Some(index) => put_units(&index, units),
+        None => 0,
     }
 }
 
@@ -91,23 +84,16 @@ pub extern "C" fn linetab_path(
     ensures told { IsToldOfPath section.now unit file result count.new path.old path.new verdict.new }
 {
     *count = 0;
-    let found = match index_of(alloc, section) {
-        Ok(index) => index.path_of(alloc, unit, file),
-        Err(refused) => {
-            *verdict = refused;
-            return false;
-        }
+    let found = match index_of(alloc, section, verdict) {
+        Some(index) => index.path_of(alloc, unit, file),
+        None => return false,
     };
     match found {
         Ok(Some(whole)) => {
-            *verdict = YES;
             *count = put_bytes(&whole, path);
             true
         }
-        Ok(None) => {
-            *verdict = YES;
-            false
-        }
+        Ok(None) => false,
         Err(_) => {
             *verdict = verdict_of_stop(Stop::Memory);
             false

@@ -1,9 +1,10 @@
 //! Verdicts as C sees them.
 ghost use Rattle.std.specs.Prelude.{◌≡◌};
-ghost use Rattle.lnt_ffi.specs.Verdicts.{numbered, of_malformed, of_run, verdict_of_no, verdict_of_stop, verdict_of_table, which_number};
+ghost use Rattle.lnt_ffi.specs.Verdicts.{numbered, of_malformed, of_run, verdict_of_no, verdict_of_stop, verdict_of_table};
+ghost use Rattle.lnt_ffi.specs.Verdicts.{which_number, yes};
 ghost use Rattle.lnt_lines.specs.declared.no.No.TheVariants.{Overlap};
 
-use crate::flat::{FlatAnswer, NOTHING, flat_side};
+use crate::flat::{FlatAnswer, flat_side};
 use lnt_header::EntryTable;
 use lnt_io::Stop;
 use lnt_lines::No;
@@ -16,7 +17,7 @@ use lnt_wire::{Fault, Reason};
 /// What was found: `struct linetab_verdict`. `include/linetab.h` says for each number which fields it has; the others
 /// are 0.
 #[repr(C)]
-#[derive(Clone, Copy)]
+#[derive(Clone, Copy, Default)]
 pub struct FlatVerdict {
     /// 0 for yes, else the number of the reason: 25 to 32 of a section (`No`), 33 where memory ran out (`Stop`), 36 to 40 of a
     /// table (`TableNo`).
@@ -52,22 +53,11 @@ pub struct FlatVerdict {
 }
 
 // Yes.
-pub(crate) const YES: FlatVerdict = FlatVerdict {
-    number: 0,
-    detail: 0,
-    offset: 0,
-    index: 0,
-    value: 0,
-    other_offset: 0,
-    other_index: 0,
-    address: 0,
-    op: 0,
-    table_answers: false,
-    section_answers: false,
-    path_version: 0,
-    by_table: NOTHING,
-    by_section: NOTHING,
-};
+pub(crate) fn yes() -> FlatVerdict
+    ensures { result ≡ yes }
+{
+    FlatVerdict::default()
+}
 
 // A number and a detail, with no evidence.
 fn numbered(number: u32, detail: u32) -> FlatVerdict
@@ -76,7 +66,7 @@ fn numbered(number: u32, detail: u32) -> FlatVerdict
     FlatVerdict {
         number,
         detail,
-        ..YES
+        ..yes()
     }
 }
 
@@ -90,13 +80,6 @@ fn placed(number: u32, detail: u32, offset: u64, index: u64, value: u64) -> Flat
         value,
         ..numbered(number, detail)
     }
-}
-
-// What is wrong with a record of a table.
-fn of_record(number: u32, entry: u64, column: u64) -> FlatVerdict
-    ensures { result ≡ record (numbered number 0) { index = entry; value = column } }
-{
-    placed(number, 0, 0, entry, column)
 }
 
 // Why nothing was judged.
@@ -203,16 +186,15 @@ pub(crate) fn at(position: Position, number: u32) -> FlatVerdict
 pub(crate) fn verdict_of_table(verdict: Verdict) -> FlatVerdict
     ensures { result ≡ verdict_of_table verdict }
 {
-    let no = match verdict {
-        Verdict::Yes => return YES,
-        Verdict::No(no) => no,
+    let Verdict::No(no) = verdict else {
+        return yes();
     };
     match no {
         TableNo::Section(no) => verdict_of_no(no),
         TableNo::TableHeader => numbered(36, 0),
-        TableNo::TableFields(number) => of_record(37, number, 0),
-        TableNo::TableNumber(record, column) => of_record(38, record, column),
-        TableNo::TableOrder(number) => of_record(39, number, 0),
+        TableNo::TableFields(number) => placed(37, 0, 0, number, 0),
+        TableNo::TableNumber(record, column) => placed(38, 0, 0, record, column),
+        TableNo::TableOrder(number) => placed(39, 0, 0, number, 0),
         TableNo::Differs {
             position,
             by_table,

@@ -1,11 +1,12 @@
 //! Address tables written.
-ghost use Rattle.std.specs.Prelude.{◌≡◌, IfErr, IfOk, length};
+ghost use Rattle.std.specs.Prelude.{◌≡◌, IfNone, IfSome, length};
 ghost use Rattle.lnt_ffi.specs.Told.{IsRefused, IsTableOfFlat, IsToldOfWriting, version_of};
+ghost use Rattle.lnt_ffi.specs.Verdicts.{yes};
 
 use crate::judging::index_of;
 use crate::room::put_bytes;
 use crate::section::FlatSection;
-use crate::verdict::{FlatVerdict, YES, verdict_of_stop};
+use crate::verdict::{FlatVerdict, verdict_of_stop};
 use lnt_io::Stop;
 use lnt_spans::Version;
 use lnt_table::write_index;
@@ -28,29 +29,32 @@ pub extern "C" fn linetab_table(
     ensures length { length room.new ≡ length room.old }
     ensures told { IsToldOfWriting section.now is_wide result room.old room.new verdict.new }
 {
-    match table_of(alloc, section, is_wide) {
-        Ok(table) => {
-            *verdict = YES;
-            put_bytes(&table, room)
-        }
-        Err(refused) => {
-            *verdict = refused;
-            0
-        }
+    match table_of(alloc, section, is_wide, verdict) {
+        Some(table) => put_bytes(&table, room),
+        None => 0,
     }
 }
 
-// The table of a good section, or the verdict of another one.
-fn table_of(alloc: Global, section: &FlatSection<'_>, is_wide: bool) -> Result<Vec<u8>, FlatVerdict>
-    ensures good { IfOk result (λ table. IsTableOfFlat section.now (version_of is_wide) table.items) }
-    ensures refused { IfErr result (IsRefused section.now) }
+// The table of a good section. None where it isn't good, or memory ran out. The verdict says which.
+fn table_of(
+    alloc: Global,
+    section: &FlatSection<'_>,
+    is_wide: bool,
+    verdict: &mut FlatVerdict,
+) -> Option<Vec<u8>>
+    ensures good { IfSome result (λ table. IsTableOfFlat section.now (version_of is_wide) table.items) }
+    ensures yes { IfSome result (λ _. verdict.new ≡ yes) }
+    ensures refused { IfNone result (IsRefused section.now verdict.new) }
 {
-    let index = index_of(alloc, section)?;
+    let index = index_of(alloc, section, verdict)?;
     let version = if is_wide { Version::Two } else { Version::One };
     let mut table = Vec::new(alloc);
     match write_index(alloc, &index, version, &mut table) {
-        Ok(()) => Ok(table),
-        // The table is kept in memory, so nothing but want of memory keeps it from being written.
-        Err(_) => Err(verdict_of_stop(Stop::Memory)),
+        Ok(()) => Some(table),
+        Err(_) => {
+            // The table is kept in memory, so nothing but want of memory keeps it from being written.
+            *verdict = verdict_of_stop(Stop::Memory);
+            None
+        }
     }
 }

@@ -1,8 +1,6 @@
 -- Offsets that rise, and the directories of units.
-use Rattle.std.proofs.Common.{◌≡◌, ◌≢◌, ◌∙◌, ℕ, ◌+◌, ◌-◌, ◌<◌, ◌≤◌, Bool, true, false, List, [], ◌∷◌, ◌++◌, length, get_or}
-use Rattle.std.proofs.Common.{Result, Ok, Err, Option, Some, None, inl, inr, refl, sym, ap, arith, zero, suc}
-use Rattle.std.specs.Bool.{MatchBool}
-use Rattle.std.specs.Prelude.{codes}
+use Rattle.std.proofs.Common.{◌≡◌, ◌≢◌, ◌∙◌, ℕ, ◌+◌, ◌-◌, ◌<◌, ◌≤◌, Bool, true, false, List, [], ◌∷◌, ◌++◌, length, get_or, Result, Ok, Err}
+use Rattle.std.proofs.Common.{Option, Some, None, inl, inr, refl, sym, ap, arith, zero, suc, MatchBool, codes, is_ok}
 use Rattle.lnt_records.specs.Reading.{BytesReader, HasRead}
 use Rattle.lnt_records.proofs.ReadingLaws.{first_same}
 use Rattle.lnt_records.specs.Table.{BeginsWith, Fields}
@@ -11,7 +9,6 @@ use Rattle.csv.specs.Reading.{reader_state}
 use Rattle.std.specs.List.{AllZip}
 use Rattle.std.specs.List.Sorted.{IsBinarySearchResult, IsNonDecreasingBy}
 use Rattle.std.specs.Ordering.{nat_cmp, ordering_index}
-use Rattle.std.specs.Result.{is_ok}
 use Rattle.std.proofs.lemmas.Bool.{cases_lt, eq-eqb, ne_eqb}
 use Rattle.std.proofs.lemmas.Bool.Decides.{eqb_tells, nat_tests}
 use Rattle.std.proofs.lemmas.Cmp.{ranked}
@@ -21,11 +18,10 @@ use Rattle.std.proofs.lemmas.List.Quantifiers.{all_pairs_push}
 use Rattle.std.proofs.lemmas.List.Sorted.{searched}
 use Rattle.std.proofs.lemmas.Slice.Zip.{AllZip-long}
 use Rattle.lnt_header.specs.Joins.{AreRising}
-use Rattle.lnt_older.specs.Directories.{AreDirectories, AreRecords, HasBadRecord, IsAdded, IsDirectoryFile, IsDirectoryRecord}
-use Rattle.lnt_older.specs.Directories.{IsLastUnit, IsNext, IsAmong, MayFollow, directory_at, directory_names, units_of}
+use Rattle.lnt_older.specs.Directories.{AreDirectories, AreRecords, HasBadRecord, IsAdded, IsDirectoryFile, IsDirectoryRecord, IsLastUnit}
+use Rattle.lnt_older.specs.Directories.{IsNext, IsAmong, MayFollow, directory_at, directory_names, units_of, Directory}
 use Rattle.lnt_older.specs.Upgradable.{AreSoundDirectories}
 use Rattle.lnt_wire.specs.FormBytes.{HasNoZero}
-use Rattle.lnt_older.specs.declared.directories.Directory.{Directory}
 use Rattle.std.proofs.lemmas.Grind.{common_steps}
 
 -- ---- one offset among others

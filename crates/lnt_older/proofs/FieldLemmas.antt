@@ -12,14 +12,13 @@ use Rattle.lnt_header.proofs.ReaderLaws.{first_refused, second_refused, reads_bo
 use Rattle.lnt_header.specs.declared.header.Entry.{Entry}
 use Rattle.lnt_header.specs.declared.header.Pair.{Pair}
 use Rattle.lnt_header_bytes.specs.HeaderFaults.{LengthsBytes, IsLengthsFault}
-use Rattle.lnt_older.specs.ListFaults.{IsListFault}
-use Rattle.lnt_older.specs.OlderBytes.{BeginsEntry, directory_pairs, file_pairs, ListBytes}
+use Rattle.lnt_older.specs.Lists.{IsListFault}
+use Rattle.lnt_older.specs.OlderBytes.{BeginsEntry, directory_pairs, file_pairs, ListBytes, OlderVersion}
 use Rattle.lnt_older.specs.OlderFields.{AfterNumbers, AfterNumbersFault, FieldsOf, IsFieldsFault, IsSoundFault, NumbersBytes, TwoLists}
 use Rattle.lnt_older.specs.OlderFields.{TwoListsFault, zero_reasons}
 use Rattle.lnt_older.specs.declared.numbers.OlderNumbers.{OlderNumbers}
-use Rattle.lnt_older.specs.declared.version.OlderVersion.{OlderVersion}
 use Rattle.lnt_older.proofs.ListFaultLemmas.{begins_prefix, ends_here, listed_code}
-use Rattle.lnt_older.proofs.NumberLemmas.{numbers_code}
+use Rattle.lnt_older.proofs.SoundLemmas.{numbers_code}
 use Rattle.std.proofs.lemmas.Grind.{common_steps}
 
 -- ---- one value for its bytes

@@ -9,13 +9,12 @@ use Rattle.lnt_header.specs.HeaderRules.{AreHeaderNumbers, IsAddressSize, single
 use Rattle.lnt_header.specs.declared.header.Entry.{Entry}
 use Rattle.lnt_header.specs.declared.header.HeaderParts.{HeaderParts}
 use Rattle.lnt_header_bytes.specs.HeaderFaults.{LengthsBytes}
-use Rattle.lnt_older.specs.ListReading.{PassesList}
-use Rattle.lnt_older.specs.OlderBytes.{directory_pairs, file_pairs, older_bytes, OlderFieldsBytes, SaysOperations}
+use Rattle.lnt_older.specs.Lists.{PassesList}
+use Rattle.lnt_older.specs.OlderBytes.{directory_pairs, file_pairs, older_bytes, OlderFieldsBytes, SaysOperations, OlderVersion}
 use Rattle.lnt_older.specs.FieldReading.{ReadsParts}
 use Rattle.lnt_older.specs.OlderFields.{FieldsOf, header_of, IsReadHeader, NumbersBytes, number_fields}
 use Rattle.lnt_older.specs.declared.header.OlderHeader.{OlderHeader}
 use Rattle.lnt_older.specs.declared.numbers.OlderNumbers.{OlderNumbers}
-use Rattle.lnt_older.specs.declared.version.OlderVersion.{OlderVersion}
 use Rattle.lnt_older.proofs.FieldLemmas.{fields_read}
 use Rattle.std.proofs.lemmas.Grind.{common_steps}
 

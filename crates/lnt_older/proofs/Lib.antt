@@ -1,4 +1,3 @@
-pub mod CopiedLemmas
 pub mod DirectoryLemmas
 pub mod Prefixes
 pub mod FieldLemmas
@@ -7,9 +6,7 @@ pub mod HeaderLemmas
 pub mod ListFaultLemmas
 pub mod ListLemmas
 pub mod NoUnitLemmas
-pub mod NumberLemmas
 pub mod PlacedLaws
-pub mod SameLemmas
 pub mod SameUnitLemmas
 pub mod SectionLemmas
 pub mod SizeLemmas

@@ -13,8 +13,8 @@ use Rattle.lnt_header.specs.Joins.{Each}
 use Rattle.lnt_header.specs.declared.header.Entry.{Entry}
 use Rattle.lnt_header.specs.declared.header.Pair.{Pair}
 use Rattle.lnt_older.specs.OlderBytes.{BeginsEntry, ListedBytes, ListBytes}
-use Rattle.lnt_older.specs.ListFaults.{IsListFault}
-use Rattle.lnt_older.specs.ListFaults.IsListFault.{no_entry, no_end}
+use Rattle.lnt_older.specs.Lists.{IsListFault}
+use Rattle.lnt_older.specs.Lists.IsListFault.{no_entry, no_end}
 use Rattle.lnt_header_bytes.specs.TableBytes.{EntryBytes}
 use Rattle.lnt_header_bytes.specs.TableFaults.{IsEntryFault}
 use Rattle.lnt_older.proofs.ListLemmas.{ListedSoFar, zero_begins}

@@ -7,7 +7,6 @@ use Rattle.lnt_wire.specs.Numbers.{NumberBytes}
 use Rattle.lnt_wire.specs.Reading.{Reads}
 use Rattle.lnt_wire.specs.declared.form.Form.TheVariants as forms
 use Rattle.lnt_wire.specs.declared.form.FormValue.{FormValue}
-use Rattle.lnt_wire.specs.declared.form.FormValue.TheVariants.{Text}
 use Rattle.lnt_wire.specs.declared.format.Format.{Format}
 use Rattle.lnt_wire.specs.declared.format.Order.{Order}
 use Rattle.lnt_header.specs.Joins.{Each}
@@ -16,7 +15,7 @@ use Rattle.lnt_header.specs.declared.header.Pair.{Pair}
 use Rattle.lnt_header.proofs.ByteLaws.{one_digit}
 use Rattle.lnt_header.proofs.ReaderLaws.{reads_none, reads_more}
 use Rattle.lnt_older.specs.OlderBytes.{BeginsEntry, ListedBytes}
-use Rattle.lnt_older.specs.ListReading.{BeginsWithPath, PassesList}
+use Rattle.lnt_older.specs.Lists.{BeginsWithPath, PassesList}
 use Rattle.lnt_header_bytes.specs.Stepping.{Passes}
 use Rattle.lnt_header_bytes.specs.TableBytes.{EntryBytes}
 use Rattle.lnt_header_bytes.proofs.PassLemmas.{refuses_value_passed, values_begun, values_next_passed, values_passed}

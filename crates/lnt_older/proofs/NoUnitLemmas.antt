@@ -20,15 +20,12 @@ use Rattle.lnt_wire.proofs.ValueLaws.{offset_width}
 use Rattle.lnt_header.specs.declared.header.HeaderParts.{HeaderParts}
 use Rattle.lnt_header_bytes.specs.StartBytes.{CountedBytes}
 use Rattle.lnt_header_bytes.proofs.HeaderLaws.{below}
-use Rattle.lnt_older.specs.OlderBytes.{older_body, OlderBytes, OlderFieldsBytes}
+use Rattle.lnt_older.specs.OlderBytes.{older_body, OlderBytes, OlderFieldsBytes, version_number, OlderVersion}
 use Rattle.lnt_older.specs.OlderFields.{FieldsOf, number_fields}
 use Rattle.lnt_older.specs.OlderUnits.{AnyBytes}
 use Rattle.lnt_older.specs.OlderUnits.AnyParts.{five_parts, older_parts}
 use Rattle.lnt_older.specs.UnitReading.{prefix_body, PastBytes, ReadsPrefix}
-use Rattle.lnt_older.specs.Versions.{version_number}
 use Rattle.lnt_older.specs.declared.prefix.Prefix.{Prefix}
-use Rattle.lnt_older.specs.declared.prefix.UnitVersion.TheVariants.{Older}
-use Rattle.lnt_older.specs.declared.version.OlderVersion.{OlderVersion}
 use Rattle.lnt_older.proofs.HeaderLemmas.{numbers_in, singles_in}
 use Rattle.std.proofs.lemmas.Grind.{common_steps}
 
@@ -144,7 +141,7 @@ pub one_body : (order : Order) (f g : Format) (body other left more bytes : List
 one_body order f g body other left more bytes fits fits' e d = grind (arith, common_steps, same_length, append_assoc, same_prefix)
 
 -- where nothing of an older unit stands after its version
-pub none_of_unit : (prefix : Prefix) (version : OlderVersion) (old new : At) → ReadsPrefix prefix old new → prefix.version ≡ Older version
+pub none_of_unit : (prefix : Prefix) (version : OlderVersion) (old new : At) → ReadsPrefix prefix old new → prefix.version ≡ version_number version
     → NoneSpelled (PastBytes prefix.format version old.order) prefix.past.now → NoneSpelled (AnyBytes old.order) old.rest
 none_of_unit prefix version old new r version_is none (five_parts format body) x more p e =
     let order = old.order in

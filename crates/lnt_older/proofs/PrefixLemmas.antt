@@ -6,8 +6,8 @@ use Rattle.lnt_wire.specs.Bytes.{TakenBytes}
 use Rattle.lnt_wire.specs.FrameBytes.{FrameBytes, frame_bytes}
 use Rattle.lnt_wire.specs.FrameFaults.{IsFrameFault}
 use Rattle.lnt_wire.specs.InitialFaults.{IsInitialFault}
-use Rattle.lnt_wire.specs.InitialLength.{InitialBytes}
-use Rattle.lnt_wire.specs.Numbers.{NumberBytes, number_bytes}
+use Rattle.lnt_wire.specs.InitialLength.{InitialBytes, initial_length}
+use Rattle.lnt_wire.specs.Numbers.{NumberBytes}
 use Rattle.lnt_wire.specs.Reading.{Reads, RefusesField, Refuses, IsCutShort}
 use Rattle.lnt_wire.specs.declared.fault.Fault.{Fault}
 use Rattle.lnt_wire.specs.declared.fault.Reason.{Reason}
@@ -15,13 +15,12 @@ use Rattle.lnt_wire.specs.declared.fault.Reason.TheVariants.{Truncated, VersionN
 use Rattle.lnt_wire.specs.declared.format.Format.{Format}
 use Rattle.lnt_wire.specs.declared.format.Order.{Order}
 use Rattle.lnt_wire.proofs.LengthLaws.{length-number_bytes}
+use Rattle.lnt_header_bytes.specs.HeaderReading.{standing}
 use Rattle.lnt_wire.proofs.FrameReadingLaws.{refuses_initial, refuses_long, refuses_version}
 use Rattle.lnt_older.specs.OlderUnits.{AnyBytes, IsAnyFault, ReadsFive}
-use Rattle.lnt_older.specs.UnitReading.{prefix_body, ReadsPrefix, unit_number}
-use Rattle.lnt_older.specs.Versions.{version_number}
+use Rattle.lnt_older.specs.UnitReading.{prefix_body, ReadsPrefix}
+use Rattle.lnt_older.specs.OlderBytes.{version_number, OlderVersion}
 use Rattle.lnt_older.specs.declared.prefix.Prefix.{Prefix}
-use Rattle.lnt_older.specs.declared.prefix.UnitVersion.{UnitVersion}
-use Rattle.lnt_older.specs.declared.prefix.UnitVersion.TheVariants.{Five, Older}
 use Rattle.lnt_older.proofs.Prefixes.{prefix_taken}
 use Rattle.lnt_older.proofs.NoUnitLemmas.{IsNoOlder, none_in_frame}
 use Rattle.std.proofs.lemmas.Grind.{common_steps}
@@ -58,26 +57,41 @@ version_cut old ahead new inside initial body fault r q rest_is place_is s =
     (refuses_version old ahead new initial body fault r q (s.place ∙ place_is)
     (rw s.reason.reason_is (omega (arith, s.reason.short, ap length rest_is))))
 
-pub version_unknown : (old ahead new inside after : At) (initial : Format × ℕ) (number : ℕ) (body : List ℕ) (fault : Fault)
-    → Reads (InitialBytes old.order) initial old ahead → Reads (TakenBytes initial.1) body ahead new
-    → inside.rest ≡ body → inside.order ≡ old.order → Reads (NumberBytes inside.order 2) number inside after
-    → ((version : UnitVersion) → unit_number version ≢ number) → fault.place ≡ ahead.place → fault.reason ≡ VersionNotFive number
-    → Refuses (IsAnyFault old.order) (AnyBytes old.order) old fault
-version_unknown old ahead new inside after initial number body fault r q rest_is order_is s none place reason =
-    let joined : body ≡ number_bytes old.order 2 number ++ after.rest = sym rest_is ∙ simp (s.whole, s.spelled.spelled, order_is) in
+-- the version is none of 2 to 5
+pub version_unknown : (prefix : Prefix) (old new : At) (fault : Fault) → ReadsPrefix prefix old new → prefix.version < 2 ^ 16
+    → prefix.version ≢ 5 → ((version : OlderVersion) → version_number version ≢ prefix.version) → fault.place ≡ prefix.place
+    → fault.reason ≡ VersionNotFive prefix.version → Refuses (IsAnyFault old.order) (AnyBytes old.order) old fault
+version_unknown prefix old new fault r small five none place reason =
+    let body = prefix_body old.order prefix in
+    let initial = initial_length prefix.format old.order (length body) in
+    let ahead : At = standing prefix.place (body ++ new.rest) old.order in
     let other : IsNoOlder fault.reason = λ version e.
-    let both : VersionNotFive number ≡ VersionNotFive (version_number version) = sym reason ∙ e in
-    let same : number ≡ version_number version = cc in
-    none (Older version) (sym same) in
-    frame_fault old fault other (refuses_version old ahead new initial body fault r q place
-    (rw reason (after.rest, omega (arith, s.spelled.fits), (λ e. none Five (sym e)), joined)))
+    let both : VersionNotFive prefix.version ≡ VersionNotFive (version_number version) = sym reason ∙ e in
+    let same : prefix.version ≡ version_number version = cc in
+    none version (sym same) in
+    frame_fault old fault other (refuses_version old ahead new (prefix.format, length body) body fault
+    (record {
+      spelling = initial;
+      spelled = record { fits = r.fits; spelled = refl };
+      whole = r.whole ∙ append_assoc initial body new.rest;
+      place = r.body_place;
+      order = refl;
+    })
+    (record {
+      spelling = body;
+      spelled = record { count_is = refl; taken_is = refl };
+      whole = refl;
+      place = omega (arith, r.place, r.body_place, length-append initial body);
+      order = r.order;
+    })
+    place (rw reason (prefix.past.now, small, five, refl)))
 
 -- ---- what is read
 
 pub prefix_read : (old ahead new inside after : At) (initial : Format × ℕ) (number : ℕ) (body : List ℕ) (prefix : Prefix)
     → Reads (InitialBytes old.order) initial old ahead → Reads (TakenBytes initial.1) body ahead new
     → inside.rest ≡ body → inside.order ≡ old.order → Reads (NumberBytes inside.order 2) number inside after
-    → prefix.format ≡ initial.0 → unit_number prefix.version ≡ number → prefix.place ≡ ahead.place → prefix.past.now ≡ after.rest
+    → prefix.format ≡ initial.0 → prefix.version ≡ number → prefix.place ≡ ahead.place → prefix.past.now ≡ after.rest
     → ReadsPrefix prefix old new
 prefix_read old ahead new inside after initial number body prefix r q rest_is order_is s format_is number_is place past =
     grind (arith, common_steps, append_assoc, length-append)
@@ -88,7 +102,7 @@ pub prefix_room : (prefix : Prefix) (old new : At) → ReadsPrefix prefix old ne
 prefix_room prefix old new r room = omega (arith, room, r.body_place, ap length r.whole, length-append {A = ℕ}, length-number_bytes)
 
 -- a unit of version 5
-pub five_read : (prefix : Prefix) (bytes all left : List ℕ) (old new : At) → ReadsPrefix prefix old new → prefix.version ≡ Five
+pub five_read : (prefix : Prefix) (bytes all left : List ℕ) (old new : At) → ReadsPrefix prefix old new → prefix.version ≡ 5
     → all ≡ old.rest → left ≡ new.rest → bytes ≡ take (length all - length left) all → ReadsFive bytes old new
 five_read prefix bytes all left old new r version_is all_is left_is bytes_are =
     let whole = prefix_body old.order prefix in
@@ -111,4 +125,4 @@ five_read prefix bytes all left old new r version_is all_is left_is bytes_are =
     }
 
 -- what the reader of a prefix cites
-pub ruleset prefix_exits = (initial_missing, body_missing, version_cut, version_unknown, prefix_read)
+pub ruleset prefix_exits = (initial_missing, body_missing, version_cut, prefix_read)

@@ -16,15 +16,13 @@ use Rattle.lnt_header.specs.declared.header.Pair.{Pair}
 use Rattle.lnt_header_bytes.specs.HeaderFaults.{LengthsBytes}
 use Rattle.lnt_header_bytes.proofs.HeaderLaws.{below, regroup}
 use Rattle.lnt_header_bytes.proofs.ProgramLaws.{length-initial-same}
-use Rattle.lnt_older.specs.OlderBytes.{body_bytes, directory_pairs, file_pairs, ListBytes, ListedBytes}
+use Rattle.lnt_older.specs.OlderBytes.{body_bytes, directory_pairs, file_pairs, ListBytes, ListedBytes, OlderVersion}
 use Rattle.lnt_older.specs.OlderFields.{header_spelling, ListsLie, NumbersBytes, number_fields}
-use Rattle.lnt_older.specs.OlderUnits.{ReadsOlder, unit_header}
+use Rattle.lnt_older.specs.OlderUnits.{ReadsOlder, unit_header, OlderUnit}
 use Rattle.lnt_older.specs.declared.header.OlderHeader.{OlderHeader}
-use Rattle.lnt_older.specs.declared.unit.OlderUnit.{OlderUnit}
-use Rattle.lnt_older.specs.declared.version.OlderVersion.{OlderVersion}
 use Rattle.lnt_older.proofs.FieldLemmas.{lengths_code, list_code}
 use Rattle.lnt_older.proofs.NoUnitLemmas.{one_body, same_version, small_version}
-use Rattle.lnt_older.proofs.NumberLemmas.{numbers_code}
+use Rattle.lnt_older.proofs.SoundLemmas.{numbers_code}
 use Rattle.std.proofs.lemmas.Grind.{common_steps}
 
 -- ---- bodies

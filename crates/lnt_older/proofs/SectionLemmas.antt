@@ -1,7 +1,6 @@
 -- Walks over the units of a section.
 use Rattle.std.proofs.Common.{◌≡◌, ◌∙◌, ℕ, ◌+◌, ◌<◌, ◌≤◌, List, [], ◌∷◌, ◌++◌, length, length-append, inr, refl, sym, ap, arith}
-use Rattle.std.proofs.Common.{append_assoc}
-use Rattle.std.specs.List.{All}
+use Rattle.std.proofs.Common.{append_assoc, All}
 use Rattle.std.proofs.lemmas.List.{append-nil, nil_from_length}
 use Rattle.std.proofs.lemmas.List.Elements.{All-cons, All-nil, All-weaker}
 use Rattle.std.proofs.lemmas.List.Kept.{AllPairs-cons}

@@ -1,7 +1,6 @@
 -- The tables of version 5 that say what the lists of an older unit say.
-use Rattle.std.proofs.Common.{◌≡◌, ◌≢◌, ℕ, ◌+◌, ◌*◌, ◌-◌, ◌<◌, ◌≤◌, List, [], ◌∷◌, ◌++◌, length, take}
-use Rattle.std.proofs.Common.{refl, sym, ap, subst, ◌∙◌, append_assoc, arith}
-use Rattle.std.proofs.lemmas.List.{length-append, append-nil}
+use Rattle.std.proofs.Common.{◌≡◌, ◌≢◌, ℕ, ◌+◌, ◌*◌, ◌-◌, ◌<◌, ◌≤◌, List, [], ◌∷◌, ◌++◌, length, take, refl, sym, ap, subst, ◌∙◌}
+use Rattle.std.proofs.Common.{append_assoc, arith, length-append, append-nil}
 use Rattle.lnt_wire.specs.At.{At}
 use Rattle.lnt_wire.specs.Bytes.{NoneSpelled}
 use Rattle.lnt_wire.specs.FormBytes.{form_code, HasNoZero}
@@ -17,7 +16,7 @@ use Rattle.lnt_header_bytes.specs.Layouts.{entry_of}
 use Rattle.lnt_header_bytes.specs.Stepping.{Passes}
 use Rattle.lnt_header_bytes.specs.TableBytes.{PairBytes, EntryBytes, TableBytes}
 use Rattle.lnt_header_bytes.proofs.TableLaws.{entry_code}
-use Rattle.lnt_older.specs.ListReading.{BeginsWithPath}
+use Rattle.lnt_older.specs.Lists.{BeginsWithPath}
 use Rattle.lnt_older.specs.OlderBytes.{BeginsEntry, directory_pairs, file_pairs, ListedBytes}
 use Rattle.lnt_older.specs.Upgraded.{CountedTable}
 use Rattle.lnt_older.proofs.Prefixes.{prefix_taken}

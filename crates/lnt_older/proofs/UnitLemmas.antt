@@ -16,18 +16,16 @@ use Rattle.lnt_header_bytes.specs.HeaderReading.{standing}
 use Rattle.lnt_header_bytes.specs.StartBytes.{CountedBytes}
 use Rattle.lnt_header_bytes.specs.StartFaults.{IsCountedFault}
 use Rattle.lnt_older.specs.OlderFields.{FieldsOf, IsFieldsFault, IsReadHeader}
-use Rattle.lnt_older.specs.OlderUnits.{AnyBytes, IsAnyFault, IsOlderUnit, IsSoundUnit, ReadsAny, ReadsOlder}
+use Rattle.lnt_older.specs.OlderUnits.{AnyBytes, IsAnyFault, IsOlderUnit, IsSoundUnit, ReadsAny, ReadsOlder, OlderUnit}
 use Rattle.lnt_older.specs.OlderUnits.IsAnyFault.{header_length, of_fields}
 use Rattle.lnt_older.specs.UnitReading.{prefix_body, IsAnyBodyFault, IsAnyOf, IsBodyFault, IsPastFault, IsOlderOf, ReadsPrefix}
+use Rattle.lnt_older.specs.UnitReading.IsAnyBodyFault.{of_body, of_version}
 use Rattle.lnt_older.specs.UnitReading.IsPastFault.{of_length, of_field}
-use Rattle.lnt_older.specs.Versions.{version_number}
+use Rattle.lnt_older.specs.OlderBytes.{version_number, OlderVersion}
 use Rattle.lnt_older.specs.declared.prefix.Prefix.{Prefix}
-use Rattle.lnt_older.specs.declared.prefix.UnitVersion.TheVariants.{Older}
 use Rattle.lnt_older.specs.declared.unit.AnyUnit.{AnyUnit}
 use Rattle.lnt_older.specs.declared.unit.AnyUnit.TheVariants as units
-use Rattle.lnt_older.specs.declared.unit.OlderUnit.{OlderUnit}
-use Rattle.lnt_older.specs.declared.version.OlderVersion.{OlderVersion}
-use Rattle.lnt_older.proofs.PrefixLemmas.{five_read}
+use Rattle.lnt_older.proofs.PrefixLemmas.{five_read, version_unknown}
 use Rattle.lnt_older.proofs.HeaderLemmas.{moved_numbers}
 use Rattle.lnt_older.proofs.NoUnitLemmas.{none_counted, none_of_fields, none_of_unit, to_pairs}
 use Rattle.std.proofs.lemmas.Grind.{common_steps}
@@ -108,7 +106,7 @@ fault_of order format version reason before from before' from' in_frame (of_fiel
     of_fields format version fields left program (rw (before_is, from_is, ← append_assoc) at in_frame) so
 
 older_missing : (prefix : Prefix) (version : OlderVersion) (order : Order) (fault : Fault) (old new : At) → ReadsPrefix prefix old new
-    → prefix.version ≡ Older version → order ≡ old.order → IsBodyFault prefix version order fault
+    → prefix.version ≡ version_number version → order ≡ old.order → IsBodyFault prefix version order fault
     → Refuses (IsAnyFault old.order) (AnyBytes old.order) old fault
 older_missing prefix version order fault old new r version_is order_is there =
     let b = rw order_is at there in
@@ -127,7 +125,7 @@ older_missing prefix version order fault old new r version_is order_is there =
     }
 
 older_read : (prefix : Prefix) (version : OlderVersion) (order : Order) (unit : OlderUnit) (old new : At) → ReadsPrefix prefix old new
-    → prefix.version ≡ Older version → order ≡ old.order → IsOlderOf prefix version order unit → ReadsOlder unit old new
+    → prefix.version ≡ version_number version → order ≡ old.order → IsOlderOf prefix version order unit → ReadsOlder unit old new
 older_read prefix version order unit old new r version_is order_is there =
     let u = rw order_is at there in
     let program = unit.program.now in
@@ -187,7 +185,10 @@ any_sound prefix bytes order (units.Older unit) p = older_sound prefix p.0 order
 
 pub any_missing : (prefix : Prefix) (order : Order) (fault : Fault) (old new : At) → ReadsPrefix prefix old new → order ≡ old.order
     → IsAnyBodyFault prefix order fault → Refuses (IsAnyFault old.order) (AnyBytes old.order) old fault
-any_missing prefix order fault old new r order_is p = older_missing prefix p.0 order fault old new r p.1 order_is p.2
+any_missing prefix order fault old new r order_is (of_version small five none place reason) =
+    version_unknown prefix old new fault r small five none place reason
+any_missing prefix order fault old new r order_is (of_body version is there) =
+    older_missing prefix version order fault old new r is order_is there
 
 -- ---- another cursor at the same place
 

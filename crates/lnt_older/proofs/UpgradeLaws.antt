@@ -1,6 +1,6 @@
 -- What a unit says that was read where it lies; and that the bytes of a place are those of one unit.
-use Rattle.std.proofs.Common.{◌≡◌, ℕ, ◌<◌, List, ◌++◌, length, refl, sym, subst, ◌∙◌, append_assoc, inr, arith}
-use Rattle.std.proofs.lemmas.List.{append_cancel_right, length-append}
+use Rattle.std.proofs.Common.{◌≡◌, ℕ, ◌<◌, List, ◌++◌, length, refl, sym, subst, ◌∙◌, append_assoc, inr, arith, take, ap, ◌+◌, [], ◌∷◌}
+use Rattle.std.proofs.lemmas.List.{append_cancel_right, length-append, append_cancel_left}
 use Rattle.lnt_wire.specs.At.{At}
 use Rattle.lnt_wire.specs.FrameBytes.{FrameBytes, frame_bytes}
 use Rattle.lnt_wire.specs.InitialLength.{LengthFits}
@@ -11,15 +11,52 @@ use Rattle.lnt_wire.proofs.LengthLaws.{length-initial, same_number_prefix, width
 use Rattle.lnt_header.specs.HeaderRules.{IsAddressSize}
 use Rattle.lnt_header.specs.declared.header.HeaderParts.{HeaderParts}
 use Rattle.lnt_header_bytes.specs.HeaderBytes.{unit_body}
-use Rattle.lnt_older.specs.OlderUnits.{AnyBytes, AnyParts, ReadsFive, ReadsOlder, unit_header}
+use Rattle.lnt_older.specs.OlderUnits.{AnyBytes, AnyParts, ReadsFive, ReadsOlder, unit_header, OlderUnit}
 use Rattle.lnt_older.specs.OlderUnits.AnyParts.{five_parts, older_parts}
-use Rattle.lnt_older.specs.Upgraded.{CopiedFields, upgraded}
+use Rattle.lnt_older.specs.Upgraded.{CopiedFields, upgraded, CountedTable}
 use Rattle.lnt_older.specs.Upgrading.{AddsUpgraded, IsTooLong}
-use Rattle.lnt_older.specs.declared.unit.OlderUnit.{OlderUnit}
-use Rattle.lnt_older.proofs.CopiedLemmas.{one_length, same_body_length}
 use Rattle.lnt_older.proofs.NoUnitLemmas.{not_five, one_body, small_version}
 use Rattle.lnt_older.proofs.SameUnitLemmas.{lies_in, one_header, same_unit}
 use Rattle.std.proofs.lemmas.Grind.{common_steps}
+use Rattle.lnt_header.proofs.ListLaws.{same_each}
+use Rattle.lnt_header_bytes.proofs.ProgramLaws.{length-body}
+use Rattle.lnt_header_bytes.proofs.TableLaws.{entry_code}
+use Rattle.lnt_older.specs.OlderBytes.{file_pairs}
+use Rattle.lnt_header.specs.Joins.{Each, PlacedFrom}
+use Rattle.lnt_header.specs.declared.unit_parts.UnitParts.{UnitParts}
+use Rattle.lnt_unit.specs.UnitBytes.{UnitBytesIn, UnitsFrom}
+use Rattle.lnt_unit.proofs.FrameLaws.{unit_frame}
+use Rattle.lnt_older.specs.Laws.{SameSection}
+use Rattle.lnt_older.specs.Sections.{UpgradedBytes}
+use Rattle.lnt_older.specs.declared.directories.Directory.{Directory}
+
+-- ---- the fields of a unit that is written anew have one length
+
+one_table : {head entries x y : List ℕ} {count : ℕ} → CountedTable head count entries x → CountedTable head count entries y
+    → length x ≡ length y
+one_table p q = grind (arith, common_steps, length-append)
+
+pub one_length : {h : HeaderParts} {directory directories files x y : List ℕ} → CopiedFields h directory directories files x
+    → CopiedFields h directory directories files y → length x ≡ length y
+one_length {h} p q =
+    let a = p.first_file in
+    let b = q.first_file in
+    let firsts =
+    same_each (entry_code h.format h.numbers.order file_pairs) (take 1 h.files) (take 1 h.files) p.first q.first a.others b.others
+    refl a.spelled b.spelled (sym a.joined ∙ b.joined) in
+    let files_are = rw (sym firsts.1) at q.files_are in
+    omega (
+      arith,
+      simp length-append at (ap length p.joined),
+      simp length-append at (ap length q.joined),
+      one_table p.directories_are q.directories_are,
+      one_table p.files_are files_are,
+    )
+
+-- bodies are as long as their fields and programs
+pub same_body_length : (h k : HeaderParts) (fields others program past : List ℕ) → h.format ≡ k.format → length fields ≡ length others
+    → program ≡ past → length (unit_body h fields program) ≡ length (unit_body k others past)
+same_body_length h k fields others program past format_is long same = grind (arith, common_steps, length-body)
 
 -- ---- the bytes of a unit
 
@@ -115,3 +152,43 @@ one_fit order u v at next bt after size directory old new bytes here there is_si
     let fits : LengthFits v.format (length (unit_body (upgraded directory h) b.fields u.program.now)) =
     subst (λ (f : Format). LengthFits f (length (unit_body (upgraded directory h) b.fields u.program.now))) same.format_is b.fits in
     long.too_long (rw bodies at fits)
+
+-- ---- a section of version 5 alone is written anew as itself
+
+-- the format and the body of a unit of version 5
+abbrev five_of : (order : Order) (unit : UnitParts) (x : List ℕ) → (p : UnitBytesIn order unit x) → AnyParts
+five_of order unit x p = five_parts unit.header.format (unit_body unit.header p.spelled.whole.fields p.spelled.program)
+
+same_from : (order : Order) (directories : List Directory) (m n : ℕ) (units : List (ℕ × UnitParts)) (others : List (ℕ × AnyParts))
+    (section result : List ℕ) → UnitsFrom order m units section → PlacedFrom (λ unit. AnyBytes order unit.1) n others section
+    → Each (UpgradedBytes order directories) others result → result ≡ section
+same_from order directories m n [] [] section result p q e = e ∙ sym p
+same_from order directories m n [] (other ∷ others) section result p (prefix, back, here, so, joined, rest) e =
+    absurd (omega (arith, some_bytes order other.1 prefix so, ap length joined, ap length p, length-append prefix back))
+same_from order directories m n (unit ∷ units) [] section result (prefix, back, here, spelled, joined, rest) q e =
+    absurd (omega (
+      arith,
+      some_bytes order (five_of order unit.1 prefix spelled) prefix (unit_frame order unit.1 prefix spelled),
+      ap length joined,
+      ap length q,
+      length-append prefix back,
+    ))
+same_from order directories m n (unit ∷ units) ((offset, five_parts format body) ∷ others) section result
+    (prefix, back, here, spelled, joined, rest) (first, after, there, so, whole, more) e =
+    let same : prefix ≡ first = any_once order (five_of order unit.1 prefix spelled) (five_parts format body) prefix first back after
+    (unit_frame order unit.1 prefix spelled) so (sym joined ∙ whole) in
+    let past : back ≡ after = append_cancel_left first back after (ap (λ (z : List ℕ). z ++ back) (sym same) ∙ (sym joined ∙ whole)) in
+    let copied : e.prefix ≡ first = frame_once order format body e.prefix first e.first so in
+    let later : e.back ≡ after = same_from order directories (m + length prefix) (n + length first) units others after e.back
+    (subst (λ (z : List ℕ). UnitsFrom order (m + length prefix) units z) past rest) more e.second in
+    e.joined ∙ (ap (λ (z : List ℕ). z ++ e.back) copied ∙ (ap (λ (z : List ℕ). first ++ z) later ∙ sym whole))
+same_from order directories m n (unit ∷ units) ((offset, older_parts h program) ∷ others) section result
+    (prefix, back, here, spelled, joined, rest) (first, after, there, so, whole, more) e =
+    let five = unit_frame order unit.1 prefix spelled in
+    let same : prefix ≡ first = any_once order (five_of order unit.1 prefix spelled) (older_parts h program) prefix first back after five so
+    (sym joined ∙ whole) in
+    absurd (five_not_older order unit.1.header.format (unit_body unit.1.header spelled.spelled.whole.fields spelled.spelled.program) h
+    program prefix five (subst (λ (z : List ℕ). AnyBytes order (older_parts h program) z) (sym same) so))
+
+pub same_section : SameSection
+same_section order size directories units section result sound u = grind (arith, common_steps, same_from)

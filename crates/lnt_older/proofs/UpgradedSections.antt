@@ -5,15 +5,13 @@ use Rattle.lnt_wire.specs.At.{At}
 use Rattle.lnt_wire.specs.declared.format.Order.{Order}
 use Rattle.lnt_header.specs.HeaderRules.{IsAddressSize}
 use Rattle.lnt_header_bytes.specs.HeaderBytes.{HeaderBytesIn}
-use Rattle.lnt_older.specs.OlderUnits.{ReadsFive, ReadsOlder, five_parts, older_parts, older_spelling, unit_header}
+use Rattle.lnt_older.specs.OlderUnits.{ReadsFive, ReadsOlder, five_parts, older_parts, older_spelling, unit_header, OlderUnit}
 use Rattle.lnt_older.specs.OlderBytes.{OlderBytesIn}
 use Rattle.lnt_older.specs.Upgraded.{upgraded}
 use Rattle.lnt_older.specs.Upgrading.{AddsUpgraded, IsTooLong}
-use Rattle.lnt_older.specs.declared.unit.OlderUnit.{OlderUnit}
-use Rattle.lnt_older.specs.Directories.{directory_at}
+use Rattle.lnt_older.specs.Directories.{directory_at, Directory}
 use Rattle.lnt_older.specs.SectionSteps.{IsLargeNext}
 use Rattle.lnt_older.specs.Upgradable.{AddsAny}
-use Rattle.lnt_older.specs.declared.directories.Directory.{Directory}
 use Rattle.lnt_older.proofs.UpgradeLaws.{five_read, older_read, one_fit, only_five}
 
 -- ---- one unit

@@ -6,11 +6,10 @@ use Rattle.lnt_wire.specs.At.{At}
 use Rattle.lnt_wire.specs.declared.format.Order.{Order}
 use Rattle.lnt_header.specs.Joins.{Each, PlacedFrom}
 use Rattle.lnt_older.specs.OlderUnits.{AnyParts, older_parts}
-use Rattle.lnt_older.specs.Directories.{directory_at}
+use Rattle.lnt_older.specs.Directories.{directory_at, Directory}
 use Rattle.lnt_older.specs.SectionSteps.{IsLargeNext, IsUnitNext}
 use Rattle.lnt_older.specs.Sections.{HasAddressSize, IsUpgraded, UpgradedBytes}
 use Rattle.lnt_older.specs.Upgradable.{AddsAny, CanBeLeft, CanBeUpgraded, CanUpgrade}
-use Rattle.lnt_older.specs.declared.directories.Directory.{Directory}
 use Rattle.lnt_older.proofs.PlacedLaws.{left_all}
 use Rattle.lnt_older.proofs.SectionLemmas.{IsSpelled, fewer_left, unit_next}
 use Rattle.lnt_older.proofs.SizeLemmas.{newer_of}

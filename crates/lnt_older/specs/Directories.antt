@@ -9,9 +9,9 @@ use Rattle.lnt_header.specs.Joins.{AreRising}
 use Rattle.lnt_text.specs.Digits.{IsDecimal}
 use Rattle.lnt_records.specs.Table.{BeginsWith, Fields, RecordsOf}
 use Rattle.lnt_wire.specs.FormBytes.{HasNoZero}
-use Rattle.lnt_older.specs.declared.directories.DirectoriesFault.{DirectoriesFault}
-use Rattle.lnt_older.specs.declared.directories.DirectoriesFault.TheVariants.{Record, Memory}
-use Rattle.lnt_older.specs.declared.directories.Directory.{Directory}
+pub use Rattle.lnt_older.specs.declared.directories.Directory.{Directory}
+use Rattle.lnt_older.specs.declared.section.UpgradeFault.{UpgradeFault}
+use Rattle.lnt_older.specs.declared.section.UpgradeFault.TheVariants.{Directories, Memory}
 
 abbrev pub units_of : List Directory → List ℕ
 units_of directories = map (λ directory. directory.unit) directories
@@ -71,9 +71,15 @@ abbrev pub IsBadRecord : List ℕ → List ℕ → ℕ → Type 0
 IsBadRecord older bytes zero = BeginsWith bytes (directory_names ∷ []) → ⊥
 IsBadRecord older bytes (suc count) = HasBadRecord older bytes count
 
-abbrev pub IsDirectoryFault : List ℕ → List ℕ → DirectoriesFault → Type 0
-IsDirectoryFault older bytes (Record place) = IsBadRecord older bytes place
-IsDirectoryFault older bytes Memory = Unit {0}
+-- the directories that a file lists for units at these offsets; none where no file is given
+abbrev pub AreListedFor : List ℕ → Option (List ℕ) → List Directory → Type 0
+AreListedFor older None directories = directories ≡ []
+AreListedFor older (Some text) directories = IsDirectoryFile older text directories
+
+abbrev pub IsListingFault : List ℕ → Option (List ℕ) → UpgradeFault → Type 0
+IsListingFault older (Some text) (Directories place) = IsBadRecord older text place
+IsListingFault older text Memory = Unit {0}
+IsListingFault older text other = ⊥
 
 -- ---- private: one record
 

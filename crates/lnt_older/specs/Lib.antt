@@ -1,9 +1,7 @@
-pub mod ByteReading
 pub mod Directories
 pub mod FieldReading
 pub mod Laws
-pub mod ListFaults
-pub mod ListReading
+pub mod Lists
 pub mod OlderBytes
 pub mod OlderFields
 pub mod OlderUnits
@@ -14,4 +12,3 @@ pub mod Upgradable
 pub mod Upgraded
 pub mod Upgrades
 pub mod Upgrading
-pub mod Versions

@@ -16,9 +16,13 @@ use Rattle.lnt_header.specs.declared.header.HeaderParts.{HeaderParts}
 use Rattle.lnt_header.specs.declared.numbers.NumberParts.{NumberParts}
 use Rattle.lnt_header.specs.declared.header.Pair.{Pair}
 use Rattle.lnt_header_bytes.specs.TableBytes.{EntryBytes}
-use Rattle.lnt_older.specs.Versions.{version_number}
-use Rattle.lnt_older.specs.declared.version.OlderVersion.{OlderVersion}
-use Rattle.lnt_older.specs.declared.version.OlderVersion.TheVariants.{Four}
+pub use Rattle.lnt_older.specs.declared.version.OlderVersion.{OlderVersion}
+use Rattle.lnt_older.specs.declared.version.OlderVersion.TheVariants.{Two, Three, Four}
+
+abbrev pub version_number : OlderVersion → ℕ
+version_number Two = 2
+version_number Three = 3
+version_number Four = 4
 
 -- ---- lists
 

@@ -7,16 +7,15 @@ use Rattle.lnt_wire.specs.declared.fault.Reason.TheVariants.{Truncated, MaxOpsZe
 use Rattle.lnt_wire.specs.declared.format.Format.{Format}
 use Rattle.lnt_wire.specs.declared.format.Order.{Order}
 use Rattle.lnt_header.specs.FirstFaults.{FirstOf}
-use Rattle.lnt_header.specs.HeaderRules.{IsAddressSize}
+use Rattle.lnt_header.specs.HeaderRules.{IsAddressSize, header_of as header_with}
 use Rattle.lnt_header.specs.Joins.{Both, Each}
 use Rattle.lnt_header.specs.declared.header.Entry.{Entry}
 use Rattle.lnt_header.specs.declared.header.HeaderParts.{HeaderParts}
 use Rattle.lnt_header_bytes.specs.HeaderFaults.{LengthsBytes, IsLengthsFault}
-use Rattle.lnt_older.specs.ListFaults.{IsListFault}
-use Rattle.lnt_older.specs.OlderBytes.{directory_pairs, file_pairs, ListBytes, ListedBytes, OlderFieldsBytes, SaysOperations}
+use Rattle.lnt_older.specs.Lists.{IsListFault}
+use Rattle.lnt_older.specs.OlderBytes.{directory_pairs, file_pairs, ListBytes, ListedBytes, OlderFieldsBytes, SaysOperations, OlderVersion}
 use Rattle.lnt_older.specs.declared.header.OlderHeader.{OlderHeader}
 use Rattle.lnt_older.specs.declared.numbers.OlderNumbers.{OlderNumbers}
-use Rattle.lnt_older.specs.declared.version.OlderVersion.{OlderVersion}
 use Rattle.lnt_older.specs.declared.version.OlderVersion.TheVariants.{Four}
 
 -- ---- fields of one byte
@@ -96,25 +95,17 @@ IsFieldsFault version format order = FirstOf (NumbersBytes version) (IsSoundFaul
 
 -- the header of these numbers, standard opcode lengths, directories, files and last bytes
 abbrev pub header_of : Format → Order → ℕ → OlderNumbers → List ℕ → List Entry → List Entry → List ℕ → HeaderParts
-header_of format order address_size n lengths directories files extra = record {
-  format = format;
-  numbers = record {
-    order = order;
-    address_size = address_size;
-    minimum_instruction_length = n.minimum_instruction_length;
-    max_ops = n.max_ops;
-    default_is_stmt = n.default_is_stmt;
-    line_base = n.line_base;
-    line_range = n.line_range;
-    opcode_base = n.opcode_base;
-    standard_lengths = lengths;
-  };
-  directory_format = directory_pairs;
-  directories = directories;
-  file_format = file_pairs;
-  files = files;
-  extra = extra;
-}
+header_of format order address_size n lengths directories files extra = header_with format (record {
+  order = order;
+  address_size = address_size;
+  minimum_instruction_length = n.minimum_instruction_length;
+  max_ops = n.max_ops;
+  default_is_stmt = n.default_is_stmt;
+  line_base = n.line_base;
+  line_range = n.line_range;
+  opcode_base = n.opcode_base;
+  standard_lengths = lengths;
+}) directory_pairs directories file_pairs files extra
 
 -- These directories and files lie in the lists of the header.
 pub record ListsLie (format : Format) (order : Order) (o : OlderHeader) (directories files : List Entry) : Type 0 where

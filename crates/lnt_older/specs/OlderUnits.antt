@@ -13,13 +13,11 @@ use Rattle.lnt_header.specs.HeaderRules.{AreHeaderNumbers, IsAddressSize}
 use Rattle.lnt_header.specs.declared.header.Entry.{Entry}
 use Rattle.lnt_header.specs.declared.header.HeaderParts.{HeaderParts}
 use Rattle.lnt_header_bytes.specs.StartFaults.{IsCountedFault}
-use Rattle.lnt_older.specs.OlderBytes.{body_bytes, OlderBytes, OlderBytesIn}
+use Rattle.lnt_older.specs.OlderBytes.{body_bytes, OlderBytes, OlderBytesIn, version_number, OlderVersion}
 use Rattle.lnt_older.specs.OlderFields.{header_of, header_spelling, IsFieldsFault, ListsLie}
-use Rattle.lnt_older.specs.Versions.{version_number}
 use Rattle.lnt_older.specs.declared.unit.AnyUnit.{AnyUnit}
 use Rattle.lnt_older.specs.declared.unit.AnyUnit.TheVariants.{Five, Older}
-use Rattle.lnt_older.specs.declared.unit.OlderUnit.{OlderUnit}
-use Rattle.lnt_older.specs.declared.version.OlderVersion.{OlderVersion}
+pub use Rattle.lnt_older.specs.declared.unit.OlderUnit.{OlderUnit}
 
 -- the header of the unit, at this address size and with these directories and files
 abbrev pub unit_header : OlderUnit → ℕ → List Entry → List Entry → HeaderParts

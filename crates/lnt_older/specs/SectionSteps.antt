@@ -1,14 +1,13 @@
 -- What the bodies of `section.rt` say of one step. No public contract speaks of it.
-use Rattle.std.specs.Prelude.{◌≡◌, ℕ, List, [], ◌++◌, Option, Some, None}
+use Rattle.std.specs.Prelude.{◌≡◌, ℕ, List, ◌++◌}
 use Rattle.lnt_wire.specs.At.{At}
 use Rattle.lnt_wire.specs.declared.format.Order.{Order}
-use Rattle.lnt_older.specs.Directories.{IsBadRecord, IsDirectoryFile}
 use Rattle.lnt_older.specs.OlderUnits.{AnyBytes, AnyParts}
 use Rattle.lnt_older.specs.Sections.{IsBroken, IsLargeAt, IsLargeUnit}
 use Rattle.lnt_older.specs.Upgradable.{Fits}
 use Rattle.lnt_older.specs.declared.directories.Directory.{Directory}
 use Rattle.lnt_older.specs.declared.section.UpgradeFault.{UpgradeFault}
-use Rattle.lnt_older.specs.declared.section.UpgradeFault.TheVariants.{Malformed, Directories, TooLarge, Memory}
+use Rattle.lnt_older.specs.declared.section.UpgradeFault.TheVariants.{Malformed, TooLarge, Memory}
 
 -- ---- one unit
 
@@ -30,16 +29,6 @@ abbrev pub IsUnitFault : Order → List ℕ → UpgradeFault → Type 0
 IsUnitFault order section (Malformed fault) = IsBroken order section fault
 IsUnitFault order section Memory = Unit {0}
 IsUnitFault order section other = ⊥
-
--- the directories for units at these offsets
-abbrev pub AreListedFor : List ℕ → Option (List ℕ) → List Directory → Type 0
-AreListedFor older None directories = directories ≡ []
-AreListedFor older (Some text) directories = IsDirectoryFile older text directories
-
-abbrev pub IsListingFault : List ℕ → Option (List ℕ) → UpgradeFault → Type 0
-IsListingFault older (Some text) (Directories place) = IsBadRecord older text place
-IsListingFault older text Memory = Unit {0}
-IsListingFault older text other = ⊥
 
 abbrev pub IsSizeFault : Order → ℕ → List Directory → List ℕ → UpgradeFault → Type 0
 IsSizeFault order address_size directories section (TooLarge offset) = IsLargeAt order address_size directories section offset

@@ -1,5 +1,5 @@
 -- Sections whose units are of versions 2 to 5, and the sections of version 5 that say the same (DWARF 2 to 5, section 6.2.4).
-use Rattle.std.specs.Prelude.{◌≡◌, ℕ, ◌+◌, List, [], ◌∷◌, ◌++◌, length}
+use Rattle.std.specs.Prelude.{◌≡◌, ℕ, List, [], ◌∷◌, ◌++◌, length}
 use Rattle.std.specs.List.{AllByRecursion}
 use Rattle.lnt_wire.specs.FrameBytes.{FrameBytes}
 use Rattle.lnt_wire.specs.Reading.{Refuses}
@@ -9,14 +9,11 @@ use Rattle.lnt_header.specs.Joins.{Each, PlacedFrom}
 use Rattle.lnt_header.specs.declared.header.HeaderParts.{HeaderParts}
 use Rattle.lnt_header_bytes.specs.HeaderBytes.{HeaderBytesIn}
 use Rattle.lnt_header_bytes.specs.HeaderReading.{standing}
-use Rattle.lnt_older.specs.OlderBytes.{OlderBytesIn}
-use Rattle.lnt_older.specs.OlderUnits.{AnyBytes, AnyParts, IsAnyFault, five_parts, older_parts, older_spelling}
+use Rattle.lnt_older.specs.OlderBytes.{OlderBytesIn, OlderVersion}
+use Rattle.lnt_older.specs.OlderUnits.{AnyBytes, AnyParts, IsAnyFault, five_parts, older_parts, older_spelling, OlderUnit}
 use Rattle.lnt_older.specs.Upgrading.{IsTooLong}
-use Rattle.lnt_older.specs.declared.unit.OlderUnit.{OlderUnit}
-use Rattle.lnt_older.specs.declared.version.OlderVersion.{OlderVersion}
 use Rattle.lnt_older.specs.Upgraded.{upgraded}
-use Rattle.lnt_older.specs.Directories.{directory_at}
-use Rattle.lnt_older.specs.declared.directories.Directory.{Directory}
+use Rattle.lnt_older.specs.Directories.{directory_at, Directory}
 
 -- ---- what a section says
 

@@ -1,5 +1,5 @@
 -- What the prefix of a unit gives, up to its version. No public contract speaks of it.
-use Rattle.std.specs.Prelude.{◌≡◌, ℕ, ◌+◌, ◌^◌, ◌<◌, List, [], ◌++◌, length}
+use Rattle.std.specs.Prelude.{◌≡◌, ◌≢◌, ℕ, ◌+◌, ◌^◌, ◌<◌, List, [], ◌++◌, length}
 use Rattle.lnt_wire.specs.At.{At}
 use Rattle.lnt_wire.specs.FrameBytes.{frame_bytes}
 use Rattle.lnt_wire.specs.InitialLength.{initial_length, LengthFits}
@@ -7,29 +7,22 @@ use Rattle.lnt_wire.specs.Numbers.{number_bytes, offset_size}
 use Rattle.lnt_wire.specs.Reading.{Refuses}
 use Rattle.lnt_wire.specs.declared.fault.Fault.{Fault}
 use Rattle.lnt_wire.specs.declared.fault.Reason.{Reason}
+use Rattle.lnt_wire.specs.declared.fault.Reason.TheVariants.{VersionNotFive}
 use Rattle.lnt_wire.specs.declared.format.Format.{Format}
 use Rattle.lnt_wire.specs.declared.format.Order.{Order}
 use Rattle.lnt_header.specs.declared.header.HeaderParts.{HeaderParts}
 use Rattle.lnt_header_bytes.specs.HeaderReading.{standing}
 use Rattle.lnt_header_bytes.specs.StartFaults.{IsCountedFault}
-use Rattle.lnt_older.specs.OlderBytes.{OlderFieldsBytes}
+use Rattle.lnt_older.specs.OlderBytes.{OlderFieldsBytes, version_number, OlderVersion}
 use Rattle.lnt_older.specs.OlderFields.{IsFieldsFault, IsReadHeader}
-use Rattle.lnt_older.specs.Versions.{version_number}
 use Rattle.lnt_older.specs.declared.prefix.Prefix.{Prefix}
-use Rattle.lnt_older.specs.declared.prefix.UnitVersion.{UnitVersion}
-use Rattle.lnt_older.specs.declared.prefix.UnitVersion.TheVariants.{Five, Older}
 use Rattle.lnt_older.specs.declared.unit.AnyUnit.{AnyUnit}
 use Rattle.lnt_older.specs.declared.unit.AnyUnit.TheVariants as units
 use Rattle.lnt_older.specs.declared.unit.OlderUnit.{OlderUnit}
-use Rattle.lnt_older.specs.declared.version.OlderVersion.{OlderVersion}
-
-abbrev pub unit_number : UnitVersion → ℕ
-unit_number Five = 5
-unit_number (Older version) = version_number version
 
 -- the body of a unit, by its version and what stands after that
 abbrev pub prefix_body : Order → Prefix → List ℕ
-prefix_body order prefix = number_bytes order 2 (unit_number prefix.version) ++ prefix.past.now
+prefix_body order prefix = number_bytes order 2 prefix.version ++ prefix.past.now
 
 -- The read moved past a unit of this prefix.
 pub record ReadsPrefix (prefix : Prefix) (old new : At) : Type 0 where
@@ -72,10 +65,13 @@ IsBodyFault prefix version order fault = Refuses (IsPastFault prefix.format vers
 
 -- the unit of a prefix and of these bytes: one of version 5, or an older one
 abbrev pub IsAnyOf : Prefix → List ℕ → Order → AnyUnit → Type 0
-IsAnyOf prefix bytes order (units.Five five) = (prefix.version ≡ Five) × (five.now ≡ bytes)
+IsAnyOf prefix bytes order (units.Five five) = (prefix.version ≡ 5) × (five.now ≡ bytes)
 IsAnyOf prefix bytes order (units.Older unit) =
-    (version : OlderVersion) × (prefix.version ≡ Older version) × IsOlderOf prefix version order unit
+    (version : OlderVersion) × (prefix.version ≡ version_number version) × IsOlderOf prefix version order unit
 
--- a fault of an older one
-abbrev pub IsAnyBodyFault : Prefix → Order → Fault → Type 0
-IsAnyBodyFault prefix order fault = (version : OlderVersion) × (prefix.version ≡ Older version) × IsBodyFault prefix version order fault
+-- a fault of the version, which is none of 2 to 5, or of an older one
+pub data IsAnyBodyFault (prefix : Prefix) (order : Order) (fault : Fault) : Type 0 where
+  of_version : prefix.version < 2 ^ 16 → prefix.version ≢ 5 → ((version : OlderVersion) → version_number version ≢ prefix.version)
+      → fault.place ≡ prefix.place → fault.reason ≡ VersionNotFive prefix.version → IsAnyBodyFault prefix order fault
+  of_body : (version : OlderVersion) → prefix.version ≡ version_number version → IsBodyFault prefix version order fault
+      → IsAnyBodyFault prefix order fault

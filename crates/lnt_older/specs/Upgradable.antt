@@ -5,12 +5,10 @@ use Rattle.lnt_wire.specs.FormBytes.{HasNoZero}
 use Rattle.lnt_wire.specs.Reading.{Reads}
 use Rattle.lnt_wire.specs.declared.format.Order.{Order}
 use Rattle.lnt_header.specs.Joins.{PlacedFrom}
-use Rattle.lnt_older.specs.OlderUnits.{AnyBytes, AnyParts, ReadsOlder}
+use Rattle.lnt_older.specs.OlderUnits.{AnyBytes, AnyParts, ReadsOlder, OlderUnit}
 use Rattle.lnt_older.specs.Upgrading.{IsTooLong}
-use Rattle.lnt_older.specs.declared.unit.OlderUnit.{OlderUnit}
-use Rattle.lnt_older.specs.Directories.{AreDirectories, directory_at}
+use Rattle.lnt_older.specs.Directories.{AreDirectories, directory_at, Directory}
 use Rattle.lnt_older.specs.Sections.{HasAddressSize, UpgradedBytes}
-use Rattle.lnt_older.specs.declared.directories.Directory.{Directory}
 
 -- ---- directories
 

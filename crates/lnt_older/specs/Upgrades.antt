@@ -1,10 +1,9 @@
 -- A section that is written anew, or why it isn't.
 use Rattle.std.specs.Prelude.{◌≡◌, ℕ, List, [], Option, Some, None}
 use Rattle.lnt_wire.specs.declared.format.Order.{Order}
-use Rattle.lnt_older.specs.Directories.{IsBadRecord, IsDirectoryFile}
+use Rattle.lnt_older.specs.Directories.{IsBadRecord, IsDirectoryFile, Directory}
 use Rattle.lnt_older.specs.OlderUnits.{AnyParts}
 use Rattle.lnt_older.specs.Sections.{AnySection, HasOlder, IsBroken, IsLargeAt}
-use Rattle.lnt_older.specs.declared.directories.Directory.{Directory}
 use Rattle.lnt_older.specs.declared.section.UpgradeFault.{UpgradeFault}
 use Rattle.lnt_older.specs.declared.section.UpgradeFault.TheVariants.{Malformed, Directories, TooLarge, Memory}
 

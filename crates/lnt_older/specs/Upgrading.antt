@@ -9,9 +9,8 @@ use Rattle.lnt_header.specs.declared.header.Entry.{Entry}
 use Rattle.lnt_header_bytes.specs.HeaderBytes.{HeaderBytesIn, HeaderFieldsBytes, unit_body}
 use Rattle.lnt_older.specs.OlderBytes.{file_pairs, ListedBytes}
 use Rattle.lnt_older.specs.OlderFields.{ListsLie}
-use Rattle.lnt_older.specs.OlderUnits.{unit_header}
+use Rattle.lnt_older.specs.OlderUnits.{unit_header, OlderUnit}
 use Rattle.lnt_older.specs.Upgraded.{CopiedFields, CountedTable, file_head, from_zero, IsFirstFile, upgraded}
-use Rattle.lnt_older.specs.declared.unit.OlderUnit.{OlderUnit}
 
 -- the fields of the unit of version 5, whose entries are those of the older unit byte for byte
 abbrev pub UnitFields : OlderUnit → ℕ → List ℕ → List Entry → List Entry → List ℕ → Type 0

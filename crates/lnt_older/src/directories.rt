@@ -1,14 +1,13 @@
 //! The compilation directories of older units, which their section doesn't have: comma-separated values.
-ghost use Rattle.std.specs.Prelude.{◌≡◌, ◌≢◌, ℕ, List, [], ◌∷◌, IfErr, IfOk, MatchOption};
-ghost use Rattle.std.specs.Bool.{MatchBool};
+ghost use Rattle.std.specs.Prelude.{◌≡◌, ◌≢◌, ℕ, List, [], ◌∷◌, IfErr, IfOk, MatchOption, Some, MatchBool};
 ghost use Rattle.lnt_header.specs.Joins.{AreRising};
 ghost use Rattle.csv.specs.Records.{fields_of};
 ghost use Rattle.lnt_records.specs.Reading.{HasRead};
-ghost use Rattle.lnt_records.specs.Table.{BeginsWith, Fields};
-ghost use Rattle.lnt_older.specs.Directories.{AreDirectories, IsAdded, IsDirectoryFault, IsDirectoryFile, IsDirectoryRecord};
-ghost use Rattle.lnt_older.specs.Directories.{IsLastUnit, IsNext, IsAmong, MayFollow, directory_at, directory_names};
-ghost use Rattle.lnt_older.specs.declared.directories.Directory.{Directory as Spec};
+ghost use Rattle.lnt_records.specs.Table.{BeginsWith};
+ghost use Rattle.lnt_older.specs.Directories.{AreDirectories, IsAdded, IsDirectoryFile, IsDirectoryRecord, IsLastUnit, IsListingFault};
+ghost use Rattle.lnt_older.specs.Directories.{IsNext, IsAmong, MayFollow, directory_at, directory_names, Directory as Spec};
 
+use crate::section::UpgradeFault;
 use csv::{ByteRecord, Reader};
 use lnt_records::{field, is_field, read_next, reader_of};
 use lnt_text::decimal;
@@ -23,49 +22,30 @@ pub struct Directory {
     pub path: Vec<u8>,
 }
 
-/// Why there are no directories.
-#[derive(Clone, Copy, Debug, PartialEq, Eq)]
-pub enum DirectoriesFault {
-    /// 44: this record is the first one that isn't so. Record 0 names the columns.
-    Record(u64),
-    /// Memory ran out. It says nothing of the bytes.
-    Memory,
-}
-
-impl From<AllocError> for DirectoriesFault {
-    ghost use Rattle.lnt_older.specs.declared.directories.DirectoriesFault.TheVariants.{Memory};
-
-    ghost from_gives = { λ _ fault. fault ≡ Memory };
-
-    fn from(_error: AllocError) -> DirectoriesFault {
-        DirectoriesFault::Memory
-    }
-}
-
 /// The directories that these bytes list for units at some of these offsets, which rise. Record 0 is `unit,directory`. Each
 /// later record has the offset of a unit, a decimal number greater than the one before, and the path of a directory, without a zero
 /// byte.
 ///
-/// It refuses with `Record` and the first record that isn't so, or whose unit isn't at one of the offsets; record 0 where there
-/// is none. Else only with `Memory`.
+/// It refuses with `Directories` and the first record that isn't so, or whose unit isn't at one of the offsets; record 0 where
+/// there is none. Else only with `Memory`.
 pub fn read_directories(
     alloc: Global,
     text: &[u8],
     older: &[u64],
-) -> Result<Vec<Directory>, DirectoriesFault>
+) -> Result<Vec<Directory>, UpgradeFault>
     requires { AreRising older.now }
     ensures ok { IfOk result (λ directories. IsDirectoryFile older.now text.now directories.items) }
-    ensures err { IfErr result (IsDirectoryFault older.now text.now) }
+    ensures err { IfErr result (IsListingFault older.now (Some text.now)) }
 {
     let mut reader = reader_of(alloc, text);
     let mut row = ByteRecord::new(alloc);
     if !read_columns(&mut reader, &mut row)? {
-        return Err(DirectoriesFault::Record(0));
+        return Err(UpgradeFault::Directories(0));
     }
     let mut directories: Vec<Directory> = Vec::new(alloc);
     while read_next(&mut reader, &mut row)? {
         if !add_directory(alloc, &row, older, &mut directories)? {
-            return Err(DirectoriesFault::Record(directories.len() as u64 + 1));
+            return Err(UpgradeFault::Directories(directories.len() as u64 + 1));
         }
     }
     Ok(directories)
@@ -107,25 +87,18 @@ fn add_directory(
         → MayFollow older.now directories.old.items directory → ⊥))) }
 {
     let before = last_unit(directories);
-    match directory_in(alloc, row, before, older)? {
-        Some(directory) => {
-            if directories.push(directory).is_err() {
-                return Err(AllocError);
-            }
-            Ok(true)
-        }
-        None => Ok(false),
-    }
+    let Some(directory) = directory_in(alloc, row, before, older)? else {
+        return Ok(false);
+    };
+    directories.push(directory)?;
+    Ok(true)
 }
 
 // The unit of the last of these directories.
 fn last_unit(directories: &[Directory]) -> Option<u64>
     ensures { IsLastUnit directories.now result }
 {
-    match directories.last() {
-        Some(last) => Some(last.unit),
-        None => None,
-    }
+    directories.last().map(|last| last.unit)
 }
 
 // The directory in a record, whose unit is at one of the offsets, and after the unit before it. None exactly where there is none.

@@ -1,5 +1,5 @@
 //! Headers of older units, whose directories and files stay where they lie (DWARF 4, section 6.2.4).
-ghost use Rattle.std.specs.Prelude.{◌≡◌, ◌+◌, ◌<◌, ◌^◌, length, IfErr, IfOk};
+ghost use Rattle.std.specs.Prelude.{◌+◌, ◌<◌, ◌^◌, length, IfErr, IfOk};
 ghost use Rattle.lnt_wire.specs.Reading.{Refuses};
 ghost use Rattle.lnt_header_bytes.specs.HeaderReading.{standing};
 ghost use Rattle.lnt_older.specs.FieldReading.{ReadsParts};

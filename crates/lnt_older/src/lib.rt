@@ -19,7 +19,7 @@ mod unit_tests;
 mod upgrade;
 mod version;
 
-pub use directories::{DirectoriesFault, Directory, directory_of, read_directories};
+pub use directories::{Directory, directory_of, read_directories};
 pub use header::{OlderHeader, read_older_header};
 pub use lists::{DIRECTORY_PAIRS, FILE_PAIRS, pass_listed};
 pub use numbers::OlderNumbers;

@@ -4,8 +4,7 @@ ghost use Rattle.lnt_wire.specs.Reading.{Refuses};
 ghost use Rattle.lnt_header_bytes.specs.Stepping.{Passes};
 ghost use Rattle.lnt_header_bytes.specs.TableBytes.{EntryBytes};
 ghost use Rattle.lnt_header_bytes.specs.TableFaults.{IsEntryFault};
-ghost use Rattle.lnt_older.specs.ListFaults.{IsListFault};
-ghost use Rattle.lnt_older.specs.ListReading.{BeginsWithPath, PassesList};
+ghost use Rattle.lnt_older.specs.Lists.{BeginsWithPath, IsListFault, PassesList};
 ghost use Rattle.lnt_older.specs.OlderBytes.{BeginsEntry, ListBytes};
 
 use lnt_header::Pair;
@@ -13,30 +12,24 @@ use lnt_header::content::{DIRECTORY_INDEX, PATH, SIZE, TIMESTAMP};
 use lnt_header_bytes::EntriesInPlace;
 use lnt_wire::{Cursor, Fault, Form, Format};
 
+macro_rules! pair {
+    ($content:expr, $form:ident) => {
+        Pair {
+            content: $content,
+            form: Form::$form,
+        }
+    };
+}
+
 /// What a listed directory consists of: a path.
-pub const DIRECTORY_PAIRS: [Pair; 1] = [Pair {
-    content: PATH,
-    form: Form::Text,
-}];
+pub const DIRECTORY_PAIRS: [Pair; 1] = [pair!(PATH, Text)];
 
 /// What a listed file consists of: a path, the number of its directory, a time and a size.
 pub const FILE_PAIRS: [Pair; 4] = [
-    Pair {
-        content: PATH,
-        form: Form::Text,
-    },
-    Pair {
-        content: DIRECTORY_INDEX,
-        form: Form::Udata,
-    },
-    Pair {
-        content: TIMESTAMP,
-        form: Form::Udata,
-    },
-    Pair {
-        content: SIZE,
-        form: Form::Udata,
-    },
+    pair!(PATH, Text),
+    pair!(DIRECTORY_INDEX, Udata),
+    pair!(TIMESTAMP, Udata),
+    pair!(SIZE, Udata),
 ];
 
 /// Moves past the entries of a list, up to the zero byte that ends it, and past that. The entries stay where they lie. It takes
@@ -70,10 +63,7 @@ pub fn pass_listed<'a>(
 fn is_listed(cursor: &Cursor<'_>) -> bool
     ensures { IsTrue result ↔ BeginsEntry cursor.now.rest }
 {
-    match cursor.rest().first() {
-        Some(byte) => *byte != 0,
-        None => false,
-    }
+    cursor.rest().first().is_some_and(|byte| *byte != 0)
 }
 
 // Moves past the next entry.

@@ -1,8 +1,9 @@
 //! The fields of one byte of an older header.
-ghost use Rattle.std.specs.Prelude.{IfOk, IfErr};
+ghost use Rattle.std.specs.Prelude.{◌≡◌, IfOk, IfErr};
 ghost use Rattle.lnt_wire.specs.Reading.{Reads, RefusesField, Refuses};
-ghost use Rattle.lnt_older.specs.ByteReading.{ByteOf, IsByteFault};
-ghost use Rattle.lnt_older.specs.OlderFields.{AreFieldBytes, IsSoundFault, NumbersBytes, SoundBytes, zero_reasons};
+ghost use Rattle.lnt_older.specs.FieldReading.{ByteOf, IsByteFault};
+ghost use Rattle.lnt_older.specs.OlderFields.{AreFieldBytes, IsSoundFault, NumbersBytes, SoundBytes, number_fields, zero_reasons};
+ghost use Rattle.lnt_older.specs.declared.version.OlderVersion.TheVariants.{Four};
 
 use crate::version::OlderVersion;
 use lnt_wire::{Cursor, Fault, Reason};
@@ -24,9 +25,25 @@ pub struct OlderNumbers {
     pub opcode_base: u8,
 }
 
+impl OlderNumbers {
+    // The fields of one byte that say the numbers from version 4 on.
+    pub(crate) fn single_fields(&self) -> [u8; 6]
+        ensures { result ≡ number_fields Four self.now }
+    {
+        [
+            self.minimum_instruction_length,
+            self.max_ops,
+            self.default_is_stmt,
+            self.line_base.cast_unsigned(),
+            self.line_range,
+            self.opcode_base,
+        ]
+    }
+}
+
 /// Reads the fields of one byte before the standard opcode lengths. It refuses the first of them that is 0 and may not be, at
 /// that field, and with `Truncated` where there are fewer, at their end.
-#[tactic(auto, using(crate::proofs::NumberLemmas::numbers_read, crate::proofs::NumberLemmas::numbers_refused))]
+#[tactic(auto, using(crate::proofs::SoundLemmas::numbers_read, crate::proofs::SoundLemmas::numbers_refused))]
 pub(crate) fn read_numbers(
     cursor: &mut Cursor<'_>,
     version: OlderVersion,
@@ -120,13 +137,7 @@ fn read_byte(cursor: &mut Cursor<'_>, zero_reason: Option<Reason>) -> Result<u8,
     let place = cursor.place();
     let byte = cursor.u8()?;
     match zero_reason {
-        None => Ok(byte),
-        Some(reason) => {
-            if byte == 0 {
-                Err(Fault { place, reason })
-            } else {
-                Ok(byte)
-            }
-        }
+        Some(reason) if byte == 0 => Err(Fault { place, reason }),
+        _ => Ok(byte),
     }
 }

@@ -1,38 +1,16 @@
 //! The prefix of a unit: its initial length and its version (DWARF 5, sections 6.2.4 and 7.4).
-ghost use Rattle.std.specs.Prelude.{◌≡◌, ◌≢◌, IfErr, IfOk, MatchOption};
+ghost use Rattle.std.specs.Prelude.{IfErr, IfOk};
 ghost use Rattle.lnt_wire.specs.Reading.{Refuses};
 ghost use Rattle.lnt_older.specs.OlderUnits.{AnyBytes, IsAnyFault};
-ghost use Rattle.lnt_older.specs.UnitReading.{ReadsPrefix, unit_number};
-ghost use Rattle.lnt_older.specs.declared.prefix.UnitVersion.{UnitVersion};
+ghost use Rattle.lnt_older.specs.UnitReading.{ReadsPrefix};
 
-use crate::version::OlderVersion;
 use lnt_wire::{Cursor, Fault, Format, Reason, initial_length};
 
-/// The version of a unit that is read: 2 to 5.
-#[derive(Clone, Copy)]
-pub(crate) enum UnitVersion {
-    Five,
-    Older(OlderVersion),
-}
-
-impl UnitVersion {
-    // The version of this number. None exactly where that is none of 2 to 5.
-    fn of(number: u16) -> Option<UnitVersion>
-        ensures { MatchOption result ((version : UnitVersion) → unit_number version ≢ number)
-            (λ version. unit_number version ≡ number) }
-    {
-        if number == 5 {
-            return Some(UnitVersion::Five);
-        }
-        OlderVersion::of(number).map(UnitVersion::Older)
-    }
-}
-
-/// A unit by its initial length and its version.
+/// A unit by its initial length and its version, which isn't judged.
 #[derive(Clone, Copy)]
 pub(crate) struct Prefix<'a> {
     pub format: Format,
-    pub version: UnitVersion,
+    pub version: u16,
     // The offset in the section of the version.
     pub place: u64,
     // The bytes after the version, up to the end of the unit.
@@ -63,17 +41,11 @@ pub(crate) fn take_prefix<'a>(cursor: &mut Cursor<'a>) -> Result<Prefix<'a>, Fau
         });
     };
     let mut inside = Cursor::new(body, place, cursor.order());
-    let number = inside.u16()?;
-    match UnitVersion::of(number) {
-        Some(version) => Ok(Prefix {
-            format,
-            version,
-            place,
-            past: inside.rest(),
-        }),
-        None => Err(Fault {
-            place,
-            reason: Reason::VersionNotFive(number),
-        }),
-    }
+    let version = inside.u16()?;
+    Ok(Prefix {
+        format,
+        version,
+        place,
+        past: inside.rest(),
+    })
 }

@@ -1,16 +1,15 @@
 //! Sections written anew, unit by unit (DWARF 2 to 5, section 6.2.4).
-ghost use Rattle.std.specs.Prelude.{◌≡◌, ◌<◌, ◌^◌, length, IfErr, IfOk, OnErr, OnOk};
-ghost use Rattle.std.specs.Option.{option_copied};
+ghost use Rattle.std.specs.Prelude.{◌≡◌, ◌<◌, length, IfErr, IfOk, OnErr, OnOk, option_copied};
 ghost use Rattle.lnt_header.specs.Joins.{AreRising};
 ghost use Rattle.lnt_wire.specs.Bytes.{Extends};
 ghost use Rattle.lnt_header.specs.HeaderRules.{IsAddressSize};
-ghost use Rattle.lnt_older.specs.Directories.{directory_at};
+ghost use Rattle.lnt_older.specs.Directories.{AreListedFor, IsListingFault, directory_at};
 ghost use Rattle.lnt_older.specs.Sections.{HasOlder};
-ghost use Rattle.lnt_older.specs.SectionSteps.{AreListedFor, IsLargeNext, IsListingFault, IsSizeFault, IsUnitFault, IsUnitNext};
+ghost use Rattle.lnt_older.specs.SectionSteps.{IsLargeNext, IsSizeFault, IsUnitFault, IsUnitNext};
 ghost use Rattle.lnt_older.specs.Upgradable.{AddsAny, AreSoundDirectories, CanBeLeft, CanUpgrade};
 ghost use Rattle.lnt_older.specs.Upgrades.{AreListed, HasUnits, IsUpgradeFault};
 
-use crate::directories::{DirectoriesFault, Directory, directory_of, read_directories};
+use crate::directories::{Directory, directory_of, read_directories};
 use crate::{AnyUnit, append_upgraded_unit, take_any_unit};
 use lnt_wire::{Cursor, EncodeFault, Fault, Order};
 use std::alloc::{AllocError, Global};
@@ -98,13 +97,9 @@ fn list_directories(
     ensures ok { IfOk result (λ directories. AreListedFor older.now (option_copied text.entry) directories.items) }
     ensures err { IfErr result (IsListingFault older.now (option_copied text.entry)) }
 {
-    let Some(text) = text else {
-        return Ok(Vec::new(alloc));
-    };
-    match read_directories(alloc, text, older) {
-        Ok(directories) => Ok(directories),
-        Err(DirectoriesFault::Record(record)) => Err(UpgradeFault::Directories(record)),
-        Err(DirectoriesFault::Memory) => Err(UpgradeFault::Memory),
+    match text {
+        Some(text) => read_directories(alloc, text, older),
+        None => Ok(Vec::new(alloc)),
     }
 }
 
@@ -165,10 +160,7 @@ fn append_unit(
         }
         Ok(AnyUnit::Older(unit)) => {
             let directory = directory_of(directories, place);
-            match append_upgraded_unit(alloc, out, &unit, address_size, directory) {
-                Ok(()) => Ok(()),
-                Err(fault) => Err(fault),
-            }
+            append_upgraded_unit(alloc, out, &unit, address_size, directory)
         }
         // A unit comes next.
         Err(_) => unreachable!(),

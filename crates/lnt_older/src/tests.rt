@@ -3,7 +3,6 @@ ghost use Rattle.std.specs.Prelude.{◌<◌, ◌^◌, length};
 
 use crate::header::{OlderHeader, read_older_header};
 use crate::lists::{DIRECTORY_PAIRS, FILE_PAIRS, pass_listed};
-use crate::numbers::OlderNumbers;
 use crate::version::OlderVersion;
 use lnt_wire::{Cursor, Fault, Format, Order, Reason};
 
@@ -21,21 +20,15 @@ fn is_listed(bytes: &[u8], order: Order, is_of_files: bool, count: u64, sizes: [
     } else {
         pass_listed(&mut cursor, Format::D32, &DIRECTORY_PAIRS)
     };
-    match read {
-        Ok(listed) => {
-            listed.count == count && [listed.bytes.len(), cursor.rest().len()] == sizes
-        }
-        Err(_) => false,
-    }
+    read.is_ok_and(|listed| {
+        listed.count == count && [listed.bytes.len(), cursor.rest().len()] == sizes
+    })
 }
 
 // Whether no list of files is there, with this fault.
 fn is_refused(bytes: &[u8], place: u64, reason: Reason) -> bool {
     let mut cursor = Cursor::new(bytes, 16, Order::Big);
-    match pass_listed(&mut cursor, Format::D32, &FILE_PAIRS) {
-        Ok(_) => false,
-        Err(fault) => fault == Fault { place, reason },
-    }
+    pass_listed(&mut cursor, Format::D32, &FILE_PAIRS).err() == Some(Fault { place, reason })
 }
 
 #[test]
@@ -53,13 +46,8 @@ fn first_faults_of_lists(rt: HostRuntime) {
     assert!(rt; is_refused(b"f\0\x01\0\0", 21, Reason::Truncated));
     assert!(rt; is_refused(b"f\0\x01\0\0g", 21, Reason::Truncated));
     assert!(rt; is_refused(b"f\0\x81", 18, Reason::Truncated));
-    assert!(rt;
-        is_refused(
-            b"f\0\x01\x80\x80\x80\x80\x80\x80\x80\x80\x80\x02\0\0",
-            19,
-            Reason::LebTooLarge
-        )
-    );
+    let large = b"f\0\x01\x80\x80\x80\x80\x80\x80\x80\x80\x80\x02\0\0";
+    assert!(rt; is_refused(large, 19, Reason::LebTooLarge));
 }
 
 // A header of version 2: `opcode_base` 10, the directory `d`, the files `a` and `b`.
@@ -90,34 +78,15 @@ fn is_header(
     let Ok(header) = read else {
         return false;
     };
-    let OlderNumbers {
-        minimum_instruction_length,
-        max_ops,
-        default_is_stmt,
-        line_base,
-        line_range,
-        opcode_base,
-    } = header.numbers;
-    numbers
-        == [
-            minimum_instruction_length,
-            max_ops,
-            default_is_stmt,
-            line_base.cast_unsigned(),
-            line_range,
-            opcode_base,
-        ]
-        && header.standard_lengths.len() + 1 == usize::from(opcode_base)
+    numbers == header.numbers.single_fields()
+        && header.standard_lengths.len() + 1 == usize::from(numbers[5])
         && counts == [header.directories.count, header.files.count]
         && extra == header.extra
 }
 
 // Whether no header is read, with this fault.
 fn has_fault(read: Result<OlderHeader<'_>, Fault>, place: u64, reason: Reason) -> bool {
-    match read {
-        Ok(_) => false,
-        Err(fault) => fault == Fault { place, reason },
-    }
+    read.err() == Some(Fault { place, reason })
 }
 
 #[test]
@@ -132,7 +101,7 @@ fn headers_are_read(rt: HostRuntime) {
 
 #[test]
 fn first_faults_of_headers(rt: HostRuntime) {
-    let four = OlderVersion::Four;
+    let (two, four) = (OlderVersion::Two, OlderVersion::Four);
     let zero = header_of(b"\x01\0\x01\xfb\0\0", four, Order::Little);
     assert!(rt; has_fault(zero, 17, Reason::MaxOpsZero));
     let range = header_of(b"\x01\0\x01\0\0", OlderVersion::Three, Order::Little);
@@ -141,16 +110,8 @@ fn first_faults_of_headers(rt: HostRuntime) {
     assert!(rt; has_fault(base, 21, Reason::OpcodeBaseZero));
     let cut = header_of(b"\x01\x01\x01\xfb\x0e", four, Order::Big);
     assert!(rt; has_fault(cut, 21, Reason::Truncated));
-    let length = header_of(
-        b"\x01\x01\xfb\x0e\x0a\0\x01\x02",
-        OlderVersion::Two,
-        Order::Big,
-    );
+    let length = header_of(b"\x01\x01\xfb\x0e\x0a\0\x01\x02", two, Order::Big);
     assert!(rt; has_fault(length, 23, Reason::StandardLength(3, 2)));
-    let lists = header_of(
-        b"\x01\x01\xfb\x0e\x01d\0\0a\0\x01",
-        OlderVersion::Two,
-        Order::Big,
-    );
+    let lists = header_of(b"\x01\x01\xfb\x0e\x01d\0\0a\0\x01", two, Order::Big);
     assert!(rt; has_fault(lists, 27, Reason::Truncated));
 }

@@ -5,10 +5,10 @@ ghost use Rattle.lnt_older.specs.OlderUnits.{AnyBytes, IsAnyFault, IsSoundUnit, 
 ghost use Rattle.lnt_older.specs.UnitReading.{IsAnyBodyFault, IsAnyOf, IsBodyFault, IsOlderOf};
 
 use crate::header::{OlderHeader, read_older_header};
-use crate::prefix::{Prefix, UnitVersion, take_prefix};
+use crate::prefix::{Prefix, take_prefix};
 use crate::version::OlderVersion;
 use lnt_header_bytes::read_counted;
-use lnt_wire::{Cursor, Fault, Format, Order};
+use lnt_wire::{Cursor, Fault, Format, Order, Reason};
 
 /// A unit of version 2, 3 or 4: its header, whose directories and files stay where they lie, and its program.
 #[derive(Clone, Copy, Debug)]
@@ -70,12 +70,15 @@ fn any_unit<'a>(prefix: &Prefix<'a>, bytes: &'a [u8], order: Order) -> Result<An
     ensures ok { IfOk result (λ unit. IsAnyOf prefix.now bytes.entry.now order unit) }
     ensures err { IfErr result (λ fault. IsAnyBodyFault prefix.now order fault) }
 {
-    match prefix.version {
-        UnitVersion::Five => Ok(AnyUnit::Five(bytes)),
-        UnitVersion::Older(version) => match older_unit(prefix, version, order) {
-            Ok(unit) => Ok(AnyUnit::Older(unit)),
-            Err(fault) => Err(fault),
-        },
+    if prefix.version == 5 {
+        return Ok(AnyUnit::Five(bytes));
+    }
+    match OlderVersion::of(prefix.version) {
+        Some(version) => Ok(AnyUnit::Older(older_unit(prefix, version, order)?)),
+        None => Err(Fault {
+            place: prefix.place,
+            reason: Reason::VersionNotFive(prefix.version),
+        }),
     }
 }
 

@@ -43,30 +43,23 @@ fn is_upgraded(alloc: Global, older: &[u8], newer: &[u8], order: Order) -> bool
         return false;
     };
     let mut out = Vec::new(alloc);
-    match append_upgraded_unit(alloc, &mut out, &unit, 8, b"/w") {
-        Ok(()) => cursor.rest().is_empty() && out.as_slice() == newer,
-        Err(_) => false,
-    }
+    append_upgraded_unit(alloc, &mut out, &unit, 8, b"/w").is_ok()
+        && cursor.rest().is_empty()
+        && out.as_slice() == newer
 }
 
 // Whether no unit is there, with this fault.
 fn is_refused(bytes: &[u8], order: Order, place: u64, reason: Reason) -> bool
     requires { length bytes.now < 2 ^ 63 }
 {
-    match take_any_unit(&mut Cursor::new(bytes, 0, order)) {
-        Ok(_) => false,
-        Err(fault) => fault == Fault { place, reason },
-    }
+    take_any_unit(&mut Cursor::new(bytes, 0, order)).err() == Some(Fault { place, reason })
 }
 
 // Whether the unit is one of version 5, given as it stands.
 fn is_five(bytes: &[u8], order: Order) -> bool
     requires { length bytes.now < 2 ^ 63 }
 {
-    match take_any_unit(&mut Cursor::new(bytes, 0, order)) {
-        Ok(AnyUnit::Five(five)) => five == bytes,
-        _ => false,
-    }
+    matches!(take_any_unit(&mut Cursor::new(bytes, 0, order)), Ok(AnyUnit::Five(five)) if five == bytes)
 }
 
 #[test]
@@ -93,20 +86,8 @@ fn first_faults_of_units(rt: HostRuntime) {
     assert!(rt; is_refused(b"\0\0\0\x01\0", big, 4, Reason::Truncated));
     assert!(rt; is_refused(b"\0\0\0\x02\0\x06", big, 4, Reason::VersionNotFive(6)));
     assert!(rt; is_refused(b"\0\0\0\x04\0\x02\0\0", big, 6, Reason::Truncated));
-    assert!(rt;
-        is_refused(
-            b"\0\0\0\x07\0\x02\0\0\0\x02\x01",
-            big,
-            6,
-            Reason::HeaderLength
-        )
-    );
-    assert!(rt;
-        is_refused(
-            b"\0\0\0\x08\0\x02\0\0\0\x02\x01\x01",
-            big,
-            12,
-            Reason::Truncated
-        )
-    );
+    let cut = b"\0\0\0\x07\0\x02\0\0\0\x02\x01";
+    assert!(rt; is_refused(cut, big, 6, Reason::HeaderLength));
+    let ends = b"\0\0\0\x08\0\x02\0\0\0\x02\x01\x01";
+    assert!(rt; is_refused(ends, big, 12, Reason::Truncated));
 }

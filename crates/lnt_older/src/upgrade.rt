@@ -82,16 +82,11 @@ fn add_numbers(out: &mut Vec<u8>, header: &OlderHeader<'_>) -> Result<(), AllocE
     ensures { OnOk result (out.new.items
         ≡ (out.old.items ++ number_fields Four header.now.numbers) ++ header.now.standard_lengths.now) }
 {
-    let numbers = header.numbers;
-    let fields = [
-        numbers.minimum_instruction_length,
-        numbers.max_ops,
-        numbers.default_is_stmt,
-        numbers.line_base.cast_unsigned(),
-        numbers.line_range,
-        numbers.opcode_base,
-    ];
-    add_both(out, &fields, header.standard_lengths)
+    add_both(
+        out,
+        &header.numbers.single_fields(),
+        header.standard_lengths,
+    )
 }
 
 // Adds the table of the directories: the format `path:string`, how many there are, directory 0, and those listed.

@@ -1,7 +1,6 @@
 //! The versions before 5.
 ghost use Rattle.std.specs.Prelude.{◌≡◌, ◌≢◌, MatchOption};
-ghost use Rattle.lnt_older.specs.declared.version.OlderVersion.{OlderVersion};
-ghost use Rattle.lnt_older.specs.Versions.{version_number};
+ghost use Rattle.lnt_older.specs.OlderBytes.{version_number, OlderVersion};
 
 /// The version of an older unit.
 #[derive(Clone, Copy, Debug, PartialEq, Eq)]

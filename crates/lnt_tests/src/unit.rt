@@ -4,4 +4,4 @@ mod sections;
 mod sources;
 mod units;
 mod values;
-mod worked;
+pub(crate) mod worked;

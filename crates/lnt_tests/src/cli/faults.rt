@@ -76,14 +76,8 @@ fn failing_writes(rt: HostRuntime) {
     assert!(rt; stops_writing(alloc, "linetab units F", units, 9));
     assert!(rt; stops_writing(alloc, "linetab dump --ops --rows F", DUMP, 30));
     assert!(rt; stops_writing(alloc, "linetab dump --ops --rows F", DUMP, 200));
-    assert!(rt;
-        stops_writing(
-            alloc,
-            "linetab convert F --format 32 --order little",
-            &PLAIN,
-            70
-        )
-    );
+    let convert = "linetab convert F --format 32 --order little";
+    assert!(rt; stops_writing(alloc, convert, &PLAIN, 70));
     assert!(rt; stops_writing(alloc, "linetab lookup F 0xfff", b"0xfff,0 none\n", 5));
     assert!(rt; stops_writing(alloc, "linetab table F", TABLE, 54));
     assert!(rt; stops_writing(alloc, "linetab check F T", b"yes\n", 3));
@@ -91,10 +85,8 @@ fn failing_writes(rt: HostRuntime) {
 
 // Whether the stop's text is this one.
 fn says(alloc: Global, stop: &CliStop, text: &str) -> bool {
-    match stop.to_string(alloc) {
-        Ok(told) => told.as_str() == text,
-        Err(_) => false,
-    }
+    stop.to_string(alloc)
+        .is_ok_and(|told| told.as_str() == text)
 }
 
 #[test]

@@ -3,7 +3,6 @@ use crate::samples::{Narrow, Reader, TABLE, failing, whole};
 use lnt_cli::{CliStop, Opener, Status, run};
 use lnt_io::OpenedFile;
 use std::alloc::{AllocError, Global};
-use std::io;
 
 // Files by their names: a section F, its table T, lines of addresses A, and a source file, which holds `abc`. One of them
 // fails after this many bytes.

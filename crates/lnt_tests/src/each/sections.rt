@@ -34,10 +34,8 @@ fn lines_in(alloc: Global, section: &[u8], order: Order) -> Option<Lines> {
 // The table of these lines.
 fn table_of(alloc: Global, lines: &Lines, version: Version) -> Option<Vec<u8>> {
     let mut out = Vec::new(alloc);
-    match write_table(alloc, lines, version, &mut out) {
-        Ok(()) => Some(out),
-        Err(_) => None,
-    }
+    write_table(alloc, lines, version, &mut out).ok()?;
+    Some(out)
 }
 
 // Whether the section answers as this table does.
@@ -53,10 +51,7 @@ fn answers_itself(alloc: Global, section: &[u8], order: Order, version: Version)
     let Some(lines) = lines_in(alloc, section, order) else {
         return false;
     };
-    match table_of(alloc, &lines, version) {
-        Some(table) => is_answered(alloc, section, order, &table),
-        None => false,
-    }
+    table_of(alloc, &lines, version).is_some_and(|table| is_answered(alloc, section, order, &table))
 }
 
 // Whether the path of the first file of the first unit is made.
@@ -113,12 +108,9 @@ fn units_apart(alloc: Global, count: u64) -> Result<Vec<u8>, AllocError> {
 
 // Whether a section of this many units is longer than a mebibyte, and answers as its own table does.
 fn is_large_and_answers(alloc: Global, count: u64) -> bool {
-    match units_apart(alloc, count) {
-        Ok(section) => {
-            section.len() > 1 << 20 && answers_itself(alloc, &section, Order::Little, Version::One)
-        }
-        Err(_) => false,
-    }
+    units_apart(alloc, count).is_ok_and(|section| {
+        section.len() > 1 << 20 && answers_itself(alloc, &section, Order::Little, Version::One)
+    })
 }
 
 #[test]

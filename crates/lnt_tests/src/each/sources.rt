@@ -18,10 +18,7 @@ fn is_read(alloc: Global, count: usize) -> bool {
         return false;
     };
     let mut source = Counted::new(Pieces::new(alloc, &bytes, 4096, u64::MAX), 1 << 24);
-    match read_all(alloc, &mut source) {
-        Ok(read) => read.as_slice() == bytes.as_slice(),
-        Err(_) => false,
-    }
+    read_all(alloc, &mut source).is_ok_and(|read| read.as_slice() == bytes.as_slice())
 }
 
 #[test]

@@ -1,7 +1,8 @@
 //! Each unit as it is, and in both formats and both orders.
 use crate::samples::{WORKED, Worked};
+use crate::unit::worked::{is_written, unit_of};
 use lnt_machine::{Sequence, matrix};
-use lnt_unit::{Unit, decode_header, decode_section, decode_unit, encode_header, encode_unit};
+use lnt_unit::{decode_header, decode_section, encode_header, encode_unit};
 use lnt_wire::{Cursor, Format, Order, take_frame};
 use std::alloc::Global;
 
@@ -13,31 +14,14 @@ pub(crate) const LAYOUTS: [(Format, Order); 4] = [
     (Format::D64, Order::Big),
 ];
 
-// The unit that begins the bytes.
-fn unit_in(alloc: Global, bytes: &[u8], order: Order) -> Option<Unit> {
-    let mut cursor = Cursor::new(bytes, 0, order);
-    decode_unit(alloc, &mut cursor, order).ok()
-}
-
 /// The bytes of the unit in another layout.
 pub(crate) fn written_in(
     alloc: Global,
     worked: Worked,
     layout: (Format, Order),
 ) -> Option<Vec<u8>> {
-    let unit = unit_in(alloc, worked.bytes, worked.order)?;
+    let unit = unit_of(alloc, worked.bytes, worked.order)?;
     encode_unit(alloc, &unit.with_format(layout.0, layout.1)).ok()
-}
-
-// Whether the unit that begins the bytes is written as these bytes.
-fn is_written(alloc: Global, bytes: &[u8], order: Order) -> bool {
-    let Some(unit) = unit_in(alloc, bytes, order) else {
-        return false;
-    };
-    match encode_unit(alloc, &unit) {
-        Ok(written) => written.as_slice() == bytes,
-        Err(_) => false,
-    }
 }
 
 // Whether the header and the program that begin the bytes are written as these bytes.
@@ -49,10 +33,7 @@ fn is_header_written(alloc: Global, bytes: &[u8], order: Order) -> bool {
     let Ok((header, program)) = decode_header(alloc, &frame, order) else {
         return false;
     };
-    match encode_header(alloc, &header, program) {
-        Ok(written) => written.as_slice() == bytes,
-        Err(_) => false,
-    }
+    encode_header(alloc, &header, program).is_ok_and(|written| written.as_slice() == bytes)
 }
 
 // How many sequences there are, and how many rows in all of them.
@@ -66,7 +47,7 @@ fn count_of(sequences: &[Sequence]) -> (usize, usize) {
 
 // Whether the unit that begins the bytes has this many sequences and rows, or doesn't run.
 fn has_rows(alloc: Global, bytes: &[u8], order: Order, rows: Option<(usize, usize)>) -> bool {
-    let Some(unit) = unit_in(alloc, bytes, order) else {
+    let Some(unit) = unit_of(alloc, bytes, order) else {
         return false;
     };
     match matrix(alloc, &unit) {
@@ -77,24 +58,19 @@ fn has_rows(alloc: Global, bytes: &[u8], order: Order, rows: Option<(usize, usiz
 
 // Whether the bytes are a section of one unit.
 fn is_section(alloc: Global, bytes: &[u8], order: Order) -> bool {
-    match decode_section(alloc, bytes, order) {
-        Ok(units) => units.len() == 1,
-        Err(_) => false,
-    }
+    decode_section(alloc, bytes, order).is_ok_and(|units| units.len() == 1)
 }
 
 // Whether each call answers for the unit in this layout.
 fn is_same_in(alloc: Global, worked: Worked, layout: (Format, Order)) -> bool {
     let order = layout.1;
-    match written_in(alloc, worked, layout) {
-        Some(bytes) => {
-            is_written(alloc, &bytes, order)
-                && is_header_written(alloc, &bytes, order)
-                && has_rows(alloc, &bytes, order, worked.rows)
-                && is_section(alloc, &bytes, order)
-        }
-        None => false,
-    }
+    let Some(bytes) = written_in(alloc, worked, layout) else {
+        return false;
+    };
+    is_written(alloc, &bytes, order)
+        && is_header_written(alloc, &bytes, order)
+        && has_rows(alloc, &bytes, order, worked.rows)
+        && is_section(alloc, &bytes, order)
 }
 
 // Whether this holds in each layout.

@@ -11,10 +11,8 @@ fn two(alloc: Global) -> Result<Items<u8>, AllocError> {
 // Whether the bytes are read as the value.
 fn is_read(alloc: Global, bytes: &[u8], value: &FormValue, layout: (Format, Order)) -> bool {
     let mut cursor = Cursor::new(bytes, 0, layout.1);
-    match cursor.form(alloc, value.form(), layout.0) {
-        Ok(read) => read == *value && cursor.rest().is_empty(),
-        Err(_) => false,
-    }
+    let read = cursor.form(alloc, value.form(), layout.0);
+    read.is_ok_and(|read| read == *value) && cursor.rest().is_empty()
 }
 
 // Whether the value is written, and read again as the same.
@@ -33,10 +31,7 @@ fn is_kept(alloc: Global, value: &FormValue) -> bool {
 
 // Whether a value of two bytes, made like this, is kept.
 fn is_kept_of(alloc: Global, value: Result<FormValue, AllocError>) -> bool {
-    match value {
-        Ok(value) => is_kept(alloc, &value),
-        Err(_) => false,
-    }
+    value.is_ok_and(|value| is_kept(alloc, &value))
 }
 
 #[test]

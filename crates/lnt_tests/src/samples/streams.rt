@@ -77,27 +77,6 @@ impl Read for Pieces<'_> {
     }
 }
 
-/// Takes ten bytes at a time. After some writes it fails each further one.
-#[derive(Drop)]
-pub(crate) struct Refusing {
-    /// The number of writes that succeed before the first that fails.
-    pub(crate) writes_until_fault: u64,
-}
-
-impl Write for Refusing {
-    fn write(&mut self, buf: &[u8]) -> io::Result<usize> {
-        if self.writes_until_fault == 0 {
-            return Err(io::Error::from(io::ErrorKind::BrokenPipe));
-        }
-        self.writes_until_fault -= 1;
-        Ok(buf.len().min(10))
-    }
-
-    fn flush(&mut self) -> io::Result<()> {
-        Ok(())
-    }
-}
-
 /// Takes one byte at a time, and this many in all.
 #[derive(Drop)]
 pub(crate) struct Narrow {

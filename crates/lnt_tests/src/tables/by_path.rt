@@ -5,7 +5,7 @@ use lnt_compare::TableRead;
 use lnt_io::Counted;
 use lnt_lines::{JudgedIndex, index_section};
 use lnt_records::TableFault;
-use lnt_table::{Checked, Compared, DifferenceByPath, OfKind, Verdict, check_any, differences_any};
+use lnt_table::{Compared, DifferenceByPath, OfKind, Verdict, check_any, differences_any};
 use std::alloc::Global;
 
 const COLUMNS: &[u8] = b"low,high,path,line,column
@@ -53,10 +53,7 @@ fn is_same(alloc: Global, table: &[u8]) -> bool {
 }
 
 fn has_fault(alloc: Global, table: &[u8], fault: TableFault) -> bool {
-    match compared(alloc, table) {
-        Some(Compared::Fault(found)) => found == fault,
-        _ => false,
-    }
+    matches!(compared(alloc, table), Some(Compared::Fault(found)) if found == fault)
 }
 
 // Whether this is the least address at which they differ, and both answer there.

@@ -1,9 +1,9 @@
 //! Sections judged.
 use crate::samples::{LISTED, OF_NOTHING, PLAIN, Reader, failing, whole};
-use crate::tables::worked::{at, narrow, wide};
+use crate::tables::worked::{at, narrow, plain_spans, wide};
 use lnt_io::{Counted, Stop};
 use lnt_lines::{Judged, Lines, No, Options, verify};
-use lnt_spans::{Answer, Probes, Span, Version};
+use lnt_spans::{Probes, Version};
 use lnt_wire::{Order, Strings};
 use std::alloc::Global;
 
@@ -40,49 +40,34 @@ fn are_answered(lines: &Lines) -> bool {
     last == Some(wide(4, 0)) && lines.lookup(at(0x1006), &mut probes).is_none()
 }
 
-fn span(low: u64, high: u64, answer: Answer) -> Span {
-    Span {
-        low: at(low),
-        high: at(high),
-        answer,
-    }
-}
-
 // Whether the lines, which are those of `PLAIN`, have its spans.
 fn has_spans(lines: &Lines) -> bool {
-    let first = span(0x1000, 0x1004, wide(3, 0));
-    lines.spans() == [first, span(0x1004, 0x1006, wide(4, 0))].as_slice()
+    lines.spans() == plain_spans(wide(3, 0), wide(4, 0)).as_slice()
 }
 
 // Whether the lines, which are those of `PLAIN`, have its spans as version 1 of a table contains them.
 fn has_narrow_spans(alloc: Global, lines: &Lines) -> bool {
-    let first = span(0x1000, 0x1004, narrow(3));
-    let spans = [first, span(0x1004, 0x1006, narrow(4))];
-    match lines.canonical(alloc, Version::One) {
-        Ok(joined) => joined.as_slice() == spans.as_slice(),
-        Err(_) => false,
-    }
+    let spans = plain_spans(narrow(3), narrow(4));
+    lines
+        .canonical(alloc, Version::One)
+        .is_ok_and(|joined| joined.as_slice() == spans.as_slice())
 }
 
 #[test]
 fn answers(rt: HostRuntime) {
     let alloc = rt.alloc();
-    let lines = lines_of(alloc, &PLAIN);
-    assert!(rt; lines.as_ref().is_some_and(|lines| are_answered(lines)));
-    assert!(rt; lines.as_ref().is_some_and(|lines| has_spans(lines)));
-    assert!(rt;
-        lines
-            .as_ref()
-            .is_some_and(|lines| has_narrow_spans(alloc, lines))
-    );
+    let found = lines_of(alloc, &PLAIN);
+    let lines = found.as_ref();
+    assert!(rt; lines.is_some_and(|lines| are_answered(lines)));
+    assert!(rt; lines.is_some_and(|lines| has_spans(lines)));
+    assert!(rt; lines.is_some_and(|lines| has_narrow_spans(alloc, lines)));
 }
 
 // Whether this is the path of the file of the unit at 0.
 fn has_path(alloc: Global, lines: &Lines, file: u64, path: Option<&[u8]>) -> bool {
-    match lines.path_of(alloc, 0, file) {
-        Ok(found) => found.as_deref() == path,
-        Err(_) => false,
-    }
+    lines
+        .path_of(alloc, 0, file)
+        .is_ok_and(|found| found.as_deref() == path)
 }
 
 // Whether there is one unit with one file, which lists the sum of no bytes.
@@ -96,18 +81,11 @@ fn has_one_file(lines: &Lines) -> bool {
 #[test]
 fn files_of_units(rt: HostRuntime) {
     let alloc = rt.alloc();
-    let lines = lines_of(alloc, &LISTED);
-    assert!(rt; lines.as_ref().is_some_and(|lines| has_one_file(lines)));
-    assert!(rt;
-        lines
-            .as_ref()
-            .is_some_and(|lines| has_path(alloc, lines, 0, Some(b"/s/a.c")))
-    );
-    assert!(rt;
-        lines
-            .as_ref()
-            .is_some_and(|lines| has_path(alloc, lines, 1, None))
-    );
+    let found = lines_of(alloc, &LISTED);
+    let lines = found.as_ref();
+    assert!(rt; lines.is_some_and(|lines| has_one_file(lines)));
+    assert!(rt; lines.is_some_and(|lines| has_path(alloc, lines, 0, Some(b"/s/a.c"))));
+    assert!(rt; lines.is_some_and(|lines| has_path(alloc, lines, 1, None)));
 }
 
 // Whether the section isn't judged, for this reason.
@@ -125,10 +103,7 @@ fn sources_at_fault(rt: HostRuntime) {
 
 // Whether this is wrong with a section whose source fails after it.
 fn is_bad_before_a_fault(alloc: Global, section: &[u8], no: No) -> bool {
-    match judged(alloc, failing(section), 1000) {
-        Ok(Judged::Bad(told)) => told == no,
-        _ => false,
-    }
+    matches!(judged(alloc, failing(section), 1000), Ok(Judged::Bad(told)) if told == no)
 }
 
 // What is wrong with a unit is reported before later bytes are asked for.

@@ -1,44 +1,19 @@
 //! Tables compared and written.
-ghost use Rattle.std.specs.Prelude.{◌≡◌, ◌∷◌, []};
 ghost use Rattle.std.specs.List.{All};
 ghost use Rattle.lnt_spans.specs.declared.answer.Version.TheVariants as version;
 ghost use Rattle.lnt_spans.specs.Spans.{AreInOrder};
 ghost use Rattle.lnt_records.specs.Written.{IsOfVersion};
 
-use crate::samples::{Refusing, TABLE};
-use crate::tables::worked::{at, narrow, wide};
+use crate::samples::{Narrow, TABLE};
+use crate::tables::worked::{narrow, plain_spans, wide};
 use lnt_compare::{Compared, compare};
 use lnt_records::{WriteStop, write_spans};
-use lnt_spans::{Answer, Span, Version};
+use lnt_spans::{Span, Version};
 use std::alloc::Global;
-
-// The spans of a unit with two rows, with these answers.
-fn plain(first: Answer, second: Answer) -> [Span; 2]
-    ensures order { AreInOrder result }
-    ensures spans { result ≡ record {
-      low = record { address = 0x1000; op = 0 };
-      high = record { address = 0x1004; op = 0 };
-      answer = first;
-    }
-        ∷ record { low = record { address = 0x1004; op = 0 }; high = record { address = 0x1006; op = 0 }; answer = second } ∷ [] }
-{
-    [
-        Span {
-            low: at(0x1000),
-            high: at(0x1004),
-            answer: first,
-        },
-        Span {
-            low: at(0x1004),
-            high: at(0x1006),
-            answer: second,
-        },
-    ]
-}
 
 // Whether the table answers as the spans do.
 fn agrees(alloc: Global, table: &[u8]) -> bool {
-    let spans = plain(wide(3, 7), wide(4, 0));
+    let spans = plain_spans(wide(3, 7), wide(4, 0));
     compare(alloc, table, &spans) == Ok(Compared::Same)
 }
 
@@ -59,7 +34,7 @@ fn narrow_plain() -> [Span; 2]
     ensures order { AreInOrder result }
     ensures version { All (λ span. IsOfVersion version.One span.answer) result }
 {
-    plain(narrow(3), narrow(4))
+    plain_spans(narrow(3), narrow(4))
 }
 
 #[test]
@@ -70,15 +45,15 @@ fn tables_written(rt: HostRuntime) {
     assert!(rt; out.as_slice() == TABLE);
 }
 
-// Whether a writer that fails a certain write stops the table.
-fn is_refused(alloc: Global, writes_until_fault: u64) -> bool {
-    let mut out = Refusing { writes_until_fault };
+// Whether a writer with room for this many bytes stops the table.
+fn is_refused(alloc: Global, room: usize) -> bool {
+    let mut out = Narrow::new(alloc, room);
     write_spans(alloc, &narrow_plain(), Version::One, &mut out) == Err(WriteStop::Write)
 }
 
 #[test]
 fn writers_at_fault(rt: HostRuntime) {
     assert!(rt; is_refused(rt.alloc(), 0));
-    assert!(rt; is_refused(rt.alloc(), 10));
-    assert!(rt; !is_refused(rt.alloc(), 11));
+    assert!(rt; is_refused(rt.alloc(), TABLE.len() - 1));
+    assert!(rt; !is_refused(rt.alloc(), TABLE.len()));
 }

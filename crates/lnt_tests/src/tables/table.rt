@@ -1,5 +1,5 @@
 //! Sections checked against tables, and their tables written.
-use crate::samples::{PLAIN, Reader, Refusing, TABLE, failing, whole};
+use crate::samples::{Narrow, PLAIN, Reader, TABLE, failing, whole};
 use crate::tables::lines::{OPTIONS, STRINGS, lines_of};
 use crate::tables::worked::{at, narrow};
 use lnt_compare::TableRead;
@@ -88,28 +88,23 @@ fn tables_compared_at_every_position(rt: HostRuntime) {
 // Whether the table of `PLAIN` is written.
 fn is_written(alloc: Global) -> bool {
     let mut out = Vec::new(alloc);
-    match lines_of(alloc, &PLAIN) {
-        Some(lines) => {
-            write_table(alloc, &lines, Version::One, &mut out).is_ok() && out.as_slice() == TABLE
-        }
-        None => false,
-    }
+    let Some(lines) = lines_of(alloc, &PLAIN) else {
+        return false;
+    };
+    write_table(alloc, &lines, Version::One, &mut out).is_ok() && out.as_slice() == TABLE
 }
 
-// Whether a writer that fails a certain write stops the table of `PLAIN`.
-fn is_refused(alloc: Global, writes_until_fault: u64) -> bool {
-    let mut out = Refusing { writes_until_fault };
-    match lines_of(alloc, &PLAIN) {
-        Some(lines) => {
-            write_table(alloc, &lines, Version::One, &mut out) == Err(WriteStop::Write)
-        }
-        None => false,
-    }
+// Whether a writer with room for this many bytes stops the table of `PLAIN`.
+fn is_refused(alloc: Global, room: usize) -> bool {
+    let mut out = Narrow::new(alloc, room);
+    lines_of(alloc, &PLAIN).is_some_and(|lines| {
+        write_table(alloc, &lines, Version::One, &mut out) == Err(WriteStop::Write)
+    })
 }
 
 #[test]
 fn tables_written(rt: HostRuntime) {
     assert!(rt; is_written(rt.alloc()));
     assert!(rt; is_refused(rt.alloc(), 0));
-    assert!(rt; is_refused(rt.alloc(), 3));
+    assert!(rt; is_refused(rt.alloc(), 30));
 }

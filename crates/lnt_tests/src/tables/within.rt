@@ -2,7 +2,11 @@
 use crate::samples::{PLAIN, TABLE, whole};
 use crate::tables::lines::{OPTIONS, STRINGS};
 use lnt_io::Counted;
-use lnt_table::{CheckedWithin, Compared, Coverage, OfKind, Scope, TableNo, Verdict, check_within};
+use lnt_table::CheckedWithin::{Checked, Covered};
+use lnt_table::OfKind::{ByPath, Numbered};
+use lnt_table::TableNo::Differs;
+use lnt_table::Verdict::{No, Yes};
+use lnt_table::{CheckedWithin, Compared, Coverage, Scope, check_within};
 use std::alloc::Global;
 
 const NUMBERED: &[u8] = b"low,low_op,high,high_op,unit,file,line,column,is_stmt
@@ -39,20 +43,18 @@ fn checked(alloc: Global, table: &[u8], scope: Scope) -> Option<CheckedWithin> {
 
 // Whether the table is right wherever it answers, which is at so many of the section's six addresses.
 fn covers(alloc: Global, table: &[u8], answered: u128) -> bool {
-    match checked(alloc, table, Scope::Answered) {
-        Some(CheckedWithin::Covered(coverage)) => coverage == Coverage { answered, all: 6 },
-        _ => false,
-    }
+    let whole = Coverage { answered, all: 6 };
+    matches!(checked(alloc, table, Scope::Answered), Some(Covered(coverage)) if coverage == whole)
 }
 
 // Whether this is the address of the table's first mistake, by number or by path.
 fn is_mistaken_at(alloc: Global, table: &[u8], address: u64) -> bool {
     match checked(alloc, table, Scope::Answered) {
         Some(
-            CheckedWithin::Checked(
-                OfKind::Numbered(
-                    Verdict::No(
-                        TableNo::Differs {
+            Checked(
+                Numbered(
+                    No(
+                        Differs {
                             position,
                             by_table,
                             ..
@@ -60,8 +62,8 @@ fn is_mistaken_at(alloc: Global, table: &[u8], address: u64) -> bool {
                     ),
                 ),
             ),
-        ) => position.address == address && by_table.is_some(),
-        Some(CheckedWithin::Checked(OfKind::ByPath(Compared::Differs(mistake)))) => {
+        ) => { position.address == address && by_table.is_some() }
+        Some(Checked(ByPath(Compared::Differs(mistake)))) => {
             mistake.position.address == address && mistake.by_table.is_some()
         }
         _ => false,
@@ -88,28 +90,12 @@ fn tables_wrong_where_they_answer(rt: HostRuntime) {
 #[test]
 fn tables_checked_at_all_positions(rt: HostRuntime) {
     let alloc = rt.alloc();
-    assert!(rt;
-        matches!(
-            checked(alloc, TABLE, Scope::All),
-            Some(CheckedWithin::Checked(OfKind::Numbered(Verdict::Yes)))
-        )
-    );
-    assert!(rt;
-        matches!(
-            checked(alloc, LATE, Scope::All),
-            Some(CheckedWithin::Checked(OfKind::Numbered(Verdict::No(TableNo::Differs { .. }))))
-        )
-    );
-    assert!(rt;
-        matches!(
-            checked(alloc, PATHS, Scope::All),
-            Some(CheckedWithin::Checked(OfKind::ByPath(Compared::Differs(_))))
-        )
-    );
-    assert!(rt;
-        matches!(
-            checked(alloc, b"low\n", Scope::Answered),
-            Some(CheckedWithin::Checked(OfKind::ByPath(Compared::Fault(_))))
-        )
-    );
+    let same = checked(alloc, TABLE, Scope::All);
+    assert!(rt; matches!(same, Some(Checked(Numbered(Yes)))));
+    let late = checked(alloc, LATE, Scope::All);
+    assert!(rt; matches!(late, Some(Checked(Numbered(No(Differs { .. }))))));
+    let paths = checked(alloc, PATHS, Scope::All);
+    assert!(rt; matches!(paths, Some(Checked(ByPath(Compared::Differs(_))))));
+    let no_table = checked(alloc, b"low\n", Scope::Answered);
+    assert!(rt; matches!(no_table, Some(Checked(ByPath(Compared::Fault(_))))));
 }

@@ -2,6 +2,7 @@ use crate::samples::{BELOW_ZERO, OPEN, PLAIN};
 use crate::unit::worked::unit_of;
 use lnt_machine::{Row, RunFault, Sequence, matrix};
 use lnt_unit::Unit;
+use lnt_wire::Order;
 use std::alloc::Global;
 
 fn is_row(row: &Row, address: u64, line: u64, end_sequence: bool) -> bool {
@@ -25,22 +26,16 @@ fn are_plain(sequences: &[Sequence]) -> bool {
 
 // Whether the unit's rows are those of `PLAIN`.
 fn has_plain_matrix(alloc: Global, unit: &Unit) -> bool {
-    match matrix(alloc, unit) {
-        Ok(sequences) => are_plain(&sequences),
-        Err(_) => false,
-    }
+    matrix(alloc, unit).is_ok_and(|sequences| are_plain(&sequences))
 }
 
 fn is_run(alloc: Global, bytes: &[u8]) -> bool {
-    match unit_of(alloc, bytes) {
-        Some(unit) => has_plain_matrix(alloc, &unit),
-        None => false,
-    }
+    unit_of(alloc, bytes, Order::Little).is_some_and(|unit| has_plain_matrix(alloc, &unit))
 }
 
 // Why the unit's program doesn't run.
 fn fault_of(alloc: Global, bytes: &[u8]) -> Option<RunFault> {
-    let unit = unit_of(alloc, bytes)?;
+    let unit = unit_of(alloc, bytes, Order::Little)?;
     matrix(alloc, &unit).err()
 }
 

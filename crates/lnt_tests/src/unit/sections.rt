@@ -1,7 +1,7 @@
 use crate::samples::{ENDLESS, PLAIN, Pieces, SHORT, WIDE};
 use crate::unit::worked::joined;
 use lnt_io::{Counted, Source};
-use lnt_unit::{SectionReader, SectionStop, UnitBuffer};
+use lnt_unit::{SectionReader, SectionStop};
 use lnt_wire::{Fault, Order, Reason, frames};
 use std::alloc::{AllocError, Global};
 use std::test::Fail;
@@ -16,10 +16,8 @@ fn has_frames(
     count: usize,
     fault: Option<Fault>,
 ) -> bool {
-    match frames(alloc, bytes, order) {
-        Ok(framed) => framed.frames.len() == count && framed.fault == fault,
-        Err(_) => false,
-    }
+    frames(alloc, bytes, order).is_ok_and(|framed| framed.frames.len() == count
+        && framed.fault == fault)
 }
 
 #[test]
@@ -36,29 +34,19 @@ fn frames_up_to_a_fault(rt: HostRuntime) {
     assert!(rt; has_frames(alloc, &WIDE, Order::Big, 1, None));
 }
 
-// Whether these are the bytes of a unit at the offset.
-fn is_unit(got: &Option<UnitBuffer>, offset: u64, bytes: &[u8]) -> bool {
-    match got {
-        Some(unit) => unit.offset() == offset && unit.bytes() == bytes,
-        None => false,
-    }
-}
+// A section that comes in pieces.
+type Section<'s, 'b> = SectionReader<'s, Counted<Pieces<'b>>>;
 
 // Whether the next unit of the section has these bytes, and is at the offset.
-fn gives(
-    alloc: Global,
-    reader: &mut SectionReader<'_, Counted<Pieces<'_>>>,
-    offset: u64,
-    bytes: &[u8],
-) -> bool {
+fn gives(alloc: Global, reader: &mut Section<'_, '_>, offset: u64, bytes: &[u8]) -> bool {
     match reader.next_unit(alloc) {
-        Ok(unit) => is_unit(&unit, offset, bytes),
-        Err(_) => false,
+        Ok(Some(unit)) => unit.offset() == offset && unit.bytes() == bytes,
+        _ => false,
     }
 }
 
 // Whether the section ends here.
-fn ends(alloc: Global, reader: &mut SectionReader<'_, Counted<Pieces<'_>>>) -> bool {
+fn ends(alloc: Global, reader: &mut Section<'_, '_>) -> bool {
     matches!(reader.next_unit(alloc), Ok(None))
 }
 
@@ -93,11 +81,7 @@ fn stop_of(alloc: Global, bytes: &[u8], sound: u64, limit: u64) -> Option<Sectio
     let last = reader.next_unit(alloc).err();
     let failed = Some(SectionStop::Failed);
     let counted = source.failures() == u64::from(stop == Some(SectionStop::Read));
-    if next == failed && last == failed && counted {
-        stop
-    } else {
-        None
-    }
+    stop.filter(|_| next == failed && last == failed && counted)
 }
 
 #[test]
@@ -171,21 +155,14 @@ fn long_unit(alloc: Global) -> Result<Vec<u8>, AllocError> {
 
 // Reads the next unit into this memory, and returns the memory, if the unit has the expected bytes and the memory hasn't
 // grown.
-fn read_into(
-    reader: &mut SectionReader<'_, Counted<Pieces<'_>>>,
-    room: Vec<u8>,
-    want: &[u8],
-) -> Option<Vec<u8>> {
+fn read_into(reader: &mut Section<'_, '_>, room: Vec<u8>, want: &[u8]) -> Option<Vec<u8>> {
     let capacity = room.capacity();
     let Ok(Some(unit)) = reader.next_unit_in(room) else {
         return None;
     };
     let bytes = unit.into_bytes();
-    if bytes.as_slice() == want && bytes.capacity() == capacity {
-        Some(bytes)
-    } else {
-        None
-    }
+    let is_same = bytes.as_slice() == want && bytes.capacity() == capacity;
+    is_same.then_some(bytes)
 }
 
 // Whether two units are read into the same memory.

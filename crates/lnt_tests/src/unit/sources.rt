@@ -9,10 +9,8 @@ const BYTES: [u8; 70] = [7; 70];
 fn come_whole(alloc: Global, piece: usize, limit: u64, left: u64) -> bool {
     let reader = Pieces::new(alloc, &BYTES, piece, u64::MAX);
     let mut source = Counted::new(reader, limit);
-    match read_all(alloc, &mut source) {
-        Ok(all) => all.as_slice() == BYTES.as_slice() && source.left() == left,
-        Err(_) => false,
-    }
+    read_all(alloc, &mut source).is_ok_and(|all| all.as_slice() == BYTES.as_slice())
+        && source.left() == left
 }
 
 #[test]

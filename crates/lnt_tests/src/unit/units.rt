@@ -1,9 +1,7 @@
 use crate::samples::{PLAIN, Pieces, WIDE};
-use crate::unit::worked::{joined, unit_of};
+use crate::unit::worked::{is_written, joined};
 use lnt_io::Counted;
-use lnt_unit::{
-    SectionReader, Unit, UnitBuffer, UnitView, convert_section, decode_section, encode_unit,
-};
+use lnt_unit::{SectionReader, Unit, UnitBuffer, UnitView, convert_section, decode_section};
 use lnt_wire::{Format, Order};
 use std::alloc::Global;
 
@@ -22,34 +20,14 @@ fn are_units(alloc: Global, bytes: &[u8]) -> bool {
     let Some(twice) = joined(alloc, bytes, bytes) else {
         return false;
     };
-    match decode_section(alloc, &twice, Order::Little) {
-        Ok(units) => are_two(&units),
-        Err(_) => false,
-    }
-}
-
-// Whether the unit is written as these bytes.
-fn is_encoded(alloc: Global, unit: &Unit, bytes: &[u8]) -> bool {
-    match encode_unit(alloc, unit) {
-        Ok(written) => written.as_slice() == bytes,
-        Err(_) => false,
-    }
-}
-
-// Whether the unit that is read from these bytes is written as the same bytes.
-fn is_kept(alloc: Global, bytes: &[u8]) -> bool {
-    match unit_of(alloc, bytes) {
-        Some(unit) => is_encoded(alloc, &unit, bytes),
-        None => false,
-    }
+    decode_section(alloc, &twice, Order::Little).is_ok_and(|units| are_two(&units))
 }
 
 // Whether the big-endian section is converted to these bytes.
 fn is_converted(alloc: Global, bytes: &[u8], want: &[u8]) -> bool {
-    match convert_section(alloc, bytes, Order::Big, Format::D32, Order::Little) {
-        Ok(converted) => converted.as_slice() == want,
-        Err(_) => false,
-    }
+    convert_section(alloc, bytes, Order::Big, Format::D32, Order::Little).is_ok_and(
+        |converted| converted.as_slice() == want,
+    )
 }
 
 // The number of operations of the unit in the buffer, if it is one.
@@ -61,17 +39,14 @@ fn count_of(alloc: Global, unit: &UnitBuffer) -> Option<u64> {
 fn is_viewed(alloc: Global, bytes: &[u8]) -> bool {
     let mut source = Counted::new(Pieces::new(alloc, bytes, 100, u64::MAX), 71);
     let mut reader = SectionReader::new(&mut source, Order::Little);
-    match reader.next_unit(alloc) {
-        Ok(Some(unit)) => count_of(alloc, &unit) == Some(5),
-        _ => false,
-    }
+    matches!(reader.next_unit(alloc), Ok(Some(unit)) if count_of(alloc, &unit) == Some(5))
 }
 
 #[test]
 fn units_and_sections(rt: HostRuntime) {
     let alloc = rt.alloc();
     assert!(rt; are_units(alloc, &PLAIN));
-    assert!(rt; is_kept(alloc, &PLAIN));
+    assert!(rt; is_written(alloc, &PLAIN, Order::Little));
     assert!(rt; is_converted(alloc, &WIDE, &PLAIN));
     assert!(rt; is_viewed(alloc, &PLAIN));
 }

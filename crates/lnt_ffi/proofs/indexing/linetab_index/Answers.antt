@@ -1,5 +1,4 @@
-use Rattle.std.proofs.Common.{◌∙◌, ◌+◌, ◌-◌, ◌^◌, ℕ, ap, arith, min}
-use Rattle.std.proofs.lemmas.List.{get_or-set_other, length-set}
+use Rattle.std.proofs.Common.{◌∙◌, ◌+◌, ◌-◌, ◌^◌, ℕ, ap, arith, min, get_or-set_other, length-set}
 use Rattle.lnt_ffi.proofs.IndexLemmas.{more_below, one_entry}
 use Rattle.lnt_ffi.proofs.indexing.linetab_index.Goals as goal
 

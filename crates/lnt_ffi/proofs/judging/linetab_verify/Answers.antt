@@ -3,22 +3,22 @@ use Rattle.lnt_lines.proofs.SpanCountLaws.{permuted_within_section}
 use Rattle.lnt_ffi.specs.Told.{IsToldOfSpans}
 use Rattle.lnt_ffi.proofs.judging.linetab_verify.Goals as goal
 
-pub returns-in-Err-clause-told : goal.returns-in-Err-clause-told
-returns-in-Err-clause-told c = IsToldOfSpans.refused c.in-Err.ensures.refused refl refl
+pub returns-in-None-clause-told : goal.returns-in-None-clause-told
+returns-in-None-clause-told c = IsToldOfSpans.refused c.in-None.ensures.refused refl refl
 
 pub put_spans-requires : goal.put_spans-requires
 put_spans-requires c =
-    let is = c.in-Ok.ensures.good in
+    let is = c.in-Some.ensures.good in
     let all = c.spans.ensures.gives _ is.index_is in
     let few = permuted_within_section _ _ _ all.spans all.spans_are is.good.spelled in
     record { few = (all.spans, all.to_come, omega (arith, few)) }
 
-pub returns-clause-told : goal.returns-clause-told
-returns-clause-told c =
-    let is = c.in-Ok.ensures.good in
+pub returns-in-Some-clause-told : goal.returns-in-Some-clause-told
+returns-in-Some-clause-told c =
+    let is = c.in-Some.ensures.good in
     let all = c.spans.ensures.gives _ is.index_is in
     IsToldOfSpans.good all.spans
     (record { units = is.units; good = is.good; spans_are = all.spans_are; in_order = all.in_order; answers = all.answers })
     (c.put_spans.ensures.count all.spans all.to_come)
     (λ fits. c.put_spans.ensures.there all.spans all.to_come (omega (arith, fits, c.put_spans.ensures.length)))
-    c.put_spans.ensures.behind refl
+    c.put_spans.ensures.behind c.in-Some.ensures.yes

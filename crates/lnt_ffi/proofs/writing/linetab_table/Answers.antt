@@ -2,10 +2,10 @@ use Rattle.std.proofs.Common.{refl}
 use Rattle.lnt_ffi.specs.Told.{IsToldOfWriting}
 use Rattle.lnt_ffi.proofs.writing.linetab_table.Goals as goal
 
-pub returns-in-Ok-clause-told : goal.returns-in-Ok-clause-told
-returns-in-Ok-clause-told c =
+pub returns-in-Some-clause-told : goal.returns-in-Some-clause-told
+returns-in-Some-clause-told c =
     let put = rw c.deref.ensures.value at c.put_bytes.ensures in
-    IsToldOfWriting.good c.in-Ok.table.items c.in-Ok.ensures.good put.count put.there refl
+    IsToldOfWriting.good c.in-Some.table.items c.in-Some.ensures.good put.count put.there c.in-Some.ensures.yes
 
-pub returns-in-Err-clause-told : goal.returns-in-Err-clause-told
-returns-in-Err-clause-told c = IsToldOfWriting.refused c.in-Err.ensures.refused refl refl
+pub returns-in-None-clause-told : goal.returns-in-None-clause-told
+returns-in-None-clause-told c = IsToldOfWriting.refused c.in-None.ensures.refused refl refl

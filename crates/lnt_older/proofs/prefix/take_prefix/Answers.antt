@@ -1,6 +1,6 @@
 use Rattle.std.proofs.Common.{◌∙◌, refl}
 use Rattle.std.proofs.lemmas.Result.{err_from_is_err_and}
-use Rattle.lnt_older.proofs.PrefixLemmas.{initial_missing, body_missing, version_cut, version_unknown}
+use Rattle.lnt_older.proofs.PrefixLemmas.{initial_missing, body_missing, version_cut}
 use Rattle.lnt_older.proofs.prefix.take_prefix.Goals as goal
 
 pub returns-in-Err-clause-err : goal.returns-in-Err-clause-err
@@ -11,20 +11,11 @@ returns-in_default-clause-err c =
     body_missing c.args.cursor.now c.initial_length.new.cursor c.in-Ok.initial _ c.in_default.field-0 c.in-Ok.ensures.ok
     c.in_default.ensures.err c.place-offset.ensures.value refl
 
-pub returns-in_err-number-clause-err : goal.returns-in_err-number-clause-err
-returns-in_err-number-clause-err c =
+pub returns-in_err-version-clause-err : goal.returns-in_err-version-clause-err
+returns-in_err-version-clause-err c =
     let p = err_from_is_err_and c.from_residual.result c.from_residual.ensures.1 in
     let old = c.args.cursor.now in
-    let fault = c.in_err-number.field-0.0 in
+    let fault = c.in_err-version.field-0.0 in
     rw (p.1, p.2) (version_cut old c.initial_length.new.cursor c.take.new.self c.new-inside.result c.in-Ok.initial c.in-Ok-take.body.now
     fault c.in-Ok.ensures.ok c.in-Ok-take.ensures.ok c.new-inside.ensures.rest (c.new-inside.ensures.place ∙ c.place-place.ensures.value)
-    c.in_err-number.ensures.err)
-
-pub returns-in-None-clause-err : goal.returns-in-None-clause-err
-returns-in-None-clause-err c =
-    let body = c.in-Ok-take.ensures.ok in
-    let initial = c.in-Ok.ensures.ok in
-    version_unknown c.args.cursor.now c.initial_length.new.cursor c.take.new.self c.new-inside.result c.u16.new.self c.in-Ok.initial
-    c.in_ok-number.number c.in-Ok-take.body.now _ initial body c.new-inside.ensures.rest
-    (c.new-inside.ensures.order ∙ c.order.ensures ∙ body.order ∙ initial.order) c.in_ok-number.ensures.ok c.in-None.ensures
-    c.place-place.ensures.value refl
+    c.in_err-version.ensures.err)

@@ -1,6 +1,4 @@
-use Rattle.std.proofs.Common.{◌≡◌, ◌∙◌, true, length, sym, ap, arith, rules}
-use Rattle.std.specs.Result.{is_ok}
-use Rattle.std.proofs.lemmas.Bool.{eqb-true}
+use Rattle.std.proofs.Common.{◌≡◌, ◌∙◌, true, length, sym, ap, arith, rules, is_ok, eqb-true}
 use Rattle.lnt_older.proofs.SectionLemmas.{five_passed, older_found, older_long, older_passed}
 use Rattle.lnt_older.proofs.section.older_units.Goals as goal
 
