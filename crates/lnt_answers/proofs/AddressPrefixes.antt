@@ -1,11 +1,9 @@
 -- The answers to a text of positions, where the writer was stopped.
-use Rattle.std.proofs.Common.{◌≡◌, ◌∙◌, Bool, false, ℕ, ◌<◌, List, [], ◌∷◌, ◌++◌, length, map}
-use Rattle.std.proofs.Common.{Option, Some, None, IfSome}
-use Rattle.std.proofs.Common.{refl, sym, ap, subst, append_assoc, append-nil, arith}
+use Rattle.std.proofs.Common.{◌≡◌, ◌∙◌, Bool, false, ℕ, ◌<◌, List, [], ◌∷◌, ◌++◌, length, map, Option, Some, None, IfSome, refl, sym, ap}
+use Rattle.std.proofs.Common.{subst, append_assoc, append-nil, arith, flat_map}
 use Rattle.std.proofs.lemmas.List.{map-append}
 use Rattle.std.proofs.lemmas.List.Concat.{flat_map-append}
 use Rattle.std.proofs.ByRecursion.{All-append as all_append}
-use Rattle.std.specs.List.{flat_map}
 use Rattle.std.specs.Str.Lines.{lines}
 use Rattle.lnt_io.specs.Prefixes.{AppendsPrefix}
 use Rattle.lnt_io.proofs.PrefixLaws.{prefix_after, prefix_all, prefix_before, prefix_none, prefix_same}

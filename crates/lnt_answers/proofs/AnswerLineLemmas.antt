@@ -7,7 +7,7 @@ use Rattle.lnt_text.specs.Digits.{IsPlainAddress}
 use Rattle.lnt_text.proofs.WrittenLaws.{address_text}
 use Rattle.lnt_wire.specs.FaultTexts.{hexadecimal}
 use Rattle.lnt_text.specs.Texts.{position_text}
-use Rattle.lnt_answers.specs.Lines.{numbers_text, place_text, row_text}
+use Rattle.lnt_answers.specs.Lines.{numbers_text}
 
 -- the number of a truth value
 bool_number : (b : Bool) → from_bool b ≡ (if b then 1 else 0)
@@ -20,35 +20,8 @@ pub numbers_of : {t0 t1 t2 t3 t4 t5 t6 t7 t8 t9 t10 : List ℕ} (answer : Answer
     → t5 ≡ decimal answer.line ++ t4 → t6 ≡ codes " line " ++ t5 → t7 ≡ decimal answer.file ++ t6 → t8 ≡ codes " file " ++ t7
     → t9 ≡ decimal answer.unit ++ t8 → t10 ≡ codes " unit " ++ t9 → t10 ≡ numbers_text answer
 numbers_of answer stmt e0 stmt_is e1 e2 e3 e4 e5 e6 e7 e8 e9 e10 =
-    let s1 = e1 ∙ ap (λ rest. decimal stmt ++ rest) e0 ∙ append-nil (decimal stmt) ∙ ap decimal (stmt_is ∙ bool_number answer.is_stmt) in
-    let s2 = e2 ∙ ap (λ rest. codes " stmt " ++ rest) s1 in
-    let s3 = e3 ∙ ap (λ rest. decimal answer.column ++ rest) s2 in
-    let s4 = e4 ∙ ap (λ rest. codes " column " ++ rest) s3 in
-    let s5 = e5 ∙ ap (λ rest. decimal answer.line ++ rest) s4 in
-    let s6 = e6 ∙ ap (λ rest. codes " line " ++ rest) s5 in
-    let s7 = e7 ∙ ap (λ rest. decimal answer.file ++ rest) s6 in
-    let s8 = e8 ∙ ap (λ rest. codes " file " ++ rest) s7 in
-    let s9 = e9 ∙ ap (λ rest. decimal answer.unit ++ rest) s8 in
-    e10 ∙ ap (λ rest. codes " unit " ++ rest) s9
-
--- the position before them is the beginning of the line
-pub answer_text : (position : Position) (answer : Answer)
-    → position_text position ++ numbers_text answer ≡ place_text position answer ++ row_text answer
-answer_text position answer =
-    let row = row_text answer in
-    let file = codes " file " ++ (decimal answer.file ++ codes " ") in
-    let unit = codes " unit " ++ (decimal answer.unit ++ file) in
-    sym (append_assoc (position_text position) unit row
-    ∙ ap (λ (rest : List ℕ). position_text position ++ (codes " unit " ++ rest))
-    (append_assoc (decimal answer.unit) file row
-    ∙ ap (λ (rest : List ℕ). decimal answer.unit ++ (codes " file " ++ rest)) (append_assoc (decimal answer.file) (codes " ") row)))
-
--- a line with the position, which was written before the numbers
-pub answer_put : (old new text numbers : List ℕ) (position : Position) (answer : Answer) → numbers ≡ numbers_text answer
-    → text ≡ position_text position ++ numbers → new ≡ old ++ text → new ≡ old ++ (place_text position answer ++ row_text answer)
-answer_put old new text numbers position answer numbers_are text_is here =
-    here ∙ ap (λ (z : List ℕ). old ++ z)
-    (text_is ∙ ap (λ (z : List ℕ). position_text position ++ z) numbers_are ∙ answer_text position answer)
+    let last = e1 ∙ ap (λ rest. decimal stmt ++ rest) e0 ∙ append-nil (decimal stmt) ∙ ap decimal (stmt_is ∙ bool_number answer.is_stmt) in
+    cc
 
 -- a position before other text: the address, a comma and the operation index
 pub position_of : (t0 t1 t2 t3 : List ℕ) (position : Position) (address : List ℕ) → t1 ≡ decimal position.op ++ t0 → t2 ≡ codes "," ++ t1

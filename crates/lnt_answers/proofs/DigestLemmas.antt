@@ -1,6 +1,5 @@
 -- The hasher of a walk over a source, and the sum that it gives at the end.
-use Rattle.std.proofs.Common.{◌≡◌, ℕ, ◌+◌, List, [], ◌++◌, length, Option, Some, None, IfSome, ap, ◌∙◌, arith}
-use Rattle.std.proofs.lemmas.List.{length-append}
+use Rattle.std.proofs.Common.{◌≡◌, ℕ, ◌+◌, List, [], ◌++◌, length, Option, Some, None, IfSome, ap, ◌∙◌, arith, length-append}
 use Rattle.md5.specs.Md5.{md5, Holds}
 use Rattle.md5.specs.declared.Md5.{Md5}
 use Rattle.lnt_io.proofs.PullLaws.{pulls_none, pulls_append, pulls_all, more_from_start}

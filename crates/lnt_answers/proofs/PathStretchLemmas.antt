@@ -1,6 +1,5 @@
 -- The stretches at which a table by path answers otherwise than the rows of units, given one after another.
-use Rattle.std.proofs.Common.{◌≡◌, ◌∙◌, Bool, ℕ, List, [], map, Option, Some, None, IfSome, is_some, refl, subst}
-use Rattle.std.specs.Option.{option_map}
+use Rattle.std.proofs.Common.{◌≡◌, ◌∙◌, Bool, ℕ, List, [], map, Option, Some, None, IfSome, is_some, refl, subst, option_map}
 use Rattle.lnt_spans.specs.declared.position.Position.{Position}
 use Rattle.lnt_spans.specs.declared.span.Span.{Span}
 use Rattle.lnt_spans.specs.Counts.{addresses_answered}

@@ -1,14 +1,13 @@
 -- The lines of the stretches in a scope, given one after another among all stretches.
-use Rattle.std.proofs.Common.{◌≡◌, ◌∙◌, Bool, true, false, cond, ℕ, List, [], ◌∷◌, ◌++◌, append-nil, Option, None, Some}
-use Rattle.std.proofs.Common.{IfSome, ap, arith, is_some, map, refl, subst, sym}
-use Rattle.std.specs.List.{flat_map}
+use Rattle.std.proofs.Common.{◌≡◌, ◌∙◌, Bool, true, false, cond, ℕ, List, [], ◌∷◌, ◌++◌, append-nil, Option, None, Some, IfSome, ap, arith}
+use Rattle.std.proofs.Common.{is_some, map, refl, subst, sym, flat_map}
 use Rattle.std.specs.Io.KnownBytes.{Appends}
 use Rattle.std.proofs.KnownBytes.{Appends-nil, Appends-trans}
 use Rattle.std.proofs.lemmas.List.{map-append}
 use Rattle.std.proofs.lemmas.List.Concat.{flat_map-append}
 use Rattle.std.proofs.lemmas.Grind.{common_steps}
-use Rattle.lnt_io.specs.Prefixes.{AppendsPrefix}
-use Rattle.lnt_io.proofs.PrefixLaws.{prefix_after, prefix_all, prefix_before, prefix_same}
+use Rattle.lnt_io.specs.Prefixes.{AppendsPrefix, HasBegun}
+use Rattle.lnt_io.proofs.PrefixLaws.{appends_known, prefix_after, prefix_all, prefix_before, prefix_same}
 use Rattle.lnt_io.specs.declared.status.Status.{Status}
 use Rattle.lnt_spans.specs.declared.position.Position.{Position}
 use Rattle.lnt_spans.specs.AnyStretches.{AreAllStretches, Stretch}
@@ -19,8 +18,7 @@ use Rattle.lnt_spans.proofs.AmongLemmas.{mistakes_among}
 use Rattle.lnt_spans.proofs.PartialLemmas.{answered_and_missed}
 use Rattle.lnt_table.specs.declared.within.Scope.{Scope}
 use Rattle.lnt_table.specs.declared.within.Scope.TheVariants.{All, Answered}
-use Rattle.lnt_answers.specs.DifferenceLines.{AreAllIn, AreDifferencesBegun, AreStretchesTold, answer_if_none, lines_or}
-use Rattle.lnt_answers.specs.DifferenceLines.{stretches_status}
+use Rattle.lnt_answers.specs.DifferenceLines.{AreAllIn, AreStretchesTold, answer_if_none, lines_or, stretches_status}
 use Rattle.lnt_answers.specs.Stepping.{ArePrinted, answer_of, counts_in, end_status, end_text, if_none}
 use Rattle.lnt_answers.specs.Verdicts.{checked_line}
 use Rattle.lnt_answers.proofs.RoomLaws.{text_in_room}
@@ -171,30 +169,41 @@ prefix_of_all : {X : Type 0} (line : Stretch X → List ℕ) (none : List ℕ) (
 prefix_of_all line none [] more old new prefix = prefix_before old new [] (lines_or line none more) prefix
 prefix_of_all line none (first ∷ told) more old new prefix = grind (arith, common_steps, prefix_same, flat_map-append, prefix_before)
 
+-- a prefix of the lines of these stretches
+begun_of : {X : Type 0} {line : Stretch X → List ℕ} {scope : Scope} {f g : Position → Option X} {old new : Option (List ℕ)}
+    (stretches : List (Stretch X)) → AreAllIn scope f g stretches
+    → AppendsPrefix old new (lines_or line (checked_line (answer_if_none scope f g)) stretches)
+    → HasBegun (AreStretchesTold line scope f g old) old new
+begun_of {line = line} {scope = scope} {f = f} {g = g} {old = old} stretches all prefix = record {
+  whole = lines_or line (checked_line (answer_if_none scope f g)) stretches;
+  ending = stretches_status stretches;
+  is_end = record { stretches = stretches; are_all = all; printed = appends_known old _; status_is = refl };
+  prefix = prefix;
+}
+
 -- Others may follow those that were given.
 abbrev pub HasMore : {D X : Type 0} → (D → Stretch X) → (Position → Option X) → (Position → Option X) → List D → Type 0
 HasMore {D} {X} of f g given = (more : List (Stretch X)) × AreAllStretches f g (map of given ++ more)
 
 prefix_begun : {D X : Type 0} {line : Stretch X → List ℕ} {scope : Scope} {f g : Position → Option X} {old new : Option (List ℕ)}
     (of : D → Stretch X) (given : List D) → HasMore of f g given → AppendsPrefix old new (flat_map line (told_in scope (map of given)))
-    → AreDifferencesBegun line scope f g old new
-prefix_begun {X = X} {line = line} {scope = scope} {f = f} {g = g} {old = old} {new = new} of given later prefix = record {
-  stretches = told_in scope (map of given ++ later.0);
-  are_all = all_in scope f g (map of given ++ later.0) later.1;
-  prefix = grind (arith, common_steps, in_append, prefix_of_all);
-}
+    → HasBegun (AreStretchesTold line scope f g old) old new
+prefix_begun {X = X} {line = line} {scope = scope} {f = f} {g = g} {old = old} {new = new} of given later prefix =
+    begun_of (told_in scope (map of given ++ later.0)) (all_in scope f g (map of given ++ later.0) later.1)
+    (grind (arith, common_steps, in_append, prefix_of_all))
 
 module _ {D X : Type 0} {of : D → Stretch X} {line : Stretch X → List ℕ} {scope : Scope} {f g : Position → Option X}
     {old new : Option (List ℕ)} where
   -- before the next stretch was found
   pub stopped_between : {AreGiven : List D → Type 0} {is_right : Bool} → (h : HasPrinted of line AreGiven scope old new is_right)
-      → HasMore of f g h.given → AreDifferencesBegun line scope f g old new
+      → HasMore of f g h.given → HasBegun (AreStretchesTold line scope f g old) old new
   stopped_between h later = prefix_begun of h.given later (prefix_all old new _ h.text)
 
   -- within the line of a stretch
   pub stopped_within : {AreGiven : List D → Type 0} {now : Option (List ℕ)} {is_answered is_right : Bool} (d : D)
       → (h : HasPrinted of line AreGiven scope old now is_right) → HasMore of f g (h.given ++ d ∷ []) → is_answered ≡ is_some (of d).by_table
-      → AppendsPrefix now new (cond (counts_in scope is_answered) (line (of d)) []) → AreDifferencesBegun line scope f g old new
+      → AppendsPrefix now new (cond (counts_in scope is_answered) (line (of d)) [])
+      → HasBegun (AreStretchesTold line scope f g old) old new
   stopped_within {is_answered = is_answered} d h later same prefix =
       let lines = more_lines of line scope h.given d is_answered same in
       prefix_begun of (h.given ++ d ∷ []) later (grind (arith, lines, prefix_after, h.text))
@@ -236,12 +245,10 @@ end_told {X} {line} {scope} {f} {g} {old} {now} {new} {all = all} h section text
 
 pub end_begun : {X : Type 0} {line : Stretch X → List ℕ} {scope : Scope} {f g : Position → Option X} {old now new : Option (List ℕ)}
     {missed : Option ℕ} {all : ℕ} → ArePrinted line scope f g old now missed → all ≡ addresses_answered f
-    → AppendsPrefix now new (end_text scope all missed) → AreDifferencesBegun line scope f g old new
+    → AppendsPrefix now new (end_text scope all missed) → HasBegun (AreStretchesTold line scope f g old) old new
 end_begun {X} {line} {scope} {f} {g} {old} {now} {new} {all = all} h section prefix =
-    grind (
-      arith,
-      common_steps,
-      prefix_same old new _ _ (whole_text line scope f g h.stretches all section),
-      whole_text line scope f g h.stretches all section,
-      prefix_after,
-    )
+    let number = addresses_answered (where_missed g f) in
+    begun_of h.stretches h.are_all
+    (prefix_same old new _ _ (whole_text line scope f g h.stretches all section)
+    (prefix_after old now new (flat_map line h.stretches) (end_text scope all (if_none h.stretches number)) h.text
+    (subst (λ (m : Option ℕ). AppendsPrefix now new (end_text scope all m)) h.missed_is prefix)))

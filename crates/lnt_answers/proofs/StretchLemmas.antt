@@ -1,8 +1,10 @@
 -- The lines of the stretches at which a table answers otherwise than the rows of units.
-use Rattle.std.proofs.Common.{◌≡◌, ◌≢◌, ℕ, List, [], ◌++◌, inl, inr, Option, Some, None, IfSome, ap, codes, map, subst}
+use Rattle.std.proofs.Common.{◌≡◌, ◌≢◌, ℕ, List, [], ◌++◌, Option, Some, None, IfSome, ap, codes, map, subst}
 use Rattle.std.proofs.lemmas.List.{map-append}
 use Rattle.std.proofs.lemmas.Option.{IfSome_then}
-use Rattle.lnt_io.specs.Prefixes.{AppendsPrefix}
+use Rattle.lnt_io.specs.Prefixes.{AppendsPrefix, HasBegun}
+use Rattle.lnt_io.proofs.PrefixLaws.{appends_known}
+use Rattle.lnt_answers.specs.declared.stretches.Stretches.TheVariants.{Faulty, FaultyByPath, Told, ToldByPath}
 use Rattle.lnt_spans.specs.declared.answer.Answer.{Answer}
 use Rattle.lnt_spans.specs.declared.difference.Difference.{Difference}
 use Rattle.lnt_spans.specs.declared.listed.SpanList.{SpanList}
@@ -30,7 +32,7 @@ use Rattle.lnt_table.specs.Verdicts.{no_of_fault}
 use Rattle.lnt_table.proofs.CheckLemmas.{told_addresses}
 use Rattle.lnt_answers.proofs.ScopeLemmas.{HasMore}
 use Rattle.lnt_answers.proofs.PathStretchLemmas.{ForPathDifferences, for_path_units, HasStarted}
-use Rattle.lnt_answers.specs.DifferenceLines.{AreDifferencesBegun, path_stretch_line, stretch_line}
+use Rattle.lnt_answers.specs.DifferenceLines.{AreStretchesTold, path_stretch_line, stretch_line}
 use Rattle.lnt_compare.specs.declared.by_path.held.HeldSpan.{HeldSpan}
 use Rattle.lnt_compare.specs.declared.by_path.stretches.DifferencesByPath.{DifferencesByPath}
 use Rattle.lnt_records.specs.declared.by_path.version.PathVersion.{PathVersion}
@@ -84,15 +86,24 @@ module _ (scope : Scope) (index : Indexed) (selection : Selection) where
       → AppendsPrefix old new (table_no_text (no_of_fault told) ++ codes "\n")
       → IfSome table (λ text. AreStretchesBegun scope index selection text old new)
   fault_begun S None told is prefix = tt
-  fault_begun S (Some text) told is prefix =
-      inl (record { told = told; is_so = (is.0, λ e. is.1 (ap (λ (t : TableFault). Fault t) e)); prefix = prefix })
+  fault_begun S (Some text) {old} told is prefix = record {
+    whole = table_no_text (no_of_fault told) ++ codes "\n";
+    ending = Faulty told;
+    is_end = ((is.0, λ e. is.1 (ap (λ (t : TableFault). Fault t) e)), appends_known old _);
+    prefix = prefix;
+  }
 
   -- within the line of the fault of a table by path
   pub path_fault_begun : (table : Option (List ℕ)) {old new : Option (List ℕ)} (told : TableFault)
       → IfSome table (λ text. IsFaultByPath text told) → AppendsPrefix old new (table_no_text (no_of_fault told) ++ codes "\n")
       → IfSome table (λ text. AreStretchesBegun scope index selection text old new)
   path_fault_begun None told is prefix = tt
-  path_fault_begun (Some text) told is prefix = inr (inr (inl (record { told = told; is_so = is; prefix = prefix })))
+  path_fault_begun (Some text) {old} told is prefix = record {
+    whole = table_no_text (no_of_fault told) ++ codes "\n";
+    ending = FaultyByPath told;
+    is_end = (is, appends_known old _);
+    prefix = prefix;
+  }
 
   -- within the lines of stretches, by number
   pub numbered_begun : {S : Type 0} (of_section : Remaining S → List Span → Type 0) (of_table : SpanList → List Span → Type 0)
@@ -100,10 +111,15 @@ module _ (scope : Scope) (index : Indexed) (selection : Selection) where
       → IfSome table (λ text. IsDiffering of_section of_table text (line_answer selection) (Table differences)
       × (Table differences ≢ Fault fault.Header))
       → ForDifferences of_section of_table given (addresses_answered (line_answer selection))
-      (λ f g. AreDifferencesBegun stretch_line scope f g old new)
+      (λ f g. HasBegun (AreStretchesTold stretch_line scope f g old) old new)
       → IfSome table (λ text. AreStretchesBegun scope index selection text old new)
   numbered_begun of_section of_table table old new {differences} {given} same d p =
-      IfSome_then table (for_units of_section of_table differences given selection table _ same d p) (λ text is. inr (inl is))
+      IfSome_then table (for_units of_section of_table differences given selection table _ same d p) (λ text is. record {
+        whole = is.so.whole;
+        ending = Told is.so.ending;
+        is_end = (record { version = is.version; table = is.table; is_table = is.is_table; so = is.so.is_end }, tt);
+        prefix = is.so.prefix;
+      })
 
   -- and by path
   pub path_begun : {S : Type 0} (to_come : S → List Span → Type 0) (differences : DifferencesByPath S) (version : PathVersion)
@@ -111,8 +127,13 @@ module _ (scope : Scope) (index : Indexed) (selection : Selection) where
       → IfSome table (λ text. IsUnnumbered text × IsPathTableOf version text (map held_span spans))
       → StandInOrder (map held_span spans) → HasStarted to_come index differences version selection slice
       → ForPathDifferences to_come path differences (addresses_answered (line_answer selection))
-      (λ f g. AreDifferencesBegun path_stretch_line scope f g old new)
+      (λ f g. HasBegun (AreStretchesTold path_stretch_line scope f g old) old new)
       → IfSome table (λ text. AreStretchesBegun scope index selection text old new)
   path_begun to_come differences version table old new {path} {spans} {slice} same by is order started p =
       IfSome_then table (for_path_units to_come index path differences version spans slice selection table _ same by is order started p)
-      (λ text told. inr (inr (inr told)))
+      (λ text is. record {
+        whole = is.so.whole;
+        ending = ToldByPath is.so.ending;
+        is_end = (record { version = is.version; table = is.table; is_table = is.is_table; so = is.so.is_end }, tt);
+        prefix = is.so.prefix;
+      })

@@ -17,8 +17,9 @@ use Rattle.lnt_lines.specs.Indexed.{file_path_in, file_sum_in, Indexed}
 use Rattle.lnt_files.specs.Paths.{path_or_empty}
 use Rattle.lnt_answers.proofs.FileLemmas.{lists_of_more}
 use Rattle.lnt_answers.proofs.SumLaws.{true_later}
+use Rattle.lnt_answers.specs.FileLines.{lists_below}
 use Rattle.lnt_answers.specs.SumLines.{AreSumsTold, Finding, IsTrueFinding, IsTrueOfFile, both, file_of, found_status, found_text}
-use Rattle.lnt_answers.specs.SumLines.{head_text, listed_at, listed_below, listed_in, sum_line, sums_status}
+use Rattle.lnt_answers.specs.SumLines.{head_text, listed_at, listed_in, sum_line, sums_status}
 
 -- ---- joins
 
@@ -60,12 +61,12 @@ module _ {tells tells' : List ℕ → FileState → Type 0} {index : Indexed} {a
   }
 
   -- with one file of a unit more
-  pub sums_more : (unit file : ℕ) → AreSumsTold tells index (listed_below index unit file) a b s
+  pub sums_more : (unit file : ℕ) → AreSumsTold tells index (lists_below (listed_at index unit) file) a b s
       → AreSumsTold tells' index (listed_at index unit file) b c t
-      → AreSumsTold tells index (listed_below index unit (file + 1)) a c (both s t)
+      → AreSumsTold tells index (lists_below (listed_at index unit) (file + 1)) a c (both s t)
   sums_more unit file so next =
       let step : suc file ≡ file + 1 = omega arith in
-      subst (λ (n : ℕ). AreSumsTold tells index (listed_below index unit n) a c (both s t)) step (sums_joined so next)
+      subst (λ (n : ℕ). AreSumsTold tells index (lists_below (listed_at index unit) n) a c (both s t)) step (sums_joined so next)
 
   -- with the files of one unit more
   pub sums_of_more : (units : List ℕ) (i d : ℕ) → i < length units → AreSumsTold tells index (flat_map (listed_in index) (take i units)) a b s

@@ -1,8 +1,6 @@
 -- A writer that has appended a prefix of the lines of findings.
-use Rattle.std.proofs.Common.{◌≡◌, ◌∙◌, ℕ, ◌+◌, ◌<◌, suc, List, [], ◌++◌, append-nil, append_assoc}
-use Rattle.std.proofs.Common.{length, get_or, take, drop}
-use Rattle.std.proofs.Common.{Option, Some, None, ap, codes, refl, sym, subst, map, arith, take-append-drop}
-use Rattle.std.specs.List.{flat_map}
+use Rattle.std.proofs.Common.{◌≡◌, ◌∙◌, ℕ, ◌+◌, ◌<◌, suc, List, [], ◌++◌, append-nil, append_assoc, length, get_or, take, drop, Option}
+use Rattle.std.proofs.Common.{Some, None, ap, codes, refl, sym, subst, map, take-append-drop, flat_map}
 use Rattle.std.specs.Io.KnownBytes.{Appends, append_known}
 use Rattle.std.proofs.lemmas.List.{append_cancel_left, map-append}
 use Rattle.std.proofs.lemmas.List.Concat.{flat_map-append}
@@ -14,10 +12,11 @@ use Rattle.lnt_answers.specs.declared.digest.Agreement.{Agreement}
 use Rattle.lnt_text.specs.Quotes.{quoted_text}
 use Rattle.lnt_lines.specs.Indexed.{file_path_in, file_sum_in, Indexed}
 use Rattle.lnt_files.specs.Paths.{path_or_empty}
+use Rattle.lnt_answers.specs.FileLines.{lists_below}
 use Rattle.lnt_answers.specs.SumLines.{AreSumsBegun, AreSumsTold, IsTrueOfFile, found_status, found_text, head_text}
-use Rattle.lnt_answers.specs.SumLines.{listed_at, listed_below, listed_in, file_of, sum_line}
+use Rattle.lnt_answers.specs.SumLines.{listed_at, listed_in, file_of, sum_line}
 use Rattle.lnt_answers.proofs.SumLaws.{true_later}
-use Rattle.lnt_answers.proofs.FileLemmas.{prefix_of_later, lists_of_more}
+use Rattle.lnt_answers.proofs.FileLemmas.{below_later, lists_of_more}
 use Rattle.lnt_answers.proofs.SumLemmas.{sum_listed, true_joined}
 
 -- ---- joins
@@ -82,12 +81,12 @@ module _ {tells tells' : List ℕ → FileState → Type 0} {index : Indexed} {a
   }
 
   -- of a unit
-  pub sums_stopped : (unit file count : ℕ) → file < count → AreSumsTold tells index (listed_below index unit file) a b s
-      → AreSumsBegun tells' index (listed_at index unit file) b c → AreSumsBegun tells index (listed_below index unit count) a c
+  pub sums_stopped : (unit file count : ℕ) → file < count → AreSumsTold tells index (lists_below (listed_at index unit) file) a b s
+      → AreSumsBegun tells' index (listed_at index unit file) b c → AreSumsBegun tells index (lists_below (listed_at index unit) count) a c
   sums_stopped unit file count lt so next =
-      let after = prefix_of_later (listed_below index unit) (listed_at index unit) (λ n. refl) (suc file) count (omega (arith, lt)) in
+      let after = below_later (listed_at index unit) file count lt in
       subst (λ (list : List (ℕ × ℕ)). AreSumsBegun tells index list a c) after.1
-      (begun_before tells index (listed_below index unit (suc file)) after.0 a c (begun_after so next))
+      (begun_before tells index (lists_below (listed_at index unit) (suc file)) after.0 a c (begun_after so next))
 
   -- of all units
   pub units_stopped : (units : List ℕ) (i d : ℕ) → i < length units

@@ -1,6 +1,5 @@
 -- The files of a good section, as comma-separated values.
-use Rattle.std.specs.Prelude.{ℕ, List, [], ◌∷◌, ◌++◌, Option, None, Some, codes, decimal, suc, zero}
-use Rattle.std.specs.List.{flat_map}
+use Rattle.std.specs.Prelude.{ℕ, List, [], ◌∷◌, ◌++◌, Option, None, Some, codes, decimal, suc, zero, flat_map}
 use Rattle.csv.specs.Writing.{default_writer, row_text}
 use Rattle.hex.specs.Hex.{encode_lower}
 use Rattle.lnt_lines.specs.Indexed.{file_count_in, file_path_in, file_sum_in, Indexed}
@@ -17,14 +16,14 @@ file_record index unit file =
     row_text default_writer (decimal unit ∷ decimal file ∷ path_or_empty (file_path_in index unit file)
     ∷ sum_field (file_sum_in index unit file) ∷ [])
 
--- the records of the first `count` files of a unit
-abbrev pub records_below : Indexed → ℕ → ℕ → List ℕ
-records_below index unit zero = []
-records_below index unit (suc count) = records_below index unit count ++ file_record index unit count
+-- the lists of the numbers below `count`, one after another
+abbrev pub lists_below : {X : Type 0} → (ℕ → List X) → ℕ → List X
+lists_below list zero = []
+lists_below list (suc count) = lists_below list count ++ list count
 
 -- the records of all files of a unit
 abbrev pub unit_records : Indexed → ℕ → List ℕ
-unit_records index unit = records_below index unit (file_count_in index unit)
+unit_records index unit = lists_below (file_record index unit) (file_count_in index unit)
 
 -- the header, and the records of all files of all units
 abbrev pub files_text : Indexed → List ℕ

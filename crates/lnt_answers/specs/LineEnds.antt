@@ -1,6 +1,5 @@
 -- The ends of lines that are kept. No public contract speaks of this.
-use Rattle.std.specs.Prelude.{◌≡◌, List, Option, IfSome}
-use Rattle.std.specs.List.{All}
+use Rattle.std.specs.Prelude.{◌≡◌, List, Option, IfSome, All}
 use Rattle.lnt_answers.specs.declared.line_ends.LineEnd.{LineEnd}
 use Rattle.lnt_answers.specs.Lines.{path_end}
 use Rattle.lnt_lines.specs.Indexed.{file_path_in, Indexed}

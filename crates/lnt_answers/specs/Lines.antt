@@ -1,6 +1,5 @@
 -- The lines that are printed about a section: why it isn't good, and its answers at positions.
-use Rattle.std.specs.Prelude.{◌≡◌, ◌==◌, ◌+◌, ℕ, List, ◌++◌, drop, take, if◌then◌else◌, None, Option, Some, codes, decimal}
-use Rattle.std.specs.List.{position}
+use Rattle.std.specs.Prelude.{◌≡◌, ◌==◌, ◌+◌, ℕ, List, ◌++◌, drop, take, if◌then◌else◌, None, Option, Some, codes, decimal, position}
 use Rattle.std.specs.Io.KnownBytes.{Appends, Keeps}
 use Rattle.lnt_spans.specs.declared.answer.Answer.{Answer}
 use Rattle.lnt_spans.specs.declared.position.Position.{Position}
@@ -38,16 +37,6 @@ pub record HasBegunLine (IsSo : JudgedIndex → Type 0) (old new : Option (List 
 abbrev pub none_text : Position → List ℕ
 none_text position = position_text position ++ codes " none\n"
 
--- the beginning of the line of a position with an answer: the position, the unit and the file
-abbrev pub place_text : Position → Answer → List ℕ
-place_text position answer =
-    position_text position ++ (codes " unit " ++ (decimal answer.unit ++ (codes " file " ++ (decimal answer.file ++ codes " "))))
-
-abbrev pub row_text : Answer → List ℕ
-row_text answer = codes "line "
-    ++ (decimal answer.line ++ (codes " column "
-    ++ (decimal answer.column ++ (codes " stmt " ++ decimal (if answer.is_stmt then 1 else 0)))))
-
 -- the numbers of an answer, each with a word before it
 abbrev pub numbers_text : Answer → List ℕ
 numbers_text answer =
@@ -64,7 +53,7 @@ path_end None = codes "\n"
 abbrev pub answer_line : Indexed → Position → Option Answer → List ℕ
 answer_line index position None = none_text position
 answer_line index position (Some answer) =
-    (place_text position answer ++ row_text answer) ++ path_end (file_path_in index answer.unit answer.file)
+    (position_text position ++ numbers_text answer) ++ path_end (file_path_in index answer.unit answer.file)
 
 -- the line of the answer that the kept sequences of these units give at a position
 abbrev pub lookup_line : Indexed → Selection → Position → List ℕ

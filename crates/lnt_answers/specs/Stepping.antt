@@ -1,6 +1,5 @@
 -- What the bodies of this crate say of their work. No public contract speaks of it.
-use Rattle.std.specs.Prelude.{◌≡◌, ℕ, Bool, true, List, [], ◌∷◌, Option, None, Some}
-use Rattle.std.specs.List.{flat_map}
+use Rattle.std.specs.Prelude.{◌≡◌, ℕ, Bool, true, List, [], ◌∷◌, Option, None, Some, flat_map}
 use Rattle.std.specs.Io.KnownBytes.{Appends}
 use Rattle.lnt_spans.specs.declared.position.Position.{Position}
 use Rattle.lnt_spans.specs.AnyStretches.{Stretch}
@@ -21,11 +20,6 @@ use Rattle.lnt_table.specs.declared.within.Scope.TheVariants.{All, Answered}
 use Rattle.lnt_table.specs.Within.{coverage_but}
 use Rattle.lnt_answers.specs.DifferenceLines.{AreAllIn}
 use Rattle.lnt_answers.specs.Verdicts.{checked_line}
-
--- as the writing of the table stopped
-abbrev pub halt_of_write : WriteStop → Halt
-halt_of_write write.Memory = halt.Memory
-halt_of_write write.Write = halt.Write
 
 -- ---- stretches in a scope
 

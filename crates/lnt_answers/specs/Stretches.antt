@@ -1,7 +1,7 @@
 -- What is printed if all positions in a scope are reported at which a table and a good section answer differently.
 use Rattle.std.specs.Prelude.{◌≢◌, ◌++◌, ◌⊎◌, ℕ, List, IfSome, Option, codes}
 use Rattle.std.specs.Io.KnownBytes.{Appends, Keeps}
-use Rattle.lnt_io.specs.Prefixes.{AppendsPrefix}
+use Rattle.lnt_io.specs.Prefixes.{HasBegun}
 use Rattle.lnt_spans.specs.declared.answer.Answer.{Answer}
 use Rattle.lnt_spans.specs.declared.position.Position.{Position}
 use Rattle.lnt_spans.specs.Spans.{span_answer}
@@ -17,7 +17,7 @@ use Rattle.lnt_records.specs.PathSpans.{path_span_answer}
 use Rattle.lnt_records.specs.PathTables.{by_path}
 use Rattle.lnt_table.specs.ByPath.{told_path}
 use Rattle.lnt_table.specs.declared.within.Scope.{Scope}
-use Rattle.lnt_answers.specs.DifferenceLines.{AreDifferencesBegun, AreStretchesTold, path_stretch_line, stretch_line}
+use Rattle.lnt_answers.specs.DifferenceLines.{AreStretchesTold, path_stretch_line, stretch_line}
 use Rattle.lnt_answers.specs.declared.stretches.Stretches.{Stretches}
 use Rattle.lnt_answers.specs.declared.stretches.Stretches.TheVariants.{Faulty, FaultyByPath, Told, ToldByPath}
 use Rattle.lnt_table.specs.Verdicts.{no_of_fault}
@@ -71,21 +71,10 @@ told_status (ToldByPath status) = status
 -- ---- where the writer stopped
 --     old, new    what it holds before and afterwards
 
--- What was written is a prefix of the line of a fault of the table.
---     IsSo    which faults the table has
-pub record IsFaultBegun (IsSo : TableFault → Type 0) (old new : Option (List ℕ)) : Type 0 where
-  pub told : TableFault
-  pub is_so : IsSo told
-  pub prefix : AppendsPrefix old new (table_no_text (no_of_fault told) ++ codes "\n")
-
--- What was written is a prefix of what is reported of the table, by its version: of the line of its first fault, or of the lines of
--- the stretches.
+-- What was written is a prefix of what might have been reported of the table.
 abbrev pub AreStretchesBegun : Scope → Indexed → Selection → List ℕ → Option (List ℕ) → Option (List ℕ) → Type 0
 AreStretchesBegun scope index selection table old new =
-    IsFaultBegun (λ told. IsFault table told × (told ≢ fault.Header)) old new
-    ⊎ (IsSoOfRows selection table (λ by_section by_table. AreDifferencesBegun stretch_line scope by_section by_table old new)
-    ⊎ (IsFaultBegun (IsFaultByPath table) old new ⊎ IsSoByPath index selection table
-    (λ by_section by_table. AreDifferencesBegun path_stretch_line scope by_section by_table old new)))
+    HasBegun (λ end told. AreStretchesOf scope index selection table old end told × IsFaultTold told old end) old new
 
 -- it is, whatever the units are that the index was made of, where the table's bytes are known; or nothing was written
 abbrev pub BeginsStretches : Scope → Indexed → Option (List ℕ) → Option (List ℕ) → Option (List ℕ) → Type 0

@@ -1,7 +1,7 @@
 -- The lines that say whether the files of a good section have their listed MD5 sums (DWARF 5, section 6.2.4.1).
 --     tells       what may be known of the file with a name
 --     old, new    what the writer holds before and afterwards
-use Rattle.std.specs.Prelude.{◌≡◌, ◌⊎◌, ℕ, List, [], ◌∷◌, ◌++◌, map, IfSome, IsUtf8, None, Option, Some, codes, decimal, suc, zero}
+use Rattle.std.specs.Prelude.{◌≡◌, ◌⊎◌, ℕ, List, [], ◌∷◌, ◌++◌, map, IfSome, IsUtf8, None, Option, Some, codes, decimal}
 use Rattle.std.specs.List.{AllByRecursion, flat_map}
 use Rattle.std.specs.Option.{option_map_or}
 use Rattle.std.specs.Io.KnownBytes.{Appends}
@@ -14,6 +14,7 @@ use Rattle.lnt_io.specs.declared.status.Status.TheVariants.{Done, No}
 use Rattle.lnt_answers.specs.declared.digest.Agreement.{Agreement}
 use Rattle.lnt_answers.specs.declared.digest.Agreement.TheVariants.{Same, Differs}
 use Rattle.lnt_answers.specs.Agreements.{Agrees}
+use Rattle.lnt_answers.specs.FileLines.{lists_below}
 use Rattle.lnt_text.specs.Quotes.{quoted_text}
 use Rattle.lnt_lines.specs.Indexed.{file_count_in, file_path_in, file_sum_in, Indexed}
 use Rattle.lnt_files.specs.Paths.{path_or_empty}
@@ -23,13 +24,8 @@ use Rattle.lnt_files.specs.Paths.{path_or_empty}
 abbrev pub listed_at : Indexed → ℕ → ℕ → List (ℕ × ℕ)
 listed_at index unit file = option_map_or (λ _. (unit, file) ∷ []) (file_sum_in index unit file) []
 
--- those among the first `count` files of a unit
-abbrev pub listed_below : Indexed → ℕ → ℕ → List (ℕ × ℕ)
-listed_below index unit zero = []
-listed_below index unit (suc count) = listed_below index unit count ++ listed_at index unit count
-
 abbrev pub listed_in : Indexed → ℕ → List (ℕ × ℕ)
-listed_in index unit = listed_below index unit (file_count_in index unit)
+listed_in index unit = lists_below (listed_at index unit) (file_count_in index unit)
 
 abbrev pub listed_files : Indexed → List (ℕ × ℕ)
 listed_files index = flat_map (listed_in index) index.units

@@ -2,11 +2,8 @@
 use Rattle.std.specs.Prelude.{ℕ, List, ◌++◌, codes}
 use Rattle.lnt_io.specs.declared.status.Status.{Status}
 use Rattle.lnt_io.specs.declared.status.Status.TheVariants as status
-use Rattle.lnt_compare.specs.declared.outcome.Compared.{Compared}
 use Rattle.lnt_compare.specs.declared.outcome.Compared.TheVariants.{Same, Fault, Differs}
-use Rattle.lnt_compare.specs.declared.by_path.answer.DifferenceByPath.{DifferenceByPath}
 use Rattle.lnt_table.specs.declared.kinds.OfKind.TheVariants.{Numbered, ByPath}
-use Rattle.lnt_table.specs.declared.verdict.Verdict.{Verdict}
 use Rattle.lnt_table.specs.declared.verdict.Verdict.TheVariants.{Yes, No}
 use Rattle.lnt_table.specs.declared.within.CheckedWithin.{CheckedWithin}
 use Rattle.lnt_table.specs.declared.within.CheckedWithin.TheVariants.{Checked as Told, Covered}
@@ -18,19 +15,11 @@ use Rattle.lnt_table.specs.FaultTexts.{within_text}
 abbrev pub checked_line : CheckedWithin → List ℕ
 checked_line checked = within_text checked ++ codes "\n"
 
--- of a table of version 1 or 2
-abbrev pub verdict_status : Verdict → Status
-verdict_status Yes = status.Done
-verdict_status (No reason) = status.No
-
--- of a table by path
-abbrev pub compared_status : Compared DifferenceByPath → Status
-compared_status Same = status.Done
-compared_status (Fault told) = status.No
-compared_status (Differs difference) = status.No
-
--- of a table of any version, in any scope
+-- how a run ends after it, for a table of any version, in any scope
 abbrev pub checked_status : CheckedWithin → Status
-checked_status (Told (Numbered verdict)) = verdict_status verdict
-checked_status (Told (ByPath compared)) = compared_status compared
+checked_status (Told (Numbered Yes)) = status.Done
+checked_status (Told (Numbered (No reason))) = status.No
+checked_status (Told (ByPath Same)) = status.Done
+checked_status (Told (ByPath (Fault told))) = status.No
+checked_status (Told (ByPath (Differs difference))) = status.No
 checked_status (Covered coverage) = status.Done

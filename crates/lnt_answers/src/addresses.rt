@@ -1,7 +1,6 @@
 //! Looks up the positions in the lines of a text.
 ghost use Rattle.std.specs.Prelude.{◌≡◌, ◌+◌, ◌-◌, ◌^◌, ◌<◌, ◌==◌, [], ◌∷◌, length, IfErr, IfOk, IfSome, IsErrOf, IsTrue, MatchOption};
-ghost use Rattle.std.specs.Prelude.{◌++◌, ◌≤◌, OnErr, OnOk, Some, drop, take};
-ghost use Rattle.std.specs.List.{position};
+ghost use Rattle.std.specs.Prelude.{◌++◌, ◌≤◌, OnErr, OnOk, Some, drop, take, position};
 ghost use Rattle.std.specs.Str.Lines.{strip_carriage_return};
 ghost use Rattle.lnt_io.specs.declared.halt.Halt.TheVariants as halt;
 ghost use Rattle.lnt_io.specs.declared.status.Status.TheVariants.{Done};

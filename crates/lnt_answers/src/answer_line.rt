@@ -1,7 +1,7 @@
 //! The text of an answer, written backwards from its end, so that no digits have to be counted or moved.
 ghost use Rattle.std.specs.Prelude.{◌≡◌, ◌+◌, ◌<◌, ◌≤◌, ◌++◌, OnOk, decimal, drop, length};
 ghost use Rattle.lnt_text.specs.Texts.{position_text};
-ghost use Rattle.lnt_answers.specs.Lines.{none_text, numbers_text, place_text, row_text};
+ghost use Rattle.lnt_answers.specs.Lines.{none_text, numbers_text};
 
 use itoa::write_digits;
 use lnt_spans::{Answer, Position};
@@ -12,13 +12,12 @@ use std::alloc::AllocError;
 const MOST: usize = 192;
 
 // Appends the position and the answer there, without the path.
-#[tactic(auto, using(crate::proofs::AnswerLineLemmas::answer_put))]
 pub(crate) fn put_answer(
     position: Position,
     answer: &Answer,
     line: &mut Vec<u8>,
 ) -> Result<(), AllocError>
-    ensures { OnOk result (line.new.items ≡ line.old.items ++ (place_text position answer.now ++ row_text answer.now)) }
+    ensures { OnOk result (line.new.items ≡ line.old.items ++ (position_text position ++ numbers_text answer.now)) }
 {
     let mut room = [0; MOST];
     let at = numbers_before(&mut room, answer);

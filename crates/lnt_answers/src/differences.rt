@@ -1,8 +1,9 @@
 //! Prints where the answers of a table of version 1 or 2 and of a section differ, stretch by stretch.
 ghost use Rattle.std.specs.Prelude.{◌≡◌, [], List, Option, IfErr, IfOk, OnErr};
-ghost use Rattle.lnt_answers.specs.DifferenceLines.{AreDifferencesBegun, stretch_line};
+ghost use Rattle.lnt_answers.specs.DifferenceLines.{AreStretchesTold, stretch_line};
 ghost use Rattle.lnt_answers.specs.Stepping.{ArePrinted};
 ghost use Rattle.lnt_io.specs.Halts.{IsPrinting};
+ghost use Rattle.lnt_io.specs.Prefixes.{HasBegun};
 ghost use Rattle.lnt_spans.specs.declared.answer.Answer.{Answer};
 ghost use Rattle.lnt_spans.specs.declared.position.Position.{Position};
 ghost use Rattle.lnt_spans.specs.Differing.{HasTold};
@@ -33,7 +34,8 @@ pub(crate) fn print_differences<S: SpanSource + Drop, T: SpanSource + Drop, W: W
         → ArePrinted stretch_line scope by_section by_table (W.contents out.old) (W.contents out.new) missed) }
     ensures begun { OnErr result ((by_section by_table : Position → Option Answer)
         → HasTold S.to_come T.to_come differences by_section by_table []
-        → AreDifferencesBegun stretch_line scope by_section by_table (W.contents out.old) (W.contents out.new)) }
+        → HasBegun (AreStretchesTold stretch_line scope by_section by_table (W.contents out.old))
+        (W.contents out.old) (W.contents out.new)) }
 {
     let mut differences = differences;
     let mut lines = StretchLines::new(alloc, scope);

@@ -10,8 +10,5 @@ pub(crate) fn put_text<T: fmt::Display>(value: &T, text: &mut Vec<u8>) -> Result
     ensures { IfSome (T.output value.now) (λ shown. OnOk result (text.new.items ≡ text.old.items ++ shown)) }
 {
     // Writing to a vector fails only if memory runs out.
-    match write!(text, "{value}") {
-        Ok(()) => Ok(()),
-        Err(_) => Err(AllocError),
-    }
+    write!(text, "{value}").map_err(|_| AllocError)
 }

@@ -1,7 +1,6 @@
 //! The files of a good section, as comma-separated values.
-ghost use Rattle.std.specs.Prelude.{◌≡◌, ◌<◌, IfErr, IfOk, OnErr, OnOk, Some, false, string_bytes};
+ghost use Rattle.std.specs.Prelude.{◌≡◌, ◌<◌, IfErr, IfOk, OnErr, OnOk, string_bytes};
 ghost use Rattle.std.specs.Io.KnownBytes.{Appends};
-ghost use Rattle.csv.specs.Writing as csv;
 ghost use Rattle.lnt_io.specs.Prefixes.{AppendsPrefix};
 ghost use Rattle.lnt_io.specs.declared.status.Status.TheVariants.{Done};
 ghost use Rattle.lnt_io.specs.Halts.{IsPrinting};
@@ -75,33 +74,6 @@ fn record_of(alloc: Global, index: &Index<'_>, unit: u64, file: u64) -> Result<V
     requires { file < file_count_in index.now unit }
     ensures { IfOk result (λ bytes. bytes.items ≡ file_record index.now unit file) }
 {
-    let mut records = Writer::from_writer(Vec::new(alloc));
-    put_file(alloc, index, unit, file, &mut records)?;
-    // Writing to a vector fails only if memory runs out.
-    match records.into_inner() {
-        Ok(bytes) => Ok(bytes),
-        Err(_) => Err(AllocError),
-    }
-}
-
-// Appends the record of a file of the unit to the writer, which is between two records before and afterwards.
-fn put_file(
-    alloc: Global,
-    index: &Index<'_>,
-    unit: u64,
-    file: u64,
-    records: &mut Writer<Vec<u8>>,
-) -> Result<(), AllocError>
-    requires there { file < file_count_in index.now unit }
-    requires fields { csv.fields_written records.old ≡ 0 }
-    requires clean { csv.has_written records.old ≡ false }
-    requires setup { csv.writer_setup records.old ≡ csv.default_writer }
-    ensures record { OnOk result (Appends (csv.text_written (λ bytes. Some bytes.items) records.old)
-        (csv.text_written (λ bytes. Some bytes.items) records.new) (file_record index.now unit file)) }
-    ensures fields { OnOk result (csv.fields_written records.new ≡ 0) }
-    ensures clean { OnOk result (csv.has_written records.new ≡ false) }
-    ensures setup { OnOk result (csv.writer_setup records.new ≡ csv.default_writer) }
-{
     let path = path_of(alloc, index, unit, file)?;
     let sum = sum_of(alloc, index, unit, file)?;
     let unit = format!(in alloc; "{unit}")?;
@@ -112,9 +84,13 @@ fn put_file(
         path.as_slice(),
         sum.as_bytes(),
     ];
+    let mut records = Writer::from_writer(Vec::new(alloc));
     // Writing to a vector fails only if memory runs out.
-    match records.write_fields(&fields) {
-        Ok(()) => Ok(()),
+    let Ok(()) = records.write_fields(&fields) else {
+        return Err(AllocError);
+    };
+    match records.into_inner() {
+        Ok(bytes) => Ok(bytes),
         Err(_) => Err(AllocError),
     }
 }

@@ -1,19 +1,16 @@
 //! All stretches of positions in a scope at which a table and a good section answer differently.
-ghost use Rattle.std.specs.Prelude.{◌≡◌, ◌-◌, ◌^◌, ◌<◌, ◌+◌, ◌++◌, [], Option, IfErr, IfOk};
-ghost use Rattle.std.specs.Prelude.{OnErr, OnOk, codes};
+ghost use Rattle.std.specs.Prelude.{◌≡◌, ◌-◌, ◌^◌, ◌<◌, ◌+◌, [], Option, IfErr, IfOk, OnErr, OnOk};
 ghost use Rattle.std.specs.Io.KnownBytes.{Appends};
-ghost use Rattle.lnt_answers.specs.DifferenceLines.{AreDifferencesBegun, path_stretch_line};
+ghost use Rattle.lnt_answers.specs.DifferenceLines.{AreStretchesTold, path_stretch_line};
 ghost use Rattle.lnt_answers.specs.Stepping.{ArePrinted, answer_of, end_status, end_text};
 ghost use Rattle.lnt_answers.specs.Stretches.{BeginsStretches, IsFaultTold, TellsStretches};
-ghost use Rattle.lnt_table.specs.FaultTexts.{table_no_text};
 ghost use Rattle.lnt_records.specs.PathAnswers.{PathAnswer};
 ghost use Rattle.lnt_compare.specs.Stretching.{HasToldByPath};
-ghost use Rattle.lnt_io.specs.Prefixes.{AppendsPrefix};
+ghost use Rattle.lnt_io.specs.Prefixes.{AppendsPrefix, HasBegun};
 ghost use Rattle.lnt_io.specs.Halts.{IsPrinting};
 ghost use Rattle.lnt_sequences.specs.Sequences.{line_answer};
 ghost use Rattle.lnt_spans.specs.Counts.{addresses_answered};
 ghost use Rattle.lnt_spans.specs.declared.position.Position.{Position};
-ghost use Rattle.lnt_table.specs.Verdicts.{no_of_fault};
 ghost use Rattle.lnt_lines.specs.Indexed.{OfUnits};
 ghost use Rattle.lnt_io.specs.Stopping.{CountsFailure};
 
@@ -75,7 +72,7 @@ pub fn print_stretches<T: Source, W: Write>(
             Ok(Stretches::Told(status))
         }
         Ok(OfKind::Numbered(TableRead::Fault(fault))) => {
-            print_fault(alloc, fault, out)?;
+            print_line(alloc, &TableNo::from(fault), out)?;
             Ok(Stretches::Faulty(fault))
         }
         Ok(OfKind::ByPath(TableRead::Table((version, spans)))) => {
@@ -88,21 +85,11 @@ pub fn print_stretches<T: Source, W: Write>(
             Ok(Stretches::ToldByPath(status))
         }
         Ok(OfKind::ByPath(TableRead::Fault(fault))) => {
-            print_fault(alloc, fault, out)?;
+            print_line(alloc, &TableNo::from(fault), out)?;
             Ok(Stretches::FaultyByPath(fault))
         }
         Err(stop) => Err(Halt::from(stop)),
     }
-}
-
-// Prints the line of a table's fault; if it stops, a prefix of that line.
-fn print_fault<W: Write>(alloc: Global, fault: TableFault, out: &mut W) -> Result<(), Halt>
-    ensures err { IfErr result IsPrinting }
-    ensures line { OnOk result (Appends (W.contents out.old) (W.contents out.new) (table_no_text (no_of_fault fault) ++ codes "\n")) }
-    ensures prefix { OnErr result (AppendsPrefix (W.contents out.old) (W.contents out.new)
-        (table_no_text (no_of_fault fault) ++ codes "\n")) }
-{
-    print_line(alloc, &TableNo::from(fault), out)
 }
 
 // Prints the answer if there is no stretch in the scope. `missed` is then the number of the section's addresses at which the table
@@ -157,7 +144,8 @@ fn print_path_differences<S: SpanSource + Drop, P: Paths, W: Write>(
         → ArePrinted path_stretch_line scope by_section by_table (W.contents out.old) (W.contents out.new) missed) }
     ensures begun { OnErr result ((by_section by_table : Position → Option PathAnswer)
         → HasToldByPath S.to_come (P.bytes_of paths.now) differences.entry by_section by_table []
-        → AreDifferencesBegun path_stretch_line scope by_section by_table (W.contents out.old) (W.contents out.new)) }
+        → HasBegun (AreStretchesTold path_stretch_line scope by_section by_table (W.contents out.old))
+        (W.contents out.old) (W.contents out.new)) }
 {
     let mut differences = differences;
     let mut lines = StretchLines::new(alloc, scope);

@@ -7,12 +7,11 @@ ghost use Rattle.lnt_table.specs.ByPath.{told_path};
 ghost use Rattle.lnt_table.specs.Written.{BeginsTableOfUnits, IsTableOfUnits};
 ghost use Rattle.lnt_lines.specs.Indexed.{OfUnits};
 ghost use Rattle.lnt_answers.specs.PathTables.{BeginsPrintedTable, IsPrintedTable};
-ghost use Rattle.lnt_answers.specs.Stepping.{halt_of_write};
 
 use lnt_compare::PathTable;
 use lnt_io::{Halt, Status, print_line};
 use lnt_lines::Index;
-use lnt_records::{PathVersion, WriteStop};
+use lnt_records::PathVersion;
 use lnt_spans::Version;
 use lnt_table::{OperationLine, write_index, write_paths};
 use std::alloc::Global;
@@ -35,10 +34,8 @@ pub fn print_table<W: Write>(
     ensures begun { OnErr result (OfUnits index.now (λ selection.
         BeginsTableOfUnits version selection (W.contents out.old) (W.contents out.new))) }
 {
-    match write_index(alloc, index, version, out) {
-        Ok(()) => Ok(Status::Done),
-        Err(stop) => Err(halt_of(stop)),
-    }
+    write_index(alloc, index, version, out)?;
+    Ok(Status::Done)
 }
 
 /// Prints the address table by path of a good section, in version 3 or 4. If there can't be one, it prints the line of the
@@ -58,23 +55,11 @@ pub fn print_path_table<W: Write>(
     ensures begun { OnErr result (OfUnits index.now (λ selection.
         BeginsPrintedTable version (told_path version index.now selection) (W.contents out.old) (W.contents out.new))) }
 {
-    match write_paths(alloc, index, version, out) {
-        Ok(PathTable::Written) => Ok(Status::Done),
-        Ok(PathTable::OperationIndex(position)) => {
+    match write_paths(alloc, index, version, out)? {
+        PathTable::Written => Ok(Status::Done),
+        PathTable::OperationIndex(position) => {
             print_line(alloc, &OperationLine(position), out)?;
             Ok(Status::No)
         }
-        Err(stop) => Err(halt_of(stop)),
-    }
-}
-
-// How printing ends if a table couldn't be written.
-fn halt_of(stop: WriteStop) -> Halt
-    ensures told { result ≡ halt_of_write stop }
-    ensures err { IsPrinting result }
-{
-    match stop {
-        WriteStop::Memory => Halt::Memory,
-        WriteStop::Write => Halt::Write,
     }
 }

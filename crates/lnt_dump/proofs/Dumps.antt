@@ -1,7 +1,6 @@
 -- The units of a section, printed one after another.
-use Rattle.std.proofs.Common.{◌≡◌, ◌≢◌, ◌∙◌, ℕ, ◌<◌, List, [], ◌∷◌, ◌++◌, length, Option, Some, None, IfSome, Result, Ok, Err, IfOk}
-use Rattle.std.proofs.Common.{OnErr, OnOk, refl, sym, ap, subst, append-nil, arith, inl, inr, ◌⊎◌, codes}
-use Rattle.std.specs.Prelude.{IsTrue, map}
+use Rattle.std.proofs.Common.{◌≡◌, ◌≢◌, ◌∙◌, ℕ, ◌<◌, List, [], ◌∷◌, ◌++◌, length, Option, Some, None, IfSome, Result, Ok, Err, IfOk, OnErr}
+use Rattle.std.proofs.Common.{OnOk, refl, sym, ap, subst, append-nil, arith, inl, inr, ◌⊎◌, codes, IsTrue, map}
 use Rattle.std.specs.List.{AllByRecursion, flat_map}
 use Rattle.std.specs.Io.KnownBytes.{Appends, Keeps}
 use Rattle.std.proofs.KnownBytes.{Appends-nil, Appends-trans}
@@ -34,7 +33,8 @@ use Rattle.lnt_wire.specs.declared.format.Order.{Order}
 use Rattle.lnt_wire.specs.declared.frame.Frame.{Frame}
 use Rattle.lnt_dump.specs.declared.dump.DumpParts.{DumpParts}
 use Rattle.lnt_dump.specs.Dumps.{BeginsWithUnits, DoesNotRun, FramedUnit, IsDumpBegun, IsDumped, IsDumpedUnit, IsDumpFault}
-use Rattle.lnt_dump.specs.Dumps.{fault_line, fault_status, unit_lines}
+use Rattle.lnt_dump.specs.Dumps.{fault_line, unit_lines}
+use Rattle.lnt_dump.specs.Units.{fault_status}
 use Rattle.lnt_dump.specs.Stepping.{IsFaultOf, IsUnitOf, UnitBegun, UnitEnds, UnitEndsSo, UnitTold}
 use Rattle.lnt_dump.proofs.Frames.{flat_push, FramesRead, IsNextFramed, read_more, read_none}
 

@@ -1,15 +1,13 @@
 -- Entries that are read one by one where they lie, value by value.
 use Rattle.std.proofs.lemmas.Grind.{common_steps}
-use Rattle.std.proofs.Common.{◌≡◌, ℕ, ◌+◌, ◌<◌, ◌≤◌, List, [], ◌∷◌, ◌++◌, length, take, drop, get_or, codes, decimal}
-use Rattle.std.proofs.Common.{Option, Some, Result, Ok, Err, OnOk, refl, sym, ap, subst, ◌∙◌, append-nil, arith}
-use Rattle.std.proofs.Common.{take_all, take-append-drop}
+use Rattle.std.proofs.Common.{◌≡◌, ℕ, ◌+◌, ◌<◌, ◌≤◌, List, [], ◌∷◌, ◌++◌, length, take, drop, get_or, codes, decimal, Option, Some, Result}
+use Rattle.std.proofs.Common.{Ok, Err, OnOk, refl, sym, ap, subst, ◌∙◌, append-nil, arith, take_all, take-append-drop, flat_map, zip}
 use Rattle.std.proofs.KnownBytes.{Appends-trans}
 use Rattle.std.proofs.lemmas.List.{drop_more, length-append, length-take-le, take_more}
 use Rattle.std.proofs.lemmas.List.Concat.{flat_map-append}
 use Rattle.std.specs.Io.KnownBytes.{Appends}
-use Rattle.std.specs.List.{flat_map, zip}
 use Rattle.lnt_wire.specs.At.{At}
-use Rattle.lnt_wire.specs.Bytes.{NoneSpelled}
+use Rattle.lnt_wire.specs.Bytes.{NoneSpelled, IsCode}
 use Rattle.lnt_wire.specs.FormBytes.{ValueBytes}
 use Rattle.lnt_wire.specs.Reading.{Reads}
 use Rattle.lnt_wire.specs.declared.form.FormValue.{FormValue}
@@ -25,7 +23,6 @@ use Rattle.lnt_header_bytes.specs.Marks.{from_entry}
 use Rattle.lnt_header_bytes.specs.TableBytes.{EntryBytes}
 use Rattle.lnt_header.specs.declared.header.Entry.{Entry}
 use Rattle.lnt_header.specs.Joins.{Each}
-use Rattle.lnt_wire.specs.Bytes.{IsCode}
 use Rattle.lnt_dump.specs.Headers.{component_text, entry_end, entry_line}
 use Rattle.lnt_dump.specs.Numbered.{numbered}
 use Rattle.lnt_dump.specs.Stepping.{IsPaged, PassesPrinting}

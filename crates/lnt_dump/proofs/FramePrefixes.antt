@@ -1,9 +1,7 @@
 -- Prefixes of the lines of a section's frames, of which some weren't read.
 use Rattle.std.proofs.Common.{◌≡◌, ℕ, ◌+◌, List, [], ◌∷◌, ◌++◌, length, Option, Some, None, IfSome, Result, Ok, Err, OnErr, refl, sym, ap}
-use Rattle.std.proofs.Common.{subst, ◌∙◌, append_assoc, append-nil, arith}
-use Rattle.std.proofs.lemmas.List.{length-append}
+use Rattle.std.proofs.Common.{subst, ◌∙◌, append_assoc, append-nil, arith, length-append, flat_map}
 use Rattle.std.proofs.lemmas.List.Concat.{flat_map-append}
-use Rattle.std.specs.List.{flat_map}
 use Rattle.lnt_io.specs.Prefixes.{AppendsPrefix, HasBegun}
 use Rattle.lnt_io.proofs.PrefixLaws.{appends_known, prefix_after, prefix_all, prefix_before, prefix_same}
 use Rattle.lnt_wire.specs.At.{At}
@@ -15,7 +13,7 @@ use Rattle.lnt_wire.specs.declared.frame.Frame.{Frame}
 use Rattle.lnt_unit.specs.Units.{SectionEndsBy, BufferedUnit}
 use Rattle.lnt_io.specs.declared.halt.Halt.{Halt}
 use Rattle.lnt_io.specs.declared.status.Status.{Status}
-use Rattle.lnt_dump.specs.Units.{AreBytes, AreUnitsTold, end_line, end_status, unit_line}
+use Rattle.lnt_dump.specs.Units.{AreBytes, AreUnitsTold, end_line, fault_status, unit_line}
 use Rattle.lnt_dump.proofs.Frames.{flat_push, FramesRead, FramesTold, frames_end, IsNextFramed, read_more}
 use Rattle.lnt_dump.proofs.FramesAhead.{bytes_after, frames_ahead, frames_join}
 
@@ -67,7 +65,7 @@ lines_begun {order} {section} {old} {new} {frames} rest f =
     sym (append_assoc before later end) ∙ ap (λ (z : List ℕ). z ++ end) (sym (flat_map-append unit_line frames rest.more)) in
     record {
       whole = text;
-      ending = end_status rest.fault;
+      ending = fault_status rest.fault;
       is_end = record {
         frames = frames ++ rest.more;
         fault = rest.fault;
@@ -107,7 +105,7 @@ fault_cut {order} {start} {now} {old} {then} new fault (Err halt) told ends f =
     let end = end_line (Some fault) in
     λ are. record {
       whole = before ++ end;
-      ending = end_status (Some fault);
+      ending = fault_status (Some fault);
       is_end = record {
         frames = told.frames;
         fault = Some fault;

@@ -1,9 +1,8 @@
 -- The frames of a section, one after another, and their lines.
 use Rattle.std.proofs.Common.{◌≡◌, ℕ, ◌+◌, List, [], ◌∷◌, ◌++◌, length, Option, Some, None, IfSome, Result, Ok, Err, IfOk, OnOk, refl, sym}
-use Rattle.std.proofs.Common.{ap, subst, ◌∙◌, append-nil}
+use Rattle.std.proofs.Common.{ap, subst, ◌∙◌, append-nil, flat_map}
 use Rattle.std.proofs.KnownBytes.{Appends-nil, Appends-trans}
 use Rattle.std.proofs.lemmas.List.Concat.{flat_map-append}
-use Rattle.std.specs.List.{flat_map}
 use Rattle.std.specs.Io.KnownBytes.{Appends}
 use Rattle.lnt_wire.specs.At.{At}
 use Rattle.lnt_wire.specs.FrameBytes.{IsFrame, IsPlacedFrame, frame_bytes}
@@ -21,7 +20,7 @@ use Rattle.lnt_io.specs.declared.status.Status.TheVariants.{No}
 use Rattle.lnt_dump.specs.Stepping.{IsNext}
 use Rattle.lnt_dump.specs.declared.units.Next.{Next}
 use Rattle.lnt_dump.specs.declared.units.Next.TheVariants.{Unit as NextUnit}
-use Rattle.lnt_dump.specs.Units.{AreUnitsTold, end_line, end_status, unit_line}
+use Rattle.lnt_dump.specs.Units.{AreUnitsTold, end_line, fault_status, unit_line}
 
 -- The source gave the bytes of these frames, and the next byte stands at the offset.
 pub record FramesRead (order : Order) (start now : Option (List ℕ)) (frames : List Frame) (of_reader : Order) (offset : ℕ) : Type 0 where
@@ -133,7 +132,7 @@ frames_end {of_reader = of_reader} (Some bytes) (Some rest) fault read ends =
 -- the section ends
 pub frames_all : {order : Order} {start now old then new : Option (List ℕ)} {of_reader : Order} {offset : ℕ} {status : Status}
     (fault : Option Fault) → FramesTold order start now old then of_reader offset → SectionEndsBy offset of_reader now fault
-    → Appends then new (end_line fault) → status ≡ end_status fault → AreUnitsTold order start old new status
+    → Appends then new (end_line fault) → status ≡ fault_status fault → AreUnitsTold order start old new status
 frames_all {order} {start} {now} {old} {then} {new} fault told ends printed ended = record {
   frames = told.frames;
   fault = fault;

@@ -56,9 +56,3 @@ pub numbered_prefix : {X : Type 0} (line : ℕ → X → List ℕ) (first : ℕ)
     → (more : List ℕ) × (numbered line first (xs ++ ys) ≡ numbered line first xs ++ more)
 numbered_prefix line first [] ys = (numbered line first ys, refl)
 numbered_prefix line first (x ∷ xs) ys = grind (arith, common_steps, append_assoc, numbered_prefix line (first + 1) xs ys)
-
--- the text that a call added, after that of others before it
-pub text_more : {A E : Type 0} (result : Result A E) (old mid new prefix back : List ℕ) → mid ≡ old ++ prefix
-    → OnOk result (new ≡ mid ++ back) → OnOk result (new ≡ old ++ (prefix ++ back))
-text_more (Ok done) old mid new prefix back before here = grind (arith, common_steps, append_assoc)
-text_more (Err error) old mid new prefix back before here = here

@@ -1,11 +1,7 @@
 -- The operands of an unknown standard operation, read one by one where they lie.
 use Rattle.std.proofs.lemmas.Grind.{common_steps}
-use Rattle.std.proofs.Common.{◌≡◌, ◌∙◌, ℕ, ◌<◌, List, [], ◌∷◌, ◌++◌, append-nil, append_assoc, ap, arith, length, refl, subst, sym}
-use Rattle.std.proofs.Common.{Result, Ok, Err, OnOk, codes, decimal, false}
-use Rattle.std.specs.Result.{is_err}
-use Rattle.std.proofs.lemmas.Bool.{true≢false}
-use Rattle.std.specs.List.{flat_map}
-use Rattle.std.proofs.lemmas.List.{length-append}
+use Rattle.std.proofs.Common.{◌≡◌, ◌∙◌, ℕ, ◌<◌, List, [], ◌∷◌, ◌++◌, append-nil, append_assoc, ap, arith, length, refl, subst, sym, Result}
+use Rattle.std.proofs.Common.{Ok, Err, OnOk, codes, decimal, false, is_err, true≢false, flat_map, length-append}
 use Rattle.lnt_wire.specs.At.{At}
 use Rattle.lnt_wire.specs.Bytes.{NoneSpelled}
 use Rattle.lnt_wire.specs.Leb128.{UnsignedLeb}
@@ -91,20 +87,15 @@ pub left_all : (bytes rest old text : List ℕ) → AreLeft bytes rest old text 
     → (numbers : List ℕ) → Each UnsignedLeb numbers bytes → text ≡ old ++ flat_map operand_text numbers
 left_all bytes rest old text are empty numbers spelled = grind (arith, common_steps, none_left)
 
--- the line of an operation, in its three parts
-pub line_told : {A E : Type 0} (result : Result A E) (view : OpView) (index : ℕ) (old start middle new : List ℕ)
-    → start ≡ old ++ ((codes "op " ++ decimal index) ++ codes " ")
+-- the line of an operation, in its parts
+pub line_told : (view : OpView) (index : ℕ) (old named start middle new : List ℕ)
+    → named ≡ old ++ (codes "op " ++ decimal index) → start ≡ named ++ (32 ∷ [])
     → ((numbers : List ℕ) → HasOperands view numbers → middle ≡ start ++ op_text (op_of view numbers))
-    → OnOk result (new ≡ middle ++ (10 ∷ [])) → OnOk result ((done : Op) → StandsFor view done → new ≡ old ++ op_line index done)
-line_told (Err error) view index old start middle new first text last = last
-line_told (Ok value) view index old start middle new first text last =
-    λ done stands.
-    let begin = (codes "op " ++ decimal index) ++ codes " " in
-    let name = op_text done in
-    let here : middle ≡ start ++ name =
+    → new ≡ middle ++ (10 ∷ []) → (done : Op) → StandsFor view done → new ≡ old ++ op_line index done
+line_told view index old named start middle new name space text last done stands =
+    let here : middle ≡ start ++ op_text done =
     text (operands_of done) (has_those view done stands) ∙ ap (λ (op : Op). start ++ op_text op) (sym (is_op_of view done stands)) in
-    last ∙ ap (λ (z : List ℕ). z ++ (10 ∷ [])) (here ∙ ap (λ (z : List ℕ). z ++ name) first)
-    ∙ append_assoc (old ++ begin) name (10 ∷ []) ∙ append_assoc old begin (name ++ (10 ∷ []))
+    grind (arith, common_steps, append_assoc)
 
 -- ---- operands after what was added before them
 

@@ -1,9 +1,8 @@
 -- Text that is written page by page.
 use Rattle.std.proofs.lemmas.Grind.{common_steps}
-use Rattle.std.proofs.Common.{◌≡◌, ◌∙◌, ℕ, ◌+◌, ◌<◌, Bool, true, false, cond, List, [], ◌∷◌, ◌++◌, length, take, drop, get_or, Option}
+use Rattle.std.proofs.Common.{◌≡◌, ◌∙◌, ℕ, ◌+◌, ◌<◌, List, [], ◌∷◌, ◌++◌, length, take, drop, get_or, Option}
 use Rattle.std.proofs.Common.{refl, sym, ap, append_assoc, append-nil, subst, arith, take-append-drop, Result, Ok, Err, OnOk, OnErr}
 use Rattle.std.proofs.lemmas.List.{length-take-le, take_more}
-use Rattle.std.proofs.lemmas.Bool.{true≢false}
 use Rattle.std.proofs.KnownBytes.{Appends-nil, Appends-trans}
 use Rattle.std.specs.Io.KnownBytes.{Appends}
 use Rattle.lnt_io.specs.Prefixes.{AppendsPrefix}
@@ -57,12 +56,6 @@ module _ {text page : List ℕ} {old now : Option (List ℕ)} where
 -- nothing is added
 pub paged_none : (page : List ℕ) (out : Option (List ℕ)) → IsPaged (page ++ []) out out page
 paged_none page out = record { written = []; appended = Appends-nil out; joined = append-nil page }
-
--- no more text was asked for
-pub paged_unshown : (shows : Bool) (text page : List ℕ) (out : Option (List ℕ)) → shows ≡ false
-    → IsPaged (page ++ cond shows text []) out out page
-paged_unshown true text page out e = absurd (true≢false e)
-paged_unshown false text page out e = paged_none page out
 
 -- ---- lines that are counted, after the text before them
 

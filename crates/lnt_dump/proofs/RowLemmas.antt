@@ -3,7 +3,6 @@ use Rattle.std.proofs.Common.{◌≡◌, ◌∙◌, ℕ, ◌+◌, ◌-◌, ◌�
 use Rattle.std.proofs.Common.{List, [], ◌∷◌, ◌++◌, drop, take, length, ap, arith, slice_set}
 use Rattle.std.specs.Int.{from_bool}
 use Rattle.std.proofs.lemmas.List.{drop-set}
-use Rattle.lnt_wire.specs.FaultTexts.{hexadecimal}
 use Rattle.lnt_text.specs.Digits.{IsPlainAddress, IsPlainDecimal}
 use Rattle.lnt_machine.specs.declared.row.Row.{Row}
 use Rattle.lnt_dump.specs.Rows.{marks_text, row_line}
@@ -43,20 +42,6 @@ pub line_of : {t0 t1 t2 t3 t4 t5 t6 t7 t8 t9 t10 t11 t12 t13 t14 t15 t16 : List 
     → t12 ≡ decimal number ++ (32 ∷ t11) → t13 ≡ 32 ∷ t12 → t14 ≡ 119 ∷ t13 → t15 ≡ 111 ∷ t14 → t16 ≡ 114 ∷ t15
     → t16 ≡ row_line number row
 line_of {t10 = t10} number row address stmt e0 e1 e2 e3 e4 e5 stmt_is e6 e7 e8 e9 e10 address_is e11 e12 e13 e14 e15 e16 =
-    let s1 = e1 ∙ ap (λ rest. decimal row.discriminator ++ (10 ∷ rest)) e0 in
-    let s2 = e2 ∙ ap (λ rest. decimal row.isa ++ (32 ∷ rest)) s1 in
-    let s3 = e3 ∙ ap (λ rest. marks_text row ++ (32 ∷ rest)) s2 in
-    let s4 = e4 ∙ ap (λ rest. 32 ∷ rest) s3 in
-    let s5 = stmt_text row.is_stmt stmt _ _ stmt_is e5 ∙ ap (λ rest. (if row.is_stmt then codes "1" else codes "0") ++ rest) s4 in
-    let s6 = e6 ∙ ap (λ rest. decimal row.column ++ (32 ∷ rest)) s5 in
-    let s7 = e7 ∙ ap (λ rest. decimal row.line ++ (32 ∷ rest)) s6 in
-    let s8 = e8 ∙ ap (λ rest. decimal row.file ++ (32 ∷ rest)) s7 in
-    let s9 = e9 ∙ ap (λ rest. decimal row.op_index ++ (32 ∷ rest)) s8 in
-    let s10 = e10 ∙ ap (λ rest. 32 ∷ rest) s9 in
-    let s11 = e11 ∙ ap (λ prefix. prefix ++ t10) (address_text row.address address address_is)
-    ∙ ap (λ rest. hexadecimal row.address ++ rest) s10 in
-    let s12 = e12 ∙ ap (λ rest. decimal number ++ (32 ∷ rest)) s11 in
-    let s13 = e13 ∙ ap (λ rest. 32 ∷ rest) s12 in
-    let s14 = e14 ∙ ap (λ rest. 119 ∷ rest) s13 in
-    let s15 = e15 ∙ ap (λ rest. 111 ∷ rest) s14 in
-    e16 ∙ ap (λ rest. 114 ∷ rest) s15
+    let digit = stmt_text row.is_stmt stmt _ _ stmt_is e5 in
+    let place = e11 ∙ ap (λ prefix. prefix ++ t10) (address_text row.address address address_is) in
+    cc

@@ -1,7 +1,6 @@
 -- Walks over the operations of a valid unit: the lines of its operations, its rows, and whether its program runs.
-use Rattle.std.proofs.Common.{◌≡◌, ◌∙◌, ℕ, ◌+◌, ◌^◌, ◌<◌, ◌≤◌, List, [], ◌∷◌, ◌++◌, length, take, drop, get_or, refl, sym, ap, subst}
-use Rattle.std.proofs.Common.{arith, false, take_all}
-use Rattle.std.specs.Prelude.{Option}
+use Rattle.std.proofs.Common.{◌≡◌, ◌∙◌, ℕ, ◌+◌, ◌^◌, ◌<◌, ◌≤◌, List, [], ◌∷◌, ◌++◌, length, take, drop, get_or, refl, sym, ap, subst, arith}
+use Rattle.std.proofs.Common.{false, take_all, Option}
 use Rattle.std.proofs.lemmas.List.{drop_more, length-drop}
 use Rattle.lnt_io.specs.Prefixes.{AppendsPrefix}
 use Rattle.lnt_header.specs.HeaderRules.{IsHeader}

@@ -13,7 +13,6 @@ use Rattle.lnt_machine.specs.declared.fault.RunFault.{RunFault}
 use Rattle.lnt_machine.specs.FaultTexts.{run_text}
 use Rattle.lnt_machine.specs.Matrix.{IsRunFault, Runs, rows}
 use Rattle.lnt_io.specs.declared.status.Status.{Status}
-use Rattle.lnt_io.specs.declared.status.Status.TheVariants.{Done, No}
 use Rattle.lnt_text.specs.Texts.{malformed_text}
 use Rattle.lnt_unit.specs.BrokenUnits.{BrokenUnit}
 use Rattle.lnt_unit.specs.UnitBytes.{UnitBytesIn}
@@ -22,6 +21,7 @@ use Rattle.lnt_dump.specs.Headers.{header_lines}
 use Rattle.lnt_dump.specs.Numbered.{numbered}
 use Rattle.lnt_dump.specs.Operations.{op_line}
 use Rattle.lnt_dump.specs.Rows.{row_line}
+use Rattle.lnt_dump.specs.Units.{fault_status}
 
 -- ---- texts
 
@@ -40,11 +40,6 @@ abbrev pub fault_line : ℕ → Option RowFault → List ℕ
 fault_line offset None = []
 fault_line offset (Some (Malformed fault)) = malformed_text fault ++ codes "\n"
 fault_line offset (Some (Run fault)) = run_text offset fault ++ codes "\n"
-
--- how the run ends after it
-abbrev pub fault_status : Option RowFault → Status
-fault_status None = Done
-fault_status (Some fault) = No
 
 -- the lines of units, and that of the fault after them
 abbrev pub dump_text : DumpParts → List FramedUnit → ℕ → Option RowFault → List ℕ

@@ -7,4 +7,3 @@ pub mod Rows
 pub mod Stepping
 pub mod Units
 pub mod Upgraded
-pub mod Widths

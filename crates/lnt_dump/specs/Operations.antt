@@ -1,14 +1,12 @@
 -- The lines of operations (DWARF 5, sections 6.2.5 and 7.22).
-use Rattle.std.specs.Prelude.{ℕ, List, [], ◌∷◌, ◌++◌, codes, decimal}
+use Rattle.std.specs.Prelude.{ℕ, List, [], ◌∷◌, ◌++◌, codes, decimal, flat_map}
 use Rattle.std.specs.Fmt.{signed_decimal}
-use Rattle.std.specs.List.{flat_map}
 use Rattle.hex.specs.Hex.{encode_lower}
 use Rattle.lnt_wire.specs.FaultTexts.{hexadecimal}
 use Rattle.lnt_header.specs.declared.op.Op.{Op}
-use Rattle.lnt_header.specs.declared.op.Op.TheVariants.{Special, Copy, AdvancePc, AdvanceLine, SetFile, SetColumn}
-use Rattle.lnt_header.specs.declared.op.Op.TheVariants.{NegateStmt, SetBasicBlock, ConstAddPc, FixedAdvancePc}
-use Rattle.lnt_header.specs.declared.op.Op.TheVariants.{SetPrologueEnd, SetEpilogueBegin, SetIsa, UnknownStandard}
-use Rattle.lnt_header.specs.declared.op.Op.TheVariants.{EndSequence, SetAddress, SetDiscriminator, UnknownExtended}
+use Rattle.lnt_header.specs.declared.op.Op.TheVariants.{Special, Copy, AdvancePc, AdvanceLine, SetFile, SetColumn, NegateStmt}
+use Rattle.lnt_header.specs.declared.op.Op.TheVariants.{SetBasicBlock, ConstAddPc, FixedAdvancePc, SetPrologueEnd, SetEpilogueBegin, SetIsa}
+use Rattle.lnt_header.specs.declared.op.Op.TheVariants.{UnknownStandard, EndSequence, SetAddress, SetDiscriminator, UnknownExtended}
 
 -- a number after a space
 abbrev pub operand_text : ℕ → List ℕ

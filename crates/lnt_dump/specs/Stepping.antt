@@ -24,7 +24,8 @@ use Rattle.lnt_unit.specs.UnitBytes.{UnitBytesIn}
 use Rattle.lnt_unit.specs.Views.{View, with_ops}
 use Rattle.lnt_wire.specs.declared.frame.Frame.{Frame}
 use Rattle.lnt_dump.specs.declared.dump.DumpParts.{DumpParts}
-use Rattle.lnt_dump.specs.Dumps.{DoesNotRun, fault_line, fault_status, unit_lines}
+use Rattle.lnt_dump.specs.Dumps.{DoesNotRun, fault_line, unit_lines}
+use Rattle.lnt_dump.specs.Units.{fault_status}
 use Rattle.lnt_dump.specs.declared.units.Next.{Next}
 use Rattle.lnt_dump.specs.declared.units.Next.TheVariants.{Unit as NextUnit, Fault as NextFault, End}
 

@@ -1,8 +1,9 @@
 -- What `units` prints.
-use Rattle.std.specs.Prelude.{◌≡◌, ◌<◌, ℕ, List, [], ◌++◌, Option, Some, None, IfSome, codes, decimal}
-use Rattle.std.specs.List.{All, flat_map}
+use Rattle.std.specs.Prelude.{◌≡◌, ◌<◌, ℕ, List, [], ◌++◌, Option, Some, None, IfSome, codes, decimal, All, flat_map}
 use Rattle.std.specs.Io.KnownBytes.{Appends}
 use Rattle.lnt_wire.specs.declared.fault.Fault.{Fault}
+use Rattle.lnt_wire.specs.declared.format.Format.{Format}
+use Rattle.lnt_wire.specs.declared.format.Format.TheVariants.{D32, D64}
 use Rattle.lnt_wire.specs.declared.format.Order.{Order}
 use Rattle.lnt_wire.specs.declared.frame.Frame.{Frame}
 use Rattle.lnt_wire.specs.FaultTexts.{hexadecimal}
@@ -10,7 +11,11 @@ use Rattle.lnt_wire.specs.Frames.{AreFrames}
 use Rattle.lnt_io.specs.declared.status.Status.{Status}
 use Rattle.lnt_io.specs.declared.status.Status.TheVariants.{Done, No}
 use Rattle.lnt_text.specs.Texts.{malformed_text}
-use Rattle.lnt_dump.specs.Widths.{width}
+
+-- the bits of an offset in a format
+abbrev pub width : Format → ℕ
+width D32 = 32
+width D64 = 64
 
 -- the line of a unit: its offset, the bits of an offset in its format, and its length
 abbrev pub unit_line : Frame → List ℕ
@@ -22,10 +27,10 @@ abbrev pub end_line : Option Fault → List ℕ
 end_line None = []
 end_line (Some fault) = malformed_text fault ++ codes "\n"
 
--- how the run ends after it
-abbrev pub end_status : Option Fault → Status
-end_status None = Done
-end_status (Some fault) = No
+-- how the run ends after a fault, if there is one
+abbrev pub fault_status : {X : Type 0} → Option X → Status
+fault_status None = Done
+fault_status (Some fault) = No
 
 -- What was appended to a writer that held these bytes (old) is the lines of frames, the line of the fault after them, if there is
 -- one, and nothing else. If the source's bytes are known (section), these are its frames, and its first fault.
@@ -34,7 +39,7 @@ pub record AreUnitsTold (order : Order) (section old new : Option (List ℕ)) (s
   pub fault : Option Fault
   pub so : IfSome section (λ bytes. AreFrames order bytes frames fault)
   pub printed : Appends old new (flat_map unit_line frames ++ end_line fault)
-  pub status_is : status ≡ end_status fault
+  pub status_is : status ≡ fault_status fault
 
 -- each is a number below 256, and so a byte
 abbrev pub AreBytes : List ℕ → Type 0

@@ -6,7 +6,7 @@ ghost use Rattle.lnt_io.specs.Halts.{IsPrinting};
 ghost use Rattle.lnt_io.specs.declared.status.Status.TheVariants.{Done, No};
 ghost use Rattle.lnt_unit.specs.ConvertedUnits.{Converts};
 ghost use Rattle.lnt_unit.specs.Converting.{IsConverted};
-ghost use Rattle.lnt_dump.specs.Printed.{IsConversionBegun, IsConversionTold, IsPrintedIn, IsRefusalTold, refusal_text};
+ghost use Rattle.lnt_dump.specs.Printed.{IsConversionBegun, IsPrintedIn, IsRefusalTold, refusal_text};
 ghost use Rattle.lnt_dump.specs.Stepping.{IsPrefixIn};
 ghost use Rattle.lnt_io.specs.Stopping.{CountsFailure, IsTooLongOn};
 
@@ -28,6 +28,7 @@ use std::io::Write;
 /// has been written, and nothing else. It keeps the bytes of the section, which are read once, and converts them unit by
 /// unit, once each unit is known to have an encoding in the format. The caller ensures that the number of the source's
 /// failures is below `u64::MAX`.
+#[tactic(auto, using(crate::proofs::SectionPrefixes::refusal_begun))]
 pub fn print_converted<R: Source, W: Write>(
     alloc: Global,
     source: &mut R,
@@ -47,26 +48,9 @@ pub fn print_converted<R: Source, W: Write>(
     ensures too_long { IsTooLongOn ⟦<R as Source>⟧ source.old source.new result Halt.TooLong }
 {
     let bytes = read_all(alloc, source)?;
-    print_conversion(alloc, &bytes, order, format, to, out)
-}
-
-// Prints the section in the format and in the byte order `to`, or the line that says why there is no such section.
-#[tactic(auto, using(crate::proofs::SectionPrefixes::refusal_begun))]
-fn print_conversion<W: Write>(
-    alloc: Global,
-    bytes: &[u8],
-    order: Order,
-    format: Format,
-    to: Order,
-    out: &mut W,
-) -> Result<Status, Halt>
-    ensures told { IfOk result (IsConversionTold order bytes.now format to (W.contents out.old) (W.contents out.new)) }
-    ensures begun { OnErr result (IsConversionBegun order bytes.now format to (W.contents out.old) (W.contents out.new)) }
-    ensures err { IfErr result IsPrinting }
-{
-    match judge_conversion(alloc, bytes, order, format, to) {
+    match judge_conversion(alloc, &bytes, order, format, to) {
         Ok(()) => {
-            print_section(alloc, bytes, order, format, to, out)?;
+            print_section(alloc, &bytes, order, format, to, out)?;
             Ok(Status::Done)
         }
         Err(fault) => print_refusal(alloc, fault, out),

@@ -1,16 +1,11 @@
 //! The subcommand `dump`.
-ghost use Rattle.std.specs.Prelude.{◌≡◌, ◌++◌, ◌-◌, ◌^◌, ◌<◌, ◌⊎◌, [], List, cond, IfOk, OnErr, OnOk};
+ghost use Rattle.std.specs.Prelude.{◌≡◌, ◌-◌, ◌^◌, ◌<◌, ◌⊎◌, List, IfOk, OnErr, OnOk};
 ghost use Rattle.std.specs.Io.KnownBytes.{Appends, Keeps};
 ghost use Rattle.lnt_io.specs.Prefixes.{AppendsPrefix};
 ghost use Rattle.lnt_header.specs.declared.op.Op.{Op};
-ghost use Rattle.lnt_machine.specs.Matrix.{Runs, rows};
 ghost use Rattle.lnt_unit.specs.Views.{with_ops};
 ghost use Rattle.lnt_dump.specs.Dumps.{IsDumpBegun, IsDumped, unit_lines};
-ghost use Rattle.lnt_dump.specs.Headers.{header_lines};
-ghost use Rattle.lnt_dump.specs.Numbered.{numbered};
-ghost use Rattle.lnt_dump.specs.Operations.{op_line};
-ghost use Rattle.lnt_dump.specs.Rows.{row_line};
-ghost use Rattle.lnt_dump.specs.Stepping.{IsPaged, IsSound, IsUnitOf, UnitBegun, UnitTold};
+ghost use Rattle.lnt_dump.specs.Stepping.{IsSound, IsUnitOf, UnitBegun, UnitTold};
 
 use crate::faults::{print_fault, print_unit_fault};
 use crate::header::print_header;
@@ -130,65 +125,9 @@ fn print_valid<W: Write>(
     ensures prefix { OnErr result ((ops : List Op) → IsUnitOf unit.now ops
         → AppendsPrefix (W.contents out.old) (W.contents out.new) (unit_lines shown (frame.now, with_ops unit.now ops))) }
 {
-    begin_page(alloc, unit, frame, page, out)?;
-    print_shown_ops(alloc, unit, shown, page, out)?;
-    print_shown_rows(unit, shown, page, out)?;
-    hand_on(page, out)
-}
-
-// Prints the lines of a unit's header, at the beginning of a page.
-fn begin_page<W: Write>(
-    alloc: Global,
-    unit: &UnitInPlace<'_>,
-    frame: &Frame<'_>,
-    page: &mut Vec<u8>,
-    out: &mut W,
-) -> Result<(), Halt>
-    ensures ok { OnOk result (IsPaged (header_lines frame.now unit.now.header) (W.contents out.old) (W.contents out.new) page.new.items) }
-    ensures prefix { OnErr result (AppendsPrefix (W.contents out.old) (W.contents out.new) (header_lines frame.now unit.now.header)) }
-{
     page.clear();
-    print_header(alloc, frame, &unit.header(), page, out)
-}
-
-// Prints the operations of a valid unit, if they are shown.
-fn print_shown_ops<W: Write>(
-    alloc: Global,
-    unit: &UnitInPlace<'_>,
-    shown: DumpParts,
-    page: &mut Vec<u8>,
-    out: &mut W,
-) -> Result<(), Halt>
-    requires { (ops : List Op) × IsUnitOf unit.now ops }
-    ensures ok { OnOk result ((ops : List Op) → IsUnitOf unit.now ops
-        → IsPaged (page.old.items ++ cond shown.ops (numbered op_line 0 ops) [])
-        (W.contents out.old) (W.contents out.new) page.new.items) }
-    ensures prefix { OnErr result ((ops : List Op) → IsUnitOf unit.now ops
-        → AppendsPrefix (W.contents out.old) (W.contents out.new) (page.old.items ++ cond shown.ops (numbered op_line 0 ops) [])) }
-{
-    if shown.ops {
-        return print_ops(alloc, unit, page, out);
-    }
-    Ok(())
-}
-
-// Prints the rows of a valid unit, if they are shown; then its program runs.
-fn print_shown_rows<W: Write>(
-    unit: &UnitInPlace<'_>,
-    shown: DumpParts,
-    page: &mut Vec<u8>,
-    out: &mut W,
-) -> Result<(), Halt>
-    requires { IsSound unit.now shown.rows }
-    ensures ok { OnOk result ((ops : List Op) → IsUnitOf unit.now ops
-        → IsPaged (page.old.items ++ cond shown.rows (numbered row_line 0 (rows (with_ops unit.now ops))) [])
-        (W.contents out.old) (W.contents out.new) page.new.items) }
-    ensures prefix { OnErr result ((ops : List Op) → IsUnitOf unit.now ops
-        → AppendsPrefix (W.contents out.old) (W.contents out.new)
-        (page.old.items ++ cond shown.rows (numbered row_line 0 (rows (with_ops unit.now ops))) [])) }
-{
-    if shown.rows {
-        return print_rows(unit, page, out);
-    }
-    Ok(())
+    print_header(alloc, frame, &unit.header(), page, out)?;
+    print_ops(alloc, unit, shown.ops, page, out)?;
+    print_rows(unit, shown.rows, page, out)?;
+    hand_on(page, out)
 }

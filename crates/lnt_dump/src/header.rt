@@ -1,26 +1,25 @@
 //! How headers are printed, with their entries read one by one in place.
-ghost use Rattle.std.specs.Prelude.{◌≡◌, ◌++◌, OnErr, OnOk, Some, codes, decimal};
+ghost use Rattle.std.specs.Prelude.{◌≡◌, ◌++◌, IfSome, OnErr, OnOk, Some, codes, decimal};
 ghost use Rattle.std.specs.Io.KnownBytes.{Appends};
 ghost use Rattle.lnt_io.specs.Prefixes.{AppendsPrefix};
 ghost use Rattle.hex.specs.Hex.{encode_lower};
 ghost use Rattle.lnt_wire.specs.Borrowed.{value_of};
 ghost use Rattle.lnt_wire.specs.Bytes.{NoneSpelled};
 ghost use Rattle.lnt_header_bytes.specs.TableBytes.{EntryBytes};
-ghost use Rattle.lnt_text.specs.Quotes.{quoted_text};
 ghost use Rattle.lnt_dump.specs.Headers.{block_text, entry_end, entry_line, header_lines, numbers_line, value_text};
 ghost use Rattle.lnt_dump.specs.Numbered.{numbered};
-ghost use Rattle.lnt_wire.specs.FaultTexts.{hexadecimal};
 ghost use Rattle.lnt_dump.specs.Stepping.{IsPaged, PassesPrinting};
 ghost use Rattle.lnt_dump.specs.Units.{unit_line};
 
 use crate::page::turn_full;
-use crate::width::width_of;
+use crate::units::width_of;
 use lnt_header::{HeaderNumbers, Pair};
 use lnt_header_bytes::{EntryTableView, HeaderView};
 use lnt_io::{Halt, write_whole};
 use lnt_text::Quoted;
 use lnt_wire::{Cursor, Format, Frame, ValueView};
 use std::alloc::Global;
+use std::fmt;
 use std::io::Write;
 
 // This many bytes of a block are written at once.
@@ -49,13 +48,10 @@ pub(crate) fn print_header<W: Write>(
 fn put_numbers(frame: &Frame<'_>, numbers: &HeaderNumbers, text: &mut Vec<u8>) -> Result<(), Halt>
     ensures { OnOk result (text.new.items ≡ text.old.items ++ ((codes "unit " ++ unit_line frame.now) ++ numbers_line numbers.now)) }
 {
-    if print_numbers(frame, numbers, text).is_err() {
-        return Err(Halt::Memory);
-    }
-    Ok(())
+    print_numbers(frame, numbers, text).map_err(|_| Halt::Memory)
 }
 
-// Prints the lines of a unit and of its header's numbers.
+// Prints the lines of a unit and of its header's numbers, in the order in which the header has them.
 fn print_numbers<W: Write>(
     frame: &Frame<'_>,
     numbers: &HeaderNumbers,
@@ -64,23 +60,8 @@ fn print_numbers<W: Write>(
     ensures { OnOk result (Appends (W.contents out.old) (W.contents out.new)
         ((codes "unit " ++ unit_line frame.now) ++ numbers_line numbers.now)) }
 {
-    print_unit_line(frame, out)?;
-    print_header_line(numbers, out)
-}
-
-// Prints the line of a unit.
-fn print_unit_line<W: Write>(frame: &Frame<'_>, out: &mut W) -> Result<(), Halt>
-    ensures { OnOk result (Appends (W.contents out.old) (W.contents out.new) (codes "unit " ++ unit_line frame.now)) }
-{
     let (offset, width, length) = (frame.offset, width_of(frame.format), frame.length);
     writeln!(out, "unit 0x{offset:x} {width} {length}")?;
-    Ok(())
-}
-
-// Prints the line of the header's numbers, in the order in which the header has them.
-fn print_header_line<W: Write>(numbers: &HeaderNumbers, out: &mut W) -> Result<(), Halt>
-    ensures { OnOk result (Appends (W.contents out.old) (W.contents out.new) (numbers_line numbers.now)) }
-{
     let address_size = numbers.address_size();
     let minimum = numbers.minimum_instruction_length();
     let max_ops = numbers.max_ops();
@@ -131,10 +112,7 @@ fn put_line(
     ensures { OnOk result (PassesPrinting (entry_line name.now pairs.now index) format pairs.now cursor.old cursor.new
         (Some text.old.items) (Some text.new.items)) }
 {
-    if print_entry_line(alloc, name, index, format, pairs, cursor, text).is_err() {
-        return Err(Halt::Memory);
-    }
-    Ok(())
+    print_entry_line(alloc, name, index, format, pairs, cursor, text).map_err(|_| Halt::Memory)
 }
 
 // Prints the line of the next entry, which exists, and moves past it.
@@ -152,16 +130,8 @@ fn print_entry_line<W: Write>(
     ensures { OnOk result (PassesPrinting (entry_line name.now pairs.now index) format pairs.now cursor.old cursor.new
         (W.contents out.old) (W.contents out.new)) }
 {
-    print_start(name, index, out)?;
+    print_text(&format_args!("{name} {index}"), out)?;
     print_entry(alloc, format, pairs, cursor, out)
-}
-
-// Prints the beginning of the line of an entry: what it is, and its index.
-fn print_start<W: Write>(name: &str, index: u64, out: &mut W) -> Result<(), Halt>
-    ensures { OnOk result (Appends (W.contents out.old) (W.contents out.new) (name.now ++ (codes " " ++ decimal index))) }
-{
-    write!(out, "{name} {index}")?;
-    Ok(())
 }
 
 // Prints the components of the next entry, which exists, and the end of its line, and moves past it.
@@ -196,7 +166,7 @@ fn print_component<W: Write>(
     ensures { OnOk result (Appends (W.contents out.old) (W.contents out.new)
         (codes " " ++ (decimal content ++ (codes "=" ++ value_text (value_of value.entry))))) }
 {
-    write!(out, " {content}=")?;
+    print_text(&format_args!(" {content}="), out)?;
     print_value(alloc, value, out)
 }
 
@@ -205,13 +175,13 @@ fn print_value<W: Write>(alloc: Global, value: ValueView<'_>, out: &mut W) -> Re
     ensures { OnOk result (Appends (W.contents out.old) (W.contents out.new) (value_text (value_of value.entry))) }
 {
     match value {
-        ValueView::Text(text) => print_text(text, out),
-        ValueView::LineStrp(offset) => print_offset("line_strp", offset, out),
-        ValueView::Strp(offset) => print_offset("strp", offset, out),
-        ValueView::Udata(n) | ValueView::Data8(n) => print_number(n, out),
-        ValueView::Data1(n) => print_number(u64::from(n), out),
-        ValueView::Data2(n) => print_number(u64::from(n), out),
-        ValueView::Data4(n) => print_number(u64::from(n), out),
+        ValueView::Text(text) => print_text(&Quoted(text), out),
+        ValueView::LineStrp(offset) => print_text(&format_args!("line_strp:0x{offset:x}"), out),
+        ValueView::Strp(offset) => print_text(&format_args!("strp:0x{offset:x}"), out),
+        ValueView::Udata(n) | ValueView::Data8(n) => print_text(&n, out),
+        ValueView::Data1(n) => print_text(&n, out),
+        ValueView::Data2(n) => print_text(&n, out),
+        ValueView::Data4(n) => print_text(&n, out),
         ValueView::Data16(bytes) => print_bytes(alloc, bytes.as_slice(), out),
         ValueView::Block(bytes)
         | ValueView::Block1(bytes)
@@ -220,32 +190,18 @@ fn print_value<W: Write>(alloc: Global, value: ValueView<'_>, out: &mut W) -> Re
     }
 }
 
-fn print_text<W: Write>(text: &[u8], out: &mut W) -> Result<(), Halt>
-    ensures { OnOk result (Appends (W.contents out.old) (W.contents out.new) (quoted_text text.now)) }
+// Prints the text of a value.
+fn print_text<T: fmt::Display, W: Write>(value: &T, out: &mut W) -> Result<(), Halt>
+    ensures { IfSome (T.output value.now) (λ text. OnOk result (Appends (W.contents out.old) (W.contents out.new) text)) }
 {
-    write!(out, "{}", Quoted(text))?;
-    Ok(())
-}
-
-// Prints an offset into the string section of this name.
-fn print_offset<W: Write>(strings: &str, offset: u64, out: &mut W) -> Result<(), Halt>
-    ensures { OnOk result (Appends (W.contents out.old) (W.contents out.new) (strings.now ++ (codes ":" ++ hexadecimal offset))) }
-{
-    write!(out, "{strings}:0x{offset:x}")?;
-    Ok(())
-}
-
-fn print_number<W: Write>(n: u64, out: &mut W) -> Result<(), Halt>
-    ensures { OnOk result (Appends (W.contents out.old) (W.contents out.new) (decimal n)) }
-{
-    write!(out, "{n}")?;
+    write!(out, "{value}")?;
     Ok(())
 }
 
 fn print_block<W: Write>(alloc: Global, bytes: &[u8], out: &mut W) -> Result<(), Halt>
     ensures { OnOk result (Appends (W.contents out.old) (W.contents out.new) (block_text bytes.now)) }
 {
-    write!(out, "block:")?;
+    write_whole(out, b"block:")?;
     print_bytes(alloc, bytes, out)
 }
 

@@ -15,7 +15,6 @@ mod rows;
 mod run;
 mod units;
 mod upgrade;
-mod width;
 
 pub use convert::print_converted;
 pub use dump::{DumpParts, print_dump};

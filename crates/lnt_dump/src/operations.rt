@@ -1,7 +1,6 @@
 //! How operations are printed.
-ghost use Rattle.std.specs.Prelude.{◌≡◌, ℕ, ◌∷◌, ◌++◌, List, OnErr, OnOk, [], codes, decimal};
+ghost use Rattle.std.specs.Prelude.{◌≡◌, ℕ, ◌++◌, List, OnErr, OnOk, [], codes, cond, decimal, flat_map};
 ghost use Rattle.std.specs.Fmt.{signed_decimal};
-ghost use Rattle.std.specs.List.{flat_map};
 ghost use Rattle.lnt_io.specs.Prefixes.{AppendsPrefix};
 ghost use Rattle.lnt_wire.specs.FaultTexts.{hexadecimal};
 ghost use Rattle.lnt_wire.specs.Leb128.{UnsignedLeb};
@@ -22,19 +21,24 @@ use lnt_wire::{Cursor, Order};
 use std::alloc::{AllocError, Global};
 use std::io::Write;
 
-// Prints a line for each operation of a unit whose operations are valid.
+// Prints a line for each operation of a unit whose operations are valid, if they are shown.
 pub(crate) fn print_ops<W: Write>(
     alloc: Global,
     unit: &UnitInPlace<'_>,
+    is_shown: bool,
     page: &mut Vec<u8>,
     out: &mut W,
 ) -> Result<(), Halt>
     requires { (ops : List Op) × IsUnitOf unit.now ops }
     ensures ok { OnOk result ((ops : List Op) → IsUnitOf unit.now ops
-        → IsPaged (page.old.items ++ numbered op_line 0 ops) (W.contents out.old) (W.contents out.new) page.new.items) }
+        → IsPaged (page.old.items ++ cond is_shown (numbered op_line 0 ops) [])
+        (W.contents out.old) (W.contents out.new) page.new.items) }
     ensures prefix { OnErr result ((ops : List Op) → IsUnitOf unit.now ops
-        → AppendsPrefix (W.contents out.old) (W.contents out.new) (page.old.items ++ numbered op_line 0 ops)) }
+        → AppendsPrefix (W.contents out.old) (W.contents out.new) (page.old.items ++ cond is_shown (numbered op_line 0 ops) [])) }
 {
+    if !is_shown {
+        return Ok(());
+    }
     let mut index: u64 = 0;
     for op in unit.ops() {
         let Ok(op) = op else { unreachable!() };
@@ -64,7 +68,7 @@ fn print_op<W: Write>(
 }
 
 // Adds the line of the `index`th operation.
-#[tactic(auto, using(crate::proofs::Operands::has_operands, crate::proofs::Operands::line_told))]
+#[tactic(auto, using(crate::proofs::Operands::has_operands))]
 #[inline(always)]
 fn put_op_line(
     alloc: Global,
@@ -75,19 +79,11 @@ fn put_op_line(
     requires { (done : Op) × StandsFor op.now done }
     ensures { OnOk result ((done : Op) → StandsFor op.now done → text.new.items ≡ text.old.items ++ op_line index done) }
 {
-    put_start(text, index)?;
-    put_op(alloc, text, op)?;
-    put_one(text, b'\n')
-}
-
-// Adds the part of the line of the `index`th operation before the name.
-#[tactic(auto, using(crate::proofs::Lines::text_more))]
-#[inline(always)]
-fn put_start(text: &mut Vec<u8>, index: u64) -> Result<(), AllocError>
-    ensures { OnOk result (text.new.items ≡ text.old.items ++ ((codes "op " ++ decimal index) ++ codes " ")) }
-{
     put_named(text, b"op ", index)?;
-    put_one(text, b' ')
+    text.push(b' ')?;
+    put_op(alloc, text, op)?;
+    text.push(b'\n')?;
+    Ok(())
 }
 
 // Adds the name and the operands of an operation, as its line has them.
@@ -119,21 +115,12 @@ fn put_op(alloc: Global, text: &mut Vec<u8>, op: &OpView<'_>) -> Result<(), Allo
 }
 
 // Adds a name and a number.
-#[tactic(auto, using(crate::proofs::Lines::text_more))]
+#[tactic(auto, using(crate::proofs::Digits::decimal_put))]
 #[inline(always)]
 fn put_named(text: &mut Vec<u8>, name: &[u8], n: u64) -> Result<(), AllocError>
     ensures { OnOk result (text.new.items ≡ text.old.items ++ (name.now ++ decimal n)) }
 {
     text.extend_from_slice(name)?;
-    put_number(text, n)
-}
-
-// Adds the decimal digits of a number.
-#[tactic(auto, using(crate::proofs::Digits::decimal_put))]
-#[inline(always)]
-fn put_number(text: &mut Vec<u8>, n: u64) -> Result<(), AllocError>
-    ensures { OnOk result (text.new.items ≡ text.old.items ++ decimal n) }
-{
     put_decimal(text, n)
 }
 
@@ -147,20 +134,12 @@ fn put_line(text: &mut Vec<u8>, change: i64) -> Result<(), AllocError>
     put_named(text, b"advance_line ", change.unsigned_abs())
 }
 
-#[tactic(auto, using(crate::proofs::Lines::text_more))]
+// Adds `0x` and the hexadecimal digits of an address, after the name.
 fn put_set_address(text: &mut Vec<u8>, address: u64) -> Result<(), AllocError>
     ensures { OnOk result (text.new.items ≡ text.old.items ++ (codes "set_address " ++ hexadecimal address)) }
 {
     text.extend_from_slice(b"set_address ")?;
-    put_hexadecimal(text, address)
-}
-
-// Adds `0x` and the hexadecimal digits of a number.
-#[tactic(auto, using(crate::proofs::Digits::address_put))]
-fn put_hexadecimal(text: &mut Vec<u8>, n: u64) -> Result<(), AllocError>
-    ensures { OnOk result (text.new.items ≡ text.old.items ++ hexadecimal n) }
-{
-    put_address(text, n)
+    put_address(text, address)
 }
 
 // Adds the name, the opcode and the operands of an unknown standard operation.
@@ -212,18 +191,9 @@ fn put_extended(alloc: Global, text: &mut Vec<u8>, code: u8, bytes: &[u8]) -> Re
     if bytes.is_empty() {
         return Ok(());
     }
-    put_one(text, b' ')?;
+    text.push(b' ')?;
     if print_bytes(alloc, bytes, text).is_err() {
         return Err(AllocError);
     }
-    Ok(())
-}
-
-// Adds a byte. It is inlined, since it runs for each byte of a line.
-#[inline(always)]
-fn put_one(text: &mut Vec<u8>, byte: u8) -> Result<(), AllocError>
-    ensures { OnOk result (text.new.items ≡ text.old.items ++ (byte ∷ [])) }
-{
-    text.push(byte)?;
     Ok(())
 }

@@ -1,12 +1,12 @@
 //! How rows are printed.
-ghost use Rattle.std.specs.Prelude.{◌++◌, List, OnErr, OnOk};
+ghost use Rattle.std.specs.Prelude.{◌++◌, List, OnErr, OnOk, [], cond};
 ghost use Rattle.lnt_io.specs.Prefixes.{AppendsPrefix};
 ghost use Rattle.lnt_header.specs.declared.op.Op.{Op};
-ghost use Rattle.lnt_machine.specs.Matrix.{Runs, rows};
+ghost use Rattle.lnt_machine.specs.Matrix.{rows};
 ghost use Rattle.lnt_unit.specs.Views.{with_ops};
 ghost use Rattle.lnt_dump.specs.Numbered.{numbered};
 ghost use Rattle.lnt_dump.specs.Rows.{row_line as line_of_row};
-ghost use Rattle.lnt_dump.specs.Stepping.{IsPaged, IsUnitOf};
+ghost use Rattle.lnt_dump.specs.Stepping.{IsPaged, IsSound, IsUnitOf};
 
 use crate::line::{MOST, row_line};
 use crate::page::turn_full;
@@ -15,20 +15,24 @@ use lnt_machine::{Row, Run};
 use lnt_unit::UnitInPlace;
 use std::io::Write;
 
-// Prints a line for each row of a unit whose program runs.
+// Prints a line for each row of a valid unit, if they are shown; then its program runs.
 pub(crate) fn print_rows<W: Write>(
     unit: &UnitInPlace<'_>,
+    is_shown: bool,
     page: &mut Vec<u8>,
     out: &mut W,
 ) -> Result<(), Halt>
-    requires { (ops : List Op) × IsUnitOf unit.now ops × Runs (with_ops unit.now ops) }
+    requires { IsSound unit.now is_shown }
     ensures ok { OnOk result ((ops : List Op) → IsUnitOf unit.now ops
-        → IsPaged (page.old.items ++ numbered line_of_row 0 (rows (with_ops unit.now ops)))
+        → IsPaged (page.old.items ++ cond is_shown (numbered line_of_row 0 (rows (with_ops unit.now ops))) [])
         (W.contents out.old) (W.contents out.new) page.new.items) }
     ensures prefix { OnErr result ((ops : List Op) → IsUnitOf unit.now ops
         → AppendsPrefix (W.contents out.old) (W.contents out.new)
-        (page.old.items ++ numbered line_of_row 0 (rows (with_ops unit.now ops)))) }
+        (page.old.items ++ cond is_shown (numbered line_of_row 0 (rows (with_ops unit.now ops))) [])) }
 {
+    if !is_shown {
+        return Ok(());
+    }
     let mut room = [0; MOST];
     let mut run = Run::new(unit.numbers());
     let mut index: u64 = 0;

@@ -5,13 +5,12 @@ ghost use Rattle.lnt_io.specs.Prefixes.{AppendsPrefix, HasBegun};
 ghost use Rattle.lnt_unit.specs.declared.reader.Progress.TheVariants.{Reading};
 ghost use Rattle.lnt_unit.specs.Readers.{offset_of, order_of, progress_of, source_of};
 ghost use Rattle.lnt_dump.specs.Stepping.{IsNext, GivesUnit};
-ghost use Rattle.lnt_dump.specs.Units.{AreBytes, AreUnitsTold, unit_line};
+ghost use Rattle.lnt_dump.specs.Units.{AreBytes, AreUnitsTold, unit_line, width};
 
 use crate::faults::print_fault;
-use crate::width::width_of;
-use lnt_io::{Halt, Source, Status, write_whole};
+use lnt_io::{Halt, Source, Status, print_line};
 use lnt_unit::{SectionReader, SectionStop, UnitBuffer};
-use lnt_wire::{Fault, Frame, Order};
+use lnt_wire::{Fault, Format, Frame, Order};
 use std::alloc::Global;
 use std::io::Write;
 
@@ -38,11 +37,10 @@ pub fn print_units<R: Source, W: Write>(
 {
     let mut reader = SectionReader::new(source, order);
     let mut room = Vec::new(alloc);
-    let mut line = Vec::new(alloc);
     loop {
         match next_of(&mut reader, room)? {
             Next::Unit(unit) => {
-                print_frame(&unit.frame(), &mut line, out)?;
+                print_frame(alloc, &unit.frame(), out)?;
                 room = unit.into_bytes();
             }
             Next::Fault(fault) => return print_fault(alloc, fault, out),
@@ -83,16 +81,21 @@ pub(crate) fn next_of<R: Source>(
     }
 }
 
-// Prints the line of a unit, or a prefix of it. The line is put together in the room.
-fn print_frame<W: Write>(frame: &Frame<'_>, room: &mut Vec<u8>, out: &mut W) -> Result<(), Halt>
+// Prints the line of a unit, or a prefix of it.
+fn print_frame<W: Write>(alloc: Global, frame: &Frame<'_>, out: &mut W) -> Result<(), Halt>
     ensures whole { OnOk result (Appends (W.contents out.old) (W.contents out.new) (unit_line frame.now)) }
     ensures prefix { OnErr result (AppendsPrefix (W.contents out.old) (W.contents out.new) (unit_line frame.now)) }
 {
     let (offset, width, length) = (frame.offset, width_of(frame.format), frame.length);
-    room.clear();
-    if writeln!(room, "0x{offset:x} {width} {length}").is_err() {
-        return Err(Halt::Memory);
+    print_line(alloc, &format_args!("0x{offset:x} {width} {length}"), out)
+}
+
+// The width that names a format.
+pub(crate) fn width_of(format: Format) -> u8
+    ensures { result ≡ width format }
+{
+    match format {
+        Format::D32 => 32,
+        Format::D64 => 64,
     }
-    write_whole(out, room)?;
-    Ok(())
 }

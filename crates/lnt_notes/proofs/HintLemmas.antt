@@ -1,6 +1,5 @@
 -- Whether a section holds a position, as its first span tells.
-use Rattle.std.proofs.Common.{◌≡◌, ◌↔◌, Bool, IsTrue, List, Option, Some, None, [], ◌∷◌, ap, arith, is_none, length, sym}
-use Rattle.std.specs.List.Sorted.{IsPermutation}
+use Rattle.std.proofs.Common.{◌≡◌, ◌↔◌, Bool, IsTrue, List, Option, Some, None, [], ◌∷◌, ap, arith, is_none, length, sym, IsPermutation}
 use Rattle.std.proofs.lemmas.List.{nil_from_length}
 use Rattle.std.proofs.lemmas.List.Sorted.{length_permutation}
 use Rattle.lnt_spans.specs.Coming.{GivesFirstSpan}

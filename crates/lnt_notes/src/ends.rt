@@ -46,14 +46,10 @@ pub(crate) fn end_alike<R: Source>(
     None
 }
 
-// The ends of the sequence with this index in the unit of the buffer.
+// The ends of the sequence with this index in the unit of the buffer. `None` if the buffer has no valid unit, the unit has fewer
+// sequences, or its program doesn't run that far.
 fn ends_in(alloc: Global, buffer: &UnitBuffer, index: u64) -> Option<Ends> {
-    ends_of(&UnitInPlace::over(alloc, buffer).ok()?, index)
-}
-
-// The ends of the sequence with this index in the unit. `None` if the unit has fewer sequences, or its program doesn't run
-// that far.
-fn ends_of(unit: &UnitInPlace<'_>, index: u64) -> Option<Ends> {
+    let unit = UnitInPlace::over(alloc, buffer).ok()?;
     let mut ended: u64 = 0;
     let mut first = None;
     for row in Rows::new(unit.numbers(), unit.ops()) {

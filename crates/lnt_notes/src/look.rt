@@ -31,9 +31,9 @@ fn file_look(head: &[u8]) -> Option<Look> {
     match head {
         [0x7f, b'E', b'L', b'F', ..] => Some(Look::Elf),
         [b'M', b'Z', ..] => Some(Look::Pe),
-        [0xfe, 0xed, 0xfa, 0xce | 0xcf, ..] => Some(Look::MachO),
-        [0xce | 0xcf, 0xfa, 0xed, 0xfe, ..] => Some(Look::MachO),
-        [0xca, 0xfe, 0xba, 0xbe, ..] => Some(Look::MachO),
+        [0xfe, 0xed, 0xfa, 0xce | 0xcf, ..]
+        | [0xce | 0xcf, 0xfa, 0xed, 0xfe, ..]
+        | [0xca, 0xfe, 0xba, 0xbe, ..] => Some(Look::MachO),
         [0x1f, 0x8b, ..] => Some(Look::Gzip),
         [0x28, 0xb5, 0x2f, 0xfd, ..] => Some(Look::Zstd),
         _ => None,
@@ -54,11 +54,10 @@ fn holds_compressed(head: &[u8]) -> bool {
 
 // Whether the bytes begin like a stream of zlib or zstd.
 fn begins_stream(bytes: &[u8]) -> bool {
-    match bytes {
-        [0x28, 0xb5, 0x2f, 0xfd, ..] => true,
-        [0x78, 0x01 | 0x5e | 0x9c | 0xda, ..] => true,
-        _ => false,
-    }
+    matches!(
+        bytes,
+        [0x28, 0xb5, 0x2f, 0xfd, ..] | [0x78, 0x01 | 0x5e | 0x9c | 0xda, ..]
+    )
 }
 
 fn is_of_text(byte: u8) -> bool {
@@ -67,10 +66,7 @@ fn is_of_text(byte: u8) -> bool {
 
 // Whether the first unit, by its length in this byte order, ends within the bytes that were read.
 fn fits(seen: &Seen, order: Order) -> bool {
-    match size_in(seen.head(), order) {
-        Some(size) => size <= seen.count(),
-        None => false,
-    }
+    size_in(seen.head(), order).is_some_and(|size| size <= seen.count())
 }
 
 // The number of bytes of the first unit, its length field included, in this byte order (DWARF 5, section 7.4).

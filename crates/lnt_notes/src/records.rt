@@ -48,37 +48,19 @@ pub enum Columns {
 // The kind of the column with this index, counted from 0, in a table with these columns. `None` if it may contain any
 // bytes, or the table has no such column.
 pub(crate) fn column_at(columns: Columns, index: u64) -> Option<Column> {
-    match columns {
-        Columns::Numbered => numbered_column(index),
-        Columns::ByPath => path_column(index),
-    }
-}
-
-// The kind of this column in versions 3 and 4. Column 2 has none: a path may be any bytes.
-fn path_column(index: u64) -> Option<Column> {
-    match index {
-        0 => Some(Column::Low),
-        1 => Some(Column::High),
-        3 => Some(Column::Line),
-        4 => Some(Column::Column),
-        _ => None,
-    }
-}
-
-// The kind of this column in versions 1 and 2.
-fn numbered_column(index: u64) -> Option<Column> {
-    match index {
-        0 => Some(Column::Low),
-        1 => Some(Column::LowOp),
-        2 => Some(Column::High),
-        3 => Some(Column::HighOp),
-        4 => Some(Column::Unit),
-        5 => Some(Column::File),
-        6 => Some(Column::Line),
-        7 => Some(Column::Column),
-        8 => Some(Column::IsStmt),
-        9 => Some(Column::Isa),
-        10 => Some(Column::Discriminator),
+    match (columns, index) {
+        (_, 0) => Some(Column::Low),
+        (Columns::Numbered, 1) => Some(Column::LowOp),
+        (Columns::Numbered, 2) | (Columns::ByPath, 1) => Some(Column::High),
+        (Columns::Numbered, 3) => Some(Column::HighOp),
+        (Columns::Numbered, 4) => Some(Column::Unit),
+        (Columns::Numbered, 5) => Some(Column::File),
+        (Columns::Numbered, 6) | (Columns::ByPath, 3) => Some(Column::Line),
+        (Columns::Numbered, 7) | (Columns::ByPath, 4) => Some(Column::Column),
+        (Columns::Numbered, 8) => Some(Column::IsStmt),
+        (Columns::Numbered, 9) => Some(Column::Isa),
+        (Columns::Numbered, 10) => Some(Column::Discriminator),
+        // A path may be any bytes.
         _ => None,
     }
 }

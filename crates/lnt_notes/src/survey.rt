@@ -21,15 +21,6 @@ pub(crate) struct Survey {
 }
 
 impl Survey {
-    fn new(dead: Option<u64>) -> Survey {
-        Survey {
-            dead,
-            begins_dead: false,
-            marker: None,
-            count: 0,
-        }
-    }
-
     // Adds a sequence by its first row, in a unit whose addresses have `address_size` bytes.
     fn see(&mut self, row: &Row, address_size: u8) {
         let address = row.address;
@@ -45,8 +36,9 @@ impl Survey {
         }
     }
 
-    // Adds the sequences of a unit. `None` if its program doesn't run.
-    fn see_unit(&mut self, unit: &UnitInPlace<'_>) -> Option<()> {
+    // Adds the sequences of a unit. `None` if its bytes encode none, or its program doesn't run.
+    fn see_unit(&mut self, alloc: Global, buffer: &UnitBuffer) -> Option<()> {
+        let unit = UnitInPlace::over(alloc, buffer).ok()?;
         let numbers = unit.numbers();
         let mut begins = true;
         for row in Rows::new(numbers, unit.ops()) {
@@ -71,19 +63,20 @@ pub(crate) fn survey_of<R: Source>(
 ) -> Option<Survey>
     requires { R.failures source.old < 2 ^ 64 - 1 }
 {
-    let mut survey = Survey::new(dead);
+    let mut survey = Survey {
+        dead,
+        begins_dead: false,
+        marker: None,
+        count: 0,
+    };
     let mut reader = SectionReader::new(source, order);
     let mut room = Vec::new(alloc);
     while let Some(buffer) = reader.next_unit_in(room).ok()? {
-        see_buffer(alloc, &buffer, &mut survey)?;
+        survey.see_unit(alloc, &buffer)?;
         if survey.begins_dead && !all {
             return Some(survey);
         }
         room = buffer.into_bytes();
     }
     Some(survey)
-}
-
-fn see_buffer(alloc: Global, buffer: &UnitBuffer, survey: &mut Survey) -> Option<()> {
-    survey.see_unit(&UnitInPlace::over(alloc, buffer).ok()?)
 }

@@ -94,13 +94,12 @@ pub fn print_note<N: Write>(note: Note, notes: &mut N) -> io::Result<()>
 }
 
 // Prints the note if there is one.
-fn print_where<N: Write>(is_told: bool, note: Note, notes: &mut N) -> io::Result<()>
+fn print_any<N: Write>(note: Option<Note>, notes: &mut N) -> io::Result<()>
     ensures { OnOk result (AddsNotes (N.contents notes.old) (N.contents notes.new)) }
 {
-    if is_told {
-        print_note(note, notes)
-    } else {
-        Ok(())
+    match note {
+        Some(note) => print_note(note, notes),
+        None => Ok(()),
     }
 }
 
@@ -110,19 +109,12 @@ fn print_where<N: Write>(is_told: bool, note: Note, notes: &mut N) -> io::Result
 pub fn tell_refused<N: Write>(seen: &Seen, order: Order, notes: &mut N) -> io::Result<()>
     ensures { OnOk result (AddsNotes (N.contents notes.old) (N.contents notes.new)) }
 {
-    match look_of(seen, order) {
-        Some(look) => print_note(Note::NotRaw(look), notes),
-        None => Ok(()),
-    }
-}
-
-// Whether the reason is that a unit is of version 2, 3 or 4.
-fn is_older(reason: Reason) -> bool {
-    matches!(reason, Reason::VersionNotFive(2..=4))
+    print_any(look_of(seen, order).map(Note::NotRaw), notes)
 }
 
 /// Prints the notes to the reason why a section isn't good. It fails only if the writer does; then a prefix of these notes
 /// may be written.
+#[tactic(auto, using(crate::proofs::NoteLemmas::told_after))]
 pub fn tell_bad<O: Opener, N: Write>(
     alloc: Global,
     no: &No,
@@ -134,12 +126,14 @@ pub fn tell_bad<O: Opener, N: Write>(
     ensures { OnOk result (AddsNotes (N.contents notes.old) (N.contents notes.new)) }
 {
     match *no {
-        No::Malformed(fault) if is_older(fault.reason) => print_note(Note::Older, notes),
-        No::Malformed(_) => tell_refused(seen, given.order, notes),
+        No::Malformed(fault) => match fault.reason {
+            Reason::VersionNotFive(2..=4) => print_note(Note::Older, notes),
+            _ => tell_refused(seen, given.order, notes),
+        },
         No::StringOutside(unit, which, _) => {
             tell_strings(alloc, unit, which, given, opener, notes)
         }
-        No::FileNumber(..) | No::Falls(..) => { tell_dead(alloc, None, true, given, opener, notes) }
+        No::FileNumber(..) | No::Falls(..) => tell_dead(alloc, None, true, given, opener, notes),
         No::Overlap {
             first,
             second,
@@ -163,20 +157,13 @@ pub fn tell_good<O: Opener, N: Write>(
 ) -> io::Result<()>
     ensures { OnOk result (AddsNotes (N.contents notes.old) (N.contents notes.new)) }
 {
-    print_where(hints.holds_nothing, Note::HoldsNothing, notes)?;
-    print_where(hints.lists_no_sum, Note::NoSums, notes)?;
-    if hints.marker.is_some() || given.dead.is_some() {
-        tell_dead(
-            alloc,
-            hints.marker,
-            hints.marker.is_some(),
-            given,
-            opener,
-            notes,
-        )
-    } else {
-        Ok(())
+    print_any(hints.holds_nothing.then_some(Note::HoldsNothing), notes)?;
+    print_any(hints.lists_no_sum.then_some(Note::NoSums), notes)?;
+    let marker = hints.marker;
+    if marker.is_none() && given.dead.is_none() {
+        return Ok(());
     }
+    tell_dead(alloc, marker, marker.is_some(), given, opener, notes)
 }
 
 // Prints the option that gives the string section with the paths of this table of a unit, if it wasn't given.
@@ -197,10 +184,7 @@ fn tell_strings<O: Opener, N: Write>(
         StringSection::Line => given.has_line_strings,
         StringSection::General => given.has_strings,
     };
-    if is_given {
-        return Ok(());
-    }
-    print_note(Note::NoStrings(section), notes)
+    print_any((!is_given).then_some(Note::NoStrings(section)), notes)
 }
 
 fn strings_again<O: Opener>(
@@ -219,6 +203,7 @@ fn strings_again<O: Opener>(
 // code. If the section can't be read again, the only note is one about `known`, if there is such an address, with no count of
 // sequences. Unless `all` is asked for, the section is read only up to the unit in which a sequence begins at the given
 // address.
+#[tactic(auto, using(crate::proofs::NoteLemmas::told_after))]
 fn tell_dead<O: Opener, N: Write>(
     alloc: Global,
     known: Option<u64>,
@@ -230,26 +215,13 @@ fn tell_dead<O: Opener, N: Write>(
     ensures { OnOk result (AddsNotes (N.contents notes.old) (N.contents notes.new)) }
 {
     let Some(survey) = survey_again(alloc, all, given, opener) else {
-        return match known {
-            Some(address) => print_note(Note::MaybeDead(None, address), notes),
-            None => Ok(()),
-        };
+        return print_any(known.map(|address| Note::MaybeDead(None, address)), notes);
     };
-    tell_marker(&survey, notes)?;
-    match given.dead {
-        Some(address) if !survey.begins_dead => print_note(Note::NoneDead(address), notes),
-        _ => Ok(()),
-    }
-}
-
-// Prints the note that sequences begin at an address of discarded code, if any does.
-fn tell_marker<N: Write>(survey: &Survey, notes: &mut N) -> io::Result<()>
-    ensures { OnOk result (AddsNotes (N.contents notes.old) (N.contents notes.new)) }
-{
-    match survey.marker {
-        Some(address) => print_note(Note::MaybeDead(Some(survey.count), address), notes),
-        None => Ok(()),
-    }
+    let count = Some(survey.count);
+    let marker = survey.marker.map(|address| Note::MaybeDead(count, address));
+    print_any(marker, notes)?;
+    let absent = given.dead.filter(|_| !survey.begins_dead);
+    print_any(absent.map(Note::NoneDead), notes)
 }
 
 fn survey_again<O: Opener>(
@@ -275,10 +247,9 @@ fn tell_copies<O: Opener, N: Write>(
 ) -> io::Result<()>
     ensures { OnOk result (AddsNotes (N.contents notes.old) (N.contents notes.new)) }
 {
-    if given.skip_copies || alike_again(alloc, first, second, given, opener) != Some(true) {
-        return Ok(());
-    }
-    print_note(Note::Copies, notes)
+    let are_copies = !given.skip_copies
+        && alike_again(alloc, first, second, given, opener) == Some(true);
+    print_any(are_copies.then_some(Note::Copies), notes)
 }
 
 fn alike_again<O: Opener>(
@@ -295,6 +266,7 @@ fn alike_again<O: Opener>(
 
 /// Prints the notes to a table, in the file of this name, that answers as a good section does. It fails only if the writer
 /// does; then a prefix of these notes may be written.
+#[tactic(auto, using(crate::proofs::NoteLemmas::told_after))]
 pub fn tell_agreed<O: Opener, N: Write>(
     alloc: Global,
     given: &Given<'_>,
@@ -308,12 +280,11 @@ pub fn tell_agreed<O: Opener, N: Write>(
         // A table of its header alone answers nothing.
         matches!(line_after(alloc, reader, 2), Ok(None))
     });
-    print_where(holds_nothing, Note::HoldsNothing, notes)?;
-    if given.dead.is_some() {
-        tell_dead(alloc, None, false, given, opener, notes)
-    } else {
-        Ok(())
+    print_any(holds_nothing.then_some(Note::HoldsNothing), notes)?;
+    if given.dead.is_none() {
+        return Ok(());
     }
+    tell_dead(alloc, None, false, given, opener, notes)
 }
 
 /// Prints the note to a fault of the table in the file of this name, which was read as one with these columns. For a fault of

@@ -1,8 +1,8 @@
 //! The string section that has the paths of a unit's table.
 ghost use Rattle.std.specs.Prelude.{◌-◌, ◌^◌, ◌<◌};
 
+use lnt_header::EntryTable;
 use lnt_header::content::PATH;
-use lnt_header::{EntryTable, Pair};
 use lnt_io::Source;
 use lnt_text::StringSection;
 use lnt_unit::{SectionReader, UnitBuffer, UnitInPlace};
@@ -31,26 +31,18 @@ pub(crate) fn strings_of<R: Source>(
     None
 }
 
+// The string section that has the paths of this table of the unit of the buffer, by the form of the first path in the table's format.
+// `None` if neither section has them.
 fn strings_in(alloc: Global, buffer: &UnitBuffer, which: EntryTable) -> Option<StringSection> {
     let unit = UnitInPlace::over(alloc, buffer).ok()?;
     let header = unit.header();
-    match which {
-        EntryTable::Directories => strings_by(header.directories().pairs()),
-        EntryTable::Files => strings_by(header.files().pairs()),
+    let format = match which {
+        EntryTable::Directories => header.directories().pairs(),
+        EntryTable::Files => header.files().pairs(),
+    };
+    match format.iter().find(|pair| pair.content == PATH)?.form {
+        Form::LineStrp => Some(StringSection::Line),
+        Form::Strp => Some(StringSection::General),
+        _ => None,
     }
-}
-
-// The string section that has the paths of a table with this format, by the form of the first path in the format. `None` if
-// neither section has them.
-fn strings_by(format: &[Pair]) -> Option<StringSection> {
-    for pair in format {
-        if pair.content == PATH {
-            return match pair.form {
-                Form::LineStrp => Some(StringSection::Line),
-                Form::Strp => Some(StringSection::General),
-                _ => None,
-            };
-        }
-    }
-    None
 }

@@ -27,11 +27,7 @@ impl Seen {
 
     // The first bytes, at most 64.
     pub(crate) fn head(&self) -> &[u8] {
-        if self.count < HEAD as u64 {
-            &self.head[..self.count as usize]
-        } else {
-            &self.head
-        }
+        &self.head[..self.count.min(HEAD as u64) as usize]
     }
 
     // The number of bytes that were read; at most `u64::MAX` is counted.

@@ -1,5 +1,4 @@
-use Rattle.std.proofs.Common.{rules, codes, arith}
-use Rattle.std.specs.List.{flat_map}
+use Rattle.std.proofs.Common.{rules, codes, arith, flat_map}
 use Rattle.std.proofs.lemmas.Grind.{elements}
 use Rattle.lnt_io.proofs.PrefixLaws.{prefix_before, prefix_in_items, so_stopped}
 use Rattle.lnt_answers.proofs.FileLemmas.{appended_all, appended_more}

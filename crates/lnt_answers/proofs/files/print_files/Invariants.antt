@@ -1,5 +1,4 @@
-use Rattle.std.proofs.Common.{◌++◌, codes, take}
-use Rattle.std.specs.List.{flat_map}
+use Rattle.std.proofs.Common.{◌++◌, codes, take, flat_map}
 use Rattle.std.specs.Io.KnownBytes.{Appends}
 use Rattle.lnt_answers.specs.FileLines.{unit_records}
 use Rattle.lnt_answers.proofs.files.print_files.Given as goal

@@ -1,5 +1,5 @@
 use Rattle.lnt_io.proofs.PrefixLaws.{so_stopped}
-use Rattle.std.proofs.Common.{inr}
+use Rattle.std.proofs.Common.{inr, rules}
 use Rattle.lnt_answers.proofs.PathStretchLemmas.{for_path_units}
 use Rattle.lnt_answers.proofs.ScopeLemmas.{end_begun, end_told}
 use Rattle.lnt_answers.proofs.StretchLemmas.{fault_begun, for_units, numbered_begun, path_begun, path_fault_begun}
@@ -59,18 +59,18 @@ returns-in_err-status-in-Ok-ByPath-Table-clause-begun g c =
     (λ f f' h all. end_begun (c.in_ok-missed-in-Ok-ByPath-Table.ensures.lines f f' h) all
     (c.in_err-status-in-Ok-ByPath-Table.ensures.prefix selection is))))
 
-pub returns-in_err-print_fault-in-Ok-Numbered-Fault-clause-begun : goal.returns-in_err-print_fault-in-Ok-Numbered-Fault-clause-begun
-returns-in_err-print_fault-in-Ok-Numbered-Fault-clause-begun g c =
-    so_stopped c.from_residual-in_err-print_fault-in-Ok-Numbered-Fault.result _
+pub returns-in_err-print_line-in-Ok-Numbered-Fault-clause-begun : goal.returns-in_err-print_line-in-Ok-Numbered-Fault-clause-begun
+returns-in_err-print_line-in-Ok-Numbered-Fault-clause-begun g c =
+    so_stopped c.from_residual-in_err-print_line-in-Ok-Numbered-Fault.result _
     (inr (λ selection is.
     fault_begun _ c.args.index.now selection _ _ c.in-Ok-Numbered-Fault.fault
     (rw (c.in-Ok-Numbered-Fault.field-0-is, c.in-Ok-Numbered-Fault.field-0-0-is) at (c.in-Ok-Numbered-Fault.ensures.ok selection is))
-    c.in_err-print_fault-in-Ok-Numbered-Fault.ensures.prefix))
+    (search rules)))
 
-pub returns-in_err-print_fault-in-Ok-ByPath-Fault-clause-begun : goal.returns-in_err-print_fault-in-Ok-ByPath-Fault-clause-begun
-returns-in_err-print_fault-in-Ok-ByPath-Fault-clause-begun g c =
-    so_stopped c.from_residual-in_err-print_fault-in-Ok-ByPath-Fault.result _
+pub returns-in_err-print_line-in-Ok-ByPath-Fault-clause-begun : goal.returns-in_err-print_line-in-Ok-ByPath-Fault-clause-begun
+returns-in_err-print_line-in-Ok-ByPath-Fault-clause-begun g c =
+    so_stopped c.from_residual-in_err-print_line-in-Ok-ByPath-Fault.result _
     (inr (λ selection is.
     path_fault_begun _ c.args.index.now selection _ c.in-Ok-ByPath-Fault.fault
     (rw (c.in-Ok-ByPath-Fault.field-0-is, c.in-Ok-ByPath-Fault.field-0-0-is) at (c.in-Ok-ByPath-Fault.ensures.ok selection is))
-    c.in_err-print_fault-in-Ok-ByPath-Fault.ensures.prefix))
+    (search rules)))

@@ -1,6 +1,4 @@
-use Rattle.std.proofs.Common.{List, ℕ, IsNone, length, rules, subst, ◌≤◌}
-use Rattle.std.specs.List.{All}
-use Rattle.std.proofs.lemmas.List.{take_all}
+use Rattle.std.proofs.Common.{List, ℕ, IsNone, length, rules, subst, ◌≤◌, All, take_all}
 use Rattle.std.proofs.lemmas.List.Elements.{All-get_or, All-more}
 use Rattle.lnt_lines.specs.Indexed.{file_sum_in}
 use Rattle.lnt_answers.proofs.sums.lists_sums.Goals as goal

@@ -1,5 +1,4 @@
-use Rattle.std.specs.Prelude.{take, IsNone}
-use Rattle.std.specs.List.{All}
+use Rattle.std.proofs.Common.{take, IsNone, All}
 use Rattle.lnt_lines.specs.Indexed.{file_sum_in}
 use Rattle.lnt_answers.proofs.sums.lists_sums.Given as goal
 

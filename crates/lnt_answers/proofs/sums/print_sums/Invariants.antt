@@ -1,5 +1,4 @@
-use Rattle.std.proofs.Common.{take}
-use Rattle.std.specs.List.{flat_map}
+use Rattle.std.proofs.Common.{take, flat_map}
 use Rattle.lnt_io.specs.Files.{TellsNoMore}
 use Rattle.lnt_answers.specs.SumLines.{AreSumsTold, listed_in}
 use Rattle.lnt_answers.proofs.sums.print_sums.Given as goal

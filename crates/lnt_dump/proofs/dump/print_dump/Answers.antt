@@ -1,8 +1,7 @@
 use Rattle.std.proofs.Common.{ap, rules}
 use Rattle.lnt_io.proofs.PrefixLaws.{so_stopped}
 use Rattle.lnt_dump.proofs.Frames.{next_framed}
-use Rattle.lnt_dump.proofs.Dumps.{units_broken, units_cut, units_end, units_fault_cut, units_faulty, units_more, units_none}
-use Rattle.lnt_dump.proofs.Dumps.{units_stay}
+use Rattle.lnt_dump.proofs.Dumps.{units_broken, units_cut, units_end, units_fault_cut, units_faulty, units_more, units_none, units_stay}
 use Rattle.lnt_dump.proofs.dump.print_dump.Goals as goal
 
 pub loop-page-init : goal.loop-page-init

@@ -2,9 +2,13 @@ use Rattle.std.proofs.Common.{◌+◌, ◌^◌, ◌<◌, arith, subst, sym}
 use Rattle.lnt_io.proofs.PrefixLaws.{so_stopped}
 use Rattle.lnt_ops.specs.Walks.{Walk}
 use Rattle.lnt_machine.proofs.RanLaws.{fails_op, gives_op}
-use Rattle.lnt_dump.proofs.UnitWalks.{OpsTold, ops_all, ops_cut, ops_more, ops_none}
-use Rattle.lnt_dump.proofs.UnitWalks.{stands_fails, stands_first, stands_room}
+use Rattle.lnt_dump.proofs.Pages.{paged_none}
+use Rattle.lnt_dump.proofs.UnitWalks.{OpsTold, ops_all, ops_cut, ops_more, ops_none, stands_fails, stands_first, stands_room}
 use Rattle.lnt_dump.proofs.operations.print_ops.Goals as goal
+
+pub returns-then-not-is_shown-clause-ok : goal.returns-then-not-is_shown-clause-ok
+returns-then-not-is_shown-clause-ok g c =
+    rw c.if-not-is_shown.true (λ ops is. paged_none c.args.page.now.items (g.W.Write.contents c.args.out.now))
 
 pub loop-op-init : goal.loop-op-init
 loop-op-init g c =
@@ -23,8 +27,8 @@ unreachable-requires g c =
 pub returns-in_err-print_op-clause-prefix : goal.returns-in_err-print_op-clause-prefix
 returns-in_err-print_op-clause-prefix g c =
     let step = gives_op c.in-Ok.is c.in-Some.ensures.steps in
-    so_stopped c.from_residual.result _
-    (λ ops is. ops_cut c.ops-op-items.ensures.is_header (c.loop-op.invariant ops is) step c.in_err-print_op.ensures.prefix)
+    rw c.if-not-is_shown.false (so_stopped c.from_residual.result _
+    (λ ops is. ops_cut c.ops-op-items.ensures.is_header (c.loop-op.invariant ops is) step c.in_err-print_op.ensures.prefix))
 
 pub overflow_add-index : goal.overflow_add-index
 overflow_add-index g c =
@@ -40,4 +44,4 @@ loop-op-preserved g c =
 
 pub returns-clause-ok : goal.returns-clause-ok
 returns-clause-ok g c =
-    λ ops is. ops_all (c.loop-op.invariant ops is) c.in-None.ensures.steps
+    rw c.if-not-is_shown.false (λ ops is. ops_all (c.loop-op.invariant ops is) c.in-None.ensures.steps)

@@ -11,7 +11,7 @@ returns-then-is_empty c =
 
 pub returns : goal.returns
 returns c =
-    bytes_told c.args.bytes.now _ c.args.text.now.items c.put_named.new.text.items c.put_one.new.text.items c.print_bytes.new.out.items
+    bytes_told c.args.bytes.now _ c.args.text.now.items c.put_named.new.text.items c.push.new.self.items c.print_bytes.new.out.items
     (omega (arith, eqb-false _ _ (sym c.is_empty.ensures ∙ c.if-is_empty.false)))
     (c.in_ok-put_named.ensures ∙ ap (λ (n : ℕ). c.args.text.now.items ++ (codes "unknown_extended " ++ decimal n)) c.from.ensures)
-    c.in_ok-put_one.ensures (not_err c.print_bytes.result _ (sym c.if-is_err.ensures.value) c.print_bytes.ensures)
+    c.in_ok-push.ensures.items (not_err c.print_bytes.result _ (sym c.if-is_err.ensures.value) c.print_bytes.ensures)

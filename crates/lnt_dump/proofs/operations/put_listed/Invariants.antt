@@ -1,5 +1,4 @@
-use Rattle.std.proofs.Common.{◌≡◌, ◌++◌, take}
-use Rattle.std.specs.List.{flat_map}
+use Rattle.std.proofs.Common.{◌≡◌, ◌++◌, take, flat_map}
 use Rattle.lnt_dump.specs.Operations.{operand_text}
 use Rattle.lnt_dump.proofs.operations.put_listed.Given as goal
 

@@ -1,11 +1,15 @@
-use Rattle.std.proofs.Common.{◌∙◌, ◌+◌, ◌^◌, ◌<◌, arith, subst, sym}
+use Rattle.std.proofs.Common.{◌∙◌, ◌+◌, ◌^◌, ◌<◌, arith, rules, subst, sym}
 use Rattle.lnt_io.proofs.PrefixLaws.{so_stopped}
 use Rattle.lnt_ops.specs.Walks.{Walk}
-use Rattle.lnt_dump.proofs.RunWalks.{RowsTold, rows_all, rows_cut, rows_more, rows_none, rows_quiet, rows_room}
-use Rattle.lnt_dump.proofs.RunWalks.{running_allowed, running_in}
+use Rattle.lnt_dump.proofs.Pages.{paged_none}
+use Rattle.lnt_dump.proofs.RunWalks.{RowsTold, rows_all, rows_cut, rows_more, rows_none, rows_quiet, rows_room, running_allowed, running_in}
 use Rattle.lnt_machine.proofs.RanLaws.{fails_op, gives_op}
 use Rattle.lnt_dump.proofs.UnitWalks.{stands_fails, stands_first}
 use Rattle.lnt_dump.proofs.rows.print_rows.Goals as goal
+
+pub returns-then-not-is_shown-clause-ok : goal.returns-then-not-is_shown-clause-ok
+returns-then-not-is_shown-clause-ok g c =
+    rw c.if-not-is_shown.true (λ ops is. paged_none c.args.page.now.items (g.W.Write.contents c.args.out.now))
 
 pub loop-op-init : goal.loop-op-init
 loop-op-init g c =
@@ -29,14 +33,15 @@ step-requires g c =
 pub unreachable-requires-in_default-step : goal.unreachable-requires-in_default-step
 unreachable-requires-in_default-step g c =
     let step = gives_op c.in-Ok.is c.in-Some.ensures.steps in
-    running_in c.ops-op-items.ensures.is_header (c.loop-op.invariant c.requires.0 c.requires.1).running step c.requires.2
+    running_in c.ops-op-items.ensures.is_header (c.loop-op.invariant c.requires.0 c.requires.1).running step (c.requires.2 (search rules))
     c.in_default-step.ensures.out_of_range c.in_default-step.ensures.fault
 
 pub returns-in_err-print_row-clause-prefix : goal.returns-in_err-print_row-clause-prefix
 returns-in_err-print_row-clause-prefix g c =
     let step = gives_op c.in-Ok.is c.in-Some.ensures.steps in
-    so_stopped c.from_residual.result _ (λ ops is. rows_cut c.ops-op-items.ensures.is_header c.ops-op-items.ensures.is_view
-    (c.loop-op.invariant ops is) step c.in-Ok-step.ensures.ok c.in-Some-made.is c.in_err-print_row.ensures.prefix)
+    rw c.if-not-is_shown.false (so_stopped c.from_residual.result _ (λ ops is. rows_cut c.ops-op-items.ensures.is_header
+    c.ops-op-items.ensures.is_view (c.loop-op.invariant ops is) step c.in-Ok-step.ensures.ok c.in-Some-made.is
+    c.in_err-print_row.ensures.prefix))
 
 pub overflow_add-index : goal.overflow_add-index
 overflow_add-index g c =
@@ -59,4 +64,4 @@ loop-op-preserved g c =
 
 pub returns-clause-ok : goal.returns-clause-ok
 returns-clause-ok g c =
-    λ ops is. rows_all (c.loop-op.invariant ops is) c.in-None.ensures.steps
+    rw c.if-not-is_shown.false (λ ops is. rows_all (c.loop-op.invariant ops is) c.in-None.ensures.steps)

@@ -4,12 +4,12 @@ use Rattle.lnt_unit.specs.Readers.{offset_of, order_of, progress_of, source_of}
 use Rattle.lnt_dump.proofs.Frames.{FramesTold}
 use Rattle.lnt_dump.proofs.units.print_units.Given as goal
 
-abbrev pub invariant-loop-line : goal.invariant-loop-line
-invariant-loop-line g l = record {
+abbrev pub invariant-loop-unit : goal.invariant-loop-unit
+invariant-loop-unit g l = record {
   reading : progress_of l.reader ≡ Reading;
   told : FramesTold l.fn.order (g.R.Source.remaining l.fn.source) (g.R.Source.remaining (source_of l.reader))
       (g.W.Write.contents l.fn.out) (g.W.Write.contents l.out) (order_of l.reader) (offset_of l.reader);
 }
 
-abbrev pub decreases-loop-line : goal.decreases-loop-line
-decreases-loop-line g l = g.R.Source.left (source_of l.reader)
+abbrev pub decreases-loop-unit : goal.decreases-loop-unit
+decreases-loop-unit g l = g.R.Source.left (source_of l.reader)

@@ -1,5 +1,4 @@
-use Rattle.std.proofs.Common.{◌∙◌, sym, ap, arith, length}
-use Rattle.std.proofs.lemmas.Bool.{eqb-true}
+use Rattle.std.proofs.Common.{◌∙◌, sym, ap, arith, length, eqb-true}
 use Rattle.lnt_io.proofs.PrefixLaws.{so_stopped}
 use Rattle.lnt_dump.proofs.Anew.{anew_walk}
 use Rattle.lnt_dump.proofs.PagedWalks.{walk_cut, walk_last_cut, walk_printed, walk_stopped, walk_turned}
