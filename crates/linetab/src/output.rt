@@ -13,15 +13,11 @@ pub struct Output<'a, W> {
 
 impl<W: Write> Write for Output<'_, W> {
     fn write(&mut self, buf: &[u8]) -> io::Result<usize> {
-        match self.writer.write(buf) {
-            Ok(count) => Ok(count),
-            Err(error) => {
-                if error.kind() == ErrorKind::BrokenPipe {
-                    self.is_unread.set(true);
-                }
-                Err(error)
-            }
+        let written = self.writer.write(buf);
+        if matches!(&written, Err(error) if error.kind() == ErrorKind::BrokenPipe) {
+            self.is_unread.set(true);
         }
+        written
     }
 
     fn flush(&mut self) -> io::Result<()> {

@@ -5,17 +5,12 @@ use std::cell::Cell;
 use std::fs::{self, File};
 use std::io::{self, Read, Stdin};
 
-/// Files that hold the descriptors of standard input, output and error, if the process was started without them. They are
-/// closed when this is dropped.
-#[derive(Drop)]
-pub struct Held(Option<File>, Option<File>, Option<File>);
-
 /// Opens the root folder three times, before any other file. A file gets the lowest free descriptor, so if the process was
 /// started without standard input, the first file among the words would be read as standard input too. A folder there can
-/// neither be read nor written, so reading `-` fails, and so does printing.
-pub fn hold_standard_descriptors(rt: &HostRuntime) -> Held {
+/// neither be read nor written, so reading `-` fails, and so does printing. The descriptors are held until the result is dropped.
+pub fn hold_standard_descriptors(rt: &HostRuntime) -> [Option<File>; 3] {
     let open = || fs::open(rt, "/").ok();
-    Held(open(), open(), open())
+    [open(), open(), open()]
 }
 
 /// Why the last file that failed couldn't be opened or read. `None` if none failed.
@@ -41,14 +36,11 @@ impl Read for Reader<'_> {
             Input::File(file) => file.read(buf),
             Input::Standard(input) => input.read(buf),
         };
-        match read {
-            Ok(count) => Ok(count),
-            Err(error) => {
-                let kind = error.kind();
-                self.reason.set(Some(error));
-                Err(io::Error::from(kind))
-            }
-        }
+        read.map_err(|error| {
+            let kind = error.kind();
+            self.reason.set(Some(error));
+            io::Error::from(kind)
+        })
     }
 }
 
@@ -71,13 +63,8 @@ impl<'a> System<'a> {
     }
 
     fn open(&self, name: &str) -> Option<File> {
-        match fs::open(self.rt, name) {
-            Ok(file) => Some(file),
-            Err(error) => {
-                self.reason.set(Some(error));
-                None
-            }
-        }
+        let opened = fs::open(self.rt, name);
+        opened.map_err(|error| self.reason.set(Some(error))).ok()
     }
 
     fn reader(&self, input: Input) -> Reader<'a> {
@@ -114,10 +101,7 @@ impl<'a> Opener for System<'a> {
     }
 
     fn is_regular(&self, name: &str) -> bool {
-        match fs::metadata(self.rt, name) {
-            Ok(metadata) => metadata.is_file(),
-            Err(_) => false,
-        }
+        fs::metadata(self.rt, name).is_ok_and(|metadata| metadata.is_file())
     }
 
     fn reason(&self, alloc: Global) -> Option<String> {

@@ -70,8 +70,8 @@ pub told_of_file : (tells : List ℕ → FileState → Type 0) (from : Judging) 
     → AreTextsOf tells from texts.line.items texts.general.items → tells from.section.now (Readable section)
     → tells file (Readable bytes) → IsJudgedSo texts from section (IsTold bytes) → IsOfFile tells from file IsTold
 told_of_file tells from file IsTold texts section bytes are_texts of_section of_file so = record {
-  file_bytes = bytes;
-  of_file = of_file;
+  bytes = bytes;
+  is_told = of_file;
   so = told_of_section tells from (IsTold bytes) texts section are_texts of_section so;
 }
 

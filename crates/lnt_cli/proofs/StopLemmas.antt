@@ -1,6 +1,5 @@
 -- Answers that were stopped.
-use Rattle.std.proofs.Common.{ℕ, List, ◌⊎◌, Option, IsErr, Result, Ok, Err, OnErr, inl, inr, refl, true, false}
-use Rattle.std.proofs.Common.{◌++◌, codes}
+use Rattle.std.proofs.Common.{ℕ, List, ◌⊎◌, Option, IsErr, Result, Ok, Err, OnErr, inl, inr, refl, true, false, ◌++◌, codes}
 use Rattle.std.proofs.lemmas.Bool.{false≢true}
 use Rattle.std.specs.Io.KnownBytes.{Appends, Keeps, append_known}
 use Rattle.lnt_io.specs.Prefixes.{AppendsPrefix, HasBegun}
@@ -19,17 +18,16 @@ use Rattle.lnt_answers.specs.Lines.{HasBegunLine}
 use Rattle.lnt_answers.specs.SumLines.{listed_files}
 use Rattle.lnt_lines.specs.FaultTexts.{no_text}
 use Rattle.lnt_answers.proofs.SumLaws.{begun_later}
-use Rattle.lnt_answers.specs.Stretches.{BeginsStretches}
 use Rattle.lnt_answers.specs.Verdicts.{checked_line, checked_status}
 use Rattle.lnt_cli.specs.Answered.{AnswersCheck, AreTextsOf, IsChecked, IsOfFile}
 use Rattle.lnt_cli.specs.Stepping.{IsJudgedSo, IsTrueOf}
-use Rattle.lnt_cli.specs.Stopped.{BeginsGood, BeginsGoodFile, BeginsJudged, BeginsQuestion}
+use Rattle.lnt_cli.specs.Questions.{BeginsGood, BeginsJudged}
+use Rattle.lnt_cli.specs.Stopped.{BeginsQuestion}
 use Rattle.lnt_cli.specs.declared.inputs.Texts.{Texts}
-use Rattle.lnt_cli.specs.declared.question.FileQuestion.TheVariants.{Places}
 use Rattle.lnt_cli.proofs.QuestionLemmas.{told_of_file, told_of_section}
 
 -- a prefix of what is printed of a check's result, which is the answer once it is printed
-check_begun : (tells : List ℕ → FileState → Type 0) (from : Judging) (table : List ℕ) (scope : Scope) (checked : CheckedWithin)
+pub check_begun : (tells : List ℕ → FileState → Type 0) (from : Judging) (table : List ℕ) (scope : Scope) (checked : CheckedWithin)
     (old new : Option (List ℕ))
     → ((before after : Option (List ℕ)) → Appends before after (checked_line checked)
     → IsChecked tells from table scope before after checked)
@@ -45,17 +43,12 @@ check_begun tells from table scope checked old new so prefix = record {
   prefix = prefix;
 }
 
--- the same where the printing stopped the run
-pub check_stopped : {R T S E : Type 0} (tells : List ℕ → FileState → Type 0) (from : Judging) (table : List ℕ) (scope : Scope)
-    (checked : CheckedWithin) (old new : Option (List ℕ)) (printed : Result R E) (ended : Result T S)
-    → ((before after : Option (List ℕ)) → Appends before after (checked_line checked)
-    → IsChecked tells from table scope before after checked)
-    → OnErr ended (IsErr printed) → OnErr printed (AppendsPrefix old new (checked_line checked))
-    → OnErr ended (Keeps old new ⊎ HasBegun (AnswersCheck tells from table scope old) old new)
-check_stopped tells from table scope checked old new printed (Ok status) so is prefix = tt
-check_stopped tells from table scope checked old new (Ok value) (Err stop) so is prefix = absurd (false≢true is)
-check_stopped tells from table scope checked old new (Err halt) (Err stop) so is prefix =
-    inr (check_begun tells from table scope checked old new so prefix)
+-- What was written when the work stopped was written when the run did.
+pub stopped_by : {R T S E : Type 0} (HasWritten Begins : Type 0) (worked : Result R E) (ended : Result T S) → OnErr ended (IsErr worked)
+    → OnErr worked HasWritten → (HasWritten → Begins) → OnErr ended Begins
+stopped_by HasWritten Begins worked (Ok value) is written so = tt
+stopped_by HasWritten Begins (Ok value) (Err stop) is written so = absurd (false≢true is)
+stopped_by HasWritten Begins (Err halt) (Err stop) is written so = so written
 
 -- ---- sections that are judged
 
@@ -115,13 +108,3 @@ of_file_stopped tells from file HasBegunOf old new texts section bytes (Ok answe
 of_file_stopped tells from file HasBegunOf old new texts section bytes (Err stop) are_texts of_section of_file (inl kept) = inl kept
 of_file_stopped tells from file HasBegunOf old new texts section bytes (Err stop) are_texts of_section of_file (inr begun) =
     inr (told_of_file tells from file HasBegunOf texts section bytes are_texts of_section of_file begun)
-
--- ---- all places
-
--- The printing of the places stopped the run.
-pub places_stopped : {R T S E : Type 0} (scope : Scope) (index : Indexed) (table old new : Option (List ℕ)) (worked : Result R E)
-    (ended : Result T S) → OnErr ended (IsErr worked) → OnErr worked (BeginsStretches scope index table old new)
-    → OnErr ended (Keeps old new ⊎ BeginsGoodFile (Places scope) table index old new)
-places_stopped scope index table old new worked (Ok told) is begun = tt
-places_stopped scope index table old new (Ok value) (Err stop) is begun = absurd (false≢true is)
-places_stopped scope index table old new (Err halt) (Err stop) is begun = begun

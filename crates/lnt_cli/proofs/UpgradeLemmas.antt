@@ -9,7 +9,7 @@ use Rattle.lnt_cli.specs.Answered.{IsTextOf}
 -- what is known of a file later was known before
 pub text_before : (before later : List ℕ → FileState → Type 0) (file text : Option (List ℕ)) → TellsNoMore before later
     → IsTextOf later file text → IsTextOf before file text
-text_before before later None None less is = tt
+text_before before later None None less is = is
 text_before before later None (Some text) less is = is
 text_before before later (Some name) None less is = is
 text_before before later (Some name) (Some text) less is =

@@ -1,7 +1,7 @@
 -- The answers to requests, and the bytes of which they are true.
 --     tells       what the opener may say of the file with a name, as the run begins
 --     old, new    what the writer of the answer holds before and afterwards
-use Rattle.std.specs.Prelude.{◌≡◌, ℕ, List, [], Option, None, Some, IfSome, true, false, string_bytes}
+use Rattle.std.specs.Prelude.{◌≡◌, Bool, ℕ, List, [], Option, None, IfSome, IsSomeAnd, MatchOption, true, false, string_bytes}
 use Rattle.std.specs.Option.{option_copied}
 use Rattle.std.specs.Io.KnownBytes.{Appends}
 use Rattle.lnt_io.specs.Files.{AreBytesOf, FileState, Readable}
@@ -32,10 +32,15 @@ use Rattle.lnt_cli.specs.Readings.{AnswersReading}
 abbrev pub options_in : Judging → Options
 options_in from = record { order = from.order; dead = from.dead; skip_copies = from.skip_copies }
 
+-- This is true of the bytes of the named file, which may be unknown.
+pub record IsOfBytes (tells : List ℕ → FileState → Type 0) (name : List ℕ) (IsSo : Option (List ℕ) → Type 0) : Type 0 where
+  pub bytes : Option (List ℕ)
+  pub is_told : tells name (Readable bytes)
+  pub so : IsSo bytes
+
 -- the bytes of a string section: those of its file; empty if no file is named
 abbrev pub AreStringsOf : (List ℕ → FileState → Type 0) → Option (List ℕ) → List ℕ → Type 0
-AreStringsOf tells None bytes = bytes ≡ []
-AreStringsOf tells (Some name) bytes = AreBytesOf (tells name) bytes
+AreStringsOf tells name bytes = MatchOption name (bytes ≡ []) (λ named. AreBytesOf (tells named) bytes)
 
 -- These are the bytes of both string sections.
 pub record AreTextsOf (tells : List ℕ → FileState → Type 0) (from : Judging) (line general : List ℕ) : Type 0 where
@@ -86,11 +91,8 @@ abbrev pub AnswersQuestion : (List ℕ → FileState → Type 0) → Judging →
 AnswersQuestion tells from question old new status = IsOfSection tells from (AnswersJudged (AnswersGood tells question) old new status)
 
 -- The same for a statement about the bytes of another file and the judgement.
-pub record IsOfFile (tells : List ℕ → FileState → Type 0) (from : Judging) (file : List ℕ)
-    (IsTold : Option (List ℕ) → JudgedIndex → Type 0) : Type 0 where
-  pub file_bytes : Option (List ℕ)
-  pub of_file : tells file (Readable file_bytes)
-  pub so : IsOfSection tells from (IsTold file_bytes)
+abbrev pub IsOfFile : (List ℕ → FileState → Type 0) → Judging → List ℕ → (Option (List ℕ) → JudgedIndex → Type 0) → Type 0
+IsOfFile tells from file IsTold = IsOfBytes tells file (λ bytes. IsOfSection tells from (IsTold bytes))
 
 -- The answer to the question about the section and the file with this name was written, or why the section isn't good.
 abbrev pub AnswersFile : (List ℕ → FileState → Type 0) → Judging → List ℕ → FileQuestion → Option (List ℕ) → Option (List ℕ) → Status
@@ -101,29 +103,35 @@ AnswersFile tells from file question old new status =
 -- ---- sections that are read
 
 -- The answer of this reading was written, for the section in the named file.
-pub record AnswersRead (tells : List ℕ → FileState → Type 0) (section : List ℕ) (order : Order) (reading : Reading)
-    (old new : Option (List ℕ)) (status : Status) : Type 0 where
-  pub section_bytes : Option (List ℕ)
-  pub of_section : tells section (Readable section_bytes)
-  pub answered : IfSome section_bytes (λ bytes. AnswersReading order reading bytes old new status)
+abbrev pub AnswersRead : (List ℕ → FileState → Type 0) → List ℕ → Order → Reading → Option (List ℕ) → Option (List ℕ) → Status → Type 0
+AnswersRead tells section order reading old new status =
+    IsOfBytes tells section (λ known. AnswersReading order reading known old new status)
 
 -- the bytes of a file that is named, or not
 abbrev pub IsTextOf : (List ℕ → FileState → Type 0) → Option (List ℕ) → Option (List ℕ) → Type 0
-IsTextOf tells None None = Unit {0}
-IsTextOf tells None (Some text) = ⊥
-IsTextOf tells (Some name) None = ⊥
-IsTextOf tells (Some name) (Some text) = AreBytesOf (tells name) text
+IsTextOf tells name text = MatchOption name (text ≡ None) (λ named. IsSomeAnd text (AreBytesOf (tells named)))
 
--- The section in the named file was written with its older units anew, or why it can't be.
-pub record AnswersUpgrade (tells : List ℕ → FileState → Type 0) (from : Upgrading) (old new : Option (List ℕ)) (status : Status)
+-- This is true of the bytes of a section that is written anew, and of the text of directories.
+pub record IsOfUpgrade (tells : List ℕ → FileState → Type 0) (from : Upgrading) (IsSo : List ℕ → Option (List ℕ) → Type 0)
     : Type 0 where
   pub bytes : List ℕ
   pub of_section : AreBytesOf (tells from.section.now) bytes
   pub text : Option (List ℕ)
   pub of_directories : IsTextOf tells (option_copied from.directories) text
-  pub answered : IsUpgradeTold from.order (size_bytes from.address_size) bytes text old new status
+  pub so : IsSo bytes text
+
+-- The section in the named file was written with its older units anew, or why it can't be.
+abbrev pub AnswersUpgrade : (List ℕ → FileState → Type 0) → Upgrading → Option (List ℕ) → Option (List ℕ) → Status → Type 0
+AnswersUpgrade tells from old new status =
+    IsOfUpgrade tells from (λ bytes text. IsUpgradeTold from.order (size_bytes from.address_size) bytes text old new status)
 
 -- ---- requests
+
+-- The answer to a check of a table: for all its places, or for the first alone.
+abbrev pub AnswersTable : (List ℕ → FileState → Type 0) → Judging → List ℕ → Bool → Bool → Option (List ℕ) → Option (List ℕ) → Status
+    → Type 0
+AnswersTable tells from table false partial old new status = AnswersCheck tells from table (scope_in partial) old new status
+AnswersTable tells from table true partial old new status = AnswersFile tells from table (Places (scope_in partial)) old new status
 
 -- The answer to a request.
 abbrev pub IsAnswered : (List ℕ → FileState → Type 0) → Request → Option (List ℕ) → Option (List ℕ) → Status → Type 0
@@ -132,7 +140,4 @@ IsAnswered tells (Read section order reading) old new status = AnswersRead tells
 IsAnswered tells (Upgrade from) old new status = AnswersUpgrade tells from old new status
 IsAnswered tells (Judge from question) old new status = AnswersQuestion tells from question old new status
 IsAnswered tells (Addresses from file op) old new status = AnswersFile tells from file.now (Lines op) old new status
-IsAnswered tells (Check from table false partial) old new status =
-    AnswersCheck tells from table.now (scope_in partial) old new status
-IsAnswered tells (Check from table true partial) old new status =
-    AnswersFile tells from table.now (Places (scope_in partial)) old new status
+IsAnswered tells (Check from table all partial) old new status = AnswersTable tells from table.now all partial old new status

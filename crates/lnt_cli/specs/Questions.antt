@@ -1,10 +1,10 @@
--- The answer to a question about a section that was judged, alone or with another file.
+-- The answer to a question about a section that was judged, alone or with another file, and its prefixes.
 --     tells       what the opener may say of the file with a name
 --     old, new    what the writer of the answer holds before and afterwards
-use Rattle.std.specs.Prelude.{◌≡◌, ℕ, List, ◌++◌, Option, true, false, codes}
-use Rattle.std.specs.List.{flat_map}
+use Rattle.std.specs.Prelude.{◌≡◌, ℕ, List, ◌++◌, Option, IfSome, true, false, codes, flat_map}
 use Rattle.std.specs.Io.KnownBytes.{Appends}
 use Rattle.lnt_io.specs.Files.{FileState}
+use Rattle.lnt_io.specs.Prefixes.{AppendsPrefix}
 use Rattle.lnt_io.specs.declared.status.Status.{Status}
 use Rattle.lnt_io.specs.declared.status.Status.TheVariants as ending
 use Rattle.lnt_spans.specs.declared.answer.Version.{Version}
@@ -18,15 +18,15 @@ use Rattle.lnt_records.specs.declared.by_path.version.PathVersion.{PathVersion}
 use Rattle.lnt_records.specs.declared.by_path.version.PathVersion.TheVariants.{Three, Four}
 use Rattle.lnt_table.specs.declared.within.Scope.{Scope}
 use Rattle.lnt_table.specs.ByPath.{told_path}
-use Rattle.lnt_table.specs.Written.{IsTableOfUnits}
-use Rattle.lnt_answers.specs.AddressLines.{AreAddressesTold}
+use Rattle.lnt_table.specs.Written.{BeginsTableOfUnits, IsTableOfUnits}
+use Rattle.lnt_answers.specs.AddressLines.{AreAddressesBegun, AreAddressesTold}
 use Rattle.lnt_answers.specs.FileLines.{files_text}
 use Rattle.lnt_answers.specs.Lines.{lookup_line}
-use Rattle.lnt_answers.specs.SumLines.{AreSumsTold, listed_files}
+use Rattle.lnt_answers.specs.SumLines.{AreSumsBegun, AreSumsTold, listed_files}
 use Rattle.lnt_lines.specs.FaultTexts.{no_text}
-use Rattle.lnt_answers.specs.PathTables.{IsPrintedTable}
+use Rattle.lnt_answers.specs.PathTables.{BeginsPrintedTable, IsPrintedTable}
 use Rattle.lnt_answers.specs.declared.stretches.Stretches.{Stretches}
-use Rattle.lnt_answers.specs.Stretches.{IsFaultTold, TellsStretches, told_status}
+use Rattle.lnt_answers.specs.Stretches.{AreStretchesBegun, IsFaultTold, TellsStretches, told_status}
 use Rattle.lnt_cli.specs.declared.question.FileQuestion.{FileQuestion}
 use Rattle.lnt_cli.specs.declared.question.FileQuestion.TheVariants.{Lines, Places}
 
@@ -72,3 +72,34 @@ abbrev pub AnswersJudged : (Indexed → Option (List ℕ) → Option (List ℕ) 
     → JudgedIndex → Type 0
 AnswersJudged AnswersOfGood old new status (Good index) = AnswersOfGood index old new status
 AnswersJudged AnswersOfGood old new status (Bad reason) = Appends old new (no_text reason ++ codes "\n") × (status ≡ ending.No)
+
+-- ---- answers that were stopped
+
+-- a prefix of the table by path of the units' answers, or of the line that says that there can't be one
+abbrev pub BeginsPathTableText : PathVersion → Indexed → Option (List ℕ) → Option (List ℕ) → Type 0
+BeginsPathTableText version index old new =
+    OfUnits index (λ selection. BeginsPrintedTable version (told_path version index selection) old new)
+
+-- A prefix of the answer for a good section with this index.
+abbrev pub BeginsGood : (List ℕ → FileState → Type 0) → Question → Indexed → Option (List ℕ) → Option (List ℕ) → Type 0
+BeginsGood tells Verify index old new = AppendsPrefix old new (codes "yes\n")
+BeginsGood tells (Lookup positions) index old new =
+    OfUnits index (λ selection. AppendsPrefix old new (flat_map (lookup_line index selection) positions.items))
+BeginsGood tells Files index old new = AppendsPrefix old new (files_text index)
+BeginsGood tells Md5 index old new = AreSumsBegun tells index (listed_files index) old new
+BeginsGood tells (Table version) index old new = OfUnits index (λ selection. BeginsTableOfUnits version selection old new)
+BeginsGood tells (TableByPath true) index old new = BeginsPathTableText Three index old new
+BeginsGood tells (TableByPath false) index old new = BeginsPathTableText Four index old new
+
+-- A prefix of the answer for a good section with this index and another file, of these bytes. Lines that weren't read yet count among
+-- those of that file.
+abbrev pub BeginsGoodFile : FileQuestion → Option (List ℕ) → Indexed → Option (List ℕ) → Option (List ℕ) → Type 0
+BeginsGoodFile (Lines op) bytes index old new = AreAddressesBegun index op bytes old new
+BeginsGoodFile (Places scope) bytes index old new = OfUnits index (λ selection. IfSome bytes
+    (λ text. AreStretchesBegun scope index selection text old new))
+
+-- A prefix of the answer for a section with this judgement.
+abbrev pub BeginsJudged : (Indexed → Option (List ℕ) → Option (List ℕ) → Type 0) → Option (List ℕ) → Option (List ℕ) → JudgedIndex
+    → Type 0
+BeginsJudged BeginsOfGood old new (Good index) = BeginsOfGood index old new
+BeginsJudged BeginsOfGood old new (Bad reason) = AppendsPrefix old new (no_text reason ++ codes "\n")

@@ -1,8 +1,8 @@
 -- How a run was stopped, and the files that a request names.
-use Rattle.std.specs.Prelude.{◌≡◌, ◌≢◌, ◌⊎◌, ℕ, IsErrAnd, List, Option, Result, Some, string_bytes}
-use Rattle.std.specs.Option.{option_copied}
+use Rattle.std.specs.Prelude.{◌≡◌, ◌≢◌, ◌⊎◌, ℕ, IsErrAnd, List, Option, Result, Some, string_bytes, option_copied}
 use Rattle.lnt_io.specs.Files.{FileState, Readable, RefusesOnly}
-use Rattle.lnt_io.specs.declared.status.Status.{Status}
+use Rattle.lnt_io.specs.declared.halt.Halt.{Halt}
+use Rattle.lnt_io.specs.declared.halt.Halt.TheVariants as halt
 use Rattle.lnt_words.specs.declared.request.Judging.{Judging}
 use Rattle.lnt_words.specs.declared.request.Question.{Question}
 use Rattle.lnt_words.specs.declared.request.Question.TheVariants.{Md5}
@@ -14,7 +14,7 @@ use Rattle.lnt_words.specs.declared.stop.WordsStop.TheVariants as words
 use Rattle.lnt_cli.specs.declared.stop.CliStop.{CliStop}
 use Rattle.lnt_cli.specs.declared.stop.CliStop.TheVariants.{File, Usage}
 use Rattle.lnt_cli.specs.declared.stop.FileStop.{FileStop}
-use Rattle.lnt_cli.specs.declared.stop.FileStop.TheVariants.{Read, TooLong, Memory}
+use Rattle.lnt_cli.specs.declared.stop.FileStop.TheVariants.{Read, TooLong, Write, Memory}
 
 -- how a run stops whose words aren't a request
 abbrev pub IsOfWords : WordsStop → CliStop → Type 0
@@ -74,5 +74,21 @@ MayAnswerUnreadable tells (Judge from question) = AnswersUnreadable tells from q
 MayAnswerUnreadable tells _ = ⊥
 
 -- That the file with this name can't be read is told by the stop of the answer to this request, or may be told by the answer.
-abbrev pub IsToldUnreadable : (List ℕ → FileState → Type 0) → Request → Result Status FileStop → List ℕ → Type 0
+abbrev pub IsToldUnreadable : {T : Type 0} → (List ℕ → FileState → Type 0) → Request → Result T FileStop → List ℕ → Type 0
 IsToldUnreadable tells request ended name = IsErrAnd ended (λ stop. IsUnreadable stop name) ⊎ MayAnswerUnreadable tells request
+
+-- ---- what bodies say of stops; no public contract speaks of it
+
+-- The stop of a run if the work on the file with this name was stopped.
+abbrev pub IsFileStop : Halt → List ℕ → FileStop → Type 0
+IsFileStop halt.Read name stop = IsUnreadable stop name
+IsFileStop halt.TooLong name (TooLong told) = string_bytes told ≡ name
+IsFileStop halt.TooLong name stop = ⊥
+IsFileStop halt.Write name stop = stop ≡ Write
+IsFileStop halt.Memory name stop = stop ≡ Memory
+
+-- The file that a stop names is one that failed, or one that was found too long.
+abbrev pub IsOfCause : (List ℕ → Type 0) → (List ℕ → Type 0) → FileStop → Type 0
+IsOfCause HasFailed IsLong (Read told) = HasFailed (string_bytes told)
+IsOfCause HasFailed IsLong (TooLong told) = IsLong (string_bytes told)
+IsOfCause HasFailed IsLong _ = Unit {0}

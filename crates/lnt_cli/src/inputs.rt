@@ -1,10 +1,8 @@
 //! The files that a run reads.
-ghost use Rattle.std.specs.Prelude.{◌≡◌, IfErr, IfOk, IsErr, IsErrOf, Ok, OnErr, Some, option_map, string_bytes};
-ghost use Rattle.std.specs.Option.{option_copied};
+ghost use Rattle.std.specs.Prelude.{◌≡◌, IfErr, IfOk, IsErr, IsErrOf, Ok, OnErr, Some, option_map, string_bytes, option_copied};
 ghost use Rattle.lnt_io.specs.Files.{AreBytesOf, Readable, RefusesOnly, TellsNoMore};
 ghost use Rattle.lnt_cli.specs.Answered.{AreStringsOf, AreTextsOf, IsTextOf};
-ghost use Rattle.lnt_cli.specs.Stepping.{IsFileStop};
-ghost use Rattle.lnt_cli.specs.Stops.{IsFileOf, IsFileOfBoth, NamesOneOf, StopsIfRefused};
+ghost use Rattle.lnt_cli.specs.Stops.{IsFileOf, IsFileStop, NamesOneOf, StopsIfRefused};
 
 use crate::stop::FileStop;
 use lnt_io::{Counted, Halt, Opener, Source, bytes_of_file, open_file, read_all, source_of};
@@ -95,50 +93,30 @@ pub(crate) fn open_judged<'c, O: Opener>(
     ensures later { TellsNoMore (O.tells opener.old) (O.tells opener.new) }
     ensures refused { StopsIfRefused result (O.refused opener.old) (O.refused opener.new) }
 {
-    let texts = read_texts(alloc, opener, from)?;
+    let line = read_strings(alloc, opener, from.line_strings)?;
+    let general = read_strings(alloc, opener, from.strings)?;
     let name = String::from_str(alloc, from.section)?;
     let opened = open_section(alloc, opener, from.section, seen);
     let section = of_file(name, opened)?;
+    let texts = Texts { line, general };
     Ok(Opened { texts, section })
 }
 
-// The open files of a section that is to be judged, and another open file.
-#[derive(Drop)]
-pub(crate) struct OpenedBoth<S, F> {
-    pub(crate) texts: Texts,
-    pub(crate) section: S,
-    pub(crate) file: F,
-}
-
-// Opens the files of a section that is to be judged and then the file with this name, before the first read of the section or
-// of that file.
-pub(crate) fn open_both<'c, O: Opener>(
+// Opens the file with this name.
+pub(crate) fn open_other<O: Opener>(
     alloc: Global,
     opener: &mut O,
-    from: &Judging<'_>,
     file: &str,
-    seen: &'c Cell<Seen>,
-) -> Result<OpenedBoth<Section<'c, O::Reader>, Blocks<O::Reader>>, FileStop>
-    ensures named { IfErr result (NamesOneOf (IsFileOfBoth from.now file.now)) }
-    ensures texts { IfOk result (λ opened.
-        AreTextsOf (O.tells opener.old) from.now opened.texts.line.items opened.texts.general.items) }
-    ensures section_fails { IfOk result (λ opened. ⟦<Section<'c, O::Reader> as Source>⟧.failures opened.section ≡ 0) }
-    ensures section_told { IfOk result (λ opened. O.tells opener.old from.now.section.now
-        (Readable (⟦<Section<'c, O::Reader> as Source>⟧.remaining opened.section))) }
-    ensures file_fails { IfOk result (λ opened. ⟦<Blocks<O::Reader> as Source>⟧.failures opened.file ≡ 0) }
-    ensures file_told { IfOk result (λ opened.
-        O.tells opener.old file.now (Readable (⟦<Blocks<O::Reader> as Source>⟧.remaining opened.file))) }
+) -> Result<Blocks<O::Reader>, FileStop>
+    ensures named { IfErr result (NamesOneOf (λ told. file.now ≡ told)) }
+    ensures fails { IfOk result (λ opened. ⟦<Blocks<O::Reader> as Source>⟧.failures opened ≡ 0) }
+    ensures told { IfOk result (λ opened.
+        O.tells opener.old file.now (Readable (⟦<Blocks<O::Reader> as Source>⟧.remaining opened))) }
     ensures refused { StopsIfRefused result (O.refused opener.old) (O.refused opener.new) }
 {
-    let judged = open_judged(alloc, opener, from, seen)?;
     let name = String::from_str(alloc, file)?;
     let opened = open_file(alloc, opener, file);
-    let file = of_file(name, opened)?;
-    Ok(OpenedBoth {
-        texts: judged.texts,
-        section: judged.section,
-        file,
-    })
+    of_file(name, opened)
 }
 
 // All bytes of the section in the file with this name. `seen` keeps what notes need of them.
@@ -171,22 +149,6 @@ pub(crate) fn read_named<O: Opener>(
         Some(name) => Ok(Some(read_file(alloc, opener, name)?)),
         None => Ok(None),
     }
-}
-
-// The bytes of both string sections; empty if no file is named.
-pub(crate) fn read_texts<O: Opener>(
-    alloc: Global,
-    opener: &mut O,
-    from: &Judging<'_>,
-) -> Result<Texts, FileStop>
-    ensures named { IfErr result (NamesOneOf (IsFileOf from.now)) }
-    ensures texts { IfOk result (λ texts. AreTextsOf (O.tells opener.old) from.now texts.line.items texts.general.items) }
-    ensures later { TellsNoMore (O.tells opener.old) (O.tells opener.new) }
-    ensures refused { StopsIfRefused result (O.refused opener.old) (O.refused opener.new) }
-{
-    let line = read_strings(alloc, opener, from.line_strings)?;
-    let general = read_strings(alloc, opener, from.strings)?;
-    Ok(Texts { line, general })
 }
 
 // All bytes of the file with this name; empty without a name.

@@ -11,7 +11,7 @@ mod inputs;
 mod notes;
 mod program;
 mod question;
-mod session;
+mod reading;
 mod stop;
 
 // Running the command.

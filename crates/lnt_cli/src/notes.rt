@@ -1,22 +1,29 @@
-//! What is answered about a section that is judged: the status, and what notes depend on.
+//! What is answered to a request, the status and what notes depend on; and its notes.
 ghost use Rattle.std.specs.Prelude.{◌≡◌};
 ghost use Rattle.lnt_answers.specs.Stretches.{told_status};
 ghost use Rattle.lnt_answers.specs.Verdicts.{checked_status};
 
-use crate::session::Session;
+use crate::stop::FileStop;
 use lnt_answers::Stretches;
 use lnt_compare::Compared;
 use lnt_io::{Opener, Status};
 use lnt_lines::No;
-use lnt_notes::{Columns, Given, Hints, Seen, tell_agreed, tell_bad, tell_good, tell_table};
+use lnt_notes::{
+    Columns, Given, Hints, Seen, print_note, tell_agreed, tell_bad, tell_good, tell_refused,
+    tell_table,
+};
 use lnt_records::TableFault;
-use lnt_table::{Checked, CheckedWithin, OfKind, TableNo, Verdict};
-use lnt_words::Judging;
+use lnt_table::{CheckedWithin, OfKind, TableNo, Verdict};
+use lnt_text::Note;
+use lnt_words::{Judging, Request, Upgrading, WordsStop};
+use std::alloc::Global;
 use std::io::Write;
 
-// What the notes to an answer depend on.
+// What the notes to an answer depend on, besides its request and its status.
 #[derive(Clone, Copy)]
 pub(crate) enum Occasion<'t> {
+    // The section wasn't judged.
+    Plain,
     // The section is good, and these are its hints.
     Good(Hints),
     // The section isn't good, for this reason.
@@ -35,6 +42,16 @@ pub(crate) struct Answered<'t> {
 }
 
 impl<'t> Answered<'t> {
+    // What ends with this status, if no section was judged.
+    pub(crate) fn plain(status: Status) -> Answered<'t>
+        ensures { result.status ≡ status }
+    {
+        Answered {
+            status,
+            occasion: Occasion::Plain,
+        }
+    }
+
     // What ends with `No`.
     pub(crate) fn no(occasion: Occasion<'t>) -> Answered<'t>
         ensures { result.status ≡ Status.No }
@@ -50,34 +67,28 @@ impl<'t> Answered<'t> {
         ensures { result.status ≡ checked_status checked.now }
     {
         match checked {
-            CheckedWithin::Checked(checked) => Answered::of_checked(checked, table),
-            CheckedWithin::Covered(_) => Answered {
+            CheckedWithin::Covered(_)
+            | CheckedWithin::Checked(
+                OfKind::Numbered(Verdict::Yes) | OfKind::ByPath(Compared::Same),
+            ) => Answered {
                 status: Status::Done,
                 occasion: Occasion::Compared(table),
             },
-        }
-    }
-
-    // The same of an answer that doesn't say how much the table answers.
-    fn of_checked(checked: &Checked, table: &'t str) -> Answered<'t>
-        ensures { result.status ≡ checked_status (CheckedWithin.Checked checked.now) }
-    {
-        match checked {
-            OfKind::Numbered(Verdict::Yes) | OfKind::ByPath(Compared::Same) => Answered {
-                status: Status::Done,
-                occasion: Occasion::Compared(table),
-            },
-            OfKind::Numbered(Verdict::No(TableNo::Section(no))) => {
+            CheckedWithin::Checked(OfKind::Numbered(Verdict::No(TableNo::Section(no)))) => {
                 Answered::no(Occasion::Bad(*no))
             }
-            OfKind::Numbered(Verdict::No(no)) => Answered::no(match no.fault() {
-                Some(fault) => Occasion::Faulty(table, fault, Columns::Numbered),
-                None => Occasion::Compared(table),
-            }),
-            OfKind::ByPath(Compared::Fault(fault)) => {
+            CheckedWithin::Checked(OfKind::Numbered(Verdict::No(no))) => {
+                Answered::no(match no.fault() {
+                    Some(fault) => Occasion::Faulty(table, fault, Columns::Numbered),
+                    None => Occasion::Compared(table),
+                })
+            }
+            CheckedWithin::Checked(OfKind::ByPath(Compared::Fault(fault))) => {
                 Answered::no(Occasion::Faulty(table, *fault, Columns::ByPath))
             }
-            OfKind::ByPath(Compared::Differs(_)) => Answered::no(Occasion::Compared(table)),
+            CheckedWithin::Checked(OfKind::ByPath(Compared::Differs(_))) => {
+                Answered::no(Occasion::Compared(table))
+            }
         }
     }
 
@@ -112,26 +123,68 @@ fn given_of<'a>(from: &Judging<'a>) -> Given<'a> {
     }
 }
 
-impl<O: Opener, W: Write, N: Write> Session<'_, '_, '_, O, W, N> {
-    // Writes the notes to an answer. None is written if the words ask for none, and a failure to write one doesn't stop a run.
-    pub(crate) fn tell(&mut self, answered: &Answered<'_>, seen: &Seen, from: &Judging<'_>)
-        ensures out { self.new.out ≡ self.old.out }
-        ensures opener { self.new.opener ≡ self.old.opener }
-    {
-        if self.quiet {
+// Writes the notes to a request that ended so: to its answer, or why the system couldn't open or read the file that stopped
+// it. A failure to write one doesn't stop a run.
+pub(crate) fn tell<O: Opener, N: Write>(
+    alloc: Global,
+    request: &Request<'_>,
+    ended: &Result<Answered<'_>, FileStop>,
+    seen: &Seen,
+    opener: &O,
+    notes: &mut N,
+) {
+    match ended {
+        Ok(answered) => tell_answer(alloc, request, answered, seen, opener, notes),
+        Err(FileStop::Read(_)) => {
+            if let Some(reason) = opener.reason(alloc) {
+                let _ = writeln!(notes, "linetab: note: {reason}");
+            }
+        }
+        Err(_) => {}
+    }
+}
+
+fn tell_answer<O: Opener, N: Write>(
+    alloc: Global,
+    request: &Request<'_>,
+    answered: &Answered<'_>,
+    seen: &Seen,
+    opener: &O,
+    notes: &mut N,
+) {
+    let given = match request {
+        Request::Help(_) => return,
+        Request::Read { order, .. } | Request::Upgrade(Upgrading { order, .. }) => {
+            if answered.status == Status::No {
+                let _ = tell_refused(seen, *order, notes);
+            }
             return;
         }
-        let given = given_of(from);
-        let _ = match answered.occasion {
-            Occasion::Good(hints) => tell_good(self.alloc, &hints, &given, self.opener, self.notes),
-            Occasion::Bad(no) => tell_bad(self.alloc, &no, seen, &given, self.opener, self.notes),
-            Occasion::Compared(table) if answered.status == Status::Done => {
-                tell_agreed(self.alloc, &given, table, self.opener, self.notes)
-            }
-            Occasion::Compared(_) => Ok(()),
-            Occasion::Faulty(table, fault, columns) => {
-                tell_table(self.alloc, fault, columns, table, self.opener, self.notes)
-            }
-        };
+        Request::Judge { from, .. }
+        | Request::Addresses { from, .. }
+        | Request::Check { from, .. } => given_of(from),
+    };
+    let _ = match answered.occasion {
+        Occasion::Good(hints) => tell_good(alloc, &hints, &given, opener, notes),
+        Occasion::Bad(no) => tell_bad(alloc, &no, seen, &given, opener, notes),
+        Occasion::Compared(table) if answered.status == Status::Done => {
+            tell_agreed(alloc, &given, table, opener, notes)
+        }
+        Occasion::Compared(_) | Occasion::Plain => Ok(()),
+        Occasion::Faulty(table, fault, columns) => {
+            tell_table(alloc, fault, columns, table, opener, notes)
+        }
+    };
+}
+
+// Writes a note that says what a bad word has to be, unless notes are left out.
+pub(crate) fn tell_word<N: Write>(stop: &WordsStop, notes: &mut N) {
+    if let WordsStop::BadWord {
+        argument,
+        quiet: false,
+        ..
+    } = stop
+    {
+        let _ = print_note(Note::Word(*argument), notes);
     }
 }

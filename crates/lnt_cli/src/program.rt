@@ -6,13 +6,16 @@ ghost use Rattle.lnt_cli.specs.Runs.{AnswersWords, IsStopOf, TellUnreadable};
 ghost use Rattle.lnt_cli.specs.Stopped.{IsStopped};
 ghost use Rattle.lnt_cli.specs.Stops.{IsFileIn, IsToldUnreadable, NamesOneOf};
 
-use crate::session::Session;
+use crate::check::answer_table;
+use crate::notes::{Answered, tell, tell_word};
+use crate::question::{FileQuestion, answer_file, answer_question};
+use crate::reading::{read_section, upgrade_section};
 use crate::stop::{CliStop, FileStop};
-use lnt_io::{Opener, Status};
-use lnt_notes::print_note;
-use lnt_text::Note;
-use lnt_words::{Asked, WordsStop, request_of};
+use lnt_io::{Opener, Status, write_whole};
+use lnt_notes::Seen;
+use lnt_words::{Asked, Request, request_of};
 use std::alloc::Global;
+use std::cell::Cell;
 use std::io::{self, Write};
 
 /// Runs the command that the words give, and writes its answer to `out`. The first word is the program's own name.
@@ -100,28 +103,51 @@ pub fn answer<O: Opener, W: Write, N: Write>(
     ensures refused { RefusesOnly (IsToldUnreadable (O.tells opener.old) asked.now.request result)
         (O.refused opener.old) (O.refused opener.new) }
 {
-    let mut session = Session {
-        alloc,
-        quiet: asked.quiet,
-        opener,
-        out,
-        notes,
-    };
-    let ended = session.answer(&asked.request);
-    if let Err(FileStop::Read(_)) = &ended {
-        session.tell_reason();
+    let seen = Cell::new(Seen::nothing());
+    let ended = answer_request(alloc, &asked.request, opener, &seen, out);
+    if !asked.quiet {
+        tell(alloc, &asked.request, &ended, &seen.get(), opener, notes);
     }
-    ended
+    ended.map(|answered| answered.status)
 }
 
-// Writes a note that says what a bad word has to be, unless notes are left out.
-fn tell_word<N: Write>(stop: &WordsStop, notes: &mut N) {
-    if let WordsStop::BadWord {
-        argument,
-        quiet: false,
-        ..
-    } = stop
-    {
-        let _ = print_note(Note::Word(*argument), notes);
+// Answers a request. `seen` keeps what notes need of the section's bytes.
+fn answer_request<'r, O: Opener, W: Write>(
+    alloc: Global,
+    request: &'r Request<'_>,
+    opener: &mut O,
+    seen: &Cell<Seen>,
+    out: &mut W,
+) -> Result<Answered<'r>, FileStop>
+    ensures named { IfErr result (NamesOneOf (IsFileIn request.now)) }
+    ensures answer { IfOk result (λ answered.
+        IsAnswered (O.tells opener.old) request.now (W.contents out.old) (W.contents out.new) answered.status) }
+    ensures stopped { OnErr result (IsStopped (O.tells opener.old) request.now (W.contents out.old) (W.contents out.new)) }
+    ensures refused { RefusesOnly (IsToldUnreadable (O.tells opener.old) request.now result) (O.refused opener.old) (O.refused opener.new) }
+{
+    match request {
+        Request::Help(text) => {
+            write_whole(out, text.as_bytes())?;
+            Ok(Answered::plain(Status::Done))
+        }
+        Request::Read {
+            section,
+            order,
+            reading,
+        } => read_section(alloc, section, *order, *reading, opener, seen, out),
+        Request::Upgrade(from) => upgrade_section(alloc, from, opener, seen, out),
+        Request::Judge { from, question } => {
+            answer_question(alloc, from, question, opener, seen, out)
+        }
+        Request::Addresses { from, file, op } => {
+            let question = FileQuestion::Lines(*op);
+            answer_file(alloc, from, file, question, opener, seen, out)
+        }
+        Request::Check {
+            from,
+            table,
+            all,
+            partial,
+        } => answer_table(alloc, from, table, *all, *partial, opener, seen, out),
     }
 }

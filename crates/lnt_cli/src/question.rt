@@ -1,18 +1,17 @@
 //! Questions about a section that is judged, alone or with another file.
-ghost use Rattle.std.specs.Prelude.{◌≡◌, ◌-◌, ◌^◌, ◌<◌, ◌⊎◌, IfErr, IfOk, IsErrAnd, OnErr, string_bytes};
+ghost use Rattle.std.specs.Prelude.{◌≡◌, ◌-◌, ◌^◌, ◌<◌, ◌⊎◌, IfErr, IfOk, IsErrAnd, OnErr};
 ghost use Rattle.std.specs.Io.KnownBytes.{Keeps};
 ghost use Rattle.lnt_io.specs.Files.{RefusesOnly};
 ghost use Rattle.lnt_words.specs.declared.request.Question.TheVariants.{Md5};
 ghost use Rattle.lnt_answers.specs.Lines.{HasBegunLine, IsIndexGiven, IsReasonTold};
 ghost use Rattle.lnt_cli.specs.Answered.{AnswersFile, AnswersQuestion, options_in};
-ghost use Rattle.lnt_cli.specs.Questions.{AnswersGood, AnswersGoodFile, AnswersJudged};
+ghost use Rattle.lnt_cli.specs.Questions.{AnswersGood, AnswersGoodFile, AnswersJudged, BeginsGood, BeginsGoodFile, BeginsJudged};
 ghost use Rattle.lnt_cli.specs.Stepping.{IsJudgedSo, IsTrueOf};
-ghost use Rattle.lnt_cli.specs.Stopped.{BeginsFile, BeginsGood, BeginsGoodFile, BeginsJudged, BeginsQuestion};
+ghost use Rattle.lnt_cli.specs.Stopped.{BeginsFile, BeginsQuestion};
 ghost use Rattle.lnt_cli.specs.Stops.{AnswersUnreadable, IsFileOf, IsFileOfBoth, IsUnreadable, NamesOneOf, StopsIfRefused};
 
-use crate::inputs::{Opened, OpenedBoth, Texts, of_file, open_both, open_judged};
+use crate::inputs::{Opened, Texts, of_file, open_judged, open_other};
 use crate::notes::{Answered, Occasion};
-use crate::session::Session;
 use crate::stop::FileStop;
 use lnt_answers::{
     judge_section, lists_sums, print_addresses, print_files, print_lookups, print_path_table,
@@ -37,66 +36,9 @@ pub(crate) enum FileQuestion {
     Places(Scope),
 }
 
-impl<O: Opener, W: Write, N: Write> Session<'_, '_, '_, O, W, N> {
-    // Answers a question about a good section, or prints the line that says why the section isn't good.
-    pub(crate) fn answer_question(
-        &mut self,
-        from: &Judging<'_>,
-        question: &Question,
-    ) -> Result<Status, FileStop>
-        ensures named { IfErr result (NamesOneOf (IsFileOf from.now)) }
-        ensures answer { IfOk result (λ status. AnswersQuestion (O.tells self.old.opener.now) from.now question.now
-            (W.contents self.old.out.now) (W.contents self.new.out.now) status) }
-        ensures stopped { OnErr result (Keeps (W.contents self.old.out.now) (W.contents self.new.out.now)
-            ⊎ BeginsQuestion (O.tells self.old.opener.now) from.now question.now (W.contents self.old.out.now)
-            (W.contents self.new.out.now)) }
-        ensures refused { RefusesOnly (λ name. IsErrAnd result (λ stop. IsUnreadable stop name)
-            ⊎ AnswersUnreadable (O.tells self.old.opener.now) from.now question.now)
-            (O.refused self.old.opener.now) (O.refused self.new.opener.now) }
-        ensures same_reference { self.new.out.ghost_name ≡ self.old.out.ghost_name }
-        ensures same_opener { self.new.opener.ghost_name ≡ self.old.opener.ghost_name }
-    {
-        let seen = Cell::new(Seen::nothing());
-        let answered = answer_alone(self.alloc, from, question, self.opener, &seen, self.out)?;
-        self.tell(&answered, &seen.get(), from);
-        Ok(answered.status)
-    }
-
-    // Answers a question about a good section and the file with this name, or prints the line that says why the section isn't
-    // good.
-    pub(crate) fn answer_file(
-        &mut self,
-        from: &Judging<'_>,
-        file: &str,
-        question: FileQuestion,
-    ) -> Result<Status, FileStop>
-        ensures named { IfErr result (NamesOneOf (IsFileOfBoth from.now file.now)) }
-        ensures answer { IfOk result (AnswersFile (O.tells self.old.opener.now) from.now file.now question
-            (W.contents self.old.out.now) (W.contents self.new.out.now)) }
-        ensures stopped { OnErr result (Keeps (W.contents self.old.out.now) (W.contents self.new.out.now)
-            ⊎ BeginsFile (O.tells self.old.opener.now) from.now file.now question (W.contents self.old.out.now)
-            (W.contents self.new.out.now)) }
-        ensures refused { StopsIfRefused result (O.refused self.old.opener.now) (O.refused self.new.opener.now) }
-        ensures same_reference { self.new.out.ghost_name ≡ self.old.out.ghost_name }
-        ensures same_opener { self.new.opener.ghost_name ≡ self.old.opener.ghost_name }
-    {
-        let seen = Cell::new(Seen::nothing());
-        let answered = answer_both(
-            self.alloc,
-            from,
-            file,
-            question,
-            self.opener,
-            &seen,
-            self.out,
-        )?;
-        self.tell(&answered, &seen.get(), from);
-        Ok(answered.status)
-    }
-}
-
-// Answers a question about a section. `seen` keeps what notes need of the section's bytes.
-fn answer_alone<'t, O: Opener, W: Write>(
+// Answers a question about a good section, or prints the line that says why the section isn't good. `seen` keeps what notes need
+// of the section's bytes.
+pub(crate) fn answer_question<'t, O: Opener, W: Write>(
     alloc: Global,
     from: &Judging<'_>,
     question: &Question,
@@ -138,35 +80,22 @@ fn answer_opened<'t, S: Source, O: Opener, W: Write>(
 {
     let name = String::from_str(alloc, from.section)?;
     match judge(alloc, &mut files.section, &files.texts, from, out)? {
-        JudgedIndex::Good(index) => answer_good(alloc, name, &index, question, opener, out),
+        JudgedIndex::Good(index) => {
+            let printed = print_answer(alloc, &index, question, opener, out);
+            let status = of_file(name, printed)?;
+            let occasion = Occasion::Good(Hints {
+                lists_no_sum: matches!(question, Question::Md5) && !lists_sums(&index),
+                ..hints_of(&index)
+            });
+            Ok(Answered { status, occasion })
+        }
         JudgedIndex::Bad(no) => Ok(Answered::no(Occasion::Bad(no))),
     }
 }
 
-// Answers a question about a good section, whose file has this name.
-fn answer_good<'t, O: Opener, W: Write>(
-    alloc: Global,
-    section: String,
-    index: &Index<'_>,
-    question: &Question,
-    opener: &mut O,
-    out: &mut W,
-) -> Result<Answered<'t>, FileStop>
-    ensures named { IfErr result (NamesOneOf (λ name. string_bytes section ≡ name)) }
-    ensures answer { IfOk result (λ answered.
-        AnswersGood (O.tells opener.old) question.now index.now (W.contents out.old) (W.contents out.new) answered.status) }
-    ensures stopped { OnErr result (BeginsGood (O.tells opener.old) question.now index.now (W.contents out.old) (W.contents out.new)) }
-    ensures refused { RefusesOnly (λ _. question.now ≡ Md5) (O.refused opener.old) (O.refused opener.new) }
-{
-    let printed = print_answer(alloc, index, question, opener, out);
-    let status = of_file(section, printed)?;
-    let occasion = Occasion::Good(hints_to(index, question));
-    Ok(Answered { status, occasion })
-}
-
-// Answers a question about a section and the file with this name, which is opened before the section is judged. `seen` keeps
-// what notes need of the section's bytes.
-fn answer_both<'f, O: Opener, W: Write>(
+// Answers a question about a good section and the file with this name, which is opened before the section is judged; or prints the
+// line that says why the section isn't good. `seen` keeps what notes need of the section's bytes.
+pub(crate) fn answer_file<'f, O: Opener, W: Write>(
     alloc: Global,
     from: &Judging<'_>,
     file: &'f str,
@@ -182,34 +111,34 @@ fn answer_both<'f, O: Opener, W: Write>(
         ⊎ BeginsFile (O.tells opener.old) from.now file.now question (W.contents out.old) (W.contents out.new)) }
     ensures refused { StopsIfRefused result (O.refused opener.old) (O.refused opener.new) }
 {
-    let mut files = open_both(alloc, opener, from, file, seen)?;
-    answer_both_of(alloc, from, file, question, &mut files, out)
+    let mut files = open_judged(alloc, opener, from, seen)?;
+    let mut other = open_other(alloc, opener, file)?;
+    answer_both(alloc, from, file, question, &mut files, &mut other, out)
 }
 
 // The same. The files are open.
-fn answer_both_of<'f, S: Source, F: Source, W: Write>(
+fn answer_both<'f, S: Source, F: Source, W: Write>(
     alloc: Global,
     from: &Judging<'_>,
     file: &'f str,
     question: FileQuestion,
-    files: &mut OpenedBoth<S, F>,
+    files: &mut Opened<S>,
+    other: &mut F,
     out: &mut W,
 ) -> Result<Answered<'f>, FileStop>
     requires section { S.failures files.old.section < 2 ^ 64 - 1 }
-    requires file { F.failures files.old.file < 2 ^ 64 - 1 }
+    requires file { F.failures other.old < 2 ^ 64 - 1 }
     ensures named { IfErr result (NamesOneOf (IsFileOfBoth from.now file.now)) }
     ensures answer { IfOk result (λ answered. IsJudgedSo files.old.texts from.now (S.remaining files.old.section)
-        (AnswersJudged (AnswersGoodFile question (F.remaining files.old.file))
+        (AnswersJudged (AnswersGoodFile question (F.remaining other.old))
         (W.contents out.old) (W.contents out.new) answered.status)) }
     ensures stopped { OnErr result (Keeps (W.contents out.old) (W.contents out.new)
         ⊎ IsJudgedSo files.old.texts from.now (S.remaining files.old.section)
-        (BeginsJudged (BeginsGoodFile question (F.remaining files.old.file))
+        (BeginsJudged (BeginsGoodFile question (F.remaining other.old))
         (W.contents out.old) (W.contents out.new))) }
 {
     match judge(alloc, &mut files.section, &files.texts, from, out)? {
-        JudgedIndex::Good(index) => {
-            answer_good_file(alloc, &index, file, question, &mut files.file, out)
-        }
+        JudgedIndex::Good(index) => { answer_good_file(alloc, &index, file, question, other, out) }
         JudgedIndex::Bad(no) => Ok(Answered::no(Occasion::Bad(no))),
     }
 }
@@ -308,14 +237,5 @@ fn print_answer<O: Opener, W: Write>(
             print_path_table(alloc, index, PathVersion::Four, out)
         }
         Question::Md5 => print_sums(alloc, index, opener, out),
-    }
-}
-
-// The hints of a good section for notes to this question.
-fn hints_to(index: &Index<'_>, question: &Question) -> Hints {
-    let hints = hints_of(index);
-    Hints {
-        lists_no_sum: matches!(question, Question::Md5) && !lists_sums(index),
-        ..hints
     }
 }

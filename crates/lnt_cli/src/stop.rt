@@ -1,7 +1,6 @@
 //! Why a run is stopped.
 ghost use Rattle.std.specs.Prelude.{◌≡◌, string_bytes};
-ghost use Rattle.lnt_cli.specs.Stepping.{IsFileStop};
-ghost use Rattle.lnt_cli.specs.Stops.{IsOfWords, NamesOneOf};
+ghost use Rattle.lnt_cli.specs.Stops.{IsFileStop, IsOfWords, NamesOneOf};
 ghost use Rattle.lnt_cli.specs.declared.stop.CliStop.TheVariants.{File};
 ghost use Rattle.lnt_cli.specs.declared.stop.FileStop.TheVariants.{Memory, Write};
 

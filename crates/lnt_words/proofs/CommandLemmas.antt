@@ -1,10 +1,7 @@
 -- The rules of arguments and commands after a step of clap's builders.
-use Rattle.std.proofs.Common.{◌≡◌, ◌<◌, ◌≤◌, ◌+◌, [], ℕ, List, Option, Some}
-use Rattle.std.proofs.Common.{ap₂, codes, false, fold, get_or, length, subst, sym, take, true, arith}
-use Rattle.std.proofs.lemmas.List.{take_all}
+use Rattle.std.proofs.Common.{◌≡◌, ◌<◌, ◌≤◌, ◌+◌, [], ℕ, List, Option, Some, ap₂, codes, false, fold, get_or, length, subst, sym, take}
+use Rattle.std.proofs.Common.{true, arith, take_all, IsSomeAnd, Bor}
 use Rattle.std.proofs.lemmas.List.Sums.{fold_more}
-use Rattle.std.specs.Prelude.{IsSomeAnd}
-use Rattle.std.specs.Borrow.{Bor}
 use Rattle.clap.specs.Lexer.{usize_max}
 use Rattle.clap.specs.Simple.{new_shape}
 use Rattle.clap.specs.Words.{AddsArg, AddsSubcommand, App, Rule, app_of, new_app, with_rule, with_subcommand}

@@ -1,15 +1,12 @@
 -- Words that ask for nothing: no request fits them.
-use Rattle.std.proofs.Common.{◌≡◌, ◌<◌, ℕ, zero, suc, arith, List, [], ◌∷◌, Option, Some, None, Result, codes, get_or}
-use Rattle.std.proofs.Common.{ap, length, subst, sym}
-use Rattle.std.specs.Prelude.{◌≢◌, IfErr}
-use Rattle.std.specs.Borrow.{Bor}
+use Rattle.std.proofs.Common.{◌≡◌, ◌<◌, ℕ, zero, suc, arith, List, [], ◌∷◌, Option, Some, None, Result, codes, get_or, ap, length, subst}
+use Rattle.std.proofs.Common.{sym, ◌≢◌, IfErr, Bor}
 use Rattle.clap.specs.Words.{HasKind, IsAmong, Kinds, Row, Text, first_of, kind_of}
 use Rattle.clap.specs.declared.error.Error.{Error}
 use Rattle.clap.specs.declared.error.kind.ErrorKind.TheVariants.{OutOfMemory}
 use Rattle.lnt_text.specs.Digits.{IsAddress}
 use Rattle.lnt_words.specs.declared.request.AddressSize.{AddressSize}
 use Rattle.lnt_words.specs.declared.request.Request.{Request}
-use Rattle.lnt_words.specs.declared.request.Request.TheVariants as requests
 use Rattle.lnt_words.specs.Asking.{AreAddresses, IsAskedIn, IsMarker, IsSize, IsWord}
 use Rattle.lnt_words.proofs.WordLemmas.{texts_of}
 use Rattle.std.proofs.lemmas.Grind.{common_steps}

@@ -1,19 +1,16 @@
 -- clap's matches of the words, in terms of their rows.
-use Rattle.std.proofs.Common.{◌≡◌, ◌⊎◌, ◌++◌, ◌∷◌, [], ℕ, List, Option, Some, map, option_map, refl, true, arith}
-use Rattle.std.specs.Borrow.{Bor}
+use Rattle.std.proofs.Common.{◌≡◌, ◌⊎◌, ◌++◌, ◌∷◌, [], ℕ, List, Option, Some, map, option_map, refl, true, arith, Bor}
 use Rattle.clap.proofs.OnLiterals.{clap_on_literals}
 use Rattle.clap.specs.Words.{HasKind, IsAmong, Kinds, Row, Text, is_simple, is_simple_and_free, kind_of}
 use Rattle.clap.specs.Words.{subcommand_name_of, subcommand_rows_of}
 use Rattle.clap.specs.declared.error.Error.{Error}
 use Rattle.clap.specs.declared.error.kind.ErrorKind.TheVariants as kind
-use Rattle.clap.specs.declared.error.kind.ErrorKind.{ErrorKind}
 use Rattle.clap.specs.declared.parser.matches.ArgMatches.{ArgMatches}
 use Rattle.clap.specs.declared.parser.matches.ArgMatches.TheViews.{out-ArgMatches}
 use Rattle.lnt_text.specs.Digits.{IsAddress}
-use Rattle.lnt_words.specs.Asking.{AreAddresses, IsAskedOf}
+use Rattle.lnt_words.specs.Asking.{AreAddresses, IsAskedOf, Asked}
 use Rattle.lnt_words.specs.Described.{IsAskedOfMatches}
 use Rattle.lnt_words.specs.Words.{linetab}
-use Rattle.lnt_words.specs.declared.request.Asked.{Asked}
 use Rattle.std.proofs.lemmas.Grind.{common_steps}
 
 -- for this command clap's matches and the kinds of its errors are known for all words

@@ -1,8 +1,8 @@
 -- The requests that words make. clap's result is a function of the words and of the command (`linetab`): the subcommand's name,
 -- and a row for each of its arguments, with the values that it was given or has by default.
-use Rattle.std.specs.Prelude.{◌≡◌, ◌≢◌, ◌↔◌, ◌⊎◌, Bool, IsTrue, true, false, ℕ, map, List, [], ◌∷◌}
-use Rattle.std.specs.Prelude.{Option, Some, None, codes, IsSomeAnd, MatchOption}
-use Rattle.std.specs.Option.{option_copied}
+use Rattle.std.specs.Prelude.{◌≡◌, ◌≢◌, ◌↔◌, ◌⊎◌, Bool, IsTrue, true, false, ℕ, map, List, [], Option, Some, None, codes, IsSomeAnd}
+use Rattle.std.specs.Prelude.{MatchOption, option_copied}
+use Rattle.std.specs.List.{AllZip}
 use Rattle.clap.specs.Words.{IsAmong, Row, Text, all_of, fault_of, first_of, subcommand_of}
 use Rattle.clap.specs.declared.error.kind.ErrorKind.{ErrorKind}
 use Rattle.clap.specs.declared.error.kind.ErrorKind.TheVariants.{DisplayHelp, DisplayVersion}
@@ -15,7 +15,7 @@ use Rattle.lnt_wire.specs.declared.format.Order.{Order}
 use Rattle.lnt_wire.specs.declared.format.Order.TheVariants.{Little, Big}
 use Rattle.lnt_words.specs.declared.request.AddressSize.{AddressSize}
 use Rattle.lnt_words.specs.declared.request.AddressSize.TheVariants as sizes
-use Rattle.lnt_words.specs.declared.request.Asked.{Asked}
+pub use Rattle.lnt_words.specs.declared.request.Asked.{Asked}
 use Rattle.lnt_words.specs.declared.request.Judging.{Judging}
 use Rattle.lnt_words.specs.declared.request.Question.{Question}
 use Rattle.lnt_words.specs.declared.request.Question.TheVariants.{Verify, Lookup, Files, Table, TableByPath, Md5}
@@ -81,9 +81,7 @@ pub record AreTableFlags (rows : List Row) (wide paths lines : Bool) : Type 0 wh
 
 -- These words are texts of these addresses, in their order.
 abbrev pub AreAddresses : List Text → List ℕ → Type 0
-AreAddresses [] [] = Unit {0}
-AreAddresses (word ∷ words) (address ∷ addresses) = IsAddress word address × AreAddresses words addresses
-AreAddresses _ _ = ⊥
+AreAddresses = AllZip IsAddress
 
 -- these addresses are given as words
 abbrev pub AreAddressesIn : List Row → List ℕ → Type 0

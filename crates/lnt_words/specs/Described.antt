@@ -1,19 +1,19 @@
 -- The rules that descriptions of arguments and subcommands stand for, in clap's terms, and the requests that matches make. No
 -- public contract speaks of this.
-use Rattle.std.specs.Prelude.{◌≡◌, List, Some, codes, false, fold, option_map}
+use Rattle.std.specs.Prelude.{◌≡◌, IfErr, IfOk, List, Result, Some, codes, false, fold, option_map}
 use Rattle.clap.specs.Words.{App, Row, Rule, Text, app_of, new_app, new_rule, rule_of, with_rule, with_subcommand}
 use Rattle.clap.specs.Words.{found_of, rows_of, subcommand_name_of, subcommand_rows_of}
 use Rattle.clap.specs.declared.builder.arg.Arg.{Arg}
 use Rattle.clap.specs.declared.builder.command.Command.{Command}
 use Rattle.clap.specs.declared.builder.command.Command.TheViews.{out-Command as fields_of}
 use Rattle.clap.specs.declared.parser.matches.ArgMatches.{ArgMatches}
-use Rattle.lnt_words.specs.Asking.{IsAskedIn, IsFlagGiven}
-use Rattle.lnt_words.specs.declared.request.Asked.{Asked}
+use Rattle.lnt_words.specs.Asking.{IsAskedIn, IsFlagGiven, Asked}
 use Rattle.lnt_words.specs.Words.{flag, option, required, several, word}
 use Rattle.lnt_words.specs.declared.description.ArgumentRule.{ArgumentRule}
 use Rattle.lnt_words.specs.declared.description.Kind.{Kind}
 use Rattle.lnt_words.specs.declared.description.Kind.TheVariants.{Word, WordsUnless, Flag, FlagWithout, FlagWithoutBoth, Valued, Required}
 use Rattle.lnt_words.specs.declared.description.Subcommand.{Subcommand}
+use Rattle.lnt_words.specs.declared.stop.WordsStop.{WordsStop}
 
 -- The argument has this rule, and isn't global: subcommands don't inherit it.
 pub record IsArgument (rule : Rule) (argument : Arg) : Type 0 where
@@ -50,6 +50,11 @@ with_subcommand_in app subcommand = with_subcommand app (app_in subcommand).top
 -- the rows that clap found
 abbrev pub rows_in : ArgMatches → List Row
 rows_in matches = rows_of (found_of matches)
+
+-- What the words ask for was found, or they ask for nothing.
+pub record IsFound {T : Type 0} (IsAsked : T → Type 0) (found : Result T WordsStop) : Type 0 where
+  pub asked : IfOk found IsAsked
+  pub refused : IfErr found (λ stop. (value : T) → IsAsked value → ⊥)
 
 -- The subcommand that clap found, and its matches, ask for this request.
 pub record IsAskedOfMatches (matches : ArgMatches) (asked : Asked) : Type 0 where

@@ -12,36 +12,23 @@ use Rattle.clap.specs.declared.builder.action.ArgAction.TheVariants.{Set, Append
 abbrev pub required : Rule → Rule
 required rule = record rule { required = true }
 
--- The argument takes one word as its value.
-abbrev pub taking : Rule → Rule
-taking rule = record rule { action = Some Set }
-
 -- a required word
 abbrev pub word : Text → Rule
-word name = required (taking (new_rule name))
+word name = record (new_rule name) { required = true; action = Some Set }
 
 -- the flag --name
-abbrev pub flagged : Rule → Text → Rule
-flagged rule name = record rule { long = Some name; action = Some SetTrue }
-
 abbrev pub flag : Text → Rule
-flag name = flagged (new_rule name) name
+flag name = record (new_rule name) { long = Some name; action = Some SetTrue }
 
 -- the option --name VALUE
-abbrev pub valued : Rule → Text → Rule
-valued rule name = record rule { long = Some name; action = Some Set; value_names = 1 }
-
 abbrev pub option : Text → Rule
-option name = valued (new_rule name) name
+option name = record (new_rule name) { long = Some name; action = Some Set; value_names = 1 }
 
 -- the argument takes one or more words each time that it is given
 abbrev pub several : Rule → Rule
 several rule = record rule { action = Some Append; range = Some (record { start_inclusive = 1; end_inclusive = usize_max }) }
 
 -- ---- the subcommands
-
-abbrev pub section : Rule
-section = word (codes "SECTION")
 
 -- the arguments of a subcommand that reads a section
 abbrev pub reading : List Rule
@@ -52,7 +39,7 @@ abbrev pub judging : List Rule
 judging = reading ++ option (codes "line-str") ∷ option (codes "str") ∷ option (codes "dead") ∷ flag (codes "skip-copies") ∷ []
 
 abbrev pub subcommand : Text → List Rule → Shape
-subcommand name rules = record (new_shape name) { rules = section ∷ rules }
+subcommand name rules = record (new_shape name) { rules = word (codes "SECTION") ∷ rules }
 
 abbrev pub subcommands : List Shape
 subcommands =

@@ -49,227 +49,99 @@ pub(crate) enum Kind {
 // prints them, without the letter of the kit, which distinguishes revisions that prove by the same logic.
 pub(crate) const VERSION: &str = "0.9.0 (rattle-kit-13 logic dac8208d650f15bf)";
 
+// The arguments in these rows: name, kind and help.
+macro_rules! arguments {
+    ($($name:literal => $kind:ident $(($($value:literal),+))?, $help:literal;)*) => {
+        &[$(ArgumentRule { name: $name, kind: Kind::$kind $(($($value),+))?, help: $help }),*]
+    };
+}
+
+// What subcommands that read a section share, and the arguments in these rows.
+macro_rules! reading {
+    ($($more:tt)*) => {
+        arguments! {
+            "big" => Flag, "The section is big-endian; otherwise it is little-endian";
+            "quiet" => Flag, "Prints no notes on standard error";
+            $($more)*
+        }
+    };
+}
+
+// A subcommand: its name, help, text after its help and shared arguments, and then a row for each of its own arguments, which
+// follow the section.
+macro_rules! subcommand {
+    ($name:literal => $about:literal, $after:expr, $shared:expr; $($own:tt)*) => {
+        Subcommand {
+            name: $name,
+            about: $about,
+            after: $after,
+            own: arguments! {
+                "SECTION" => Word, "The file with the bytes of a .debug_line section, or - for standard input";
+                $($own)*
+            },
+            shared: $shared,
+        }
+    };
+}
+
 /// The subcommands, in the order in which help lists them.
 pub(crate) const SUBCOMMANDS: [Subcommand; 10] = [
-    UNITS, DUMP, CHECK, VERIFY, LOOKUP, FILES, TABLE, CONVERT, UPGRADE, MD5,
+    subcommand! {
+        "units" => "Prints the offset, the format and the length of each unit of a section", None, READING;
+    },
+    subcommand! {
+        "dump" => "Prints the header of each unit of a section, with its directories and files", None, READING;
+        "ops" => Flag, "Prints the operations of each unit too";
+        "rows" => Flag, "Prints the rows of each unit too";
+    },
+    subcommand! {
+        "check" => "Tells whether an address table answers as a section does, or where it doesn't", Some(NUMBERS), JUDGING;
+        "TABLE" => Word, "The file with the address table, or - for standard input";
+        "all" => Flag, "Tells every place where the two answer differently, and not the first alone";
+        "partial" => Flag, "Compares only where the table answers, and tells how many of the section's addresses that is";
+    },
+    subcommand! {
+        "verify" => "Tells whether a section is good, or what is wrong with it", None, JUDGING;
+    },
+    subcommand! {
+        "lookup" => "Prints what a section says of addresses, in a line for each", None, JUDGING;
+        "ADDRESS" => WordsUnless("addresses"), "An address: 0x and 1 to 16 hexadecimal digits";
+        "addresses" => Valued("FILE"), "A file with a line ADDRESS or ADDRESS,N for each lookup, or - for standard input";
+        "op" => Valued("N"), "The operation of the instruction there, from 0 on; it is 0 by default";
+    },
+    subcommand! {
+        "files" => "Prints the path and the MD5 sum of each file of a section, as comma-separated values", None, JUDGING;
+    },
+    subcommand! {
+        "table" => "Prints the address table of a section", Some(WHOLE), JUDGING;
+        "wide" => FlagWithoutBoth("paths", "lines"), "Tells the instruction set and the discriminator too";
+        "paths" => FlagWithout("lines"), "Tells the path of the file, the line and the column, and nothing else";
+        "lines" => Flag, "Tells the path of the file and the line, and nothing else";
+    },
+    subcommand! {
+        "convert" => "Prints a section in another format and byte order", None, READING;
+        "format" => Required("32|64"), "The format that is written";
+        "order" => Required("little|big"), "The byte order that is written";
+    },
+    subcommand! {
+        "upgrade" => "Prints a section with its units of versions 2 to 4 written anew in version 5", Some(OLDER), READING;
+        "address-size" => Required("2|4|8"), "How many bytes an address has in units of versions 2 to 4, which don't say it";
+        "directories" => Valued("FILE"), "A file with the compilation directories of these units, or - for standard input";
+    },
+    subcommand! {
+        "md5" => "Compares the files of a section with the MD5 sums that it lists", Some(SUMS), JUDGING;
+    },
 ];
 
-const UNITS: Subcommand = Subcommand {
-    name: "units",
-    about: "Prints the offset, the format and the length of each unit of a section",
-    after: None,
-    own: &[SECTION],
-    shared: READING,
-};
-
-const DUMP: Subcommand = Subcommand {
-    name: "dump",
-    about: "Prints the header of each unit of a section, with its directories and files",
-    after: None,
-    own: &[SECTION, OPS, ROWS],
-    shared: READING,
-};
-
-const CHECK: Subcommand = Subcommand {
-    name: "check",
-    about: "Tells whether an address table answers as a section does, or where it doesn't",
-    after: Some(NUMBERS),
-    own: &[SECTION, TABLE_FILE, ALL, PARTIAL],
-    shared: JUDGING,
-};
-
-const VERIFY: Subcommand = Subcommand {
-    name: "verify",
-    about: "Tells whether a section is good, or what is wrong with it",
-    after: None,
-    own: &[SECTION],
-    shared: JUDGING,
-};
-
-const LOOKUP: Subcommand = Subcommand {
-    name: "lookup",
-    about: "Prints what a section says of addresses, in a line for each",
-    after: None,
-    own: &[SECTION, ADDRESS, ADDRESSES, OP],
-    shared: JUDGING,
-};
-
-const FILES: Subcommand = Subcommand {
-    name: "files",
-    about: "Prints the path and the MD5 sum of each file of a section, as comma-separated values",
-    after: None,
-    own: &[SECTION],
-    shared: JUDGING,
-};
-
-const TABLE: Subcommand = Subcommand {
-    name: "table",
-    about: "Prints the address table of a section",
-    after: Some(WHOLE),
-    own: &[SECTION, WIDE, PATHS, LINES],
-    shared: JUDGING,
-};
-
-const CONVERT: Subcommand = Subcommand {
-    name: "convert",
-    about: "Prints a section in another format and byte order",
-    after: None,
-    own: &[SECTION, FORMAT, ORDER],
-    shared: READING,
-};
-
-const UPGRADE: Subcommand = Subcommand {
-    name: "upgrade",
-    about: "Prints a section with its units of versions 2 to 4 written anew in version 5",
-    after: Some(OLDER),
-    own: &[SECTION, ADDRESS_SIZE, DIRECTORIES],
-    shared: READING,
-};
-
-const MD5: Subcommand = Subcommand {
-    name: "md5",
-    about: "Compares the files of a section with the MD5 sums that it lists",
-    after: Some(SUMS),
-    own: &[SECTION],
-    shared: JUDGING,
-};
-
 // The arguments of a subcommand that reads a section.
-const READING: &[ArgumentRule] = &[BIG, QUIET];
+const READING: &[ArgumentRule] = reading! {};
 
 // The arguments of a subcommand that judges a section.
-const JUDGING: &[ArgumentRule] = &[BIG, QUIET, LINE_STR, STR, DEAD, SKIP_COPIES];
-
-const SECTION: ArgumentRule = ArgumentRule {
-    name: "SECTION",
-    kind: Kind::Word,
-    help: "The file with the bytes of a .debug_line section, or - for standard input",
-};
-
-const TABLE_FILE: ArgumentRule = ArgumentRule {
-    name: "TABLE",
-    kind: Kind::Word,
-    help: "The file with the address table, or - for standard input",
-};
-
-const ALL: ArgumentRule = ArgumentRule {
-    name: "all",
-    kind: Kind::Flag,
-    help: "Tells every place where the two answer differently, and not the first alone",
-};
-
-const PARTIAL: ArgumentRule = ArgumentRule {
-    name: "partial",
-    kind: Kind::Flag,
-    help: "Compares only where the table answers, and tells how many of the section's addresses that is",
-};
-
-const OPS: ArgumentRule = ArgumentRule {
-    name: "ops",
-    kind: Kind::Flag,
-    help: "Prints the operations of each unit too",
-};
-
-const ROWS: ArgumentRule = ArgumentRule {
-    name: "rows",
-    kind: Kind::Flag,
-    help: "Prints the rows of each unit too",
-};
-
-const ADDRESS: ArgumentRule = ArgumentRule {
-    name: "ADDRESS",
-    kind: Kind::WordsUnless("addresses"),
-    help: "An address: 0x and 1 to 16 hexadecimal digits",
-};
-
-const ADDRESSES: ArgumentRule = ArgumentRule {
-    name: "addresses",
-    kind: Kind::Valued("FILE"),
-    help: "A file with a line ADDRESS or ADDRESS,N for each lookup, or - for standard input",
-};
-
-const OP: ArgumentRule = ArgumentRule {
-    name: "op",
-    kind: Kind::Valued("N"),
-    help: "The operation of the instruction there, from 0 on; it is 0 by default",
-};
-
-const WIDE: ArgumentRule = ArgumentRule {
-    name: "wide",
-    kind: Kind::FlagWithoutBoth("paths", "lines"),
-    help: "Tells the instruction set and the discriminator too",
-};
-
-const PATHS: ArgumentRule = ArgumentRule {
-    name: "paths",
-    kind: Kind::FlagWithout("lines"),
-    help: "Tells the path of the file, the line and the column, and nothing else",
-};
-
-const LINES: ArgumentRule = ArgumentRule {
-    name: "lines",
-    kind: Kind::Flag,
-    help: "Tells the path of the file and the line, and nothing else",
-};
-
-const FORMAT: ArgumentRule = ArgumentRule {
-    name: "format",
-    kind: Kind::Required("32|64"),
-    help: "The format that is written",
-};
-
-const ORDER: ArgumentRule = ArgumentRule {
-    name: "order",
-    kind: Kind::Required("little|big"),
-    help: "The byte order that is written",
-};
-
-const ADDRESS_SIZE: ArgumentRule = ArgumentRule {
-    name: "address-size",
-    kind: Kind::Required("2|4|8"),
-    help: "How many bytes an address has in units of versions 2 to 4, which don't say it",
-};
-
-const DIRECTORIES: ArgumentRule = ArgumentRule {
-    name: "directories",
-    kind: Kind::Valued("FILE"),
-    help: "A file with the compilation directories of these units, or - for standard input",
-};
-
-const BIG: ArgumentRule = ArgumentRule {
-    name: "big",
-    kind: Kind::Flag,
-    help: "The section is big-endian; otherwise it is little-endian",
-};
-
-const QUIET: ArgumentRule = ArgumentRule {
-    name: "quiet",
-    kind: Kind::Flag,
-    help: "Prints no notes on standard error",
-};
-
-const LINE_STR: ArgumentRule = ArgumentRule {
-    name: "line-str",
-    kind: Kind::Valued("FILE"),
-    help: "The file with the bytes of .debug_line_str",
-};
-
-const STR: ArgumentRule = ArgumentRule {
-    name: "str",
-    kind: Kind::Valued("FILE"),
-    help: "The file with the bytes of .debug_str",
-};
-
-const DEAD: ArgumentRule = ArgumentRule {
-    name: "dead",
-    kind: Kind::Valued("ADDRESS"),
-    help: "Where sequences of discarded code begin: they answer nothing",
-};
-
-const SKIP_COPIES: ArgumentRule = ArgumentRule {
-    name: "skip-copies",
-    kind: Kind::Flag,
-    help: "Leaves out sequences that begin and end at the same positions as one before them",
+const JUDGING: &[ArgumentRule] = reading! {
+    "line-str" => Valued("FILE"), "The file with the bytes of .debug_line_str";
+    "str" => Valued("FILE"), "The file with the bytes of .debug_str";
+    "dead" => Valued("ADDRESS"), "Where sequences of discarded code begin: they answer nothing";
+    "skip-copies" => Flag, "Leaves out sequences that begin and end at the same positions as one before them";
 };
 
 // What the numbers in the lines `no ..` of `check` mean.

@@ -76,11 +76,11 @@ pub struct Upgrading<'a> {
 #[derive(Clone, Copy, Debug, PartialEq, Eq)]
 pub enum AddressSize {
     /// 2 bytes.
-    Two,
+    Two = 2,
     /// 4 bytes.
-    Four,
+    Four = 4,
     /// 8 bytes.
-    Eight,
+    Eight = 8,
 }
 
 impl AddressSize {
@@ -88,11 +88,7 @@ impl AddressSize {
     pub fn bytes(self) -> u8
         ensures { result ≡ size_bytes self }
     {
-        match self {
-            AddressSize::Two => 2,
-            AddressSize::Four => 4,
-            AddressSize::Eight => 8,
-        }
+        self as u8
     }
 }
 

@@ -1,18 +1,13 @@
 //! What the words of the command ask for.
-ghost use Rattle.std.specs.Prelude.{◌≡◌, ◌≢◌, ◌⊎◌, ℕ, IfErr, List, codes, map, option_map, string_bytes, IfOk};
+ghost use Rattle.std.specs.Prelude.{◌≡◌, ◌≢◌, ◌⊎◌, ℕ, IfErr, IfOk, List, codes, map, option_map, string_bytes};
 ghost use Rattle.clap.specs.Words.{Row, all_of, first_of, kind_of, subcommand_rows_of};
-ghost use Rattle.lnt_words.specs.Described.{IsAskedOfMatches, rows_in};
-ghost use Rattle.lnt_text.specs.Digits.{IsAddress, IsDecimal};
-ghost use Rattle.lnt_words.specs.Asking.{AreAddresses, AreAddressesIn, ArePositionsIn, AskForNothing, IsAskedBy, IsAskedIn};
-ghost use Rattle.lnt_words.specs.Asking.{IsAskedOf, IsFlagGiven, IsHelp, IsJudging, IsOp};
-ghost use Rattle.lnt_words.specs.Asking.{IsOrder, IsQuestion, IsReading, IsSize, IsWord, IsWrittenFormat, IsWrittenOrder};
-ghost use Rattle.lnt_words.specs.declared.request.AddressSize.{AddressSize as SizeSpec};
-ghost use Rattle.lnt_words.specs.declared.request.Asked.{Asked as AskedSpec};
+ghost use Rattle.lnt_words.specs.Described.{IsAskedOfMatches, IsFound, rows_in};
+ghost use Rattle.lnt_text.specs.Digits.{IsAddress};
+ghost use Rattle.lnt_words.specs.Asking.{AreAddresses, AreAddressesIn, ArePositionsIn, AskForNothing, IsAskedBy, IsAskedIn, IsAskedOf};
+ghost use Rattle.lnt_words.specs.Asking.{IsFlagGiven, IsHelp, IsJudging, IsOp, IsOrder, IsQuestion, IsReading, IsSize, IsWord};
+ghost use Rattle.lnt_words.specs.Asking.{IsWrittenFormat, IsWrittenOrder, Asked as AskedSpec};
 ghost use Rattle.lnt_words.specs.declared.request.Judging.{Judging as JudgingSpec};
-ghost use Rattle.lnt_words.specs.declared.request.Question.{Question as QuestionSpec};
 ghost use Rattle.lnt_words.specs.declared.request.Request.{Request as RequestSpec};
-ghost use Rattle.lnt_wire.specs.declared.format.Format.{Format as FormatSpec};
-ghost use Rattle.lnt_wire.specs.declared.format.Order.{Order as OrderSpec};
 
 use crate::command::command_of;
 use crate::request::{AddressSize, Asked, Judging, Question, Reading, Request, Upgrading};
@@ -62,60 +57,28 @@ fn help_in<'a>(alloc: Global, error: &Error, given: &[String]) -> Result<Asked<'
 
 // What clap says of rejected words. Its texts on arguments that exclude one another come from the command in which they do.
 fn refusal(alloc: Global, given: &[String]) -> WordsStop {
-    match refusal_text(alloc, given) {
-        Ok(text) => WordsStop::Usage(text),
-        Err(_) => WordsStop::Memory,
-    }
+    refusal_text(alloc, given).map_or(WordsStop::Memory, WordsStop::Usage)
 }
 
-fn refusal_text<'a>(alloc: Global, given: &'a [String]) -> Result<String, AllocError> {
+fn refusal_text(alloc: Global, given: &[String]) -> Result<String, AllocError> {
     match command_of(alloc, true)?.try_get_matches_from(given) {
         Ok(_matches) => String::from_str(alloc, "error: these arguments exclude one another\n"),
-        Err(error) => error_text(alloc, &error),
+        Err(error) if error.kind() == ErrorKind::OutOfMemory => Err(AllocError),
+        Err(error) => harmless(alloc, &error.to_string(alloc)?),
     }
-}
-
-fn error_text(alloc: Global, error: &Error) -> Result<String, AllocError> {
-    if error.kind() == ErrorKind::OutOfMemory {
-        return Err(AllocError);
-    }
-    harmless(alloc, error.to_string(alloc)?)
 }
 
 // The text with the digits of each control character instead of it, since a terminal would obey it. Line feeds stay.
-fn harmless(alloc: Global, text: String) -> Result<String, AllocError> {
-    if !text.chars().any(is_obeyed) {
-        return Ok(text);
-    }
-    let shown = shown_of(alloc, &text);
-    drop(text);
-    shown
-}
-
-// The text as it is shown.
-fn shown_of(alloc: Global, text: &str) -> Result<String, AllocError> {
+fn harmless(alloc: Global, text: &str) -> Result<String, AllocError> {
     let mut shown = String::new(alloc);
     for character in text.chars() {
-        if let Err(error) = push_shown(alloc, &mut shown, character) {
-            drop(shown);
-            return Err(error);
+        if character.is_control() && character != '\n' {
+            write!(shown, "\\x{:02x}", u32::from(character))?;
+        } else {
+            shown.push(character)?;
         }
     }
     Ok(shown)
-}
-
-fn push_shown(alloc: Global, shown: &mut String, character: char) -> Result<(), AllocError> {
-    if !is_obeyed(character) {
-        return shown.push(character);
-    }
-    let digits = format!(in alloc; "\\x{:02x}", u32::from(character))?;
-    let pushed = shown.push_str(&digits);
-    drop(digits);
-    pushed
-}
-
-fn is_obeyed(character: char) -> bool {
-    character.is_control() && character != '\n'
 }
 
 // What the words of a subcommand ask for.
@@ -149,7 +112,10 @@ fn request_in<'a>(
 {
     match name {
         "units" => read_in(alloc, words, Reading::Units),
-        "dump" => read_in(alloc, words, dump_in(words)),
+        "dump" => {
+            let (ops, rows) = (flag_in(words, "ops"), flag_in(words, "rows"));
+            read_in(alloc, words, Reading::Dump { ops, rows })
+        }
         "convert" => convert_in(alloc, words),
         "upgrade" => upgrade_in(alloc, words),
         "check" => check_in(alloc, words),
@@ -162,18 +128,8 @@ fn request_in<'a>(
     }
 }
 
-fn dump_in(words: &ArgMatches<'_>) -> Reading
-    ensures { IsReading (codes "dump") (rows_in words.now) result }
-{
-    Reading::Dump {
-        ops: flag_in(words, "ops"),
-        rows: flag_in(words, "rows"),
-    }
-}
-
 fn check_in<'a>(alloc: Global, words: &ArgMatches<'a>) -> Result<Request<'a>, WordsStop>
-    ensures asked { IfOk result (λ request. IsAskedIn (codes "check") (rows_in words.now) request) }
-    ensures refused { IfErr result (λ _. (request : RequestSpec) → IsAskedIn (codes "check") (rows_in words.now) request → ⊥) }
+    ensures { IsFound (IsAskedIn (codes "check") (rows_in words.now)) result }
 {
     Ok(Request::Check {
         from: judging_in(alloc, words)?,
@@ -278,19 +234,20 @@ fn positions_at(alloc: Global, addresses: &[u64], op: u64) -> Result<Vec<Positio
 
 // The operation index that the words give, or 0.
 fn op_in(alloc: Global, words: &ArgMatches<'_>) -> Result<u64, WordsStop>
-    ensures asked { IfOk result (λ op. IsOp (rows_in words.now) op) }
-    ensures refused { IfErr result (λ _. (op : ℕ) → IsOp (rows_in words.now) op → ⊥) }
+    ensures { IsFound (IsOp (rows_in words.now)) result }
 {
-    match str_in(words, "op") {
-        Some(word) => number_of(alloc, words, word),
-        None => Ok(0),
+    let Some(word) = str_in(words, "op") else {
+        return Ok(0);
+    };
+    match decimal(word.as_bytes()) {
+        Some(op) => Ok(op),
+        None => Err(bad_word(alloc, words, word, Argument::Op)),
     }
 }
 
 // Which table is asked for: at most one of the three flags may be given.
 fn table_in(alloc: Global, words: &ArgMatches<'_>, given: &[String]) -> Result<Question, WordsStop>
-    ensures asked { IfOk result (IsQuestion (codes "table") (rows_in words.now)) }
-    ensures refused { IfErr result (λ _. (question : QuestionSpec) → IsQuestion (codes "table") (rows_in words.now) question → ⊥) }
+    ensures { IsFound (IsQuestion (codes "table") (rows_in words.now)) result }
 {
     let wide = flag_in(words, "wide");
     let paths = flag_in(words, "paths");
@@ -305,8 +262,7 @@ fn table_in(alloc: Global, words: &ArgMatches<'_>, given: &[String]) -> Result<Q
 }
 
 fn convert_in<'a>(alloc: Global, words: &ArgMatches<'a>) -> Result<Request<'a>, WordsStop>
-    ensures asked { IfOk result (λ request. IsAskedIn (codes "convert") (rows_in words.now) request) }
-    ensures refused { IfErr result (λ _. (request : RequestSpec) → IsAskedIn (codes "convert") (rows_in words.now) request → ⊥) }
+    ensures { IsFound (IsAskedIn (codes "convert") (rows_in words.now)) result }
 {
     let format = format_in(alloc, words)?;
     let to = written_order_in(alloc, words)?;
@@ -314,8 +270,7 @@ fn convert_in<'a>(alloc: Global, words: &ArgMatches<'a>) -> Result<Request<'a>, 
 }
 
 fn format_in(alloc: Global, words: &ArgMatches<'_>) -> Result<Format, WordsStop>
-    ensures asked { IfOk result (IsWrittenFormat (rows_in words.now)) }
-    ensures refused { IfErr result (λ _. (format : FormatSpec) → IsWrittenFormat (rows_in words.now) format → ⊥) }
+    ensures { IsFound (IsWrittenFormat (rows_in words.now)) result }
 {
     match word_in(alloc, words, "format")? {
         "32" => Ok(Format::D32),
@@ -325,8 +280,7 @@ fn format_in(alloc: Global, words: &ArgMatches<'_>) -> Result<Format, WordsStop>
 }
 
 fn written_order_in(alloc: Global, words: &ArgMatches<'_>) -> Result<Order, WordsStop>
-    ensures asked { IfOk result (IsWrittenOrder (rows_in words.now)) }
-    ensures refused { IfErr result (λ _. (order : OrderSpec) → IsWrittenOrder (rows_in words.now) order → ⊥) }
+    ensures { IsFound (IsWrittenOrder (rows_in words.now)) result }
 {
     match word_in(alloc, words, "order")? {
         "little" => Ok(Order::Little),
@@ -336,8 +290,7 @@ fn written_order_in(alloc: Global, words: &ArgMatches<'_>) -> Result<Order, Word
 }
 
 fn upgrade_in<'a>(alloc: Global, words: &ArgMatches<'a>) -> Result<Request<'a>, WordsStop>
-    ensures asked { IfOk result (λ request. IsAskedIn (codes "upgrade") (rows_in words.now) request) }
-    ensures refused { IfErr result (λ _. (request : RequestSpec) → IsAskedIn (codes "upgrade") (rows_in words.now) request → ⊥) }
+    ensures { IsFound (IsAskedIn (codes "upgrade") (rows_in words.now)) result }
 {
     Ok(Request::Upgrade(Upgrading {
         section: word_in(alloc, words, "SECTION")?,
@@ -348,8 +301,7 @@ fn upgrade_in<'a>(alloc: Global, words: &ArgMatches<'a>) -> Result<Request<'a>, 
 }
 
 fn size_in(alloc: Global, words: &ArgMatches<'_>) -> Result<AddressSize, WordsStop>
-    ensures asked { IfOk result (IsSize (rows_in words.now)) }
-    ensures refused { IfErr result (λ _. (size : SizeSpec) → IsSize (rows_in words.now) size → ⊥) }
+    ensures { IsFound (IsSize (rows_in words.now)) result }
 {
     match word_in(alloc, words, "address-size")? {
         "2" => Ok(AddressSize::Two),
@@ -361,8 +313,7 @@ fn size_in(alloc: Global, words: &ArgMatches<'_>) -> Result<AddressSize, WordsSt
 
 // A section that is judged, with its strings, the address of dead code, and whether copies are skipped.
 fn judging_in<'a>(alloc: Global, words: &ArgMatches<'a>) -> Result<Judging<'a>, WordsStop>
-    ensures asked { IfOk result (λ from. IsJudging (rows_in words.now) from) }
-    ensures refused { IfErr result (λ _. (from : JudgingSpec) → IsJudging (rows_in words.now) from → ⊥) }
+    ensures { IsFound (IsJudging (rows_in words.now)) result }
 {
     let dead = match str_in(words, "dead") {
         Some(word) => Some(address_of(alloc, words, word, Argument::Dead)?),
@@ -425,8 +376,7 @@ fn address_of(
     word: &str,
     argument: Argument,
 ) -> Result<u64, WordsStop>
-    ensures asked { IfOk result (λ address. IsAddress word.now address) }
-    ensures refused { IfErr result (λ _. (address : ℕ) → IsAddress word.now address → ⊥) }
+    ensures { IsFound (IsAddress word.now) result }
 {
     match address(word.as_bytes()) {
         Some(address) => Ok(address),
@@ -434,22 +384,10 @@ fn address_of(
     }
 }
 
-fn number_of(alloc: Global, words: &ArgMatches<'_>, word: &str) -> Result<u64, WordsStop>
-    ensures asked { IfOk result (λ number. IsDecimal word.now number) }
-    ensures refused { IfErr result (λ _. (number : ℕ) → IsDecimal word.now number → ⊥) }
-{
-    match decimal(word.as_bytes()) {
-        Some(number) => Ok(number),
-        None => Err(bad_word(alloc, words, word, Argument::Op)),
-    }
-}
-
 // What is printed if a word is missing or unknown. Clap rejects such words, by the description of the command.
 fn usage(alloc: Global, what: &str, name: &str) -> WordsStop {
-    match format!(in alloc; "linetab: {what} {}\n", Shown(name)) {
-        Ok(text) => WordsStop::Usage(text),
-        Err(_) => WordsStop::Memory,
-    }
+    let text = format!(in alloc; "linetab: {what} {}\n", Shown(name));
+    text.map_or(WordsStop::Memory, WordsStop::Usage)
 }
 
 // A word isn't valid for this argument.

@@ -1,11 +1,9 @@
 use Rattle.lnt_io.proofs.PrefixLaws.{so_stopped}
-use Rattle.lnt_cli.proofs.StopLemmas.{places_stopped}
+use Rattle.lnt_cli.proofs.StopLemmas.{stopped_by}
 use Rattle.lnt_cli.proofs.question.answer_good_file.Goals as goal
 
 pub returns-in_err-told-in-Places-clause-stopped : goal.returns-in_err-told-in-Places-clause-stopped
 returns-in_err-told-in-Places-clause-stopped g c =
-    rw c.in-Places.is (places_stopped c.in-Places.scope c.args.index.now (g.F.Source.remaining c.args.bytes.now)
-    (g.W.Write.contents c.args.out.now)
-    (g.W.Write.contents c.print_stretches-printed.new.out) c.print_stretches-printed.result
-    c.from_residual-in_err-told-in-Places.result (so_stopped c.from_residual-in_err-told-in-Places.result _
-    c.in_err-told-in-Places.ensures.err) c.print_stretches-printed.ensures.begun)
+    rw c.in-Places.is (stopped_by _ _ c.print_stretches-printed.result c.from_residual-in_err-told-in-Places.result
+    (so_stopped c.from_residual-in_err-told-in-Places.result _ c.in_err-told-in-Places.ensures.err)
+    c.print_stretches-printed.ensures.begun (λ begun. begun))

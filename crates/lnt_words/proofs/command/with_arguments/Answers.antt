@@ -5,7 +5,7 @@ use Rattle.lnt_words.proofs.command.with_arguments.Goals as goal
 pub loop-argument-preserved : goal.loop-argument-preserved
 loop-argument-preserved c = λ free app is.
     one_more with_argument_in app c.args.arguments.now c.loop-argument.argument-index _ _ c.loop-argument-test.true
-    (argument_added _ _ _ _ _ (c.loop-argument.invariant free app is) (c.in-Ok.ensures free) c.in-Ok-arg.ensures)
+    (argument_added _ _ _ _ _ (c.loop-argument.invariant free app is) (c.in_ok-made.ensures free) c.in_ok-command.ensures)
 
 pub returns : goal.returns
 returns c = λ free app is.

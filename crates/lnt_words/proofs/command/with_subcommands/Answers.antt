@@ -5,7 +5,7 @@ use Rattle.lnt_words.proofs.command.with_subcommands.Goals as goal
 pub loop-subcommand-preserved : goal.loop-subcommand-preserved
 loop-subcommand-preserved c = λ free app is.
     one_more with_subcommand_in app c.args.subcommands.now c.loop-subcommand.subcommand-index _ _ c.loop-subcommand-test.true
-    (subcommand_added _ _ _ _ _ (c.loop-subcommand.invariant free app is) (c.in-Ok.ensures free) c.in-Ok-subcommand.ensures)
+    (subcommand_added _ _ _ _ _ (c.loop-subcommand.invariant free app is) (c.in_ok-made.ensures free) c.in_ok-command.ensures)
 
 pub returns : goal.returns
 returns c = λ free app is.

@@ -1,5 +1,4 @@
-use Rattle.std.proofs.Common.{◌≡◌, false, take}
-use Rattle.std.specs.Prelude.{fold}
+use Rattle.std.proofs.Common.{◌≡◌, false, take, fold}
 use Rattle.clap.specs.Words.{App}
 use Rattle.lnt_words.specs.Described.{IsCommand, with_subcommand_in}
 use Rattle.lnt_words.proofs.command.with_subcommands.Given as goal

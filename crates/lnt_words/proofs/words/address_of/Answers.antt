@@ -3,6 +3,8 @@ use Rattle.clap.specs.Words.{Text}
 use Rattle.lnt_text.specs.Digits.{IsAddress}
 use Rattle.lnt_words.proofs.words.address_of.Goals as goal
 
-pub returns-in-None-clause-refused : goal.returns-in-None-clause-refused
-returns-in-None-clause-refused c = λ address so.
-    c.in-None.ensures address (subst (λ (w : Text). IsAddress w address) (sym c.as_bytes.ensures.value) so)
+pub returns-in-None : goal.returns-in-None
+returns-in-None c = record {
+  asked = tt;
+  refused = λ address so. c.in-None.ensures address (subst (λ (w : Text). IsAddress w address) (sym c.as_bytes.ensures.value) so);
+}

@@ -1,6 +1,6 @@
 use Rattle.lnt_cli.proofs.QuestionLemmas.{question_of}
 use Rattle.lnt_cli.proofs.StopLemmas.{question_stopped}
-use Rattle.lnt_cli.proofs.question.answer_alone.Goals as goal
+use Rattle.lnt_cli.proofs.question.answer_question.Goals as goal
 
 pub returns-clause-answer : goal.returns-clause-answer
 returns-clause-answer g c =

@@ -1,5 +1,5 @@
 use Rattle.lnt_cli.proofs.ReadingLemmas.{read_stopped, read_told}
-use Rattle.lnt_cli.proofs.session.print_section.Goals as goal
+use Rattle.lnt_cli.proofs.reading.print_section.Goals as goal
 
 pub returns-clause-answer : goal.returns-clause-answer
 returns-clause-answer g c =

@@ -1,0 +1,117 @@
+//! Sections that are read, and not judged.
+ghost use Rattle.std.specs.Prelude.{◌≡◌, ◌-◌, ◌^◌, ◌<◌, ◌⊎◌, IfErr, IfOk, IsErrOf, OnErr};
+ghost use Rattle.std.specs.Io.KnownBytes.{Keeps};
+ghost use Rattle.lnt_io.specs.Files.{RefusesOnly};
+ghost use Rattle.lnt_cli.specs.Answered.{AnswersRead, AnswersUpgrade};
+ghost use Rattle.lnt_cli.specs.Readings.{AnswersReading, BeginsReading};
+ghost use Rattle.lnt_cli.specs.Stopped.{StopsRead, StopsUpgrade};
+ghost use Rattle.lnt_cli.specs.Stops.{IsFileOfUpgrade, NamesOneOf, StopsIfRefused};
+
+use crate::inputs::{of_file, open_section, read_named, read_whole};
+use crate::notes::Answered;
+use crate::stop::FileStop;
+use lnt_dump::{DumpParts, print_converted, print_dump, print_units, print_upgraded};
+use lnt_io::{Halt, Opener, Source, Status};
+use lnt_notes::Seen;
+use lnt_wire::Order;
+use lnt_words::{Reading, Upgrading};
+use std::alloc::Global;
+use std::cell::Cell;
+use std::io::Write;
+
+// Prints what this reading of the section in the file with this name asks for. `seen` keeps what notes need of its bytes.
+pub(crate) fn read_section<'t, O: Opener, W: Write>(
+    alloc: Global,
+    section: &str,
+    order: Order,
+    reading: Reading,
+    opener: &mut O,
+    seen: &Cell<Seen>,
+    out: &mut W,
+) -> Result<Answered<'t>, FileStop>
+    ensures named { IfErr result (NamesOneOf (λ name. section.now ≡ name)) }
+    ensures answer { IfOk result (λ answered. AnswersRead (O.tells opener.old) section.now order reading
+        (W.contents out.old) (W.contents out.new) answered.status) }
+    ensures stopped { OnErr result (Keeps (W.contents out.old) (W.contents out.new)
+        ⊎ StopsRead (O.tells opener.old) section.now order reading (W.contents out.old) (W.contents out.new)) }
+    ensures refused { StopsIfRefused result (O.refused opener.old) (O.refused opener.new) }
+{
+    let name = String::from_str(alloc, section)?;
+    let printed = print_section(alloc, section, order, reading, opener, seen, out);
+    let status = of_file(name, printed)?;
+    Ok(Answered::plain(status))
+}
+
+// Prints a section with its older units written anew. The files are read before anything is written. `seen` keeps what notes
+// need of the section's bytes.
+pub(crate) fn upgrade_section<'t, O: Opener, W: Write>(
+    alloc: Global,
+    from: &Upgrading<'_>,
+    opener: &mut O,
+    seen: &Cell<Seen>,
+    out: &mut W,
+) -> Result<Answered<'t>, FileStop>
+    ensures named { IfErr result (NamesOneOf (IsFileOfUpgrade from.now)) }
+    ensures answer { IfOk result (λ answered.
+        AnswersUpgrade (O.tells opener.old) from.now (W.contents out.old) (W.contents out.new) answered.status) }
+    ensures stopped { OnErr result (Keeps (W.contents out.old) (W.contents out.new)
+        ⊎ StopsUpgrade (O.tells opener.old) from.now (W.contents out.old) (W.contents out.new)) }
+    ensures refused { StopsIfRefused result (O.refused opener.old) (O.refused opener.new) }
+{
+    let name = String::from_str(alloc, from.section)?;
+    let read = read_whole(alloc, opener, from.section, seen);
+    let bytes = of_file(name, read)?;
+    let text = read_named(alloc, opener, from.directories)?;
+    let name = String::from_str(alloc, from.section)?;
+    let size = from.address_size.bytes();
+    let printed = print_upgraded(alloc, &bytes, from.order, size, text.as_deref(), out);
+    let status = of_file(name, printed)?;
+    Ok(Answered::plain(status))
+}
+
+// The same. The name isn't told if it is stopped.
+fn print_section<O: Opener, W: Write>(
+    alloc: Global,
+    section: &str,
+    order: Order,
+    reading: Reading,
+    opener: &mut O,
+    seen: &Cell<Seen>,
+    out: &mut W,
+) -> Result<Status, Halt>
+    ensures answer { IfOk result (λ status. AnswersRead (O.tells opener.old) section.now order reading
+        (W.contents out.old) (W.contents out.new) status) }
+    ensures stopped { OnErr result (Keeps (W.contents out.old) (W.contents out.new)
+        ⊎ StopsRead (O.tells opener.old) section.now order reading (W.contents out.old) (W.contents out.new)) }
+    ensures refused { RefusesOnly (λ other. IsErrOf result Halt.Read × (section.now ≡ other))
+        (O.refused opener.old) (O.refused opener.new) }
+{
+    let mut source = open_section(alloc, opener, section, seen)?;
+    print_reading(alloc, &mut source, order, reading, out)
+}
+
+// Prints what this reading of a section asks for: its units, a dump or the converted section.
+fn print_reading<R: Source, W: Write>(
+    alloc: Global,
+    source: &mut R,
+    order: Order,
+    reading: Reading,
+    out: &mut W,
+) -> Result<Status, Halt>
+    requires { R.failures source.old < 2 ^ 64 - 1 }
+    ensures told { IfOk result (AnswersReading order reading (R.remaining source.old) (W.contents out.old) (W.contents out.new)) }
+    ensures begun { OnErr result (Keeps (W.contents out.old) (W.contents out.new)
+        ⊎ BeginsReading order reading (R.remaining source.old) (W.contents out.old) (W.contents out.new)) }
+{
+    match reading {
+        Reading::Units => print_units(alloc, source, order, out),
+        Reading::Dump { ops, rows } => print_dump(
+            alloc,
+            source,
+            order,
+            DumpParts { ops, rows },
+            out,
+        ),
+        Reading::Convert { format, to } => print_converted(alloc, source, order, format, to, out),
+    }
+}
