@@ -59,7 +59,7 @@ for name, text in reasons:
     judge(number == 15 or skeleton(text) == texts.get(number), "the text of %s, %r, isn't that of docs/NUMBERS.md" % (name, text))
 
 told = re.findall(
-    r"\b(?:Reason|RunFault|Stop|No|TableNo)::(\w+)[^=]*=> (?:\(|(?:FlatVerdict \{[^}]*?\.\.)?(?:numbered|placed|of_record|at)\((?:position, )?)(\d+)",
+    r"\b(?:Reason|RunFault|Stop|No|TableNo)::(\w+)[^=]*=> (?:\(|(?:FlatVerdict \{[^}]*?\.\.)?(?:numbered|placed|at)\((?:position, )?)(\d+)",
     sources["crates/lnt_ffi/src/verdict.rt"],
 )
 judge(len(told) == 31, "lnt_ffi gives %d numbers by name" % len(told))

@@ -3,6 +3,7 @@ of docs/TRUSTED.md: which they are, that each stands after those that it needs, 
 same for `upgrade`, of whose files the page lists those that `check` doesn't need. And looks whether each file of specs/ begins with a
 sentence that says what it defines, which `docs/list definitions` prints."""
 
+import functools
 import glob
 import os
 import re
@@ -44,6 +45,7 @@ def file_of(module):
     return "crates/%s/specs/%s.antt" % (crate, path.replace(".", "/"))
 
 
+@functools.cache
 def read(module):
     """The names that a file of specs/ brings in, each with its module and its name there; the lines of its definitions; and its
     constructors, each with its data."""
@@ -73,6 +75,16 @@ def read(module):
     return brought, defined, made
 
 
+def origin(module, name):
+    """The module that defines a name, and its name there: a module may pass on what another one defines."""
+    while ".declared." not in module:
+        brought, defined, made = read(module)
+        if made.get(name, name) in defined or name not in brought:
+            break
+        module, name = brought[name]
+    return module, name
+
+
 def is_named(name, words):
     """Whether the words have the name, or each part of the operator that it is."""
     return all(part in words for part in name.split("◌") if part)
@@ -92,14 +104,12 @@ def contract():
 def closure(starts):
     """The files that some definitions lead to, each with the number of its lines that they need, and with the files that these name;
     and all names that they lead to."""
-    texts, seen, left, lines, needs = {}, set(), list(starts), {}, {}
+    seen, left, lines, needs = set(), list(starts), {}, {}
     while left:
         module, name = left.pop()
         if ".declared." in module:
             continue
-        if module not in texts:
-            texts[module] = read(module)
-        brought, defined, made = texts[module]
+        brought, defined, made = read(module)
         name = made.get(name, name)
         if (module, name) in seen:
             continue
@@ -110,7 +120,7 @@ def closure(starts):
         lines[place] = lines.get(place, 0) + len(defined[name])
         words = set(re.split(r"[\s(){},;:]+", " ".join(defined[name])))
         words |= {word.partition(".")[0] for word in words}
-        others = [place_of for other, place_of in brought.items() if is_named(other, words)]
+        others = [origin(*place_of) for other, place_of in brought.items() if is_named(other, words)]
         needs.setdefault(place, set()).update(file_of(other) for other, _ in others if ".declared." not in other)
         left += others + [(module, other) for other in defined if other != name and is_named(other, words)]
     return lines, needs, seen
