@@ -14,7 +14,7 @@ CONTRACT = "crates/lnt_cli/src/program.rt", "run"
 # The clause of the contract that answers come by, what it says of a check, and what that says where the answer is `yes`.
 CLAUSE = ("Rattle.lnt_cli.specs.Runs", "AnswersWords")
 ASKED = ("Rattle.lnt_words.specs.Asking", "IsAskedBy")
-CHECK = [ASKED, ("Rattle.lnt_cli.specs.Answered", "AnswersCheck")]
+CHECK = [ASKED, ("Rattle.lnt_cli.specs.Answered", "IsOfFile"), ("Rattle.lnt_cli.specs.Answered", "IsChecked")]
 YES = [
     ASKED,
     ("Rattle.lnt_cli.specs.Answered", "AreTextsOf"),
@@ -25,13 +25,13 @@ YES = [
     ("Rattle.lnt_records.specs.Table", "column_names"),
     ("Rattle.lnt_compare.specs.Comparisons", "IsTableWhere"),
     ("Rattle.lnt_records.specs.PathTables", "by_path"),
-    ("Rattle.lnt_records.specs.PathSpans", "path_span_answer"),
+    ("Rattle.lnt_records.specs.PathSpans", "path_spans"),
     ("Rattle.lnt_table.specs.AnyVersion", "told_paths"),
 ]
 UPGRADE = [
     ASKED,
     ("Rattle.lnt_cli.specs.Answered", "AnswersUpgrade"),
-    ("Rattle.lnt_words.specs.Sizes", "size_bytes"),
+    ("Rattle.lnt_words.specs.Words", "size_bytes"),
 ]
 COUNTS = r"(\d+) lines of definitions in (\d+) files"
 COUNTS_OF_YES = r"(\d+) lines in (\d+) files for a Yes"

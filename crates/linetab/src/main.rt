@@ -6,7 +6,7 @@ mod output;
 mod system;
 
 use exit::exit_code;
-use lnt_cli::{CliStop, FileStop, Status, run_with_notes};
+use lnt_cli::{CliStop, FileStop, Status, run};
 use output::Output;
 use std::alloc::{AllocError, Global};
 use std::cell::Cell;
@@ -56,7 +56,7 @@ fn run_words(
         return Err(CliStop::from(AllocError));
     };
     let reason = Cell::new(None);
-    let ended = run_with_notes(alloc, words, &mut System::new(rt, &reason), &mut out, notes);
+    let ended = run(alloc, words, &mut System::new(rt, &reason), &mut out, notes);
     let flushed = out.flush();
     if ended.is_ok() && flushed.is_err() {
         return Err(CliStop::File(FileStop::Write));

@@ -7,8 +7,7 @@ use Rattle.std.proofs.lemmas.List.{get_or-append-add, get_or_append_left, length
 use Rattle.std.proofs.lemmas.List.Elements.{All-append, All-cons, All-from_recursion, All-weaker}
 use Rattle.std.specs.List.{AllByRecursion, position}
 use Rattle.std.specs.Str.Lines.{strip_carriage_return}
-use Rattle.lnt_text.specs.Delimited.{Begins}
-use Rattle.lnt_text.specs.Digits.{IsAddress, IsDecimal}
+use Rattle.lnt_text.specs.Digits.{Begins, IsAddress, IsDecimal}
 use Rattle.lnt_text.proofs.TextLaws.{FromZero, address_from_zero, decimal_from_zero}
 use Rattle.lnt_spans.specs.declared.position.Position.{Position}
 use Rattle.lnt_answers.specs.AddressBlocks.{BeginsWithLine, HasNo}

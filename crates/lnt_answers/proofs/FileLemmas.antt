@@ -8,7 +8,7 @@ use Rattle.std.proofs.lemmas.List.Concat.{flat_map-append}
 use Rattle.lnt_io.specs.Prefixes.{AppendsPrefix}
 use Rattle.lnt_io.proofs.PrefixLaws.{prefix_after, prefix_before, prefix_same}
 use Rattle.lnt_lines.specs.Indexed.{Indexed}
-use Rattle.lnt_answers.specs.FileLines.{file_record, lists_below}
+use Rattle.lnt_answers.specs.Lines.{file_record, lists_below}
 
 -- the lists of one item more end with its list
 pub lists_of_more : {X A : Type 0} (f : X → List A) (items : List X) (i : ℕ) (d : X) → i < length items

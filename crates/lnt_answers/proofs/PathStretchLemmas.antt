@@ -2,7 +2,7 @@
 use Rattle.std.proofs.Common.{◌≡◌, ◌∙◌, Bool, ℕ, List, [], map, Option, Some, None, IfSome, is_some, refl, subst, option_map}
 use Rattle.lnt_spans.specs.declared.position.Position.{Position}
 use Rattle.lnt_spans.specs.declared.span.Span.{Span}
-use Rattle.lnt_spans.specs.Counts.{addresses_answered}
+use Rattle.lnt_spans.specs.Partial.{addresses_answered}
 use Rattle.lnt_sequences.specs.Sequences.{line_answer, Selection}
 use Rattle.lnt_lines.specs.Indexed.{Indexed}
 use Rattle.lnt_records.specs.Faults.{IsUnnumbered}
@@ -12,12 +12,11 @@ use Rattle.lnt_compare.specs.declared.by_path.held.HeldSpan.{HeldSpan}
 use Rattle.lnt_compare.specs.declared.by_path.stretches.DifferencesByPath.{DifferencesByPath}
 use Rattle.lnt_records.specs.declared.by_path.version.PathVersion.{PathVersion}
 use Rattle.lnt_compare.specs.Held.{held_span}
-use Rattle.lnt_records.specs.PathAnswers.{PathAnswer, path_answer}
+use Rattle.lnt_records.specs.PathSpans.{PathAnswer, path_answer, StandInOrder, path_span_answer}
 use Rattle.lnt_compare.specs.PathStretches.{stretch_of, told_path_answer}
-use Rattle.lnt_records.specs.PathSpans.{StandInOrder, path_span_answer}
 use Rattle.lnt_records.specs.PathTables.{IsPathTableOf}
-use Rattle.lnt_compare.specs.Stretching.{HasToldByPath}
-use Rattle.lnt_table.specs.ByPath.{indexed_path, path_at, told_path}
+use Rattle.lnt_compare.specs.Differing.{HasToldByPath}
+use Rattle.lnt_table.specs.Headline.{indexed_path, path_at, told_path}
 use Rattle.lnt_table.proofs.CheckLemmas.{told_addresses}
 use Rattle.lnt_answers.specs.Stretches.{IsSoByPath}
 

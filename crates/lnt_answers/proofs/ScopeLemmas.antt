@@ -11,14 +11,13 @@ use Rattle.lnt_io.proofs.PrefixLaws.{appends_known, prefix_after, prefix_all, pr
 use Rattle.lnt_io.specs.declared.status.Status.{Status}
 use Rattle.lnt_spans.specs.declared.position.Position.{Position}
 use Rattle.lnt_spans.specs.AnyStretches.{AreAllStretches, Stretch}
-use Rattle.lnt_spans.specs.Counts.{addresses_answered}
-use Rattle.lnt_spans.specs.Partial.{where_missed}
-use Rattle.lnt_spans.specs.PartialLaws.{answered_stretches, if_some}
+use Rattle.lnt_spans.specs.Partial.{addresses_answered, where_missed}
+use Rattle.lnt_spans.specs.Laws.{answered_stretches, if_some}
 use Rattle.lnt_spans.proofs.AmongLemmas.{mistakes_among}
 use Rattle.lnt_spans.proofs.PartialLemmas.{answered_and_missed}
 use Rattle.lnt_table.specs.declared.within.Scope.{Scope}
 use Rattle.lnt_table.specs.declared.within.Scope.TheVariants.{All, Answered}
-use Rattle.lnt_answers.specs.DifferenceLines.{AreAllIn, AreStretchesTold, answer_if_none, lines_or, stretches_status}
+use Rattle.lnt_answers.specs.Stretches.{AreAllIn, AreStretchesTold, answer_if_none, lines_or, stretches_status}
 use Rattle.lnt_answers.specs.Stepping.{ArePrinted, answer_of, counts_in, end_status, end_text, if_none}
 use Rattle.lnt_answers.specs.Verdicts.{checked_line}
 use Rattle.lnt_answers.proofs.RoomLaws.{text_in_room}

@@ -12,10 +12,10 @@ use Rattle.lnt_spans.specs.declared.position.Position.{Position}
 use Rattle.lnt_spans.specs.declared.span.Span.{Span}
 use Rattle.lnt_spans.specs.declared.stretches.Differences.{Differences}
 use Rattle.lnt_spans.specs.Answers.{in_version}
-use Rattle.lnt_spans.specs.Counts.{addresses_answered}
-use Rattle.lnt_spans.specs.Differing.{HasTold}
+use Rattle.lnt_spans.specs.Partial.{addresses_answered}
+use Rattle.lnt_spans.specs.Stretching.{HasTold}
 use Rattle.lnt_spans.specs.AnyStretches.{AreAllStretches}
-use Rattle.lnt_spans.specs.Stretches.{stretch_of}
+use Rattle.lnt_spans.specs.Differences.{stretch_of}
 use Rattle.lnt_spans.proofs.StretchLaws.{stretches_on}
 use Rattle.lnt_compare.specs.Differing.{Differing, IsDiffering}
 use Rattle.lnt_compare.specs.declared.outcome.TableRead.TheVariants.{Fault, Table}
@@ -32,15 +32,14 @@ use Rattle.lnt_table.specs.Verdicts.{no_of_fault}
 use Rattle.lnt_table.proofs.CheckLemmas.{told_addresses}
 use Rattle.lnt_answers.proofs.ScopeLemmas.{HasMore}
 use Rattle.lnt_answers.proofs.PathStretchLemmas.{ForPathDifferences, for_path_units, HasStarted}
-use Rattle.lnt_answers.specs.DifferenceLines.{AreStretchesTold, path_stretch_line, stretch_line}
+use Rattle.lnt_answers.specs.Stretches.{AreStretchesTold, path_stretch_line, stretch_line, AreStretchesBegun, IsFaultByPath, IsSoOfRows}
 use Rattle.lnt_compare.specs.declared.by_path.held.HeldSpan.{HeldSpan}
 use Rattle.lnt_compare.specs.declared.by_path.stretches.DifferencesByPath.{DifferencesByPath}
 use Rattle.lnt_records.specs.declared.by_path.version.PathVersion.{PathVersion}
 use Rattle.lnt_compare.specs.Held.{held_span}
 use Rattle.lnt_records.specs.PathSpans.{StandInOrder}
 use Rattle.lnt_records.specs.PathTables.{IsPathTableOf}
-use Rattle.lnt_table.specs.ByPath.{indexed_path}
-use Rattle.lnt_answers.specs.Stretches.{AreStretchesBegun, IsFaultByPath, IsSoOfRows}
+use Rattle.lnt_table.specs.Headline.{indexed_path}
 use Rattle.lnt_table.specs.FaultTexts.{table_no_text}
 
 -- It holds of whatever two answers the differences are, if the section's are as many as those of the rows.

@@ -12,12 +12,12 @@ use Rattle.lnt_io.specs.declared.status.Status.{Status}
 use Rattle.lnt_io.specs.declared.status.Status.TheVariants.{Done, No}
 use Rattle.lnt_answers.specs.declared.digest.Agreement.{Agreement}
 use Rattle.lnt_answers.specs.declared.digest.Agreement.TheVariants.{Same, Differs}
-use Rattle.lnt_text.specs.Quotes.{quoted_text}
+use Rattle.lnt_text.specs.Texts.{quoted_text}
 use Rattle.lnt_lines.specs.Indexed.{file_path_in, file_sum_in, Indexed}
 use Rattle.lnt_files.specs.Paths.{path_or_empty}
 use Rattle.lnt_answers.proofs.FileLemmas.{lists_of_more}
 use Rattle.lnt_answers.proofs.SumLaws.{true_later}
-use Rattle.lnt_answers.specs.FileLines.{lists_below}
+use Rattle.lnt_answers.specs.Lines.{lists_below}
 use Rattle.lnt_answers.specs.SumLines.{AreSumsTold, Finding, IsTrueFinding, IsTrueOfFile, both, file_of, found_status, found_text}
 use Rattle.lnt_answers.specs.SumLines.{head_text, listed_at, listed_in, sum_line, sums_status}
 

@@ -9,12 +9,12 @@ use Rattle.lnt_io.proofs.PrefixLaws.{appends_known, prefix_after, prefix_none, p
 use Rattle.lnt_io.specs.Files.{FileState, TellsNoMore}
 use Rattle.lnt_io.specs.declared.status.Status.{Status}
 use Rattle.lnt_answers.specs.declared.digest.Agreement.{Agreement}
-use Rattle.lnt_text.specs.Quotes.{quoted_text}
+use Rattle.lnt_text.specs.Texts.{quoted_text}
 use Rattle.lnt_lines.specs.Indexed.{file_path_in, file_sum_in, Indexed}
 use Rattle.lnt_files.specs.Paths.{path_or_empty}
-use Rattle.lnt_answers.specs.FileLines.{lists_below}
-use Rattle.lnt_answers.specs.SumLines.{AreSumsBegun, AreSumsTold, IsTrueOfFile, found_status, found_text, head_text}
-use Rattle.lnt_answers.specs.SumLines.{listed_at, listed_in, file_of, sum_line}
+use Rattle.lnt_answers.specs.Lines.{lists_below}
+use Rattle.lnt_answers.specs.SumLines.{AreSumsBegun, AreSumsTold, IsTrueOfFile, found_status, found_text, head_text, listed_at, listed_in}
+use Rattle.lnt_answers.specs.SumLines.{file_of, sum_line}
 use Rattle.lnt_answers.proofs.SumLaws.{true_later}
 use Rattle.lnt_answers.proofs.FileLemmas.{below_later, lists_of_more}
 use Rattle.lnt_answers.proofs.SumLemmas.{sum_listed, true_joined}

@@ -1,11 +1,20 @@
 -- A text whose lines contain positions, as it is read block by block. No public contract speaks of this.
-use Rattle.std.specs.Prelude.{◌≡◌, ◌==◌, false, ℕ, List, ◌∷◌, ◌++◌, Option, All}
+use Rattle.std.specs.Prelude.{◌≡◌, List, Option, IfSome, All, ◌==◌, false, ℕ, ◌∷◌, ◌++◌}
+use Rattle.lnt_answers.specs.declared.line_ends.LineEnd.{LineEnd}
+use Rattle.lnt_answers.specs.Lines.{path_end, TellsPosition}
+use Rattle.lnt_lines.specs.Indexed.{file_path_in, Indexed}
 use Rattle.std.specs.Str.Lines.{lines, strip_carriage_return}
 use Rattle.lnt_io.specs.declared.status.Status.{Status}
-use Rattle.lnt_lines.specs.Indexed.{Indexed}
 use Rattle.lnt_spans.specs.declared.position.Position.{Position}
 use Rattle.lnt_answers.specs.AddressLines.{AreLinesBegun, AreLinesTold}
-use Rattle.lnt_answers.specs.Lines.{TellsPosition}
+
+-- ---- the ends of lines that are kept. No public contract speaks of this.
+
+-- Every end that is kept has the path of its file.
+abbrev pub AreEndsOf : Indexed → List (Option LineEnd) → Type 0
+AreEndsOf index slots = All (λ slot. IfSome slot (λ end. end.text.items ≡ path_end (file_path_in index end.unit end.file))) slots
+
+-- ---- blocks of lines
 
 -- none of the bytes is this one
 abbrev pub HasNo : ℕ → List ℕ → Type 0

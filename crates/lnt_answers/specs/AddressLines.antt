@@ -9,7 +9,7 @@ use Rattle.lnt_io.specs.declared.status.Status.TheVariants.{Done, No}
 use Rattle.lnt_spans.specs.declared.position.Position.{Position}
 use Rattle.lnt_sequences.specs.Sequences.{Selection}
 use Rattle.lnt_lines.specs.Indexed.{Indexed, OfUnits}
-use Rattle.lnt_text.specs.Quotes.{quoted_text}
+use Rattle.lnt_text.specs.Texts.{quoted_text}
 use Rattle.lnt_answers.specs.Lines.{TellsPosition, lookup_line}
 
 -- The line contains this position; or it contains none.

@@ -1,10 +1,6 @@
 pub mod AddressBlocks
 pub mod AddressLines
-pub mod Agreements
-pub mod DifferenceLines
-pub mod FileLines
 pub mod Laws
-pub mod LineEnds
 pub mod Lines
 pub mod PathTables
 pub mod Stepping

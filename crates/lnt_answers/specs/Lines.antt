@@ -1,5 +1,6 @@
 -- The lines that are printed about a section: why it isn't good, and its answers at positions.
-use Rattle.std.specs.Prelude.{◌≡◌, ◌==◌, ◌+◌, ℕ, List, ◌++◌, drop, take, if◌then◌else◌, None, Option, Some, codes, decimal, position}
+use Rattle.std.specs.Prelude.{◌≡◌, ◌==◌, ◌+◌, ℕ, List, ◌++◌, drop, take, if◌then◌else◌, None, Option, Some, codes, decimal, position, []}
+use Rattle.std.specs.Prelude.{◌∷◌, suc, zero, flat_map}
 use Rattle.std.specs.Io.KnownBytes.{Appends, Keeps}
 use Rattle.lnt_spans.specs.declared.answer.Answer.{Answer}
 use Rattle.lnt_spans.specs.declared.position.Position.{Position}
@@ -8,11 +9,13 @@ use Rattle.lnt_lines.specs.declared.section.JudgedIndex.{JudgedIndex}
 use Rattle.lnt_lines.specs.declared.section.JudgedIndex.TheVariants.{Good, Bad}
 use Rattle.lnt_io.specs.Prefixes.{AppendsPrefix}
 use Rattle.lnt_sequences.specs.Sequences.{line_answer, Selection}
-use Rattle.lnt_lines.specs.Indexed.{file_path_in, Indexed}
+use Rattle.lnt_lines.specs.Indexed.{file_path_in, Indexed, file_count_in, file_sum_in}
 use Rattle.lnt_text.specs.Digits.{IsAddress, IsDecimal}
-use Rattle.lnt_text.specs.Quotes.{quoted_text}
-use Rattle.lnt_text.specs.Texts.{position_text}
+use Rattle.lnt_text.specs.Texts.{quoted_text, position_text}
 use Rattle.lnt_lines.specs.FaultTexts.{no_text}
+use Rattle.csv.specs.Writing.{default_writer, row_text}
+use Rattle.hex.specs.Hex.{encode_lower}
+use Rattle.lnt_files.specs.Paths.{path_or_empty}
 
 -- The section is good, so its index was given.
 abbrev pub IsIndexGiven : JudgedIndex → Type 0
@@ -67,3 +70,29 @@ TellsPositionAt op line (Some comma) place = IsAddress (take comma line) place.a
 
 abbrev pub TellsPosition : ℕ → List ℕ → Position → Type 0
 TellsPosition op line place = TellsPositionAt op line (position (λ byte. byte == 44) line) place
+
+-- ---- the files of a good section, as comma-separated values
+
+-- the hexadecimal digits of a sum; empty if none is listed
+abbrev pub sum_field : Option (List ℕ) → List ℕ
+sum_field (Some sum) = encode_lower sum
+sum_field None = []
+
+-- the record of a file: its unit's offset, its index, its full path and its listed sum
+abbrev pub file_record : Indexed → ℕ → ℕ → List ℕ
+file_record index unit file =
+    row_text default_writer (decimal unit ∷ decimal file ∷ path_or_empty (file_path_in index unit file)
+    ∷ sum_field (file_sum_in index unit file) ∷ [])
+
+-- the lists of the numbers below `count`, one after another
+abbrev pub lists_below : {X : Type 0} → (ℕ → List X) → ℕ → List X
+lists_below list zero = []
+lists_below list (suc count) = lists_below list count ++ list count
+
+-- the records of all files of a unit
+abbrev pub unit_records : Indexed → ℕ → List ℕ
+unit_records index unit = lists_below (file_record index unit) (file_count_in index unit)
+
+-- the header, and the records of all files of all units
+abbrev pub files_text : Indexed → List ℕ
+files_text index = codes "unit,file,path,md5\n" ++ flat_map (unit_records index) index.units

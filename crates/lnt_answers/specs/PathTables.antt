@@ -5,10 +5,10 @@ use Rattle.lnt_io.specs.Prefixes.{HasBegun}
 use Rattle.lnt_io.specs.declared.status.Status.{Status}
 use Rattle.lnt_io.specs.declared.status.Status.TheVariants.{Done, No}
 use Rattle.lnt_records.specs.declared.by_path.version.PathVersion.{PathVersion}
-use Rattle.lnt_records.specs.PathAnswers.{PathAnswer}
+use Rattle.lnt_records.specs.PathSpans.{PathAnswer}
 use Rattle.lnt_compare.specs.Canonical.{HasOperationIndex, IsCanonicalPathTable}
 use Rattle.lnt_spans.specs.declared.position.Position.{Position}
-use Rattle.lnt_table.specs.PathTexts.{operation_text}
+use Rattle.lnt_table.specs.FaultTexts.{operation_text}
 
 -- the line that says that a span begins or ends at this position, whose operation index isn't 0
 abbrev pub operation_line : Position → List ℕ

@@ -3,8 +3,7 @@ use Rattle.std.specs.Prelude.{◌≡◌, ℕ, Bool, true, List, [], ◌∷◌, O
 use Rattle.std.specs.Io.KnownBytes.{Appends}
 use Rattle.lnt_spans.specs.declared.position.Position.{Position}
 use Rattle.lnt_spans.specs.AnyStretches.{Stretch}
-use Rattle.lnt_spans.specs.Counts.{addresses_answered}
-use Rattle.lnt_spans.specs.Partial.{where_missed}
+use Rattle.lnt_spans.specs.Partial.{addresses_answered, where_missed}
 use Rattle.lnt_records.specs.declared.fault.WriteStop.{WriteStop}
 use Rattle.lnt_records.specs.declared.fault.WriteStop.TheVariants as write
 use Rattle.lnt_io.specs.declared.halt.Halt.{Halt}
@@ -17,8 +16,8 @@ use Rattle.lnt_table.specs.declared.within.CheckedWithin.{CheckedWithin}
 use Rattle.lnt_table.specs.declared.within.CheckedWithin.TheVariants.{Checked as Told, Covered}
 use Rattle.lnt_table.specs.declared.within.Scope.{Scope}
 use Rattle.lnt_table.specs.declared.within.Scope.TheVariants.{All, Answered}
-use Rattle.lnt_table.specs.Within.{coverage_but}
-use Rattle.lnt_answers.specs.DifferenceLines.{AreAllIn}
+use Rattle.lnt_table.specs.AnyVersion.{coverage_but}
+use Rattle.lnt_answers.specs.Stretches.{AreAllIn}
 use Rattle.lnt_answers.specs.Verdicts.{checked_line}
 
 -- ---- stretches in a scope

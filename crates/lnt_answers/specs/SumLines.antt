@@ -1,7 +1,9 @@
 -- The lines that say whether the files of a good section have their listed MD5 sums (DWARF 5, section 6.2.4.1).
 --     tells       what may be known of the file with a name
 --     old, new    what the writer holds before and afterwards
-use Rattle.std.specs.Prelude.{◌≡◌, ◌⊎◌, ℕ, List, [], ◌∷◌, ◌++◌, map, IfSome, IsUtf8, None, Option, Some, codes, decimal}
+use Rattle.std.specs.Prelude.{◌≡◌, ◌≢◌, ℕ, List, ◌⊎◌, [], ◌∷◌, ◌++◌, map, IfSome, IsUtf8, None, Option, Some, codes, decimal}
+use Rattle.lnt_answers.specs.declared.digest.Agreement.{Agreement}
+use Rattle.lnt_answers.specs.declared.digest.Agreement.TheVariants.{Same, Differs}
 use Rattle.std.specs.List.{AllByRecursion, flat_map}
 use Rattle.std.specs.Option.{option_map_or}
 use Rattle.std.specs.Io.KnownBytes.{Appends}
@@ -11,13 +13,17 @@ use Rattle.hex.specs.Hex.{encode_lower}
 use Rattle.md5.specs.Md5.{md5}
 use Rattle.lnt_io.specs.declared.status.Status.{Status}
 use Rattle.lnt_io.specs.declared.status.Status.TheVariants.{Done, No}
-use Rattle.lnt_answers.specs.declared.digest.Agreement.{Agreement}
-use Rattle.lnt_answers.specs.declared.digest.Agreement.TheVariants.{Same, Differs}
-use Rattle.lnt_answers.specs.Agreements.{Agrees}
-use Rattle.lnt_answers.specs.FileLines.{lists_below}
-use Rattle.lnt_text.specs.Quotes.{quoted_text}
+use Rattle.lnt_answers.specs.Lines.{lists_below}
+use Rattle.lnt_text.specs.Texts.{quoted_text}
 use Rattle.lnt_lines.specs.Indexed.{file_count_in, file_path_in, file_sum_in, Indexed}
 use Rattle.lnt_files.specs.Paths.{path_or_empty}
+
+-- ---- what an answer says of a sum and the listed one
+
+-- Same: the two are equal. Differs: they are not, and the answer holds the sum.
+abbrev pub Agrees : Agreement → List ℕ → List ℕ → Type 0
+Agrees Same sum listed = sum ≡ listed
+Agrees (Differs other) sum listed = (other ≡ sum) × (sum ≢ listed)
 
 -- ---- the files with a listed sum, each by its unit's offset and its index, in the order of the section
 

@@ -1,12 +1,12 @@
 //! Prints where the answers of a table of version 1 or 2 and of a section differ, stretch by stretch.
 ghost use Rattle.std.specs.Prelude.{◌≡◌, [], List, Option, IfErr, IfOk, OnErr};
-ghost use Rattle.lnt_answers.specs.DifferenceLines.{AreStretchesTold, stretch_line};
+ghost use Rattle.lnt_answers.specs.Stretches.{AreStretchesTold, stretch_line};
 ghost use Rattle.lnt_answers.specs.Stepping.{ArePrinted};
 ghost use Rattle.lnt_io.specs.Halts.{IsPrinting};
 ghost use Rattle.lnt_io.specs.Prefixes.{HasBegun};
 ghost use Rattle.lnt_spans.specs.declared.answer.Answer.{Answer};
 ghost use Rattle.lnt_spans.specs.declared.position.Position.{Position};
-ghost use Rattle.lnt_spans.specs.Differing.{HasTold};
+ghost use Rattle.lnt_spans.specs.Stretching.{HasTold};
 
 use crate::stretch_lines::StretchLines;
 use lnt_io::Halt;

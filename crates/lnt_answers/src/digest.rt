@@ -1,7 +1,7 @@
 //! The MD5 sum of a source, and its comparison with the one that is listed.
 ghost use Rattle.std.specs.Prelude.{◌≡◌, ◌-◌, ◌^◌, ◌<◌, IfOk, IfSome, IsErrOf, OnOk, false};
 ghost use Rattle.md5.specs.Md5.{md5};
-ghost use Rattle.lnt_answers.specs.Agreements.{Agrees};
+ghost use Rattle.lnt_answers.specs.SumLines.{Agrees};
 ghost use Rattle.lnt_io.specs.Stopping.{CountsFailure, IsTooLongOn};
 
 use lnt_io::{Source, Stop};

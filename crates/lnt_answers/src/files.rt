@@ -6,7 +6,7 @@ ghost use Rattle.lnt_io.specs.declared.status.Status.TheVariants.{Done};
 ghost use Rattle.lnt_io.specs.Halts.{IsPrinting};
 ghost use Rattle.lnt_lines.specs.Indexed.{file_count_in, file_path_in, file_sum_in};
 ghost use Rattle.lnt_files.specs.Paths.{path_or_empty};
-ghost use Rattle.lnt_answers.specs.FileLines.{file_record, files_text, sum_field, unit_records};
+ghost use Rattle.lnt_answers.specs.Lines.{file_record, files_text, sum_field, unit_records};
 
 use csv::Writer;
 use lnt_io::{Halt, Status, write_whole};

@@ -1,7 +1,7 @@
 //! Caches the ends of lines, which are the paths of files.
 ghost use Rattle.std.specs.Prelude.{◌≡◌, ◌++◌, IfOk, IsSome, OnOk};
 ghost use Rattle.lnt_lines.specs.Indexed.{Indexed, file_path_in};
-ghost use Rattle.lnt_answers.specs.LineEnds.{AreEndsOf};
+ghost use Rattle.lnt_answers.specs.AddressBlocks.{AreEndsOf};
 ghost use Rattle.lnt_answers.specs.Lines.{path_end};
 
 use crate::display::put_text;

@@ -26,7 +26,7 @@ pub(crate) struct CachedLookups<'i, 'a> {
 }
 
 impl<'i, 'a> Model for CachedLookups<'i, 'a> {
-    ghost use Rattle.lnt_answers.specs.LineEnds.{AreEndsOf};
+    ghost use Rattle.lnt_answers.specs.AddressBlocks.{AreEndsOf};
     ghost use Rattle.lnt_lines.specs.Indexed.{Indexed};
 
     ghost Value = { Indexed };

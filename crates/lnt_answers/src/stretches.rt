@@ -1,15 +1,14 @@
 //! All stretches of positions in a scope at which a table and a good section answer differently.
 ghost use Rattle.std.specs.Prelude.{◌≡◌, ◌-◌, ◌^◌, ◌<◌, ◌+◌, [], Option, IfErr, IfOk, OnErr, OnOk};
 ghost use Rattle.std.specs.Io.KnownBytes.{Appends};
-ghost use Rattle.lnt_answers.specs.DifferenceLines.{AreStretchesTold, path_stretch_line};
+ghost use Rattle.lnt_answers.specs.Stretches.{AreStretchesTold, path_stretch_line, BeginsStretches, IsFaultTold, TellsStretches};
 ghost use Rattle.lnt_answers.specs.Stepping.{ArePrinted, answer_of, end_status, end_text};
-ghost use Rattle.lnt_answers.specs.Stretches.{BeginsStretches, IsFaultTold, TellsStretches};
-ghost use Rattle.lnt_records.specs.PathAnswers.{PathAnswer};
-ghost use Rattle.lnt_compare.specs.Stretching.{HasToldByPath};
+ghost use Rattle.lnt_records.specs.PathSpans.{PathAnswer};
+ghost use Rattle.lnt_compare.specs.Differing.{HasToldByPath};
 ghost use Rattle.lnt_io.specs.Prefixes.{AppendsPrefix, HasBegun};
 ghost use Rattle.lnt_io.specs.Halts.{IsPrinting};
 ghost use Rattle.lnt_sequences.specs.Sequences.{line_answer};
-ghost use Rattle.lnt_spans.specs.Counts.{addresses_answered};
+ghost use Rattle.lnt_spans.specs.Partial.{addresses_answered};
 ghost use Rattle.lnt_spans.specs.declared.position.Position.{Position};
 ghost use Rattle.lnt_lines.specs.Indexed.{OfUnits};
 ghost use Rattle.lnt_io.specs.Stopping.{CountsFailure};

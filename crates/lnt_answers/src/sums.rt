@@ -4,9 +4,9 @@ ghost use Rattle.std.specs.Io.KnownBytes.{Appends};
 ghost use Rattle.lnt_io.specs.Files.{TellsNoMore};
 ghost use Rattle.lnt_io.specs.Halts.{IsPrinting};
 ghost use Rattle.lnt_lines.specs.Indexed.{file_count_in, file_sum_in};
-ghost use Rattle.lnt_text.specs.Quotes.{quoted_text};
-ghost use Rattle.lnt_answers.specs.SumLines.{AreSumsBegun, AreSumsTold, IsTrueOfFile, both, found_status, found_text, head_text};
-ghost use Rattle.lnt_answers.specs.SumLines.{listed_at, listed_files, listed_in};
+ghost use Rattle.lnt_text.specs.Texts.{quoted_text};
+ghost use Rattle.lnt_answers.specs.SumLines.{AreSumsBegun, AreSumsTold, IsTrueOfFile, both, found_status, found_text, head_text, listed_at};
+ghost use Rattle.lnt_answers.specs.SumLines.{listed_files, listed_in};
 
 use crate::display::put_text;
 use crate::files::path_of;

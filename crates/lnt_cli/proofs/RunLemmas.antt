@@ -9,8 +9,7 @@ use Rattle.lnt_words.specs.declared.stop.WordsStop.{WordsStop}
 use Rattle.lnt_words.specs.declared.stop.WordsStop.TheVariants.{Memory}
 use Rattle.lnt_cli.specs.Answered.{IsAnswered}
 use Rattle.lnt_cli.specs.Runs.{AnswersWords, IsStopOf}
-use Rattle.lnt_cli.specs.Stopped.{IsStopped}
-use Rattle.lnt_cli.specs.Stops.{IsFileIn, IsOfWords, NamesOneOf}
+use Rattle.lnt_cli.specs.Stops.{IsStopped, IsFileIn, IsOfWords, NamesOneOf}
 use Rattle.lnt_cli.specs.declared.stop.CliStop.{CliStop}
 use Rattle.lnt_cli.specs.declared.stop.CliStop.TheVariants.{File, Usage}
 use Rattle.lnt_cli.specs.declared.stop.FileStop.{FileStop}

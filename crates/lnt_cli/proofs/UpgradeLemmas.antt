@@ -3,7 +3,7 @@ use Rattle.std.proofs.Common.{◌≡◌, ℕ, List, Option, Some, None, subst}
 use Rattle.lnt_io.specs.Files.{FileState, Readable, TellsNoMore}
 use Rattle.lnt_io.specs.declared.status.Status.{Status}
 use Rattle.lnt_wire.specs.declared.format.Order.{Order}
-use Rattle.lnt_dump.specs.Upgraded.{IsUpgradeTold}
+use Rattle.lnt_dump.specs.Printed.{IsUpgradeTold}
 use Rattle.lnt_cli.specs.Answered.{IsTextOf}
 
 -- what is known of a file later was known before

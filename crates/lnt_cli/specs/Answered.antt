@@ -1,7 +1,7 @@
 -- The answers to requests, and the bytes of which they are true.
 --     tells       what the opener may say of the file with a name, as the run begins
 --     old, new    what the writer of the answer holds before and afterwards
-use Rattle.std.specs.Prelude.{◌≡◌, Bool, ℕ, List, [], Option, None, IfSome, IsSomeAnd, MatchOption, true, false, string_bytes}
+use Rattle.std.specs.Prelude.{◌≡◌, ℕ, List, [], Option, None, IfSome, IsSomeAnd, MatchOption, false, string_bytes}
 use Rattle.std.specs.Option.{option_copied}
 use Rattle.std.specs.Io.KnownBytes.{Appends}
 use Rattle.lnt_io.specs.Files.{AreBytesOf, FileState, Readable}
@@ -10,23 +10,22 @@ use Rattle.lnt_io.specs.declared.status.Status.TheVariants.{Done}
 use Rattle.lnt_wire.specs.declared.format.Order.{Order}
 use Rattle.lnt_lines.specs.declared.options.Options.{Options}
 use Rattle.lnt_lines.specs.declared.section.JudgedIndex.{JudgedIndex}
-use Rattle.lnt_lines.specs.Drafts.{IsJudgedIndex}
+use Rattle.lnt_lines.specs.Judging.{IsJudgedIndex}
+use Rattle.lnt_words.specs.declared.request.FileQuestion.{FileQuestion}
+use Rattle.lnt_words.specs.declared.request.FileQuestion.TheVariants.{Check}
 use Rattle.lnt_words.specs.declared.request.Judging.{Judging}
 use Rattle.lnt_words.specs.declared.request.Question.{Question}
 use Rattle.lnt_words.specs.declared.request.Reading.{Reading}
 use Rattle.lnt_words.specs.declared.request.Request.{Request}
-use Rattle.lnt_words.specs.declared.request.Request.TheVariants.{Help, Read, Upgrade, Judge, Addresses, Check}
+use Rattle.lnt_words.specs.declared.request.Request.TheVariants.{Help, Read, Upgrade, Judge, JudgeWith}
 use Rattle.lnt_words.specs.declared.request.Upgrading.{Upgrading}
 use Rattle.lnt_table.specs.declared.within.CheckedWithin.{CheckedWithin}
 use Rattle.lnt_table.specs.declared.within.Scope.{Scope}
-use Rattle.lnt_table.specs.Within.{IsOfScope, IsTrueOfSectionWithin, IsTrueWithin, scope_in}
+use Rattle.lnt_table.specs.AnyVersion.{IsOfScope, IsTrueOfSectionWithin, IsTrueWithin, scope_in}
 use Rattle.lnt_answers.specs.Verdicts.{checked_line, checked_status}
-use Rattle.lnt_words.specs.Sizes.{size_bytes}
-use Rattle.lnt_dump.specs.Upgraded.{IsUpgradeTold}
-use Rattle.lnt_cli.specs.declared.question.FileQuestion.{FileQuestion}
-use Rattle.lnt_cli.specs.declared.question.FileQuestion.TheVariants.{Lines, Places}
-use Rattle.lnt_cli.specs.Questions.{AnswersGood, AnswersGoodFile, AnswersJudged}
-use Rattle.lnt_cli.specs.Readings.{AnswersReading}
+use Rattle.lnt_words.specs.Words.{size_bytes}
+use Rattle.lnt_dump.specs.Printed.{IsUpgradeTold}
+use Rattle.lnt_cli.specs.Questions.{AnswersGood, AnswersGoodFile, AnswersJudged, AnswersReading}
 
 -- the options with which a section is read and judged
 abbrev pub options_in : Judging → Options
@@ -47,58 +46,56 @@ pub record AreTextsOf (tells : List ℕ → FileState → Type 0) (from : Judgin
   pub line_is : AreStringsOf tells (option_copied from.line_strings) line
   pub general_is : AreStringsOf tells (option_copied from.strings) general
 
--- The check's answer is true of the section and of the table, of any version, in the named files, at the positions of the scope, and
--- it was written, and nothing else. What it says of the section is true even if nothing is known of the table's bytes.
-pub record IsChecked (tells : List ℕ → FileState → Type 0) (from : Judging) (table : List ℕ) (scope : Scope)
-    (old new : Option (List ℕ)) (checked : CheckedWithin) : Type 0 where
+-- This is true of the bytes of both string sections, and of those of the section in the named file.
+pub record IsOfSection (tells : List ℕ → FileState → Type 0) (from : Judging) (IsSo : List ℕ → List ℕ → Option (List ℕ) → Type 0)
+    : Type 0 where
   pub line : List ℕ
   pub general : List ℕ
   pub texts : AreTextsOf tells from line general
-  pub section_bytes : Option (List ℕ)
-  pub of_section : tells from.section.now (Readable section_bytes)
-  pub table_bytes : Option (List ℕ)
-  pub of_table : tells table (Readable table_bytes)
-  pub is_true : IfSome section_bytes (λ section. IfSome table_bytes (λ text.
-      IsTrueWithin scope line general (options_in from) section text checked))
-  pub is_true_of_section : IfSome section_bytes (λ section. IsTrueOfSectionWithin line general (options_in from) section checked)
+  pub of_section : IsOfBytes tells from.section.now (IsSo line general)
+
+-- The same, and of the bytes of another file.
+abbrev pub IsOfFile : (List ℕ → FileState → Type 0) → Judging → List ℕ
+    → (Option (List ℕ) → List ℕ → List ℕ → Option (List ℕ) → Type 0) → Type 0
+IsOfFile tells from file IsSo = IsOfBytes tells file (λ bytes. IsOfSection tells from (IsSo bytes))
+
+-- ---- sections that are compared with a table
+
+-- The check's answer is true of the section and of the table (text), of any version, at the positions of the scope; it was written, and
+-- nothing else, and the run ends with its status. What it says of the section is true even if nothing is known of the table's bytes.
+pub record IsChecked (from : Judging) (scope : Scope) (old new : Option (List ℕ)) (status : Status) (text : Option (List ℕ))
+    (line general : List ℕ) (section : Option (List ℕ)) : Type 0 where
+  pub checked : CheckedWithin
+  pub is_true : IfSome section (λ bytes. IfSome text (λ table. IsTrueWithin scope line general (options_in from) bytes table checked))
+  pub is_true_of_section : IfSome section (λ bytes. IsTrueOfSectionWithin line general (options_in from) bytes checked)
   pub of_scope : IsOfScope checked scope
   pub printed : Appends old new (checked_line checked)
-
--- Such an answer was written, and the run ends with that answer's status.
-pub record AnswersCheck (tells : List ℕ → FileState → Type 0) (from : Judging) (table : List ℕ) (scope : Scope)
-    (old new : Option (List ℕ)) (status : Status) : Type 0 where
-  pub checked : CheckedWithin
-  pub so : IsChecked tells from table scope old new checked
   pub status_is : status ≡ checked_status checked
 
 -- ---- sections that are judged
 
--- The judgement of the section in the named file is true, and a statement about that judgement holds.
---     IsTold    the statement
-pub record IsOfSection (tells : List ℕ → FileState → Type 0) (from : Judging) (IsTold : JudgedIndex → Type 0) : Type 0 where
-  pub line : List ℕ
-  pub general : List ℕ
-  pub texts : AreTextsOf tells from line general
-  pub section_bytes : Option (List ℕ)
-  pub of_section : tells from.section.now (Readable section_bytes)
-  pub judged : JudgedIndex
-  pub is_true : IfSome section_bytes (λ section. IsJudgedIndex line general (options_in from) section judged)
-  pub told : IsTold judged
+-- the judgement of the section is true
+abbrev pub IsTrueOf : Judging → List ℕ → List ℕ → Option (List ℕ) → JudgedIndex → Type 0
+IsTrueOf from line general section judged = IfSome section (λ bytes. IsJudgedIndex line general (options_in from) bytes judged)
 
--- The answer to the question was written.
+-- that judgement, and a statement about it
+abbrev pub IsJudgedSo : Judging → (JudgedIndex → Type 0) → List ℕ → List ℕ → Option (List ℕ) → Type 0
+IsJudgedSo from IsTold line general section = (judged : JudgedIndex) × IsTrueOf from line general section judged × IsTold judged
+
+-- The answer to the question was written, or why the section isn't good.
 abbrev pub AnswersQuestion : (List ℕ → FileState → Type 0) → Judging → Question → Option (List ℕ) → Option (List ℕ) → Status
     → Type 0
-AnswersQuestion tells from question old new status = IsOfSection tells from (AnswersJudged (AnswersGood tells question) old new status)
+AnswersQuestion tells from question old new status =
+    IsOfSection tells from (IsJudgedSo from (AnswersJudged (AnswersGood tells question) old new status))
 
--- The same for a statement about the bytes of another file and the judgement.
-abbrev pub IsOfFile : (List ℕ → FileState → Type 0) → Judging → List ℕ → (Option (List ℕ) → JudgedIndex → Type 0) → Type 0
-IsOfFile tells from file IsTold = IsOfBytes tells file (λ bytes. IsOfSection tells from (IsTold bytes))
-
--- The answer to the question about the section and the file with this name was written, or why the section isn't good.
+-- The answer to the question about the section and the file with this name was written. It is that of a check, or what a section that
+-- is judged says of the file.
 abbrev pub AnswersFile : (List ℕ → FileState → Type 0) → Judging → List ℕ → FileQuestion → Option (List ℕ) → Option (List ℕ) → Status
     → Type 0
+AnswersFile tells from file (Check false partial) old new status =
+    IsOfFile tells from file (IsChecked from (scope_in partial) old new status)
 AnswersFile tells from file question old new status =
-    IsOfFile tells from file (λ bytes. AnswersJudged (AnswersGoodFile question bytes) old new status)
+    IsOfFile tells from file (λ bytes. IsJudgedSo from (AnswersJudged (AnswersGoodFile question bytes) old new status))
 
 -- ---- sections that are read
 
@@ -127,17 +124,10 @@ AnswersUpgrade tells from old new status =
 
 -- ---- requests
 
--- The answer to a check of a table: for all its places, or for the first alone.
-abbrev pub AnswersTable : (List ℕ → FileState → Type 0) → Judging → List ℕ → Bool → Bool → Option (List ℕ) → Option (List ℕ) → Status
-    → Type 0
-AnswersTable tells from table false partial old new status = AnswersCheck tells from table (scope_in partial) old new status
-AnswersTable tells from table true partial old new status = AnswersFile tells from table (Places (scope_in partial)) old new status
-
 -- The answer to a request.
 abbrev pub IsAnswered : (List ℕ → FileState → Type 0) → Request → Option (List ℕ) → Option (List ℕ) → Status → Type 0
 IsAnswered tells (Help text) old new status = Appends old new (string_bytes text) × (status ≡ Done)
 IsAnswered tells (Read section order reading) old new status = AnswersRead tells section.now order reading old new status
 IsAnswered tells (Upgrade from) old new status = AnswersUpgrade tells from old new status
 IsAnswered tells (Judge from question) old new status = AnswersQuestion tells from question old new status
-IsAnswered tells (Addresses from file op) old new status = AnswersFile tells from file.now (Lines op) old new status
-IsAnswered tells (Check from table all partial) old new status = AnswersTable tells from table.now all partial old new status
+IsAnswered tells (JudgeWith from file question) old new status = AnswersFile tells from file.now question old new status

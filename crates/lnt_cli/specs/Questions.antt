@@ -1,11 +1,19 @@
 -- The answer to a question about a section that was judged, alone or with another file, and its prefixes.
 --     tells       what the opener may say of the file with a name
 --     old, new    what the writer of the answer holds before and afterwards
-use Rattle.std.specs.Prelude.{◌≡◌, ℕ, List, ◌++◌, Option, IfSome, true, false, codes, flat_map}
+use Rattle.std.specs.Prelude.{ℕ, List, Option, IfSome, ◌≡◌, ◌++◌, true, false, codes, flat_map}
+use Rattle.lnt_io.specs.Prefixes.{HasBegun, AppendsPrefix}
+use Rattle.lnt_io.specs.declared.status.Status.{Status}
+use Rattle.lnt_wire.specs.declared.format.Order.{Order}
+use Rattle.lnt_words.specs.declared.request.FileQuestion.{FileQuestion}
+use Rattle.lnt_words.specs.declared.request.FileQuestion.TheVariants.{Lines, Check}
+use Rattle.lnt_words.specs.declared.request.Reading.{Reading}
+use Rattle.lnt_words.specs.declared.request.Reading.TheVariants.{Convert, Dump, Units}
+use Rattle.lnt_dump.specs.Dumps.{IsDumpBegun, IsDumped}
+use Rattle.lnt_dump.specs.Printed.{IsConversionTold}
+use Rattle.lnt_dump.specs.Units.{AreBytes, AreUnitsTold}
 use Rattle.std.specs.Io.KnownBytes.{Appends}
 use Rattle.lnt_io.specs.Files.{FileState}
-use Rattle.lnt_io.specs.Prefixes.{AppendsPrefix}
-use Rattle.lnt_io.specs.declared.status.Status.{Status}
 use Rattle.lnt_io.specs.declared.status.Status.TheVariants as ending
 use Rattle.lnt_spans.specs.declared.answer.Version.{Version}
 use Rattle.lnt_spans.specs.declared.position.Position.{Position}
@@ -17,18 +25,40 @@ use Rattle.lnt_words.specs.declared.request.Question.TheVariants.{Verify, Lookup
 use Rattle.lnt_records.specs.declared.by_path.version.PathVersion.{PathVersion}
 use Rattle.lnt_records.specs.declared.by_path.version.PathVersion.TheVariants.{Three, Four}
 use Rattle.lnt_table.specs.declared.within.Scope.{Scope}
-use Rattle.lnt_table.specs.ByPath.{told_path}
+use Rattle.lnt_table.specs.AnyVersion.{scope_in}
+use Rattle.lnt_table.specs.Headline.{told_path}
 use Rattle.lnt_table.specs.Written.{BeginsTableOfUnits, IsTableOfUnits}
 use Rattle.lnt_answers.specs.AddressLines.{AreAddressesBegun, AreAddressesTold}
-use Rattle.lnt_answers.specs.FileLines.{files_text}
-use Rattle.lnt_answers.specs.Lines.{lookup_line}
+use Rattle.lnt_answers.specs.Lines.{files_text, lookup_line}
 use Rattle.lnt_answers.specs.SumLines.{AreSumsBegun, AreSumsTold, listed_files}
 use Rattle.lnt_lines.specs.FaultTexts.{no_text}
 use Rattle.lnt_answers.specs.PathTables.{BeginsPrintedTable, IsPrintedTable}
 use Rattle.lnt_answers.specs.declared.stretches.Stretches.{Stretches}
 use Rattle.lnt_answers.specs.Stretches.{AreStretchesBegun, IsFaultTold, TellsStretches, told_status}
-use Rattle.lnt_cli.specs.declared.question.FileQuestion.{FileQuestion}
-use Rattle.lnt_cli.specs.declared.question.FileQuestion.TheVariants.{Lines, Places}
+
+-- ---- the answer if a section is read and its lines aren't judged
+--     known       the section's bytes, where these are known
+--     old, new    what the writer of the answer holds before and afterwards
+
+-- The answer was appended to these bytes, and nothing else. For Units, that is the lines of the section's frames and of its first
+-- fault; for Dump, the lines of its units and of its first fault; for Convert, the section in another format and order, or the line
+-- that says why there is none.
+abbrev pub AnswersReading : Order → Reading → Option (List ℕ) → Option (List ℕ) → Option (List ℕ) → Status → Type 0
+AnswersReading order Units known old new status = AreUnitsTold order known old new status
+AnswersReading order (Dump ops rows) known old new status = IsDumped order (record { ops = ops; rows = rows }) known old new status
+AnswersReading order (Convert format to) known old new status =
+    IfSome known (λ bytes. IsConversionTold order bytes format to old new status)
+
+-- A prefix of that answer was appended to these bytes, and nothing else. For a list of units this is stated only if the section's
+-- bytes are numbers below 256, as the bytes of each file are. Of a dump it is a prefix of the lines of units that the section begins
+-- with, and of that of its first fault, if it was found.
+abbrev pub BeginsReading : Order → Reading → Option (List ℕ) → Option (List ℕ) → Option (List ℕ) → Type 0
+BeginsReading order Units known old new = IfSome known AreBytes → HasBegun (AreUnitsTold order known old) old new
+BeginsReading order (Dump ops rows) known old new = IsDumpBegun order (record { ops = ops; rows = rows }) known old new
+BeginsReading order (Convert format to) known old new =
+    IfSome known (λ bytes. HasBegun (IsConversionTold order bytes format to old) old new)
+
+-- ---- a section that was judged
 
 -- The line of the units' answer at each of these positions was printed, and nothing else.
 abbrev pub AreLookupsTold : Indexed → List Position → Option (List ℕ) → Option (List ℕ) → Type 0
@@ -65,7 +95,7 @@ pub record AreTableTold (scope : Scope) (index : Indexed) (table old new : Optio
 -- The answer for a good section with this index and another file, of these bytes.
 abbrev pub AnswersGoodFile : FileQuestion → Option (List ℕ) → Indexed → Option (List ℕ) → Option (List ℕ) → Status → Type 0
 AnswersGoodFile (Lines op) bytes index old new status = AreAddressesTold index op bytes old new status
-AnswersGoodFile (Places scope) bytes index old new status = AreTableTold scope index bytes old new status
+AnswersGoodFile (Check all partial) bytes index old new status = AreTableTold (scope_in partial) index bytes old new status
 
 -- The answer for a section with this judgement: for a good one this, and for another the line that says why it isn't good.
 abbrev pub AnswersJudged : (Indexed → Option (List ℕ) → Option (List ℕ) → Status → Type 0) → Option (List ℕ) → Option (List ℕ) → Status
@@ -95,8 +125,8 @@ BeginsGood tells (TableByPath false) index old new = BeginsPathTableText Four in
 -- those of that file.
 abbrev pub BeginsGoodFile : FileQuestion → Option (List ℕ) → Indexed → Option (List ℕ) → Option (List ℕ) → Type 0
 BeginsGoodFile (Lines op) bytes index old new = AreAddressesBegun index op bytes old new
-BeginsGoodFile (Places scope) bytes index old new = OfUnits index (λ selection. IfSome bytes
-    (λ text. AreStretchesBegun scope index selection text old new))
+BeginsGoodFile (Check all partial) bytes index old new = OfUnits index (λ selection. IfSome bytes
+    (λ text. AreStretchesBegun (scope_in partial) index selection text old new))
 
 -- A prefix of the answer for a section with this judgement.
 abbrev pub BeginsJudged : (Indexed → Option (List ℕ) → Option (List ℕ) → Type 0) → Option (List ℕ) → Option (List ℕ) → JudgedIndex

@@ -9,8 +9,7 @@ use Rattle.lnt_words.specs.Asking.{AskForNothing, IsAskedBy}
 use Rattle.lnt_words.specs.declared.request.Asked.{Asked}
 use Rattle.lnt_words.specs.declared.request.Request.{Request}
 use Rattle.lnt_cli.specs.Answered.{IsAnswered}
-use Rattle.lnt_cli.specs.Stopped.{IsStopped}
-use Rattle.lnt_cli.specs.Stops.{IsFileIn, IsUnreadable, MayAnswerUnreadable, NamesOneOf}
+use Rattle.lnt_cli.specs.Stops.{IsStopped, IsFileIn, IsUnreadable, MayAnswerUnreadable, NamesOneOf}
 use Rattle.lnt_cli.specs.declared.stop.CliStop.{CliStop}
 use Rattle.lnt_cli.specs.declared.stop.CliStop.TheVariants.{File, Usage}
 

@@ -1,13 +1,15 @@
 -- How a run was stopped, and the files that a request names.
-use Rattle.std.specs.Prelude.{◌≡◌, ◌≢◌, ◌⊎◌, ℕ, IsErrAnd, List, Option, Result, Some, string_bytes, option_copied}
+use Rattle.std.specs.Prelude.{◌≡◌, ◌≢◌, ◌⊎◌, ℕ, IsErrAnd, List, Option, Result, Some, string_bytes, option_copied, false}
 use Rattle.lnt_io.specs.Files.{FileState, Readable, RefusesOnly}
 use Rattle.lnt_io.specs.declared.halt.Halt.{Halt}
 use Rattle.lnt_io.specs.declared.halt.Halt.TheVariants as halt
+use Rattle.lnt_words.specs.declared.request.FileQuestion.{FileQuestion}
+use Rattle.lnt_words.specs.declared.request.FileQuestion.TheVariants.{Check}
 use Rattle.lnt_words.specs.declared.request.Judging.{Judging}
 use Rattle.lnt_words.specs.declared.request.Question.{Question}
 use Rattle.lnt_words.specs.declared.request.Question.TheVariants.{Md5}
 use Rattle.lnt_words.specs.declared.request.Request.{Request}
-use Rattle.lnt_words.specs.declared.request.Request.TheVariants.{Help, Read as ReadSection, Upgrade, Judge, Addresses, Check}
+use Rattle.lnt_words.specs.declared.request.Request.TheVariants.{Help, Read as ReadSection, Upgrade, Judge, JudgeWith}
 use Rattle.lnt_words.specs.declared.request.Upgrading.{Upgrading}
 use Rattle.lnt_words.specs.declared.stop.WordsStop.{WordsStop}
 use Rattle.lnt_words.specs.declared.stop.WordsStop.TheVariants as words
@@ -15,6 +17,16 @@ use Rattle.lnt_cli.specs.declared.stop.CliStop.{CliStop}
 use Rattle.lnt_cli.specs.declared.stop.CliStop.TheVariants.{File, Usage}
 use Rattle.lnt_cli.specs.declared.stop.FileStop.{FileStop}
 use Rattle.lnt_cli.specs.declared.stop.FileStop.TheVariants.{Read, TooLong, Write, Memory}
+use Rattle.std.specs.Io.KnownBytes.{Keeps}
+use Rattle.lnt_io.specs.Prefixes.{AppendsPrefix, HasBegun}
+use Rattle.lnt_wire.specs.declared.format.Order.{Order}
+use Rattle.lnt_table.specs.declared.within.Scope.{Scope}
+use Rattle.lnt_table.specs.AnyVersion.{scope_in}
+use Rattle.lnt_words.specs.Words.{size_bytes}
+use Rattle.lnt_words.specs.declared.request.Reading.{Reading}
+use Rattle.lnt_dump.specs.Printed.{IsUpgradeBegun}
+use Rattle.lnt_cli.specs.Answered.{IsChecked, IsJudgedSo, IsOfBytes, IsOfFile, IsOfSection, IsOfUpgrade}
+use Rattle.lnt_cli.specs.Questions.{BeginsGood, BeginsGoodFile, BeginsJudged, BeginsReading}
 
 -- how a run stops whose words aren't a request
 abbrev pub IsOfWords : WordsStop → CliStop → Type 0
@@ -49,8 +61,7 @@ IsFileIn (Help text) name = ⊥
 IsFileIn (ReadSection section order reading) name = section.now ≡ name
 IsFileIn (Upgrade from) name = IsFileOfUpgrade from name
 IsFileIn (Judge from question) name = IsFileOf from name
-IsFileIn (Addresses from file op) name = IsFileOfBoth from file.now name
-IsFileIn (Check from table all partial) name = IsFileOfBoth from table.now name
+IsFileIn (JudgeWith from file question) name = IsFileOfBoth from file.now name
 
 -- ---- files that the opener refused
 
@@ -92,3 +103,48 @@ abbrev pub IsOfCause : (List ℕ → Type 0) → (List ℕ → Type 0) → FileS
 IsOfCause HasFailed IsLong (Read told) = HasFailed (string_bytes told)
 IsOfCause HasFailed IsLong (TooLong told) = IsLong (string_bytes told)
 IsOfCause HasFailed IsLong _ = Unit {0}
+
+-- ---- what was written if the answer to a request was stopped: nothing, or a prefix of an answer
+--     tells       what the opener may say of the file with a name, as the run begins
+--     old, new    what that writer holds before and afterwards
+
+-- ---- sections that are judged
+
+-- The judgement of the section in the named file is true, and a prefix of the answer to the question was written.
+abbrev pub BeginsQuestion : (List ℕ → FileState → Type 0) → Judging → Question → Option (List ℕ) → Option (List ℕ) → Type 0
+BeginsQuestion tells from question old new =
+    IsOfSection tells from (IsJudgedSo from (BeginsJudged (BeginsGood tells question) old new))
+
+-- a prefix of the answer to a check, of a table with these bytes (text)
+abbrev pub BeginsChecked : Judging → Scope → Option (List ℕ) → Option (List ℕ) → Option (List ℕ) → List ℕ → List ℕ → Option (List ℕ)
+    → Type 0
+BeginsChecked from scope old new text line general section =
+    HasBegun (λ end status. IsChecked from scope old end status text line general section) old new
+
+-- A prefix of the answer to the question about the section and the file with this name was written.
+abbrev pub BeginsFile : (List ℕ → FileState → Type 0) → Judging → List ℕ → FileQuestion → Option (List ℕ) → Option (List ℕ) → Type 0
+BeginsFile tells from file (Check false partial) old new = IsOfFile tells from file (BeginsChecked from (scope_in partial) old new)
+BeginsFile tells from file question old new =
+    IsOfFile tells from file (λ bytes. IsJudgedSo from (BeginsJudged (BeginsGoodFile question bytes) old new))
+
+-- ---- sections that are read
+
+-- A prefix of the answer of this reading was written, for the section in the named file.
+abbrev pub StopsRead : (List ℕ → FileState → Type 0) → List ℕ → Order → Reading → Option (List ℕ) → Option (List ℕ) → Type 0
+StopsRead tells section order reading old new =
+    IsOfBytes tells section (λ known. BeginsReading order reading known old new)
+
+-- A prefix of the section with its older units anew, or of the line that says why there is none, was written.
+abbrev pub StopsUpgrade : (List ℕ → FileState → Type 0) → Upgrading → Option (List ℕ) → Option (List ℕ) → Type 0
+StopsUpgrade tells from old new =
+    IsOfUpgrade tells from (λ bytes text. IsUpgradeBegun from.order (size_bytes from.address_size) bytes text old new)
+
+-- ---- requests
+
+-- What was written if the answer to this request was stopped.
+abbrev pub IsStopped : (List ℕ → FileState → Type 0) → Request → Option (List ℕ) → Option (List ℕ) → Type 0
+IsStopped tells (Help text) old new = AppendsPrefix old new (string_bytes text)
+IsStopped tells (ReadSection section order reading) old new = Keeps old new ⊎ StopsRead tells section.now order reading old new
+IsStopped tells (Upgrade from) old new = Keeps old new ⊎ StopsUpgrade tells from old new
+IsStopped tells (Judge from question) old new = Keeps old new ⊎ BeginsQuestion tells from question old new
+IsStopped tells (JudgeWith from file question) old new = Keeps old new ⊎ BeginsFile tells from file.now question old new

@@ -1,73 +1,41 @@
-//! The subcommand `check`.
-ghost use Rattle.std.specs.Prelude.{◌≡◌, ◌<◌, ◌⊎◌, ℕ, List, Option, IfErr, IfOk, IfSome, IsTrue, OnErr};
-ghost use Rattle.std.specs.Io.KnownBytes.{Appends, Keeps};
-ghost use Rattle.lnt_io.specs.Prefixes.{HasBegun};
-ghost use Rattle.lnt_cli.specs.Answered.{AnswersCheck, AnswersTable, IsChecked, options_in};
-ghost use Rattle.lnt_cli.specs.Stopped.{StopsTable};
-ghost use Rattle.lnt_cli.specs.Stops.{IsFileOfBoth, IsOfCause, NamesOneOf, StopsIfRefused};
-ghost use Rattle.lnt_table.specs.Within.{IsOfScope, IsTrueOfSectionWithin, IsTrueWithin};
-ghost use Rattle.lnt_answers.specs.Verdicts.{checked_line};
+//! Tables that are checked against sections.
+ghost use Rattle.std.specs.Prelude.{◌≡◌, ◌<◌, ◌⊎◌, IfErr, IfOk, IfSome, IsTrue, OnErr};
+ghost use Rattle.std.specs.Io.KnownBytes.{Keeps};
+ghost use Rattle.lnt_cli.specs.Answered.{IsChecked, options_in};
+ghost use Rattle.lnt_cli.specs.Stops.{BeginsChecked, IsFileOfBoth, IsOfCause, NamesOneOf};
+ghost use Rattle.lnt_table.specs.AnyVersion.{IsOfScope, IsTrueOfSectionWithin, IsTrueWithin};
 
-use crate::inputs::{Opened, of_file, open_judged, open_other};
+use crate::inputs::{Opened, of_file};
 use crate::notes::Answered;
-use crate::question::{FileQuestion, answer_file, options_of};
+use crate::question::options_of;
 use crate::stop::FileStop;
-use lnt_io::{Halt, Opener, Source, Stop, print_line};
-use lnt_notes::Seen;
+use lnt_io::{Halt, Source, Stop, print_line};
 use lnt_table::{CheckedWithin, Scope, check_within};
 use lnt_words::Judging;
 use std::alloc::Global;
-use std::cell::Cell;
 use std::io::Write;
 
-// Answers whether the table in the file with this name answers as the section does, or where it doesn't: at all places, or at the
-// first alone. `seen` keeps what notes need of the section's bytes.
-pub(crate) fn answer_table<'t, O: Opener, W: Write>(
-    alloc: Global,
-    from: &Judging<'_>,
-    table: &'t str,
-    all: bool,
-    partial: bool,
-    opener: &mut O,
-    seen: &Cell<Seen>,
-    out: &mut W,
-) -> Result<Answered<'t>, FileStop>
-    ensures named { IfErr result (NamesOneOf (IsFileOfBoth from.now table.now)) }
-    ensures answer { IfOk result (λ answered. AnswersTable (O.tells opener.old) from.now table.now all partial
-        (W.contents out.old) (W.contents out.new) answered.status) }
-    ensures stopped { OnErr result (StopsTable (O.tells opener.old) from.now table.now all partial
-        (W.contents out.old) (W.contents out.new)) }
-    ensures refused { StopsIfRefused result (O.refused opener.old) (O.refused opener.new) }
-{
-    let scope = Scope::of(partial);
-    if all {
-        let question = FileQuestion::Places(scope);
-        answer_file(alloc, from, table, question, opener, seen, out)
-    } else {
-        check_table(alloc, from, table, scope, opener, seen, out)
-    }
-}
-
-// Answers whether the table in the file with this name answers as the section does, at the positions of this scope. `seen` keeps
-// what notes need of the section's bytes.
-fn check_table<'t, O: Opener, W: Write>(
+// Answers whether the table in the file with this name answers as the section does, at the positions of this scope. The files are
+// open.
+pub(crate) fn check_table<'t, S: Source, F: Source, W: Write>(
     alloc: Global,
     from: &Judging<'_>,
     table: &'t str,
     scope: Scope,
-    opener: &mut O,
-    seen: &Cell<Seen>,
+    files: &mut Opened<S>,
+    other: &mut F,
     out: &mut W,
 ) -> Result<Answered<'t>, FileStop>
+    requires section { S.failures files.old.section ≡ 0 }
+    requires table { F.failures other.old ≡ 0 }
     ensures named { IfErr result (NamesOneOf (IsFileOfBoth from.now table.now)) }
-    ensures answer { IfOk result (λ answered. AnswersCheck (O.tells opener.old) from.now table.now scope
-        (W.contents out.old) (W.contents out.new) answered.status) }
+    ensures answer { IfOk result (λ answered. IsChecked from.now scope (W.contents out.old) (W.contents out.new) answered.status
+        (F.remaining other.old) files.old.texts.line.items files.old.texts.general.items (S.remaining files.old.section)) }
     ensures stopped { OnErr result (Keeps (W.contents out.old) (W.contents out.new)
-        ⊎ HasBegun (AnswersCheck (O.tells opener.old) from.now table.now scope (W.contents out.old))
-        (W.contents out.old) (W.contents out.new)) }
-    ensures refused { StopsIfRefused result (O.refused opener.old) (O.refused opener.new) }
+        ⊎ BeginsChecked from.now scope (W.contents out.old) (W.contents out.new)
+        (F.remaining other.old) files.old.texts.line.items files.old.texts.general.items (S.remaining files.old.section)) }
 {
-    let checked = judge_table(alloc, from, table, scope, opener, seen)?;
+    let checked = judge_table(alloc, from, table, scope, files, other)?;
     let name = String::from_str(alloc, table)?;
     let printed = print_line(alloc, &checked, out);
     of_file(name, printed)?;
@@ -75,27 +43,7 @@ fn check_table<'t, O: Opener, W: Write>(
 }
 
 // Judges whether the table in the file with this name, of any version, answers as the section does, at the positions of this scope.
-// The result is the answer to the check once it is printed. `seen` keeps what notes need of the section's bytes.
-fn judge_table<O: Opener>(
-    alloc: Global,
-    from: &Judging<'_>,
-    table: &str,
-    scope: Scope,
-    opener: &mut O,
-    seen: &Cell<Seen>,
-) -> Result<CheckedWithin, FileStop>
-    ensures named { IfErr result (NamesOneOf (IsFileOfBoth from.now table.now)) }
-    ensures checked { IfOk result (λ checked. (old new : Option (List ℕ)) → Appends old new (checked_line checked)
-        → IsChecked (O.tells opener.old) from.now table.now scope old new checked) }
-    ensures refused { StopsIfRefused result (O.refused opener.old) (O.refused opener.new) }
-{
-    let mut files = open_judged(alloc, opener, from, seen)?;
-    let mut other = open_other(alloc, opener, table)?;
-    judge_table_of(alloc, from, table, scope, &mut files, &mut other)
-}
-
-// The same. The files are open.
-fn judge_table_of<S: Source, F: Source>(
+fn judge_table<S: Source, F: Source>(
     alloc: Global,
     from: &Judging<'_>,
     table: &str,

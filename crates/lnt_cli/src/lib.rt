@@ -2,8 +2,7 @@
 //! they name, and writes the answer to one writer and advice to the other. It doesn't call the system: a program hands it an
 //! [`Opener`] and the writers.
 //!
-//! Start with [`run`] for the answer alone, with [`run_with_notes`] for both, or with [`answer`] for a request that was read
-//! already.
+//! Start with [`run`], or with [`answer`] for a request that was read already.
 #![tactic(auto)]
 
 mod check;
@@ -16,7 +15,7 @@ mod stop;
 
 // Running the command.
 pub use lnt_words::{Asked, WordsStop};
-pub use program::{answer, run, run_with_notes};
+pub use program::{answer, run};
 pub use stop::{CliStop, FileStop};
 
 // Files by their names, and how a run ends.

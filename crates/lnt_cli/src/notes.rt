@@ -160,9 +160,7 @@ fn tell_answer<O: Opener, N: Write>(
             }
             return;
         }
-        Request::Judge { from, .. }
-        | Request::Addresses { from, .. }
-        | Request::Check { from, .. } => given_of(from),
+        Request::Judge { from, .. } | Request::JudgeWith { from, .. } => given_of(from),
     };
     let _ = match answered.occasion {
         Occasion::Good(hints) => tell_good(alloc, &hints, &given, opener, notes),

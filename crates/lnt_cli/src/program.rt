@@ -3,12 +3,10 @@ ghost use Rattle.std.specs.Prelude.{map, string_bytes, IfErr, IfOk, OnErr};
 ghost use Rattle.lnt_io.specs.Files.{RefusesOnly};
 ghost use Rattle.lnt_cli.specs.Answered.{IsAnswered};
 ghost use Rattle.lnt_cli.specs.Runs.{AnswersWords, IsStopOf, TellUnreadable};
-ghost use Rattle.lnt_cli.specs.Stopped.{IsStopped};
-ghost use Rattle.lnt_cli.specs.Stops.{IsFileIn, IsToldUnreadable, NamesOneOf};
+ghost use Rattle.lnt_cli.specs.Stops.{IsStopped, IsFileIn, IsToldUnreadable, NamesOneOf};
 
-use crate::check::answer_table;
 use crate::notes::{Answered, tell, tell_word};
-use crate::question::{FileQuestion, answer_file, answer_question};
+use crate::question::{answer_file, answer_question};
 use crate::reading::{read_section, upgrade_section};
 use crate::stop::{CliStop, FileStop};
 use lnt_io::{Opener, Status, write_whole};
@@ -16,7 +14,7 @@ use lnt_notes::Seen;
 use lnt_words::{Asked, Request, request_of};
 use std::alloc::Global;
 use std::cell::Cell;
-use std::io::{self, Write};
+use std::io::Write;
 
 /// Runs the command that the words give, and writes its answer to `out`. The first word is the program's own name.
 ///
@@ -30,7 +28,7 @@ use std::io::{self, Write};
 ///
 /// Advice for a person is written to `notes`, a line for each note, to be shown after the answer; nothing if the words ask for
 /// no notes. A run doesn't stop if `notes` fails.
-pub fn run_with_notes<O: Opener, W: Write, N: Write>(
+pub fn run<O: Opener, W: Write, N: Write>(
     alloc: Global,
     words: Vec<String>,
     opener: &mut O,
@@ -54,28 +52,11 @@ pub fn run_with_notes<O: Opener, W: Write, N: Write>(
     answer(alloc, &asked, opener, out, notes).map_err(CliStop::File)
 }
 
-/// Runs the command as [`run_with_notes`] does, and drops its notes.
-pub fn run<O: Opener, W: Write>(
-    alloc: Global,
-    words: Vec<String>,
-    opener: &mut O,
-    out: &mut W,
-) -> Result<Status, CliStop>
-    ensures answer { IfOk result (AnswersWords (O.tells opener.old) (map string_bytes words.items)
-        (W.contents out.old) (W.contents out.new)) }
-    ensures stop { IfErr result (IsStopOf (O.tells opener.old) (map string_bytes words.items)
-        (W.contents out.old) (W.contents out.new)) }
-    ensures refused { RefusesOnly (TellUnreadable (O.tells opener.old) (map string_bytes words.items) result)
-        (O.refused opener.old) (O.refused opener.new) }
-{
-    run_with_notes(alloc, words, opener, out, &mut io::sink())
-}
-
 /// Answers a request: writes the answer to `out`, and its notes to `notes`.
 ///
 /// For a check of a table, one line is written, and nothing else: `yes`, if all that `check_within` of `lnt_table` states for a
 /// yes is true of the bytes that the opener gives for the files; or the first thing that is wrong, which is true of these
-/// bytes (`AnswersCheck`). If only the positions count at which the table answers, a second line after the `yes` says how much of
+/// bytes (`IsChecked`). If only the positions count at which the table answers, a second line after the `yes` says how much of
 /// the section it answers. It returns `Done` exactly if the first line is `yes`, and otherwise `No`. For all places at which a
 /// table answers otherwise, a line is written for each of them, or `yes` if there is none (`AnswersFile`).
 ///
@@ -139,15 +120,10 @@ fn answer_request<'r, O: Opener, W: Write>(
         Request::Judge { from, question } => {
             answer_question(alloc, from, question, opener, seen, out)
         }
-        Request::Addresses { from, file, op } => {
-            let question = FileQuestion::Lines(*op);
-            answer_file(alloc, from, file, question, opener, seen, out)
-        }
-        Request::Check {
+        Request::JudgeWith {
             from,
-            table,
-            all,
-            partial,
-        } => answer_table(alloc, from, table, *all, *partial, opener, seen, out),
+            file,
+            question,
+        } => answer_file(alloc, from, file, *question, opener, seen, out),
     }
 }

@@ -4,12 +4,12 @@ ghost use Rattle.std.specs.Io.KnownBytes.{Keeps};
 ghost use Rattle.lnt_io.specs.Files.{RefusesOnly};
 ghost use Rattle.lnt_words.specs.declared.request.Question.TheVariants.{Md5};
 ghost use Rattle.lnt_answers.specs.Lines.{HasBegunLine, IsIndexGiven, IsReasonTold};
-ghost use Rattle.lnt_cli.specs.Answered.{AnswersFile, AnswersQuestion, options_in};
+ghost use Rattle.lnt_cli.specs.Answered.{AnswersFile, AnswersQuestion, IsJudgedSo, IsTrueOf, options_in};
 ghost use Rattle.lnt_cli.specs.Questions.{AnswersGood, AnswersGoodFile, AnswersJudged, BeginsGood, BeginsGoodFile, BeginsJudged};
-ghost use Rattle.lnt_cli.specs.Stepping.{IsJudgedSo, IsTrueOf};
-ghost use Rattle.lnt_cli.specs.Stopped.{BeginsFile, BeginsQuestion};
-ghost use Rattle.lnt_cli.specs.Stops.{AnswersUnreadable, IsFileOf, IsFileOfBoth, IsUnreadable, NamesOneOf, StopsIfRefused};
+ghost use Rattle.lnt_cli.specs.Stops.{BeginsFile, BeginsQuestion, AnswersUnreadable, IsFileOf, IsFileOfBoth, IsUnreadable, NamesOneOf};
+ghost use Rattle.lnt_cli.specs.Stops.{StopsIfRefused};
 
+use crate::check::check_table;
 use crate::inputs::{Opened, Texts, of_file, open_judged, open_other};
 use crate::notes::{Answered, Occasion};
 use crate::stop::FileStop;
@@ -22,19 +22,10 @@ use lnt_lines::{Index, JudgedIndex, Options};
 use lnt_notes::{Hints, Seen, hints_of};
 use lnt_records::PathVersion;
 use lnt_table::Scope;
-use lnt_words::{Judging, Question};
+use lnt_words::{FileQuestion, Judging, Question};
 use std::alloc::Global;
 use std::cell::Cell;
 use std::io::Write;
-
-// What is asked about a section and another file.
-#[derive(Clone, Copy)]
-pub(crate) enum FileQuestion {
-    // The answers to the file's lines. This is the op index of a line that has none.
-    Lines(u64),
-    // All places in this scope at which the table in the file answers otherwise than the section.
-    Places(Scope),
-}
 
 // Answers a question about a good section, or prints the line that says why the section isn't good. `seen` keeps what notes need
 // of the section's bytes.
@@ -69,13 +60,12 @@ fn answer_opened<'t, S: Source, O: Opener, W: Write>(
 ) -> Result<Answered<'t>, FileStop>
     requires { S.failures files.old.section < 2 ^ 64 - 1 }
     ensures named { IfErr result (NamesOneOf (IsFileOf from.now)) }
-    ensures answer { IfOk result (λ answered. IsJudgedSo files.old.texts from.now (S.remaining files.old.section)
-        (AnswersJudged (AnswersGood (O.tells opener.old) question.now)
-        (W.contents out.old) (W.contents out.new) answered.status)) }
+    ensures answer { IfOk result (λ answered. IsJudgedSo from.now
+        (AnswersJudged (AnswersGood (O.tells opener.old) question.now) (W.contents out.old) (W.contents out.new) answered.status)
+        files.old.texts.line.items files.old.texts.general.items (S.remaining files.old.section)) }
     ensures stopped { OnErr result (Keeps (W.contents out.old) (W.contents out.new)
-        ⊎ IsJudgedSo files.old.texts from.now (S.remaining files.old.section)
-        (BeginsJudged (BeginsGood (O.tells opener.old) question.now)
-        (W.contents out.old) (W.contents out.new))) }
+        ⊎ IsJudgedSo from.now (BeginsJudged (BeginsGood (O.tells opener.old) question.now) (W.contents out.old) (W.contents out.new))
+        files.old.texts.line.items files.old.texts.general.items (S.remaining files.old.section)) }
     ensures refused { RefusesOnly (λ _. question.now ≡ Md5) (O.refused opener.old) (O.refused opener.new) }
 {
     let name = String::from_str(alloc, from.section)?;
@@ -93,8 +83,8 @@ fn answer_opened<'t, S: Source, O: Opener, W: Write>(
     }
 }
 
-// Answers a question about a good section and the file with this name, which is opened before the section is judged; or prints the
-// line that says why the section isn't good. `seen` keeps what notes need of the section's bytes.
+// Answers a question about a section and the file with this name. Both are opened before the section is read. `seen` keeps what notes
+// need of the section's bytes.
 pub(crate) fn answer_file<'f, O: Opener, W: Write>(
     alloc: Global,
     from: &Judging<'_>,
@@ -113,10 +103,25 @@ pub(crate) fn answer_file<'f, O: Opener, W: Write>(
 {
     let mut files = open_judged(alloc, opener, from, seen)?;
     let mut other = open_other(alloc, opener, file)?;
-    answer_both(alloc, from, file, question, &mut files, &mut other, out)
+    match question {
+        FileQuestion::Check {
+            all: false,
+            partial,
+        } => {
+            let scope = Scope::of(partial);
+            check_table(alloc, from, file, scope, &mut files, &mut other, out)
+        }
+        FileQuestion::Check { all: true, .. } => {
+            answer_both(alloc, from, file, question, &mut files, &mut other, out)
+        }
+        FileQuestion::Lines(_) => {
+            answer_both(alloc, from, file, question, &mut files, &mut other, out)
+        }
+    }
 }
 
-// The same. The files are open.
+// Answers a question about a good section and the file with this name, or prints the line that says why the section isn't good. The
+// files are open.
 fn answer_both<'f, S: Source, F: Source, W: Write>(
     alloc: Global,
     from: &Judging<'_>,
@@ -129,13 +134,12 @@ fn answer_both<'f, S: Source, F: Source, W: Write>(
     requires section { S.failures files.old.section < 2 ^ 64 - 1 }
     requires file { F.failures other.old < 2 ^ 64 - 1 }
     ensures named { IfErr result (NamesOneOf (IsFileOfBoth from.now file.now)) }
-    ensures answer { IfOk result (λ answered. IsJudgedSo files.old.texts from.now (S.remaining files.old.section)
-        (AnswersJudged (AnswersGoodFile question (F.remaining other.old))
-        (W.contents out.old) (W.contents out.new) answered.status)) }
+    ensures answer { IfOk result (λ answered. IsJudgedSo from.now
+        (AnswersJudged (AnswersGoodFile question (F.remaining other.old)) (W.contents out.old) (W.contents out.new) answered.status)
+        files.old.texts.line.items files.old.texts.general.items (S.remaining files.old.section)) }
     ensures stopped { OnErr result (Keeps (W.contents out.old) (W.contents out.new)
-        ⊎ IsJudgedSo files.old.texts from.now (S.remaining files.old.section)
-        (BeginsJudged (BeginsGoodFile question (F.remaining other.old))
-        (W.contents out.old) (W.contents out.new))) }
+        ⊎ IsJudgedSo from.now (BeginsJudged (BeginsGoodFile question (F.remaining other.old)) (W.contents out.old) (W.contents out.new))
+        files.old.texts.line.items files.old.texts.general.items (S.remaining files.old.section)) }
 {
     match judge(alloc, &mut files.section, &files.texts, from, out)? {
         JudgedIndex::Good(index) => { answer_good_file(alloc, &index, file, question, other, out) }
@@ -167,8 +171,8 @@ fn answer_good_file<'f, F: Source, W: Write>(
             let occasion = Occasion::Good(hints_of(index));
             Ok(Answered { status, occasion })
         }
-        FileQuestion::Places(scope) => {
-            let printed = print_stretches(alloc, bytes, index, scope, out);
+        FileQuestion::Check { partial, .. } => {
+            let printed = print_stretches(alloc, bytes, index, Scope::of(partial), out);
             let told = of_file(name, printed)?;
             Ok(Answered::of_stretches(&told, file))
         }
@@ -196,11 +200,12 @@ fn judge<'t, R: Source, W: Write>(
 ) -> Result<JudgedIndex<'t>, FileStop>
     requires { R.failures section.old < 2 ^ 64 - 1 }
     ensures named { IfErr result (NamesOneOf (λ name. from.now.section.now ≡ name)) }
-    ensures judged { IfOk result (IsTrueOf texts.now from.now (R.remaining section.old)) }
+    ensures judged { IfOk result (IsTrueOf from.now texts.now.line.items texts.now.general.items (R.remaining section.old)) }
     ensures told { IfOk result (λ judged. IsReasonTold judged (W.contents out.old) (W.contents out.new)) }
     ensures silent { IfOk result (λ judged. IsIndexGiven judged → out.new ≡ out.old) }
     ensures stopped { OnErr result (Keeps (W.contents out.old) (W.contents out.new)
-        ⊎ HasBegunLine (IsTrueOf texts.now from.now (R.remaining section.old)) (W.contents out.old) (W.contents out.new)) }
+        ⊎ HasBegunLine (IsTrueOf from.now texts.now.line.items texts.now.general.items (R.remaining section.old))
+        (W.contents out.old) (W.contents out.new)) }
 {
     let name = String::from_str(alloc, from.section)?;
     let judged = judge_section(alloc, section, &texts.strings(), &options_of(from), out);

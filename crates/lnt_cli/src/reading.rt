@@ -3,9 +3,8 @@ ghost use Rattle.std.specs.Prelude.{◌≡◌, ◌-◌, ◌^◌, ◌<◌, ◌⊎
 ghost use Rattle.std.specs.Io.KnownBytes.{Keeps};
 ghost use Rattle.lnt_io.specs.Files.{RefusesOnly};
 ghost use Rattle.lnt_cli.specs.Answered.{AnswersRead, AnswersUpgrade};
-ghost use Rattle.lnt_cli.specs.Readings.{AnswersReading, BeginsReading};
-ghost use Rattle.lnt_cli.specs.Stopped.{StopsRead, StopsUpgrade};
-ghost use Rattle.lnt_cli.specs.Stops.{IsFileOfUpgrade, NamesOneOf, StopsIfRefused};
+ghost use Rattle.lnt_cli.specs.Questions.{AnswersReading, BeginsReading};
+ghost use Rattle.lnt_cli.specs.Stops.{StopsRead, StopsUpgrade, IsFileOfUpgrade, NamesOneOf, StopsIfRefused};
 
 use crate::inputs::{of_file, open_section, read_named, read_whole};
 use crate::notes::Answered;

@@ -3,7 +3,7 @@ use Rattle.std.proofs.Common.{◌≡◌, ◌∙◌, ℕ, List, Option, sym, subs
 use Rattle.lnt_spans.specs.declared.answer.Version.{Version}
 use Rattle.lnt_spans.specs.declared.position.Position.{Position}
 use Rattle.lnt_spans.specs.declared.span.Span.{Span}
-use Rattle.lnt_spans.proofs.CanonicalLaws.{one_list}
+use Rattle.lnt_spans.proofs.CanonicalLaws.{one_number_list}
 use Rattle.lnt_spans.specs.Spans.{IsCanonical, span_answer, version_answer}
 use Rattle.lnt_compare.specs.Canonical.{BeginsCanonicalTable}
 use Rattle.lnt_records.specs.Written.{BeginsTable, IsPlainTable}
@@ -18,6 +18,6 @@ canonical_begins version list spans old new all begun = record {
   same = all.1;
   begun = begun;
   of_whole = λ bytes table.
-      let one : table.spans ≡ spans = one_list table.spans spans table.canonical all.0 (λ p. table.same p ∙ sym (all.1 p)) in
+      let one : table.spans ≡ spans = one_number_list table.spans spans table.canonical all.0 (λ p. table.same p ∙ sym (all.1 p)) in
       begun.of_whole bytes (subst (IsPlainTable version bytes) one table.written.plain);
 }

@@ -6,12 +6,11 @@ use Rattle.lnt_spans.specs.declared.position.Position.{Position}
 use Rattle.lnt_spans.specs.declared.span.Span.{Span}
 use Rattle.lnt_spans.specs.Positions.{IsAtMost}
 use Rattle.lnt_spans.proofs.PositionLaws.{at_most_itself, at_most_trans, below_is_at_most}
-use Rattle.lnt_spans.specs.Instructions.{IsOfInstructions}
-use Rattle.lnt_compare.specs.Borders.{IsLeastOperation, path_borders}
+use Rattle.lnt_spans.specs.Spans.{IsOfInstructions}
+use Rattle.lnt_compare.specs.PathStretches.{IsLeastOperation, path_borders}
 use Rattle.lnt_compare.specs.Joining.{IsFirstOperation, tell_span}
-use Rattle.lnt_records.specs.PathAnswers.{PathAnswer}
-use Rattle.lnt_records.specs.PathSpans.{PathSpan, StandInOrder}
-use Rattle.lnt_compare.proofs.PathSpanLemmas.{first_holds, rest_in_order}
+use Rattle.lnt_records.specs.PathSpans.{PathAnswer, PathSpan, StandInOrder, path_spans}
+use Rattle.lnt_spans.proofs.AnsweringLaws.{first_holds, rest_in_order}
 
 -- ---- found in turn
 
@@ -49,8 +48,8 @@ all_after : (p : Position) (list : List PathSpan) → StandInOrder list → Firs
     → AllByRecursion (IsAfter p) (path_borders list)
 all_after p [] o h = tt
 all_after p (s ∷ rest) o h =
-    let end = at_most_trans h (below_is_at_most (first_holds s rest o)) in
-    (λ op. h, (λ op. end, all_after p rest (rest_in_order s rest o) (next_after p s rest o end)))
+    let end = at_most_trans h (below_is_at_most (first_holds path_spans s rest o)) in
+    (λ op. h, (λ op. end, all_after p rest (rest_in_order path_spans s rest o) (next_after p s rest o end)))
 
 further : (xs : List Position) (x y p : Position) → Contains xs p → Contains (x ∷ y ∷ xs) p
 further xs x y p (k, lt, same) = (suc (suc k), omega (arith, lt), same)
@@ -66,7 +65,7 @@ first_least tell (s ∷ rest) p o (inl f) = record {
 }
 first_least tell (s ∷ rest) p o (inr (inl f)) =
     let list : List PathSpan = map (tell_span tell) rest in
-    let back = all_after s.high list (rest_in_order (tell_span tell s) list o)
+    let back = all_after s.high list (rest_in_order path_spans (tell_span tell s) list o)
     (next_after s.high (tell_span tell s) list o (at_most_itself s.high)) in
     record {
       border = (1, omega arith, sym f.2);
@@ -81,7 +80,7 @@ first_least tell (s ∷ rest) p o (inr (inl f)) =
     }
 first_least tell (s ∷ rest) p o (inr (inr f)) =
     let list : List PathSpan = map (tell_span tell) rest in
-    let more = first_least tell rest p (rest_in_order (tell_span tell s) list o) f.1 in
+    let more = first_least tell rest p (rest_in_order path_spans (tell_span tell s) list o) f.1 in
     record {
       border = further (path_borders list) s.low s.high p more.border;
       op = more.op;

@@ -1,10 +1,11 @@
 -- Laws of what comparisons of tables of any kind come to.
+use Rattle.lnt_spans.specs.SpanKinds.{answer_held}
 use Rattle.std.proofs.Common.{◌≡◌, ◌∙◌, ℕ, List, Option, None, Some, ap, inl, inr, refl, subst, sym, MatchOption}
 use Rattle.lnt_spans.specs.declared.position.Position.{Position}
 use Rattle.lnt_spans.specs.AnyStretches.{Stretch, stretch_at}
 use Rattle.lnt_spans.specs.Differences.{IsFirstDifference}
 use Rattle.lnt_spans.specs.Merged.{AreFound, first_of}
-use Rattle.lnt_spans.specs.PartialLaws.{AnswerAlike}
+use Rattle.lnt_spans.specs.Laws.{AnswerAlike}
 use Rattle.lnt_spans.specs.Positions.{IsBelow}
 use Rattle.lnt_spans.proofs.FoundLaws.{found_so}
 use Rattle.lnt_spans.proofs.PositionLaws.{order_three}
@@ -39,21 +40,22 @@ one_difference {X} by_section by_table one other d e =
 pub where_so : {V X Y D : Type 0} (kind : TableKind V X Y D) (f g : V → Position → Option Y) (bytes : List ℕ)
     (P Q : (Position → Option Y) → (Position → Option Y) → Type 0)
     → ((version : V) (by_table : Position → Option Y) → P (f version) by_table → Q (g version) by_table)
-    → IsTableWhere kind.format kind.answers f bytes P → IsTableWhere kind.format kind.answers g bytes Q
+    → IsTableWhere kind.format (answer_held kind.spans) f bytes P → IsTableWhere kind.format (answer_held kind.spans) g bytes Q
 where_so kind f g bytes P Q step h =
-    record { version = h.version; table = h.table; is_table = h.is_table; so = step h.version (kind.answers h.table) h.so }
+    record { version = h.version; table = h.table; is_table = h.is_table; so = step h.version (answer_held kind.spans h.table) h.so }
 
 -- what follows from both of two such facts, as bytes are one table
 where_both : {V X Y D : Type 0} (kind : TableKind V X Y D) → FormatLaws kind.format → (bytes : List ℕ) (section : V → Position → Option Y)
     (P Q : (Position → Option Y) → (Position → Option Y) → Type 0) (R : Type 0)
     → ((by_section by_table : Position → Option Y) → P by_section by_table → Q by_section by_table → R)
-    → IsTableWhere kind.format kind.answers section bytes P → IsTableWhere kind.format kind.answers section bytes Q → R
+    → IsTableWhere kind.format (answer_held kind.spans) section bytes P
+    → IsTableWhere kind.format (answer_held kind.spans) section bytes Q → R
 where_both {V} {X} kind laws bytes section P Q R step h k =
     let tables = one_table kind.format laws bytes h.version k.version h.table k.table h.is_table k.is_table in
-    let in_version : P (section k.version) (kind.answers h.table) =
-    subst (λ (v : V). P (section v) (kind.answers h.table)) tables.0 h.so in
-    step (section k.version) (kind.answers k.table)
-    (subst (λ (xs : List X). P (section k.version) (kind.answers xs)) tables.1 in_version) k.so
+    let in_version : P (section k.version) (answer_held kind.spans h.table) =
+    subst (λ (v : V). P (section v) (answer_held kind.spans h.table)) tables.0 h.so in
+    step (section k.version) (answer_held kind.spans k.table)
+    (subst (λ (xs : List X). P (section k.version) (answer_held kind.spans xs)) tables.1 in_version) k.so
 
 -- ---- sections with the same answers
 
@@ -72,8 +74,8 @@ pub compared_whole : {V X Y D : Type 0} (kind : TableKind V X Y D) (bytes : List
 compared_whole kind bytes section (outcome.Fault told) h = h
 compared_whole {V} {X} {Y} {D} kind bytes section (outcome.Table found) h = by_first (first_of found) h.so.first
   where
-    by_first : (first : Option D) → MatchOption first (AnswerAlike (section h.version) (kind.answers h.table))
-        (λ difference. IsFirstDifference (section h.version) (kind.answers h.table) (kind.stretch difference))
+    by_first : (first : Option D) → MatchOption first (AnswerAlike (section h.version) (answer_held kind.spans h.table))
+        (λ difference. IsFirstDifference (section h.version) (answer_held kind.spans h.table) (kind.stretch difference))
         → IsComparisonOf kind section bytes (compared_of first)
     by_first None agree = record { version = h.version; table = h.table; is_table = h.is_table; so = agree }
     by_first (Some difference) least = record { version = h.version; table = h.table; is_table = h.is_table; so = least }

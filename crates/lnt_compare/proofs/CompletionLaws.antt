@@ -10,15 +10,13 @@ use Rattle.lnt_spans.proofs.SameLaws.{same_options}
 use Rattle.lnt_spans.proofs.StretchLaws.{given_on}
 use Rattle.lnt_compare.specs.declared.by_path.stretches.DifferencesByPath.{DifferencesByPath}
 use Rattle.lnt_records.specs.declared.by_path.record.SaidPath.{SaidPath}
-use Rattle.lnt_compare.specs.Held.{held_span}
-use Rattle.lnt_records.specs.PathAnswers.{path_answer, PathAnswer}
-use Rattle.lnt_records.specs.PathSpans.{path_span_answer, PathSpan, StandInOrder}
+use Rattle.lnt_compare.specs.Held.{held_span, IsTableAt, PathsEndAfter}
+use Rattle.lnt_records.specs.PathSpans.{path_answer, PathAnswer, path_span_answer, PathSpan, StandInOrder, path_spans}
 use Rattle.lnt_spans.specs.AnyStretches.{AreAllStretches, Stretch}
-use Rattle.lnt_records.specs.PathRecords.{said_answer}
-use Rattle.lnt_compare.specs.Stretching.{HasToldByPath}
-use Rattle.lnt_compare.specs.TableRuns.{IsTableAt, PathsEndAfter}
+use Rattle.lnt_records.specs.PathTables.{said_answer}
+use Rattle.lnt_compare.specs.Differing.{HasToldByPath}
 use Rattle.lnt_compare.proofs.JoiningLemmas.{made, make}
-use Rattle.lnt_compare.proofs.PathSpanLemmas as table
+use Rattle.lnt_spans.proofs.AnsweringLaws as table
 use Rattle.lnt_compare.proofs.TableRunLemmas.{path_after}
 
 -- ---- deciding whether two answers are the same
@@ -51,11 +49,12 @@ table_runs : (rest : List PathSpan) (at : Position) (answers : Position → Opti
     → ((p : Position) → IsAtMost at p → path_span_answer rest p ≡ answers p) → HasRuns answers at
 table_runs [] at answers o past same = ([], λ p h. sym (same p h))
 table_runs (span ∷ more) at answers o past same =
-    first_runs answers at span.low span.high span.answer (table.first_holds span more o) past
-    (λ p h k. sym (same p h) ∙ table.none_before span more p o k)
-    (λ p h le lt. sym (same p h) ∙ table.answer_in span more p le lt)
-    (table_runs more span.high answers (table.rest_in_order span more o) (path_after span more span.high o (at_most_itself span.high))
-    (λ p h. sym (table.answer_after span more p h) ∙ same p (at_most_trans (below_is_at_most past) h)))
+    first_runs answers at span.low span.high span.answer (table.first_holds path_spans span more o) past
+    (λ p h k. sym (same p h) ∙ table.none_before path_spans span more p o k)
+    (λ p h le lt. sym (same p h) ∙ table.answer_in path_spans span more p le lt)
+    (table_runs more span.high answers (table.rest_in_order path_spans span more o)
+    (path_after span more span.high o (at_most_itself span.high))
+    (λ p h. sym (table.answer_after path_spans span more p h) ∙ same p (at_most_trans (below_is_at_most past) h)))
 
 -- ---- answers by path
 

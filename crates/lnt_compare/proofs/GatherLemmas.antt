@@ -1,5 +1,6 @@
 -- The spans of a table's records are gathered.
-use Rattle.std.proofs.Common.{◌≡◌, ◌∙◌, ℕ, ◌+◌, List, [], ◌∷◌, ◌++◌, append-nil, append_assoc, ap, Option, length, length-append, refl}
+use Rattle.lnt_spans.proofs.AnsweringLaws.{end_pushed}
+use Rattle.std.proofs.Common.{◌≡◌, ◌∙◌, ℕ, List, [], ◌∷◌, ◌++◌, append-nil, append_assoc, ap, Option, length, refl}
 use Rattle.std.proofs.Common.{subst, sym, arith, Global, Vec, IfOk, Result, option_map}
 use Rattle.std.specs.List.{AllByRecursion}
 use Rattle.std.proofs.lemmas.Result.{IfOk-weaker}
@@ -9,8 +10,7 @@ use Rattle.lnt_spans.specs.declared.answer.Version.{Version}
 use Rattle.lnt_spans.specs.declared.span.Span.{Span}
 use Rattle.lnt_spans.specs.declared.position.Position.{Position}
 use Rattle.lnt_spans.specs.Answers.{in_version}
-use Rattle.lnt_spans.specs.Comparing.{IsTold, end_of}
-use Rattle.lnt_spans.specs.Spans.{AreInOrder, span_answer, span_in_version}
+use Rattle.lnt_spans.specs.Spans.{IsTold, end_of, AreInOrder, span_answer, span_in_version, number_spans}
 use Rattle.lnt_spans.specs.declared.listed.SpanList.{SpanList}
 use Rattle.lnt_spans.proofs.ToldLaws.{told, told_order}
 use Rattle.lnt_compare.specs.declared.gather.Gathering.{Gathering}
@@ -22,11 +22,11 @@ use Rattle.lnt_compare.specs.Differing.{Differing, IsDiffering, IsStarted}
 use Rattle.lnt_compare.specs.Joining.{LeaveOff}
 use Rattle.lnt_compare.specs.Passing.{AreLinesOf}
 use Rattle.lnt_compare.specs.Progress.{Comes, Gathers, IsContinuedBy, IsGathered}
-use Rattle.lnt_records.specs.Passing.{IsCutAfter}
+use Rattle.lnt_records.specs.Progress.{IsCutAfter}
 use Rattle.lnt_records.specs.Table.{Fields, IsSpanRecord, IsTable, IsTableOf, by_number, column_names}
 use Rattle.lnt_records.specs.Written.{plain_by_number}
 use Rattle.lnt_compare.proofs.ComparisonLemmas.{table_more}
-use Rattle.lnt_compare.proofs.KindLaws.{end_added, end_told, number_laws}
+use Rattle.lnt_compare.proofs.KindLaws.{end_told, number_laws}
 use Rattle.lnt_compare.proofs.PassingLemmas.{all_told, first_answer, first_order}
 use Rattle.lnt_records.proofs.TableLaws.{table_order}
 
@@ -34,16 +34,16 @@ use Rattle.lnt_records.proofs.TableLaws.{table_order}
 
 -- no span was gathered yet
 pub gathers_none : (version : Version) (gathering : Gathering) (table : List Span) (records : List Fields) → IsTable version records table
-    → gathering.spans.items ≡ [] → gathering.at ≡ end_of table → gathering.count ≡ length records → Gathers version gathering table records
-gathers_none version gathering table records is_table none at count =
+    → gathering.spans.items ≡ [] → gathering.at ≡ end_of table → Gathers version gathering table records
+gathers_none version gathering table records is_table none at =
     let same : table ++ gathering.spans.items ≡ table = ap (λ (t : List Span). table ++ t) none ∙ append-nil table in
-    record { is_table = subst (IsTable version records) (sym same) is_table; at = at ∙ ap end_of (sym same); count = count }
+    record { is_table = subst (IsTable version records) (sym same) is_table; at = at ∙ ap end_of (sym same) }
 
 pub gathers_more : (version : Version) (old new : Gathering) (before : List Span) (records : List Fields) (fields : Fields) (span : Span)
     → Gathers version old before records → IsSpanRecord version fields span → Comes old.at span.low span.high
-    → new.spans.items ≡ old.spans.items ++ span ∷ [] → new.at ≡ span.high → new.count ≡ old.count + 1
+    → new.spans.items ≡ old.spans.items ++ span ∷ [] → new.at ≡ span.high
     → Gathers version new before (records ++ fields ∷ [])
-gathers_more version old new before records fields span g says comes items at count =
+gathers_more version old new before records fields span g says comes items at =
     let table : List Span = before ++ old.spans.items in
     let same : table ++ span ∷ [] ≡ before ++ new.spans.items =
     append_assoc before old.spans.items (span ∷ []) ∙ ap (λ (t : List Span). before ++ t) (sym items) in
@@ -51,8 +51,7 @@ gathers_more version old new before records fields span g says comes items at co
       is_table = subst (IsTable version (records ++ fields ∷ [])) same
           (table_more tables_by_number end_of number_laws version records table fields span g.is_table says
           (subst (λ (p : Position). Comes p span.low span.high) g.at comes));
-      at = at ∙ sym (end_added table span) ∙ ap end_of same;
-      count = omega (arith, g.count, count, length-append records (fields ∷ []));
+      at = at ∙ sym (end_pushed number_spans table span) ∙ ap end_of same;
     }
 
 -- What `gather_after` gives, if the records before end at `at` and are this many with the header.

@@ -1,11 +1,11 @@
 -- The spans of a table by path are held one after another.
-use Rattle.std.proofs.Common.{◌≡◌, ◌∙◌, ℕ, ◌+◌, ◌-◌, List, [], ◌∷◌, ◌++◌, Some, ap, length, map, refl, suc, subst, sym, arith}
-use Rattle.std.proofs.lemmas.List.{length-map, map-append}
+use Rattle.std.proofs.Common.{◌≡◌, ◌∙◌, ℕ, ◌-◌, List, [], ◌∷◌, ◌++◌, Some, ap, length, map, refl, subst, sym, arith}
+use Rattle.std.proofs.lemmas.List.{map-append}
 use Rattle.std.proofs.lemmas.Option.{slice_get_within}
-use Rattle.std.specs.List.{AllZip, slice_get}
+use Rattle.std.specs.List.{slice_get}
 use Rattle.lnt_text.specs.Digits.{IsAddress, IsDecimal}
 use Rattle.lnt_records.specs.Table.{Fields}
-use Rattle.lnt_compare.specs.PathOutcomes.{tables_by_path}
+use Rattle.lnt_compare.specs.Outcomes.{tables_by_path}
 use Rattle.lnt_compare.specs.Progress.{Comes}
 use Rattle.lnt_compare.proofs.ComparisonLemmas.{table_more}
 use Rattle.lnt_compare.proofs.KindLaws.{path_laws}
@@ -16,11 +16,9 @@ use Rattle.lnt_compare.specs.declared.by_path.held.HeldSpan.{HeldSpan}
 use Rattle.lnt_records.specs.declared.by_path.record.PathRecord.{PathRecord}
 use Rattle.lnt_records.specs.declared.by_path.version.PathVersion.{PathVersion}
 use Rattle.lnt_compare.specs.Held.{held_span}
-use Rattle.lnt_records.specs.PathSpans.{PathSpan, StandInOrder, path_end, whole}
-use Rattle.lnt_records.specs.PathAnswers.{PathAnswer}
+use Rattle.lnt_records.specs.PathSpans.{PathSpan, StandInOrder, path_end, whole, PathAnswer}
 use Rattle.lnt_compare.specs.PathStretches.{told_path_answer}
-use Rattle.lnt_records.specs.PathTables.{IsPathRecord, IsPathTable, SaysPath, by_path, path_column_names}
-use Rattle.lnt_records.specs.PathRecords.{record_answer, record_span}
+use Rattle.lnt_records.specs.PathTables.{IsPathTable, SaysPath, by_path, path_column_names, record_answer, record_span}
 
 -- ---- where spans end
 
@@ -35,23 +33,6 @@ end_last [] last e = absurd (let inside = slice_get_within [] 0 last e in omega 
 end_last (first ∷ spans) last e =
     let place : length (first ∷ spans) - 1 ≡ length spans = omega arith in
     last_at first spans last (subst (λ (k : ℕ). slice_get (first ∷ spans) k ≡ Some last) place e)
-
--- ---- how many there are
-
-zip_length : {A B : Type 0} (R : A → B → Type 0) (xs : List A) (ys : List B) → AllZip R xs ys → length xs ≡ length ys
-zip_length R [] [] z = refl
-zip_length R [] (y ∷ ys) z = absurd z
-zip_length R (x ∷ xs) [] z = absurd z
-zip_length R (x ∷ xs) (y ∷ ys) z = ap suc (zip_length R xs ys z.1)
-
--- the header, and as many records as spans
-pub table_length : (version : PathVersion) (records : List Fields) (spans : List HeldSpan)
-    → IsPathTable version records (map held_span spans) → length records ≡ length spans + 1
-table_length version [] spans t = absurd t
-table_length version (first ∷ records) spans t =
-    let same = zip_length (IsPathRecord version) records (map held_span spans) t.1.each in
-    let held = length-map spans held_span in
-    omega (arith, same, held)
 
 -- ---- one more record
 

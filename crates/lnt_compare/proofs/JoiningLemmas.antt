@@ -1,4 +1,5 @@
 -- What joined spans are: in order, none extends the one before it, and they are told as all the spans are.
+use Rattle.lnt_spans.specs.SpanKinds.{is_held, DifferWhereTheyTouch}
 use Rattle.std.proofs.Common.{◌≡◌, ◌≢◌, ◌∙◌, ◌⊎◌, ◌==◌, ℕ, Bool, true, false, cond, List, [], ◌∷◌, ◌++◌, map, inl, inr, Option, Some, None}
 use Rattle.std.proofs.Common.{ap, subst, eq-eqb, refl, sym, append_assoc, append-nil, option_map}
 use Rattle.std.specs.List.{AllByRecursion, find}
@@ -7,16 +8,15 @@ use Rattle.lnt_spans.specs.declared.answer.Answer.{Answer}
 use Rattle.lnt_spans.specs.declared.position.Position.{Position}
 use Rattle.lnt_spans.specs.declared.span.Span.{Span}
 use Rattle.lnt_spans.specs.Positions.{IsBelow, IsAtMost}
-use Rattle.lnt_spans.specs.Spans.{AreInOrder, is_in_span}
+use Rattle.lnt_spans.specs.Spans.{AreInOrder, number_spans}
 use Rattle.lnt_spans.proofs.AnsweringLaws.{answer_before, answer_after, answer_in, back_in_order, first_holds}
 use Rattle.lnt_spans.proofs.PositionLaws.{below_at_most, below_is_at_most, order_cases}
 use Rattle.lnt_spans.proofs.SameLaws.{same_options, same_positions}
 use Rattle.lnt_compare.specs.Joining.{Any, AreApart, AreJoined, AreJoinedAs, BeginAlike, GivesJoined, IsApart, IsExtendedBy, LeaveOff}
 use Rattle.lnt_compare.specs.Joining.{grown, tell_span}
-use Rattle.lnt_records.specs.PathAnswers.{PathAnswer}
-use Rattle.lnt_spans.specs.Merged.{answer_told}
-use Rattle.lnt_records.specs.PathSpans.{AreCanonicalOf, PathSpan, PathsDifferWhereTheyTouch, StandInOrder, is_in_path_span}
+use Rattle.lnt_records.specs.PathSpans.{PathAnswer, AreCanonicalOf, PathSpan, StandInOrder, path_spans}
 use Rattle.lnt_records.specs.PathSpans.{path_span_answer}
+use Rattle.lnt_spans.specs.Merged.{answer_told}
 
 -- ---- a span that grows
 
@@ -36,25 +36,25 @@ first_grown : {X : Type 0} (tell : Answer → X) (last next : Span) (rest : List
     → answer_told tell (grown last next.high ∷ rest) p ≡ answer_told tell (last ∷ next ∷ rest) p
 first_grown {X} tell last next rest p goes o =
     let told : Option Answer → Option X = option_map tell in
-    let k : IsBelow next.low next.high = first_holds next rest o.2 in
+    let k : IsBelow next.low next.high = first_holds number_spans next rest o.2 in
     let whole : Span = grown last next.high in
     elim (order_cases p last.low) [
       | inl before ↦
           let early : IsBelow p next.low = subst (λ (q : Position). IsBelow p q) goes.0 (below_at_most before (below_is_at_most o.0)) in
-          ap told (answer_before whole rest p before)
-          ∙ sym (ap told (answer_before last (next ∷ rest) p before ∙ answer_before next rest p early))
+          ap told (answer_before number_spans whole rest p before)
+          ∙ sym (ap told (answer_before number_spans last (next ∷ rest) p before ∙ answer_before number_spans next rest p early))
       | inr from ↦ elim (order_cases p last.high) [
         | inl under ↦
             let early : IsBelow p next.low = subst (λ (q : Position). IsBelow p q) goes.0 under in
-            ap told (answer_in whole rest p from (below_at_most early (below_is_at_most k)))
-            ∙ sym (ap told (answer_in last (next ∷ rest) p from under))
+            ap told (answer_in number_spans whole rest p from (below_at_most early (below_is_at_most k)))
+            ∙ sym (ap told (answer_in number_spans last (next ∷ rest) p from under))
         | inr over ↦
             let late : IsAtMost next.low p = subst (λ (q : Position). IsAtMost q p) goes.0 over in
             elim (order_cases p next.high) [
-              | inl under ↦ ap told (answer_in whole rest p from under) ∙ ap Some goes.1
-                  ∙ sym (ap told (answer_after last (next ∷ rest) p over ∙ answer_in next rest p late under))
-              | inr past ↦ ap told (answer_after whole rest p past)
-                  ∙ sym (ap told (answer_after last (next ∷ rest) p over ∙ answer_after next rest p past))
+              | inl under ↦ ap told (answer_in number_spans whole rest p from under) ∙ ap Some goes.1
+                  ∙ sym (ap told (answer_after number_spans last (next ∷ rest) p over ∙ answer_in number_spans next rest p late under))
+              | inr past ↦ ap told (answer_after number_spans whole rest p past)
+                  ∙ sym (ap told (answer_after number_spans last (next ∷ rest) p over ∙ answer_after number_spans next rest p past))
             ]
       ]
     ]
@@ -65,10 +65,10 @@ same_after : {X : Type 0} (tell : Answer → X) (last : Span) (xs ys : List Span
 same_after {X} tell last xs ys p e =
     let told : Option Answer → Option X = option_map tell in
     elim (order_cases p last.low) [
-      | inl h ↦ ap told (answer_before last xs p h) ∙ e ∙ sym (ap told (answer_before last ys p h))
+      | inl h ↦ ap told (answer_before number_spans last xs p h) ∙ e ∙ sym (ap told (answer_before number_spans last ys p h))
       | inr h ↦ elim (order_cases p last.high) [
-        | inl k ↦ ap told (answer_in last xs p h k) ∙ sym (ap told (answer_in last ys p h k))
-        | inr k ↦ ap told (answer_after last xs p k) ∙ e ∙ sym (ap told (answer_after last ys p k))
+        | inl k ↦ ap told (answer_in number_spans last xs p h k) ∙ sym (ap told (answer_in number_spans last ys p h k))
+        | inr k ↦ ap told (answer_after number_spans last xs p k) ∙ e ∙ sym (ap told (answer_after number_spans last ys p k))
       ]
     ]
 
@@ -78,7 +78,7 @@ grown_answer : {X : Type 0} (tell : Answer → X) (prefix : List Span) (last nex
 grown_answer tell [] last next rest goes o p = first_grown tell last next rest p goes o
 grown_answer tell (f ∷ prefix) last next rest goes o p =
     same_after tell f (prefix ++ grown last next.high ∷ rest) (prefix ++ last ∷ next ∷ rest) p
-    (grown_answer tell prefix last next rest goes (back_in_order (f ∷ []) (prefix ++ last ∷ next ∷ rest) o) p)
+    (grown_answer tell prefix last next rest goes (back_in_order number_spans (f ∷ []) (prefix ++ last ∷ next ∷ rest) o) p)
 
 -- ---- one list joined as another
 
@@ -373,15 +373,16 @@ by_paths_order tell (span ∷ next ∷ list) h = (h.0, h.1, by_paths_order tell 
 pub by_paths_answer : (tell : Answer → PathAnswer) (list : List Span) (p : Position)
     → path_span_answer (by_paths tell list) p ≡ answer_told tell list p
 by_paths_answer tell [] p = refl
-by_paths_answer tell (span ∷ list) p = by (is_in_span p span) (by_paths_answer tell list p)
+by_paths_answer tell (span ∷ list) p = by (is_held number_spans p span) (by_paths_answer tell list p)
   where
     by : (test : Bool) → path_span_answer (by_paths tell list) p ≡ answer_told tell list p
-        → option_map (λ (s : PathSpan). s.answer) (cond test (Some (tell_span tell span)) (find (is_in_path_span p) (by_paths tell list)))
-        ≡ option_map tell (option_map (λ (s : Span). s.answer) (cond test (Some span) (find (is_in_span p) list)))
+        → option_map path_spans.answer (cond test (Some (tell_span tell span)) (find (is_held path_spans p) (by_paths tell list)))
+        ≡ option_map tell (option_map number_spans.answer (cond test (Some span) (find (is_held number_spans p) list)))
     by true e = refl
     by false e = e
 
-by_paths_differ : (tell : Answer → PathAnswer) (list : List Span) → AreApart tell list [] → PathsDifferWhereTheyTouch (by_paths tell list)
+by_paths_differ : (tell : Answer → PathAnswer) (list : List Span) → AreApart tell list []
+    → DifferWhereTheyTouch path_spans (by_paths tell list)
 by_paths_differ tell [] h = tt
 by_paths_differ tell (span ∷ []) h = tt
 by_paths_differ tell (span ∷ next ∷ list) h = (λ touch same. h.0 (touch, same), by_paths_differ tell (next ∷ list) h.1)

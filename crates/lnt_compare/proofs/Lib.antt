@@ -10,8 +10,6 @@ pub mod JoiningLemmas
 pub mod KindLaws
 pub mod LineLemmas
 pub mod PassingLemmas
-pub mod PathPassingLemmas
-pub mod PathSpanLemmas
 pub mod PathStretchLemmas
 pub mod PathWriteLemmas
 pub mod PathWrittenLaws

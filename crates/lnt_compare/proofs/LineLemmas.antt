@@ -1,22 +1,29 @@
 -- The line of a span is passed, by number and by path.
-use Rattle.std.proofs.Common.{◌≡◌, ◌∙◌, ℕ, Bool, true, false, List, [], ◌++◌, ap, append-nil, subst, MatchBool}
+use Rattle.std.proofs.Common.{◌≡◌, ◌∙◌, ℕ, Bool, true, false, List, [], ◌∷◌, ◌++◌, ap, append-nil, subst, MatchBool}
 use Rattle.lnt_spans.specs.declared.answer.Answer.{Answer}
 use Rattle.lnt_spans.specs.declared.answer.Version.{Version}
 use Rattle.lnt_spans.specs.declared.span.Span.{Span}
 use Rattle.lnt_spans.specs.Answers.{in_version}
-use Rattle.lnt_spans.specs.Instructions.{IsOfInstructions}
-use Rattle.lnt_spans.specs.Spans.{span_in_version}
+use Rattle.lnt_spans.specs.Spans.{IsOfInstructions, span_in_version}
 use Rattle.lnt_records.specs.declared.by_path.version.PathVersion.{PathVersion}
 use Rattle.lnt_records.specs.Lines.{IsTextLine}
-use Rattle.lnt_records.specs.PathAnswers.{PathAnswer}
-use Rattle.lnt_records.specs.PathLines.{IsSpanLine, plain_by_path}
-use Rattle.lnt_records.specs.PathTables.{by_path}
-use Rattle.lnt_records.specs.Table.{by_number}
+use Rattle.lnt_records.specs.declared.by_path.record.PathRecord.{PathRecord}
+use Rattle.lnt_records.specs.PathSpans.{PathAnswer, PathSpan, path_end, whole}
+use Rattle.lnt_records.specs.PathLines.{IsPathLine, IsSpanLine, plain_by_path}
+use Rattle.lnt_records.specs.PathTables.{by_path, record_answer, record_span}
+use Rattle.lnt_records.specs.Table.{Fields, by_number}
 use Rattle.lnt_records.specs.Written.{IsOfVersion, line_text, plain_by_number}
 use Rattle.lnt_records.proofs.LineLaws.{line_some, row_some}
+use Rattle.lnt_records.proofs.PathLaws.{says_span}
 use Rattle.lnt_records.proofs.PathLineLaws.{plain_paths}
+use Rattle.lnt_compare.specs.declared.by_path.answer.DifferenceByPath.{DifferenceByPath}
 use Rattle.lnt_compare.specs.Joining.{tell_span}
+use Rattle.lnt_compare.specs.Outcomes.{tables_by_path}
 use Rattle.lnt_compare.specs.Passing.{IsLineIn}
+use Rattle.lnt_compare.specs.PathStretches.{stretch_of}
+use Rattle.lnt_compare.specs.Progress.{HasPushed, Judges, Comparison}
+use Rattle.lnt_compare.proofs.ComparisonLemmas.{record_taken}
+use Rattle.lnt_compare.proofs.KindLaws.{path_laws}
 
 -- ---- by number
 
@@ -60,3 +67,18 @@ path_line true tell version span old new h = (
   h.1,
 )
 path_line false tell version span old new h = h
+
+-- a line that was parsed, and its record compared
+pub path_taken : {S M : Type 0} (to_come : S → List Span → Type 0) (tell : Answer → PathAnswer) (version : PathVersion)
+    (old new : Comparison S DifferenceByPath M) (said : PathRecord) (bytes rest : List ℕ) → IsPathLine version said bytes rest
+    → HasPushed to_come tell stretch_of old new (whole said.low) (whole said.high) (record_answer said)
+    → (span : PathSpan) × (line : IsLineIn by_path plain_by_path version span bytes rest)
+    × ((section : List Span) (passed : List Fields) → Judges to_come tables_by_path path_end tell version old section passed
+    → Judges to_come tables_by_path path_end tell version new section (passed ++ line.fields ∷ []))
+path_taken to_come tell version old new said bytes rest line push =
+    let says = says_span version line.fields said line.says in (
+      record_span said,
+      record { fields = line.fields; joined = line.joined; some = row_some line.fields; says = says },
+      λ section passed j. record_taken to_come tables_by_path path_end path_laws tell version old new section passed line.fields
+          (record_span said) j says push,
+    )

@@ -1,6 +1,8 @@
 -- The lines of a table by number are passed and compared.
-use Rattle.std.proofs.Common.{◌≡◌, ◌∙◌, ℕ, ◌+◌, ◌^◌, ◌<◌, ◌≤◌, Bool, true, false, cond, List, [], ◌∷◌, ◌++◌, Option, Some, None, map, subst}
-use Rattle.std.proofs.Common.{append-nil, length, length-append, not, refl, ap, sym, arith, is_some, option_map}
+use Rattle.lnt_spans.proofs.AnsweringLaws.{end_pushed}
+use Rattle.lnt_spans.specs.SpanKinds.{is_held}
+use Rattle.std.proofs.Common.{◌≡◌, ℕ, ◌+◌, Bool, true, false, cond, List, [], ◌∷◌, ◌++◌, Option, Some, None, map, subst}
+use Rattle.std.proofs.Common.{append-nil, not, refl, ap, sym, is_some, option_map}
 use Rattle.std.proofs.lemmas.List.{map-append}
 use Rattle.std.proofs.lemmas.Option.{same_Some}
 use Rattle.std.specs.List.{AllByRecursion, AllZip, cons_option, find}
@@ -8,28 +10,18 @@ use Rattle.lnt_spans.specs.declared.answer.Answer.{Answer}
 use Rattle.lnt_spans.specs.declared.answer.More.{More}
 use Rattle.lnt_spans.specs.declared.answer.Version.{Version}
 use Rattle.lnt_spans.specs.declared.answer.Version.TheVariants.{One, Two}
-use Rattle.lnt_spans.specs.declared.difference.Difference.{Difference}
 use Rattle.lnt_spans.specs.declared.position.Position.{Position}
 use Rattle.lnt_spans.specs.declared.span.Span.{Span}
 use Rattle.lnt_spans.specs.Answers.{in_version}
-use Rattle.lnt_spans.specs.Comparing.{IsTold, end_of}
-use Rattle.lnt_spans.specs.Remaining.{SpansAreLeft}
+use Rattle.lnt_spans.specs.Spans.{IsTold, AreInOrder, span_in_version, version_answer, number_spans}
+use Rattle.lnt_spans.specs.Remaining.{SpansAreLeft, GivesFirstSpan}
 use Rattle.lnt_spans.proofs.ToldLaws.{told}
-use Rattle.lnt_spans.specs.Coming.{GivesFirstSpan}
-use Rattle.lnt_spans.specs.Spans.{AreInOrder, is_in_span, span_in_version, version_answer}
-use Rattle.lnt_records.specs.Lines.{IsTextLine}
-use Rattle.lnt_records.specs.Passing.{AreLinesIn}
-use Rattle.lnt_spans.specs.Stretches.{stretch_of}
-use Rattle.lnt_compare.specs.Comparisons.{tables_by_number}
-use Rattle.lnt_compare.specs.Passing.{AreLinesOf, IsLineIn, Passes}
-use Rattle.lnt_compare.specs.Progress.{HasPushed, HasTaken, Comparison}
-use Rattle.lnt_compare.proofs.ComparisonLemmas.{taken_more, taken_none}
-use Rattle.lnt_compare.proofs.KindLaws.{end_added, number_laws}
-use Rattle.lnt_compare.specs.Remaining.{AreLeft}
+use Rattle.lnt_records.specs.Progress.{AreLinesIn}
+use Rattle.lnt_compare.specs.Passing.{AreLinesOf, IsLineIn, Passes, AreLeft}
 use Rattle.lnt_records.specs.Table.{Fields, IsSpanRecord, TableFormat}
-use Rattle.lnt_records.specs.Written.{LineFormat, line_text, lines_text}
-use Rattle.lnt_records.proofs.LineLaws.{line_some, lines_append, lines_more, no_lines_in}
-use Rattle.lnt_compare.proofs.WindowLaws.{few_passed, passes_both, passes_line, passes_none}
+use Rattle.lnt_records.specs.Written.{LineFormat}
+use Rattle.lnt_records.proofs.LineLaws.{lines_more, no_lines_in}
+use Rattle.lnt_compare.proofs.WindowLaws.{passes_both}
 
 -- ---- lines
 
@@ -42,7 +34,7 @@ filled a b c la lb lc w0 w1 w2 text p q =
 pub no_lines_of : {V X : Type 0} (format : TableFormat V X) (plain : LineFormat V X) (told : Span → X) (version : V)
     → AreLinesOf format plain told version [] [] 1 (record { address = 0; op = 0 })
 no_lines_of format plain told version =
-    record { lines = no_lines_in format plain version; few = omega arith; end_is = refl }
+    record { lines = no_lines_in format plain version; end_is = refl }
 
 pub line_added : {V X : Type 0} (format : TableFormat V X) (plain : LineFormat V X) (told : Span → X) (version : V) (text : List ℕ)
     (table : List Span) (count : ℕ) (end : Position) (span : Span) (bytes rest : List ℕ)
@@ -53,8 +45,7 @@ line_added {V} {X} format plain told version text table count end span bytes res
     record {
       lines = subst (λ (spans : List X). AreLinesIn format plain version more spans (count + 1)) (sym (map-append told table (span ∷ [])))
           (lines_more format plain version text (map told table) count line.fields (told span) a.lines line.says);
-      few = omega (arith, a.few, line.some, length-append text (plain.line line.fields));
-      end_is = sym (end_added table span);
+      end_is = sym (end_pushed number_spans table span);
     }
 
 -- ---- answers that a version tells
@@ -88,13 +79,13 @@ first_order version (span ∷ next ∷ table) rest h = (h.0, h.1, first_order ve
 pub first_answer : (version : Version) (table rest : List Span) (p : Position)
     → version_answer version (told version table ++ rest) p ≡ version_answer version (table ++ rest) p
 first_answer version [] rest p = refl
-first_answer version (span ∷ table) rest p = by (is_in_span p span) (first_answer version table rest p)
+first_answer version (span ∷ table) rest p = by (is_held number_spans p span) (first_answer version table rest p)
   where
     by : (test : Bool) → version_answer version (told version table ++ rest) p ≡ version_answer version (table ++ rest) p
         → option_map (in_version version) (option_map (λ (s : Span). s.answer)
-        (cond test (Some (span_in_version version span)) (find (is_in_span p) (told version table ++ rest))))
+        (cond test (Some (span_in_version version span)) (find (is_held number_spans p) (told version table ++ rest))))
         ≡ option_map (in_version version) (option_map (λ (s : Span). s.answer)
-        (cond test (Some span) (find (is_in_span p) (table ++ rest))))
+        (cond test (Some span) (find (is_held number_spans p) (table ++ rest))))
     by true e = ap Some (told_twice version span.answer)
     by false e = e
 
@@ -132,72 +123,3 @@ left_after to_come first (Some next) spans true e rest left = absurd (cc e)
 left_after to_come first (Some next) spans false e [] left = absurd (cc left)
 left_after to_come first (Some next) spans false e (span ∷ rest) left =
     (rest, left.1, ap (λ (s : Span). cons_option first (s ∷ rest)) (sym (same_Some next span left.0)))
-
--- ---- lines that are read and pushed
-
--- Lines were passed, and their records were compared.
-pub record Reads {S M : Type 0} (to_come : S → List Span → Type 0) (version : Version) (old new : Comparison S Difference M)
-    (a b : Option (List ℕ)) (la lb : ℕ) (w0 w1 : List ℕ) : Type 0 where
-  pub text : List ℕ
-  pub bytes : Passes a b la lb w0 w1 text
-  pub records : List Fields
-  pub text_is : text ≡ lines_text records
-  pub few : length records ≤ length text
-  pub taken : HasTaken to_come tables_by_number end_of (in_version version) version old new records
-
-pub reads_none : {S M : Type 0} (to_come : S → List Span → Type 0) (version : Version) (comparison : Comparison S Difference M)
-    (a : Option (List ℕ)) (la : ℕ) (w : List ℕ) → Reads to_come version comparison comparison a a la la w w
-reads_none to_come version comparison a la w = record {
-  text = [];
-  bytes = passes_none a la w;
-  records = [];
-  text_is = refl;
-  few = omega arith;
-  taken = taken_none to_come tables_by_number end_of (in_version version) version comparison;
-}
-
-pub reads_filled : {S M : Type 0} (to_come : S → List Span → Type 0) (version : Version) (old new : Comparison S Difference M)
-    (a b c : Option (List ℕ)) (la lb lc : ℕ) (w0 w1 w2 : List ℕ) → Reads to_come version old new a b la lb w0 w1 → Passes b c lb lc w1 w2 []
-    → Reads to_come version old new a c la lc w0 w2
-reads_filled to_come version old new a b c la lb lc w0 w1 w2 r p = record {
-  text = r.text;
-  bytes = filled a b c la lb lc w0 w1 w2 r.text r.bytes p;
-  records = r.records;
-  text_is = r.text_is;
-  few = r.few;
-  taken = r.taken;
-}
-
-pub reads_line : {S M : Type 0} (to_come : S → List Span → Type 0) (version : Version) (first old new : Comparison S Difference M)
-    (a b : Option (List ℕ)) (la lb : ℕ) (w0 w1 w2 : List ℕ) (span : Span) → Reads to_come version first old a b la lb w0 w1
-    → IsTextLine version span w1 w2
-    → HasPushed to_come (in_version version) stretch_of old new span.low span.high span.answer
-    → Reads to_come version first new a b la lb w0 w2
-reads_line to_come version first old new a b la lb w0 w1 w2 span r line push =
-    let text : List ℕ = line_text line.fields in
-    record {
-      text = r.text ++ text;
-      bytes = passes_line a b la lb w0 w1 w2 r.text text r.bytes line.joined;
-      records = r.records ++ line.fields ∷ [];
-      text_is = ap (λ (t : List ℕ). t ++ text) r.text_is ∙ ap (λ (t : List ℕ). lines_text r.records ++ t) (sym (append-nil text))
-          ∙ sym (lines_append line_text r.records (line.fields ∷ []));
-      few = omega (arith, r.few, line_some line.fields, length-append r.text text, length-append r.records (line.fields ∷ []));
-      taken = taken_more to_come tables_by_number end_of number_laws (in_version version) version first old new r.records line.fields span
-          r.taken line.says push;
-    }
-
--- one more record can be counted
-pub few_read : {S M : Type 0} (to_come : S → List Span → Type 0) (version : Version) (old new : Comparison S Difference M)
-    (a b : Option (List ℕ)) (la lb : ℕ) (w0 w1 w2 : List ℕ) (span : Span) → Reads to_come version old new a b la lb w0 w1
-    → IsTextLine version span w1 w2 → length w0 + la + old.count < 2 ^ 64 → new.count + 1 < 2 ^ 64
-few_read to_come version old new a b la lb w0 w1 w2 span r line few =
-    omega (
-      arith,
-      few,
-      r.few,
-      r.taken.count,
-      few_passed a b la lb w0 w1 r.text r.bytes,
-      ap length line.joined,
-      line_some line.fields,
-      length-append (line_text line.fields) w2,
-    )

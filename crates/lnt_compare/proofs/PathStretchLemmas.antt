@@ -7,22 +7,19 @@ use Rattle.lnt_spans.specs.declared.any_stretches.Stretches.{Stretches}
 use Rattle.lnt_spans.specs.AnyStretches.{AreAllStretches}
 use Rattle.lnt_spans.specs.Spans.{AreInOrder}
 use Rattle.lnt_spans.specs.Stretching.{HasBegun, HasGiven}
-use Rattle.lnt_spans.proofs.PassedLaws.{origin_first}
-use Rattle.lnt_spans.proofs.PositionLaws.{not_both}
+use Rattle.lnt_spans.proofs.PositionLaws.{not_both, origin_first}
 use Rattle.lnt_spans.proofs.StretchLemmas.{begins_at, begun_given}
 use Rattle.lnt_compare.specs.declared.by_path.answer.DifferenceByPath.{DifferenceByPath}
 use Rattle.lnt_compare.specs.declared.by_path.stretches.HeldSpans.{HeldSpans}
 use Rattle.lnt_compare.specs.declared.by_path.telling.PathMemory.{PathMemory}
 use Rattle.lnt_records.specs.declared.by_path.record.SaidPath.{SaidPath}
 use Rattle.lnt_records.specs.declared.by_path.version.PathVersion.{PathVersion}
-use Rattle.lnt_compare.specs.Remembering.{IsRemembered}
-use Rattle.lnt_compare.specs.Held.{held_span}
-use Rattle.lnt_records.specs.PathAnswers.{path_answer, PathAnswer, spans_by_path}
-use Rattle.lnt_records.specs.PathSpans.{path_span_answer, StandInOrder, whole}
+use Rattle.lnt_compare.specs.Passing.{IsRemembered}
+use Rattle.lnt_compare.specs.Held.{held_span, IsTableAt}
+use Rattle.lnt_records.specs.PathSpans.{path_answer, PathAnswer, spans_by_path, path_span_answer, StandInOrder, whole}
 use Rattle.lnt_compare.specs.PathStretches.{ArePathStretches, stretch_of, stretches_of}
-use Rattle.lnt_records.specs.PathRecords.{said_answer}
-use Rattle.lnt_compare.specs.Stretching.{HasToldByPath}
-use Rattle.lnt_compare.specs.TableRuns.{IsTableAt}
+use Rattle.lnt_records.specs.PathTables.{said_answer}
+use Rattle.lnt_compare.specs.Differing.{HasToldByPath}
 use Rattle.lnt_compare.proofs.TableRunLemmas.{path_begins}
 
 -- what a table that is held has left

@@ -9,21 +9,19 @@ use Rattle.lnt_records.proofs.LineLaws.{none_begun, table_begun, text_of}
 use Rattle.lnt_spans.specs.declared.answer.Answer.{Answer}
 use Rattle.lnt_spans.specs.declared.position.Position.{Position}
 use Rattle.lnt_spans.specs.declared.span.Span.{Span}
-use Rattle.lnt_spans.specs.Spans.{AreInOrder, span_answer}
+use Rattle.lnt_spans.specs.Spans.{AreInOrder, span_answer, IsOfInstructions}
 use Rattle.lnt_records.specs.declared.by_path.version.PathVersion.{PathVersion}
-use Rattle.lnt_spans.specs.Instructions.{IsOfInstructions}
-use Rattle.lnt_compare.specs.Borders.{IsPathSpanOfInstructions}
+use Rattle.lnt_compare.specs.PathStretches.{IsPathSpanOfInstructions}
 use Rattle.lnt_compare.specs.Joining.{Any, AreJoined, IsFirstOperation, LeaveOff, tell_span}
-use Rattle.lnt_records.specs.PathAnswers.{PathAnswer}
+use Rattle.lnt_records.specs.PathSpans.{PathAnswer, AreCanonicalOf, PathSpan}
 use Rattle.lnt_records.specs.PathLines.{IsPlainPathTable, plain_by_path}
 use Rattle.lnt_spans.specs.Merged.{answer_told}
-use Rattle.lnt_records.specs.PathSpans.{AreCanonicalOf, PathSpan}
 use Rattle.lnt_compare.specs.Canonical.{BeginsPathTable, HasOperationIndex, IsCanonicalPathTable}
 use Rattle.lnt_compare.proofs.BorderLemmas.{first_before, first_least}
 use Rattle.lnt_compare.proofs.JoiningLemmas.{all_join, all_left, has_joined, joined_canonical, joins_on, left_first, same_answer}
 use Rattle.lnt_compare.proofs.PathWrittenLaws.{plain_canonical}
 use Rattle.lnt_records.proofs.PathLineLaws.{one_record}
-use Rattle.lnt_compare.proofs.UniqueLemmas.{one_list}
+use Rattle.lnt_compare.proofs.UniqueLemmas.{one_path_list}
 
 pub keeps_same : (known : Option (List ℕ)) → Keeps known known
 keeps_same None = tt
@@ -76,7 +74,8 @@ whole_instructions tell other list judged joined alike j joins =
     let one = canonical_of tell other list judged alike j.joined in
     let two = joined_canonical tell list joined joins in
     subst (AllByRecursion IsPathSpanOfInstructions)
-    (one_list (map (tell_span tell) judged) (map (tell_span tell) joined) one.canonical two.canonical (λ p. one.same p ∙ sym (two.same p)))
+    (one_path_list (map (tell_span tell) judged) (map (tell_span tell) joined) one.canonical two.canonical
+    (λ p. one.same p ∙ sym (two.same p)))
     (none_by_path tell judged j.whole)
 
 pub table_written : (tell : Answer → PathAnswer) (version : PathVersion) (old new : Option (List ℕ)) (other list judged joined : List Span)
@@ -108,7 +107,7 @@ begun_so version answers old new spans canonical begun decided = record {
   canonical = canonical;
   begun = begun;
   of_whole = λ bytes whole. begun.of_whole bytes (subst (IsPlainPathTable version bytes)
-      (one_list whole.spans spans whole.canonical.canonical canonical.canonical (λ p. whole.canonical.same p ∙ sym (canonical.same p)))
+      (one_path_list whole.spans spans whole.canonical.canonical canonical.canonical (λ p. whole.canonical.same p ∙ sym (canonical.same p)))
       whole.plain);
   decided = decided;
 }

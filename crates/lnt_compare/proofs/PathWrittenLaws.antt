@@ -6,22 +6,20 @@ use Rattle.lnt_records.specs.Table.{Fields}
 use Rattle.lnt_records.proofs.LineLaws.{one_plain_table, text_of, written_table}
 use Rattle.lnt_spans.specs.declared.position.Position.{Position}
 use Rattle.lnt_records.specs.declared.by_path.version.PathVersion.{PathVersion}
-use Rattle.lnt_records.specs.PathAnswers.{PathAnswer, path_answer, spans_by_path}
-use Rattle.lnt_records.specs.PathSpans.{AreCanonicalOf, PathSpan}
+use Rattle.lnt_records.specs.PathSpans.{PathAnswer, path_answer, spans_by_path, AreCanonicalOf, PathSpan}
 use Rattle.lnt_records.specs.PathTables.{by_path}
 use Rattle.lnt_compare.specs.Canonical.{IsCanonicalPathTable}
 use Rattle.lnt_records.specs.PathLines.{IsPlainPathRecord, IsPlainPathTable, plain_by_path}
 use Rattle.lnt_records.proofs.PathLineLaws.{one_record, plain_paths}
-use Rattle.lnt_compare.proofs.UniqueLemmas.{one_list}
+use Rattle.lnt_compare.proofs.UniqueLemmas.{one_path_list}
 use Rattle.lnt_text.proofs.WrittenLaws.{has_address, has_decimal}
 use Rattle.lnt_spans.specs.declared.answer.Answer.{Answer}
 use Rattle.lnt_spans.specs.declared.span.Span.{Span}
-use Rattle.lnt_spans.specs.Fitting.{FitSpans, FitsSpan}
+use Rattle.lnt_spans.specs.Spans.{FitSpans, FitsSpan, AreInOrder}
 use Rattle.lnt_spans.specs.Positions.{IsAtMost}
-use Rattle.lnt_spans.specs.Spans.{AreInOrder}
 use Rattle.lnt_spans.proofs.PositionLaws.{at_most_itself, at_most_trans, below_is_at_most, order_cases}
 use Rattle.lnt_records.specs.declared.by_path.version.PathVersion.TheVariants.{Four, Three}
-use Rattle.lnt_compare.specs.Borders.{IsLeastOperation, IsPathSpanOfInstructions, path_borders}
+use Rattle.lnt_compare.specs.PathStretches.{IsLeastOperation, IsPathSpanOfInstructions, path_borders}
 use Rattle.lnt_compare.specs.Joining.{tell_span}
 use Rattle.lnt_compare.proofs.JoiningLemmas.{all_join, has_joined, joined_canonical, same_answer}
 
@@ -42,7 +40,7 @@ pub one_path_table : (version : PathVersion) (answers : Position → Option Path
     → IsCanonicalPathTable version answers one → IsCanonicalPathTable version answers other → one ≡ other
 one_path_table version answers one other a b =
     let same : a.spans ≡ b.spans =
-    one_list a.spans b.spans a.canonical.canonical b.canonical.canonical (λ p. a.canonical.same p ∙ sym (b.canonical.same p)) in
+    one_path_list a.spans b.spans a.canonical.canonical b.canonical.canonical (λ p. a.canonical.same p ∙ sym (b.canonical.same p)) in
     one_plain_table plain_by_path version (one_record version) one other b.spans
     (subst (IsPlainPathTable version one) same a.plain) b.plain
 
@@ -94,7 +92,8 @@ whole_or_none version path given spans order fit canonical none =
     let all = all_join tell same_answer FitsSpan (λ last next h k. record { low = h.low; high = k.high; answer = h.answer }) given fit in
     let joined = joined_canonical tell given all.joined (has_joined tell FitsSpan given order all) in
     let same : map (tell_span tell) all.joined ≡ spans =
-    one_list (map (tell_span tell) all.joined) spans joined.canonical canonical.canonical (λ p. joined.same p ∙ sym (canonical.same p)) in
+    one_path_list (map (tell_span tell) all.joined) spans joined.canonical canonical.canonical
+    (λ p. joined.same p ∙ sym (canonical.same p)) in
     let records = has_records version path all.joined all.each (subst (AllByRecursion IsPathSpanOfInstructions) (sym same) none) in
     let each = subst (AllZip (IsPlainPathRecord version) records.0) same records.1 in
     (text_of plain_by_path version records.0, plain_canonical version records.0 canonical each)

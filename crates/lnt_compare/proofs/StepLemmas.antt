@@ -1,11 +1,10 @@
 -- Spans are joined one by one, as they come.
 use Rattle.std.proofs.Common.{◌≡◌, ◌∙◌, List, [], ◌∷◌, Option, Some, None, ap, refl, sym, subst}
 use Rattle.std.proofs.lemmas.Option.{same_Some}
-use Rattle.lnt_spans.specs.Remaining.{SpansAreLeft}
+use Rattle.lnt_spans.specs.Remaining.{SpansAreLeft, GivesFirstSpan}
 use Rattle.lnt_compare.proofs.JoiningLemmas.{joined_both, joined_first, joined_self}
 use Rattle.lnt_spans.specs.declared.answer.Answer.{Answer}
 use Rattle.lnt_spans.specs.declared.span.Span.{Span}
-use Rattle.lnt_spans.specs.Coming.{GivesFirstSpan}
 use Rattle.lnt_compare.specs.Joining.{AreJoinedAs, GivesJoined, IsExtendedBy, grown}
 
 -- the source gave the first span, if there was one, and the others are to come

@@ -1,6 +1,6 @@
 -- A table of which some lines were passed, and the rest was read after its header.
-use Rattle.std.proofs.Common.{◌≡◌, ◌≢◌, ◌∙◌, ℕ, ◌+◌, ◌^◌, ◌<◌, List, [], ◌∷◌, ◌++◌, Option, Some, None, IfSome, append_assoc, length}
-use Rattle.std.proofs.Common.{length-append, ap, subst, sym, arith}
+use Rattle.std.proofs.Common.{◌≡◌, ◌≢◌, ◌∙◌, ℕ, List, [], ◌∷◌, ◌++◌, Option, Some, None, IfSome, append_assoc, length}
+use Rattle.std.proofs.Common.{ap, subst, sym, arith}
 use Rattle.std.specs.List.{AllZip}
 use Rattle.lnt_spans.specs.declared.answer.Version.{Version}
 use Rattle.lnt_spans.specs.declared.difference.Difference.{Difference}
@@ -10,18 +10,20 @@ use Rattle.lnt_compare.specs.Comparisons.{TableKind}
 use Rattle.lnt_compare.specs.Outcomes.{IsOutcome, IsOutcomeOf, Outcome}
 use Rattle.lnt_compare.specs.declared.outcome.TableRead.TheVariants.{Fault}
 use Rattle.lnt_records.specs.declared.fault.TableFault.TheVariants as fault
-use Rattle.lnt_compare.specs.Passing.{Ends, Passes}
-use Rattle.lnt_records.specs.Passing.{AreLinesIn, IsCutAfter}
-use Rattle.lnt_compare.specs.Progress.{HasCompared, HasPassed, Judges, Comparison}
+use Rattle.lnt_compare.specs.Joining.{LeaveOff}
+use Rattle.lnt_compare.specs.Passing.{AreLinesOf, Ends, HasTakenLines, Passes}
+use Rattle.lnt_records.specs.Progress.{IsCutAfter}
+use Rattle.lnt_compare.specs.Progress.{HasCompared, IsPast, Judges, Comparison}
 use Rattle.lnt_records.specs.Faults.{IsFaultIn}
 use Rattle.lnt_records.specs.Reading.{IsNarrow}
 use Rattle.lnt_records.specs.Table.{BeginsWith, Fields, TableFormat, column_names}
 use Rattle.lnt_records.specs.Written.{LineFormat, lines_of}
-use Rattle.lnt_compare.proofs.ComparisonLemmas.{outcome_told}
+use Rattle.lnt_compare.proofs.ComparisonLemmas.{outcome_told, passed_more, passed_past}
+use Rattle.lnt_compare.proofs.KindLaws.{ToldLaws}
 use Rattle.lnt_records.proofs.TableLaws.{FormatLaws}
 use Rattle.lnt_spans.specs.Merged.{answer_told}
-use Rattle.lnt_records.proofs.LineLaws.{LineLaws, all_back, cut_lines, few_records, header_begins}
-use Rattle.lnt_compare.proofs.WindowLaws.{few_passed, passes_line}
+use Rattle.lnt_records.proofs.LineLaws.{LineLaws, all_back, cut_lines, header_begins}
+use Rattle.lnt_compare.proofs.WindowLaws.{passes_both, passes_line}
 use Rattle.lnt_spans.specs.declared.answer.Answer.{Answer}
 use Rattle.lnt_spans.specs.declared.listed.SpanList.{SpanList}
 use Rattle.lnt_compare.specs.declared.remaining.Remaining.{Remaining}
@@ -40,24 +42,6 @@ pub rest_begins : {V X : Type 0} (format : TableFormat V X) (plain : LineFormat 
 rest_begins format plain laws version d ld names window all e ends =
     subst (λ (t : List ℕ). BeginsWith t (plain.names version ∷ [])) (sym (rest_is plain version names window ends.given all e ends.joined))
     (header_begins format plain laws version (window ++ ends.given))
-
-pub few_all : {V X : Type 0} (format : TableFormat V X) (plain : LineFormat V X) → LineLaws format plain → (version : V)
-    (a d : Option (List ℕ)) (la ld : ℕ) (names w0 w1 text all : List ℕ) (spans : List X) (count : ℕ)
-    → names ≡ plain.line (plain.names version) → Passes a d la ld w0 w1 text → Ends d ld (names ++ w1) all
-    → AreLinesIn format plain version text spans count → length (plain.line (plain.names version)) + length w0 + la < 2 ^ 64
-    → count + length all < 2 ^ 64 + 1
-few_all format plain laws version a d la ld names w0 w1 text all spans count e p ends lines fits =
-    omega (
-      arith,
-      fits,
-      few_passed a d la ld w0 w1 text p,
-      few_records format plain laws version text spans count lines,
-      ends.few,
-      ap length e,
-      ap length ends.joined,
-      length-append (names ++ w1) ends.given,
-      length-append names w1,
-    )
 
 -- The rest was cut out of the bytes that have the lines of these records after the header.
 pub rest_cut : {V X : Type 0} (format : TableFormat V X) (plain : LineFormat V X) → LineLaws format plain → (version : V)
@@ -90,28 +74,35 @@ whole_cut format plain laws version (Some x) (Some y) la ld names w0 w1 text all
     subst P (ap (λ (t : List ℕ). plain.line (plain.names version) ++ t) inner)
     (h _ (rest_cut format plain laws version (Some y) ld names w1 all spans records e ends each))
 
--- The outcome for the rest of a table is the outcome for the whole table.
+-- The outcome for the rest of a table is the outcome for the whole table. Lines were compared with spans as these came, and then others
+-- were parsed.
 pub rest_compared : {S D M V X Y : Type 0} (to_come : S → List Span → Type 0) (kind : TableKind V X Y D) (plain : LineFormat V X)
-    (end : List X → Position) → LineLaws kind.format plain → FormatLaws kind.format → (tell : Answer → Y) (version : V)
-    (comparison : Comparison S D M) (section : List Span) (a d : Option (List ℕ)) (la ld : ℕ) (names w0 w1 text all : List ℕ)
-    (answers : V → Position → Option Y) (outcome : Outcome D) → names ≡ plain.line (plain.names version) → Passes a d la ld w0 w1 text
-    → Ends d ld (names ++ w1) all → ((p : Position) → answer_told tell section p ≡ answers version p)
-    → HasPassed to_come kind plain end tell version comparison section text
+    (end : List X → Position) → LineLaws kind.format plain → FormatLaws kind.format → (tell : Answer → Y) (told : Span → X)
+    → ToldLaws kind end tell told → (version : V) (spans : S) (start now : Comparison S D M) (list table : List Span)
+    (a b d : Option (List ℕ)) (la lb ld : ℕ) (names w0 w1 w2 one two all : List ℕ) (count next : ℕ) (at : Position)
+    (answers : V → Position → Option Y) (outcome : Outcome D) → names ≡ plain.line (plain.names version) → Passes a b la lb w0 w1 one
+    → AreLinesOf kind.format plain told version one table count at → LeaveOff tell (to_come spans) list table
+    → IsPast to_come spans start at → Passes b d lb ld w1 w2 two
+    → HasTakenLines kind.format plain version (Judges to_come kind end tell version) start now two count next
+    → Ends d ld (names ++ w2) all → ((p : Position) → answer_told tell list p ≡ answers version p)
     → ((first : Fields) (list : List Span) (passed : List Fields) (bytes : List ℕ) → IsNarrow first → BeginsWith all (first ∷ [])
-    → IsCutAfter first all bytes passed → Judges to_come kind end tell version comparison list passed
+    → IsCutAfter first all bytes passed → Judges to_come kind end tell version now list passed → next ≡ length passed
     → HasCompared to_come tell kind.stretch (Judges {M = M} to_come kind end tell version) (IsFaultIn kind.format) list passed bytes outcome)
     → IfSome a (λ more. IsOutcomeOf kind answers (plain.line (plain.names version) ++ (w0 ++ more)) outcome)
-rest_compared {M = M} to_come kind plain end laws format tell version comparison section a d la ld names w0 w1 text all answers outcome e p
-    ends same h compare =
+rest_compared {M = M} to_come kind plain end laws format tell told told_laws version spans start now list table a b d la lb ld names w0 w1 w2
+    one two all count next at answers outcome e p lines off past q taken ends same compare =
+    let first = passed_past to_come kind plain end tell told told_laws version spans start list table one count at past lines off in
+    let h = passed_more to_come kind plain end tell version start now list one two count next first taken in
     let passed : List Fields = plain.names version ∷ h.records in
     let narrow = subst IsNarrow (sym (laws.names version)) (format.narrow version) in
-    let header = rest_begins kind.format plain laws version d ld names w1 all e ends in
-    let judged = subst (λ (names : Fields). Judges to_come kind end tell version comparison h.list (names ∷ h.records))
+    let header = rest_begins kind.format plain laws version d ld names w2 all e ends in
+    let judged = subst (λ (names : Fields). Judges to_come kind end tell version now h.list (names ∷ h.records))
     (sym (laws.names version)) h.judged in
-    whole_cut kind.format plain laws version a d la ld names w0 w1 text all h.judged.table h.records
-    (λ (bytes : List ℕ). IsOutcomeOf kind answers bytes outcome) e p ends h.text_is h.judged.is_table.1.each
+    whole_cut kind.format plain laws version a d la ld names w0 w2 (one ++ two) all h.judged.table h.records
+    (λ (bytes : List ℕ). IsOutcomeOf kind answers bytes outcome) e (passes_both a b d la lb ld w0 w1 w2 one two p q) ends h.text_is
+    h.judged.is_table.1.each
     (λ bytes cut. outcome_told M to_come kind end tell version h.list passed bytes answers outcome (λ p. h.alike p ∙ same p)
-    (compare (plain.names version) h.list passed bytes narrow header cut judged))
+    (compare (plain.names version) h.list passed bytes narrow header cut judged (omega (arith, h.count))))
 
 -- what holds of all bytes, of which the first were taken
 pub first_taken : (a b : Option (List ℕ)) (la lb : ℕ) (window text : List ℕ) (P : List ℕ → Type 0) → Passes a b la lb [] window text

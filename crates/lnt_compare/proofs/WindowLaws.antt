@@ -43,7 +43,6 @@ passes_all a b la lb w0 w1 p none = record {
   given = p.given;
   joined = sym p.joined;
   whole = pulls_all a b p.given p.pulls none;
-  few = omega (arith, p.count);
 }
 
 -- a source that now has more bytes than it may give had more from the start
@@ -56,9 +55,3 @@ pub text_passed : (block text window : List ℕ) (at : ℕ) → window ≡ drop 
     → window ≡ text ++ drop (at + length text) block
 text_passed block text window at e f =
     f ∙ ap (λ (t : List ℕ). text ++ drop (length text) t) e ∙ ap (λ (t : List ℕ). text ++ t) (drop-drop (length text) at block)
-
--- ---- lines
-
-pub few_passed : (a b : Option (List ℕ)) (la lb : ℕ) (w0 w1 text : List ℕ) → Passes a b la lb w0 w1 text
-    → lb + (length text + length w1) ≡ la + length w0
-few_passed a b la lb w0 w1 text p = omega (arith, p.count, ap length p.joined, length-append w0 p.given, length-append text w1)

@@ -1,4 +1,5 @@
 -- Canonical spans, and those whose numbers are of at most 64 bits can be written as a table.
+use Rattle.lnt_spans.specs.SpanKinds.{DifferWhereTheyTouch}
 use Rattle.std.proofs.Common.{◌≡◌, ◌∙◌, List, [], ◌∷◌, refl, sym, subst, ℕ, arith}
 use Rattle.std.proofs.lemmas.Grind.{common_steps}
 use Rattle.std.specs.List.{AllByRecursion}
@@ -7,9 +8,9 @@ use Rattle.lnt_spans.specs.declared.answer.Version.TheVariants.{One, Two}
 use Rattle.lnt_spans.specs.declared.position.Position.{Position}
 use Rattle.lnt_spans.specs.declared.span.Span.{Span}
 use Rattle.lnt_spans.specs.Answers.{in_version}
-use Rattle.lnt_spans.specs.Fitting.{FitSpans, FitsSpan}
-use Rattle.lnt_spans.specs.Spans.{AreInOrder, DifferWhereTheyTouch, IsCanonical, span_answer, span_in_version, version_answer}
-use Rattle.lnt_spans.proofs.CanonicalLaws.{one_list}
+use Rattle.lnt_spans.specs.Spans.{FitSpans, FitsSpan, AreInOrder, IsCanonical, span_answer, span_in_version, number_spans}
+use Rattle.lnt_spans.specs.Spans.{version_answer}
+use Rattle.lnt_spans.proofs.CanonicalLaws.{one_number_list}
 use Rattle.lnt_spans.proofs.SameLaws.{same_answers}
 use Rattle.lnt_spans.proofs.ToldLaws.{told, told_answer, told_order}
 use Rattle.lnt_compare.specs.Canonical.{IsCanonicalTable, TellsAll}
@@ -22,7 +23,7 @@ use Rattle.lnt_records.proofs.WrittenLaws.{whole_table}
 -- ---- canonical spans
 
 told_differ : (version : Version) (joined : List Span) → AreApart (in_version version) joined []
-    → DifferWhereTheyTouch (told version joined)
+    → DifferWhereTheyTouch number_spans (told version joined)
 told_differ version [] h = tt
 told_differ version (span ∷ []) h = tt
 told_differ version (span ∷ next ∷ joined) h = (λ touch same. h.0 (touch, same), told_differ version (next ∷ joined) h.1)
@@ -74,7 +75,7 @@ pub canonical_is_of_version : (version : Version) (given spans : List Span) → 
     → AllByRecursion (λ (span : Span). IsOfVersion version span.answer) spans
 canonical_is_of_version version given spans order tells canonical same =
     let has = canonical_each (HasVersion version) version given (λ last next h k. h) order (tells_version version given tells) in
-    subst (AllByRecursion (HasVersion version)) (one_list has.0 spans has.1.0 canonical (λ p. has.1.1 p ∙ sym (same p))) has.2
+    subst (AllByRecursion (HasVersion version)) (one_number_list has.0 spans has.1.0 canonical (λ p. has.1.1 p ∙ sym (same p))) has.2
 
 fits_kept : (version : Version) → IsKept (AsTold FitsSpan version)
 fits_kept version last next h k = record { low = h.low; high = k.high; answer = h.answer }

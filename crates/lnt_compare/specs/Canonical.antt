@@ -12,9 +12,8 @@ use Rattle.lnt_records.specs.Written.{BeginsTable, BeginsTableIn, IsOfVersion, I
 use Rattle.lnt_compare.specs.declared.by_path.write.PathTable.{PathTable}
 use Rattle.lnt_compare.specs.declared.by_path.write.PathTable.TheVariants.{OperationIndex, Written}
 use Rattle.lnt_records.specs.declared.by_path.version.PathVersion.{PathVersion}
-use Rattle.lnt_compare.specs.Borders.{IsLeastOperation, IsPathSpanOfInstructions}
-use Rattle.lnt_records.specs.PathAnswers.{PathAnswer}
-use Rattle.lnt_records.specs.PathSpans.{AreCanonicalOf, PathSpan}
+use Rattle.lnt_compare.specs.PathStretches.{IsLeastOperation, IsPathSpanOfInstructions}
+use Rattle.lnt_records.specs.PathSpans.{PathAnswer, AreCanonicalOf, PathSpan}
 use Rattle.lnt_records.specs.PathTables.{IsPathTableOf}
 use Rattle.lnt_records.specs.PathLines.{IsPlainPathTable, plain_by_path}
 

@@ -1,4 +1,5 @@
 -- What the comparison of a table with a section gives, by number or by path.
+use Rattle.lnt_spans.specs.SpanKinds.{SpanKind, answer_held}
 use Rattle.std.specs.Prelude.{◌≡◌, ℕ, List, Option, option_map}
 use Rattle.lnt_spans.specs.declared.answer.Answer.{Answer}
 use Rattle.lnt_spans.specs.declared.answer.Version.{Version}
@@ -7,23 +8,22 @@ use Rattle.lnt_spans.specs.declared.position.Position.{Position}
 use Rattle.lnt_spans.specs.declared.span.Span.{Span}
 use Rattle.lnt_spans.specs.Answers.{in_version}
 use Rattle.lnt_spans.specs.AnyStretches.{Stretch}
-use Rattle.lnt_spans.specs.Differences.{IsFirstDifference}
-use Rattle.lnt_spans.specs.Spans.{span_answer}
-use Rattle.lnt_spans.specs.Stretches.{stretch_of}
+use Rattle.lnt_spans.specs.Differences.{IsFirstDifference, stretch_of}
+use Rattle.lnt_spans.specs.Spans.{span_answer, number_spans}
 use Rattle.lnt_compare.specs.declared.outcome.Compared.{Compared}
 use Rattle.lnt_compare.specs.declared.outcome.Compared.TheVariants.{Same, Fault, Differs}
 use Rattle.lnt_records.specs.Faults.{IsFaultIn}
 use Rattle.lnt_records.specs.Table.{IsTableOfIn, TableFormat, by_number}
 
--- Tables with versions `V`, spans `X`, answers `Y` and differences `D`: their format, what spans answer, and the stretch that begins
+-- Tables with versions `V`, spans `X`, answers `Y` and differences `D`: their format, the parts of a span, and the stretch that begins
 -- with a difference.
 pub record TableKind (V X Y D : Type 0) : Type 1 where
   pub format : TableFormat V X
-  pub answers : List X → Position → Option Y
+  pub spans : SpanKind X Y
   pub stretch : D → Stretch Y
 
 abbrev pub tables_by_number : TableKind Version Span Answer Difference
-tables_by_number = record { format = by_number; answers = span_answer; stretch = stretch_of }
+tables_by_number = record { format = by_number; spans = number_spans; stretch = stretch_of }
 
 -- answers in the fields of each version
 abbrev pub in_versions : (Position → Option Answer) → Version → Position → Option Answer
@@ -43,10 +43,11 @@ pub record IsTableWhere {V X Y : Type 0} (format : TableFormat V X) (answers : L
 -- is its least difference from the section.
 abbrev pub IsComparisonOf : {V X Y D : Type 0} → TableKind V X Y D → (V → Position → Option Y) → List ℕ → Compared D → Type 0
 IsComparisonOf kind section bytes Same =
-    IsTableWhere kind.format kind.answers section bytes (λ by_section by_table. (p : Position) → by_section p ≡ by_table p)
+    IsTableWhere kind.format (answer_held kind.spans) section bytes (λ by_section by_table. (p : Position) → by_section p ≡ by_table p)
 IsComparisonOf kind section bytes (Fault told) = IsFaultIn kind.format bytes told
 IsComparisonOf kind section bytes (Differs difference) =
-    IsTableWhere kind.format kind.answers section bytes (λ by_section by_table. IsFirstDifference by_section by_table (kind.stretch difference))
+    IsTableWhere kind.format (answer_held kind.spans) section bytes
+    (λ by_section by_table. IsFirstDifference by_section by_table (kind.stretch difference))
 
 -- the same of a table by number and the spans of a section
 abbrev pub IsComparison : List ℕ → List Span → Compared Difference → Type 0

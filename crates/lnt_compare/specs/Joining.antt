@@ -4,11 +4,9 @@ use Rattle.std.specs.Prelude.{◌≡◌, ◌≢◌, ◌⊎◌, List, [], ◌∷�
 use Rattle.lnt_spans.specs.declared.answer.Answer.{Answer}
 use Rattle.lnt_spans.specs.declared.position.Position.{Position}
 use Rattle.lnt_spans.specs.declared.span.Span.{Span}
-use Rattle.lnt_spans.specs.Instructions.{IsOfInstructions}
+use Rattle.lnt_spans.specs.Spans.{IsOfInstructions, AreInOrder}
 use Rattle.lnt_spans.specs.Merged.{answer_told}
-use Rattle.lnt_spans.specs.Spans.{AreInOrder}
-use Rattle.lnt_records.specs.PathAnswers.{PathAnswer}
-use Rattle.lnt_records.specs.PathSpans.{PathSpan}
+use Rattle.lnt_records.specs.PathSpans.{PathAnswer, PathSpan}
 
 -- a span by path
 abbrev pub tell_span : (Answer → PathAnswer) → Span → PathSpan

@@ -1,4 +1,3 @@
-pub mod Borders
 pub mod Canonical
 pub mod Comparisons
 pub mod Differing
@@ -7,11 +6,5 @@ pub mod Joining
 pub mod Laws
 pub mod Outcomes
 pub mod Passing
-pub mod PathOutcomes
-pub mod PathPassing
 pub mod PathStretches
 pub mod Progress
-pub mod Remaining
-pub mod Remembering
-pub mod Stretching
-pub mod TableRuns

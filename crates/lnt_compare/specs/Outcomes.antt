@@ -1,4 +1,5 @@
 -- What the comparison of a table with a section comes to, by number or by path.
+use Rattle.lnt_spans.specs.SpanKinds.{answer_held}
 use Rattle.std.specs.Prelude.{ℕ, List, Option, Some, None}
 use Rattle.lnt_spans.specs.declared.difference.Difference.{Difference}
 use Rattle.lnt_spans.specs.declared.found.Found.{Found}
@@ -12,6 +13,11 @@ use Rattle.lnt_compare.specs.declared.outcome.TableRead.{TableRead}
 use Rattle.lnt_compare.specs.declared.outcome.TableRead.TheVariants as outcome
 use Rattle.lnt_compare.specs.Comparisons.{IsTableWhere, TableKind, in_versions, tables_by_number}
 use Rattle.lnt_records.specs.Faults.{IsFaultIn}
+use Rattle.lnt_compare.specs.declared.by_path.answer.DifferenceByPath.{DifferenceByPath}
+use Rattle.lnt_records.specs.declared.by_path.version.PathVersion.{PathVersion}
+use Rattle.lnt_records.specs.PathSpans.{PathAnswer, PathSpan, path_spans}
+use Rattle.lnt_compare.specs.PathStretches.{stretch_of}
+use Rattle.lnt_records.specs.PathTables.{by_path}
 
 -- what a comparison found, or the first fault of a table
 abbrev pub Outcome : Type 0 → Type 0
@@ -21,7 +27,7 @@ Outcome D = TableRead (Found D)
 abbrev pub IsOutcomeOf : {V X Y D : Type 0} → TableKind V X Y D → (V → Position → Option Y) → List ℕ → Outcome D → Type 0
 IsOutcomeOf kind section bytes (outcome.Fault told) = IsFaultIn kind.format bytes told
 IsOutcomeOf kind section bytes (outcome.Table found) =
-    IsTableWhere kind.format kind.answers section bytes (λ by_section by_table. AreFound kind.stretch by_section by_table found)
+    IsTableWhere kind.format (answer_held kind.spans) section bytes (λ by_section by_table. AreFound kind.stretch by_section by_table found)
 
 -- the same of a table by number and the spans of a section
 abbrev pub IsOutcome : List ℕ → List Span → Outcome Difference → Type 0
@@ -43,3 +49,12 @@ whole_of (outcome.Table found) = compared_of (first_of found)
 abbrev pub part_of : {D : Type 0} → Outcome D → Compared D
 part_of (outcome.Fault told) = Fault told
 part_of (outcome.Table found) = compared_of found.mistake
+
+-- ---- what the comparison of a table by path with a section comes to
+
+abbrev pub tables_by_path : TableKind PathVersion PathSpan PathAnswer DifferenceByPath
+tables_by_path = record { format = by_path; spans = path_spans; stretch = stretch_of }
+
+-- The bytes are a table by path, and this is what its comparison with the section found; or this is their first fault.
+abbrev pub IsPathOutcome : List ℕ → (PathVersion → Position → Option PathAnswer) → Outcome DifferenceByPath → Type 0
+IsPathOutcome bytes section told = IsOutcomeOf tables_by_path section bytes told

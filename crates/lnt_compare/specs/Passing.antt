@@ -1,12 +1,22 @@
 -- Bytes of a table that were taken from a source, and the lines of spans that were passed.
-use Rattle.std.specs.Prelude.{◌≡◌, ℕ, ◌+◌, ◌<◌, ◌≤◌, List, ◌++◌, Option, IfSome, length, map}
-use Rattle.lnt_spans.specs.declared.position.Position.{Position}
+use Rattle.std.specs.Prelude.{◌≡◌, Bool, true, false, List, [], ℕ, ◌+◌, ◌<◌, ◌++◌, Option, IfSome, length, map}
 use Rattle.lnt_spans.specs.declared.span.Span.{Span}
-use Rattle.lnt_spans.specs.Comparing.{end_of}
+use Rattle.lnt_spans.specs.declared.position.Position.{Position}
+use Rattle.lnt_spans.specs.Spans.{end_of}
 use Rattle.lnt_io.specs.Pulling.{Pulls}
 use Rattle.lnt_records.specs.Table.{Fields, TableFormat}
 use Rattle.lnt_records.specs.Written.{LineFormat}
-use Rattle.lnt_records.specs.Passing.{AreLinesIn}
+use Rattle.lnt_records.specs.Progress.{AreLinesIn}
+use Rattle.lnt_compare.specs.declared.by_path.telling.PathMemory.{PathMemory}
+use Rattle.lnt_records.specs.KeptPaths.{AreTextsOf}
+use Rattle.lnt_records.specs.PathLines.{AreFieldsOf}
+
+-- ---- the spans that a source has left. It may be known to have none.
+
+-- These spans are left: those that the source has to come, or none if it is known to have ended.
+abbrev pub AreLeft : Bool → (List Span → Type 0) → List Span → Type 0
+AreLeft true to_come rest = rest ≡ []
+AreLeft false to_come rest = to_come rest
 
 -- ---- the bytes
 
@@ -23,7 +33,6 @@ pub record Ends (old : Option (List ℕ)) (may_give : ℕ) (before all : List �
   pub given : List ℕ
   pub joined : all ≡ before ++ given
   pub whole : IfSome old (λ bytes. given ≡ bytes)
-  pub few : length given ≤ may_give
 
 -- ---- the lines
 
@@ -39,5 +48,20 @@ pub record IsLineIn {V X : Type 0} (format : TableFormat V X) (plain : LineForma
 pub record AreLinesOf {V X : Type 0} (format : TableFormat V X) (plain : LineFormat V X) (told : Span → X) (version : V) (text : List ℕ)
     (table : List Span) (count : ℕ) (end : Position) : Type 0 where
   pub lines : AreLinesIn format plain version text (map told table) count
-  pub few : count ≤ length text + 1
   pub end_is : end ≡ end_of table
+
+-- Lines of a table were taken one after another. The next record had the number `before`, and has `after`.
+pub record HasTakenLines {C V X : Type 0} (format : TableFormat V X) (plain : LineFormat V X) (version : V)
+    (judges : C → List Span → List Fields → Type 0) (old new : C) (text : List ℕ) (before after : ℕ) : Type 0 where
+  pub spans : List X
+  pub count : ℕ
+  pub lines : AreLinesIn format plain version text spans count
+  pub number : after + 1 ≡ before + count
+  pub judged : (section : List Span) (passed : List Fields) → judges old section passed → judges new section (passed ++ lines.records)
+
+-- ---- what is remembered of the paths of files. No public contract speaks of it.
+
+-- All that is remembered of paths is correct.
+pub record IsRemembered (path : ℕ → ℕ → List ℕ) (memory : PathMemory) : Type 0 where
+  pub known : AreTextsOf path memory.known
+  pub fields : AreFieldsOf path memory.fields

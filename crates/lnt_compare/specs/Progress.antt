@@ -1,5 +1,6 @@
 -- How far a table was read and compared, by number or by path. `tell` gives what a table contains of an answer, and `end` where spans of
 -- a table end. No public contract speaks of it.
+use Rattle.lnt_spans.specs.SpanKinds.{answer_held}
 use Rattle.std.specs.Prelude.{◌≡◌, ℕ, ◌+◌, List, ◌∷◌, ◌++◌, None, Option, Vec, length, option_map}
 use Rattle.std.specs.Global.{Global}
 use Rattle.lnt_spans.specs.declared.answer.Answer.{Answer}
@@ -7,13 +8,12 @@ use Rattle.lnt_spans.specs.declared.answer.Version.{Version}
 use Rattle.lnt_spans.specs.declared.found.Found.{Found}
 use Rattle.lnt_spans.specs.declared.position.Position.{Position}
 use Rattle.lnt_spans.specs.declared.span.Span.{Span}
-use Rattle.lnt_spans.specs.Ahead.{IsAhead}
+use Rattle.lnt_spans.specs.Remaining.{IsAhead}
 use Rattle.lnt_spans.specs.Answers.{in_version}
 use Rattle.lnt_spans.specs.AnyStretches.{Stretch}
-use Rattle.lnt_spans.specs.Comparing.{end_of}
+use Rattle.lnt_spans.specs.Spans.{end_of, AreInOrder, version_answer}
 use Rattle.lnt_spans.specs.Merged.{AreFound, HasMerged, HasOneMore, answer_told, end_of_records}
 use Rattle.lnt_spans.specs.Positions.{IsAtMost, IsBelow}
-use Rattle.lnt_spans.specs.Spans.{AreInOrder, version_answer}
 pub use Rattle.lnt_compare.specs.declared.comparison.Comparison.{Comparison}
 use Rattle.lnt_compare.specs.declared.gather.Gathering.{Gathering}
 use Rattle.lnt_compare.specs.declared.outcome.TableRead.{TableRead}
@@ -36,11 +36,10 @@ pub record Comes (at low high : Position) : Type 0 where
   pub past : IsAtMost at low
   pub holds : IsBelow low high
 
--- Both sides begin with records that end at `at`; `count` is their number with the header. The spans after them are to come.
-pub record IsPast {S D M : Type 0} (to_come : S → List Span → Type 0) (spans : S) (comparison : Comparison S D M) (at : Position)
-    (count : ℕ) : Type 0 where
+-- Both sides begin with records that end at `at`. The spans after them are to come.
+pub record IsPast {S D M : Type 0} (to_come : S → List Span → Type 0) (spans : S) (comparison : Comparison S D M) (at : Position) : Type
+    0 where
   pub at_is : end_of_records comparison.merge ≡ at
-  pub count_is : comparison.count ≡ count
   pub gap : comparison.merge.gap ≡ None
   pub mistake : comparison.merge.mistake ≡ None
   pub missed : comparison.merge.missed ≡ 0
@@ -51,7 +50,6 @@ pub record HasPushed {S D M Y : Type 0} (to_come : S → List Span → Type 0) (
     (old new : Comparison S D M) (low high : Position) (said : Y) : Type 0 where
   pub comes : Comes (end_of_records old.merge) low high
   pub at : end_of_records new.merge ≡ high
-  pub count : new.count ≡ old.count + 1
   pub merged : (list : List Span) (by_table by_more : Position → Option Y) → HasMerged to_come tell value_of old.merge list by_table
       → HasOneMore by_table by_more (end_of_records old.merge) low high said → HasMerged to_come tell value_of new.merge list by_more
 
@@ -60,22 +58,16 @@ pub record Judges {S D M V X Y : Type 0} (to_come : S → List Span → Type 0) 
     (tell : Answer → Y) (version : V) (comparison : Comparison S D M) (section : List Span) (records : List Fields) : Type 0 where
   pub table : List X
   pub is_table : IsTableIn kind.format version records table
-  pub count : comparison.count ≡ length records
   pub at : end_of_records comparison.merge ≡ end table
-  pub merged : HasMerged to_come tell kind.stretch comparison.merge section (kind.answers table)
+  pub merged : HasMerged to_come tell kind.stretch comparison.merge section (answer_held kind.spans table)
 
--- More records were compared.
-pub record HasTaken {S D M V X Y : Type 0} (to_come : S → List Span → Type 0) (kind : TableKind V X Y D) (end : List X → Position)
-    (tell : Answer → Y) (version : V) (old new : Comparison S D M) (more : List Fields) : Type 0 where
-  pub count : new.count ≡ old.count + length more
-  pub judged : (section : List Span) (records : List Fields) → Judges to_come kind end tell version old section records
-      → Judges to_come kind end tell version new section (records ++ more)
-
--- These lines follow the header, and their records were compared with spans that answer as the section does.
+-- These lines follow the header, and their records were compared with spans that answer as the section does. The next record has the
+-- number `next`.
 pub record HasPassed {S D M V X Y : Type 0} (to_come : S → List Span → Type 0) (kind : TableKind V X Y D) (plain : LineFormat V X)
-    (end : List X → Position) (tell : Answer → Y) (version : V) (comparison : Comparison S D M) (section : List Span) (text : List ℕ) : Type
-    0 where
+    (end : List X → Position) (tell : Answer → Y) (version : V) (comparison : Comparison S D M) (section : List Span) (text : List ℕ)
+    (next : ℕ) : Type 0 where
   pub records : List Fields
+  pub count : next ≡ length records + 1
   pub text_is : text ≡ lines_of plain.line records
   pub list : List Span
   pub alike : AnswerAlike tell list section
@@ -106,7 +98,6 @@ HasCompared to_come tell value_of judges is_fault list passed bytes (read.Table 
 pub record Gathers (version : Version) (gathering : Gathering) (before : List Span) (records : List Fields) : Type 0 where
   pub is_table : IsTable version records (before ++ gathering.spans.items)
   pub at : gathering.at ≡ end_of (before ++ gathering.spans.items)
-  pub count : gathering.count ≡ length records
 
 -- After the records of the spans in `table`, the bytes have the records of the gathered spans, or a fault.
 abbrev pub IsGathered : List ℕ → Version → List Span → TableRead (Vec Span Global) → Type 0

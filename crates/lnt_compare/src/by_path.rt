@@ -6,7 +6,6 @@ mod comparison;
 mod held;
 mod known;
 mod line;
-mod passing;
 mod stream;
 mod stretches;
 mod telling;

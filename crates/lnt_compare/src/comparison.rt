@@ -1,19 +1,20 @@
 //! Compares a table with the spans of a section, record by record.
-ghost use Rattle.std.specs.Prelude.{◌≡◌, ◌+◌, ◌^◌, ◌<◌, ℕ, List, [], ◌∷◌, length, IfOk, MatchBool, OnOk};
+ghost use Rattle.std.specs.Prelude.{◌≡◌, ℕ, List, [], ◌∷◌, length, IfOk, MatchBool, OnOk};
 ghost use Rattle.lnt_spans.specs.declared.span.Span.{Span};
 ghost use Rattle.lnt_spans.specs.Merged.{end_of_records};
 ghost use Rattle.lnt_spans.specs.Spans.{AreInOrder};
 ghost use Rattle.lnt_compare.specs.Comparisons.{IsComparison};
 ghost use Rattle.lnt_compare.specs.Outcomes.{IsOutcome};
 ghost use Rattle.lnt_compare.specs.Progress.{Comes, HasCompared, HasPushed, IsPast};
-ghost use Rattle.lnt_records.specs.Passing.{IsCutAfter};
+ghost use Rattle.lnt_records.specs.Progress.{IsCutAfter};
 ghost use Rattle.lnt_records.specs.Reading.{IsNarrow};
 ghost use Rattle.lnt_records.specs.Table.{BeginsWith, Fields};
 
 use crate::line_telling::LineTelling;
+use crate::lines::TakesLines;
 use crate::outcome::{Compared, Outcome, TableRead};
 use csv::ByteRecord;
-use lnt_records::{TableFault, TakesRecords, header_of, span_of, take_records};
+use lnt_records::{TableFault, TakesRecords, header_of, span_at, span_of, take_records};
 use lnt_spans::{Difference, Merge, Position, Span, SpanSlice, SpanSource, Telling, Version};
 use std::alloc::{AllocError, Global};
 
@@ -43,18 +44,17 @@ pub fn compare_records<S: SpanSource + Drop>(
     table: &[u8],
     spans: S,
 ) -> Result<Outcome<Difference>, AllocError>
-    requires { (list : List Span) × S.to_come spans list × AreInOrder list }
     ensures { IfOk result (λ outcome. (list : List Span) → S.to_come spans list → AreInOrder list → IsOutcome table.now list outcome) }
 {
     let Some(version) = header_of::<Version>(alloc, table)? else {
         return Ok(TableRead::Fault(TableFault::Header));
     };
-    let comparison = Comparison::past((), spans, Position { address: 0, op: 0 }, 1);
-    compare_after(alloc, table, &version, comparison)
+    let comparison = Comparison::past((), spans, Position { address: 0, op: 0 });
+    compare_after(alloc, table, &version, comparison, 1)
 }
 
 // Compares the records of a text after its first one, as `csv` reads them, with the spans that a section has left. The comparison may
-// have taken others before them.
+// have taken others before them; the first of these has this number.
 pub(crate) fn compare_after<
     S: SpanSource + Drop,
     T: LineTelling + TakesRecords<Comparison<S, T::Difference, T::Memory>>,
@@ -63,14 +63,16 @@ pub(crate) fn compare_after<
     text: &[u8],
     telling: &T,
     mut comparison: Comparison<S, T::Difference, T::Memory>,
+    number: u64,
 ) -> Result<Outcome<T::Difference>, AllocError>
     requires first { (first : Fields) × IsNarrow first × BeginsWith text.now (first ∷ []) }
-    requires few { (count : ℕ) × T.has_taken telling.now comparison count × (count + length text.now < 2 ^ 64 + 1) }
+    requires right { T.is_right telling.now comparison }
     ensures { IfOk result (λ outcome. (first : Fields) (list : List Span) (passed : List Fields) (bytes : List ℕ) → IsNarrow first
         → BeginsWith text.now (first ∷ []) → IsCutAfter first text.now bytes passed → T.judges telling.now comparison list passed
+        → number ≡ length passed
         → HasCompared S.to_come (T.tell telling.now) T.value_of (T.judges telling.now) (T.is_fault telling.now) list passed bytes outcome) }
 {
-    if let Some(fault) = take_records(alloc, text, telling, &mut comparison)? {
+    if let Some(fault) = take_records(alloc, text, telling, &mut comparison, number)? {
         return Ok(TableRead::Fault(fault));
     }
     match telling.finish(comparison.merge) {
@@ -79,27 +81,24 @@ pub(crate) fn compare_after<
     }
 }
 
-// The state of a comparison: the spans of a section, and the records of a table so far.
+// The state of a comparison: the spans of a section, and what was found in the records of a table so far.
 #[derive(Drop)]
 pub(crate) struct Comparison<S, D, M> {
     pub(crate) merge: Merge<S, D>,
     // what is remembered of answers that were compared
     pub(crate) memory: M,
-    // the number of records so far, including the header, which is the number of the next record
-    pub(crate) count: u64,
 }
 
 impl<S: SpanSource + Drop, D: Drop, M: Drop> Comparison<S, D, M> {
     // The state after the header and the records with which both sides begin. These end at `at`, and the source gives the section's
-    // spans after them; `count` is their number with the header.
-    pub(crate) fn past(memory: M, spans: S, at: Position, count: u64) -> Comparison<S, D, M>
+    // spans after them.
+    pub(crate) fn past(memory: M, spans: S, at: Position) -> Comparison<S, D, M>
         ensures memory { result.memory ≡ memory }
-        ensures past { IsPast S.to_come spans result at count }
+        ensures past { IsPast S.to_come spans result at }
     {
         Comparison {
             merge: Merge::past(spans, at),
             memory,
-            count,
         }
     }
 
@@ -113,7 +112,6 @@ impl<S: SpanSource + Drop, D: Drop, M: Drop> Comparison<S, D, M> {
         held: T::Said,
     ) -> Result<bool, T::Refusal>
         requires sound { T.is_sound telling.now self.old.memory }
-        requires few { self.old.count + 1 < 2 ^ 64 }
         ensures sound { OnOk result (T.is_sound telling.now self.new.memory) }
         ensures pushed { IfOk result (λ pushed. MatchBool pushed
             (HasPushed S.to_come (T.tell telling.now) T.value_of self.old self.new low high (T.said held))
@@ -123,7 +121,6 @@ impl<S: SpanSource + Drop, D: Drop, M: Drop> Comparison<S, D, M> {
             return Ok(false);
         }
         self.merge.push(telling, &mut self.memory, low, high, held)?;
-        self.count += 1;
         Ok(true)
     }
 }
@@ -140,14 +137,13 @@ pub(crate) fn comes(at: Position, low: Position, high: Position) -> bool
 }
 
 impl<S: SpanSource + Drop> TakesRecords<Comparison<S, Difference, ()>> for Version {
-    ghost use Rattle.std.specs.Prelude.{◌≡◌};
     ghost use Rattle.lnt_spans.specs.Answers.{in_version};
-    ghost use Rattle.lnt_spans.specs.Comparing.{end_of};
+    ghost use Rattle.lnt_spans.specs.Spans.{end_of};
     ghost use Rattle.lnt_records.specs.Faults.{IsFault};
     ghost use Rattle.lnt_compare.specs.Comparisons.{tables_by_number};
     ghost use Rattle.lnt_compare.specs.Progress.{Judges};
 
-    ghost has_taken = { λ version comparison count. comparison.count ≡ count };
+    ghost is_right = { λ version comparison. Unit {0} };
 
     ghost judges = { λ version comparison section records.
         Judges S.to_come tables_by_number end_of (in_version version) version comparison section records };
@@ -158,14 +154,34 @@ impl<S: SpanSource + Drop> TakesRecords<Comparison<S, Difference, ()>> for Versi
         &self,
         comparison: &mut Comparison<S, Difference, ()>,
         row: &ByteRecord,
+        number: u64,
     ) -> Result<Option<TableFault>, AllocError> {
         let span = match span_of(row, *self) {
             Ok(span) => span,
-            Err(fault) => return Ok(Some(fault.at(comparison.count))),
+            Err(fault) => return Ok(Some(fault.at(number))),
         };
         match comparison.push(self, span.low, span.high, span.answer) {
             Ok(true) => Ok(None),
-            Ok(false) => Ok(Some(TableFault::Order(comparison.count))),
+            Ok(false) => Ok(Some(TableFault::Order(number))),
+            Err(never) => match never {},
+        }
+    }
+}
+
+impl<S: SpanSource + Drop> TakesLines<Comparison<S, Difference, ()>> for Version {
+    #[inline(always)]
+    fn take_line(
+        &self,
+        comparison: &mut Comparison<S, Difference, ()>,
+        _last: &mut Vec<u8>,
+        text: &[u8],
+    ) -> Result<Option<usize>, AllocError> {
+        let Some((span, length)) = span_at(text, 0, *self) else {
+            return Ok(None);
+        };
+        match comparison.push(self, span.low, span.high, span.answer) {
+            Ok(true) => Ok(Some(length)),
+            Ok(false) => Ok(None),
             Err(never) => match never {},
         }
     }

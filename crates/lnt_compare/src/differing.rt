@@ -1,5 +1,5 @@
 //! Compares a table with the spans of a section at every position.
-ghost use Rattle.std.specs.Prelude.{◌≡◌, ◌+◌, ◌-◌, ◌^◌, ◌<◌, ◌++◌, ℕ, List, Option, length, IfOk, IfSome};
+ghost use Rattle.std.specs.Prelude.{◌≡◌, ◌-◌, ◌^◌, ◌<◌, ◌++◌, ℕ, List, Option, IfOk, IfSome};
 ghost use Rattle.lnt_spans.specs.declared.span.Span.{Span};
 ghost use Rattle.lnt_spans.specs.declared.answer.Answer.{Answer};
 ghost use Rattle.lnt_spans.specs.declared.position.Position.{Position as Place};
@@ -43,7 +43,6 @@ pub fn differ_lines<S: SpanSource + Drop, T: Source>(
     spans: S,
 ) -> Result<Differing<S>, Stop>
     requires failures { T.failures table.old < 2 ^ 64 - 1 }
-    requires few { length (line_text (column_names version)) + length window + T.left table.old < 2 ^ 64 }
     requires spans { (list : List Span) × S.to_come spans list × AreInOrder list }
     ensures ok { IfOk result (λ differing. (list : List Span) (section : Place → Option Answer) → S.to_come spans list → AreInOrder list
         → ((p : Place) → span_answer list p ≡ section p) → IfSome (T.remaining table.old) (λ more.

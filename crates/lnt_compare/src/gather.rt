@@ -1,9 +1,9 @@
 //! Gathers the spans of a table's records, to compare them at every position.
-ghost use Rattle.std.specs.Prelude.{◌≡◌, ◌+◌, ◌^◌, ◌<◌, ℕ, List, [], ◌∷◌, length, IfOk};
+ghost use Rattle.std.specs.Prelude.{◌≡◌, ℕ, List, [], ◌∷◌, length, IfOk};
 ghost use Rattle.lnt_spans.specs.declared.span.Span.{Span};
-ghost use Rattle.lnt_spans.specs.Comparing.{end_of};
+ghost use Rattle.lnt_spans.specs.Spans.{end_of};
 ghost use Rattle.lnt_compare.specs.Progress.{IsGathered};
-ghost use Rattle.lnt_records.specs.Passing.{IsCutAfter};
+ghost use Rattle.lnt_records.specs.Progress.{IsCutAfter};
 ghost use Rattle.lnt_records.specs.Table.{BeginsWith, Fields, IsTable, column_names};
 
 use crate::comparison::comes;
@@ -14,26 +14,24 @@ use lnt_spans::{Position, Span, Version};
 use std::alloc::{AllocError, Global};
 
 // Gathers the spans of the rest of a table. `text` is the table's header with the records after it, without those that were passed
-// before: they end at `at`, and `count` is their number with the header.
+// before: they end at `at`, and the next one has this number.
 pub(crate) fn gather_after(
     alloc: Global,
     text: &[u8],
     version: Version,
     at: Position,
-    count: u64,
+    number: u64,
 ) -> Result<TableRead<Vec<Span>>, AllocError>
-    requires begins { BeginsWith text.now (column_names version ∷ []) }
-    requires few { count + length text.now < 2 ^ 64 + 1 }
+    requires { BeginsWith text.now (column_names version ∷ []) }
     ensures { IfOk result (λ gathered. (table : List Span) (passed : List Fields) (bytes : List ℕ) → IsTable version passed table
-        → at ≡ end_of table → count ≡ length passed → IsCutAfter (column_names version) text.now bytes passed
+        → at ≡ end_of table → number ≡ length passed → IsCutAfter (column_names version) text.now bytes passed
         → IsGathered bytes version table gathered) }
 {
     let mut gathering = Gathering {
         spans: Vec::new(alloc),
         at,
-        count,
     };
-    match take_records(alloc, text, &version, &mut gathering)? {
+    match take_records(alloc, text, &version, &mut gathering, number)? {
         Some(fault) => Ok(TableRead::Fault(fault)),
         None => Ok(TableRead::Table(gathering.spans)),
     }
@@ -45,16 +43,13 @@ pub(crate) struct Gathering {
     spans: Vec<Span>,
     // the end of the last record
     at: Position,
-    // the number of records so far, including the header, which is the number of the next record
-    count: u64,
 }
 
 impl TakesRecords<Gathering> for Version {
-    ghost use Rattle.std.specs.Prelude.{◌≡◌};
     ghost use Rattle.lnt_records.specs.Faults.{IsFault};
     ghost use Rattle.lnt_compare.specs.Progress.{Gathers};
 
-    ghost has_taken = { λ version gathering count. gathering.count ≡ count };
+    ghost is_right = { λ version gathering. Unit {0} };
 
     ghost judges = { λ version gathering before records. Gathers version gathering before records };
 
@@ -64,17 +59,17 @@ impl TakesRecords<Gathering> for Version {
         &self,
         gathering: &mut Gathering,
         row: &ByteRecord,
+        number: u64,
     ) -> Result<Option<TableFault>, AllocError> {
         let span = match span_of(row, *self) {
             Ok(span) => span,
-            Err(fault) => return Ok(Some(fault.at(gathering.count))),
+            Err(fault) => return Ok(Some(fault.at(number))),
         };
         if !comes(gathering.at, span.low, span.high) {
-            return Ok(Some(TableFault::Order(gathering.count)));
+            return Ok(Some(TableFault::Order(number)));
         }
         gathering.spans.push(span)?;
         gathering.at = span.high;
-        gathering.count += 1;
         Ok(None)
     }
 }

@@ -1,7 +1,7 @@
 //! Laws of comparisons, and of spans by path. Each is the contract of a function that takes nothing and does nothing.
 ghost use Rattle.lnt_compare.specs.Comparisons.{tables_by_number};
 ghost use Rattle.lnt_compare.specs.Laws.{FirstStretchesBegin, OneCanonicalOfPaths, OneComparison, OneLeastPathDifference};
-ghost use Rattle.lnt_compare.specs.PathOutcomes.{tables_by_path};
+ghost use Rattle.lnt_compare.specs.Outcomes.{tables_by_path};
 
 /// For given bytes, and what a section answers, a comparison at all positions ([`Outcome::whole`](crate::Outcome::whole)) has only
 /// one possible result: that both answer the same, in the fields of the table's version, one fault, or one position with two answers.
@@ -13,7 +13,7 @@ pub fn one_comparison()
 
 /// Two canonical lists of spans by path that answer alike at every position are the same list. So there is one shortest
 /// table for each way to answer.
-#[tactic(auto, using(crate::proofs::UniqueLemmas::one_list))]
+#[tactic(auto, using(crate::proofs::UniqueLemmas::one_path_list))]
 pub fn one_canonical()
     ensures { OneCanonicalOfPaths }
 {}

@@ -17,7 +17,7 @@ impl LineTelling for Version {
     ghost use Rattle.lnt_spans.specs.Answers.{in_version};
     ghost use Rattle.lnt_spans.specs.Merged.{AreFound, HasMerged, answer_told};
     ghost use Rattle.lnt_spans.specs.Spans.{span_in_version};
-    ghost use Rattle.lnt_spans.specs.Stretches.{stretch_of};
+    ghost use Rattle.lnt_spans.specs.Differences.{stretch_of};
     ghost use Rattle.lnt_spans.specs.declared.answer.Answer.{Answer as SpecAnswer};
     ghost use Rattle.lnt_spans.specs.declared.position.Position.{Position as SpecPosition};
     ghost use Rattle.lnt_spans.specs.declared.answer.Version.{Version as SpecVersion};

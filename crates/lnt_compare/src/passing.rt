@@ -2,7 +2,7 @@
 //!
 //! Without it each line would be parsed and its span merged, as it is from the first other line on. A check of a section's own table by
 //! number takes 0.63 of the instructions of that (`bench/RESULTS.md`).
-ghost use Rattle.std.specs.Prelude.{◌≡◌, ◌≢◌, ◌+◌, ◌-◌, ◌^◌, ◌<◌, ℕ, List, length, IfOk, IsErrOf};
+ghost use Rattle.std.specs.Prelude.{◌≡◌, ◌≢◌, ◌-◌, ◌^◌, ◌<◌, ℕ, List, IfOk, IsErrOf};
 ghost use Rattle.lnt_spans.specs.declared.span.Span as spec;
 ghost use Rattle.lnt_spans.specs.Spans.{AreInOrder};
 ghost use Rattle.lnt_compare.specs.Joining.{LeaveOff};
@@ -14,7 +14,7 @@ use crate::line_telling::LineTelling;
 use crate::remaining::Remaining;
 use crate::window::Window;
 use lnt_io::{Source, Stop};
-use lnt_records::ROOM;
+use lnt_records::{ROOM, next_number};
 use lnt_spans::{Position, SpanSource};
 use std::alloc::Global;
 
@@ -28,7 +28,6 @@ pub(crate) struct Passed<S> {
 }
 
 // Moves past the lines of a table that are the lines of the canonical spans, as these come, up to the first line that isn't.
-// The number of records stays below 2^64, since each has at least one byte.
 //
 // `C` is the caller's result. It gives each caller a copy of its own, inlined, with the walk over the spans in registers:
 // one copy shared by two callers takes twice the time.
@@ -41,7 +40,6 @@ pub(crate) fn pass_spans<S: SpanSource + Drop, L: LineTelling, T: Source, C>(
     window: &mut Window,
 ) -> Result<Passed<S>, Stop>
     requires failures { T.failures source.old < 2 ^ 64 - 1 }
-    requires few { length window.old + T.left source.old + 1 < 2 ^ 64 }
     requires sound { L.is_sound telling.now memory.old }
     ensures sound { IfOk result (λ passed. L.is_sound telling.now memory.new) }
     ensures ok { IfOk result (λ passed. (text : List ℕ) × (table : List spec.Span)
@@ -61,7 +59,7 @@ pub(crate) fn pass_spans<S: SpanSource + Drop, L: LineTelling, T: Source, C>(
             let spans = joined.remaining(Some(span));
             return Ok(Passed { spans, count, end });
         }
-        count += 1;
+        count = next_number(count)?;
         end = span.high;
     }
     let spans = joined.remaining(None);

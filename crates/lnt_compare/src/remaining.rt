@@ -4,7 +4,7 @@ ghost use Rattle.std.specs.List.{cons_option};
 ghost use Rattle.lnt_spans.specs.declared.span.Span.{Span};
 ghost use Rattle.lnt_spans.specs.declared.span.Span as spec;
 ghost use Rattle.lnt_spans.specs.Remaining.{SpansAreLeft};
-ghost use Rattle.lnt_compare.specs.Remaining.{AreLeft};
+ghost use Rattle.lnt_compare.specs.Passing.{AreLeft};
 
 use lnt_spans::{Span, SpanSource};
 

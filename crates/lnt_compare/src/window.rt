@@ -1,5 +1,5 @@
 //! The bytes of a table that were taken from its source but not parsed yet.
-ghost use Rattle.std.specs.Prelude.{◌≡◌, ◌+◌, ◌-◌, ◌^◌, ◌<◌, ◌≤◌, ◌++◌, [], drop, length, IfOk, IsErrOf, MatchOption, OnOk, MatchBool};
+ghost use Rattle.std.specs.Prelude.{◌≡◌, ◌+◌, ◌-◌, ◌^◌, ◌<◌, ◌≤◌, ◌++◌, [], drop, length, IfOk, IsErrOf, IsTrue, MatchOption, OnOk, MatchBool};
 ghost use Rattle.lnt_compare.specs.Passing.{Ends, Passes};
 ghost use Rattle.lnt_records.specs.Written.{line_text};
 ghost use Rattle.lnt_io.specs.Stopping.{CountsFailure, IsTooLongOn};
@@ -89,6 +89,26 @@ impl Window {
             return Ok(());
         }
         self.refill(alloc, source, count)
+    }
+
+    /// Takes more bytes as `fill` does, and gives whether any came.
+    #[inline(never)]
+    pub(crate) fn grow<T: Source>(
+        &mut self,
+        alloc: Global,
+        source: &mut T,
+        count: usize,
+    ) -> Result<bool, Stop>
+        requires { T.failures source.old < 2 ^ 64 - 1 }
+        ensures taken { OnOk result (Passes (T.remaining source.old) (T.remaining source.new) (T.left source.old) (T.left source.new)
+            self.old self.new []) }
+        ensures more { IfOk result (λ more. IsTrue more → length self.old < length self.new) }
+        ensures failures { CountsFailure ⟦<T as Source>⟧ source.old source.new result Stop.Read }
+        ensures not_long { IsErrOf result Stop.TooLong → ⊥ }
+    {
+        let held = self.bytes().len();
+        self.fill(alloc, source, count)?;
+        Ok(held < self.bytes().len())
     }
 
     // The slow path of `fill`, not inlined: a new block begins with the current bytes.

@@ -1,6 +1,6 @@
 -- A section that is written anew and handed to a writer, page by page.
 use Rattle.std.proofs.Common.{◌≡◌, ℕ, List, [], Option}
-use Rattle.lnt_wire.specs.At.{At}
+use Rattle.lnt_wire.specs.Reading.{At}
 use Rattle.lnt_wire.specs.declared.format.Order.{Order}
 use Rattle.lnt_older.specs.Sections.{IsUpgraded}
 use Rattle.lnt_older.specs.Upgradable.{AddsAny, CanBeLeft, CanUpgrade}

@@ -25,8 +25,7 @@ use Rattle.lnt_unit.specs.BrokenUnits.{BrokenUnit}
 use Rattle.lnt_unit.specs.UnitBytes.{UnitBytesIn}
 use Rattle.lnt_unit.specs.Views.{View, with_ops}
 use Rattle.lnt_wire.proofs.LengthLaws.{length-initial}
-use Rattle.lnt_wire.specs.FrameBytes.{frame_bytes}
-use Rattle.lnt_wire.specs.InitialLength.{initial_length}
+use Rattle.lnt_wire.specs.FrameBytes.{frame_bytes, initial_length}
 use Rattle.lnt_wire.specs.declared.fault.Fault.{Fault}
 use Rattle.lnt_wire.specs.declared.fault.Reason.TheVariants.{Memory}
 use Rattle.lnt_wire.specs.declared.format.Order.{Order}

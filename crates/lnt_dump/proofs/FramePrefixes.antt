@@ -4,7 +4,7 @@ use Rattle.std.proofs.Common.{subst, ◌∙◌, append_assoc, append-nil, arith,
 use Rattle.std.proofs.lemmas.List.Concat.{flat_map-append}
 use Rattle.lnt_io.specs.Prefixes.{AppendsPrefix, HasBegun}
 use Rattle.lnt_io.proofs.PrefixLaws.{appends_known, prefix_after, prefix_all, prefix_before, prefix_same}
-use Rattle.lnt_wire.specs.At.{At}
+use Rattle.lnt_wire.specs.Reading.{At}
 use Rattle.lnt_wire.specs.FrameBytes.{FramesFrom}
 use Rattle.lnt_wire.specs.Frames.{AreFrames, EndsBy}
 use Rattle.lnt_wire.specs.declared.fault.Fault.{Fault}

@@ -4,7 +4,7 @@ use Rattle.std.proofs.Common.{ap, subst, ◌∙◌, append-nil, flat_map}
 use Rattle.std.proofs.KnownBytes.{Appends-nil, Appends-trans}
 use Rattle.std.proofs.lemmas.List.Concat.{flat_map-append}
 use Rattle.std.specs.Io.KnownBytes.{Appends}
-use Rattle.lnt_wire.specs.At.{At}
+use Rattle.lnt_wire.specs.Reading.{At}
 use Rattle.lnt_wire.specs.FrameBytes.{IsFrame, IsPlacedFrame, frame_bytes}
 use Rattle.lnt_wire.specs.Frames.{AreFrames, EndsBy}
 use Rattle.lnt_io.specs.Pulling.{Pulls}

@@ -6,16 +6,13 @@ use Rattle.std.proofs.Common.{sym, ap, subst, ◌∙◌, append_assoc, take-appe
 use Rattle.std.proofs.lemmas.Bool.{cases_eq, cases_lt}
 use Rattle.std.proofs.lemmas.List.{length-append, length-take-le, nil_from_length}
 use Rattle.std.proofs.lemmas.List.Elements.{All-head, All-tail, All-take}
-use Rattle.lnt_wire.specs.At.{At}
+use Rattle.lnt_wire.specs.Reading.{At, Reads, Refuses}
 use Rattle.lnt_wire.specs.Bytes.{TakenBytes}
-use Rattle.lnt_wire.specs.FrameBytes.{BeginsWithFive, FrameBytes, FramesFrom, IsFrame}
-use Rattle.lnt_wire.specs.FrameFaults.{IsFrameFault}
+use Rattle.lnt_wire.specs.FrameBytes.{BeginsWithFive, FrameBytes, FramesFrom, IsFrame, initial_length, InitialBytes}
+use Rattle.lnt_wire.specs.FrameFaults.{IsFrameFault, IsInitialFault, IsVersionFault}
 use Rattle.lnt_wire.specs.FrameFaults.IsCutFrame.{no_length, no_wide_length, too_long}
 use Rattle.lnt_wire.specs.Frames.{EndsBy}
-use Rattle.lnt_wire.specs.InitialFaults.{IsInitialFault, IsVersionFault}
-use Rattle.lnt_wire.specs.InitialLength.{initial_length, InitialBytes}
 use Rattle.lnt_wire.specs.Numbers.{NumberBytes, number_bytes}
-use Rattle.lnt_wire.specs.Reading.{Reads, Refuses}
 use Rattle.lnt_wire.specs.declared.fault.Fault.{Fault}
 use Rattle.lnt_wire.specs.declared.fault.Reason.{Reason}
 use Rattle.lnt_wire.specs.declared.fault.Reason.TheVariants.{ReservedLength, Truncated, VersionNotFive}

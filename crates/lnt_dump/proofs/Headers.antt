@@ -10,9 +10,8 @@ use Rattle.lnt_header.specs.declared.numbers.NumberParts.{NumberParts}
 use Rattle.lnt_header_bytes.specs.Borrowed.{BorrowedTable}
 use Rattle.lnt_wire.specs.declared.frame.Frame.{Frame}
 use Rattle.lnt_dump.specs.Headers.{entry_line, header_lines, numbers_line}
-use Rattle.lnt_dump.specs.Numbered.{numbered}
+use Rattle.lnt_dump.specs.Units.{numbered, unit_line}
 use Rattle.lnt_dump.specs.Stepping.{IsPaged}
-use Rattle.lnt_dump.specs.Units.{unit_line}
 use Rattle.lnt_dump.proofs.Pages.{paged_prefix, paged_more}
 
 -- the lines of a table

@@ -6,7 +6,7 @@ use Rattle.std.proofs.KnownBytes.{Appends-nil}
 use Rattle.std.specs.Io.KnownBytes.{Appends}
 use Rattle.std.specs.List.{IsSplitAt}
 use Rattle.hex.specs.Hex.{encode_lower, encode_with}
-use Rattle.lnt_dump.specs.Numbered.{numbered}
+use Rattle.lnt_dump.specs.Units.{numbered}
 
 -- the lines with one line more
 pub numbered_push : {X : Type 0} (line : ℕ → X → List ℕ) (first : ℕ) (xs : List X) (x : X)

@@ -2,10 +2,9 @@
 use Rattle.std.proofs.lemmas.Grind.{common_steps}
 use Rattle.std.proofs.Common.{◌≡◌, ◌∙◌, ℕ, ◌<◌, List, [], ◌∷◌, ◌++◌, append-nil, append_assoc, ap, arith, length, refl, subst, sym, Result}
 use Rattle.std.proofs.Common.{Ok, Err, OnOk, codes, decimal, false, is_err, true≢false, flat_map, length-append}
-use Rattle.lnt_wire.specs.At.{At}
+use Rattle.lnt_wire.specs.Reading.{At, Reads}
 use Rattle.lnt_wire.specs.Bytes.{NoneSpelled}
 use Rattle.lnt_wire.specs.Leb128.{UnsignedLeb}
-use Rattle.lnt_wire.specs.Reading.{Reads}
 use Rattle.lnt_wire.proofs.CodeLaws.{unsigned_code}
 use Rattle.lnt_wire.proofs.LengthLaws.{same_rest}
 use Rattle.lnt_header.specs.Joins.{Each}

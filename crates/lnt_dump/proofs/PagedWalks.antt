@@ -5,7 +5,7 @@ use Rattle.std.proofs.KnownBytes.{Appends-nil, Appends-trans}
 use Rattle.std.specs.Io.KnownBytes.{Appends}
 use Rattle.lnt_io.specs.Prefixes.{AppendsPrefix}
 use Rattle.lnt_io.proofs.PrefixLaws.{prefix_before}
-use Rattle.lnt_wire.specs.At.{At}
+use Rattle.lnt_wire.specs.Reading.{At}
 use Rattle.lnt_dump.specs.Printed.{IsPrintedIn}
 use Rattle.lnt_dump.specs.Stepping.{IsPrefixIn, IsPaged}
 use Rattle.lnt_dump.proofs.Pages.{paged_all, paged_cut, paged_kept_prefix}

@@ -7,7 +7,7 @@ use Rattle.std.proofs.KnownBytes.{Appends-nil, Appends-trans}
 use Rattle.std.specs.Io.KnownBytes.{Appends}
 use Rattle.lnt_io.specs.Prefixes.{AppendsPrefix}
 use Rattle.lnt_io.proofs.PrefixLaws.{prefix_after, prefix_before, prefix_same}
-use Rattle.lnt_dump.specs.Numbered.{numbered}
+use Rattle.lnt_dump.specs.Units.{numbered}
 use Rattle.lnt_dump.specs.Stepping.{IsPaged}
 use Rattle.lnt_dump.proofs.Lines.{numbered_prefix, numbered_push}
 

@@ -5,7 +5,7 @@ use Rattle.std.specs.Int.{from_bool}
 use Rattle.std.proofs.lemmas.List.{drop-set}
 use Rattle.lnt_text.specs.Digits.{IsPlainAddress, IsPlainDecimal}
 use Rattle.lnt_machine.specs.declared.row.Row.{Row}
-use Rattle.lnt_dump.specs.Rows.{marks_text, row_line}
+use Rattle.lnt_dump.specs.Operations.{marks_text, row_line}
 use Rattle.lnt_text.proofs.WrittenLaws.{address_text, decimal_text, text_before}
 
 -- a byte that was written before a place

@@ -13,21 +13,20 @@ use Rattle.lnt_header.specs.declared.unit_parts.UnitParts.{UnitParts}
 use Rattle.lnt_ops.specs.Walks.{Ends, Fails, GivesOperation, Walk}
 use Rattle.lnt_unit.proofs.ViewLaws.{given_all, given_broken, given_more, given_none}
 use Rattle.lnt_unit.specs.BrokenUnits.{BrokenUnit}
-use Rattle.lnt_unit.specs.Stepping.{HasGiven}
+use Rattle.lnt_unit.specs.ConversionSteps.{HasGiven}
 use Rattle.lnt_unit.specs.Views.{IsUnitView, View, with_ops}
 use Rattle.lnt_machine.specs.declared.fault.RunFault.{RunFault}
 use Rattle.lnt_machine.specs.declared.fault.RunFault.TheVariants.{LineOutOfRange, OpenSequence}
 use Rattle.lnt_machine.specs.declared.row.Row.{Row}
 use Rattle.lnt_machine.specs.Matrix.{IsRunFault, row_made, rows, rows_after, Runs}
 use Rattle.lnt_machine.specs.Registers.{line}
-use Rattle.lnt_machine.specs.Running.{HasDone, RunsOn, RunState}
-use Rattle.lnt_machine.specs.Steps.{LeavesRange}
+use Rattle.lnt_machine.specs.Running.{HasDone, RunsOn, RunState, rows_of_ops}
+use Rattle.lnt_machine.specs.State.{LeavesRange}
 use Rattle.lnt_machine.proofs.RanLaws.{may_step, no_row, out_taken, ran_all, ran_first, ran_open, ran_taken, ran_whole, rows_taken}
 use Rattle.lnt_machine.proofs.RowLaws.{cons_option-append, few_rows}
-use Rattle.lnt_machine.specs.Parts.{rows_of_ops}
 use Rattle.lnt_machine.specs.Stepping.{HasRan}
-use Rattle.lnt_dump.specs.Numbered.{numbered}
-use Rattle.lnt_dump.specs.Rows.{row_line}
+use Rattle.lnt_dump.specs.Units.{numbered}
+use Rattle.lnt_dump.specs.Operations.{row_line}
 use Rattle.lnt_machine.specs.declared.fault.RowFault.TheVariants.{Run}
 use Rattle.lnt_dump.specs.Stepping.{IsFaultOf, IsPaged, IsSound, IsUnitOf}
 use Rattle.lnt_dump.proofs.Pages.{paged_none, told_cut, told_more}

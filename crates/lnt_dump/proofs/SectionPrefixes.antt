@@ -8,7 +8,7 @@ use Rattle.lnt_io.specs.declared.status.Status.TheVariants.{No}
 use Rattle.lnt_io.proofs.PrefixLaws.{appends_known}
 use Rattle.lnt_wire.specs.declared.format.Format.{Format}
 use Rattle.lnt_wire.specs.declared.format.Order.{Order}
-use Rattle.lnt_unit.specs.ConvertFaults.{IsConvertFault}
+use Rattle.lnt_unit.specs.Converting.{IsConvertFault}
 use Rattle.lnt_unit.specs.declared.convert.ConvertFault.{ConvertFault}
 use Rattle.lnt_unit.specs.declared.convert.ConvertFault.TheVariants.{Memory}
 use Rattle.lnt_dump.specs.Printed.{IsConversionBegun, refusal_text}

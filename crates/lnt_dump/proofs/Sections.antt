@@ -1,6 +1,6 @@
 -- A section that is converted and handed to a writer, page by page.
 use Rattle.std.proofs.Common.{◌≡◌, ℕ, ◌+◌, ◌<◌, List, [], ◌∷◌, ◌++◌, length, Option, refl, sym, ap, subst, append_assoc, append-nil}
-use Rattle.lnt_wire.specs.At.{At}
+use Rattle.lnt_wire.specs.Reading.{At}
 use Rattle.lnt_wire.specs.Bytes.{IsShortest}
 use Rattle.lnt_wire.specs.declared.format.Format.{Format}
 use Rattle.lnt_wire.specs.declared.format.Order.{Order}
@@ -8,8 +8,7 @@ use Rattle.lnt_header.specs.Conversion.{unit_in_format}
 use Rattle.lnt_header.specs.Joins.{Each, PlacedFrom}
 use Rattle.lnt_header.specs.declared.unit_parts.UnitParts.{UnitParts}
 use Rattle.lnt_unit.specs.ConversionSteps.{ConvertedTo}
-use Rattle.lnt_unit.specs.ConvertedUnits.{Converts, ConvertsUnit, IsNextStop}
-use Rattle.lnt_unit.specs.Converting.{IsConverted, units_in_format}
+use Rattle.lnt_unit.specs.Converting.{Converts, ConvertsUnit, IsNextStop, IsConverted, units_in_format}
 use Rattle.lnt_unit.specs.UnitBytes.{UnitBytesIn, UnitsFrom}
 use Rattle.lnt_unit.specs.declared.convert.ConvertFault.{ConvertFault}
 use Rattle.lnt_unit.specs.declared.convert.ConvertFault.TheVariants.{Memory}

@@ -10,13 +10,12 @@ use Rattle.lnt_header.specs.declared.op.Op.{Op}
 use Rattle.lnt_header.specs.declared.op.OpView.{OpView}
 use Rattle.lnt_header_bytes.proofs.HeaderLaws.{same_header}
 use Rattle.lnt_ops.proofs.LeftLaws.{left_ends, left_fails, left_next}
-use Rattle.lnt_ops.specs.Left.{OperationsAreLeft}
+use Rattle.lnt_ops.specs.Walks.{OperationsAreLeft, Ends, Fails, GivesOperation, Walk}
 use Rattle.lnt_ops.specs.OpBytes.{OpBytes}
-use Rattle.lnt_ops.specs.Walks.{Ends, Fails, GivesOperation, Walk}
 use Rattle.lnt_unit.proofs.UnitLaws.{header_of}
 use Rattle.lnt_unit.specs.Views.{IsUnitView, View, with_ops}
 use Rattle.lnt_wire.specs.declared.fault.Fault.{Fault}
-use Rattle.lnt_dump.specs.Numbered.{numbered}
+use Rattle.lnt_dump.specs.Units.{numbered}
 use Rattle.lnt_dump.specs.Operations.{op_line}
 use Rattle.lnt_dump.specs.Stepping.{IsPaged, IsUnitOf}
 use Rattle.lnt_dump.proofs.Pages.{paged_none, told_next, told_next_cut}

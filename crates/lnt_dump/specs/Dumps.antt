@@ -18,10 +18,8 @@ use Rattle.lnt_unit.specs.BrokenUnits.{BrokenUnit}
 use Rattle.lnt_unit.specs.UnitBytes.{UnitBytesIn}
 use Rattle.lnt_dump.specs.declared.dump.DumpParts.{DumpParts}
 use Rattle.lnt_dump.specs.Headers.{header_lines}
-use Rattle.lnt_dump.specs.Numbered.{numbered}
-use Rattle.lnt_dump.specs.Operations.{op_line}
-use Rattle.lnt_dump.specs.Rows.{row_line}
-use Rattle.lnt_dump.specs.Units.{fault_status}
+use Rattle.lnt_dump.specs.Units.{numbered, fault_status}
+use Rattle.lnt_dump.specs.Operations.{op_line, row_line}
 
 -- ---- texts
 

@@ -11,9 +11,8 @@ use Rattle.lnt_header.specs.declared.header.Entry.{Entry}
 use Rattle.lnt_header.specs.declared.header.HeaderParts.{HeaderParts}
 use Rattle.lnt_header.specs.declared.numbers.NumberParts.{NumberParts}
 use Rattle.lnt_header.specs.declared.header.Pair.{Pair}
-use Rattle.lnt_text.specs.Quotes.{quoted_text}
-use Rattle.lnt_dump.specs.Numbered.{numbered}
-use Rattle.lnt_dump.specs.Units.{unit_line}
+use Rattle.lnt_text.specs.Texts.{quoted_text}
+use Rattle.lnt_dump.specs.Units.{numbered, unit_line}
 
 -- a block by the hexadecimal digits of its bytes
 abbrev pub block_text : List ℕ → List ℕ

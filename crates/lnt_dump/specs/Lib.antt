@@ -1,9 +1,6 @@
 pub mod Dumps
 pub mod Headers
-pub mod Numbered
 pub mod Operations
 pub mod Printed
-pub mod Rows
 pub mod Stepping
 pub mod Units
-pub mod Upgraded

@@ -1,5 +1,5 @@
 -- The lines of operations (DWARF 5, sections 6.2.5 and 7.22).
-use Rattle.std.specs.Prelude.{ℕ, List, [], ◌∷◌, ◌++◌, codes, decimal, flat_map}
+use Rattle.std.specs.Prelude.{ℕ, List, [], ◌∷◌, ◌++◌, codes, decimal, flat_map, ◌||◌, Bool, cond, if◌then◌else◌}
 use Rattle.std.specs.Fmt.{signed_decimal}
 use Rattle.hex.specs.Hex.{encode_lower}
 use Rattle.lnt_wire.specs.FaultTexts.{hexadecimal}
@@ -7,6 +7,7 @@ use Rattle.lnt_header.specs.declared.op.Op.{Op}
 use Rattle.lnt_header.specs.declared.op.Op.TheVariants.{Special, Copy, AdvancePc, AdvanceLine, SetFile, SetColumn, NegateStmt}
 use Rattle.lnt_header.specs.declared.op.Op.TheVariants.{SetBasicBlock, ConstAddPc, FixedAdvancePc, SetPrologueEnd, SetEpilogueBegin, SetIsa}
 use Rattle.lnt_header.specs.declared.op.Op.TheVariants.{UnknownStandard, EndSequence, SetAddress, SetDiscriminator, UnknownExtended}
+use Rattle.lnt_machine.specs.declared.row.Row.{Row}
 
 -- a number after a space
 abbrev pub operand_text : ℕ → List ℕ
@@ -41,3 +42,26 @@ op_text (UnknownExtended code bytes) = (codes "unknown_extended " ++ decimal cod
 -- an operation, with its number
 abbrev pub op_line : ℕ → Op → List ℕ
 op_line index op = ((codes "op " ++ decimal index) ++ codes " ") ++ (op_text op ++ codes "\n")
+
+-- ---- the line that `dump --rows` prints for a row (DWARF 5, section 6.2.2)
+
+-- a flag by its letter, if it is set
+abbrev pub mark_text : Bool → List ℕ → List ℕ
+mark_text is_set letter = cond is_set letter []
+
+-- the letters of the flags that are set, or a dash if none is
+abbrev pub marks_text : Row → List ℕ
+marks_text row =
+    cond (((row.basic_block || row.end_sequence) || row.prologue_end) || row.epilogue_begin)
+    (mark_text row.basic_block (codes "b") ++ (mark_text row.end_sequence (codes "e")
+    ++ (mark_text row.prologue_end (codes "p") ++ mark_text row.epilogue_begin (codes "g"))))
+    (codes "-")
+
+-- Its number, counted in its unit, and its registers: decimal numbers and an address in hexadecimal digits, whether it is a
+-- statement, and its flags.
+abbrev pub row_line : ℕ → Row → List ℕ
+row_line index row =
+    codes "row " ++ (decimal index ++ (codes " " ++ (hexadecimal row.address ++ (codes " " ++ (decimal row.op_index ++ (codes " "
+    ++ (decimal row.file ++ (codes " " ++ (decimal row.line ++ (codes " " ++ (decimal row.column ++ (codes " "
+    ++ ((if row.is_stmt then codes "1" else codes "0") ++ (codes " " ++ (marks_text row ++ (codes " " ++ (decimal row.isa ++ (codes " "
+    ++ (decimal row.discriminator ++ codes "\n")))))))))))))))))))

@@ -1,17 +1,20 @@
 -- What was written if a section was converted, or wasn't, or if that stopped.
-use Rattle.std.specs.Prelude.{◌≢◌, ◌⊎◌, ℕ, List, [], ◌++◌, Option, codes}
+use Rattle.std.specs.Prelude.{◌≢◌, ◌⊎◌, ℕ, List, [], ◌++◌, Option, codes, decimal}
 use Rattle.std.specs.Io.KnownBytes.{Appends, Keeps}
 use Rattle.lnt_io.specs.Prefixes.{HasBegun}
 use Rattle.lnt_io.specs.declared.status.Status.{Status}
 use Rattle.lnt_io.specs.declared.status.Status.TheVariants.{Done, No}
 use Rattle.lnt_wire.specs.declared.format.Format.{Format}
 use Rattle.lnt_wire.specs.declared.format.Order.{Order}
-use Rattle.lnt_unit.specs.Converting.{IsConverted}
-use Rattle.lnt_unit.specs.ConvertFaults.{IsConvertFault}
+use Rattle.lnt_unit.specs.Converting.{IsConverted, IsConvertFault}
 use Rattle.lnt_unit.specs.declared.convert.ConvertFault.{ConvertFault}
 use Rattle.lnt_unit.specs.declared.convert.ConvertFault.TheVariants.{Malformed, TooLarge, Memory}
 use Rattle.lnt_unit.specs.FaultTexts.{convert_fault_text}
 use Rattle.lnt_text.specs.Texts.{malformed_text}
+use Rattle.lnt_older.specs.Sections.{IsUpgraded, AreListed, IsUpgradeFault}
+use Rattle.lnt_older.specs.declared.directories.Directory.{Directory}
+use Rattle.lnt_older.specs.declared.section.UpgradeFault.{UpgradeFault}
+use Rattle.lnt_older.specs.declared.section.UpgradeFault.TheVariants as upgrade
 
 -- what was appended to a writer that held these bytes is such a text, and nothing else
 abbrev pub IsPrintedIn : (List ℕ → Type 0) → Option (List ℕ) → Option (List ℕ) → Type 0
@@ -39,3 +42,28 @@ IsConversionTold order section format to old new No = IsRefusalTold order sectio
 abbrev pub IsConversionBegun : Order → List ℕ → Format → Order → Option (List ℕ) → Option (List ℕ) → Type 0
 IsConversionBegun order section format to old new =
     Keeps old new ⊎ HasBegun (IsConversionTold order section format to old) old new
+
+-- ---- what was written if a section was written anew, or wasn't, or if that stopped
+
+-- why a section isn't written anew; for lack of memory nothing is printed
+abbrev pub upgrade_refusal : UpgradeFault → List ℕ
+upgrade_refusal (upgrade.Malformed fault) = malformed_text fault ++ codes "\n"
+upgrade_refusal (upgrade.Directories place) = codes "no 44 directories record " ++ decimal place ++ codes "\n"
+upgrade_refusal (upgrade.TooLarge offset) = refusal_text (TooLarge offset)
+upgrade_refusal upgrade.Memory = []
+
+-- How the work on a section ends, whose file of directories has these bytes (text), if there is one: the section of version 5 that says
+-- what its units say was printed, or the line that says why there is none.
+abbrev pub IsUpgradeTold : Order → ℕ → List ℕ → Option (List ℕ) → Option (List ℕ) → Option (List ℕ) → Status → Type 0
+IsUpgradeTold order address_size section text old new Done =
+    (directories : List Directory) × AreListed order section text directories
+    × IsPrintedIn (IsUpgraded order address_size directories section) old new
+IsUpgradeTold order address_size section text old new No =
+    (fault : UpgradeFault) × (fault ≢ upgrade.Memory) × IsUpgradeFault order address_size section text fault
+    × Appends old new (upgrade_refusal fault)
+
+-- What was appended to a writer that held these bytes is nothing, or a prefix of what the work on the section might have printed, and
+-- nothing else.
+abbrev pub IsUpgradeBegun : Order → ℕ → List ℕ → Option (List ℕ) → Option (List ℕ) → Option (List ℕ) → Type 0
+IsUpgradeBegun order address_size section text old new =
+    Keeps old new ⊎ HasBegun (IsUpgradeTold order address_size section text old) old new

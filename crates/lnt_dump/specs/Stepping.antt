@@ -1,8 +1,7 @@
 -- What the bodies of this crate say of one step. No public contract speaks of it.
 use Rattle.std.specs.Prelude.{◌≡◌, ℕ, ◌+◌, Bool, IsTrue, List, ◌++◌, length, Option, Some, None}
 use Rattle.std.specs.Io.KnownBytes.{Appends}
-use Rattle.lnt_wire.specs.At.{At}
-use Rattle.lnt_wire.specs.Reading.{Reads}
+use Rattle.lnt_wire.specs.Reading.{At, Reads}
 use Rattle.lnt_wire.specs.declared.format.Format.{Format}
 use Rattle.lnt_wire.specs.declared.format.Order.{Order}
 use Rattle.lnt_header.specs.declared.header.Entry.{Entry}

@@ -1,5 +1,5 @@
 -- What `units` prints.
-use Rattle.std.specs.Prelude.{◌≡◌, ◌<◌, ℕ, List, [], ◌++◌, Option, Some, None, IfSome, codes, decimal, All, flat_map}
+use Rattle.std.specs.Prelude.{ℕ, ◌+◌, List, [], ◌∷◌, ◌++◌, ◌≡◌, ◌<◌, Option, Some, None, IfSome, codes, decimal, All, flat_map}
 use Rattle.std.specs.Io.KnownBytes.{Appends}
 use Rattle.lnt_wire.specs.declared.fault.Fault.{Fault}
 use Rattle.lnt_wire.specs.declared.format.Format.{Format}
@@ -11,6 +11,13 @@ use Rattle.lnt_wire.specs.Frames.{AreFrames}
 use Rattle.lnt_io.specs.declared.status.Status.{Status}
 use Rattle.lnt_io.specs.declared.status.Status.TheVariants.{Done, No}
 use Rattle.lnt_text.specs.Texts.{malformed_text}
+
+-- ---- lines of items that are counted
+
+-- the lines of items, one after another, with their numbers from `first` on
+abbrev pub numbered : {X : Type 0} → (ℕ → X → List ℕ) → ℕ → List X → List ℕ
+numbered line first [] = []
+numbered line first (x ∷ xs) = line first x ++ numbered line (first + 1) xs
 
 -- the bits of an offset in a format
 abbrev pub width : Format → ℕ

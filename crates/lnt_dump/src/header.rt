@@ -7,9 +7,8 @@ ghost use Rattle.lnt_wire.specs.Borrowed.{value_of};
 ghost use Rattle.lnt_wire.specs.Bytes.{NoneSpelled};
 ghost use Rattle.lnt_header_bytes.specs.TableBytes.{EntryBytes};
 ghost use Rattle.lnt_dump.specs.Headers.{block_text, entry_end, entry_line, header_lines, numbers_line, value_text};
-ghost use Rattle.lnt_dump.specs.Numbered.{numbered};
+ghost use Rattle.lnt_dump.specs.Units.{numbered, unit_line};
 ghost use Rattle.lnt_dump.specs.Stepping.{IsPaged, PassesPrinting};
-ghost use Rattle.lnt_dump.specs.Units.{unit_line};
 
 use crate::page::turn_full;
 use crate::units::width_of;

@@ -1,6 +1,6 @@
 //! Lines of rows, written backwards from their ends, so that no digits have to be counted or moved.
 ghost use Rattle.std.specs.Prelude.{◌≡◌, ◌+◌, ◌<◌, ◌≤◌, ◌∷◌, ◌++◌, [], decimal, drop};
-ghost use Rattle.lnt_dump.specs.Rows.{mark_text, marks_text, row_line as line_of_row};
+ghost use Rattle.lnt_dump.specs.Operations.{mark_text, marks_text, row_line as line_of_row};
 
 use lnt_machine::Row;
 use lnt_text::{address_before, decimal_before};

@@ -7,7 +7,7 @@ ghost use Rattle.lnt_wire.specs.Leb128.{UnsignedLeb};
 ghost use Rattle.lnt_header.specs.Joins.{Each};
 ghost use Rattle.lnt_header.specs.OpRules.{AreOperands, StandsFor, op_of};
 ghost use Rattle.lnt_header.specs.declared.op.Op.{Op};
-ghost use Rattle.lnt_dump.specs.Numbered.{numbered};
+ghost use Rattle.lnt_dump.specs.Units.{numbered};
 ghost use Rattle.lnt_dump.specs.Operations.{bytes_text, op_line, op_text, operand_text};
 ghost use Rattle.lnt_dump.specs.Stepping.{HasOperands, IsPaged, IsUnitOf};
 

@@ -4,8 +4,8 @@ ghost use Rattle.lnt_io.specs.Prefixes.{AppendsPrefix};
 ghost use Rattle.lnt_header.specs.declared.op.Op.{Op};
 ghost use Rattle.lnt_machine.specs.Matrix.{rows};
 ghost use Rattle.lnt_unit.specs.Views.{with_ops};
-ghost use Rattle.lnt_dump.specs.Numbered.{numbered};
-ghost use Rattle.lnt_dump.specs.Rows.{row_line as line_of_row};
+ghost use Rattle.lnt_dump.specs.Units.{numbered};
+ghost use Rattle.lnt_dump.specs.Operations.{row_line as line_of_row};
 ghost use Rattle.lnt_dump.specs.Stepping.{IsPaged, IsSound, IsUnitOf};
 
 use crate::line::{MOST, row_line};

@@ -7,9 +7,8 @@ ghost use Rattle.lnt_io.specs.Halts.{IsPrinting};
 ghost use Rattle.lnt_io.specs.declared.status.Status.TheVariants.{No};
 ghost use Rattle.lnt_older.specs.Sections.{IsUpgraded};
 ghost use Rattle.lnt_older.specs.Upgradable.{AreSoundDirectories, CanUpgrade};
-ghost use Rattle.lnt_dump.specs.Printed.{IsPrintedIn};
+ghost use Rattle.lnt_dump.specs.Printed.{IsPrintedIn, IsUpgradeBegun, IsUpgradeTold, upgrade_refusal};
 ghost use Rattle.lnt_dump.specs.Stepping.{IsPrefixIn};
-ghost use Rattle.lnt_dump.specs.Upgraded.{IsUpgradeBegun, IsUpgradeTold, upgrade_refusal};
 
 use crate::convert::print_refusal;
 use crate::faults::print_fault;

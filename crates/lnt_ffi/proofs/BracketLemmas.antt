@@ -11,7 +11,7 @@ use Rattle.lnt_spans.specs.declared.span.Span.{Span}
 use Rattle.lnt_spans.specs.Positions.{IsBelow, IsAtMost}
 use Rattle.lnt_spans.specs.Spans.{AreInOrder}
 use Rattle.lnt_spans.proofs.BetweenLaws.{ends_before, none_empty}
-use Rattle.lnt_spans.specs.Brackets.{IsBracket}
+use Rattle.lnt_spans.specs.Stepping.{IsBracket}
 use Rattle.lnt_ffi.specs.Flat.{span_of, FlatSpan}
 use Rattle.lnt_ffi.specs.Index.{begins_below, bucket, first_low, IsBucketIndex, last_low, spans_below}
 use Rattle.lnt_ffi.proofs.IndexLemmas.{more_below, unseen}

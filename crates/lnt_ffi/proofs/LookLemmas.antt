@@ -6,7 +6,7 @@ use Rattle.lnt_spans.specs.declared.position.Position.{Position}
 use Rattle.lnt_spans.specs.declared.span.Span.{Span}
 use Rattle.lnt_spans.specs.Positions.{IsBelow, IsAtMost}
 use Rattle.lnt_spans.specs.Spans.{AreInOrder, span_answer}
-use Rattle.lnt_spans.specs.Brackets.{IsBracket}
+use Rattle.lnt_spans.specs.Stepping.{IsBracket}
 use Rattle.lnt_spans.proofs.BracketLaws.{bracket_below, bracket_above, found_inside, found_nowhere}
 use Rattle.lnt_ffi.specs.Flat.{answer_of, span_of, FlatSpan}
 

@@ -1,5 +1,5 @@
 -- What each call returns and writes for C.
-use Rattle.std.specs.Prelude.{◌≡◌, ◌≤◌, ℕ, Bool, nat_le, true, false, if◌then◌else◌, Some, None, List, ◌++◌, length, map, take, drop}
+use Rattle.std.specs.Prelude.{◌≡◌, ◌≤◌, ◌⊎◌, ℕ, Bool, nat_le, true, false, if◌then◌else◌, Some, None, List, ◌++◌, length, map, take, drop}
 use Rattle.std.specs.List.Sorted.{IsPermutation}
 use Rattle.lnt_header.specs.declared.unit_parts.UnitParts.{UnitParts}
 use Rattle.lnt_sequences.specs.RowSpans.{spans_of}
@@ -10,14 +10,14 @@ use Rattle.lnt_spans.specs.declared.position.Position.{Position}
 use Rattle.lnt_spans.specs.declared.span.Span.{Span}
 use Rattle.lnt_spans.specs.Spans.{AreInOrder, span_answer}
 use Rattle.lnt_lines.specs.declared.no.No.{No}
-use Rattle.lnt_lines.specs.Drafts.{IsIndexOfSection}
+use Rattle.lnt_lines.specs.Judging.{IsIndexOfSection}
 use Rattle.lnt_lines.specs.Good.{IsGood, selected}
 use Rattle.lnt_lines.specs.Indexed.{file_count_in, file_path_in, Indexed}
 use Rattle.lnt_lines.specs.Nos.{IsTrueNo}
 use Rattle.lnt_table.specs.declared.within.CheckedWithin.{CheckedWithin}
 use Rattle.lnt_table.specs.declared.within.Scope.{Scope}
 use Rattle.lnt_table.specs.declared.within.Scope.TheVariants.{All}
-use Rattle.lnt_table.specs.Within.{IsTrueWithin}
+use Rattle.lnt_table.specs.AnyVersion.{IsTrueWithin}
 use Rattle.lnt_table.specs.Written.{IsTableOfUnits}
 use Rattle.lnt_ffi.specs.declared.section.FlatSection.{FlatSection}
 use Rattle.lnt_ffi.specs.declared.unit.FlatUnit.{FlatUnit}
@@ -63,12 +63,15 @@ pub record IsTableOfFlat (section : FlatSection) (version : Version) (bytes : Li
 
 -- ---- each call
 
+-- The verdict is yes, and this is so of the count and the room; or the section is refused, nothing is counted, and the room is as it was.
+abbrev pub IsTold : {A : Type 0} → FlatSection → (ℕ → List A → List A → Type 0) → ℕ → List A → List A → FlatVerdict → Type 0
+IsTold section IsGiven count old new told =
+    (IsGiven count old new × (told ≡ yes)) ⊎ (IsRefused section told × (count ≡ 0) × (new ≡ old))
+
 -- What a room holds that is too short for the spans isn't said.
-pub data IsToldOfSpans (section : FlatSection) (count : ℕ) (old new : List FlatSpan) (told : FlatVerdict) : Type 0 where
-  good : (spans : List Span) → AreSpansOf section spans → count ≡ length spans
-      → (count ≤ length old → map span_of (take count new) ≡ spans) → drop count new ≡ drop count old → told ≡ yes
-      → IsToldOfSpans section count old new told
-  refused : IsRefused section told → count ≡ 0 → new ≡ old → IsToldOfSpans section count old new told
+abbrev pub IsToldOfSpans : FlatSection → ℕ → List FlatSpan → List FlatSpan → FlatVerdict → Type 0
+IsToldOfSpans section = IsTold section (λ count old new. (spans : List Span) × AreSpansOf section spans × (count ≡ length spans)
+    × (count ≤ length old → map span_of (take count new) ≡ spans) × (drop count new ≡ drop count old))
 
 -- what is so of the section and the bytes of a table of any version, at the positions of the scope
 abbrev pub IsFound : Scope → FlatSection → List ℕ → CheckedWithin → Type 0
@@ -91,10 +94,9 @@ pub data IsToldOfPaths (scope : Scope) (section : FlatSection) (text old_table n
 abbrev pub version_of : Bool → Version
 version_of is_wide = if is_wide then Two else One
 
-pub data IsToldOfWriting (section : FlatSection) (is_wide : Bool) (count : ℕ) (old new : List ℕ) (told : FlatVerdict) : Type 0 where
-  good : (bytes : List ℕ) → IsTableOfFlat section (version_of is_wide) bytes → count ≡ length bytes → new ≡ with_prefix bytes old
-      → told ≡ yes → IsToldOfWriting section is_wide count old new told
-  refused : IsRefused section told → count ≡ 0 → new ≡ old → IsToldOfWriting section is_wide count old new told
+abbrev pub IsToldOfWriting : FlatSection → Bool → ℕ → List ℕ → List ℕ → FlatVerdict → Type 0
+IsToldOfWriting section is_wide = IsTold section (λ count old new. (bytes : List ℕ) × IsTableOfFlat section (version_of is_wide) bytes
+    × (count ≡ length bytes) × (new ≡ with_prefix bytes old))
 
 -- ---- units and paths
 
@@ -102,11 +104,9 @@ pub data IsToldOfWriting (section : FlatSection) (is_wide : Bool) (count : ℕ) 
 abbrev pub unit_in : Indexed → ℕ → FlatUnit
 unit_in index offset = record { offset = offset; files = file_count_in index offset }
 
-pub data IsToldOfUnits (section : FlatSection) (count : ℕ) (old new : List FlatUnit) (told : FlatVerdict) : Type 0 where
-  good : (index : Indexed) → IsIndexOfFlat section index → count ≡ length index.units
-      → new ≡ with_prefix (map (unit_in index) index.units) old
-      → told ≡ yes → IsToldOfUnits section count old new told
-  refused : IsRefused section told → count ≡ 0 → new ≡ old → IsToldOfUnits section count old new told
+abbrev pub IsToldOfUnits : FlatSection → ℕ → List FlatUnit → List FlatUnit → FlatVerdict → Type 0
+IsToldOfUnits section = IsTold section (λ count old new. (index : Indexed) × IsIndexOfFlat section index
+    × (count ≡ length index.units) × (new ≡ with_prefix (map (unit_in index) index.units) old))
 
 pub data IsToldOfPath (section : FlatSection) (unit file : ℕ) (is_there : Bool) (count : ℕ) (old new : List ℕ) (told : FlatVerdict) : Type
     0 where

@@ -2,7 +2,7 @@
 ghost use Rattle.std.specs.Prelude.{◌≡◌, length};
 ghost use Rattle.lnt_ffi.specs.ByPath.{paths_in, verdict_of_check};
 ghost use Rattle.lnt_ffi.specs.Told.{IsToldOfPaths, IsToldOfTable, with_prefix};
-ghost use Rattle.lnt_table.specs.Within.{scope_in};
+ghost use Rattle.lnt_table.specs.AnyVersion.{scope_in};
 ghost use Rattle.lnt_table.specs.declared.within.Scope.TheVariants as Scope;
 
 use crate::by_path::{paths_in, verdict_of_check};

@@ -1,6 +1,6 @@
 //! Answers looked up by an index over the spans.
 ghost use Rattle.std.specs.Prelude.{◌≡◌, ◌<◌, ◌≤◌, ◌^◌, ℕ, length, map, None, Some, false, true, MatchBool};
-ghost use Rattle.lnt_spans.specs.Brackets.{IsBracket};
+ghost use Rattle.lnt_spans.specs.Stepping.{IsBracket};
 ghost use Rattle.lnt_spans.specs.Spans.{AreInOrder, span_answer};
 ghost use Rattle.lnt_ffi.specs.Flat.{answer_of, span_of};
 ghost use Rattle.lnt_ffi.specs.Index.{IsBucketIndex};

@@ -9,8 +9,7 @@ use Rattle.lnt_header.specs.declared.header.HeaderParts.{HeaderParts}
 use Rattle.lnt_header.specs.declared.header.Pair.{Pair}
 use Rattle.lnt_files.specs.Contents.{content_md5, path_text, place_of}
 use Rattle.lnt_files.specs.Paths.{directory_text, file_path, listed_sum, path_bytes}
-use Rattle.lnt_files.specs.Seen.{EntryAt, HasSeenEntries}
-use Rattle.lnt_files.specs.Walks.{Says, EntryStep, EntryView}
+use Rattle.lnt_files.specs.Walks.{EntryAt, HasSeenEntries, Says, EntryStep, EntryView}
 use Rattle.lnt_files.proofs.PathLemmas.{within}
 use Rattle.lnt_files.proofs.JudgedLemmas.{seen_more, says_in, some_left}
 use Rattle.std.proofs.lemmas.Grind.{common_steps}

@@ -1,9 +1,8 @@
 -- Where the texts of a section end.
 use Rattle.std.proofs.Common.{◌≡◌, ◌≢◌, ℕ, zero, suc, ◌-◌, ◌<◌, ◌≤◌, List, [], ◌∷◌, length, get_or, drop, Option, None, refl, ap, arith}
 use Rattle.std.proofs.Common.{◌⊎◌, inl, inr, false, IsSome, option_map, is_some}
-use Rattle.lnt_wire.specs.FormBytes.{HasNoZero}
-use Rattle.lnt_wire.specs.Texts.{up_to_zero}
-use Rattle.lnt_files.specs.TextEnds.{TextsEndAt}
+use Rattle.lnt_wire.specs.FormBytes.{HasNoZero, up_to_zero}
+use Rattle.lnt_files.specs.Tables.{TextsEndAt}
 use Rattle.std.proofs.lemmas.Grind.{common_steps}
 use Rattle.lnt_wire.proofs.TextLemmas.{no_end}
 

@@ -1,16 +1,15 @@
 -- What entries say that are read where they lie.
 use Rattle.std.proofs.Common.{◌≡◌, ◌≢◌, ℕ, zero, suc, ◌+◌, ◌<◌, ◌≤◌, List, [], ◌∷◌, ◌++◌, length, get_or, Option, Some, None, refl, ap, sym}
 use Rattle.std.proofs.Common.{subst, lit≤, arith, slice_get, length-append}
-use Rattle.lnt_wire.specs.At.{At}
+use Rattle.lnt_wire.specs.Reading.{At, Reads}
 use Rattle.lnt_wire.specs.Borrowed.{value_of}
 use Rattle.lnt_wire.specs.Bytes.{NoneSpelled}
 use Rattle.lnt_wire.specs.FormBytes.{ValueBytes}
-use Rattle.lnt_wire.specs.Reading.{Reads}
 use Rattle.lnt_wire.specs.declared.form.Form.TheVariants.{LineStrp, Udata, Data16}
 use Rattle.lnt_wire.specs.declared.form.FormValue.{FormValue}
 use Rattle.lnt_wire.specs.declared.format.Format.{Format}
 use Rattle.lnt_wire.specs.declared.view.ValueView.{ValueView}
-use Rattle.lnt_header_bytes.specs.Layouts.{entry_of}
+use Rattle.lnt_header_bytes.specs.Borrowed.{entry_of}
 use Rattle.lnt_header_bytes.proofs.ValueLaws.{AreReadTo, read_none, read_more, entry_read, no_entry}
 use Rattle.lnt_header_bytes.specs.TableBytes.{EntryBytes}
 use Rattle.lnt_header.specs.declared.header.Pair.{Pair}

@@ -11,9 +11,9 @@ use Rattle.lnt_header.specs.declared.header.Pair.{Pair}
 use Rattle.lnt_files.specs.declared.tables.EntryTableFault.{EntryTableFault}
 use Rattle.lnt_files.specs.declared.tables.EntryTableFault.TheVariants.{DirectoryNumber}
 use Rattle.lnt_files.specs.Contents.{directory_number}
-use Rattle.lnt_files.specs.Seen.{first_missing, NamesDirectoryBelow, HasAll, IsFilesFault, HasSeenEntries}
+use Rattle.lnt_files.specs.Walks.{first_missing, NamesDirectoryBelow, HasAll, IsFilesFault, HasSeenEntries, Says, EntryStep, GivesEntry}
+use Rattle.lnt_files.specs.Walks.{EntryView}
 use Rattle.lnt_files.specs.Tables.{HasUsableFormat, HasPath, AreUsableTables, IsTablesFault}
-use Rattle.lnt_files.specs.Walks.{Says, EntryStep, GivesEntry, EntryView}
 use Rattle.std.proofs.lemmas.Grind.{common_steps}
 
 -- ---- what was seen

@@ -13,8 +13,7 @@ use Rattle.lnt_header.specs.declared.header.Pair.{Pair}
 use Rattle.lnt_header_bytes.specs.Borrowed.{BorrowedTable}
 use Rattle.lnt_files.specs.declared.files.PathEnd.{PathEnd}
 use Rattle.lnt_files.specs.Contents.{sum_of}
-use Rattle.lnt_files.specs.Files.{KeptFile, kept_path, kept_sum, AreFilesOf}
-use Rattle.lnt_files.specs.Kept.{kept_files, EndAt}
+use Rattle.lnt_files.specs.Files.{KeptFile, kept_path, kept_sum, AreFilesOf, kept_files, EndAt}
 use Rattle.lnt_files.specs.Stepping.{start_of, IsKeptFile, KeepsFiles}
 use Rattle.lnt_files.specs.Paths.{file_path}
 use Rattle.lnt_files.specs.Tables.{AreUsableTables}

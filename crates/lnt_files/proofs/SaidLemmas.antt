@@ -2,7 +2,7 @@
 use Rattle.std.proofs.Common.{◌≡◌, ◌↔◌, ℕ, List, Option, Some, None, sym, ap, ◌∙◌, arith, Bool, false, IsTrue, IsSome}
 use Rattle.std.specs.Option.{option_map, option_and_then, option_map_or}
 use Rattle.lnt_wire.specs.Borrowed.{value_of}
-use Rattle.lnt_wire.specs.Texts.{text_of}
+use Rattle.lnt_wire.specs.FormBytes.{text_of}
 use Rattle.lnt_wire.specs.declared.view.ValueView.{ValueView}
 use Rattle.lnt_header.specs.declared.header.Entry.{Entry}
 use Rattle.lnt_header.specs.declared.header.Pair.{Pair}

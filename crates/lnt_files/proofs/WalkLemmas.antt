@@ -1,6 +1,6 @@
 -- Walks over entries.
 use Rattle.std.proofs.Common.{◌≡◌, ◌≢◌, ℕ, suc, ◌-◌, List, [], ◌∷◌, length, length-drop, refl, sym, ap, ◌∙◌, arith}
-use Rattle.lnt_wire.specs.At.{At}
+use Rattle.lnt_wire.specs.Reading.{At}
 use Rattle.lnt_wire.specs.Bytes.{NoneSpelled}
 use Rattle.lnt_wire.specs.declared.format.Format.{Format}
 use Rattle.lnt_header_bytes.specs.Borrowed.{first_entries, BorrowedTable, AreEntryBytes}

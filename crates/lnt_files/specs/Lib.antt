@@ -1,11 +1,7 @@
 pub mod Contents
 pub mod FaultTexts
 pub mod Files
-pub mod Kept
 pub mod Paths
-pub mod Pieces
-pub mod Seen
 pub mod Stepping
 pub mod Tables
-pub mod TextEnds
 pub mod Walks

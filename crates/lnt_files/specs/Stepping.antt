@@ -1,9 +1,10 @@
 -- What the bodies of this crate say of one step. No public contract speaks of it.
-use Rattle.std.specs.Prelude.{◌≡◌, ℕ, zero, suc, List, [], ◌∷◌, length, Option, Some, option_map, option_and_then}
+use Rattle.std.specs.Prelude.{ℕ, List, ◌≡◌, zero, suc, [], ◌∷◌, length, Option, Some, option_map, option_and_then}
+use Rattle.lnt_files.specs.declared.paths.Pieces.{Pieces}
+use Rattle.lnt_files.specs.Paths.{join, file_path}
 use Rattle.std.specs.List.{AllZip, slice_get}
-use Rattle.lnt_wire.specs.At.{At}
+use Rattle.lnt_wire.specs.Reading.{At, Reads}
 use Rattle.lnt_wire.specs.Borrowed.{value_of}
-use Rattle.lnt_wire.specs.Reading.{Reads}
 use Rattle.lnt_wire.specs.declared.form.FormValue.{FormValue}
 use Rattle.lnt_wire.specs.declared.format.Format.{Format}
 use Rattle.lnt_wire.specs.declared.view.ValueView.{ValueView}
@@ -14,10 +15,14 @@ use Rattle.lnt_header.specs.declared.header.Pair.{Pair}
 use Rattle.lnt_files.specs.declared.components.Places.{Places}
 use Rattle.lnt_files.specs.declared.files.PathEnd.{PathEnd}
 use Rattle.lnt_files.specs.Contents.{sum_of}
-use Rattle.lnt_files.specs.Files.{KeptFile}
-use Rattle.lnt_files.specs.Kept.{EndAt, kept_files}
-use Rattle.lnt_files.specs.Paths.{file_path}
+use Rattle.lnt_files.specs.Files.{KeptFile, EndAt, kept_files}
 use Rattle.lnt_files.specs.Walks.{Says, EntryView}
+
+-- ---- the pieces of the path of a file: directory 0, the file's own directory, and its name. No public contract speaks of it.
+
+-- the name, below the directory, below directory 0
+abbrev pub whole_path : Pieces → List ℕ
+whole_path pieces = join (join pieces.first.now pieces.directory.now) pieces.name.now
 
 -- ---- the components of an entry
 

@@ -1,6 +1,7 @@
 -- What makes the directories and files of a header usable, and what is wrong if they aren't (DWARF 5, section 6.2.4.1).
 --     line, general   the bytes of .debug_line_str and of .debug_str
-use Rattle.std.specs.Prelude.{◌≡◌, ℕ, ◌<◌, ◌⊎◌, List, [], length, IsSome, IsSomeAnd, IfSome}
+use Rattle.std.specs.Prelude.{ℕ, ◌<◌, ◌↔◌, List, drop, IsSome, ◌≡◌, ◌⊎◌, [], length, IsSomeAnd, IfSome}
+use Rattle.lnt_wire.specs.FormBytes.{up_to_zero}
 use Rattle.std.specs.List.{AllByRecursion}
 use Rattle.lnt_wire.specs.declared.form.Form.{Form}
 use Rattle.lnt_wire.specs.declared.form.Form.TheVariants.{Data1, Data2, Data4, Data8, Data16, Text, Strp, LineStrp, Udata}
@@ -12,6 +13,19 @@ use Rattle.lnt_header.specs.HeaderTests.{IsFirstNot}
 use Rattle.lnt_files.specs.declared.tables.EntryTableFault.{EntryTableFault}
 use Rattle.lnt_files.specs.declared.tables.EntryTableFault.TheVariants.{EntryFormat, StringOutside, DirectoryNumber}
 use Rattle.lnt_files.specs.Contents.{content_path, content_directory_index, content_md5, form_at, path_text, directory_number}
+
+-- ---- which offsets into a string section have a text: those before its last zero byte and that byte's own (DWARF 5, section 7.5.5)
+
+-- the bytes of .debug_line_str and of .debug_str
+pub record Sections : Type 0 where
+  pub line : List ℕ
+  pub general : List ℕ
+
+-- exactly the offsets below the end have a text
+pub record TextsEndAt (end : ℕ) (section : List ℕ) : Type 0 where
+  pub texts : (offset : ℕ) → IsSome (up_to_zero (drop offset section)) ↔ (offset < end)
+
+-- ---- tables that can be used
 
 -- the forms of paths
 abbrev pub IsPathForm : Form → Type 0

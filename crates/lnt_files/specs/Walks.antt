@@ -1,6 +1,6 @@
 -- Entries that are read in place, one after another. No public contract speaks of it.
-use Rattle.std.specs.Prelude.{◌≡◌, ℕ, List, [], ◌∷◌, Option, Some, None, option_map}
-use Rattle.lnt_wire.specs.At.{At}
+use Rattle.std.specs.Prelude.{◌≡◌, ℕ, List, [], ◌∷◌, Option, Some, None, option_map, ◌<◌, Bool, true, false, ◌++◌, length}
+use Rattle.lnt_wire.specs.Reading.{At}
 use Rattle.lnt_wire.specs.Borrowed.{value_of}
 use Rattle.lnt_wire.specs.declared.form.Form.{Form}
 use Rattle.lnt_wire.specs.declared.form.Form.TheVariants.{LineStrp, Udata, Data16}
@@ -11,7 +11,13 @@ use Rattle.lnt_files.specs.declared.components.Places.{Places}
 use Rattle.lnt_files.specs.declared.components.Usual.{Usual}
 use Rattle.lnt_files.specs.declared.components.Usual.TheVariants.{Path, IndexedPath, SummedPath, Other}
 pub use Rattle.lnt_files.specs.declared.walk.EntryView.{EntryView}
-use Rattle.lnt_files.specs.Contents.{content_path, content_directory_index, content_md5, place_of, component}
+use Rattle.lnt_files.specs.Contents.{content_path, content_directory_index, content_md5, place_of, component, directory_number}
+use Rattle.std.specs.List.{AllByRecursion, slice_get}
+use Rattle.lnt_header.specs.HeaderTests.{IsFirstNot}
+use Rattle.lnt_header.specs.declared.header.EntryTable.TheVariants.{Files}
+use Rattle.lnt_files.specs.declared.tables.EntryTableFault.{EntryTableFault}
+use Rattle.lnt_files.specs.declared.tables.EntryTableFault.TheVariants.{StringOutside, DirectoryNumber}
+use Rattle.lnt_files.specs.Tables.{HasPath}
 
 -- ---- the components of an entry
 
@@ -72,3 +78,38 @@ pub record IsWalk (table : BorrowedTable) (usual : Usual) (places : Places) (lef
   pub places_are : ArePlaces places table.pairs
   pub order_is : at.order ≡ table.order
   pub bytes : AreEntryBytes (left_of table left at) at.rest
+
+-- ---- entries of a table that a walk has seen. No public contract speaks of it.
+
+-- the first missing index, once it is known whether this one exists
+abbrev pub first_missing : Option ℕ → ℕ → Bool → Option ℕ
+first_missing (Some first) index is_there = Some first
+first_missing None index true = None
+first_missing None index false = Some index
+
+-- a file whose directory number is below the count
+abbrev pub NamesDirectoryBelow : ℕ → List Pair → Entry → Type 0
+NamesDirectoryBelow count pairs file = directory_number pairs file < count
+
+-- each file has the text of its path and its directory
+pub record HasAll (line general : List ℕ) (count : ℕ) (files : BorrowedTable) : Type 0 where
+  pub paths : AllByRecursion (HasPath line general files.pairs) files.entries
+  pub numbers : AllByRecursion (NamesDirectoryBelow count files.pairs) files.entries
+
+-- the first file without the text of its path; otherwise the first without its directory
+abbrev pub IsFilesFault : List ℕ → List ℕ → ℕ → BorrowedTable → EntryTableFault → Type 0
+IsFilesFault line general count files (StringOutside Files index) = IsFirstNot (HasPath line general files.pairs) files.entries index
+IsFilesFault line general count files (DirectoryNumber index) =
+    AllByRecursion (HasPath line general files.pairs) files.entries × IsFirstNot (NamesDirectoryBelow count files.pairs) files.entries index
+IsFilesFault line general count files fault = ⊥
+
+-- the components of the entry with this number, if there is one
+abbrev pub EntryAt : BorrowedTable → ℕ → Option EntryView → Type 0
+EntryAt table number None = slice_get table.entries number ≡ None
+EntryAt table number (Some view) = (entry : Entry) × (slice_get table.entries number ≡ Some entry) × Says table.pairs entry view
+
+-- A walk over the table stands after these entries.
+pub record HasSeenEntries (seen : List Entry) (table walk : BorrowedTable) (count : ℕ) : Type 0 where
+  pub joined : table.entries ≡ seen ++ walk.entries
+  pub count_is : length seen ≡ count
+  pub pairs_are : walk.pairs ≡ table.pairs

@@ -1,8 +1,8 @@
 //! Which offsets into the string sections have a text (DWARF 5, section 7.5.5).
 ghost use Rattle.std.specs.Prelude.{◌≡◌, ◌↔◌, IsTrue, IsSome};
 ghost use Rattle.lnt_wire.specs.Borrowed.{value_of};
-ghost use Rattle.lnt_wire.specs.Texts.{text_of, up_to_zero};
-ghost use Rattle.lnt_files.specs.TextEnds.{Sections, TextsEndAt};
+ghost use Rattle.lnt_wire.specs.FormBytes.{text_of, up_to_zero};
+ghost use Rattle.lnt_files.specs.Tables.{Sections, TextsEndAt};
 
 use lnt_wire::{Strings, ValueView};
 use std::marker::Model;
@@ -17,7 +17,7 @@ pub struct StringEnds<'a> {
 }
 
 impl<'a> Model for StringEnds<'a> {
-    ghost use Rattle.lnt_files.specs.TextEnds.{Sections, TextsEndAt};
+    ghost use Rattle.lnt_files.specs.Tables.{Sections, TextsEndAt};
 
     ghost Value = { Sections };
 

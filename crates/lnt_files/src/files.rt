@@ -1,7 +1,6 @@
 //! The files of a header, kept without its bytes.
 ghost use Rattle.std.specs.Prelude.{◌≡◌, ◌+◌, ◌<◌, [], IfOk, length, slice_get, option_map, option_and_then, option_copied};
-ghost use Rattle.lnt_files.specs.Files.{AreFilesOf, kept_path, kept_sum};
-ghost use Rattle.lnt_files.specs.Kept.{EndAt, kept_files};
+ghost use Rattle.lnt_files.specs.Files.{AreFilesOf, kept_path, kept_sum, EndAt, kept_files};
 ghost use Rattle.lnt_files.specs.Stepping.{start_of, KeepsFiles};
 ghost use Rattle.lnt_files.specs.Tables.{AreUsableTables};
 
@@ -33,11 +32,9 @@ pub struct Files {
 
 impl Model for Files {
     ghost use Rattle.std.specs.Prelude.{List, length};
-    ghost use Rattle.lnt_files.specs.Files.{KeptFile};
+    ghost use Rattle.lnt_files.specs.Files.{KeptFile, EndAt, kept_files};
 
     ghost Value = { List KeptFile };
-
-    ghost use Rattle.lnt_files.specs.Kept.{EndAt, kept_files};
 
     ghost view = { λ files. kept_files files.paths.items 0 files.kept.items };
 

@@ -2,7 +2,7 @@
 ghost use Rattle.std.specs.Prelude.{◌≡◌, ◌≤◌, ◌++◌, length, take, drop, OnOk, IsSome, Some, option_map};
 ghost use Rattle.lnt_header.specs.declared.header.Entry.{Entry};
 ghost use Rattle.lnt_files.specs.Paths.{begins_with_slash, ends_with_slash, join, directory_text, directory_path, file_path};
-ghost use Rattle.lnt_files.specs.Pieces.{whole_path};
+ghost use Rattle.lnt_files.specs.Stepping.{whole_path};
 ghost use Rattle.lnt_files.specs.Walks.{Says};
 
 use crate::in_place::entry_at;

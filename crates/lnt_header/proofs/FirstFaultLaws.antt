@@ -5,9 +5,9 @@ use Rattle.lnt_wire.specs.declared.fault.Reason.{Reason}
 use Rattle.lnt_wire.proofs.CodeLaws.{peel}
 use Rattle.lnt_wire.proofs.FieldFaultLaws.{IsOneFieldFault}
 use Rattle.lnt_wire.proofs.LengthLaws.{same_rest}
-use Rattle.lnt_header.specs.FirstFaults.{FirstOf, FirstOfSeveral}
-use Rattle.lnt_header.specs.FirstFaults.FirstOf.{first, second}
-use Rattle.lnt_header.specs.FirstFaults.FirstOfSeveral.{next}
+use Rattle.lnt_header.specs.FieldFaults.{FirstOf, FirstOfSeveral}
+use Rattle.lnt_header.specs.FieldFaults.FirstOf.{first, second}
+use Rattle.lnt_header.specs.FieldFaults.FirstOfSeveral.{next}
 use Rattle.lnt_header.specs.Joins.{Both, Each, Several}
 use Rattle.lnt_header.proofs.ReaderLaws.{none_first, none_second, none_several}
 use Rattle.std.proofs.lemmas.Grind.{common_steps}

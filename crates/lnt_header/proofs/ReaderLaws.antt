@@ -1,19 +1,17 @@
 -- Readers of a field, one after another: what they read together, and why nothing is read.
 use Rattle.std.proofs.Common.{◌≡◌, ℕ, zero, suc, ◌<◌, List, [], ◌∷◌, ◌++◌, length, refl, sym, ap, subst, ◌∙◌, append_assoc, add-zero, arith}
 use Rattle.std.proofs.lemmas.List.{length-append, append-nil}
-use Rattle.lnt_wire.specs.At.{At}
+use Rattle.lnt_wire.specs.Reading.{At, Reads, Refuses}
 use Rattle.lnt_wire.specs.Bytes.{NoneSpelled, IsCode}
 use Rattle.lnt_wire.specs.declared.format.Order.{Order}
 use Rattle.lnt_wire.specs.declared.fault.Fault.{Fault}
 use Rattle.lnt_wire.specs.declared.fault.Reason.{Reason}
-use Rattle.lnt_wire.specs.Reading.{Reads, Refuses}
 use Rattle.lnt_wire.proofs.CodeLaws.{peel}
 use Rattle.lnt_wire.proofs.LengthLaws.{same_rest}
-use Rattle.lnt_header.specs.FieldFaults.{IsCutField}
+use Rattle.lnt_header.specs.FieldFaults.{IsCutField, FirstOf, FirstOfSeveral}
 use Rattle.lnt_header.specs.FieldFaults.IsCutField.{number, text, leb, block, sized_block, operation}
-use Rattle.lnt_header.specs.FirstFaults.{FirstOf, FirstOfSeveral}
-use Rattle.lnt_header.specs.FirstFaults.FirstOf.{second}
-use Rattle.lnt_header.specs.FirstFaults.FirstOfSeveral.{next}
+use Rattle.lnt_header.specs.FieldFaults.FirstOf.{second}
+use Rattle.lnt_header.specs.FieldFaults.FirstOfSeveral.{next}
 use Rattle.lnt_header.specs.Joins.{Each, Both, Several}
 use Rattle.std.proofs.lemmas.Grind.{common_steps}
 

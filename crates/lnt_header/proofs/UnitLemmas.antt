@@ -2,13 +2,11 @@
 use Rattle.std.proofs.Common.{◌≡◌, ap, ℕ, List, arith}
 use Rattle.lnt_header.specs.declared.fault.UnitFault.{UnitFault}
 use Rattle.lnt_header.specs.declared.op.Op.{Op}
-use Rattle.lnt_header.specs.HeaderRules.{IsHeader, HeaderParts}
-use Rattle.lnt_header.specs.HeaderTests.{IsFirstNot, IsPartsFault}
+use Rattle.lnt_header.specs.HeaderRules.{IsHeader, HeaderParts, IsUnit}
+use Rattle.lnt_header.specs.HeaderTests.{IsFirstNot, IsPartsFault, IsUnitFault}
 use Rattle.lnt_header.proofs.FirstLaws.{first_is_wrong}
 use Rattle.lnt_header.specs.OpRules.{Admits}
 use Rattle.lnt_header.specs.declared.unit_parts.UnitParts.{UnitParts}
-use Rattle.lnt_header.specs.UnitRules.{IsUnit}
-use Rattle.lnt_header.specs.UnitTests.{IsUnitFault}
 use Rattle.std.proofs.lemmas.Grind.{common_steps}
 
 -- a header's fault is a unit's

@@ -8,7 +8,8 @@ use Rattle.lnt_header.specs.declared.header.Entry.{Entry}
 pub use Rattle.lnt_header.specs.declared.header.HeaderParts.{HeaderParts}
 use Rattle.lnt_header.specs.declared.header.Pair.{Pair}
 use Rattle.lnt_header.specs.declared.numbers.NumberParts.{NumberParts}
-use Rattle.lnt_header.specs.OpRules.{known_lengths, last_known}
+use Rattle.lnt_header.specs.OpRules.{known_lengths, last_known, Admits}
+use Rattle.lnt_header.specs.declared.unit_parts.UnitParts.{UnitParts}
 
 -- An address has 2, 4 or 8 bytes.
 abbrev pub IsAddressSize : ℕ → Type 0
@@ -66,3 +67,9 @@ pub record IsHeader (h : HeaderParts) : Type 0 where
   pub numbers : AreHeaderNumbers h.numbers
   pub directories : IsEntryTable h.directory_format h.directories
   pub files : IsEntryTable h.file_format h.files
+
+-- ---- which units there are, whatever bytes encode them
+
+pub record IsUnit (unit : UnitParts) : Type 0 where
+  pub header : IsHeader unit.header
+  pub ops : AllByRecursion (Admits unit.header.numbers) unit.ops

@@ -9,7 +9,9 @@ use Rattle.lnt_header.specs.declared.fault.UnitFault.TheVariants.{HeaderNumber, 
 use Rattle.lnt_header.specs.declared.header.Entry.{Entry}
 use Rattle.lnt_header.specs.declared.header.Pair.{Pair}
 use Rattle.lnt_header.specs.declared.header.EntryTable.TheVariants.{Directories, Files}
-use Rattle.lnt_header.specs.HeaderRules.{AreHeaderNumbers, HeaderParts}
+use Rattle.lnt_header.specs.HeaderRules.{AreHeaderNumbers, HeaderParts, IsHeader}
+use Rattle.lnt_header.specs.OpRules.{Admits}
+use Rattle.lnt_header.specs.declared.unit_parts.UnitParts.{UnitParts}
 
 -- the first of the values that fails, and its index
 pub record IsFirstNot {X : Type 0} (IsSo : X → Type 0) (values : List X) (index : ℕ) : Type 0 where
@@ -71,3 +73,11 @@ IsPartsFault (TextHoldsZero Directories index) h = HasNumbersAndFormats h × Are
 IsPartsFault (TextHoldsZero Files index) h =
     HasNumbersAndFormats h × AreOfFormats h × AllByRecursion HasSoundTexts h.directories × IsFirstNot HasSoundTexts h.files index
 IsPartsFault (OpNotOfUnit index) h = ⊥
+
+-- ---- what `Unit::new` finds wrong with parts that no decoded unit has. The header is checked before the operations, and the
+-- least index is reported.
+
+-- What is wrong. Whatever is checked earlier is valid.
+abbrev pub IsUnitFault : UnitFault → UnitParts → Type 0
+IsUnitFault (OpNotOfUnit index) unit = IsHeader unit.header × IsFirstNot (Admits unit.header.numbers) unit.ops index
+IsUnitFault fault unit = IsPartsFault fault unit.header

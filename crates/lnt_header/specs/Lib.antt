@@ -2,10 +2,7 @@ pub mod Conversion
 pub mod Encoding
 pub mod FaultTexts
 pub mod FieldFaults
-pub mod FirstFaults
 pub mod HeaderRules
 pub mod HeaderTests
 pub mod Joins
 pub mod OpRules
-pub mod UnitRules
-pub mod UnitTests

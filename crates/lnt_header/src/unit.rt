@@ -20,7 +20,7 @@ pub struct Unit {
 
 impl Model for Unit {
     ghost use Rattle.lnt_header.specs.declared.unit_parts.UnitParts.{UnitParts};
-    ghost use Rattle.lnt_header.specs.UnitRules.{IsUnit};
+    ghost use Rattle.lnt_header.specs.HeaderRules.{IsUnit};
 
     ghost Value = { UnitParts };
 
@@ -32,9 +32,9 @@ impl Model for Unit {
 impl Unit {
     ghost use Rattle.std.specs.List.{AllByRecursion};
     ghost use Rattle.lnt_header.specs.OpRules.{Admits};
-    ghost use Rattle.lnt_header.specs.UnitRules.{IsUnit};
+    ghost use Rattle.lnt_header.specs.HeaderRules.{IsUnit};
     ghost use Rattle.lnt_header.specs.Conversion.{unit_in_format};
-    ghost use Rattle.lnt_header.specs.UnitTests.{IsUnitFault};
+    ghost use Rattle.lnt_header.specs.HeaderTests.{IsUnitFault};
 
     /// The unit with these parts, if they have an encoding in the 64-bit format, apart from lengths. Allocates nothing.
     ///

@@ -10,8 +10,7 @@ use Rattle.lnt_wire.specs.declared.form.FormValue.TheVariants.{LineStrp, Strp}
 use Rattle.lnt_wire.specs.Bytes.{Exactly, Then, IsShortest, Appends}
 use Rattle.lnt_wire.specs.FormBytes.{form_of, form_code, FormBytes, IsTooLarge}
 use Rattle.lnt_wire.specs.Leb128.{UnsignedLeb}
-use Rattle.lnt_wire.specs.FrameBytes.{frame_bytes}
-use Rattle.lnt_wire.specs.InitialLength.{initial_length, LengthFits}
+use Rattle.lnt_wire.specs.FrameBytes.{frame_bytes, initial_length, LengthFits}
 use Rattle.lnt_wire.specs.Numbers.{NumberBytes, OffsetBytes, IsLargeOffset, offset_size}
 use Rattle.lnt_header.specs.declared.header.Entry.{Entry}
 use Rattle.lnt_header.specs.declared.header.HeaderParts.{HeaderParts}

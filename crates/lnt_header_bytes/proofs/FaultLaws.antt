@@ -1,8 +1,7 @@
 -- A fault whose law is known refuses by its place and its reason alone.
 use Rattle.std.proofs.Common.{◌≡◌, ℕ, ◌+◌, ◌≤◌, List, [], ◌++◌, length, take, drop, refl, sym, subst, ◌∙◌, add-zero, arith}
 use Rattle.std.proofs.lemmas.List.{append-nil, length-take-le, take-append-drop}
-use Rattle.lnt_wire.specs.At.{At}
-use Rattle.lnt_wire.specs.Reading.{Reads, RefusesField, Refuses}
+use Rattle.lnt_wire.specs.Reading.{At, Reads, RefusesField, Refuses}
 use Rattle.lnt_wire.specs.declared.fault.Fault.{Fault}
 use Rattle.lnt_wire.specs.declared.fault.Reason.{Reason}
 use Rattle.lnt_wire.proofs.FieldFaultLaws.{IsOneFieldFault}

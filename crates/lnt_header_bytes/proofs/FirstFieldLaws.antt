@@ -2,8 +2,7 @@
 use Rattle.std.proofs.Common.{◌≡◌, ℕ, ◌^◌, ◌<◌, ◌≤◌, List, [], ◌∷◌, ◌++◌, length, refl, sym, ap, subst, ◌∙◌, append_assoc, arith}
 use Rattle.std.proofs.lemmas.List.{length-append}
 use Rattle.lnt_wire.specs.FrameBytes.{version_five}
-use Rattle.lnt_wire.specs.FrameFaults.{InFrame}
-use Rattle.lnt_wire.specs.InitialFaults.{IsVersionFault}
+use Rattle.lnt_wire.specs.FrameFaults.{InFrame, IsVersionFault}
 use Rattle.lnt_wire.specs.Numbers.{number_bytes, offset_size}
 use Rattle.lnt_wire.specs.declared.fault.Reason.{Reason}
 use Rattle.lnt_wire.specs.declared.format.Format.{Format}
@@ -16,12 +15,11 @@ use Rattle.lnt_wire.proofs.LengthLaws.{same_prefix, same_number_prefix}
 use Rattle.lnt_wire.proofs.ValueLaws.{offset_width}
 use Rattle.lnt_header_bytes.specs.Broken.{InHeader, IsFirstField, sound_start}
 use Rattle.lnt_header_bytes.specs.Broken.IsFirstField.{frame, start, counted}
-use Rattle.lnt_header_bytes.specs.HeaderFaults.{IsHeaderFault}
+use Rattle.lnt_header_bytes.specs.HeaderFaults.{IsHeaderFault, IsStartFault}
 use Rattle.lnt_header.specs.HeaderRules.{IsAddressSize}
 use Rattle.lnt_header_bytes.proofs.HeaderLaws.{below}
-use Rattle.lnt_header_bytes.specs.StartFaults.{IsStartFault}
-use Rattle.lnt_header.specs.FirstFaults.{FirstOf}
-use Rattle.lnt_header.specs.FirstFaults.FirstOf.{first, second}
+use Rattle.lnt_header.specs.FieldFaults.{FirstOf}
+use Rattle.lnt_header.specs.FieldFaults.FirstOf.{first, second}
 use Rattle.lnt_header.proofs.FirstFaultLaws.{AreOne, field_fault, first_one, IsHere}
 use Rattle.lnt_header_bytes.proofs.HeaderReaders.{fields_fault}
 use Rattle.lnt_header_bytes.proofs.StartReaders.{start_fault, start_spelled}

@@ -2,14 +2,12 @@
 use Rattle.std.proofs.Common.{◌≡◌, ℕ, ◌+◌, ◌^◌, ◌<◌, ◌≤◌, List, [], ◌∷◌, ◌++◌, length, refl, sym, ap, subst, ◌∙◌, append_assoc, arith}
 use Rattle.std.proofs.lemmas.List.{append_cancel_left, append-nil, length-append}
 use Rattle.std.specs.Int.{w8, cast_unsigned}
-use Rattle.lnt_wire.specs.At.{At}
+use Rattle.lnt_wire.specs.Reading.{At, Reads, Refuses}
 use Rattle.lnt_wire.specs.Bytes.{NoneSpelled}
-use Rattle.lnt_wire.specs.FrameBytes.{version_five, frame_bytes}
+use Rattle.lnt_wire.specs.FrameBytes.{version_five, frame_bytes, initial_length, LengthFits}
 use Rattle.lnt_wire.specs.FrameFaults.{InFrame}
-use Rattle.lnt_wire.specs.InitialLength.{initial_length, LengthFits}
 use Rattle.lnt_wire.proofs.LengthLaws.{same_prefix, same_length, length-number_bytes}
 use Rattle.lnt_wire.specs.Numbers.{number_bytes, offset_size}
-use Rattle.lnt_wire.specs.Reading.{Reads, Refuses}
 use Rattle.lnt_wire.specs.declared.fault.Fault.{Fault}
 use Rattle.lnt_wire.specs.declared.format.Format.{Format}
 use Rattle.lnt_wire.specs.declared.format.Order.{Order}
@@ -17,16 +15,14 @@ use Rattle.lnt_header.specs.declared.header.HeaderParts.{HeaderParts}
 use Rattle.lnt_header_bytes.specs.Broken.{InHeader, sound_start, IsFirstField, BrokenHeader}
 use Rattle.lnt_header_bytes.specs.Broken.IsFirstField.{start}
 use Rattle.lnt_header_bytes.specs.FieldsBytes.{FieldsBytes}
-use Rattle.lnt_header_bytes.specs.HeaderFaults.{IsHeaderFault, Singles}
-use Rattle.lnt_header_bytes.specs.HeaderBytes.{HeaderFieldsBytes, unit_body, HeaderBytesIn}
+use Rattle.lnt_header_bytes.specs.HeaderFaults.{IsHeaderFault, Singles, IsStartFault}
+use Rattle.lnt_header_bytes.specs.HeaderBytes.{HeaderFieldsBytes, unit_body, HeaderBytesIn, StartBytes}
 use Rattle.lnt_header_bytes.specs.HeaderReading.{standing, IsAfterVersion, HasFields}
 use Rattle.lnt_header.specs.HeaderRules.{IsAddressSize, six_bytes}
 use Rattle.lnt_header_bytes.proofs.DecodeLemmas.{joined_fields}
 use Rattle.lnt_header_bytes.proofs.HeaderLaws.{regroup, same_around, below}
 use Rattle.lnt_header_bytes.proofs.ProgramLaws.{length-body}
 use Rattle.lnt_header_bytes.specs.HeaderPuts.{around}
-use Rattle.lnt_header_bytes.specs.StartBytes.{StartBytes}
-use Rattle.lnt_header_bytes.specs.StartFaults.{IsStartFault}
 use Rattle.lnt_header_bytes.proofs.StartReaders.{start_spelled}
 use Rattle.lnt_header_bytes.proofs.TableLaws.{joins}
 use Rattle.lnt_header_bytes.specs.TableBytes.{TableOf}

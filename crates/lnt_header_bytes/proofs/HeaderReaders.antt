@@ -4,9 +4,8 @@ use Rattle.std.proofs.Common.{◌∙◌, arith, inl, inr}
 use Rattle.std.proofs.lemmas.Bool.{cases_order}
 use Rattle.std.proofs.Math.Seq.{get_or-append_seam}
 use Rattle.std.proofs.lemmas.List.{length-append, append-nil, length-take-le, get_or-take, get_or_append_left, drop_more, take-append-drop}
-use Rattle.lnt_wire.specs.At.{At}
+use Rattle.lnt_wire.specs.Reading.{At, Reads, Refuses}
 use Rattle.lnt_wire.specs.Bytes.{NoneSpelled, IsCode, TakenBytes}
-use Rattle.lnt_wire.specs.Reading.{Reads, Refuses}
 use Rattle.lnt_wire.specs.declared.fault.Fault.{Fault}
 use Rattle.lnt_wire.specs.declared.fault.Reason.{Reason}
 use Rattle.lnt_wire.specs.declared.fault.Reason.TheVariants.{Truncated, MaxOpsZero, LineRangeZero, OpcodeBaseZero, StandardLength}

@@ -9,12 +9,12 @@ use Rattle.lnt_wire.specs.declared.format.Format.{Format}
 use Rattle.lnt_wire.specs.FrameBytes.{version_five}
 use Rattle.lnt_wire.specs.FrameFaults.{InFrame}
 use Rattle.lnt_wire.specs.Numbers.{number_bytes, offset_size}
-use Rattle.lnt_header_bytes.specs.StartFaults.{IsStartFault}
-use Rattle.lnt_header_bytes.specs.StartFaults.IsStartFault.{address_size, selector, header_length}
+use Rattle.lnt_header_bytes.specs.HeaderFaults.{IsStartFault, TwoTablesFault, IsHeaderFault, SinglesBytes, IsSinglesFault, IsLengthsFault}
+use Rattle.lnt_header_bytes.specs.HeaderFaults.{Singles}
+use Rattle.lnt_header_bytes.specs.HeaderFaults.IsStartFault.{address_size, selector, header_length}
 use Rattle.lnt_header.specs.FieldFaults.IsCutField.{number}
 use Rattle.lnt_header_bytes.specs.Broken.{InHeader, UpToLimit, IsAt}
-use Rattle.lnt_header_bytes.specs.HeaderFaults.{TwoTablesFault, IsHeaderFault, SinglesBytes, IsSinglesFault, IsLengthsFault, Singles}
-use Rattle.lnt_header.specs.FirstFaults.FirstOf.{first, second}
+use Rattle.lnt_header.specs.FieldFaults.FirstOf.{first, second}
 use Rattle.lnt_header_bytes.proofs.WrongTables.{small_offset, IsWrongTable, wrong_after, wrong_table}
 use Rattle.lnt_header.proofs.ReaderLaws.{cut_later}
 

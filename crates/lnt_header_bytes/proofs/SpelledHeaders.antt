@@ -21,10 +21,9 @@ use Rattle.lnt_header_bytes.specs.HeaderPuts.{EntryParts}
 use Rattle.lnt_header_bytes.specs.HeaderBytes.{HeaderBytes, HeaderFieldsBytes, unit_body}
 use Rattle.lnt_header.specs.HeaderRules.{IsEntryOf, IsHeader, IsEntryTable, six_bytes}
 use Rattle.lnt_header.specs.Joins.{Each}
-use Rattle.lnt_header_bytes.specs.AllowedHeaders.{AllowedHeaderIsSpelled}
+use Rattle.lnt_header_bytes.specs.Spelled.{AllowedHeaderIsSpelled, FitsFields, FitsTable, HasSmallOffsets, LengthsFit, OffsetsFit}
 use Rattle.lnt_header_bytes.proofs.ProgramLaws.{fits_less, length-body}
 use Rattle.lnt_header.proofs.ShortestLaws.{each_shortest}
-use Rattle.lnt_header_bytes.specs.Spelled.{FitsFields, FitsTable, HasSmallOffsets, LengthsFit, OffsetsFit}
 use Rattle.lnt_header_bytes.specs.TableBytes.{EntryBytes, PairBytes, TableBytes, TableOf, ValuesBytes}
 use Rattle.lnt_header_bytes.proofs.AllowedLaws.{spelled_header}
 use Rattle.lnt_header_bytes.proofs.EncodeLemmas.{fields_put, pair_put, table_put}

@@ -1,10 +1,9 @@
 -- The fields up to header_length: what is read and refused, and that their first fault is one. Crates above cite these.
 use Rattle.std.proofs.Common.{◌≡◌, ◌≢◌, ℕ, ◌^◌, ◌<◌, ◌≤◌, List, [], ◌∷◌, ◌++◌, length, refl, sym, ap, subst, ◌∙◌, append_assoc, arith}
 use Rattle.std.proofs.lemmas.List.{length-append}
-use Rattle.lnt_wire.specs.At.{At}
+use Rattle.lnt_wire.specs.Reading.{At, Reads, RefusesField, Refuses, IsCutShort}
 use Rattle.lnt_wire.specs.Bytes.{IsCode, NoneSpelled, TakenBytes}
 use Rattle.lnt_wire.specs.Numbers.{NumberBytes, number_bytes, offset_size, OffsetBytes}
-use Rattle.lnt_wire.specs.Reading.{Reads, RefusesField, Refuses, IsCutShort}
 use Rattle.lnt_wire.specs.declared.format.Format.{Format}
 use Rattle.lnt_wire.specs.declared.format.Order.{Order}
 use Rattle.lnt_wire.specs.declared.fault.Fault.{Fault}
@@ -13,16 +12,16 @@ use Rattle.lnt_wire.specs.declared.fault.Reason.TheVariants.{AddressSize, Header
 use Rattle.lnt_wire.proofs.FieldFaultLaws.{IsOneFieldFault}
 use Rattle.lnt_wire.proofs.LengthLaws.{length-number_bytes, same_number_prefix}
 use Rattle.lnt_wire.proofs.ValueLaws.{offset_width}
-use Rattle.lnt_header.specs.FirstFaults.{FirstOf}
-use Rattle.lnt_header.specs.FirstFaults.FirstOf.{first, second}
+use Rattle.lnt_header.specs.FieldFaults.{FirstOf}
+use Rattle.lnt_header.specs.FieldFaults.FirstOf.{first, second}
 use Rattle.lnt_header.specs.HeaderRules.{IsAddressSize}
 use Rattle.lnt_header.specs.Joins.{Both}
 use Rattle.lnt_header.proofs.ByteLaws.{byte_code, one_digit}
 use Rattle.lnt_header.proofs.FirstFaultLaws.{fault_as, field_fault, first_of, IsHere, IsOneFault}
 use Rattle.lnt_header.proofs.ReaderLaws.{reads_map, reads_both}
-use Rattle.lnt_header_bytes.specs.StartBytes.{ByteBytes, AddressSizeBytes, SelectorBytes, CountedBytes, AfterSize, StartBytes}
-use Rattle.lnt_header_bytes.specs.StartFaults.{IsAddressSizeFault, IsSelectorFault, IsCountedFault, IsStartFault}
-use Rattle.lnt_header_bytes.specs.StartFaults.IsStartFault.{address_size, selector, header_length}
+use Rattle.lnt_header_bytes.specs.HeaderBytes.{ByteBytes, AddressSizeBytes, SelectorBytes, CountedBytes, AfterSize, StartBytes}
+use Rattle.lnt_header_bytes.specs.HeaderFaults.{IsAddressSizeFault, IsSelectorFault, IsCountedFault, IsStartFault}
+use Rattle.lnt_header_bytes.specs.HeaderFaults.IsStartFault.{address_size, selector, header_length}
 use Rattle.lnt_header_bytes.proofs.FaultLaws.{field_so, so_here, so_after}
 use Rattle.lnt_header_bytes.proofs.TableLaws.{joins, parts_as}
 use Rattle.std.proofs.lemmas.Grind.{common_steps}

@@ -2,13 +2,12 @@
 use Rattle.std.proofs.Common.{◌≡◌, ℕ, ◌+◌, ◌<◌, List, [], ◌∷◌, ◌++◌, length, take, drop, get_or, refl, sym, ap, subst, ◌∙◌, append_assoc}
 use Rattle.std.proofs.Common.{arith}
 use Rattle.std.proofs.lemmas.List.{append-nil, drop_more, length-append, take-append-drop}
-use Rattle.lnt_wire.specs.At.{At}
+use Rattle.lnt_wire.specs.Reading.{At, Reads, RefusesField, Refuses, IsCutShort}
 use Rattle.lnt_wire.specs.Bytes.{NoneSpelled, IsCode}
 use Rattle.lnt_wire.specs.FormBytes.{form_code, IsUnknownForm, ValueBytes}
 use Rattle.lnt_wire.specs.FormFaults.{IsValueFault}
 use Rattle.lnt_wire.specs.Leb128.{UnsignedLeb, IsLargeUnsigned, IsLebFault}
 use Rattle.lnt_wire.specs.Numbers.{NumberBytes}
-use Rattle.lnt_wire.specs.Reading.{Reads, RefusesField, Refuses, IsCutShort}
 use Rattle.lnt_wire.specs.declared.fault.Fault.{Fault}
 use Rattle.lnt_wire.specs.declared.fault.Reason.{Reason}
 use Rattle.lnt_wire.specs.declared.fault.Reason.TheVariants.{UnknownForm, EmptyFormat}
@@ -23,9 +22,9 @@ use Rattle.lnt_wire.proofs.LengthLaws.{width_1}
 use Rattle.lnt_wire.proofs.ValueLaws.{same_value}
 use Rattle.lnt_header.specs.declared.header.Entry.{Entry}
 use Rattle.lnt_header.specs.declared.header.Pair.{Pair}
-use Rattle.lnt_header.specs.FirstFaults.{FirstOf}
-use Rattle.lnt_header.specs.FirstFaults.FirstOf.{first, second}
-use Rattle.lnt_header.specs.FirstFaults.FirstOfSeveral.{next}
+use Rattle.lnt_header.specs.FieldFaults.{FirstOf}
+use Rattle.lnt_header.specs.FieldFaults.FirstOf.{first, second}
+use Rattle.lnt_header.specs.FieldFaults.FirstOfSeveral.{next}
 use Rattle.lnt_header.specs.Joins.{Both, Several, Each}
 use Rattle.lnt_header.proofs.ByteLaws.{one_digit}
 use Rattle.lnt_header.proofs.FirstFaultLaws.{AreOne, fault_as, fault_of_part, field_fault, IsHere, first_of, first_one, IsOneFault}

@@ -2,10 +2,9 @@
 use Rattle.std.proofs.Common.{◌≡◌, ℕ, ◌+◌, ◌<◌, ◌≤◌, List, [], ◌∷◌, ◌++◌, length, take, drop, get_or, refl, sym, ap, subst, ◌∙◌}
 use Rattle.std.proofs.Common.{append_assoc, add-zero, take_all, arith}
 use Rattle.std.proofs.lemmas.List.{length-append, append-nil, take_more, drop_more, take-append-drop}
-use Rattle.lnt_wire.specs.At.{At}
+use Rattle.lnt_wire.specs.Reading.{At, Reads}
 use Rattle.lnt_wire.specs.Bytes.{NoneSpelled}
 use Rattle.lnt_wire.specs.FormBytes.{ValueBytes}
-use Rattle.lnt_wire.specs.Reading.{Reads}
 use Rattle.lnt_wire.specs.declared.form.FormValue.{FormValue}
 use Rattle.lnt_wire.specs.declared.format.Format.{Format}
 use Rattle.lnt_wire.specs.declared.format.Order.{Order}
@@ -13,7 +12,7 @@ use Rattle.lnt_wire.proofs.CodeLaws.{peel_by}
 use Rattle.lnt_wire.proofs.ValueLaws.{same_value}
 use Rattle.lnt_header.specs.declared.header.Pair.{Pair}
 use Rattle.lnt_header.proofs.ReaderLaws.{reads_map}
-use Rattle.lnt_header_bytes.specs.Layouts.{entry_of}
+use Rattle.lnt_header_bytes.specs.Borrowed.{entry_of}
 use Rattle.lnt_header_bytes.specs.TableBytes.{ValuesBytes, EntryBytes}
 use Rattle.std.proofs.lemmas.Grind.{common_steps}
 

@@ -2,19 +2,18 @@
 use Rattle.std.proofs.Common.{◌≡◌, ℕ, zero, suc, ◌+◌, ◌<◌, ◌≤◌, List, [], ◌∷◌, ◌++◌, length, take, drop, get_or, refl, sym, subst, ◌∙◌}
 use Rattle.std.proofs.Common.{arith, Contains}
 use Rattle.std.proofs.lemmas.List.Elements.{Contains-append_left, Contains-get_or, Contains-push}
-use Rattle.lnt_wire.specs.At.{At}
+use Rattle.lnt_wire.specs.Reading.{At, Reads}
 use Rattle.lnt_wire.specs.Bytes.{Appends, NoneSpelled}
 use Rattle.lnt_wire.specs.FormBytes.{FormBytes, ValueBytes, IsTooLarge}
 use Rattle.lnt_wire.proofs.CodeLaws.{peel_by}
 use Rattle.lnt_wire.proofs.LengthLaws.{same_rest}
 use Rattle.lnt_wire.proofs.ValueLaws.{same_value}
-use Rattle.lnt_wire.specs.Reading.{Reads}
 use Rattle.lnt_wire.specs.declared.form.FormValue.{FormValue}
 use Rattle.lnt_wire.specs.declared.format.Format.{Format}
 use Rattle.lnt_wire.specs.declared.format.Order.{Order}
 use Rattle.lnt_wire.specs.declared.put.EncodeFault.{EncodeFault}
 use Rattle.lnt_wire.specs.declared.put.EncodeFault.TheVariants.{TooLarge}
-use Rattle.lnt_header_bytes.specs.Borrowed.{BorrowedTable, AreEntryBytes}
+use Rattle.lnt_header_bytes.specs.Borrowed.{BorrowedTable, AreEntryBytes, entry_of}
 use Rattle.lnt_header_bytes.specs.HeaderPuts.{EntryParts, AddsEntry, RefusesEntry}
 use Rattle.lnt_header_bytes.specs.Large.{HasLargeEntry, IfTooLarge}
 use Rattle.lnt_header.specs.Joins.{Each}
@@ -22,7 +21,6 @@ use Rattle.lnt_header_bytes.proofs.PassedLaws.{one_at, one_there}
 use Rattle.lnt_header.proofs.PutLaws.{each_begun, each_done, each_more, each_put, put_as}
 use Rattle.lnt_header_bytes.proofs.TableLaws.{entry_code}
 use Rattle.lnt_header_bytes.proofs.ValueLaws.{AreReadTo, read_none, read_more, entry_read, no_entry}
-use Rattle.lnt_header_bytes.specs.Layouts.{entry_of}
 use Rattle.lnt_header_bytes.specs.TableBytes.{ValuesBytes, EntryBytes}
 use Rattle.lnt_header.specs.declared.header.Entry.{Entry}
 use Rattle.lnt_header.specs.declared.header.Pair.{Pair}

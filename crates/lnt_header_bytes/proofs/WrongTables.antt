@@ -15,8 +15,8 @@ use Rattle.lnt_wire.specs.declared.format.Format.TheVariants.{D32, D64}
 use Rattle.lnt_wire.specs.declared.format.Order.{Order}
 use Rattle.lnt_header.specs.FieldFaults.{IsCutField, IsLargeLeb}
 use Rattle.lnt_header.specs.FieldFaults.IsCutField.{number, text, leb, block, sized_block}
-use Rattle.lnt_header.specs.FirstFaults.FirstOf.{first, second}
-use Rattle.lnt_header.specs.FirstFaults.FirstOfSeveral.{next}
+use Rattle.lnt_header.specs.FieldFaults.FirstOf.{first, second}
+use Rattle.lnt_header.specs.FieldFaults.FirstOfSeveral.{next}
 use Rattle.lnt_header.specs.Joins.{Each, Several}
 use Rattle.lnt_header.proofs.ReaderLaws.{cut_later}
 use Rattle.lnt_header.proofs.ByteLaws.{one_digit}

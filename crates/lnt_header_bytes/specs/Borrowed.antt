@@ -1,19 +1,29 @@
 -- Tables whose entries are given as bytes, and headers of such tables: what they stand for. That the bytes encode the
 -- entries is `EntryBytes`; the functions here say which entries these are, as a reader finds them.
-use Rattle.std.specs.Prelude.{◌≡◌, ℕ, zero, suc, ◌+◌, List, [], ◌∷◌, drop}
+use Rattle.std.specs.Prelude.{List, map, ◌≡◌, ℕ, zero, suc, ◌+◌, [], ◌∷◌, drop}
+use Rattle.lnt_wire.specs.declared.form.Form.{Form}
+use Rattle.lnt_wire.specs.declared.form.FormValue.{FormValue}
+use Rattle.lnt_header.specs.declared.header.Entry.{Entry}
+use Rattle.lnt_header.specs.declared.header.Pair.{Pair}
 use Rattle.lnt_wire.specs.declared.format.Order.{Order}
 use Rattle.lnt_wire.specs.declared.format.Format.{Format}
-use Rattle.lnt_wire.specs.declared.form.FormValue.{FormValue}
 use Rattle.lnt_wire.specs.FirstValues.{first_value, first_size}
-use Rattle.lnt_header.specs.declared.header.Entry.{Entry}
 use Rattle.lnt_header.specs.declared.header.HeaderParts.{HeaderParts}
-use Rattle.lnt_header.specs.declared.header.Pair.{Pair}
 use Rattle.lnt_header.specs.HeaderRules.{header_of, IsHeader}
 use Rattle.lnt_header.specs.declared.numbers.NumberParts.{NumberParts}
 use Rattle.lnt_header.specs.Joins.{Each}
 pub use Rattle.lnt_header_bytes.specs.declared.in_place.NumbersAndFormats.{NumbersAndFormats}
-use Rattle.lnt_header_bytes.specs.Layouts.{entry_of}
 use Rattle.lnt_header_bytes.specs.TableBytes.{EntryBytes}
+
+-- ---- the forms of a table's pairs, and the entry of some values
+
+-- the forms of the pairs
+abbrev pub forms_of : List Pair → List Form
+forms_of pairs = map (λ pair. pair.form) pairs
+
+-- the entry of these values
+abbrev pub entry_of : List FormValue → Entry
+entry_of values = record { values = values }
 
 -- ---- entries
 

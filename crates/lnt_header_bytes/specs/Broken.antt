@@ -18,9 +18,8 @@ use Rattle.lnt_wire.specs.FrameFaults.{InFrame, IsCutFrame, IsReserved, IsOtherV
 use Rattle.lnt_header.specs.FieldFaults.{IsCutField, IsLargeLeb, IsWrongLength}
 use Rattle.lnt_header.specs.HeaderRules.{IsAddressSize, AreStandardLengths}
 use Rattle.lnt_header.specs.OpRules.{known_lengths, last_known}
-use Rattle.lnt_header_bytes.specs.HeaderFaults.{IsHeaderFault}
+use Rattle.lnt_header_bytes.specs.HeaderFaults.{IsHeaderFault, IsStartFault}
 use Rattle.lnt_header_bytes.specs.HeaderBytes.{HeaderBytesIn}
-use Rattle.lnt_header_bytes.specs.StartFaults.{IsStartFault}
 
 -- ---- the place of a fault
 

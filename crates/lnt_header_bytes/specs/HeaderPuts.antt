@@ -1,11 +1,9 @@
 -- What is written of a header, and why it is not.
 use Rattle.std.specs.Prelude.{◌≡◌, ℕ, List, [], ◌∷◌, ◌++◌, length}
-use Rattle.lnt_wire.specs.At.{At}
+use Rattle.lnt_wire.specs.Reading.{At, Reads}
 use Rattle.lnt_wire.specs.Bytes.{Appends}
-use Rattle.lnt_wire.specs.FrameBytes.{version_five, frame_bytes}
-use Rattle.lnt_wire.specs.InitialLength.{LengthFits}
+use Rattle.lnt_wire.specs.FrameBytes.{version_five, frame_bytes, LengthFits}
 use Rattle.lnt_wire.specs.Numbers.{number_bytes, offset_size}
-use Rattle.lnt_wire.specs.Reading.{Reads}
 use Rattle.lnt_wire.specs.declared.format.Format.{Format}
 use Rattle.lnt_wire.specs.declared.format.Order.{Order}
 use Rattle.lnt_wire.specs.declared.put.EncodeFault.{EncodeFault}

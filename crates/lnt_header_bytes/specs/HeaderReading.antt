@@ -1,8 +1,7 @@
 -- What the steps of decoding a header have found. No public contract speaks of it.
 use Rattle.std.specs.Prelude.{◌≡◌, ℕ, ◌+◌, List, ◌++◌, length}
-use Rattle.lnt_wire.specs.At.{At}
-use Rattle.lnt_wire.specs.FrameBytes.{version_five}
-use Rattle.lnt_wire.specs.InitialLength.{initial_length}
+use Rattle.lnt_wire.specs.Reading.{At}
+use Rattle.lnt_wire.specs.FrameBytes.{version_five, initial_length}
 use Rattle.lnt_wire.specs.declared.format.Format.{Format}
 use Rattle.lnt_wire.specs.declared.format.Order.{Order}
 use Rattle.std.specs.Int.{w8, cast_unsigned, cast_signed}

@@ -6,7 +6,7 @@ use Rattle.lnt_wire.specs.declared.put.EncodeFault.{EncodeFault}
 use Rattle.lnt_wire.specs.declared.put.EncodeFault.TheVariants.{TooLarge}
 use Rattle.lnt_wire.specs.Bytes.{IsShortest}
 use Rattle.lnt_wire.specs.FormBytes.{IsTooLarge}
-use Rattle.lnt_wire.specs.InitialLength.{LengthFits}
+use Rattle.lnt_wire.specs.FrameBytes.{LengthFits}
 use Rattle.lnt_header.specs.declared.header.Entry.{Entry}
 use Rattle.lnt_header.specs.declared.header.HeaderParts.{HeaderParts}
 use Rattle.lnt_header_bytes.specs.HeaderBytes.{HeaderFieldsBytes, unit_body}

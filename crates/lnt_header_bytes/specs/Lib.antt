@@ -1,4 +1,3 @@
-pub mod AllowedHeaders
 pub mod Borrowed
 pub mod Broken
 pub mod FieldsBytes
@@ -6,14 +5,10 @@ pub mod HeaderBytes
 pub mod HeaderFaults
 pub mod HeaderPuts
 pub mod HeaderReading
-pub mod Kept
 pub mod Large
 pub mod Laws
-pub mod Layouts
 pub mod Marks
 pub mod Spelled
-pub mod StartBytes
-pub mod StartFaults
 pub mod Stepping
 pub mod TableBytes
 pub mod TableFaults

@@ -1,23 +1,43 @@
 -- What the bodies of this crate say of one step: of a reader of tables, and of what keeps their entries. Bodies of
 -- lnt_dump pass over values too. No public contract speaks of it.
-use Rattle.std.specs.Prelude.{◌≡◌, ℕ, List, [], length, ◌∷◌, ◌++◌}
+use Rattle.std.specs.Prelude.{◌≤◌, length, take, drop, ◌≡◌, ℕ, List, [], ◌∷◌, ◌++◌}
+use Rattle.lnt_header.specs.declared.header.HeaderParts.{HeaderParts}
+use Rattle.lnt_header_bytes.specs.Borrowed.{header_over, IsHeaderOver, NumbersAndFormats, forms_of, BorrowedTable, borrowed_table}
+use Rattle.lnt_header_bytes.specs.Borrowed.{AreEntryBytes}
+use Rattle.lnt_header_bytes.specs.Marks.{AreMarksOver}
+use Rattle.lnt_header_bytes.specs.declared.kept.KeptEntries.{KeptEntries}
 use Rattle.lnt_wire.specs.declared.format.Order.{Order}
 use Rattle.lnt_wire.specs.declared.format.Format.{Format}
 use Rattle.lnt_wire.specs.declared.form.Form.TheVariants.{LineStrp, Udata, Data16}
-use Rattle.lnt_wire.specs.At.{At}
-use Rattle.lnt_wire.specs.Reading.{Reads}
+use Rattle.lnt_wire.specs.Reading.{At, Reads}
 use Rattle.lnt_header.specs.declared.header.Pair.{Pair}
 use Rattle.lnt_header_bytes.specs.declared.numbers.Singles.{Singles}
 use Rattle.lnt_header_bytes.specs.declared.pass.Layout.{Layout}
 use Rattle.lnt_header_bytes.specs.declared.pass.Layout.TheVariants.{Path, IndexedPath, SummedPath, Other}
-use Rattle.lnt_header_bytes.specs.Layouts.{forms_of}
 use Rattle.lnt_header_bytes.specs.declared.read_table.EntryTableRead.{EntryTableRead}
 use Rattle.lnt_header_bytes.specs.FieldsBytes.{FieldsBytes}
 use Rattle.lnt_header.specs.Joins.{Each}
 use Rattle.lnt_header_bytes.specs.TableBytes.{TableOf}
-use Rattle.lnt_header_bytes.specs.Borrowed.{BorrowedTable, borrowed_table, AreEntryBytes, header_over, NumbersAndFormats}
-use Rattle.lnt_header_bytes.specs.declared.kept.KeptEntries.{KeptEntries}
-use Rattle.lnt_header_bytes.specs.Kept.{kept_header, IsKeptHeader}
+
+-- ---- what is kept of a header besides its numbers and formats
+
+-- the header with these numbers and formats, and these entries: the bytes are those of the directories, those of the files and the
+-- last ones
+abbrev pub kept_header : NumbersAndFormats → KeptEntries → HeaderParts
+kept_header plain kept =
+    header_over plain kept.directories (take kept.directory_size kept.bytes.items) kept.files
+    (take kept.file_size (drop kept.directory_size kept.bytes.items)) (drop kept.file_size (drop kept.directory_size kept.bytes.items))
+
+-- it is a header, with the marks of its tables
+pub record IsKeptHeader (plain : NumbersAndFormats) (kept : KeptEntries) : Type 0 where
+  pub over : IsHeaderOver plain kept.directories (take kept.directory_size kept.bytes.items) kept.files
+      (take kept.file_size (drop kept.directory_size kept.bytes.items)) (drop kept.file_size (drop kept.directory_size kept.bytes.items))
+  pub first : kept.directory_size ≤ length kept.bytes.items
+  pub second : kept.file_size ≤ length (drop kept.directory_size kept.bytes.items)
+  pub marks : AreMarksOver plain kept.directories (take kept.directory_size kept.bytes.items) kept.files
+      (take kept.file_size (drop kept.directory_size kept.bytes.items)) kept.directory_marks.items kept.file_marks.items
+
+-- ---- what is read
 
 -- The read moved past bytes that encode a value.
 pub record Passes {X : Type 0} (Spells : X → List ℕ → Type 0) (old new : At) : Type 0 where

@@ -12,7 +12,7 @@ use Rattle.lnt_wire.specs.FormFaults.{IsValueFault}
 use Rattle.lnt_wire.specs.Leb128.{UnsignedLeb, IsLargeUnsigned, IsLebFault}
 use Rattle.lnt_wire.specs.Numbers.{NumberBytes}
 use Rattle.lnt_wire.specs.Reading.{IsCutShort}
-use Rattle.lnt_header.specs.FirstFaults.{FirstOf, FirstOfSeveral}
+use Rattle.lnt_header.specs.FieldFaults.{FirstOf, FirstOfSeveral}
 use Rattle.lnt_header.specs.Joins.{Several}
 use Rattle.lnt_header_bytes.specs.TableBytes.{PairBytes, ValuesBytes, EntryBytes}
 use Rattle.lnt_header.specs.declared.header.Pair.{Pair}

@@ -3,7 +3,7 @@ ghost use Rattle.std.specs.Prelude.{◌≡◌, ◌⊎◌, ◌+◌, ◌++◌, [],
 ghost use Rattle.std.specs.List.{AllByRecursion};
 ghost use Rattle.lnt_wire.specs.Bytes.{IsShortest, Appends, Extends};
 ghost use Rattle.lnt_wire.specs.FormBytes.{HasSpelling, FormBytes};
-ghost use Rattle.lnt_wire.specs.InitialLength.{initial_length, LengthFits};
+ghost use Rattle.lnt_wire.specs.FrameBytes.{initial_length, LengthFits};
 ghost use Rattle.lnt_wire.specs.Numbers.{offset_size};
 ghost use Rattle.lnt_header.specs.Conversion.{in_format};
 ghost use Rattle.lnt_header.specs.Encoding.{RefusedPut};

@@ -1,5 +1,5 @@
 //! Laws of the format, each the contract of a function without parameters that does nothing.
-ghost use Rattle.lnt_header_bytes.specs.AllowedHeaders.{AllowedHeaderIsSpelled};
+ghost use Rattle.lnt_header_bytes.specs.Spelled.{AllowedHeaderIsSpelled};
 ghost use Rattle.lnt_header_bytes.specs.Laws.{OneHeader};
 
 /// In one byte order no header with its program is a prefix of another's bytes, and bytes encode at most one header with

@@ -1,8 +1,8 @@
 //! The fields of a header after its version, up to header_length.
 ghost use Rattle.std.specs.Prelude.{IfOk, IfErr};
 ghost use Rattle.lnt_wire.specs.Reading.{Reads, RefusesField, Refuses};
-ghost use Rattle.lnt_header_bytes.specs.StartBytes.{AddressSizeBytes, SelectorBytes, CountedBytes, StartBytes};
-ghost use Rattle.lnt_header_bytes.specs.StartFaults.{IsAddressSizeFault, IsSelectorFault, IsCountedFault, IsStartFault};
+ghost use Rattle.lnt_header_bytes.specs.HeaderBytes.{AddressSizeBytes, SelectorBytes, CountedBytes, StartBytes};
+ghost use Rattle.lnt_header_bytes.specs.HeaderFaults.{IsAddressSizeFault, IsSelectorFault, IsCountedFault, IsStartFault};
 
 use lnt_header::is_address_size;
 use lnt_wire::{Cursor, Fault, Format, Reason};

@@ -2,9 +2,20 @@
 use Rattle.std.specs.Prelude.{ℕ, List, codes}
 use Rattle.lnt_io.specs.declared.stop.Stop.{Stop}
 use Rattle.lnt_io.specs.declared.stop.Stop.TheVariants as stop
+use Rattle.lnt_io.specs.declared.halt.Halt.{Halt}
+use Rattle.lnt_io.specs.declared.halt.Halt.TheVariants.{Memory, Read, TooLong, Write}
 
 -- why the work on the bytes of a source stopped
 abbrev pub stop_text : Stop → List ℕ
 stop_text stop.Memory = codes "out of memory"
 stop_text stop.Read = codes "cannot read"
 stop_text stop.TooLong = codes "too long"
+
+-- ---- the texts that say why the work on a file stopped
+
+-- why the work on a file was stopped
+abbrev pub halt_text : Halt → List ℕ
+halt_text Read = codes "cannot read"
+halt_text TooLong = codes "too long"
+halt_text Write = codes "cannot write"
+halt_text Memory = codes "out of memory"

@@ -2,7 +2,6 @@ pub mod CountedSources
 pub mod FaultTexts
 pub mod Files
 pub mod Prefixes
-pub mod HaltTexts
 pub mod Halts
 pub mod Pulling
 pub mod Stopping

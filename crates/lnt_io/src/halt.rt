@@ -1,6 +1,6 @@
 //! Why the work on a file stopped.
 ghost use Rattle.std.specs.Prelude.{◌≡◌, Some};
-ghost use Rattle.lnt_io.specs.HaltTexts.{halt_text};
+ghost use Rattle.lnt_io.specs.FaultTexts.{halt_text};
 ghost use Rattle.lnt_io.specs.Halts.{halt_of_source};
 ghost use Rattle.lnt_io.specs.declared.halt.Halt.TheVariants.{Memory, Write};
 

@@ -9,16 +9,14 @@ use Rattle.lnt_machine.proofs.FittingLaws.{HasNumbers}
 use Rattle.lnt_machine.specs.declared.row.Row.{Row}
 use Rattle.lnt_machine.specs.Walking.{KeptProgram, SequenceWalk, WillGive}
 use Rattle.lnt_spans.specs.declared.span.Span.{Span}
-use Rattle.lnt_spans.specs.Coming.{GivesFirstSpan}
-use Rattle.lnt_spans.specs.Fitting.{FitsSpan, FitSpans}
+use Rattle.lnt_spans.specs.Remaining.{GivesFirstSpan}
+use Rattle.lnt_spans.specs.Spans.{FitsSpan, FitSpans}
 use Rattle.lnt_sequences.specs.declared.extent.Extent.{Extent}
 use Rattle.lnt_sequences.specs.declared.sequence.SeqId.{SeqId}
-use Rattle.lnt_sequences.specs.InTurn.{EntriesInTurn, IsExtentOf}
+use Rattle.lnt_sequences.specs.RowSpans.{EntriesInTurn, IsExtentOf, row_spans, spans_of, GivesSpan, HasSpans, rows_left}
 use Rattle.lnt_sequences.proofs.FittingLaws.{kept_spans_fit}
 use Rattle.lnt_sequences.proofs.KeptLaws.{kept_ordered}
-use Rattle.lnt_sequences.specs.RowSpans.{row_spans, spans_of}
 use Rattle.lnt_sequences.specs.Sequences.{kept_sequences, live_sequences, Placed, Selection}
-use Rattle.lnt_sequences.specs.Spanning.{GivesSpan, HasSpans, rows_left}
 use Rattle.lnt_lines.specs.Cursors.{AreToCome, ComeLater, Cursor, GivesAllOf, room_for, room_of, rows_here}
 use Rattle.lnt_lines.specs.Stepping.{GivesHere}
 use Rattle.lnt_lines.specs.Indexed.{Indexed, IsIndexOf, IsSequenceIn}

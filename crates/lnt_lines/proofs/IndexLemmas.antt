@@ -22,10 +22,9 @@ use Rattle.lnt_sequences.proofs.FoundLaws.{live_placed}
 use Rattle.lnt_sequences.proofs.KeptLaws.{kept_live}
 use Rattle.lnt_sequences.specs.Sequences.{answer_of, kept_sequences, line_answer, live_sequences, Placed, row_at, Selection}
 use Rattle.lnt_sequences.specs.Rules.{IsOrdered}
-use Rattle.lnt_sequences.specs.Spanning.{rows_left}
+use Rattle.lnt_sequences.specs.RowSpans.{rows_left}
 use Rattle.lnt_lines.specs.Cursors.{room_of}
-use Rattle.lnt_lines.specs.Finding.{Answers}
-use Rattle.lnt_lines.specs.Indexed.{Indexed, IsIndexOf, IsSequenceIn}
+use Rattle.lnt_lines.specs.Indexed.{Answers, Indexed, IsIndexOf, IsSequenceIn}
 use Rattle.lnt_lines.proofs.PlaceLemmas.{place_found}
 
 pub offset_at : (units : List (ℕ × UnitParts)) (k : ℕ) (d : ℕ × UnitParts) → k < length units

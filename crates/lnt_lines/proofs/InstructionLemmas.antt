@@ -19,7 +19,7 @@ use Rattle.lnt_sequences.specs.RowSpans.{spans_of}
 use Rattle.lnt_sequences.specs.Sequences.{kept_sequences, Selection}
 use Rattle.lnt_sequences.proofs.EachLaws.{each_kept_span, EachIn}
 use Rattle.lnt_lines.specs.Indexed.{HasOneOperation, Indexed, IsIndexOf}
-use Rattle.lnt_spans.specs.Instructions.{IsOfInstructions}
+use Rattle.lnt_spans.specs.Spans.{IsOfInstructions}
 
 -- ---- rows
 

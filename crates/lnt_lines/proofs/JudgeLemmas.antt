@@ -19,7 +19,7 @@ use Rattle.lnt_machine.specs.Matrix.{rows}
 use Rattle.lnt_lines.specs.declared.no.No.TheVariants.{Falls}
 use Rattle.lnt_lines.specs.Good.{IsWellFormed}
 use Rattle.lnt_lines.specs.Judging.{HasRun, IsFlawedRun, IsSoundRun, IsUnitNo}
-use Rattle.lnt_lines.specs.Refusals.{missing_no, table_no}
+use Rattle.lnt_lines.specs.Running.{missing_no, table_no}
 
 -- ---- what is wrong with it
 

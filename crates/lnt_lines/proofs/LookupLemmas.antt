@@ -9,8 +9,7 @@ use Rattle.lnt_sequences.specs.declared.sequence.SeqId.{SeqId}
 use Rattle.lnt_sequences.specs.Rules.{IsOrdered}
 use Rattle.lnt_sequences.specs.Sequences.{answer_of, line_answer, row_at}
 use Rattle.lnt_lines.specs.declared.lookups.Cached.{Cached}
-use Rattle.lnt_lines.specs.Finding.{Answers, IsCachedOf}
-use Rattle.lnt_lines.specs.Indexed.{file_path_in, Indexed, IsIndex, IsSequenceIn, OfUnits}
+use Rattle.lnt_lines.specs.Indexed.{Answers, IsCachedOf, file_path_in, Indexed, IsIndex, IsSequenceIn, OfUnits}
 use Rattle.lnt_lines.proofs.NamedLemmas.{answer_named}
 
 -- what is answered of some units

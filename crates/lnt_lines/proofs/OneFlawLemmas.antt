@@ -24,7 +24,7 @@ use Rattle.lnt_sequences.specs.Sequences.{live_in, Placed, placed_in}
 use Rattle.lnt_lines.specs.declared.no.No.TheVariants as no
 use Rattle.lnt_lines.specs.Good.{IsWellFormed}
 use Rattle.lnt_lines.specs.Nos.{IsFlaw, No}
-use Rattle.lnt_lines.specs.Refusals.{table_no}
+use Rattle.lnt_lines.specs.Running.{table_no}
 use Rattle.lnt_lines.proofs.FlawLemmas.{runs_well, tables_well}
 
 -- ---- the first of several

@@ -5,8 +5,8 @@ use Rattle.lnt_wire.specs.declared.fault.Reason.TheVariants.{Memory}
 use Rattle.lnt_unit.specs.Units.{BufferedUnit}
 use Rattle.lnt_unit.specs.BrokenUnits.{BrokenUnit}
 use Rattle.lnt_lines.specs.Judging.{IsUnitRefusal, Refusal}
-use Rattle.lnt_lines.specs.Refusals.{IsFaultRefusal}
-use Rattle.lnt_lines.specs.Refusals.IsFaultRefusal.{malformed, memory}
+use Rattle.lnt_lines.specs.Running.{IsFaultRefusal}
+use Rattle.lnt_lines.specs.Running.IsFaultRefusal.{malformed, memory}
 
 -- bytes that are no unit's
 pub fault_refused : (text general : List ℕ) (dead : Option ℕ) (buffer : BufferedUnit) (fault : Fault) (refusal : Refusal)

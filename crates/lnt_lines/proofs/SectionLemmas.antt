@@ -5,8 +5,7 @@ use Rattle.lnt_header.specs.Joins.{AreRising}
 use Rattle.lnt_wire.specs.declared.fault.Fault.{Fault}
 use Rattle.lnt_wire.specs.declared.format.Order.{Order}
 use Rattle.lnt_wire.specs.declared.format.Format.{Format}
-use Rattle.lnt_wire.specs.FrameBytes.{FrameBytes}
-use Rattle.lnt_wire.specs.InitialLength.{initial_length}
+use Rattle.lnt_wire.specs.FrameBytes.{FrameBytes, initial_length}
 use Rattle.lnt_wire.proofs.LengthLaws.{length-initial}
 use Rattle.lnt_io.proofs.PullLaws.{pulls_append}
 use Rattle.lnt_io.specs.Pulling.{Pulls}
@@ -29,12 +28,11 @@ use Rattle.lnt_lines.specs.declared.draft.Draft.{Draft}
 use Rattle.lnt_lines.specs.declared.no.No.TheVariants as bad
 use Rattle.lnt_lines.specs.declared.options.Options.{Options}
 use Rattle.lnt_lines.specs.declared.refusal.Refusal.TheVariants as refusal
-use Rattle.lnt_lines.specs.Drafts.{IsIndexOfSection}
+use Rattle.lnt_lines.specs.Judging.{IsIndexOfSection, HasFlaw, IsUnitNo, IsUnitRefusal, Refusal}
 use Rattle.lnt_lines.specs.Stepping.{HasAdded, IsDraftOf, IsDraftOfSection, IsRefusal, IsWholeDraft}
 use Rattle.lnt_lines.specs.Indexed.{Indexed, IsIndexOf}
-use Rattle.lnt_lines.specs.Judging.{HasFlaw, IsUnitNo, IsUnitRefusal, Refusal}
 use Rattle.lnt_lines.specs.Nos.{IsFirstFlaw, IsMalformed, IsTrueNo, No}
-use Rattle.lnt_lines.specs.Refusals.{IsStopRefusal}
+use Rattle.lnt_lines.specs.Running.{IsStopRefusal}
 use Rattle.lnt_lines.proofs.DraftLemmas.{distinct, numbers_from, rising_from}
 
 -- ---- units judged one after another

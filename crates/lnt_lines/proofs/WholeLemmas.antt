@@ -8,7 +8,7 @@ use Rattle.lnt_spans.specs.declared.span.Span.{Span}
 use Rattle.lnt_spans.proofs.AnsweringLaws.{answer_after, answer_in, first_holds}
 use Rattle.lnt_spans.proofs.PositionLaws.{at_most_itself, at_most_trans, below_is_at_most}
 use Rattle.lnt_spans.specs.Positions.{IsAtMost}
-use Rattle.lnt_spans.specs.Spans.{AreInOrder, span_answer}
+use Rattle.lnt_spans.specs.Spans.{AreInOrder, span_answer, number_spans}
 use Rattle.lnt_sequences.specs.Sequences.{answer_of, holds, kept_sequences, line_answer, Placed, row_at, Selection}
 use Rattle.lnt_lines.specs.Contents.{AreWhole}
 
@@ -34,7 +34,8 @@ found_is_whole p (Some placed) = row_is_whole placed.id.unit (row_at p placed.ro
 first_is_whole : (span : Span) (spans : List Span) (answers : Position → Option Answer) → AreInOrder (span ∷ spans)
     → ((p : Position) → IsNoneOrWhole (answers p)) → span_answer (span ∷ spans) span.low ≡ answers span.low → IsWholeSpan span
 first_is_whole span spans answers o h same =
-    subst IsNoneOrWhole (sym same ∙ answer_in span spans span.low (at_most_itself span.low) (first_holds span spans o)) (h span.low)
+    let here = answer_in number_spans span spans span.low (at_most_itself span.low) (first_holds number_spans span spans o) in
+    subst IsNoneOrWhole (sym same ∙ here) (h span.low)
 
 -- Each span's answer is that at its beginning.
 each_is_whole : (span : Span) (spans : List Span) (answers : Position → Option Answer) → AreInOrder (span ∷ spans)
@@ -46,7 +47,7 @@ each_is_whole span (next ∷ spans) answers o h same = (
   each_is_whole next spans answers o.2 h
       (λ p k.
       let past = at_most_trans o.1 k in
-      sym (answer_after span (next ∷ spans) p past) ∙ same p (at_most_trans (below_is_at_most o.0) past)),
+      sym (answer_after number_spans span (next ∷ spans) p past) ∙ same p (at_most_trans (below_is_at_most o.0) past)),
 )
 
 all_are_whole : (spans : List Span) (answers : Position → Option Answer) → AreInOrder spans

@@ -5,12 +5,10 @@ use Rattle.lnt_machine.specs.declared.row.Row.{Row}
 use Rattle.lnt_machine.specs.Walking.{KeptProgram, SequenceWalk}
 use Rattle.lnt_spans.specs.declared.position.Position.{Position}
 use Rattle.lnt_spans.specs.declared.span.Span.{Span}
-use Rattle.lnt_spans.specs.Fitting.{FitSpans}
-use Rattle.lnt_spans.specs.Spans.{AreInOrder, span_answer}
+use Rattle.lnt_spans.specs.Spans.{FitSpans, AreInOrder, span_answer}
 use Rattle.lnt_sequences.specs.declared.extent.Extent.{Extent}
-use Rattle.lnt_sequences.specs.RowSpans.{spans_of}
+use Rattle.lnt_sequences.specs.RowSpans.{spans_of, HasSpans, rows_left}
 use Rattle.lnt_sequences.specs.Sequences.{kept_sequences, line_answer, Placed, Selection}
-use Rattle.lnt_sequences.specs.Spanning.{HasSpans, rows_left}
 use Rattle.lnt_lines.specs.Contents.{AreWhole}
 use Rattle.lnt_lines.specs.Indexed.{IsSequenceIn}
 

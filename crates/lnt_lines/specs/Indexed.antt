@@ -1,7 +1,7 @@
 -- What is kept of a good section by its sequences: the place of each, the programs of their units, and the string sections.
-use Rattle.std.specs.Prelude.{◌≡◌, ◌<◌, ◌==◌, ℕ, List, length, map, get_or, Option, Some, IsPermutation}
+use Rattle.std.specs.Prelude.{◌≡◌, ◌<◌, ◌==◌, ℕ, List, length, map, get_or, Option, Some, IsPermutation, All, option_map}
 use Rattle.std.specs.List.{AllByRecursion, AllZip, position, slice_get}
-use Rattle.std.specs.Option.{option_and_then, option_map, option_map_or}
+use Rattle.std.specs.Option.{option_and_then, option_map_or}
 use Rattle.lnt_header.specs.Joins.{AreRising}
 use Rattle.lnt_header.specs.declared.header.HeaderParts.{HeaderParts}
 use Rattle.lnt_header.specs.HeaderRules.{AreHeaderNumbers}
@@ -15,8 +15,13 @@ use Rattle.lnt_files.specs.Tables.{AreUsableTables}
 use Rattle.lnt_sequences.specs.declared.extent.Extent.{Extent}
 use Rattle.lnt_sequences.specs.declared.sequence.SeqId.{SeqId}
 use Rattle.lnt_sequences.specs.Extents.{AreSettled, extents_of}
-use Rattle.lnt_sequences.specs.Rules.{AreApart, AreOrdered, HaveFiles}
-use Rattle.lnt_sequences.specs.Sequences.{kept_sequences, live_in, live_sequences, Selection}
+use Rattle.lnt_sequences.specs.Rules.{AreApart, AreOrdered, HaveFiles, IsOrdered}
+use Rattle.lnt_sequences.specs.Sequences.{kept_sequences, live_in, live_sequences, Selection, answer_of, line_answer, row_at}
+use Rattle.lnt_spans.specs.declared.answer.Answer.{Answer}
+use Rattle.lnt_spans.specs.declared.position.Position.{Position}
+use Rattle.lnt_sequences.specs.Briefs.{IsCacheOf}
+use Rattle.lnt_lines.specs.declared.lookups.Cached.{Cached}
+use Rattle.lnt_lines.specs.declared.lookups.Known.{Known}
 
 -- the bytes of .debug_line_str and of .debug_str, an entry for each nonempty sequence, and the offset and the program of
 -- each unit
@@ -86,3 +91,25 @@ pub record IsSequenceIn (units : List ℕ) (programs : List KeptProgram) (id : S
   pub keeps : (d : KeptProgram) → KeepsProgram (get_or programs place d) unit
   pub few : id.index < length (sequences unit)
   pub rows_are : (d : Sequence) → rows ≡ (get_or (sequences unit) id.index d).rows
+
+-- ---- the sequence that holds a position, and what is kept of the sequences of an index. No public contract speaks of it.
+
+-- The sequence with this id has rows that answer, whose positions never fall.
+pub record Answers (selection : Selection) (index : Indexed) (p : Position) (id : SeqId) : Type 0 where
+  pub rows : List Row
+  pub sequence_is : IsSequenceIn index.units index.programs id rows
+  pub ordered : IsOrdered rows
+  pub answer_is : line_answer selection p ≡ option_map (answer_of id.unit) (row_at p rows)
+
+-- it is kept of the sequence with its id
+abbrev pub IsCachedOf : Indexed → Cached → Type 0
+IsCachedOf index cached = (rows : List Row) → IsSequenceIn index.units index.programs cached.id rows → IsCacheOf rows cached.cache
+
+-- so is all of this
+abbrev pub AreKnownOf : Indexed → Known → Type 0
+AreKnownOf index known = All (IsCachedOf index) known.sequences.items
+
+-- This is the answer at a position of the sequence with this id, if it is ordered and what is kept is known.
+abbrev pub TellsAt : Indexed → Known → SeqId → Position → Option Answer → Type 0
+TellsAt index known id position answer = (rows : List Row) → AreKnownOf index known
+    → IsSequenceIn index.units index.programs id rows → IsOrdered rows → answer ≡ option_map (answer_of id.unit) (row_at position rows)

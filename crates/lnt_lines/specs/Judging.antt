@@ -21,8 +21,14 @@ use Rattle.lnt_lines.specs.declared.no.No.TheVariants as no
 pub use Rattle.lnt_lines.specs.declared.refusal.Refusal.{Refusal}
 use Rattle.lnt_lines.specs.declared.refusal.Refusal.TheVariants as refusal
 use Rattle.lnt_io.specs.declared.stop.Stop.TheVariants as stop
-use Rattle.lnt_lines.specs.Good.{IsSoundUnit}
-use Rattle.lnt_lines.specs.Nos.{IsFlaw, No}
+use Rattle.lnt_lines.specs.Good.{IsSoundUnit, IsGood, selected, Options}
+use Rattle.lnt_lines.specs.Nos.{IsFlaw, No, IsTrueNo}
+use Rattle.lnt_lines.specs.declared.section.Judged.{Judged}
+use Rattle.lnt_lines.specs.declared.section.Judged.TheVariants.{Good, Bad}
+use Rattle.lnt_lines.specs.declared.section.JudgedIndex.{JudgedIndex}
+use Rattle.lnt_lines.specs.declared.section.JudgedIndex.TheVariants as index
+use Rattle.lnt_lines.specs.Contents.{Contents, TellsOf}
+use Rattle.lnt_lines.specs.Indexed.{Indexed, IsIndexOf}
 
 -- The bytes of the buffer are those of a unit with this flaw.
 pub record HasFlaw (line general : List ℕ) (dead : Option ℕ) (buffer : BufferedUnit) (reason : No) : Type 0 where
@@ -82,3 +88,31 @@ abbrev pub IsSoundRun : List ℕ → List ℕ → View → Watch → Type 0
 IsSoundRun line general view watch =
     (dead : Option ℕ) (places : List ℕ) (old new : Collected) → HasRun dead view places old new watch
     → IsJudgedSound line general dead view.unit old new (record { header = view.header; program = view.program; places = places })
+
+-- ---- the state of judging a section, unit by unit
+--     line, general   the bytes of .debug_line_str and of .debug_str
+--     dead            the address at which sequences of dead code begin, if one is given
+
+-- The section is good, and these are its lines.
+pub record AreLinesOf (line general : List ℕ) (options : Options) (section : List ℕ) (lines : Contents) : Type 0 where
+  pub units : List (ℕ × UnitParts)
+  pub good : IsGood line general options section units
+  pub tells : TellsOf line general (selected options units) lines
+
+-- The section is good, and this is the index of its units.
+pub record IsIndexOfSection (line general : List ℕ) (options : Options) (section : List ℕ) (index : Indexed) : Type 0 where
+  pub units : List (ℕ × UnitParts)
+  pub good : IsGood line general options section units
+  pub index_is : IsIndexOf (selected options units) index
+  pub line_is : index.line ≡ line
+  pub general_is : index.general ≡ general
+
+-- The lines are those of the section, which is good; or it isn't good, and that is why.
+abbrev pub IsJudged : List ℕ → List ℕ → Options → List ℕ → Judged → Type 0
+IsJudged line general options section (Good lines) = AreLinesOf line general options section lines
+IsJudged line general options section (Bad reason) = IsTrueNo line general options section reason
+
+-- The index is that of the section, which is good; or it isn't good, and that is why.
+abbrev pub IsJudgedIndex : List ℕ → List ℕ → Options → List ℕ → JudgedIndex → Type 0
+IsJudgedIndex line general options section (index.Good indexed) = IsIndexOfSection line general options section indexed
+IsJudgedIndex line general options section (index.Bad reason) = IsTrueNo line general options section reason

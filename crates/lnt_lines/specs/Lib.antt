@@ -1,14 +1,11 @@
 pub mod Contents
 pub mod Cursors
-pub mod Drafts
 pub mod FaultTexts
-pub mod Finding
 pub mod Good
 pub mod Indexed
 pub mod Judging
 pub mod Laws
 pub mod Nos
-pub mod Refusals
 pub mod Running
 pub mod Stepping
 -- what public clauses say of sources and of units
@@ -24,7 +21,7 @@ pub use Rattle.lnt_sequences.specs.RowSpans
 pub use Rattle.lnt_sequences.specs.Sequences
 -- and of positions, answers and spans
 pub use Rattle.lnt_spans.specs.Answers
-pub use Rattle.lnt_spans.specs.Instructions
+pub use Rattle.lnt_spans.specs.Spans
 pub use Rattle.lnt_spans.specs.Positions
-pub use Rattle.lnt_spans.specs.Sides
+pub use Rattle.lnt_spans.specs.Positions
 pub use Rattle.lnt_spans.specs.Spans

@@ -16,7 +16,7 @@ use Rattle.lnt_lines.specs.declared.refusal.Refusal.TheVariants as refusal
 use Rattle.lnt_lines.specs.Good.{IsSoundUnit, Options}
 use Rattle.lnt_lines.specs.Nos.{IsTrueNo}
 use Rattle.lnt_spans.specs.declared.span.Span.{Span}
-use Rattle.lnt_spans.specs.Coming.{GivesFirstSpan}
+use Rattle.lnt_spans.specs.Remaining.{GivesFirstSpan}
 use Rattle.lnt_lines.specs.Cursors.{Cursor, ComeLater, AreToCome}
 
 -- The draft is of these units, all of which are valid.

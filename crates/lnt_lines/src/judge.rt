@@ -2,7 +2,7 @@
 ghost use Rattle.std.specs.Prelude.{◌≡◌, ◌≤◌, length, IfOk, IfErr, MatchOption, option_map};
 ghost use Rattle.lnt_lines.specs.declared.no.No.TheVariants.{Falls};
 ghost use Rattle.lnt_lines.specs.Judging.{IsFlawedRun, IsJudgedSound, IsSoundRun, IsUnitRefusal, kept_program_of};
-ghost use Rattle.lnt_lines.specs.Refusals.{missing_no, table_no};
+ghost use Rattle.lnt_lines.specs.Running.{missing_no, table_no};
 
 use crate::no::No;
 use crate::refusal::Refusal;

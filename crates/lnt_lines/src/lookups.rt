@@ -2,8 +2,7 @@
 ghost use Rattle.std.specs.Prelude.{◌≡◌, ◌+◌, ◌^◌, ◌<◌, ◌≤◌, ℕ, length, Option, IfOk, IfSome, IsSome, slice_index_or};
 ghost use Rattle.lnt_sequences.specs.Sequences.{line_answer};
 ghost use Rattle.lnt_lines.specs.declared.lookups.Cached.{Cached};
-ghost use Rattle.lnt_lines.specs.Finding.{AreKnownOf, IsCachedOf, TellsAt};
-ghost use Rattle.lnt_lines.specs.Indexed.{Indexed, file_path_in, OfUnits};
+ghost use Rattle.lnt_lines.specs.Indexed.{AreKnownOf, IsCachedOf, TellsAt, Indexed, file_path_in, OfUnits};
 
 use crate::index::{Held, Index};
 use lnt_sequences::{RowCache, SeqId, answer_at};
@@ -37,8 +36,7 @@ pub struct Lookups<'i, 'a> {
 }
 
 impl<'i, 'a> Model for Lookups<'i, 'a> {
-    ghost use Rattle.lnt_lines.specs.Finding.{AreKnownOf};
-    ghost use Rattle.lnt_lines.specs.Indexed.{Indexed};
+    ghost use Rattle.lnt_lines.specs.Indexed.{AreKnownOf, Indexed};
 
     ghost Value = { Indexed };
 

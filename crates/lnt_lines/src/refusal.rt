@@ -3,7 +3,7 @@ ghost use Rattle.std.specs.Prelude.{◌≡◌, ◌≢◌};
 ghost use Rattle.lnt_lines.specs.declared.no.No.TheVariants.{Overlap as NoOverlap};
 ghost use Rattle.lnt_lines.specs.declared.refusal.Refusal.TheVariants.{No as Bad, Stop as Stopped};
 ghost use Rattle.lnt_io.specs.declared.stop.Stop.TheVariants.{Memory as StopMemory};
-ghost use Rattle.lnt_lines.specs.Refusals.{IsFaultRefusal, IsStopRefusal};
+ghost use Rattle.lnt_lines.specs.Running.{IsFaultRefusal, IsStopRefusal};
 
 use crate::no::No;
 use lnt_io::Stop;

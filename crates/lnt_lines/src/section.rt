@@ -1,6 +1,6 @@
 //! A whole section, judged.
 ghost use Rattle.std.specs.Prelude.{◌≡◌, ◌-◌, ◌^◌, ◌<◌, IfOk, IfErr, IfSome};
-ghost use Rattle.lnt_lines.specs.Drafts.{IsIndexOfSection, IsJudged, IsJudgedIndex};
+ghost use Rattle.lnt_lines.specs.Judging.{IsIndexOfSection, IsJudged, IsJudgedIndex};
 ghost use Rattle.lnt_lines.specs.Stepping.{IsDraftOfSection, IsRefusal};
 ghost use Rattle.lnt_unit.specs.declared.reader.Progress.TheVariants.{Reading};
 ghost use Rattle.lnt_unit.specs.Readers.{loan_of, offset_of, order_of, progress_of, source_of};

@@ -16,7 +16,7 @@ use Rattle.lnt_ops.specs.OpBytes.{OpBytes}
 use Rattle.lnt_ops.specs.Spelled.{FitsOp}
 use Rattle.lnt_header.specs.declared.unit_parts.UnitParts.{UnitParts}
 use Rattle.lnt_machine.specs.Matrix.{end_row_of, row_made, row_of, rows_after, sequences, sequences_of, Row, Sequence}
-use Rattle.lnt_machine.specs.Parts.{AtStart, rows_of_ops}
+use Rattle.lnt_machine.specs.Running.{AtStart, rows_of_ops}
 use Rattle.lnt_machine.specs.Registers.{column, discriminator, file, isa, IsLine, line, registers_after}
 use Rattle.lnt_machine.specs.Walking.{IsPlaceOf, KeptProgram, KeepsProgram, LinesAfter}
 use Rattle.lnt_machine.proofs.PartLaws.{rows_at_start, sequences_of_parts}

@@ -12,9 +12,8 @@ use Rattle.lnt_machine.proofs.RanLaws.{no_row, out_taken, ran_taken, rows_taken}
 use Rattle.lnt_machine.specs.Cuts.{IsCut}
 use Rattle.lnt_machine.proofs.SequenceLaws.{cut_is}
 use Rattle.lnt_machine.specs.Matrix.{IsRunFault, sequences, Row, Sequence}
-use Rattle.lnt_machine.specs.Parts.{rows_of_ops}
-use Rattle.lnt_machine.specs.Running.{RunsOn, RunState}
-use Rattle.lnt_machine.specs.Steps.{LeavesRange}
+use Rattle.lnt_machine.specs.Running.{rows_of_ops, RunsOn, RunState}
+use Rattle.lnt_machine.specs.State.{LeavesRange}
 use Rattle.lnt_machine.specs.Stepping.{HasRan}
 
 -- the first k operations of the unit were run, and their rows are those of these sequences, and these

@@ -8,7 +8,7 @@ use Rattle.lnt_header.specs.declared.op.Op.{Op}
 use Rattle.lnt_header.specs.declared.op.Op.TheVariants.{Special, Copy, EndSequence, SetAddress, FixedAdvancePc}
 use Rattle.lnt_machine.proofs.RowLaws.{cons_option-append, reverse-cons, rows_after-append}
 use Rattle.lnt_machine.specs.Matrix.{onto_first, row_made, rows_after, sequences_of, Row, Sequence}
-use Rattle.lnt_machine.specs.Parts.{AreWhole, AtStart, first_sequence, rows_of_ops, RowsOfParts}
+use Rattle.lnt_machine.specs.Running.{AreWhole, AtStart, first_sequence, rows_of_ops, RowsOfParts}
 use Rattle.lnt_machine.specs.Registers.{advance_of, advances, base, part}
 use Rattle.lnt_machine.specs.State.{StandsAfter, MachineState}
 

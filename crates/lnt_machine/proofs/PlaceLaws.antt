@@ -7,20 +7,20 @@ use Rattle.std.proofs.lemmas.List.{get_or_append_left, length-append, reverse-ap
 use Rattle.std.proofs.Math.Seq.{get_or-append_seam}
 use Rattle.lnt_header.specs.declared.numbers.NumberParts.{NumberParts}
 use Rattle.lnt_header.specs.declared.header.HeaderParts.{HeaderParts}
-use Rattle.lnt_wire.specs.At.{At}
+use Rattle.lnt_wire.specs.Reading.{At}
 use Rattle.lnt_header.specs.declared.op.Op.{Op}
 use Rattle.lnt_header.specs.declared.op.Op.TheVariants.{Copy, EndSequence, Special}
 use Rattle.lnt_header.specs.HeaderRules.{AreHeaderNumbers}
 use Rattle.lnt_header.specs.Joins.{Each}
 use Rattle.lnt_ops.proofs.LeftLaws.{place_found}
-use Rattle.lnt_ops.specs.Left.{IsPlace}
+use Rattle.lnt_ops.specs.Walks.{IsPlace}
 use Rattle.lnt_ops.specs.OpBytes.{OpBytes}
 use Rattle.lnt_ops.specs.Stepping.{OpsSoFar}
 use Rattle.lnt_header.specs.declared.unit_parts.UnitParts.{UnitParts}
 use Rattle.lnt_machine.proofs.PartLaws.{first_of, rows_at_start, sequences_of_parts}
 use Rattle.lnt_machine.proofs.RanLaws.{done_next}
 use Rattle.lnt_machine.specs.Matrix.{LinesFit, row_made, rows_after, sequences, sequences_of, Row, Sequence}
-use Rattle.lnt_machine.specs.Parts.{AtStart, first_sequence, rows_of_ops}
+use Rattle.lnt_machine.specs.Running.{AtStart, first_sequence, rows_of_ops}
 use Rattle.lnt_machine.specs.Registers.{IsLine, line}
 use Rattle.lnt_machine.specs.Walking.{IsPlaceOf, IsSequencePlace, KeptProgram, KeepsProgram, LinesAfter, SequenceWalk, WillGive}
 use Rattle.lnt_machine.specs.Stepping.{HasPlaces, IsProgramPrefix}

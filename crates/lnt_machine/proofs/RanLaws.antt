@@ -16,11 +16,9 @@ use Rattle.lnt_machine.proofs.RowLaws.{lines_more, rows_after-append}
 use Rattle.lnt_machine.specs.Cuts.{are_some, IsCut}
 use Rattle.lnt_machine.proofs.SequenceLaws.{cut_closed, cut_end, cut_more, cut_none, cut_open, some_after}
 use Rattle.lnt_machine.specs.Matrix.{done, IsRunFault, IsRunFaultBy, joined_rows, LinesFit, row_made, RunsBy, sequences_of, Row, Sequence}
-use Rattle.lnt_machine.specs.Parts.{rows_of_ops}
+use Rattle.lnt_machine.specs.Running.{rows_of_ops, HasDone, open_with, RunsOn, RunState}
 use Rattle.lnt_machine.specs.Registers.{IsLine, line}
-use Rattle.lnt_machine.specs.Running.{HasDone, open_with, RunsOn, RunState}
-use Rattle.lnt_machine.specs.State.{MachineState, StandsAfter}
-use Rattle.lnt_machine.specs.Steps.{LeavesRange}
+use Rattle.lnt_machine.specs.State.{MachineState, StandsAfter, LeavesRange}
 use Rattle.lnt_machine.specs.Stepping.{HasRan}
 
 -- ---- what a step of a walk gave

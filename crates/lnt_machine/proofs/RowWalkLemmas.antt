@@ -8,7 +8,7 @@ use Rattle.lnt_machine.specs.declared.fault.RunFault.TheVariants.{LineOutOfRange
 use Rattle.lnt_machine.specs.declared.row.Row.{Row}
 use Rattle.lnt_machine.specs.RowWalks.{RunsToRow, RunsQuietly, Stops}
 use Rattle.lnt_machine.specs.Running.{RunsOn, RunState}
-use Rattle.lnt_machine.specs.Steps.{LeavesRange}
+use Rattle.lnt_machine.specs.State.{LeavesRange}
 
 gives_more : (items : List OpView) (item : OpView) (old middle new : Walk) → GivesEach items old middle
     → GivesOperation item middle new

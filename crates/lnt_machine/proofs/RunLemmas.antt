@@ -6,8 +6,7 @@ use Rattle.lnt_header.specs.declared.op.Op.TheVariants.{Special, Copy, EndSequen
 use Rattle.lnt_header.specs.declared.op.OpView.{OpView}
 use Rattle.lnt_machine.specs.Matrix.{row_made, Row}
 use Rattle.lnt_machine.specs.Running.{leaves_open, open_with, RunsOn, RunState}
-use Rattle.lnt_machine.specs.State.{MachineState}
-use Rattle.lnt_machine.specs.Steps.{Steps}
+use Rattle.lnt_machine.specs.State.{MachineState, Steps}
 
 -- the row of one more operation tells whether rows are left open with it
 open_more : (h : NumberParts) (back : List Op) (op : Op) → open_with (leaves_open back) (row_made h back op) ≡ leaves_open (op ∷ back)

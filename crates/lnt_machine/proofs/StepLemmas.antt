@@ -16,8 +16,7 @@ use Rattle.lnt_ops.proofs.ViewLaws.{is_op_of, operands_of}
 use Rattle.lnt_machine.specs.Changes.{changed, Changes, initial_registers, IsAllowed, line_reached, made, plain}
 use Rattle.lnt_machine.specs.Matrix.{row_made, Row}
 use Rattle.lnt_machine.specs.Registers.{IsLine, line, registers_after}
-use Rattle.lnt_machine.specs.State.{IsBounded, StandsAfter, MachineState}
-use Rattle.lnt_machine.specs.Steps.{LeavesRange, Steps}
+use Rattle.lnt_machine.specs.State.{IsBounded, StandsAfter, MachineState, LeavesRange, Steps}
 use Rattle.lnt_machine.proofs.ChangeLemmas.{changed_after, line_from, line_into, made_after, pow_bytes}
 
 -- ---- views

@@ -12,10 +12,9 @@ use Rattle.lnt_ops.specs.Walks.{Ends, Fails, GivesOperation, Walk}
 use Rattle.lnt_machine.proofs.PartLaws.{stands_at_start}
 use Rattle.lnt_machine.proofs.RanLaws.{no_row}
 use Rattle.lnt_machine.specs.Matrix.{row_made, rows_after, Row}
-use Rattle.lnt_machine.specs.Parts.{first_sequence}
+use Rattle.lnt_machine.specs.Running.{first_sequence}
 use Rattle.lnt_machine.specs.Registers.{IsLine, line}
-use Rattle.lnt_machine.specs.State.{StandsAfter, MachineState}
-use Rattle.lnt_machine.specs.Steps.{LeavesRange, Steps}
+use Rattle.lnt_machine.specs.State.{StandsAfter, MachineState, LeavesRange, Steps}
 use Rattle.lnt_machine.specs.Walking.{GivesFirstRow, GivesRow, HasRows, IsSequencePlace, LinesAfter, SequenceWalk, WillGive}
 use Rattle.lnt_machine.specs.Stepping.{GivesNext}
 use Rattle.lnt_machine.specs.Walking.WillGive.{none, some}

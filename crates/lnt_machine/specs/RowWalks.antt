@@ -9,7 +9,7 @@ use Rattle.lnt_machine.specs.declared.fault.RowFault.TheVariants.{Malformed, Run
 use Rattle.lnt_machine.specs.declared.fault.RunFault.TheVariants.{LineOutOfRange, OpenSequence, Memory}
 use Rattle.lnt_machine.specs.declared.row.Row.{Row}
 use Rattle.lnt_machine.specs.Running.{RunsOn, RunState}
-use Rattle.lnt_machine.specs.Steps.{LeavesRange}
+use Rattle.lnt_machine.specs.State.{LeavesRange}
 
 -- What a walk over rows is: the program as it is run, the walk over its operations, and whether it has ended, by a fault or
 -- without one.

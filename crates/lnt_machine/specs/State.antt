@@ -1,8 +1,11 @@
 -- What contracts see of a machine, and the lists of operations that it stands after.
-use Rattle.std.specs.Prelude.{◌≡◌, ℕ, ◌*◌, ◌^◌, ◌<◌, List}
+use Rattle.std.specs.Prelude.{◌≡◌, ℕ, ◌*◌, ◌^◌, ◌<◌, List, ◌+◌, ◌-◌, min, ◌∷◌, Option}
 use Rattle.lnt_header.specs.declared.numbers.NumberParts.{NumberParts}
 use Rattle.lnt_header.specs.declared.op.Op.{Op}
 use Rattle.lnt_machine.specs.Registers.{IsLine, line, registers_after, Row}
+use Rattle.lnt_header.specs.declared.op.OpView.{OpView}
+use Rattle.lnt_header.specs.OpRules.{StandsFor}
+use Rattle.lnt_machine.specs.Matrix.{row_made, Row}
 
 -- the header with which operations are read, the registers, and the number of operations done
 pub record MachineState : Type 0 where
@@ -21,3 +24,19 @@ pub record IsBounded (h : NumberParts) (registers : Row) : Type 0 where
   pub address : registers.address < 2 ^ (8 * h.address_size)
   pub op_index : registers.op_index < h.max_ops
   pub line : registers.line < 2 ^ 32
+
+-- ---- what a step of a machine does
+
+-- The operation was done: for each list after which the machine stood, it now stands after that list with this operation
+-- appended, and the row is the one that this operation appends after that list. The count increases by 1, up to the
+-- greatest number.
+pub record Steps (view : OpView) (old new : MachineState) (row : Option Row) : Type 0 where
+  pub stands : (back : List Op) (op : Op) → StandsAfter old back → StandsFor view op → StandsAfter new (op ∷ back)
+  pub row_is : (back : List Op) (op : Op) → StandsAfter old back → StandsFor view op → row ≡ row_made old.header back op
+  pub header : new.header ≡ old.header
+  pub count : new.count ≡ min (old.count + 1) (2 ^ 64 - 1)
+
+-- For each list after which the machine stands, the line is out of range with this operation appended.
+abbrev pub LeavesRange : OpView → MachineState → Type 0
+LeavesRange view machine =
+    (back : List Op) (op : Op) → StandsAfter machine back → StandsFor view op → IsLine (line machine.header (op ∷ back)) → ⊥

@@ -7,8 +7,7 @@ use Rattle.lnt_ops.specs.OpBytes.{OpBytes}
 use Rattle.lnt_ops.specs.Walks.{Walk}
 use Rattle.lnt_machine.specs.Cuts.{are_some, IsCut}
 use Rattle.lnt_machine.specs.Matrix.{LinesFit, sequences_of, Row, Sequence}
-use Rattle.lnt_machine.specs.Parts.{AtStart, rows_of_ops}
-use Rattle.lnt_machine.specs.Running.{RunState}
+use Rattle.lnt_machine.specs.Running.{AtStart, rows_of_ops, RunState}
 use Rattle.lnt_machine.specs.State.{MachineState, StandsAfter}
 use Rattle.lnt_machine.specs.Walking.{HasRows}
 

@@ -4,11 +4,10 @@ use Rattle.lnt_header.specs.declared.numbers.NumberParts.{NumberParts}
 use Rattle.lnt_header.specs.declared.header.HeaderParts.{HeaderParts}
 use Rattle.lnt_header.specs.declared.op.Op.{Op}
 use Rattle.lnt_header.specs.HeaderRules.{AreHeaderNumbers}
-use Rattle.lnt_ops.specs.Left.{OperationsAreLeft, IsPlace}
-use Rattle.lnt_ops.specs.Walks.{Walk}
+use Rattle.lnt_ops.specs.Walks.{OperationsAreLeft, IsPlace, Walk}
 use Rattle.lnt_header.specs.declared.unit_parts.UnitParts.{UnitParts}
 use Rattle.lnt_machine.specs.Matrix.{rows_after, sequences, sequences_of, Row}
-use Rattle.lnt_machine.specs.Parts.{AtStart, first_sequence, rows_of_ops}
+use Rattle.lnt_machine.specs.Running.{AtStart, first_sequence, rows_of_ops}
 use Rattle.lnt_machine.specs.Registers.{IsLine, line}
 use Rattle.lnt_machine.specs.State.{StandsAfter, MachineState}
 

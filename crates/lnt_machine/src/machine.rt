@@ -1,8 +1,7 @@
 //! A machine that does one operation after another.
 ghost use Rattle.std.specs.Prelude.{◌≡◌, List, [], ◌∷◌, IfOk, IsOk, IfErr, OnErr};
 ghost use Rattle.lnt_machine.specs.Registers.{IsLine, line};
-ghost use Rattle.lnt_machine.specs.State.{StandsAfter};
-ghost use Rattle.lnt_machine.specs.Steps.{LeavesRange, Steps};
+ghost use Rattle.lnt_machine.specs.State.{StandsAfter, LeavesRange, Steps};
 ghost use Rattle.lnt_header.specs.OpRules.{StandsFor, Admits};
 ghost use Rattle.lnt_header.specs.declared.op.Op.{Op};
 

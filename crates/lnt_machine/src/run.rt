@@ -2,8 +2,7 @@
 ghost use Rattle.std.specs.Prelude.{◌≡◌, true, false, List, [], ◌∷◌, IfOk, IsOk, OnOk, IfErr, OnErr};
 ghost use Rattle.lnt_machine.specs.Registers.{IsLine, line};
 ghost use Rattle.lnt_machine.specs.Running.{HasDone, RunsOn};
-ghost use Rattle.lnt_machine.specs.State.{StandsAfter};
-ghost use Rattle.lnt_machine.specs.Steps.{LeavesRange};
+ghost use Rattle.lnt_machine.specs.State.{StandsAfter, LeavesRange};
 ghost use Rattle.lnt_header.specs.OpRules.{StandsFor, Admits};
 ghost use Rattle.lnt_header.specs.declared.op.Op.{Op};
 

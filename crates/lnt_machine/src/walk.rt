@@ -4,7 +4,7 @@ ghost use Rattle.std.specs.Iterator.{at_most};
 ghost use Rattle.lnt_header.specs.declared.numbers.NumberParts.{NumberParts};
 ghost use Rattle.lnt_header.specs.declared.op.Op.{Op};
 ghost use Rattle.lnt_machine.specs.Matrix.{rows_after};
-ghost use Rattle.lnt_machine.specs.Parts.{first_sequence};
+ghost use Rattle.lnt_machine.specs.Running.{first_sequence};
 ghost use Rattle.lnt_machine.specs.Walking.{ComesShort, GivesRow, HasRows, IsSequencePlace, WillGive};
 ghost use Rattle.lnt_machine.specs.Stepping.{ComesNext, GivesNext};
 ghost use Rattle.lnt_machine.specs.declared.row.Row as spec;

@@ -2,7 +2,7 @@
 use Rattle.std.proofs.Common.{◌≡◌, ◌↔◌, Bool, IsTrue, List, Option, Some, None, [], ◌∷◌, ap, arith, is_none, length, sym, IsPermutation}
 use Rattle.std.proofs.lemmas.List.{nil_from_length}
 use Rattle.std.proofs.lemmas.List.Sorted.{length_permutation}
-use Rattle.lnt_spans.specs.Coming.{GivesFirstSpan}
+use Rattle.lnt_spans.specs.Remaining.{GivesFirstSpan}
 use Rattle.lnt_spans.specs.declared.span.Span.{Span}
 
 -- No first one of these spans is there exactly where the same spans in another order are none.

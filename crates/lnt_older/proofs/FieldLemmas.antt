@@ -1,8 +1,7 @@
 -- The fields that header_length counts, which are read, and the first that isn't there.
 use Rattle.std.proofs.Common.{◌≡◌, ℕ, List, [], ◌∷◌, ◌++◌, refl, sym, ◌∙◌, append_assoc, arith}
-use Rattle.lnt_wire.specs.At.{At}
+use Rattle.lnt_wire.specs.Reading.{At, Reads, Refuses}
 use Rattle.lnt_wire.specs.Bytes.{IsCode}
-use Rattle.lnt_wire.specs.Reading.{Reads, Refuses}
 use Rattle.lnt_wire.specs.declared.fault.Fault.{Fault}
 use Rattle.lnt_wire.specs.declared.format.Format.{Format}
 use Rattle.lnt_wire.specs.declared.format.Order.{Order}

@@ -1,8 +1,7 @@
 -- Headers that are read.
 use Rattle.std.proofs.Common.{◌≡◌, ℕ, suc, ◌<◌, List, [], ◌∷◌, ◌++◌, get_or, refl, sym, subst, ◌∙◌, append_assoc, arith}
 use Rattle.std.specs.List.{AllByRecursion}
-use Rattle.lnt_wire.specs.At.{At}
-use Rattle.lnt_wire.specs.Reading.{Reads}
+use Rattle.lnt_wire.specs.Reading.{At, Reads}
 use Rattle.lnt_wire.specs.declared.format.Format.{Format}
 use Rattle.lnt_wire.specs.declared.format.Order.{Order}
 use Rattle.lnt_header.specs.HeaderRules.{AreHeaderNumbers, IsAddressSize, single_bytes}
@@ -11,7 +10,7 @@ use Rattle.lnt_header.specs.declared.header.HeaderParts.{HeaderParts}
 use Rattle.lnt_header_bytes.specs.HeaderFaults.{LengthsBytes}
 use Rattle.lnt_older.specs.Lists.{PassesList}
 use Rattle.lnt_older.specs.OlderBytes.{directory_pairs, file_pairs, older_bytes, OlderFieldsBytes, SaysOperations, OlderVersion}
-use Rattle.lnt_older.specs.FieldReading.{ReadsParts}
+use Rattle.lnt_older.specs.UnitReading.{ReadsParts}
 use Rattle.lnt_older.specs.OlderFields.{FieldsOf, header_of, IsReadHeader, NumbersBytes, number_fields}
 use Rattle.lnt_older.specs.declared.header.OlderHeader.{OlderHeader}
 use Rattle.lnt_older.specs.declared.numbers.OlderNumbers.{OlderNumbers}

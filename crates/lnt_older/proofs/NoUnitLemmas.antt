@@ -1,12 +1,10 @@
 -- Where no unit of version 2 to 5 stands.
 use Rattle.std.proofs.Common.{◌≡◌, ◌≢◌, ℕ, ◌<◌, ◌≤◌, ◌^◌, List, [], ◌++◌, length, refl, sym, ap, ◌∙◌, append_assoc, arith}
 use Rattle.std.proofs.lemmas.List.{length-append, append-nil}
-use Rattle.lnt_wire.specs.At.{At}
+use Rattle.lnt_wire.specs.Reading.{At}
 use Rattle.lnt_wire.specs.Bytes.{NoneSpelled}
-use Rattle.lnt_wire.specs.FrameBytes.{frame_bytes}
-use Rattle.lnt_wire.specs.FrameFaults.{InFrame, IsFrameFault}
-use Rattle.lnt_wire.specs.InitialFaults.{IsVersionFault}
-use Rattle.lnt_wire.specs.InitialLength.{initial_length, LengthFits}
+use Rattle.lnt_wire.specs.FrameBytes.{frame_bytes, initial_length, LengthFits}
+use Rattle.lnt_wire.specs.FrameFaults.{InFrame, IsFrameFault, IsVersionFault}
 use Rattle.lnt_wire.specs.Numbers.{number_bytes, offset_size}
 use Rattle.lnt_wire.specs.declared.fault.Reason.{Reason}
 use Rattle.lnt_wire.specs.declared.fault.Reason.TheVariants.{VersionNotFive}
@@ -18,7 +16,7 @@ use Rattle.lnt_wire.proofs.FrameLaws.{no_frame}
 use Rattle.lnt_wire.proofs.LengthLaws.{length-number_bytes, same_prefix, same_length, same_number_prefix, width_2}
 use Rattle.lnt_wire.proofs.ValueLaws.{offset_width}
 use Rattle.lnt_header.specs.declared.header.HeaderParts.{HeaderParts}
-use Rattle.lnt_header_bytes.specs.StartBytes.{CountedBytes}
+use Rattle.lnt_header_bytes.specs.HeaderBytes.{CountedBytes}
 use Rattle.lnt_header_bytes.proofs.HeaderLaws.{below}
 use Rattle.lnt_older.specs.OlderBytes.{older_body, OlderBytes, OlderFieldsBytes, version_number, OlderVersion}
 use Rattle.lnt_older.specs.OlderFields.{FieldsOf, number_fields}

@@ -1,14 +1,11 @@
 -- The prefix of a unit that is read, and the faults of it.
 use Rattle.std.proofs.Common.{◌≡◌, ◌≢◌, ℕ, ◌+◌, ◌-◌, ◌<◌, ◌^◌, List, ◌++◌, length, take, refl, sym, ap, ◌∙◌, append_assoc, arith}
 use Rattle.std.proofs.lemmas.List.{length-append}
-use Rattle.lnt_wire.specs.At.{At}
+use Rattle.lnt_wire.specs.Reading.{At, Reads, RefusesField, Refuses, IsCutShort}
 use Rattle.lnt_wire.specs.Bytes.{TakenBytes}
-use Rattle.lnt_wire.specs.FrameBytes.{FrameBytes, frame_bytes}
-use Rattle.lnt_wire.specs.FrameFaults.{IsFrameFault}
-use Rattle.lnt_wire.specs.InitialFaults.{IsInitialFault}
-use Rattle.lnt_wire.specs.InitialLength.{InitialBytes, initial_length}
+use Rattle.lnt_wire.specs.FrameBytes.{FrameBytes, frame_bytes, InitialBytes, initial_length}
+use Rattle.lnt_wire.specs.FrameFaults.{IsFrameFault, IsInitialFault}
 use Rattle.lnt_wire.specs.Numbers.{NumberBytes}
-use Rattle.lnt_wire.specs.Reading.{Reads, RefusesField, Refuses, IsCutShort}
 use Rattle.lnt_wire.specs.declared.fault.Fault.{Fault}
 use Rattle.lnt_wire.specs.declared.fault.Reason.{Reason}
 use Rattle.lnt_wire.specs.declared.fault.Reason.TheVariants.{Truncated, VersionNotFive}

@@ -5,14 +5,12 @@ use Rattle.std.proofs.lemmas.List.{append-nil, nil_from_length}
 use Rattle.std.proofs.lemmas.List.Elements.{All-cons, All-nil, All-weaker}
 use Rattle.std.proofs.lemmas.List.Kept.{AllPairs-cons}
 use Rattle.lnt_header.specs.Joins.{AreRising, PlacedFrom}
-use Rattle.lnt_wire.specs.At.{At}
-use Rattle.lnt_wire.specs.Reading.{Reads, Refuses}
+use Rattle.lnt_wire.specs.Reading.{At, Reads, Refuses}
 use Rattle.lnt_wire.specs.declared.fault.Fault.{Fault}
 use Rattle.lnt_wire.specs.declared.format.Order.{Order}
 use Rattle.lnt_older.specs.OlderUnits.{AnyBytes, AnyParts, IsAnyFault, ReadsFive, ReadsOlder, five_parts, older_parts, unit_header}
-use Rattle.lnt_older.specs.SectionSteps.{IsUnitNext}
+use Rattle.lnt_older.specs.Upgradable.{IsUnitNext, AreLeft}
 use Rattle.lnt_older.specs.Sections.{HasOlder, IsBroken, older_offsets}
-use Rattle.lnt_older.specs.Upgradable.{AreLeft}
 use Rattle.lnt_older.specs.declared.unit.OlderUnit.{OlderUnit}
 use Rattle.lnt_older.proofs.PlacedLaws.{left_after, placed_more}
 use Rattle.lnt_older.proofs.UpgradeLaws.{any_once, five_read, older_read, some_bytes}

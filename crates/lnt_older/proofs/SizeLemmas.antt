@@ -1,15 +1,13 @@
 -- A walk that tests of each unit that it can be written anew.
 use Rattle.std.proofs.Common.{◌≡◌, ℕ, ◌+◌, ◌<◌, List, [], ◌∷◌, ◌++◌, length, refl, arith}
 use Rattle.std.specs.List.{AllByRecursion}
-use Rattle.lnt_wire.specs.At.{At}
+use Rattle.lnt_wire.specs.Reading.{At}
 use Rattle.lnt_wire.specs.declared.format.Order.{Order}
 use Rattle.lnt_header.specs.Joins.{Each, PlacedFrom}
 use Rattle.lnt_older.specs.OlderUnits.{AnyParts}
 use Rattle.lnt_older.specs.Directories.{directory_at, Directory}
-use Rattle.lnt_older.specs.SectionSteps.{IsLargeNext, IsUnitNext}
-use Rattle.lnt_older.specs.Sections.{HasAddressSize, IsLargeAt, UpgradedBytes}
-use Rattle.lnt_older.specs.Upgradable.{AddsAny, AreLeft, CanBeUpgraded, CanUpgrade}
-use Rattle.lnt_older.specs.Upgrades.{HasUnits}
+use Rattle.lnt_older.specs.Upgradable.{IsLargeNext, IsUnitNext, AddsAny, AreLeft, CanBeUpgraded, CanUpgrade}
+use Rattle.lnt_older.specs.Sections.{HasAddressSize, IsLargeAt, UpgradedBytes, HasUnits}
 use Rattle.lnt_older.proofs.PlacedLaws.{left_all}
 use Rattle.lnt_older.proofs.SectionLemmas.{IsSpelled, WalkedTo, any_long, fewer_left, unit_next, walked_all, walked_more, walked_none}
 use Rattle.std.proofs.lemmas.Grind.{common_steps}

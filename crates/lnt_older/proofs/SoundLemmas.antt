@@ -2,17 +2,16 @@
 use Rattle.std.proofs.Common.{◌≡◌, ◌≢◌, ℕ, ◌+◌, ◌-◌, ◌<◌, ◌≤◌, List, [], ◌∷◌, ◌++◌, length, take, drop, get_or, refl, sym, ap, subst, ◌∙◌}
 use Rattle.std.proofs.Common.{append_assoc, add-zero, arith, Option, Some, None, ℤ, FitsSigned}
 use Rattle.std.proofs.lemmas.List.{length-append, nil_from_length, take_more, drop_more, take-append-drop, take_all}
-use Rattle.lnt_wire.specs.At.{At}
+use Rattle.lnt_wire.specs.Reading.{At, Reads, RefusesField, Refuses, IsCutShort}
 use Rattle.lnt_wire.specs.Bytes.{NoneSpelled, IsCode}
 use Rattle.lnt_wire.specs.Numbers.{NumberBytes}
-use Rattle.lnt_wire.specs.Reading.{Reads, RefusesField, Refuses, IsCutShort}
 use Rattle.lnt_wire.specs.declared.fault.Fault.{Fault}
 use Rattle.lnt_wire.specs.declared.fault.Reason.{Reason}
 use Rattle.lnt_wire.specs.declared.format.Order.{Order}
 use Rattle.lnt_header.proofs.ByteLaws.{one_digit}
 use Rattle.lnt_header.proofs.ReaderLaws.{reads_map, refuses_map}
-use Rattle.lnt_older.specs.FieldReading.{ByteOf, IsByteFault}
-use Rattle.lnt_older.specs.FieldReading.IsByteFault.{no_byte, is_zero}
+use Rattle.lnt_older.specs.UnitReading.{ByteOf, IsByteFault}
+use Rattle.lnt_older.specs.UnitReading.IsByteFault.{no_byte, is_zero}
 use Rattle.lnt_older.specs.OlderFields.{AreFieldBytes, IsSoundFault, MayBe, SoundBytes, NumbersBytes, number_fields, zero_reasons}
 use Rattle.lnt_older.specs.OlderFields.IsSoundFault.{missing, zero_byte}
 use Rattle.lnt_older.proofs.Prefixes.{prefix_taken}

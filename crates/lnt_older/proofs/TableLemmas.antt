@@ -1,7 +1,7 @@
 -- The tables of version 5 that say what the lists of an older unit say.
 use Rattle.std.proofs.Common.{◌≡◌, ◌≢◌, ℕ, ◌+◌, ◌*◌, ◌-◌, ◌<◌, ◌≤◌, List, [], ◌∷◌, ◌++◌, length, take, refl, sym, ap, subst, ◌∙◌}
 use Rattle.std.proofs.Common.{append_assoc, arith, length-append, append-nil}
-use Rattle.lnt_wire.specs.At.{At}
+use Rattle.lnt_wire.specs.Reading.{At}
 use Rattle.lnt_wire.specs.Bytes.{NoneSpelled}
 use Rattle.lnt_wire.specs.FormBytes.{form_code, HasNoZero}
 use Rattle.lnt_wire.specs.Leb128.{UnsignedLeb}
@@ -12,16 +12,15 @@ use Rattle.lnt_wire.specs.declared.format.Order.{Order}
 use Rattle.lnt_header.specs.Joins.{Each}
 use Rattle.lnt_header.specs.declared.header.Entry.{Entry}
 use Rattle.lnt_header.specs.declared.header.Pair.{Pair}
-use Rattle.lnt_header_bytes.specs.Layouts.{entry_of}
+use Rattle.lnt_header_bytes.specs.Borrowed.{entry_of}
 use Rattle.lnt_header_bytes.specs.Stepping.{Passes}
 use Rattle.lnt_header_bytes.specs.TableBytes.{PairBytes, EntryBytes, TableBytes}
 use Rattle.lnt_header_bytes.proofs.TableLaws.{entry_code}
 use Rattle.lnt_older.specs.Lists.{BeginsWithPath}
 use Rattle.lnt_older.specs.OlderBytes.{BeginsEntry, directory_pairs, file_pairs, ListedBytes}
-use Rattle.lnt_older.specs.Upgraded.{CountedTable}
+use Rattle.lnt_older.specs.Upgraded.{CountedTable, HasFiles, IsCountFromZero, IsFileZero}
 use Rattle.lnt_older.proofs.Prefixes.{prefix_taken}
 use Rattle.lnt_older.proofs.ListLemmas.{path_first, zero_begins}
-use Rattle.lnt_older.specs.Upgrading.{HasFiles, IsCountFromZero, IsFileZero}
 use Rattle.std.proofs.lemmas.Grind.{common_steps}
 
 -- ---- tables

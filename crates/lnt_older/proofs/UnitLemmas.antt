@@ -1,20 +1,18 @@
 -- Older units that are read, and the first field of them that isn't there.
 use Rattle.std.proofs.Common.{◌≡◌, ℕ, ◌+◌, ◌-◌, List, [], ◌++◌, length, take, refl, sym, ap, subst, ◌∙◌, append_assoc, add-zero, arith}
 use Rattle.std.proofs.lemmas.List.{length-append, append-nil}
-use Rattle.lnt_wire.specs.At.{At}
-use Rattle.lnt_wire.specs.FrameBytes.{frame_bytes}
+use Rattle.lnt_wire.specs.Reading.{At, Reads, RefusesField, Refuses}
+use Rattle.lnt_wire.specs.FrameBytes.{frame_bytes, initial_length, LengthFits}
 use Rattle.lnt_wire.specs.FrameFaults.{InFrame}
-use Rattle.lnt_wire.specs.InitialLength.{initial_length, LengthFits}
 use Rattle.lnt_wire.specs.Numbers.{number_bytes, offset_size}
-use Rattle.lnt_wire.specs.Reading.{Reads, RefusesField, Refuses}
 use Rattle.lnt_wire.specs.declared.fault.Fault.{Fault}
 use Rattle.lnt_wire.specs.declared.fault.Reason.{Reason}
 use Rattle.lnt_wire.specs.declared.format.Format.{Format}
 use Rattle.lnt_wire.specs.declared.format.Order.{Order}
 use Rattle.lnt_wire.proofs.LengthLaws.{length-number_bytes}
 use Rattle.lnt_header_bytes.specs.HeaderReading.{standing}
-use Rattle.lnt_header_bytes.specs.StartBytes.{CountedBytes}
-use Rattle.lnt_header_bytes.specs.StartFaults.{IsCountedFault}
+use Rattle.lnt_header_bytes.specs.HeaderBytes.{CountedBytes}
+use Rattle.lnt_header_bytes.specs.HeaderFaults.{IsCountedFault}
 use Rattle.lnt_older.specs.OlderFields.{FieldsOf, IsFieldsFault, IsReadHeader}
 use Rattle.lnt_older.specs.OlderUnits.{AnyBytes, IsAnyFault, IsOlderUnit, IsSoundUnit, ReadsAny, ReadsOlder, OlderUnit}
 use Rattle.lnt_older.specs.OlderUnits.IsAnyFault.{header_length, of_fields}

@@ -1,10 +1,8 @@
 -- What a unit says that was read where it lies; and that the bytes of a place are those of one unit.
 use Rattle.std.proofs.Common.{◌≡◌, ℕ, ◌<◌, List, ◌++◌, length, refl, sym, subst, ◌∙◌, append_assoc, inr, arith, take, ap, ◌+◌, [], ◌∷◌}
 use Rattle.std.proofs.lemmas.List.{append_cancel_right, length-append, append_cancel_left}
-use Rattle.lnt_wire.specs.At.{At}
-use Rattle.lnt_wire.specs.FrameBytes.{FrameBytes, frame_bytes}
-use Rattle.lnt_wire.specs.InitialLength.{LengthFits}
-use Rattle.lnt_wire.specs.Reading.{Reads}
+use Rattle.lnt_wire.specs.Reading.{At, Reads}
+use Rattle.lnt_wire.specs.FrameBytes.{FrameBytes, frame_bytes, LengthFits}
 use Rattle.lnt_wire.specs.declared.format.Format.{Format}
 use Rattle.lnt_wire.specs.declared.format.Order.{Order}
 use Rattle.lnt_wire.proofs.LengthLaws.{length-initial, same_number_prefix, width_2}
@@ -13,8 +11,7 @@ use Rattle.lnt_header.specs.declared.header.HeaderParts.{HeaderParts}
 use Rattle.lnt_header_bytes.specs.HeaderBytes.{unit_body}
 use Rattle.lnt_older.specs.OlderUnits.{AnyBytes, AnyParts, ReadsFive, ReadsOlder, unit_header, OlderUnit}
 use Rattle.lnt_older.specs.OlderUnits.AnyParts.{five_parts, older_parts}
-use Rattle.lnt_older.specs.Upgraded.{CopiedFields, upgraded, CountedTable}
-use Rattle.lnt_older.specs.Upgrading.{AddsUpgraded, IsTooLong}
+use Rattle.lnt_older.specs.Upgraded.{CopiedFields, upgraded, CountedTable, AddsUpgraded, IsTooLong}
 use Rattle.lnt_older.proofs.NoUnitLemmas.{not_five, one_body, small_version}
 use Rattle.lnt_older.proofs.SameUnitLemmas.{lies_in, one_header, same_unit}
 use Rattle.std.proofs.lemmas.Grind.{common_steps}

@@ -2,22 +2,20 @@
 use Rattle.std.proofs.Common.{◌≡◌, ℕ, ◌+◌, ◌*◌, ◌≤◌, List, [], ◌∷◌, ◌++◌, length, take, refl, sym, append_assoc, arith, append-nil}
 use Rattle.lnt_wire.specs.Bytes.{Appends, Extends}
 use Rattle.lnt_wire.specs.FormBytes.{HasNoZero}
-use Rattle.lnt_wire.specs.FrameBytes.{frame_bytes}
-use Rattle.lnt_wire.specs.InitialLength.{LengthFits}
+use Rattle.lnt_wire.specs.FrameBytes.{frame_bytes, LengthFits}
 use Rattle.lnt_wire.specs.Leb128.{UnsignedLeb}
 use Rattle.lnt_wire.specs.declared.form.FormValue.TheVariants.{Text}
 use Rattle.lnt_wire.specs.declared.put.EncodeFault.{EncodeFault}
 use Rattle.lnt_wire.specs.declared.put.EncodeFault.TheVariants.{TooLarge}
 use Rattle.lnt_header.specs.HeaderRules.{IsAddressSize}
-use Rattle.lnt_header_bytes.specs.Layouts.{entry_of}
+use Rattle.lnt_header_bytes.specs.Borrowed.{entry_of}
 use Rattle.lnt_header_bytes.specs.TableBytes.{EntryBytes}
 use Rattle.lnt_header_bytes.specs.HeaderPuts.{AddsAround, around}
 use Rattle.lnt_older.specs.OlderBytes.{directory_pairs, file_pairs}
 use Rattle.lnt_older.specs.OlderFields.{number_fields}
 use Rattle.lnt_older.specs.OlderUnits.{IsOlderUnit, OlderUnit}
-use Rattle.lnt_older.specs.Upgraded.{CountedTable, directory_head, file_head, from_zero}
-use Rattle.lnt_older.specs.Upgrading.{AddsFiles, AddsTable, AddsUpgraded, AreUpgradedFields, HasFiles}
-use Rattle.lnt_older.specs.Upgrading.{IsCountFromZero, IsFileZero, IsTooLong}
+use Rattle.lnt_older.specs.Upgraded.{CountedTable, directory_head, file_head, from_zero, AddsFiles, AddsTable, AddsUpgraded}
+use Rattle.lnt_older.specs.Upgraded.{AreUpgradedFields, HasFiles, IsCountFromZero, IsFileZero, IsTooLong}
 use Rattle.lnt_older.specs.declared.version.OlderVersion.TheVariants.{Four}
 use Rattle.lnt_older.proofs.HeaderLemmas.{moved_numbers}
 use Rattle.lnt_older.proofs.TableLemmas.{directory_spelled, each_append, each_listed, four_pairs, listed_few, one_pair, table_spelled}

@@ -1,17 +1,15 @@
 -- One unit that is written anew.
 use Rattle.std.proofs.Common.{◌≡◌, ◌∙◌, ℕ, List, ◌++◌, refl, sym, ap, subst}
 use Rattle.std.proofs.lemmas.List.{append_cancel_right}
-use Rattle.lnt_wire.specs.At.{At}
+use Rattle.lnt_wire.specs.Reading.{At}
 use Rattle.lnt_wire.specs.declared.format.Order.{Order}
 use Rattle.lnt_header.specs.HeaderRules.{IsAddressSize}
 use Rattle.lnt_header_bytes.specs.HeaderBytes.{HeaderBytesIn}
 use Rattle.lnt_older.specs.OlderUnits.{ReadsFive, ReadsOlder, five_parts, older_parts, older_spelling, unit_header, OlderUnit}
 use Rattle.lnt_older.specs.OlderBytes.{OlderBytesIn}
-use Rattle.lnt_older.specs.Upgraded.{upgraded}
-use Rattle.lnt_older.specs.Upgrading.{AddsUpgraded, IsTooLong}
+use Rattle.lnt_older.specs.Upgraded.{upgraded, AddsUpgraded, IsTooLong}
 use Rattle.lnt_older.specs.Directories.{directory_at, Directory}
-use Rattle.lnt_older.specs.SectionSteps.{IsLargeNext}
-use Rattle.lnt_older.specs.Upgradable.{AddsAny}
+use Rattle.lnt_older.specs.Upgradable.{IsLargeNext, AddsAny}
 use Rattle.lnt_older.proofs.UpgradeLaws.{five_read, older_read, one_fit, only_five}
 
 -- ---- one unit

@@ -2,14 +2,13 @@
 use Rattle.std.proofs.Common.{◌≡◌, ◌∙◌, ℕ, ◌<◌, List, [], ◌∷◌, ◌++◌, length, length-append, refl, sym, ap, subst, arith, append_assoc}
 use Rattle.std.specs.List.{AllByRecursion}
 use Rattle.std.proofs.lemmas.List.{append-nil, nil_from_length}
-use Rattle.lnt_wire.specs.At.{At}
+use Rattle.lnt_wire.specs.Reading.{At}
 use Rattle.lnt_wire.specs.declared.format.Order.{Order}
 use Rattle.lnt_header.specs.Joins.{Each, PlacedFrom}
 use Rattle.lnt_older.specs.OlderUnits.{AnyParts, older_parts}
 use Rattle.lnt_older.specs.Directories.{directory_at, Directory}
-use Rattle.lnt_older.specs.SectionSteps.{IsLargeNext, IsUnitNext}
+use Rattle.lnt_older.specs.Upgradable.{IsLargeNext, IsUnitNext, AddsAny, CanBeLeft, CanBeUpgraded, CanUpgrade}
 use Rattle.lnt_older.specs.Sections.{HasAddressSize, IsUpgraded, UpgradedBytes}
-use Rattle.lnt_older.specs.Upgradable.{AddsAny, CanBeLeft, CanBeUpgraded, CanUpgrade}
 use Rattle.lnt_older.proofs.PlacedLaws.{left_all}
 use Rattle.lnt_older.proofs.SectionLemmas.{IsSpelled, fewer_left, unit_next}
 use Rattle.lnt_older.proofs.SizeLemmas.{newer_of}

@@ -1,14 +1,10 @@
 pub mod Directories
-pub mod FieldReading
 pub mod Laws
 pub mod Lists
 pub mod OlderBytes
 pub mod OlderFields
 pub mod OlderUnits
-pub mod SectionSteps
 pub mod Sections
 pub mod UnitReading
 pub mod Upgradable
 pub mod Upgraded
-pub mod Upgrades
-pub mod Upgrading

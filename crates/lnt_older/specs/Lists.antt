@@ -3,8 +3,7 @@
 --     before   the bytes from the list's first one up to the place of the fault
 --     left     the bytes from the place on, up to the end of the header
 use Rattle.std.specs.Prelude.{◌≡◌, ℕ, List, [], ◌∷◌, ◌++◌, length}
-use Rattle.lnt_wire.specs.At.{At}
-use Rattle.lnt_wire.specs.Reading.{Reads}
+use Rattle.lnt_wire.specs.Reading.{At, Reads}
 use Rattle.lnt_wire.specs.declared.fault.Reason.{Reason}
 use Rattle.lnt_wire.specs.declared.fault.Reason.TheVariants.{Truncated}
 use Rattle.lnt_wire.specs.declared.form.Form.TheVariants.{Text}

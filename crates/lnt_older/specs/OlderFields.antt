@@ -6,7 +6,7 @@ use Rattle.lnt_wire.specs.declared.fault.Reason.{Reason}
 use Rattle.lnt_wire.specs.declared.fault.Reason.TheVariants.{Truncated, MaxOpsZero, LineRangeZero, OpcodeBaseZero}
 use Rattle.lnt_wire.specs.declared.format.Format.{Format}
 use Rattle.lnt_wire.specs.declared.format.Order.{Order}
-use Rattle.lnt_header.specs.FirstFaults.{FirstOf}
+use Rattle.lnt_header.specs.FieldFaults.{FirstOf}
 use Rattle.lnt_header.specs.HeaderRules.{IsAddressSize, header_of as header_with}
 use Rattle.lnt_header.specs.Joins.{Both, Each}
 use Rattle.lnt_header.specs.declared.header.Entry.{Entry}

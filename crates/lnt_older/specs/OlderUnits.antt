@@ -1,10 +1,9 @@
 -- Units of versions 2 to 5 that are read where they lie, and why none is.
 use Rattle.std.specs.Prelude.{◌≡◌, ◌≢◌, ℕ, List, ◌++◌, length}
-use Rattle.lnt_wire.specs.At.{At}
+use Rattle.lnt_wire.specs.Reading.{At, Reads}
 use Rattle.lnt_wire.specs.FrameBytes.{FrameBytes, frame_bytes}
 use Rattle.lnt_wire.specs.FrameFaults.{InFrame, IsFrameFault}
 use Rattle.lnt_wire.specs.Numbers.{number_bytes, offset_size}
-use Rattle.lnt_wire.specs.Reading.{Reads}
 use Rattle.lnt_wire.specs.declared.fault.Reason.{Reason}
 use Rattle.lnt_wire.specs.declared.fault.Reason.TheVariants.{VersionNotFive}
 use Rattle.lnt_wire.specs.declared.format.Format.{Format}
@@ -12,7 +11,7 @@ use Rattle.lnt_wire.specs.declared.format.Order.{Order}
 use Rattle.lnt_header.specs.HeaderRules.{AreHeaderNumbers, IsAddressSize}
 use Rattle.lnt_header.specs.declared.header.Entry.{Entry}
 use Rattle.lnt_header.specs.declared.header.HeaderParts.{HeaderParts}
-use Rattle.lnt_header_bytes.specs.StartFaults.{IsCountedFault}
+use Rattle.lnt_header_bytes.specs.HeaderFaults.{IsCountedFault}
 use Rattle.lnt_older.specs.OlderBytes.{body_bytes, OlderBytes, OlderBytesIn, version_number, OlderVersion}
 use Rattle.lnt_older.specs.OlderFields.{header_of, header_spelling, IsFieldsFault, ListsLie}
 use Rattle.lnt_older.specs.declared.unit.AnyUnit.{AnyUnit}

@@ -1,5 +1,5 @@
 -- Sections whose units are of versions 2 to 5, and the sections of version 5 that say the same (DWARF 2 to 5, section 6.2.4).
-use Rattle.std.specs.Prelude.{◌≡◌, ℕ, List, [], ◌∷◌, ◌++◌, length}
+use Rattle.std.specs.Prelude.{◌≡◌, ℕ, List, [], ◌∷◌, ◌++◌, length, Option, Some, None}
 use Rattle.std.specs.List.{AllByRecursion}
 use Rattle.lnt_wire.specs.FrameBytes.{FrameBytes}
 use Rattle.lnt_wire.specs.Reading.{Refuses}
@@ -11,9 +11,10 @@ use Rattle.lnt_header_bytes.specs.HeaderBytes.{HeaderBytesIn}
 use Rattle.lnt_header_bytes.specs.HeaderReading.{standing}
 use Rattle.lnt_older.specs.OlderBytes.{OlderBytesIn, OlderVersion}
 use Rattle.lnt_older.specs.OlderUnits.{AnyBytes, AnyParts, IsAnyFault, five_parts, older_parts, older_spelling, OlderUnit}
-use Rattle.lnt_older.specs.Upgrading.{IsTooLong}
-use Rattle.lnt_older.specs.Upgraded.{upgraded}
-use Rattle.lnt_older.specs.Directories.{directory_at, Directory}
+use Rattle.lnt_older.specs.Upgraded.{IsTooLong, upgraded}
+use Rattle.lnt_older.specs.Directories.{directory_at, Directory, IsBadRecord, IsDirectoryFile}
+use Rattle.lnt_older.specs.declared.section.UpgradeFault.{UpgradeFault}
+use Rattle.lnt_older.specs.declared.section.UpgradeFault.TheVariants.{Malformed, Directories, TooLarge, Memory}
 
 -- ---- what a section says
 
@@ -86,3 +87,25 @@ pub record IsLargeAt (order : Order) (address_size : ℕ) (directories : List Di
   pub before : List ℕ
   pub upgraded_before : IsUpgraded order address_size directories prefix before
   pub large : IsLargeUnit order address_size (directory_at directories offset) unit
+
+-- ---- a section that is written anew, or why it isn't
+
+-- The section is spelled by units.
+abbrev pub HasUnits : Order → List ℕ → Type 0
+HasUnits order section = (units : List (ℕ × AnyParts)) × AnySection order units section
+
+-- These are the directories that a file lists for older units of the section; none where no file is given.
+abbrev pub AreListed : Order → List ℕ → Option (List ℕ) → List Directory → Type 0
+AreListed order section None directories = directories ≡ []
+AreListed order section (Some text) directories = (older : List ℕ) × HasOlder order section older × IsDirectoryFile older text directories
+
+-- Why the section isn't written anew. Want of memory says nothing of it.
+abbrev pub IsUpgradeFault : Order → ℕ → List ℕ → Option (List ℕ) → UpgradeFault → Type 0
+IsUpgradeFault order address_size section text (Malformed fault) = IsBroken order section fault
+IsUpgradeFault order address_size section None (Directories place) = ⊥
+IsUpgradeFault order address_size section (Some text) (Directories place) =
+    (older : List ℕ) × HasOlder order section older × IsBadRecord older text place
+IsUpgradeFault order address_size section text (TooLarge offset) =
+    (directories : List Directory) × HasUnits order section × AreListed order section text directories
+    × IsLargeAt order address_size directories section offset
+IsUpgradeFault order address_size section text Memory = Unit {0}

@@ -1,24 +1,46 @@
 -- What the prefix of a unit gives, up to its version. No public contract speaks of it.
-use Rattle.std.specs.Prelude.{◌≡◌, ◌≢◌, ℕ, ◌+◌, ◌^◌, ◌<◌, List, [], ◌++◌, length}
-use Rattle.lnt_wire.specs.At.{At}
-use Rattle.lnt_wire.specs.FrameBytes.{frame_bytes}
-use Rattle.lnt_wire.specs.InitialLength.{initial_length, LengthFits}
-use Rattle.lnt_wire.specs.Numbers.{number_bytes, offset_size}
-use Rattle.lnt_wire.specs.Reading.{Refuses}
-use Rattle.lnt_wire.specs.declared.fault.Fault.{Fault}
+use Rattle.std.specs.Prelude.{◌≡◌, ℕ, List, [], ◌∷◌, Option, Some, ◌≢◌, ◌+◌, ◌^◌, ◌<◌, ◌++◌, length}
+use Rattle.lnt_wire.specs.Reading.{At, Reads, Refuses}
 use Rattle.lnt_wire.specs.declared.fault.Reason.{Reason}
-use Rattle.lnt_wire.specs.declared.fault.Reason.TheVariants.{VersionNotFive}
+use Rattle.lnt_wire.specs.declared.fault.Reason.TheVariants.{Truncated, VersionNotFive}
 use Rattle.lnt_wire.specs.declared.format.Format.{Format}
+use Rattle.lnt_header.specs.declared.header.Entry.{Entry}
+use Rattle.lnt_older.specs.OlderFields.{FieldsOf, header_spelling, ListsLie, MayBe, IsFieldsFault, IsReadHeader}
+use Rattle.lnt_older.specs.declared.header.OlderHeader.{OlderHeader}
+use Rattle.lnt_wire.specs.FrameBytes.{frame_bytes, initial_length, LengthFits}
+use Rattle.lnt_wire.specs.Numbers.{number_bytes, offset_size}
+use Rattle.lnt_wire.specs.declared.fault.Fault.{Fault}
 use Rattle.lnt_wire.specs.declared.format.Order.{Order}
 use Rattle.lnt_header.specs.declared.header.HeaderParts.{HeaderParts}
 use Rattle.lnt_header_bytes.specs.HeaderReading.{standing}
-use Rattle.lnt_header_bytes.specs.StartFaults.{IsCountedFault}
+use Rattle.lnt_header_bytes.specs.HeaderFaults.{IsCountedFault}
 use Rattle.lnt_older.specs.OlderBytes.{OlderFieldsBytes, version_number, OlderVersion}
-use Rattle.lnt_older.specs.OlderFields.{IsFieldsFault, IsReadHeader}
 use Rattle.lnt_older.specs.declared.prefix.Prefix.{Prefix}
 use Rattle.lnt_older.specs.declared.unit.AnyUnit.{AnyUnit}
 use Rattle.lnt_older.specs.declared.unit.AnyUnit.TheVariants as units
 use Rattle.lnt_older.specs.declared.unit.OlderUnit.{OlderUnit}
+
+-- ---- what the read of the fields of an older header gives. No public contract speaks of it.
+
+-- a byte that the field may hold
+abbrev pub ByteOf : Option Reason → ℕ → List ℕ → Type 0
+ByteOf zero_reason byte bytes = MayBe zero_reason byte × (bytes ≡ byte ∷ [])
+
+-- It isn't there, or is 0 and may not be.
+pub data IsByteFault (zero_reason : Option Reason) (reason : Reason) (bytes : List ℕ) : Type 0 where
+  no_byte : reason ≡ Truncated → bytes ≡ [] → IsByteFault zero_reason reason bytes
+  is_zero : (more : List ℕ) → zero_reason ≡ Some reason → bytes ≡ 0 ∷ more → IsByteFault zero_reason reason bytes
+
+-- The read gave the parts of a header, moved past the fields that spell them, and left the last bytes. All bytes are those of its parts.
+pub record ReadsParts (version : OlderVersion) (format : Format) (o : OlderHeader) (old new : At) : Type 0 where
+  pub directories : List Entry
+  pub files : List Entry
+  pub lie : ListsLie format old.order o directories files
+  pub read : Reads (FieldsOf version format old.order) (o.numbers, (o.standard_lengths.now, (directories, files))) old new
+  pub extra_is : o.extra.now ≡ new.rest
+  pub joined : old.rest ≡ header_spelling version o
+
+-- ---- the prefix of a unit
 
 -- the body of a unit, by its version and what stands after that
 abbrev pub prefix_body : Order → Prefix → List ℕ

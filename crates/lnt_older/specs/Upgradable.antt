@@ -1,14 +1,15 @@
 -- Which units can be written anew, which of them are left at a cursor, and what it is to write one. Public contracts speak of all of it.
 use Rattle.std.specs.Prelude.{◌≡◌, ℕ, List, ◌++◌}
-use Rattle.lnt_wire.specs.At.{At}
+use Rattle.lnt_wire.specs.Reading.{At, Reads}
 use Rattle.lnt_wire.specs.FormBytes.{HasNoZero}
-use Rattle.lnt_wire.specs.Reading.{Reads}
 use Rattle.lnt_wire.specs.declared.format.Order.{Order}
 use Rattle.lnt_header.specs.Joins.{PlacedFrom}
 use Rattle.lnt_older.specs.OlderUnits.{AnyBytes, AnyParts, ReadsOlder, OlderUnit}
-use Rattle.lnt_older.specs.Upgrading.{IsTooLong}
+use Rattle.lnt_older.specs.Upgraded.{IsTooLong}
 use Rattle.lnt_older.specs.Directories.{AreDirectories, directory_at, Directory}
-use Rattle.lnt_older.specs.Sections.{HasAddressSize, UpgradedBytes}
+use Rattle.lnt_older.specs.Sections.{HasAddressSize, UpgradedBytes, IsBroken, IsLargeAt, IsLargeUnit}
+use Rattle.lnt_older.specs.declared.section.UpgradeFault.{UpgradeFault}
+use Rattle.lnt_older.specs.declared.section.UpgradeFault.TheVariants.{Malformed, TooLarge, Memory}
 
 -- ---- directories
 
@@ -55,3 +56,31 @@ pub record AddsAny (address_size : ℕ) (directories : List Directory) (old new 
   pub read : Reads (AnyBytes old.order) parts old new
   pub can : CanBeUpgraded old.order address_size directories (old.place, parts) read.spelling
   pub joined : text_new ≡ text_old ++ can.newer
+
+-- ---- what the bodies of `section.rt` say of one step. No public contract speaks of it.
+
+-- ---- one unit
+
+-- A unit comes next at a cursor.
+abbrev pub IsUnitNext : At → Type 0
+IsUnitNext at = (parts : AnyParts) × (bytes : List ℕ) × (more : List ℕ) × AnyBytes at.order parts bytes × (at.rest ≡ bytes ++ more)
+
+-- An older unit comes next that can't be written anew.
+pub record IsLargeNext (address_size : ℕ) (directory : List ℕ) (at : At) : Type 0 where
+  pub unit : List ℕ
+  pub more : List ℕ
+  pub joined : at.rest ≡ unit ++ more
+  pub large : IsLargeUnit at.order address_size directory unit
+  pub misfit : Fits at.order address_size directory unit → ⊥
+
+-- ---- why a section isn't written anew, by parts
+
+abbrev pub IsUnitFault : Order → List ℕ → UpgradeFault → Type 0
+IsUnitFault order section (Malformed fault) = IsBroken order section fault
+IsUnitFault order section Memory = Unit {0}
+IsUnitFault order section other = ⊥
+
+abbrev pub IsSizeFault : Order → ℕ → List Directory → List ℕ → UpgradeFault → Type 0
+IsSizeFault order address_size directories section (TooLarge offset) = IsLargeAt order address_size directories section offset
+IsSizeFault order address_size directories section Memory = Unit {0}
+IsSizeFault order address_size directories section other = ⊥

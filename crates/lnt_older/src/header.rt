@@ -2,7 +2,7 @@
 ghost use Rattle.std.specs.Prelude.{◌+◌, ◌<◌, ◌^◌, length, IfErr, IfOk};
 ghost use Rattle.lnt_wire.specs.Reading.{Refuses};
 ghost use Rattle.lnt_header_bytes.specs.HeaderReading.{standing};
-ghost use Rattle.lnt_older.specs.FieldReading.{ReadsParts};
+ghost use Rattle.lnt_older.specs.UnitReading.{ReadsParts};
 ghost use Rattle.lnt_older.specs.OlderFields.{FieldsOf, IsFieldsFault, IsReadHeader};
 
 use crate::lists::{DIRECTORY_PAIRS, FILE_PAIRS, pass_listed};

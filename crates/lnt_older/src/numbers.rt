@@ -1,7 +1,7 @@
 //! The fields of one byte of an older header.
 ghost use Rattle.std.specs.Prelude.{◌≡◌, IfOk, IfErr};
 ghost use Rattle.lnt_wire.specs.Reading.{Reads, RefusesField, Refuses};
-ghost use Rattle.lnt_older.specs.FieldReading.{ByteOf, IsByteFault};
+ghost use Rattle.lnt_older.specs.UnitReading.{ByteOf, IsByteFault};
 ghost use Rattle.lnt_older.specs.OlderFields.{AreFieldBytes, IsSoundFault, NumbersBytes, SoundBytes, number_fields, zero_reasons};
 ghost use Rattle.lnt_older.specs.declared.version.OlderVersion.TheVariants.{Four};
 

@@ -4,10 +4,9 @@ ghost use Rattle.lnt_header.specs.Joins.{AreRising};
 ghost use Rattle.lnt_wire.specs.Bytes.{Extends};
 ghost use Rattle.lnt_header.specs.HeaderRules.{IsAddressSize};
 ghost use Rattle.lnt_older.specs.Directories.{AreListedFor, IsListingFault, directory_at};
-ghost use Rattle.lnt_older.specs.Sections.{HasOlder};
-ghost use Rattle.lnt_older.specs.SectionSteps.{IsLargeNext, IsSizeFault, IsUnitFault, IsUnitNext};
-ghost use Rattle.lnt_older.specs.Upgradable.{AddsAny, AreSoundDirectories, CanBeLeft, CanUpgrade};
-ghost use Rattle.lnt_older.specs.Upgrades.{AreListed, HasUnits, IsUpgradeFault};
+ghost use Rattle.lnt_older.specs.Sections.{HasOlder, AreListed, HasUnits, IsUpgradeFault};
+ghost use Rattle.lnt_older.specs.Upgradable.{IsLargeNext, IsSizeFault, IsUnitFault, IsUnitNext, AddsAny, AreSoundDirectories, CanBeLeft};
+ghost use Rattle.lnt_older.specs.Upgradable.{CanUpgrade};
 
 use crate::directories::{Directory, directory_of, read_directories};
 use crate::{AnyUnit, append_upgraded_unit, take_any_unit};

@@ -5,9 +5,8 @@ ghost use Rattle.lnt_wire.specs.FormBytes.{HasNoZero};
 ghost use Rattle.lnt_header.specs.HeaderRules.{IsAddressSize};
 ghost use Rattle.lnt_older.specs.OlderFields.{number_fields};
 ghost use Rattle.lnt_older.specs.OlderUnits.{IsOlderUnit};
-ghost use Rattle.lnt_older.specs.Upgraded.{directory_head};
-ghost use Rattle.lnt_older.specs.Upgrading.{AddsFiles, AddsTable, AddsUpgraded, AreUpgradedFields, HasFiles};
-ghost use Rattle.lnt_older.specs.Upgrading.{IsCountFromZero, IsFileZero, IsTooLong};
+ghost use Rattle.lnt_older.specs.Upgraded.{directory_head, AddsFiles, AddsTable, AddsUpgraded, AreUpgradedFields, HasFiles};
+ghost use Rattle.lnt_older.specs.Upgraded.{IsCountFromZero, IsFileZero, IsTooLong};
 ghost use Rattle.lnt_older.specs.declared.version.OlderVersion.TheVariants.{Four};
 
 use crate::header::OlderHeader;

@@ -1,11 +1,10 @@
 -- What the faults of operations say.
 use Rattle.std.proofs.Common.{ℕ, List, [], ◌∷◌, ◌++◌, length, refl, sym, ap, ◌∙◌, append_assoc, arith, inl, inr}
-use Rattle.lnt_wire.specs.At.{At}
+use Rattle.lnt_wire.specs.Reading.{At, Refuses}
 use Rattle.lnt_wire.specs.declared.fault.Fault.{Fault}
 use Rattle.lnt_wire.specs.declared.fault.Reason.{Reason}
 use Rattle.lnt_wire.specs.declared.fault.Reason.TheVariants.{Truncated, LebTooLarge}
 use Rattle.lnt_wire.specs.Leb128.{IsLargeUnsigned, IsLargeSigned, IsLebFault}
-use Rattle.lnt_wire.specs.Reading.{Refuses}
 use Rattle.lnt_header.specs.declared.numbers.NumberParts.{NumberParts}
 use Rattle.lnt_header.specs.FieldFaults.IsCutField.{number, leb, operation}
 use Rattle.lnt_header.proofs.ReaderLaws.{cut_later}

@@ -12,10 +12,9 @@ use Rattle.lnt_header.specs.HeaderRules.{AreHeaderNumbers}
 use Rattle.lnt_header.specs.Joins.{Each}
 use Rattle.lnt_header.specs.OpRules.{StandsFor}
 use Rattle.lnt_ops.proofs.OpLaws.{op_code, op_is_some}
-use Rattle.lnt_ops.specs.Left.{OperationsAreLeft, IsPlace}
+use Rattle.lnt_ops.specs.Walks.{OperationsAreLeft, IsPlace, Walk, Ends, GivesOperation, Fails}
 use Rattle.lnt_ops.specs.OpBytes.{OpBytes}
-use Rattle.lnt_ops.specs.OpReading.{GivesOp}
-use Rattle.lnt_ops.specs.Walks.{Walk, Ends, GivesOperation, Fails}
+use Rattle.lnt_ops.specs.OpSteps.{GivesOp}
 use Rattle.std.proofs.lemmas.Grind.{common_steps}
 
 -- The view stands for the first of the operations, and the others are left.

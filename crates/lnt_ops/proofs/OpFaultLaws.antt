@@ -11,9 +11,8 @@ use Rattle.lnt_wire.specs.declared.fault.Reason.TheVariants.{ExtendedLength, Leb
 use Rattle.lnt_wire.proofs.CodeLaws.{unsigned_code}
 use Rattle.lnt_wire.proofs.FieldFaultLaws.{number_fault, signed_fault, unsigned_fault}
 use Rattle.lnt_wire.proofs.LengthLaws.{length-number_bytes, same_prefix, same_rest}
-use Rattle.lnt_header.specs.FieldFaults.{IsWrongOperand}
-use Rattle.lnt_header.specs.FirstFaults.{FirstOfSeveral}
-use Rattle.lnt_header.specs.FirstFaults.FirstOfSeveral.{next}
+use Rattle.lnt_header.specs.FieldFaults.{IsWrongOperand, FirstOfSeveral}
+use Rattle.lnt_header.specs.FieldFaults.FirstOfSeveral.{next}
 use Rattle.lnt_header.specs.HeaderRules.{AreHeaderNumbers}
 use Rattle.lnt_header.specs.Joins.{Each, Several}
 use Rattle.lnt_header.specs.OpRules.{Coding, coding, Following, following, known_followings, last_known, Operand, standard_length, taken_by}

@@ -3,8 +3,7 @@ use Rattle.std.proofs.Common.{Bor, ◌≡◌, ℕ, suc, ◌+◌, ◌-◌, ◌<�
 use Rattle.std.proofs.Common.{append_assoc, append-nil, arith, length-append, slice_set, Result, Ok, Err, OnOk, OnErr}
 use Rattle.lnt_wire.specs.declared.format.Order.{Order}
 use Rattle.lnt_wire.specs.Bytes.{Exactly, IsShortest, Appends, Extends}
-use Rattle.lnt_wire.specs.At.{At}
-use Rattle.lnt_wire.specs.Reading.{Reads, RefusesField}
+use Rattle.lnt_wire.specs.Reading.{At, Reads, RefusesField}
 use Rattle.lnt_wire.specs.declared.fault.Fault.{Fault}
 use Rattle.lnt_wire.proofs.CodeLaws.{unsigned_code}
 use Rattle.lnt_wire.specs.Leb128.{UnsignedLeb, IsLargeUnsigned, IsLebFault}
@@ -22,11 +21,9 @@ use Rattle.lnt_header.specs.Joins.{Each}
 use Rattle.lnt_header.proofs.PutLaws.{put_as, each_begun, each_put, each_more}
 use Rattle.lnt_ops.proofs.OpLaws.{extended_parts, same_whole}
 use Rattle.lnt_ops.proofs.ViewLaws.{leb_is_some, is_coded, IsListed, is_op_of, operands_of}
-use Rattle.lnt_ops.specs.OpBytes.{CodingBytes, OpBytes, Standard, Extended}
-use Rattle.lnt_ops.specs.OpPuts.{IsOpOf, AddsView}
+use Rattle.lnt_ops.specs.OpBytes.{CodingBytes, OpBytes, Standard, Extended, SpellsNumbers}
+use Rattle.lnt_ops.specs.OpPuts.{IsOpOf, AddsView, Coded, ExtendedCoded, ExtendedStart}
 use Rattle.lnt_ops.specs.Stepping.{AddsSpelled, AddsOperands}
-use Rattle.lnt_ops.specs.OperandLists.{SpellsNumbers}
-use Rattle.lnt_ops.specs.OpSpellings.{Coded, ExtendedCoded, ExtendedStart}
 use Rattle.lnt_ops.proofs.OwnedLemmas as owned
 use Rattle.lnt_ops.proofs.OwnedLemmas.{NumbersSoFar}
 use Rattle.lnt_ops.proofs.LebSizes.{shortest_of_less, at_most_ten, one_group}

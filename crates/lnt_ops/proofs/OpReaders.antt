@@ -1,11 +1,10 @@
 -- An operation by its first byte, and by what stands after it.
 use Rattle.std.proofs.Common.{◌≡◌, ℕ, ◌<◌, ◌≤◌, List, [], ◌∷◌, ◌++◌, length, refl, sym, ap, subst, ◌∙◌, append_assoc, arith}
 use Rattle.std.proofs.lemmas.List.{nil_from_length, length-append}
-use Rattle.lnt_wire.specs.At.{At}
+use Rattle.lnt_wire.specs.Reading.{At, Reads, RefusesField, Refuses, IsCutShort}
 use Rattle.lnt_wire.specs.Bytes.{NoneSpelled}
 use Rattle.lnt_wire.specs.declared.fault.Fault.{Fault}
 use Rattle.lnt_wire.specs.Numbers.{NumberBytes}
-use Rattle.lnt_wire.specs.Reading.{Reads, RefusesField, Refuses, IsCutShort}
 use Rattle.lnt_header.specs.declared.numbers.NumberParts.{NumberParts}
 use Rattle.lnt_header.specs.declared.op.Op.TheVariants as ops
 use Rattle.lnt_header.specs.declared.op.OpView.{OpView}
@@ -16,8 +15,7 @@ use Rattle.lnt_ops.specs.OpBytes.{OpBytes}
 use Rattle.lnt_ops.specs.OpFaults.{IsOpFault, IsFirstFault}
 use Rattle.lnt_ops.proofs.FaultLemmas.{refuses_op}
 use Rattle.lnt_ops.proofs.OpFaultLaws.{first_none}
-use Rattle.lnt_ops.specs.OpReading.{GivesOp}
-use Rattle.lnt_ops.specs.OpSteps.{GivesAfter, RefusesAfter}
+use Rattle.lnt_ops.specs.OpSteps.{GivesOp, GivesAfter, RefusesAfter}
 use Rattle.std.proofs.lemmas.Grind.{common_steps}
 
 -- ---- a cursor that stands where another does

@@ -1,12 +1,11 @@
 -- Operands that are copied.
 use Rattle.std.proofs.Common.{◌≡◌, ℕ, ◌<◌, List, [], ◌∷◌, ◌++◌, length, refl, sym, ap, subst, ◌∙◌, append_assoc, arith}
 use Rattle.std.proofs.lemmas.List.{length-append, append-nil}
-use Rattle.lnt_wire.specs.At.{At}
+use Rattle.lnt_wire.specs.Reading.{At, Reads, RefusesField}
 use Rattle.lnt_wire.specs.Bytes.{NoneSpelled}
 use Rattle.lnt_wire.proofs.CodeLaws.{unsigned_code}
 use Rattle.lnt_wire.specs.Leb128.{UnsignedLeb, IsLargeUnsigned, IsLebFault}
 use Rattle.lnt_wire.specs.declared.fault.Fault.{Fault}
-use Rattle.lnt_wire.specs.Reading.{Reads, RefusesField}
 use Rattle.lnt_header.specs.Joins.{Each}
 use Rattle.lnt_header.proofs.ReaderLaws.{each_push}
 use Rattle.lnt_header.specs.OpRules.{StandsFor}
@@ -16,7 +15,7 @@ use Rattle.lnt_header.specs.declared.op.OpView.TheVariants as views
 use Rattle.lnt_header.specs.declared.op.Operands.{Operands}
 use Rattle.lnt_ops.proofs.ProgramLaws.{none_filled}
 use Rattle.lnt_ops.proofs.ViewLaws.{leb_is_some}
-use Rattle.lnt_ops.specs.OperandLists.{IsOperands, SpellsNumbers}
+use Rattle.lnt_ops.specs.OpBytes.{IsOperands, SpellsNumbers}
 use Rattle.lnt_ops.specs.Stepping.{StandsForSome}
 
 operands_of : (k : ℕ) (operands : Operands) (op : Op) → StandsFor (views.UnknownStandard k operands) op → IsOperands operands

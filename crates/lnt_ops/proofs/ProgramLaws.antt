@@ -3,11 +3,10 @@ use Rattle.std.proofs.Common.{◌≡◌, ℕ, ◌<◌, List, [], ◌∷◌, ◌+
 use Rattle.std.proofs.Common.{false, ◌⊎◌, inl, inr, true≢false}
 use Rattle.std.proofs.lemmas.List.{nil_from_length, length-append, append-nil}
 use Rattle.std.specs.List.{AllByRecursion}
-use Rattle.lnt_wire.specs.At.{At}
+use Rattle.lnt_wire.specs.Reading.{At, Refuses}
 use Rattle.lnt_wire.specs.Bytes.{NoneSpelled, IsCode}
 use Rattle.lnt_wire.specs.declared.fault.Fault.{Fault}
 use Rattle.lnt_wire.proofs.CodeLaws.{peel}
-use Rattle.lnt_wire.specs.Reading.{Refuses}
 use Rattle.lnt_header.specs.declared.numbers.NumberParts.{NumberParts}
 use Rattle.lnt_header.specs.declared.op.Op.{Op}
 use Rattle.lnt_header.specs.declared.op.OpView.{OpView}
@@ -20,7 +19,7 @@ use Rattle.lnt_ops.proofs.OpLaws.{op_code, op_is_some}
 use Rattle.lnt_ops.proofs.ViewLaws.{same_op}
 use Rattle.lnt_ops.specs.OpBytes.{OpBytes}
 use Rattle.lnt_ops.specs.OpFaults.{IsFirstFault}
-use Rattle.lnt_ops.specs.OpReading.{GivesOp}
+use Rattle.lnt_ops.specs.OpSteps.{GivesOp}
 use Rattle.lnt_ops.specs.Programs.{BrokenProgram}
 use Rattle.lnt_ops.specs.Stepping.{StandsForSome, OpsSoFar}
 use Rattle.lnt_ops.specs.Walks.{Walk, Ends, GivesOperation, Fails}

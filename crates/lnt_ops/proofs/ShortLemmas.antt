@@ -5,7 +5,7 @@ use Rattle.std.proofs.Common.{FitsSigned, w64, length-append, length-take-le, ta
 use Rattle.std.proofs.lemmas.Bool.{lt-leb, le-leb, cases_lt}
 use Rattle.std.proofs.lemmas.Int.{ints}
 use Rattle.lnt_wire.proofs.LebLemmas.{one_high}
-use Rattle.lnt_wire.specs.At.{At}
+use Rattle.lnt_wire.specs.Reading.{At}
 use Rattle.lnt_wire.specs.Leb128.{IsLeb, UnsignedLeb, SignedLeb, signed_groups}
 use Rattle.lnt_header.specs.declared.numbers.NumberParts.{NumberParts}
 use Rattle.lnt_header.specs.declared.op.Op.{Op}
@@ -20,7 +20,7 @@ use Rattle.lnt_ops.proofs.StandardReaders.{known_view}
 use Rattle.lnt_ops.proofs.ViewLaws.{is_coded}
 use Rattle.lnt_ops.proofs.WalkLemmas.{steps_on}
 use Rattle.lnt_ops.specs.OpBytes.{CodingBytes, OpBytes, OperandBytes, Standard}
-use Rattle.lnt_ops.specs.OpReading.{GivesOp}
+use Rattle.lnt_ops.specs.OpSteps.{GivesOp}
 use Rattle.lnt_ops.specs.Short.{IsOperationPrefix, IsShort, NoneShort}
 use Rattle.lnt_ops.specs.Stepping.{IsGroup, NoByte, NoDiscriminator, NoTwoBytes}
 use Rattle.lnt_ops.specs.Walks.{Walk, GivesOperation}

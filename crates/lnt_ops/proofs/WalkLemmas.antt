@@ -1,15 +1,14 @@
 -- GivesOperation of a walk over operations.
 use Rattle.std.proofs.Common.{◌≡◌, ◌<◌, true, false, length, refl, ◌∙◌, inl, inr, arith}
-use Rattle.lnt_wire.specs.At.{At}
+use Rattle.lnt_wire.specs.Reading.{At, Refuses}
 use Rattle.lnt_wire.specs.declared.fault.Fault.{Fault}
 use Rattle.lnt_wire.specs.declared.format.Order.{Order}
-use Rattle.lnt_wire.specs.Reading.{Refuses}
 use Rattle.lnt_header.specs.declared.numbers.NumberParts.{NumberParts}
 use Rattle.lnt_header.specs.declared.op.OpView.{OpView}
 use Rattle.lnt_ops.proofs.ProgramLaws.{op_long}
 use Rattle.lnt_ops.specs.OpBytes.{OpBytes}
 use Rattle.lnt_ops.specs.OpFaults.{IsOpFault, IsFirstFault}
-use Rattle.lnt_ops.specs.OpReading.{GivesOp}
+use Rattle.lnt_ops.specs.OpSteps.{GivesOp}
 use Rattle.lnt_ops.specs.Walks.{Walk, Ends, GivesOperation, Fails}
 use Rattle.std.proofs.lemmas.Grind.{common_steps}
 

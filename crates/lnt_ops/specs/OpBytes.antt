@@ -6,10 +6,11 @@ use Rattle.lnt_wire.specs.Numbers.{NumberBytes}
 use Rattle.lnt_header.specs.declared.numbers.NumberParts.{NumberParts}
 use Rattle.lnt_header.specs.declared.op.Op.{Op}
 use Rattle.lnt_header.specs.Joins.{Each}
-use Rattle.lnt_header.specs.OpRules.{Coding, coding, IsUnknownCode, last_known, Operand, standard_length}
+use Rattle.lnt_header.specs.OpRules.{Coding, coding, IsUnknownCode, last_known, Operand, standard_length, AreOperands}
 use Rattle.lnt_header.specs.OpRules.Coding.{special, standard, unknown_standard, extended, extended_number, extended_address}
 use Rattle.lnt_header.specs.OpRules.Coding.{unknown_extended}
 use Rattle.lnt_header.specs.OpRules.Operand.{bare, unsigned, signed, half}
+use Rattle.lnt_header.specs.declared.op.Operands.{Operands}
 
 -- a standard opcode and its operand
 abbrev pub Standard : NumberParts → ℕ → (List ℕ → Type 0) → List ℕ → Type 0
@@ -41,3 +42,15 @@ CodingBytes h (unknown_extended code operand) bytes = IsUnknownCode code × (cod
 -- The bytes of an operation in a unit with this header.
 abbrev pub OpBytes : NumberParts → Op → List ℕ → Type 0
 OpBytes h op bytes = CodingBytes h (coding op) bytes
+
+-- ---- the operands of unknown standard operations as lists. No public contract speaks of these.
+
+-- the operands are some numbers
+pub record IsOperands (operands : Operands) : Type 0 where
+  pub numbers : List ℕ
+  pub are : AreOperands operands numbers
+
+-- the bytes encode some numbers
+pub record SpellsNumbers (bytes : List ℕ) : Type 0 where
+  pub numbers : List ℕ
+  pub spelled : Each UnsignedLeb numbers bytes

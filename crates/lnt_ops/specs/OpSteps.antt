@@ -1,22 +1,30 @@
 -- What the steps of reading an operation have found. No public contract speaks of it.
+use Rattle.lnt_wire.specs.Reading.{At, Reads}
+use Rattle.lnt_header.specs.declared.numbers.NumberParts.{NumberParts}
+use Rattle.lnt_header.specs.declared.op.Op.{Op}
+use Rattle.lnt_header.specs.declared.op.OpView.{OpView}
+use Rattle.lnt_header.specs.OpRules.{Admits, StandsFor, Coding, coding, FitsTaken, IsUnknownCode, taken_by}
+use Rattle.lnt_ops.specs.OpBytes.{OpBytes}
 use Rattle.std.specs.Prelude.{◌≡◌, ℕ, ◌+◌, ◌<◌, List, [], ◌∷◌, ◌++◌, length}
-use Rattle.lnt_wire.specs.At.{At}
 use Rattle.lnt_wire.specs.Bytes.{Exactly, ◌⨾◌}
 use Rattle.lnt_wire.specs.declared.fault.Fault.{Fault}
 use Rattle.lnt_wire.specs.declared.fault.Reason.TheVariants.{LebTooLarge, ExtendedLength}
 use Rattle.lnt_wire.specs.Leb128.{IsLeb, UnsignedLeb, IsLargeUnsigned, IsLebFault}
 use Rattle.lnt_wire.specs.Numbers.{NumberBytes}
-use Rattle.lnt_wire.specs.Reading.{Reads}
-use Rattle.lnt_header.specs.declared.numbers.NumberParts.{NumberParts}
-use Rattle.lnt_header.specs.declared.op.Op.{Op}
-use Rattle.lnt_header.specs.declared.op.OpView.{OpView}
 use Rattle.lnt_header.specs.FieldFaults.{IsWrongOperand}
 use Rattle.lnt_header.specs.Joins.{Each}
-use Rattle.lnt_header.specs.OpRules.{Admits, Coding, coding, FitsTaken, IsUnknownCode, StandsFor, taken_by}
 use Rattle.lnt_header.specs.OpRules.Coding.{extended, extended_number, extended_address, unknown_extended}
 use Rattle.lnt_header.specs.OpRules.Taken.{takes_number}
-use Rattle.lnt_ops.specs.OpBytes.{OpBytes}
 use Rattle.lnt_ops.specs.OpFaults.{IsFirstFault}
+
+-- ---- what a read of an operation gives
+
+-- The view stands for an operation that the header admits, and the read moved past the bytes that encode it.
+pub record GivesOp (h : NumberParts) (view : OpView) (old new : At) : Type 0 where
+  pub op : Op
+  pub stands : StandsFor view op
+  pub admitted : Admits h op
+  pub reads : Reads (OpBytes h) op old new
 
 -- ---- after the first byte
 

@@ -1,7 +1,7 @@
 -- What the bodies of this crate say of one step. No public contract speaks of it.
 use Rattle.std.specs.Prelude.{◌≡◌, ℕ, ◌+◌, List, ◌++◌, length, ◌∷◌, ◌<◌, ◌≤◌, ℤ, pos, neg_ℤ, ◌≤ℤ◌, ◌<ℤ◌, [], get_or, take}
 use Rattle.std.specs.List.{AllByRecursion}
-use Rattle.lnt_wire.specs.At.{At}
+use Rattle.lnt_wire.specs.Reading.{At}
 use Rattle.lnt_header.specs.declared.numbers.NumberParts.{NumberParts}
 use Rattle.lnt_header.specs.declared.op.Op.{Op}
 use Rattle.lnt_header.specs.Joins.{Each}
@@ -11,7 +11,7 @@ use Rattle.lnt_header.specs.declared.op.OpView.{OpView}
 use Rattle.lnt_wire.specs.Bytes.{Appends}
 use Rattle.lnt_wire.specs.Leb128.{UnsignedLeb, signed_groups}
 use Rattle.lnt_header.specs.declared.op.Operands.{Operands}
-use Rattle.lnt_ops.specs.OpSpellings.{Coded}
+use Rattle.lnt_ops.specs.OpPuts.{Coded}
 
 -- the operations of the program up to a cursor
 pub record OpsSoFar (h : NumberParts) (place : ℕ) (program : List ℕ) (ops : List Op) (at : At) : Type 0 where

@@ -1,13 +1,14 @@
 -- Walks over the operations of a program, one by one.
-use Rattle.std.specs.Prelude.{◌≡◌, ◌<◌, ◌⊎◌, Bool, true, false, List, [], ◌∷◌, length, Option, Some, None, Result, Ok, Err}
-use Rattle.lnt_wire.specs.At.{At}
+use Rattle.std.specs.Prelude.{◌≡◌, ◌<◌, ◌⊎◌, Bool, true, false, List, [], ◌∷◌, length, Option, Some, None, Result, Ok, Err, ℕ, ◌++◌}
+use Rattle.lnt_wire.specs.Reading.{At, Refuses}
 use Rattle.lnt_wire.specs.declared.fault.Fault.{Fault}
-use Rattle.lnt_wire.specs.Reading.{Refuses}
 use Rattle.lnt_header.specs.declared.numbers.NumberParts.{NumberParts}
 use Rattle.lnt_header.specs.declared.op.OpView.{OpView}
 use Rattle.lnt_ops.specs.OpBytes.{OpBytes}
 use Rattle.lnt_ops.specs.OpFaults.{IsOpFault, IsFirstFault}
-use Rattle.lnt_ops.specs.OpReading.{GivesOp}
+use Rattle.lnt_ops.specs.OpSteps.{GivesOp}
+use Rattle.lnt_header.specs.declared.op.Op.{Op}
+use Rattle.lnt_header.specs.Joins.{Each}
 
 -- What a walk is: the header of the unit, its place in the program, and whether an operation failed.
 pub record Walk : Type 0 where
@@ -48,3 +49,20 @@ WalkStep old (Some (Err fault)) new = Fails fault old new
 abbrev pub GivesEach : List OpView → Walk → Walk → Type 0
 GivesEach [] old new = new ≡ old
 GivesEach (item ∷ items) old new = (next : Walk) × GivesOperation item old next × GivesEach items next new
+
+-- ---- the remaining operations of a walk over a program, and the places of operations in a program
+
+-- The walk continues, over bytes that encode these operations.
+pub record OperationsAreLeft (h : NumberParts) (later : List Op) (walk : Walk) : Type 0 where
+  pub header_is : walk.header ≡ h
+  pub going : walk.failed ≡ false
+  pub spelled : Each (OpBytes h) later walk.at.rest
+
+-- This many bytes of the program encode the first of its operations, and the bytes after them encode the later ones.
+pub record IsPlace (h : NumberParts) (program : List ℕ) (earlier later : List Op) (place : ℕ) : Type 0 where
+  pub prefix : List ℕ
+  pub rest : List ℕ
+  pub split : program ≡ prefix ++ rest
+  pub place_is : place ≡ length prefix
+  pub earlier_spelled : Each (OpBytes h) earlier prefix
+  pub later_spelled : Each (OpBytes h) later rest

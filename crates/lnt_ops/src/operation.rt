@@ -4,9 +4,8 @@ ghost use Rattle.lnt_wire.specs.Reading.{Refuses};
 ghost use Rattle.lnt_header.specs.OpRules.{last_known, StandsFor};
 ghost use Rattle.lnt_ops.specs.OpBytes.{OpBytes};
 ghost use Rattle.lnt_ops.specs.OpFaults.{IsFirstFault, IsOpFault};
-ghost use Rattle.lnt_ops.specs.OpReading.{GivesOp};
+ghost use Rattle.lnt_ops.specs.OpSteps.{GivesOp, GivesAfter, RefusesAfter};
 ghost use Rattle.lnt_ops.specs.Stepping.{StandsForSome};
-ghost use Rattle.lnt_ops.specs.OpSteps.{GivesAfter, RefusesAfter};
 
 use crate::extended::read_extended;
 use crate::owned::owned_operands;

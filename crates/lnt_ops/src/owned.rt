@@ -3,7 +3,7 @@ ghost use Rattle.std.specs.Prelude.{IfOk};
 ghost use Rattle.lnt_wire.specs.Leb128.{UnsignedLeb};
 ghost use Rattle.lnt_header.specs.Joins.{Each};
 ghost use Rattle.lnt_header.specs.OpRules.{AreOperands};
-ghost use Rattle.lnt_ops.specs.OperandLists.{IsOperands, SpellsNumbers};
+ghost use Rattle.lnt_ops.specs.OpBytes.{IsOperands, SpellsNumbers};
 
 use lnt_header::Operands;
 use lnt_wire::{Cursor, Items, Order};

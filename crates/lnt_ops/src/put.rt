@@ -7,11 +7,9 @@ ghost use Rattle.lnt_wire.specs.Numbers.{NumberBytes};
 ghost use Rattle.lnt_header.specs.HeaderRules.{IsAddressSize};
 ghost use Rattle.lnt_header.specs.Joins.{Each};
 ghost use Rattle.lnt_header.specs.OpRules.{Admits};
-ghost use Rattle.lnt_ops.specs.OperandLists.{IsOperands, SpellsNumbers};
-ghost use Rattle.lnt_ops.specs.OpBytes.{OpBytes};
-ghost use Rattle.lnt_ops.specs.OpPuts.{AddsView, IsOpOf};
+ghost use Rattle.lnt_ops.specs.OpBytes.{IsOperands, SpellsNumbers, OpBytes};
+ghost use Rattle.lnt_ops.specs.OpPuts.{AddsView, IsOpOf, Coded, ExtendedCoded, ExtendedStart};
 ghost use Rattle.lnt_ops.specs.Stepping.{AddsOperands, AddsSpelled};
-ghost use Rattle.lnt_ops.specs.OpSpellings.{Coded, ExtendedCoded, ExtendedStart};
 
 use lnt_header::{CodedOp, HeaderNumbers, Op, OpView, Operands};
 use lnt_wire::{Cursor, Order, append_sleb, append_uleb, put_u16, put_u32, put_u64};

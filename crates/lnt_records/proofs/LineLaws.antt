@@ -12,8 +12,7 @@ use Rattle.csv.specs.declared.parser.State.TheVariants as st
 use Rattle.csv.proofs.RoundTrip.{read-write}
 use Rattle.lnt_io.specs.Prefixes.{AppendsPrefix}
 use Rattle.lnt_io.proofs.PrefixLaws.{prefix_after, prefix_before, prefix_none, prefix_same}
-use Rattle.lnt_records.specs.Passing.{AreLinesIn, IsCutAfter}
-use Rattle.lnt_records.specs.Progress.{AddsLine, AddsLines, HasBegunLines, HasWrittenLines}
+use Rattle.lnt_records.specs.Progress.{AreLinesIn, IsCutAfter, AddsLine, AddsLines, HasBegunLines, HasWrittenLines}
 use Rattle.lnt_records.specs.Table.{BeginsWith, Fields, IsTableOfIn, TableFormat}
 use Rattle.lnt_records.specs.Written.{BeginsTableIn, IsPlainTableIn, LineFormat, following, line_text, lines_of}
 use Rattle.lnt_records.proofs.QuotingLaws.{none_left, same_back}
@@ -48,13 +47,6 @@ row_some fields =
       length-append (row_body default_writer fields) (row_end fields),
       length-append {A = ℕ} (if is_blank default_writer fields then 34 ∷ 34 ∷ [] else []) (10 ∷ []),
     )
-
--- each record has at least one byte
-lines_long : (line : Fields → List ℕ) (records : List Fields) → AllByRecursion (IsReadBack line) records
-    → length records ≤ length (lines_of line records)
-lines_long line [] back = omega arith
-lines_long line (f ∷ records) back =
-    omega (arith, row_some f, ap length back.0.line_is, lines_long line records back.1, length-append (line f) (lines_of line records))
 
 lines_reached : (line : Fields → List ℕ) (records : List Fields) (rest : List ℕ) (more : List Fields) (after : State) (left : List ℕ)
     → AllByRecursion (IsReadBack line) records → Reached default_config st.StartRecord rest more after left
@@ -236,11 +228,6 @@ lines_more format plain version text spans count fields span a says = record {
   each = zip_push (format.Says version) a.records spans fields span a.each says;
   count_is = omega (arith, a.count_is, length-append a.records (fields ∷ []));
 }
-
-pub few_records : {V X : Type 0} (format : TableFormat V X) (plain : LineFormat V X) → LineLaws format plain → (version : V) (text : List ℕ)
-    (spans : List X) (count : ℕ) → AreLinesIn format plain version text spans count → count ≤ length text + 1
-few_records format plain laws version text spans count a =
-    omega (arith, a.count_is, lines_long plain.line a.records (all_back format plain laws version a.records spans a.each), ap length a.text_is)
 
 -- ---- a loop that writes
 

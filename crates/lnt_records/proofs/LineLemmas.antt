@@ -6,7 +6,7 @@ use Rattle.lnt_spans.specs.declared.answer.Version.{Version}
 use Rattle.lnt_spans.specs.declared.answer.Version.TheVariants.{One, Two}
 use Rattle.lnt_spans.specs.declared.position.Position.{Position}
 use Rattle.lnt_spans.specs.declared.span.Span.{Span}
-use Rattle.lnt_text.specs.Delimited.{Begins}
+use Rattle.lnt_text.specs.Digits.{Begins}
 use Rattle.lnt_records.specs.Lines.{AreMoreFields, IsAnswer, IsFlagBefore, IsMore, IsPosition, SaysLine}
 use Rattle.lnt_records.specs.Table.{AreMore, Fields, column_count}
 use Rattle.lnt_records.specs.Written.{following}

@@ -1,4 +1,5 @@
 -- What the laws of tables need of the format of a table by number.
+use Rattle.lnt_spans.specs.Spans.{number_spans}
 use Rattle.std.proofs.Common.{◌≡◌, length, refl, ap, arith}
 use Rattle.lnt_spans.specs.declared.answer.Version.{Version}
 use Rattle.lnt_spans.specs.declared.answer.Version.TheVariants.{One, Two}
@@ -20,5 +21,5 @@ numbered = record {
   one_span = one_span;
   count = λ version fields span says. says.count;
   sound = sound_column;
-  prefix = prefix_in_order;
+  prefix = prefix_in_order number_spans;
 }

@@ -1,22 +1,16 @@
 -- The laws of tables by path.
-use Rattle.std.proofs.Common.{arith, ◌≡◌, ◌∙◌, ℕ, zero, suc, ◌<◌, ◌≤◌, List, [], ◌∷◌, ◌++◌, Option, Some, None, get_or, length, refl, sym}
+use Rattle.std.proofs.Common.{arith, ◌≡◌, ◌∙◌, ℕ, zero, suc, ◌<◌, ◌≤◌, List, [], Option, Some, None, get_or, length, refl, sym}
 use Rattle.std.proofs.Common.{ap}
-use Rattle.lnt_spans.specs.declared.position.Position.{Position}
-use Rattle.lnt_spans.specs.Positions.{IsAtMost, IsBelow}
-use Rattle.lnt_records.specs.PathSpans.{PathSpan, StandInOrder, path_end, whole}
+use Rattle.lnt_spans.proofs.AnsweringLaws.{prefix_in_order}
+use Rattle.lnt_records.specs.PathSpans.{PathSpan, path_spans}
 use Rattle.lnt_text.specs.Digits.{IsAddress, IsDecimal}
 use Rattle.lnt_text.proofs.TextLaws.{one_address_number, one_decimal_number}
 use Rattle.lnt_records.proofs.TableLaws.{FormatLaws}
 use Rattle.lnt_records.specs.Table.{Fields, IsOfColumn}
 use Rattle.lnt_records.specs.declared.by_path.version.PathVersion.TheVariants.{Four, Three}
-use Rattle.lnt_records.specs.PathAnswers.{PathAnswer}
 use Rattle.lnt_records.specs.PathTables.{IsPathRecord, SaysColumn, SaysPath, by_path, path_column_count, path_column_names, path_kinds}
-use Rattle.lnt_records.specs.PathTables.{PathVersion}
+use Rattle.lnt_records.specs.PathTables.{PathVersion, record_answer, record_span}
 use Rattle.lnt_records.specs.declared.by_path.record.PathRecord.{PathRecord}
-use Rattle.lnt_records.specs.PathRecords.{record_answer, record_span}
-
-pub origin_first : (p : Position) → IsAtMost (whole 0) p
-origin_first p = record { address = omega arith; op = λ e. omega arith }
 
 -- ---- a record is of one span
 
@@ -86,12 +80,6 @@ few_names : (version : PathVersion) → path_column_count version ≤ 11
 few_names Three = omega arith
 few_names Four = omega arith
 
-prefix_in_order : (xs ys : List PathSpan) → StandInOrder (xs ++ ys) → StandInOrder xs
-prefix_in_order [] ys h = tt
-prefix_in_order (x ∷ []) [] h = h
-prefix_in_order (x ∷ []) (y ∷ ys) h = h.0
-prefix_in_order (x ∷ next ∷ xs) ys h = (h.0, h.1, prefix_in_order (next ∷ xs) ys h.2)
-
 pub pathed : FormatLaws by_path
 pathed = record {
   one_version = one_version;
@@ -99,23 +87,8 @@ pathed = record {
   one_span = one_span;
   count = λ version fields span says. says.says.count;
   sound = sound_field;
-  prefix = prefix_in_order;
+  prefix = prefix_in_order path_spans;
 }
-
--- ---- the order
-
-pub order_push : (table : List PathSpan) (span : PathSpan) → StandInOrder table → IsAtMost (path_end table) span.low
-    → IsBelow span.low span.high
-    → StandInOrder (table ++ span ∷ [])
-order_push [] span o le lt = lt
-order_push (r ∷ []) span o le lt = (o, le, lt)
-order_push (r ∷ next ∷ table) span o le lt = (o.0, o.1, order_push (next ∷ table) span o.2 le lt)
-
-pub order_pushed : (table : List PathSpan) (span : PathSpan) → StandInOrder (table ++ span ∷ [])
-    → IsAtMost (path_end table) span.low × IsBelow span.low span.high
-order_pushed [] span o = (origin_first span.low, o)
-order_pushed (r ∷ []) span o = (o.1, o.2)
-order_pushed (r ∷ next ∷ table) span o = order_pushed (next ∷ table) span o.2
 
 pub says_span : (version : PathVersion) (fields : Fields) (said : PathRecord)
     → SaysPath IsAddress IsDecimal version fields said.low said.high (record_answer said)

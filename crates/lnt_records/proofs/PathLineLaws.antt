@@ -6,30 +6,27 @@ use Rattle.std.proofs.Math.Seq.{drop-append_seam}
 use Rattle.std.specs.Bool.{MatchBool}
 use Rattle.std.specs.List.{All, AllByRecursion}
 use Rattle.std.proofs.lemmas.List.Elements.{recursion_from_All}
-use Rattle.lnt_text.specs.Digits.{IsAddress, IsDecimal, IsPlainAddress, IsPlainDecimal}
+use Rattle.lnt_text.specs.Digits.{IsDecimal, IsPlainAddress, IsPlainDecimal, Begins}
 use Rattle.lnt_text.proofs.OneTextLaws.{one_address, one_decimal}
 use Rattle.lnt_records.specs.Table.{BeginsWith, Fields}
-use Rattle.lnt_records.proofs.LineLaws.{HasOneRecord, IsReadBack, LineLaws, row_end, row_some}
+use Rattle.lnt_records.proofs.LineLaws.{HasOneRecord, IsReadBack, LineLaws}
 use Rattle.lnt_records.specs.declared.by_path.version.PathVersion.TheVariants.{Four, Three}
-use Rattle.lnt_records.specs.PathSpans.{PathSpan}
-use Rattle.lnt_records.specs.PathTables.{IsPathRecord, SaysColumn, SaysPath, by_path, path_column_count, path_column_names, PathVersion}
-use Rattle.lnt_records.specs.PathLines.{IsLineOf, IsPathLine, IsPlace, IsPlainByte, IsPlainPathRecord, IsSpanLine, field_with_comma}
+use Rattle.lnt_records.specs.PathSpans.{PathSpan, PathAnswer, path_answer, told_column}
+use Rattle.lnt_records.specs.PathTables.{IsPathRecord, SaysColumn, by_path, path_column_count, path_column_names, PathVersion}
+use Rattle.lnt_records.specs.PathLines.{IsLineOf, IsPlace, IsPlainByte, IsPlainPathRecord, IsSpanLine, field_with_comma}
 use Rattle.lnt_records.specs.PathLines.{path_field, plain_by_path, plain_told}
 use Rattle.csv.specs.Machine.{next_record}
 use Rattle.csv.specs.Reading.{default_config, strip_bom}
 use Rattle.csv.specs.declared.parser.State.{State}
 use Rattle.csv.specs.declared.parser.State.TheVariants as st
 use Rattle.csv.specs.Writing.{default_writer, field_text, fields_text, is_blank, needs_byte, row_text}
-use Rattle.lnt_text.specs.Delimited.{Begins}
 use Rattle.lnt_text.proofs.TextLaws.{plain_address}
 use Rattle.lnt_records.specs.Progress.{AddsLine}
 use Rattle.lnt_records.specs.Written.{line_text}
 use Rattle.lnt_records.proofs.QuotingLaws.{IsQuiet, address_text, number_text, quiet_text}
 use Rattle.lnt_spans.specs.declared.span.Span.{Span}
-use Rattle.lnt_records.specs.PathAnswers.{PathAnswer, path_answer, told_column}
 use Rattle.lnt_records.proofs.LineLaws as any
 use Rattle.lnt_records.specs.declared.by_path.record.PathRecord.{PathRecord}
-use Rattle.lnt_records.specs.PathRecords.{record_answer, record_span}
 
 -- ---- a plain record has one text
 
@@ -340,54 +337,3 @@ header_begins version rest =
 -- the part of a slice from an index on
 pub rest_whole : (table : List ℕ) (at : ℕ) → take (length table - at) (drop at table) ≡ drop at table
 rest_whole table at = take_all (length table - at) (drop at table) (omega (arith, length-drop at table))
-
--- ---- `csv` reads it as its fields
-
-line_back : (version : PathVersion) (said : PathRecord) (bytes rest : List ℕ) → (l : IsPathLine version said bytes rest)
-    → IsReadBack (row_text default_writer) l.fields
-line_back version said bytes rest l =
-    plain_paths.back version l.fields (record_span said) (record { says = l.says; low_op = refl; high_op = refl })
-
-pub line_read : (version : PathVersion) (said : PathRecord) (bytes rest : List ℕ) → (l : IsPathLine version said bytes rest)
-    → next_record default_config st.StartRecord [] [] bytes ≡ Some (l.fields, st.StartRecord, rest)
-line_read version said bytes rest l =
-    ap (λ (t : List ℕ). next_record default_config st.StartRecord [] [] t) l.joined
-    ∙ any.line_read (row_text default_writer) l.fields rest (line_back version said bytes rest l)
-
--- a line that begins with a zero doesn't begin with a byte order mark
-zero_mark : (rest : List ℕ) → strip_bom (48 ∷ rest) ≡ 48 ∷ rest
-unfolding strip_bom
-zero_mark [] = refl
-zero_mark (b ∷ []) = refl
-zero_mark (b ∷ c ∷ rest) = refl
-
--- the end of a record's text: quotes if the record is blank, and a line feed
-row_begins : (low : List ℕ) (fields : Fields) (digits : List ℕ) → low ≡ 48 ∷ 120 ∷ digits → field_text default_writer low ≡ low
-    → (more : List ℕ) × (row_text default_writer (low ∷ fields) ≡ 48 ∷ more)
-row_begins low fields digits e q = (
-  ((120 ∷ digits) ++ fields_text default_writer fields) ++ row_end (low ∷ fields),
-  ap (λ (t : List ℕ). (t ++ fields_text default_writer fields) ++ row_end (low ∷ fields)) (q ∙ e),
-)
-
-line_begins : (version : PathVersion) (said : PathRecord) (bytes rest : List ℕ) → IsPathLine version said bytes rest
-    → (more : List ℕ) × (bytes ≡ 48 ∷ more)
-line_begins version said bytes rest l = by l.fields l.joined l.says (line_back version said bytes rest l).some
-  where
-    by : (fields : Fields) → bytes ≡ row_text default_writer fields ++ rest
-        → SaysPath IsAddress IsDecimal version fields said.low said.high (record_answer said) → 2 ≤ length fields
-        → (more : List ℕ) × (bytes ≡ 48 ∷ more)
-    by [] e s some = absurd (omega (arith, some))
-    by (low ∷ fields) e s some =
-        let begins = row_begins low fields s.low_is.digits s.low_is.written (address_text low said.low s.low_is) in
-        (begins.0 ++ rest, e ∙ ap (λ (t : List ℕ). t ++ rest) begins.1)
-
-pub line_unmarked : (version : PathVersion) (said : PathRecord) (bytes rest : List ℕ) → IsPathLine version said bytes rest
-    → strip_bom bytes ≡ bytes
-line_unmarked version said bytes rest l =
-    let begins = line_begins version said bytes rest l in
-    ap strip_bom begins.1 ∙ zero_mark begins.0 ∙ sym begins.1
-
-pub line_shorter : (version : PathVersion) (said : PathRecord) (bytes rest : List ℕ) → IsPathLine version said bytes rest
-    → length rest < length bytes
-line_shorter version said bytes rest l =
-    omega (arith, ap length l.joined, length-append (row_text default_writer l.fields) rest, row_some l.fields)

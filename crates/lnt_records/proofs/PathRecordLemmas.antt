@@ -6,8 +6,7 @@ use Rattle.lnt_records.proofs.HeaderLaws.{all_named}
 use Rattle.lnt_records.specs.Progress.{AreSoundBefore}
 use Rattle.lnt_records.specs.Table.{AreNamed, Fields}
 use Rattle.lnt_records.specs.declared.by_path.version.PathVersion.TheVariants.{Three, Four}
-use Rattle.lnt_records.specs.PathTables.{SaysColumn, SaysPath, path_column_count, path_column_names, path_kinds, PathVersion}
-use Rattle.lnt_records.specs.PathRecords.{place_names}
+use Rattle.lnt_records.specs.PathTables.{SaysColumn, SaysPath, path_column_count, path_column_names, path_kinds, PathVersion, place_names}
 
 -- ---- record 0
 

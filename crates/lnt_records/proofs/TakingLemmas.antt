@@ -1,7 +1,7 @@
 -- Records that are taken one after another.
 use Rattle.std.proofs.Common.{◌≡◌, ℕ, Bool, true, false, List, [], ◌∷◌, ◌++◌, append_assoc, sym, subst, MatchBool}
 use Rattle.std.specs.List.{AllByRecursion}
-use Rattle.lnt_records.specs.Passing.{IsCutAfter}
+use Rattle.lnt_records.specs.Progress.{IsCutAfter}
 use Rattle.lnt_records.specs.Reading.{BytesReader, HasRead, IsNarrow, IsReadAs, IsReadFor}
 use Rattle.lnt_records.specs.Table.{BeginsWith, Fields, RecordsOf}
 use Rattle.lnt_records.proofs.BeginningLaws.{first_begins}

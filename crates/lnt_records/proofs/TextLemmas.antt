@@ -3,12 +3,11 @@ use Rattle.std.proofs.Common.{◌≡◌, ◌∙◌, ℕ, ◌+◌, ◌-◌, ◌<�
 use Rattle.std.proofs.Common.{take, refl, ap, sym, arith}
 use Rattle.std.proofs.lemmas.List.{drop-append-le, drop-set, drop_all, length-take-le, take-append-drop}
 use mir.Val.{bool_byte}
-use Rattle.lnt_text.specs.Digits.{IsPlainDecimal}
+use Rattle.lnt_text.specs.Digits.{IsPlainDecimal, Begins}
 use Rattle.lnt_spans.specs.declared.answer.Answer.{Answer}
 use Rattle.lnt_spans.specs.declared.answer.More.{More}
 use Rattle.lnt_spans.specs.declared.answer.Version.{Version}
 use Rattle.lnt_spans.specs.declared.answer.Version.TheVariants.{One, Two}
-use Rattle.lnt_text.specs.Delimited.{Begins}
 use Rattle.lnt_records.specs.Lines.{IsFlagBefore, IsMore}
 use Rattle.lnt_records.specs.Written.{IsOfVersion}
 use Rattle.lnt_records.proofs.LineLemmas.{more_taken, no_more_taken}

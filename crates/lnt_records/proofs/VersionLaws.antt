@@ -1,4 +1,5 @@
 -- Spans that answer as others do in a version have answers of that version.
+use Rattle.lnt_spans.specs.SpanKinds.{is_held}
 use Rattle.std.proofs.Common.{◌≡◌, ◌∙◌, Bool, true, false, cond, List, [], ◌∷◌, Option, Some, None, refl, sym, subst, All, find, option_map}
 use Rattle.std.proofs.lemmas.List.Elements.{All-cons, All-head, All-nil, All-tail}
 use Rattle.lnt_spans.specs.declared.answer.Answer.{Answer}
@@ -10,7 +11,7 @@ use Rattle.lnt_spans.specs.Answers.{in_version}
 use Rattle.lnt_spans.proofs.AnsweringLaws.{answer_after, answer_in, first_holds}
 use Rattle.lnt_spans.proofs.PositionLaws.{at_most_itself, at_most_trans, below_is_at_most}
 use Rattle.lnt_spans.specs.Positions.{IsAtMost}
-use Rattle.lnt_spans.specs.Spans.{AreInOrder, is_in_span, span_answer, version_answer}
+use Rattle.lnt_spans.specs.Spans.{AreInOrder, span_answer, version_answer, number_spans}
 use Rattle.lnt_records.specs.Written.{IsOfVersion}
 
 abbrev pub HasVersion : Version → Span → Type 0
@@ -23,10 +24,11 @@ IsAnswer version (Some answer) = IsOfVersion version answer
 -- the answer of a list is that of one of its spans, so it is of the version too
 answer_of : (version : Version) (spans : List Span) (p : Position) → All (HasVersion version) spans → IsAnswer version (span_answer spans p)
 answer_of version [] p h = tt
-answer_of version (span ∷ spans) p h = by (is_in_span p span) (answer_of version spans p (All-tail (HasVersion version) span spans h))
+answer_of version (span ∷ spans) p h =
+    by (is_held number_spans p span) (answer_of version spans p (All-tail (HasVersion version) span spans h))
   where
     by : (test : Bool) → IsAnswer version (span_answer spans p)
-        → IsAnswer version (option_map (λ (s : Span). s.answer) (cond test (Some span) (find (is_in_span p) spans)))
+        → IsAnswer version (option_map (λ (s : Span). s.answer) (cond test (Some span) (find (is_held number_spans p) spans)))
     by true rest = All-head (HasVersion version) span spans h
     by false rest = rest
 
@@ -39,7 +41,8 @@ narrowed_has Two (Some answer) h = h
 first_has : (version : Version) (span : Span) (spans : List Span) (answers : Position → Option Answer) → AreInOrder (span ∷ spans)
     → ((p : Position) → IsAnswer version (answers p)) → span_answer (span ∷ spans) span.low ≡ answers span.low → HasVersion version span
 first_has version span spans answers o h same =
-    subst (IsAnswer version) (sym same ∙ answer_in span spans span.low (at_most_itself span.low) (first_holds span spans o)) (h span.low)
+    let here = answer_in number_spans span spans span.low (at_most_itself span.low) (first_holds number_spans span spans o) in
+    subst (IsAnswer version) (sym same ∙ here) (h span.low)
 
 -- Each span's answer is the one at its first position.
 each_has : (version : Version) (span : Span) (spans : List Span) (answers : Position → Option Answer) → AreInOrder (span ∷ spans)
@@ -54,7 +57,7 @@ each_has version span (next ∷ spans) answers o h same =
     (each_has version next spans answers o.2 h
     (λ p k.
     let past = at_most_trans o.1 k in
-    sym (answer_after span (next ∷ spans) p past) ∙ same p (at_most_trans (below_is_at_most o.0) past)))
+    sym (answer_after number_spans span (next ∷ spans) p past) ∙ same p (at_most_trans (below_is_at_most o.0) past)))
 
 pub answers_of_version : (version : Version) (spans joined : List Span) → AreInOrder joined
     → ((p : Position) → span_answer joined p ≡ version_answer version spans p)

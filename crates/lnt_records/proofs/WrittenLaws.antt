@@ -7,8 +7,7 @@ use Rattle.lnt_spans.specs.declared.answer.Answer.{Answer}
 use Rattle.lnt_spans.specs.declared.answer.Version.{Version}
 use Rattle.lnt_spans.specs.declared.answer.Version.TheVariants.{One, Two}
 use Rattle.lnt_spans.specs.declared.span.Span.{Span}
-use Rattle.lnt_spans.specs.Fitting.{FitSpans, FitsMore, FitsSpan}
-use Rattle.lnt_spans.specs.Spans.{AreInOrder}
+use Rattle.lnt_spans.specs.Spans.{FitSpans, FitsMore, FitsSpan, AreInOrder}
 use Rattle.lnt_records.specs.Lines.{AreMoreFields}
 use Rattle.lnt_records.specs.Table.{Fields, IsFlag, column_names}
 use Rattle.lnt_records.specs.Written.{IsOfVersion, IsPlainRecord, IsWrittenTable, lines_text}

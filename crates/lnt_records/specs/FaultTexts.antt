@@ -4,6 +4,8 @@ use Rattle.lnt_records.specs.declared.fault.TableFault.{TableFault}
 use Rattle.lnt_records.specs.declared.fault.TableFault.TheVariants.{Header, Fields, Number, Order}
 use Rattle.lnt_records.specs.declared.fault.WriteStop.{WriteStop}
 use Rattle.lnt_records.specs.declared.fault.WriteStop.TheVariants as stop
+use Rattle.lnt_io.specs.declared.halt.Halt.{Halt}
+use Rattle.lnt_io.specs.declared.halt.Halt.TheVariants as halt
 
 abbrev pub table_fault_text : TableFault → List ℕ
 table_fault_text Header = codes "table header"
@@ -15,3 +17,9 @@ table_fault_text (Order record_number) = codes "table order record " ++ decimal 
 abbrev pub write_stop_text : WriteStop → List ℕ
 write_stop_text stop.Memory = codes "out of memory"
 write_stop_text stop.Write = codes "cannot write"
+
+-- ---- how a program ends that couldn't write a table
+
+abbrev pub halt_of_write : WriteStop → Halt
+halt_of_write stop.Memory = halt.Memory
+halt_of_write stop.Write = halt.Write

@@ -3,6 +3,7 @@ use Rattle.std.specs.Prelude.{◌≡◌, ◌≢◌, ℕ, ◌<◌, List, [], ◌�
 pub use Rattle.lnt_records.specs.declared.fault.TableFault.{TableFault}
 use Rattle.lnt_records.specs.declared.fault.TableFault.TheVariants as fault
 use Rattle.lnt_records.specs.Table.{BeginsWith, Fields, IsOfColumn, IsTableIn, Kind, TableFormat, by_number}
+use Rattle.lnt_records.specs.PathTables.{by_path}
 
 -- ---- one record
 
@@ -48,3 +49,9 @@ IsFault bytes told = IsFaultIn by_number bytes told
 -- The bytes begin with the header of neither version 1 nor 2.
 abbrev pub IsUnnumbered : List ℕ → Type 0
 IsUnnumbered bytes = IsFault bytes fault.Header
+
+-- ---- what is wrong with a table by path
+
+-- This is the first fault of the bytes.
+abbrev pub IsPathFault : List ℕ → TableFault → Type 0
+IsPathFault bytes told = IsFaultIn by_path bytes told

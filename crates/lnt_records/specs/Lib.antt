@@ -1,14 +1,9 @@
 pub mod FaultTexts
 pub mod Faults
-pub mod Halts
 pub mod KeptPaths
 pub mod Laws
 pub mod Lines
-pub mod Passing
-pub mod PathAnswers
-pub mod PathFaults
 pub mod PathLines
-pub mod PathRecords
 pub mod PathSpans
 pub mod PathTables
 pub mod Progress

@@ -1,20 +1,17 @@
 -- The lines of a table by path. `tell` gives an answer by path.
 use Rattle.std.specs.Prelude.{ℕ, List, ◌≡◌, false, [], ◌∷◌, ◌++◌, Option, Some, None, All}
 use Rattle.csv.specs.Writing.{default_writer, field_text, needs_byte, row_text}
-use Rattle.lnt_text.specs.Digits.{IsAddress, IsDecimal, IsPlainAddress, IsPlainDecimal}
+use Rattle.lnt_text.specs.Digits.{IsAddress, IsDecimal, IsPlainAddress, IsPlainDecimal, Begins}
 use Rattle.lnt_records.specs.Table.{Fields}
 use Rattle.lnt_records.specs.Written.{IsPlainTableIn, LineFormat}
-use Rattle.lnt_records.specs.PathSpans.{PathSpan}
-use Rattle.lnt_records.specs.PathTables.{SaysPath, SaysPathSpan, path_column_names, PathVersion}
-use Rattle.lnt_text.specs.Delimited.{Begins}
+use Rattle.lnt_records.specs.PathSpans.{PathSpan, PathAnswer}
+use Rattle.lnt_records.specs.PathTables.{SaysPath, SaysPathSpan, path_column_names, PathVersion, record_answer}
 use Rattle.lnt_spans.specs.declared.answer.Answer.{Answer}
 use Rattle.lnt_spans.specs.declared.span.Span.{Span}
 use Rattle.lnt_records.specs.declared.by_path.fields.PathFields.{PathFields}
 use Rattle.lnt_records.specs.declared.by_path.version.PathVersion.TheVariants.{Four, Three}
 use Rattle.lnt_records.specs.KeptPaths.{ArePairsOf, AreTextsOf}
-use Rattle.lnt_records.specs.PathAnswers.{PathAnswer}
 use Rattle.lnt_records.specs.declared.by_path.record.PathRecord.{PathRecord}
-use Rattle.lnt_records.specs.PathRecords.{record_answer}
 
 -- A record of the span without leading zeros and with letters in lower case.
 abbrev pub IsPlainPathRecord : PathVersion → Fields → PathSpan → Type 0

@@ -1,8 +1,35 @@
 -- Spans of positions with answers by path: what a list of them answers, and the canonical list for each way to answer.
-use Rattle.std.specs.Prelude.{◌≡◌, ◌≢◌, ℕ, Bool, ◌&&◌, List, [], ◌∷◌, Option, find, option_map}
+use Rattle.std.specs.Prelude.{ℕ, List, Option, None, Some, ◌≡◌}
+use Rattle.lnt_spans.specs.declared.answer.Answer.{Answer}
 use Rattle.lnt_spans.specs.declared.position.Position.{Position}
-use Rattle.lnt_spans.specs.Positions.{IsAtMost, IsBelow, is_at_most, is_below}
-use Rattle.lnt_records.specs.PathAnswers.{PathAnswer}
+use Rattle.lnt_spans.specs.declared.span.Span.{Span}
+use Rattle.lnt_spans.specs.Merged.{answer_told}
+use Rattle.lnt_records.specs.declared.by_path.version.PathVersion.{PathVersion}
+use Rattle.lnt_records.specs.declared.by_path.version.PathVersion.TheVariants.{Four, Three}
+use Rattle.lnt_spans.specs.SpanKinds.{AreCanonical, AreSpansInOrder, SpanKind, answer_held, last_end}
+
+-- ---- the answer at a position by path: the bytes of the full path of the file, the line, and in version 3 the column
+
+pub record PathAnswer : Type 0 where
+  pub path : List ℕ
+  pub line : ℕ
+  pub column : Option ℕ
+
+-- the column, if the version has columns
+abbrev pub told_column : PathVersion → ℕ → Option ℕ
+told_column Three column = Some column
+told_column Four column = None
+
+-- an answer by path, if these are the paths of the files of units
+abbrev pub path_answer : PathVersion → (ℕ → ℕ → List ℕ) → Answer → PathAnswer
+path_answer version path answer =
+    record { path = path answer.unit answer.file; line = answer.line; column = told_column version answer.column }
+
+-- what spans answer at a position, by path, if these are the paths of the files of units
+abbrev pub spans_by_path : PathVersion → (ℕ → ℕ → List ℕ) → List Span → Position → Option PathAnswer
+spans_by_path version path spans p = answer_told (path_answer version path) spans p
+
+-- ---- spans
 
 -- the position of a whole instruction
 abbrev pub whole : ℕ → Position
@@ -14,43 +41,23 @@ pub record PathSpan : Type 0 where
   pub high : Position
   pub answer : PathAnswer
 
--- ---- what spans answer
-
--- whether the span holds p
-abbrev pub is_in_path_span : Position → PathSpan → Bool
-is_in_path_span p span = is_at_most span.low p && is_below p span.high
+-- these spans as a kind of spans
+abbrev pub path_spans : SpanKind PathSpan PathAnswer
+path_spans = record { low = λ span. span.low; high = λ span. span.high; answer = λ span. span.answer }
 
 -- the answer of the span that holds p, else None
 abbrev pub path_span_answer : List PathSpan → Position → Option PathAnswer
-path_span_answer spans p = option_map (λ span. span.answer) (find (is_in_path_span p) spans)
-
--- ---- canonical spans
+path_span_answer spans p = answer_held path_spans spans p
 
 -- Each span holds a position, and none begins below the end of the one before it.
 abbrev pub StandInOrder : List PathSpan → Type 0
-StandInOrder [] = Unit {0}
-StandInOrder (span ∷ []) = IsBelow span.low span.high
-StandInOrder (span ∷ next ∷ spans) = IsBelow span.low span.high × IsAtMost span.high next.low × StandInOrder (next ∷ spans)
-
--- No two spans that touch have the same answer.
-abbrev pub PathsDifferWhereTheyTouch : List PathSpan → Type 0
-PathsDifferWhereTheyTouch [] = Unit {0}
-PathsDifferWhereTheyTouch (span ∷ []) = Unit {0}
-PathsDifferWhereTheyTouch (span ∷ next ∷ spans) =
-    (span.high ≡ next.low → span.answer ≢ next.answer) × PathsDifferWhereTheyTouch (next ∷ spans)
-
--- In order, none empty, and no two that touch with the same answer.
-pub record AreCanonicalPaths (spans : List PathSpan) : Type 0 where
-  pub in_order : StandInOrder spans
-  pub differ : PathsDifferWhereTheyTouch spans
+StandInOrder spans = AreSpansInOrder path_spans spans
 
 -- These are the canonical spans with these answers.
 pub record AreCanonicalOf (answers : Position → Option PathAnswer) (spans : List PathSpan) : Type 0 where
-  pub canonical : AreCanonicalPaths spans
+  pub canonical : AreCanonical path_spans spans
   pub same : (p : Position) → path_span_answer spans p ≡ answers p
 
--- where the last span ends
+-- where the last span ends, or the origin if there is none
 abbrev pub path_end : List PathSpan → Position
-path_end [] = whole 0
-path_end (first ∷ []) = first.high
-path_end (first ∷ next ∷ spans) = path_end (next ∷ spans)
+path_end spans = last_end path_spans spans

@@ -5,8 +5,9 @@ use Rattle.lnt_records.specs.Table.Kind.{address, decimal, text}
 use Rattle.lnt_records.specs.Table.{Fields, IsTableIn, IsTableOfIn, Kind, TableFormat}
 pub use Rattle.lnt_records.specs.declared.by_path.version.PathVersion.{PathVersion}
 use Rattle.lnt_records.specs.declared.by_path.version.PathVersion.TheVariants.{Three, Four}
-use Rattle.lnt_records.specs.PathAnswers.{PathAnswer}
-use Rattle.lnt_records.specs.PathSpans.{PathSpan, StandInOrder}
+use Rattle.lnt_records.specs.PathSpans.{PathAnswer, PathSpan, StandInOrder, whole}
+use Rattle.lnt_records.specs.declared.by_path.record.PathRecord.{PathRecord}
+use Rattle.lnt_records.specs.declared.by_path.record.SaidPath.{SaidPath}
 
 -- the header, record 0
 abbrev pub path_column_names : PathVersion → Fields
@@ -55,3 +56,21 @@ IsPathTable version records spans = IsTableIn by_path version records spans
 -- The bytes are a table of these spans.
 abbrev pub IsPathTableOf : PathVersion → List ℕ → List PathSpan → Type 0
 IsPathTableOf version bytes spans = IsTableOfIn by_path version bytes spans
+
+-- ---- one record of a table by path, as it is read
+
+-- the columns that both versions have
+abbrev pub place_names : Fields
+place_names = codes "low" ∷ codes "high" ∷ codes "path" ∷ codes "line" ∷ []
+
+-- a record's answer that is borrowed
+abbrev pub said_answer : SaidPath → PathAnswer
+said_answer said = record { path = said.path.now; line = said.line; column = said.column }
+
+-- the answer of a record
+abbrev pub record_answer : PathRecord → PathAnswer
+record_answer said = said_answer said.answer
+
+-- the span of a record
+abbrev pub record_span : PathRecord → PathSpan
+record_span said = record { low = whole said.low; high = whole said.high; answer = record_answer said }

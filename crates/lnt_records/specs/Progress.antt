@@ -1,7 +1,12 @@
 -- How far a record was read, and how far lines were written.
-use Rattle.std.specs.Prelude.{◌≡◌, ◌≢◌, ℕ, ◌+◌, ◌<◌, List, [], ◌∷◌, ◌++◌, Option, length, get_or}
-use Rattle.std.specs.Io.KnownBytes.{Appends}
+use Rattle.std.specs.Prelude.{◌≡◌, ℕ, ◌+◌, List, ◌∷◌, ◌++◌, length, ◌≢◌, ◌<◌, [], Option, get_or}
 use Rattle.std.specs.List.{AllZip}
+use Rattle.csv.specs.Reading.{Reached, default_config, strip_bom}
+use Rattle.csv.specs.declared.parser.State.{State}
+use Rattle.csv.specs.declared.parser.State.TheVariants as state
+use Rattle.lnt_records.specs.Table.{Fields, TableFormat, AreMore, IsFlag, IsOfColumn, Kind, text}
+use Rattle.lnt_records.specs.Written.{LineFormat, lines_of}
+use Rattle.std.specs.Io.KnownBytes.{Appends}
 use Rattle.lnt_text.specs.Digits.{IsAddress, IsDecimal}
 use Rattle.lnt_io.specs.Prefixes.{AppendsPrefix}
 use Rattle.lnt_spans.specs.declared.answer.Answer.{Answer}
@@ -11,8 +16,24 @@ use Rattle.lnt_records.specs.declared.fault.TableFault.TheVariants as fault
 use Rattle.lnt_records.specs.declared.record.RecordFault.{RecordFault}
 use Rattle.lnt_records.specs.declared.record.RecordFault.TheVariants as record_fault
 use Rattle.lnt_records.specs.Faults.{IsFaultyColumn, TableFault}
-use Rattle.lnt_records.specs.Table.{AreMore, Fields, IsFlag, IsOfColumn, Kind, text}
-use Rattle.lnt_records.specs.Written.{LineFormat, lines_of}
+
+-- ---- lines of a table that were passed
+
+-- These lines are the records of these spans, and `count` is their number with the header.
+pub record AreLinesIn {V X : Type 0} (format : TableFormat V X) (plain : LineFormat V X) (version : V) (text : List ℕ) (spans : List X)
+    (count : ℕ) : Type 0 where
+  pub records : List Fields
+  pub text_is : text ≡ lines_of plain.line records
+  pub each : AllZip (format.Says version) records spans
+  pub count_is : count ≡ length records + 1
+
+-- ---- a text with the lines that were passed cut out
+
+-- Whatever records `csv` reads from the lines after their first one, `first`, it also reads from the bytes after those in `passed`.
+abbrev pub IsCutAfter : Fields → List ℕ → List ℕ → List Fields → Type 0
+IsCutAfter first lines bytes passed = (more : List Fields) (after : State) (rest : List ℕ)
+    → Reached default_config state.StartRecord (strip_bom lines) (first ∷ more) after rest
+    → Reached default_config state.StartRecord (strip_bom bytes) (passed ++ more) after rest
 
 -- ---- one record
 

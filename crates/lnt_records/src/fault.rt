@@ -1,7 +1,6 @@
 //! What is wrong with a table, and why a call stopped.
 ghost use Rattle.std.specs.Prelude.{◌≡◌, Some};
-ghost use Rattle.lnt_records.specs.FaultTexts.{table_fault_text, write_stop_text};
-ghost use Rattle.lnt_records.specs.Halts.{halt_of_write};
+ghost use Rattle.lnt_records.specs.FaultTexts.{table_fault_text, write_stop_text, halt_of_write};
 
 use lnt_io::Halt;
 use std::alloc::AllocError;

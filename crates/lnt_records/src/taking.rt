@@ -1,8 +1,8 @@
 //! Takes the records of a table one after another, as `csv` reads them.
-ghost use Rattle.std.specs.Prelude.{◌≡◌, ◌+◌, ◌^◌, ◌<◌, ◌++◌, ◌∷◌, ℕ, List, [], length, IfOk, MatchOption};
+ghost use Rattle.std.specs.Prelude.{◌≡◌, ◌+◌, ◌++◌, ◌∷◌, ℕ, List, [], length, IfOk, MatchOption};
 ghost use Rattle.csv.specs.Records.{fields_of};
 ghost use Rattle.lnt_spans.specs.declared.span.Span.{Span};
-ghost use Rattle.lnt_records.specs.Passing.{IsCutAfter};
+ghost use Rattle.lnt_records.specs.Progress.{IsCutAfter};
 ghost use Rattle.lnt_records.specs.Reading.{IsNarrow, IsReadAs};
 ghost use Rattle.lnt_records.specs.Table.{BeginsWith, Fields, RecordsOf};
 
@@ -14,37 +14,49 @@ use std::alloc::{AllocError, Global};
 
 /// Takes the records of a table one after another. `C` is the state after those that were taken so far.
 ///
-/// Contracts see it by three ghost members: `has_taken`, whether a state is one after so many records; `judges`, what is known of a
-/// state and some spans after these records; and `is_fault`, whether this is the first fault of these bytes.
+/// Contracts see it by three ghost members: `is_right`, whether what a state remembers is right; `judges`, what is known of a state and
+/// some spans after these records; and `is_fault`, whether this is the first fault of these bytes.
 pub trait TakesRecords<C> {
-    ghost use Rattle.std.specs.Prelude.{◌≡◌, ◌+◌, ◌^◌, ◌<◌, ◌++◌, ◌∷◌, ℕ, List, [], IfOk, MatchOption};
+    ghost use Rattle.std.specs.Prelude.{◌≡◌, ◌++◌, ◌∷◌, ℕ, List, [], length, IfOk, OnOk, MatchOption};
     ghost use Rattle.csv.specs.Records.{fields_of};
     ghost use Rattle.lnt_spans.specs.declared.span.Span.{Span};
     ghost use Rattle.lnt_records.specs.declared.fault.TableFault.{TableFault as SpecFault};
     ghost use Rattle.lnt_records.specs.Reading.{IsNarrow, IsReadAs};
     ghost use Rattle.lnt_records.specs.Table.{BeginsWith, Fields};
 
-    ghost has_taken: { Self → C → ℕ → Type 0 };
+    ghost is_right: { Self → C → Type 0 };
 
     ghost judges: { Self → C → List Span → List Fields → Type 0 };
 
     ghost is_fault: { Self → List ℕ → SpecFault → Type 0 };
 
-    /// Takes one more record, or gives its fault, which then is the first of all bytes that begin with the records so far and this
-    /// one. Fails only if memory runs out.
-    fn take(&self, state: &mut C, row: &ByteRecord) -> Result<Option<TableFault>, AllocError>
-        requires { (count : ℕ) × has_taken self.now state.old count × (count + 1 < 2 ^ 64) }
-        ensures counted { IfOk result (λ found. (count : ℕ) → has_taken self.now state.old count
-            → MatchOption found (has_taken self.now state.new (count + 1)) (λ _. Unit {0})) }
+    /// Takes one more record, which has this number, or gives its fault, which then is the first of all bytes that begin with the
+    /// records so far and this one. Fails only if memory runs out.
+    fn take(
+        &self,
+        state: &mut C,
+        row: &ByteRecord,
+        number: u64,
+    ) -> Result<Option<TableFault>, AllocError>
+        requires { is_right self.now state.old }
+        ensures right { OnOk result (is_right self.now state.new) }
         ensures narrow { IfOk result (λ found. MatchOption found (IsNarrow (fields_of row.now)) (λ _. Unit {0})) }
         ensures taken { IfOk result (λ found. (spans : List Span) (records : List Fields) → judges self.now state.old spans records
-            → MatchOption found (judges self.now state.new spans (records ++ fields_of row.now ∷ []))
+            → number ≡ length records → MatchOption found (judges self.now state.new spans (records ++ fields_of row.now ∷ []))
             (λ fault. (whole : Fields) (bytes : List ℕ) → IsReadAs (fields_of row.now) whole → BeginsWith bytes (records ++ whole ∷ [])
             → is_fault self.now bytes fault)) };
 }
 
-/// Takes the records of a text after its first one, up to the first that is faulty, whose fault it gives. No record with more fields
-/// than any table has columns is held whole.
+/// The number of the next record. A number of more than 64 bits counts as one for which there is no memory: no table is that long.
+#[inline(always)]
+pub fn next_number(number: u64) -> Result<u64, AllocError>
+    ensures { IfOk result (λ next. next ≡ number + 1) }
+{
+    number.checked_add(1).ok_or(AllocError)
+}
+
+/// Takes the records of a text after its first one, up to the first that is faulty, whose fault it gives. The first one taken has this
+/// number. No record with more fields than any table has columns is held whole.
 ///
 /// The bytes of the table may have other records in place of the text's first one: those that were taken before. The caller makes sure
 /// that the text has a first record, with no more fields than that. Fails only if memory runs out. Not inlined: a reader of records is
@@ -55,11 +67,13 @@ pub fn take_records<C, T: TakesRecords<C>>(
     text: &[u8],
     taker: &T,
     state: &mut C,
+    mut number: u64,
 ) -> Result<Option<TableFault>, AllocError>
     requires first { (first : Fields) × IsNarrow first × BeginsWith text.now (first ∷ []) }
-    requires few { (count : ℕ) × T.has_taken taker.now state.old count × (count + length text.now < 2 ^ 64 + 1) }
+    requires right { T.is_right taker.now state.old }
     ensures { IfOk result (λ found. (first : Fields) (spans : List Span) (passed : List Fields) (bytes : List ℕ) → IsNarrow first
         → BeginsWith text.now (first ∷ []) → IsCutAfter first text.now bytes passed → T.judges taker.now state.old spans passed
+        → number ≡ length passed
         → MatchOption found ((more : List Fields) × RecordsOf bytes (passed ++ more) × T.judges taker.now state.new spans (passed ++ more))
         (λ fault. T.is_fault taker.now bytes fault)) }
 {
@@ -68,9 +82,10 @@ pub fn take_records<C, T: TakesRecords<C>>(
     let mut row = ByteRecord::new(alloc);
     read_next(&mut reader, &mut row)?;
     while read_next(&mut reader, &mut row)? {
-        if let Some(fault) = taker.take(state, &row)? {
+        if let Some(fault) = taker.take(state, &row, number)? {
             return Ok(Some(fault));
         }
+        number = next_number(number)?;
     }
     Ok(None)
 }

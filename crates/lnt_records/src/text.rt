@@ -1,8 +1,7 @@
 //! Writes the line of a record backwards, from its end, so that no digits have to be counted or moved.
 ghost use Rattle.std.specs.Prelude.{◌≡◌, ◌+◌, ◌<◌, ◌≤◌, [], drop};
-ghost use Rattle.lnt_text.specs.Digits.{IsPlainAddress, IsPlainDecimal};
+ghost use Rattle.lnt_text.specs.Digits.{IsPlainAddress, IsPlainDecimal, Begins};
 ghost use Rattle.lnt_spans.specs.declared.answer.Version.{Version};
-ghost use Rattle.lnt_text.specs.Delimited.{Begins};
 ghost use Rattle.lnt_records.specs.Lines.{IsAnswer, IsFlagBefore, IsMore, IsPlainLine, IsPosition};
 ghost use Rattle.lnt_records.specs.Written.{IsOfVersion};
 

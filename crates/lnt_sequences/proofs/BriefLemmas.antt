@@ -12,7 +12,7 @@ use Rattle.lnt_spans.specs.Positions.{IsAtMost, IsBelow}
 use Rattle.lnt_sequences.specs.declared.brief.BriefRow.{BriefRow}
 use Rattle.lnt_sequences.specs.declared.brief.BriefRows.{BriefRows}
 use Rattle.lnt_sequences.specs.Briefs.{AreInBrief, AreKept, brief_answer, IsAdded, IsInBrief, IsReachedIn, onto, place_of, WereKept}
-use Rattle.lnt_sequences.specs.Marking.{IsNotAbove}
+use Rattle.lnt_sequences.specs.Briefs.{IsNotAbove}
 use Rattle.lnt_sequences.specs.Rules.{IsOrdered}
 use Rattle.lnt_sequences.specs.Sequences.{answer_of, last_row, position_of, row_at}
 use Rattle.lnt_sequences.proofs.MarkLemmas.{found_before, ordered_tail}

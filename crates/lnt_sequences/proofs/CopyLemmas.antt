@@ -12,7 +12,7 @@ use Rattle.std.proofs.lemmas.List.Sorted.{list_any-IsPermutation}
 use Rattle.lnt_spans.proofs.EachTwoLaws.{each_two_from_pairs, each_two_permutation, pairs_cons, pairs_from_each_two, pairs_head, pairs_tail}
 use Rattle.lnt_spans.proofs.PositionLaws.{at_most_itself, at_most_trans}
 use Rattle.lnt_sequences.specs.declared.extent.Extent.{Extent}
-use Rattle.lnt_sequences.specs.Copies.{AreGathered, end_alike, EndsNoLater, is_copied, kept_extents}
+use Rattle.lnt_sequences.specs.Overlaps.{AreGathered, end_alike, EndsNoLater, is_copied, kept_extents}
 use Rattle.lnt_sequences.specs.Sequences.{stands_before}
 use Rattle.lnt_sequences.proofs.KeptLaws.{middle, same_id}
 use Rattle.lnt_sequences.proofs.OverlapLemmas.{place_itself, place_trans, stand_far}

@@ -12,8 +12,7 @@ use Rattle.lnt_spans.proofs.EachTwoLaws.{find_only}
 use Rattle.lnt_spans.proofs.PositionLaws.{at_most_from_not_below, at_most_itself, at_most_trans, not_both}
 use Rattle.lnt_spans.specs.Spans.{AreInOrder}
 use Rattle.lnt_sequences.specs.Extents.{AreApartUpTo, extents_of, IsIn, NoneHolds, Extent}
-use Rattle.lnt_sequences.specs.InTurn.{EntriesInTurn, IsExtentOf, StandInTurn}
-use Rattle.lnt_sequences.specs.RowSpans.{row_spans, spans_after, spans_of}
+use Rattle.lnt_sequences.specs.RowSpans.{EntriesInTurn, IsExtentOf, StandInTurn, row_spans, spans_after, spans_of}
 use Rattle.lnt_sequences.specs.Rules.{AreApart, AreOrdered, IsOrdered}
 use Rattle.lnt_sequences.specs.Sequences.{answer_in, answer_of, holds, Placed, position_of, row_at}
 use Rattle.lnt_sequences.specs.Watching.{last_after}

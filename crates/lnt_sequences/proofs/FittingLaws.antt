@@ -4,7 +4,7 @@ use Rattle.std.specs.List.{All, AllByRecursion, AllZip}
 use Rattle.lnt_header.specs.declared.unit_parts.UnitParts.{UnitParts}
 use Rattle.lnt_machine.specs.Walking.{KeepsProgram, KeptProgram}
 use Rattle.lnt_machine.proofs.FittingLaws.{FitsRow, HasNumbers, kept_fits}
-use Rattle.lnt_spans.specs.Fitting.{FitsSpan}
+use Rattle.lnt_spans.specs.Spans.{FitsSpan}
 use Rattle.lnt_sequences.specs.RowSpans.{spans_of}
 use Rattle.lnt_sequences.specs.Sequences.{kept_sequences, Selection}
 use Rattle.lnt_sequences.proofs.EachLaws.{Between, each_kept_span, EachIn}

@@ -10,9 +10,8 @@ use Rattle.lnt_spans.specs.declared.position.Position.{Position}
 use Rattle.lnt_spans.specs.Positions.{IsBelow, is_below}
 use Rattle.lnt_spans.proofs.EachTwoLaws.{each_two_from_pairs, each_two_permutation, pairs_from_each_two}
 use Rattle.lnt_spans.proofs.PositionLaws.{at_most_itself, below_from_test, test_below}
-use Rattle.lnt_sequences.specs.Copies.{end_alike, is_copied, kept_extents}
+use Rattle.lnt_sequences.specs.Overlaps.{end_alike, is_copied, kept_extents, ExtentsDisjoint, ExtentsOverlap}
 use Rattle.lnt_sequences.specs.Extents.{extents_of, IsFirstOverlap, Extent, Overlap}
-use Rattle.lnt_sequences.specs.Overlaps.{ExtentsDisjoint, ExtentsOverlap}
 use Rattle.lnt_sequences.proofs.WalkLaws.{last_row_is}
 use Rattle.lnt_sequences.proofs.KeptLaws.{kept_distinct}
 use Rattle.lnt_sequences.specs.Rules.{AreApart, AreDistinct}

@@ -7,7 +7,7 @@ use Rattle.lnt_spans.specs.declared.position.Position.{Position}
 use Rattle.lnt_spans.specs.Positions.{IsBelow, is_at_most}
 use Rattle.lnt_spans.proofs.PositionLaws.{test_at_most}
 use Rattle.lnt_sequences.specs.declared.marks.Mark.{Mark}
-use Rattle.lnt_sequences.specs.Marking.{IsMarkIn, IsNotAbove}
+use Rattle.lnt_sequences.specs.Briefs.{IsMarkIn, IsNotAbove}
 use Rattle.lnt_sequences.specs.Rules.{IsOrdered}
 use Rattle.lnt_sequences.specs.Sequences.{last_row, position_of, row_at}
 use Rattle.lnt_sequences.proofs.EvidenceLemmas.{last_row-push}

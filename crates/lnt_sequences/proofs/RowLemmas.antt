@@ -1,4 +1,5 @@
 -- What the spans of a sequence answer is what its rows answer.
+use Rattle.lnt_spans.specs.SpanKinds.{is_held}
 use Rattle.std.proofs.Common.{◌≡◌, ℕ, suc, Bool, true, false, cond, ◌&&◌, List, [], ◌∷◌, ◌++◌, Option, Some, None, refl, sym, ◌∙◌, arith}
 use Rattle.std.specs.List.{find}
 use Rattle.std.specs.Option.{option_map, option_and_then, option_or}
@@ -9,7 +10,7 @@ use Rattle.lnt_spans.specs.declared.answer.Answer.{Answer}
 use Rattle.lnt_spans.specs.declared.position.Position.{Position}
 use Rattle.lnt_spans.specs.declared.span.Span.{Span}
 use Rattle.lnt_spans.specs.Positions.{IsBelow, IsAtMost, is_below, is_at_most}
-use Rattle.lnt_spans.specs.Spans.{is_in_span, span_answer}
+use Rattle.lnt_spans.specs.Spans.{span_answer, number_spans}
 use Rattle.lnt_spans.proofs.BetweenLaws.{AreBetween, between_from, none_below}
 use Rattle.lnt_spans.proofs.PositionLaws.{at_most_below, at_most_from_test, at_most_itself, at_most_trans}
 use Rattle.lnt_spans.proofs.PositionLaws.{below_at_most, below_from_not_at_most, below_from_test, test_at_most}
@@ -82,12 +83,12 @@ none_at p row (next ∷ rows) h k = row_at_cons p row (next ∷ rows)
 -- what one span more answers
 pub span_answer-append : (xs ys : List Span) (p : Position) → span_answer (xs ++ ys) p ≡ option_or (span_answer xs p) (span_answer ys p)
 span_answer-append [] ys p = refl
-span_answer-append (span ∷ xs) ys p = step_append span xs ys p (is_in_span p span) (span_answer-append xs ys p)
+span_answer-append (span ∷ xs) ys p = step_append span xs ys p (is_held number_spans p span) (span_answer-append xs ys p)
   where
     step_append : (span : Span) (xs ys : List Span) (p : Position) (t : Bool)
         → span_answer (xs ++ ys) p ≡ option_or (span_answer xs p) (span_answer ys p)
-        → option_map (λ (s : Span). s.answer) (cond t (Some span) (find (is_in_span p) (xs ++ ys)))
-        ≡ option_or (option_map (λ (s : Span). s.answer) (cond t (Some span) (find (is_in_span p) xs))) (span_answer ys p)
+        → option_map (λ (s : Span). s.answer) (cond t (Some span) (find (is_held number_spans p) (xs ++ ys)))
+        ≡ option_or (option_map (λ (s : Span). s.answer) (cond t (Some span) (find (is_held number_spans p) xs))) (span_answer ys p)
     step_append span xs ys p true h = refl
     step_append span xs ys p false h = h
 

@@ -5,9 +5,8 @@ use Rattle.lnt_machine.specs.Walking.{GivesFirstRow, GivesRow, SequenceWalk, Wil
 use Rattle.lnt_spans.specs.declared.span.Span.{Span}
 use Rattle.lnt_spans.specs.Positions.{IsAtMost, IsBelow}
 use Rattle.lnt_spans.proofs.PositionLaws.{test_below, test_not_below}
-use Rattle.lnt_sequences.specs.RowSpans.{span_between, spans_after}
+use Rattle.lnt_sequences.specs.RowSpans.{span_between, spans_after, GivesSpan, HasSpans, spans_left}
 use Rattle.lnt_sequences.specs.Sequences.{answer_of, position_of}
-use Rattle.lnt_sequences.specs.Spanning.{GivesSpan, HasSpans, spans_left}
 
 -- the first row
 pub spans_first : (unit : ℕ) (spans : List Span) (old new : SequenceWalk) (last : Option Row) (row : Row) → HasSpans unit spans old last

@@ -3,8 +3,7 @@ use Rattle.std.proofs.Common.{List, [], ◌∷◌, ap, subst, sym, arith}
 use Rattle.lnt_spans.specs.declared.position.Position.{Position}
 use Rattle.lnt_spans.specs.declared.span.Span.{Span}
 use Rattle.lnt_spans.proofs.BetweenLaws.{AreBetween, between_append, between_from, order_from_between}
-use Rattle.lnt_sequences.specs.InTurn.{SpansInTurn, StandInTurn}
-use Rattle.lnt_sequences.specs.RowSpans.{row_spans, spans_after, spans_of}
+use Rattle.lnt_sequences.specs.RowSpans.{SpansInTurn, StandInTurn, row_spans, spans_after, spans_of}
 use Rattle.lnt_sequences.specs.Rules.{AreOrdered, IsOrdered}
 use Rattle.lnt_sequences.specs.Sequences.{Placed, position_of}
 use Rattle.lnt_sequences.specs.Watching.{last_after}

@@ -6,8 +6,8 @@ use Rattle.lnt_sequences.specs.declared.collected.Collected.{Collected}
 use Rattle.lnt_sequences.specs.declared.watch.Current.{Current}
 use Rattle.lnt_sequences.specs.declared.watch.Watch.{Watch}
 use Rattle.lnt_sequences.specs.Sequences.{Placed}
-use Rattle.lnt_sequences.specs.Stepping.{counted, gone_on, noted}
-use Rattle.lnt_sequences.specs.Watching.{closed, CollectsRows, current_of, extent_from, grown, HasSeen, longer, next, RowsSoFar, walked}
+use Rattle.lnt_sequences.specs.Watching.{counted, gone_on, noted, closed, CollectsRows, current_of, extent_from, grown, HasSeen, longer}
+use Rattle.lnt_sequences.specs.Watching.{next, RowsSoFar, walked}
 use Rattle.lnt_sequences.proofs.WalkLaws.{first_shown-push, last_after-push, shown-push, walked-append, walked-rows}
 use Rattle.std.proofs.lemmas.Grind.{common_steps}
 

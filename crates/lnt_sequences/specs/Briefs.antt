@@ -1,16 +1,35 @@
 -- The rows of a sequence in few bytes each, and what is kept of a sequence for later lookups.
-use Rattle.std.specs.Prelude.{◌≡◌, ◌+◌, ◌-◌, ◌<◌, ◌≤◌, ℕ, true, List, [], ◌∷◌, ◌++◌, length, get_or, Some}
-use Rattle.std.specs.List.{AllZip}
+use Rattle.std.specs.Prelude.{◌≡◌, List, ◌++◌, Option, IfSome, All, ◌+◌, ◌-◌, ◌<◌, ◌≤◌, ℕ, true, [], ◌∷◌, length, get_or, Some}
 use Rattle.lnt_machine.specs.declared.row.Row.{Row}
-use Rattle.lnt_machine.specs.Walking.{SequenceWalk, WillGive}
-use Rattle.lnt_spans.specs.declared.answer.Answer.{Answer}
+use Rattle.lnt_machine.specs.Walking.{WillGive, SequenceWalk}
 use Rattle.lnt_spans.specs.declared.position.Position.{Position}
 use Rattle.lnt_spans.specs.Positions.{IsAtMost, IsBelow}
+use Rattle.lnt_sequences.specs.declared.marks.Mark.{Mark}
+use Rattle.lnt_sequences.specs.declared.marks.Marks.{Marks}
+use Rattle.lnt_sequences.specs.Sequences.{last_row, position_of, answer_of}
+use Rattle.std.specs.List.{AllZip}
+use Rattle.lnt_spans.specs.declared.answer.Answer.{Answer}
 use Rattle.lnt_sequences.specs.declared.brief.BriefRow.{BriefRow}
 use Rattle.lnt_sequences.specs.declared.brief.BriefRows.{BriefRows}
 use Rattle.lnt_sequences.specs.declared.row_cache.RowCache.{RowCache}
-use Rattle.lnt_sequences.specs.Marking.{AreMarksIn}
-use Rattle.lnt_sequences.specs.Sequences.{answer_of, position_of}
+
+-- ---- places in the rows of one sequence, from which lookups continue
+
+-- The place is between two rows of these, or before or after all: it has the last of those before it, and those after it.
+pub record IsMarkIn (rows : List Row) (mark : Mark) : Type 0 where
+  pub seen : List Row
+  pub left : List Row
+  pub rows_are : rows ≡ seen ++ left
+  pub last_is : mark.last ≡ last_row seen
+  pub to_come : WillGive left mark.after
+
+-- so is each mark
+abbrev pub AreMarksIn : List Row → Marks → Type 0
+AreMarksIn rows marks = All (IsMarkIn rows) marks.marks.items
+
+-- the row, if there is one, isn't above p
+abbrev pub IsNotAbove : Option Row → Position → Type 0
+IsNotAbove last p = IfSome last (λ row. IsAtMost (position_of row) p)
 
 -- ---- one row
 

@@ -3,6 +3,7 @@
 -- A caller needs only Collects, HasSeen, HasSeenAll and CollectsRows. What they mean once all rows of a unit were seen is
 -- said without a watch, in the contracts of `missing_file` and `falls` and in the law `collected_unit`.
 use Rattle.std.specs.Prelude.{◌≡◌, ℕ, ◌+◌, ◌^◌, ◌<◌, Bool, false, not, cond, ◌&&◌, nat_le, List, [], ◌∷◌, ◌++◌, length, Option, Some, None}
+use Rattle.std.specs.Prelude.{◌-◌, min}
 use Rattle.std.specs.Option.{option_or}
 use Rattle.lnt_machine.specs.declared.row.Row.{Row}
 use Rattle.lnt_machine.specs.Matrix.{joined_rows, sequences_of}
@@ -136,3 +137,25 @@ pub record CollectsBoth (dead : Option ℕ) (unit : ℕ) (collected : Collected)
 -- than 2^64 of them: nothing is claimed of more.
 abbrev pub CollectsRows : Option ℕ → ℕ → Collected → List Placed → List Row → Type 0
 CollectsRows dead unit collected sequences rows = length rows < 2 ^ 64 → CollectsBoth dead unit collected sequences rows
+
+-- ---- what the bodies of this crate do to a watch with one row. No public contract speaks of it.
+
+-- a watch that has looked at one more row, of a sequence that is live or not
+abbrev pub noted : Watch → Row → Bool → Watch
+noted watch row live = record watch {
+  falls = option_or watch.falls (cond (live && falls_after watch.current row) (Some watch.rows) None);
+  missing_file = option_or watch.missing_file
+      (cond (live && names_no_file watch.files row) (Some (record { row = watch.rows; file = row.file })) None);
+}
+
+-- one more, up to the greatest number
+abbrev pub counted : ℕ → ℕ
+counted n = min (n + 1) (2 ^ 64 - 1)
+
+-- a watch that counts one more row, with which its sequence is as given
+abbrev pub gone_on : Watch → Row → Current → Watch
+gone_on watch row current = record watch {
+  rows = counted watch.rows;
+  ended = cond row.end_sequence (counted watch.ended) watch.ended;
+  current = cond row.end_sequence None (Some current);
+}

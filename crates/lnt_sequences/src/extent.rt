@@ -2,10 +2,9 @@
 ghost use Rattle.std.specs.Prelude.{◌≡◌, ◌≢◌, ◌+◌, ◌-◌, ◌<◌, length, slice_index_or, IfNone, IfSome, MatchOption, Some, All, AllPairs};
 ghost use Rattle.std.specs.Prelude.{IsPermutation};
 ghost use Rattle.lnt_spans.specs.Positions.{IsBelow};
-ghost use Rattle.lnt_sequences.specs.Copies.{AreGathered, kept_extents};
+ghost use Rattle.lnt_sequences.specs.Overlaps.{AreGathered, kept_extents, ExtentsDisjoint, ExtentsOverlap};
 ghost use Rattle.lnt_sequences.specs.Extents.{AreApartUpTo, AreSettled, AreSorted, Extent};
 ghost use Rattle.lnt_sequences.specs.FaultTexts.{overlap_text};
-ghost use Rattle.lnt_sequences.specs.Overlaps.{ExtentsDisjoint, ExtentsOverlap};
 
 use crate::sequence::SeqId;
 use lnt_spans::Position;

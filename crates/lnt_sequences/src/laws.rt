@@ -1,6 +1,6 @@
 //! Laws of what rows say of positions, each the contract of a function without parameters that does nothing.
 ghost use Rattle.lnt_sequences.specs.Extents.{HolderAnswers};
-ghost use Rattle.lnt_sequences.specs.InTurn.{EntriesInTurn, SpansInTurn};
+ghost use Rattle.lnt_sequences.specs.RowSpans.{EntriesInTurn, SpansInTurn};
 ghost use Rattle.lnt_sequences.specs.Laws.{AnswersAsHolder, CollectedUnit, ConvertedAnswers, DistinctSequences, FallIsNotOrdered};
 ghost use Rattle.lnt_sequences.specs.Laws.{KeptSequences, MissingFileIsNotThere, OverlapIsNotApart, SequenceSpans, SpansAnswer};
 

@@ -2,10 +2,10 @@
 ghost use Rattle.std.specs.Prelude.{◌≡◌, ◌<◌, List, None, IfOk, false, true, MatchBool};
 ghost use Rattle.lnt_machine.specs.Walking.{WillGive};
 ghost use Rattle.lnt_machine.specs.declared.row.Row as spec;
-ghost use Rattle.lnt_sequences.specs.Marking.{AreMarksIn, IsMarkIn, IsNotAbove};
+ghost use Rattle.lnt_sequences.specs.Briefs.{AreMarksIn, IsMarkIn, IsNotAbove};
 ghost use Rattle.lnt_sequences.specs.Rules.{IsOrdered};
 ghost use Rattle.lnt_sequences.specs.Sequences as sequence;
-ghost use Rattle.lnt_sequences.specs.Spanning.{rows_left};
+ghost use Rattle.lnt_sequences.specs.RowSpans.{rows_left};
 
 use crate::collected::position_of;
 use lnt_machine::{Row, SequenceRows};

@@ -1,7 +1,7 @@
 //! The spans of a sequence, made one after another from its rows.
 ghost use Rattle.std.specs.Prelude.{◌<◌, List, IfSome};
 ghost use Rattle.lnt_spans.specs.declared.span.Span as spec;
-ghost use Rattle.lnt_sequences.specs.Spanning.{GivesSpan, HasSpans, rows_left};
+ghost use Rattle.lnt_sequences.specs.RowSpans.{GivesSpan, HasSpans, rows_left};
 
 use crate::collected::{answer_of, position_of};
 use lnt_machine::{Row, SequenceRows};

@@ -4,7 +4,6 @@ ghost use Rattle.lnt_machine.specs.declared.row.Row.{Row};
 ghost use Rattle.lnt_sequences.specs.Evidence.{IsFirstFall, IsFirstMissingFile};
 ghost use Rattle.lnt_sequences.specs.Rules.{AreOrdered, HaveFiles};
 ghost use Rattle.lnt_sequences.specs.Sequences.{Placed, live_of, placed_rows};
-ghost use Rattle.lnt_sequences.specs.Stepping as step;
 ghost use Rattle.lnt_sequences.specs.Watching as spec;
 ghost use Rattle.lnt_sequences.specs.Watching.{CollectsRows, HasSeen, HasSeenAll};
 
@@ -135,7 +134,7 @@ impl Watch {
     // Remembers the next row if its sequence is live, and it is the first that falls, or the first whose file is missing.
     #[inline(always)]
     fn note(&mut self, row: &Row, live: bool)
-        ensures { self.new ≡ step.noted self.old row.now live }
+        ensures { self.new ≡ spec.noted self.old row.now live }
     {
         if live && falls_after(&self.current, row) {
             self.falls = self.falls.or(Some(self.rows));
@@ -152,7 +151,7 @@ impl Watch {
     // Counts the row. Its sequence, with the row, continues unless it is an end row.
     #[inline(always)]
     fn go_on(&mut self, row: &Row, current: Current)
-        ensures { self.new ≡ step.gone_on self.old row.now current }
+        ensures { self.new ≡ spec.gone_on self.old row.now current }
     {
         self.rows = self.rows.saturating_add(1);
         if row.end_sequence {

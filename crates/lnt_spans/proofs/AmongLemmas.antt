@@ -3,7 +3,7 @@ use Rattle.std.proofs.Common.{◌≡◌, List, [], ◌∷◌, ◌⊎◌, inl, in
 use Rattle.std.specs.List.{AllByRecursion}
 use Rattle.lnt_spans.specs.AnyStretches.{AreAllStretches, AreRising, IsInOne, IsInStretch, Stretch}
 use Rattle.lnt_spans.specs.Partial.{AreAllMistakes}
-use Rattle.lnt_spans.specs.PartialLaws.{answered_stretches, if_some}
+use Rattle.lnt_spans.specs.Laws.{answered_stretches, if_some}
 use Rattle.lnt_spans.specs.Positions.{IsBelow, Position}
 use Rattle.lnt_spans.proofs.PositionLaws.{below_at_most, below_is_at_most}
 use Rattle.std.proofs.lemmas.Grind.{common_steps}

@@ -2,7 +2,8 @@
 use Rattle.std.proofs.Common.{◌≡◌, Bool, true, false, ◌&&◌, ◌∙◌, List, [], ◌∷◌, ◌++◌, None, refl, arith, AllPairs, All}
 use Rattle.std.proofs.lemmas.List.Elements.{All-cons, All-nil, All-weaker}
 use Rattle.lnt_spans.specs.Positions.{IsBelow, IsAtMost, Position}
-use Rattle.lnt_spans.specs.Spans.{AreInOrder, is_in_span, span_answer, Span}
+use Rattle.lnt_spans.specs.Spans.{number_spans, AreInOrder, span_answer, Span}
+use Rattle.lnt_spans.specs.SpanKinds.{is_held}
 use Rattle.lnt_spans.proofs.AnsweringLaws.{answer_before}
 use Rattle.lnt_spans.proofs.EachTwoLaws.{pairs_nil, pairs_cons}
 use Rattle.lnt_spans.proofs.PositionLaws.{at_most_from_test, at_most_itself, at_most_trans, below_at_most}
@@ -20,10 +21,10 @@ pub record InSpan (p : Position) (span : Span) : Type 0 where
   pub from : IsAtMost span.low p
   pub below : IsBelow p span.high
 
-pub in_span : (p : Position) (span : Span) → is_in_span p span ≡ true → InSpan p span
+pub in_span : (p : Position) (span : Span) → is_held number_spans p span ≡ true → InSpan p span
 in_span p span h = grind (arith, common_steps, both_true, at_most_from_test, below_from_test)
 
-pub test_in_span : (p : Position) (span : Span) → InSpan p span → is_in_span p span ≡ true
+pub test_in_span : (p : Position) (span : Span) → InSpan p span → is_held number_spans p span ≡ true
 test_in_span p span h = rw (test_at_most span.low p h.from, test_below p span.high h.below) refl
 
 -- ---- spans from one position up to another
@@ -62,7 +63,7 @@ between_from_order span (next ∷ spans) h =
 pub none_below : (a b : Position) (spans : List Span) (p : Position) → AreBetween a spans b → IsBelow p a → span_answer spans p ≡ None
 none_below a b [] p h k = refl
 none_below a b (span ∷ spans) p h k =
-    answer_before span spans p (below_at_most k h.0)
+    answer_before number_spans span spans p (below_at_most k h.0)
     ∙ none_below span.high b spans p h.2 (below_at_most k (at_most_trans h.0 (below_is_at_most h.1)))
 
 -- each span lies within the two bounds

@@ -2,7 +2,7 @@
 use Rattle.std.proofs.Common.{◌≡◌, ◌∙◌, List, [], ◌∷◌, ◌++◌, ◌⊎◌, inl, inr, refl, sym, None}
 use Rattle.std.specs.List.{AllByRecursion}
 use Rattle.lnt_spans.specs.Positions.{IsBelow, IsAtMost, Position}
-use Rattle.lnt_spans.specs.Spans.{span_answer, Span}
+use Rattle.lnt_spans.specs.Spans.{number_spans, span_answer, Span}
 use Rattle.lnt_spans.specs.Laws.{Borders, AgreeAt, borders}
 use Rattle.lnt_spans.proofs.PositionLaws.{order_cases, at_most_below, at_most_trans, at_most_itself, below_is_at_most}
 use Rattle.lnt_spans.proofs.AnsweringLaws.{answer_in, answer_before, answer_after}
@@ -17,16 +17,19 @@ same_since : (spans : List Span) (b p : Position) → IsAtMost b p → AllByRecu
 same_since [] b p le h = refl
 same_since (s ∷ rest) b p le h = elim h.0 [
   | inl low ↦ elim h.1.0 [
-    | inl high ↦ answer_after s rest b high ∙ same_since rest b p le h.1.1 ∙ sym (answer_after s rest p (at_most_trans high le))
-    | inr high ↦ answer_in s rest b low (at_most_below le high) ∙ sym (answer_in s rest p (at_most_trans low le) high)
+    | inl high ↦ answer_after number_spans s rest b high ∙ same_since rest b p le h.1.1
+        ∙ sym (answer_after number_spans s rest p (at_most_trans high le))
+    | inr high ↦ answer_in number_spans s rest b low (at_most_below le high)
+        ∙ sym (answer_in number_spans s rest p (at_most_trans low le) high)
   ]
-  | inr low ↦ answer_before s rest b (at_most_below le low) ∙ same_since rest b p le h.1.1 ∙ sym (answer_before s rest p low)
+  | inr low ↦ answer_before number_spans s rest b (at_most_below le low) ∙ same_since rest b p le h.1.1
+      ∙ sym (answer_before number_spans s rest p low)
 ]
 
 -- where every border is after p, there is no answer at p
 none_yet : (spans : List Span) (p : Position) → AllByRecursion (IsBelow p) (borders spans) → span_answer spans p ≡ None
 none_yet [] p h = refl
-none_yet (s ∷ rest) p h = answer_before s rest p h.0 ∙ none_yet rest p h.1.1
+none_yet (s ∷ rest) p h = answer_before number_spans s rest p h.0 ∙ none_yet rest p h.1.1
 
 -- the last of these borders that is at or before p, with the property that every border has
 record LastBorder (Q : Position → Type 0) (bs : List Position) (p : Position) : Type 0 where

@@ -5,11 +5,12 @@ use Rattle.std.proofs.lemmas.List.Elements.{Contains-get_or}
 use Rattle.std.proofs.lemmas.Bool.{cases_eq, cases_lt}
 use Rattle.std.proofs.lemmas.List.{get_or_default}
 use Rattle.lnt_spans.specs.Positions.{IsBelow, IsAtMost, Position}
-use Rattle.lnt_spans.specs.Spans.{is_in_span, span_answer, AreInOrder, Span}
+use Rattle.lnt_spans.specs.Spans.{number_spans, span_answer, AreInOrder, Span}
+use Rattle.lnt_spans.specs.SpanKinds.{is_held}
 use Rattle.lnt_spans.proofs.PositionLaws.{at_most_trans, below_at_most, below_is_at_most, not_both}
 use Rattle.lnt_spans.proofs.EachTwoLaws.{find_only, find_none, each_two_from_pairs}
 use Rattle.lnt_spans.proofs.BetweenLaws.{InSpan, in_span, test_in_span, ends_before, none_empty}
-use Rattle.lnt_spans.specs.Brackets.{IsBracket}
+use Rattle.lnt_spans.specs.Stepping.{IsBracket}
 use Rattle.std.proofs.lemmas.Grind.{common_steps}
 
 pub bracket_below : (spans : List Span) (p : Position) (low high middle : ℕ) → AreInOrder spans → IsBracket spans p low high → low ≤ middle
@@ -59,19 +60,19 @@ pub found_inside : (spans : List Span) (p : Position) (middle : ℕ) (d : Span) 
     → Some (get_or spans middle d).answer ≡ span_answer spans p
 found_inside spans p middle d o l h =
     let span = get_or spans middle d in
-    let one = find_only (is_in_span p) spans span
-    (each_two_from_pairs (λ s t. is_in_span p s ≡ true → is_in_span p t ≡ true → ⊥) (λ s t n x y. n y x) spans
+    let one = find_only (is_held number_spans p) spans span
+    (each_two_from_pairs (λ s t. is_held number_spans p s ≡ true → is_held number_spans p t ≡ true → ⊥) (λ s t n x y. n y x) spans
     (λ i j e lt lj x y. not_both (in_span p (get_or spans i e) x).below
     (at_most_trans (ends_before spans o i j e lt lj) (in_span p (get_or spans j e) y).from)))
     (Contains-get_or spans middle d l) (test_in_span p span (record { from = h.0; below = h.1 })) in
     sym (ap (λ (q : Option Span). option_map (λ (s : Span). s.answer) q) one)
 
-not_inside : (p : Position) (s : Span) → (InSpan p s → ⊥) → is_in_span p s ≡ false
+not_inside : (p : Position) (s : Span) → (InSpan p s → ⊥) → is_held number_spans p s ≡ false
 not_inside p s h = grind (arith, common_steps, in_span)
 
 pub found_nowhere : (spans : List Span) (p : Position) (low high : ℕ) → IsBracket spans p low high → high ≤ low → None ≡ span_answer spans p
 found_nowhere spans p low high b h =
-    let none = find_none (is_in_span p) spans
+    let none = find_none (is_held number_spans p) spans
     (λ k d l.
     not_inside p (get_or spans k d)
     (λ i.

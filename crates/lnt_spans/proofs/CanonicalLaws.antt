@@ -1,88 +1,105 @@
 -- Canonical lists.
-use Rattle.std.proofs.Common.{◌≡◌, ◌∙◌, List, [], ◌∷◌, inl, inr, refl, sym, Some, arith}
-use Rattle.lnt_spans.specs.Positions.{IsBelow, Position}
-use Rattle.lnt_spans.specs.Spans.{AreInOrder, DifferWhereTheyTouch, IsCanonical, span_answer, Answer, Span}
-use Rattle.lnt_spans.specs.Laws.{OneCanonical, AgreeEverywhere}
+use Rattle.std.proofs.Common.{◌≡◌, List, [], ◌∷◌, inl, inr, refl, sym, Some, arith}
+use Rattle.lnt_spans.specs.Positions.{IsBelow}
+use Rattle.lnt_spans.specs.SpanKinds.{AreCanonical, DifferWhereTheyTouch, OneCanonicalOf, SpanKind, AreSpansInOrder, answer_held}
+use Rattle.lnt_spans.specs.Spans.{number_spans}
+use Rattle.lnt_spans.specs.Laws.{OneCanonical, AnswerAlike}
 use Rattle.lnt_spans.proofs.PositionLaws.{order_cases, order_three, at_most_below, at_most_itself, below_is_at_most, same_position}
 use Rattle.lnt_spans.proofs.AnsweringLaws.{answer_in, answer_after, first_holds, rest_in_order, none_before, rest_none}
 use Rattle.std.proofs.lemmas.Grind.{common_steps}
 
-rest_differ : (s : Span) (rest : List Span) → DifferWhereTheyTouch (s ∷ rest) → DifferWhereTheyTouch rest
-rest_differ s rest h = grind (arith, common_steps)
+-- Spans that begin and end alike, with the same answer, are the same.
+abbrev pub AreSameByParts : {X Y : Type 0} → SpanKind X Y → Type 0
+AreSameByParts {X} kind = (x y : X) → kind.low x ≡ kind.low y → kind.high x ≡ kind.high y → kind.answer x ≡ kind.answer y → x ≡ y
 
--- of two lists, the one whose first span begins earlier answers where the other doesn't
-not_earlier : (x y : Span) (xs ys : List Span) → AreInOrder (x ∷ xs) → AreInOrder (y ∷ ys) → AgreeEverywhere (x ∷ xs) (y ∷ ys)
-    → IsBelow x.low y.low → ⊥
-not_earlier x y xs ys ox oy same lt =
-    let here = answer_in x xs x.low (at_most_itself x.low) (first_holds x xs ox) in
-    let none = none_before y ys x.low oy lt in
-    let e = same x.low in
-    cc
+module _ {X Y : Type 0} (kind : SpanKind X Y) where
+  rest_differ : (s : X) (rest : List X) → DifferWhereTheyTouch kind (s ∷ rest) → DifferWhereTheyTouch kind rest
+  rest_differ s [] h = tt
+  rest_differ s (t ∷ rest) h = h.1
 
-same_low : (x y : Span) (xs ys : List Span) → AreInOrder (x ∷ xs) → AreInOrder (y ∷ ys) → AgreeEverywhere (x ∷ xs) (y ∷ ys) → x.low ≡ y.low
-same_low x y xs ys ox oy same = grind (arith, common_steps, order_three, not_earlier)
-
-same_answer : (x y : Span) (xs ys : List Span) → AreInOrder (x ∷ xs) → AreInOrder (y ∷ ys) → AgreeEverywhere (x ∷ xs) (y ∷ ys)
-    → x.low ≡ y.low → x.answer ≡ y.answer
-same_answer x y xs ys ox oy same low =
-    let here = answer_in x xs x.low (at_most_itself x.low) (first_holds x xs ox) in
-    let there = answer_in y ys y.low (at_most_itself y.low) (first_holds y ys oy) in
-    let e = same x.low in
-    cc
-
--- at the end of its first span a canonical list doesn't give that span's answer
-answers_other : (x : Span) (xs : List Span) → AreInOrder (x ∷ xs) → DifferWhereTheyTouch (x ∷ xs)
-    → span_answer (x ∷ xs) x.high ≡ Some x.answer → ⊥
-answers_other x [] o d e = let none = answer_after x [] x.high (at_most_itself x.high) in cc
-answers_other x (t ∷ rest) o d e = elim (order_cases x.high t.low) [
-  | inl gap ↦
-      let past = answer_after x (t ∷ rest) x.high (at_most_itself x.high) in
-      let none = none_before t rest x.high o.2 gap in
+  -- of two lists, the one whose first span begins earlier answers where the other doesn't
+  not_earlier : (x y : X) (xs ys : List X) → AreSpansInOrder kind (x ∷ xs) → AreSpansInOrder kind (y ∷ ys)
+      → AnswerAlike (answer_held kind (x ∷ xs)) (answer_held kind (y ∷ ys)) → IsBelow (kind.low x) (kind.low y) → ⊥
+  not_earlier x y xs ys ox oy same lt =
+      let here = answer_in kind x xs (kind.low x) (at_most_itself (kind.low x)) (first_holds kind x xs ox) in
+      let none = none_before kind y ys (kind.low x) oy lt in
+      let e = same (kind.low x) in
       cc
-  | inr le ↦
-      let touch = same_position x.high t.low le o.1 in
-      let past = answer_after x (t ∷ rest) x.high (at_most_itself x.high) in
-      let here = answer_in t rest x.high le (at_most_below o.1 (first_holds t rest o.2)) in
-      d.0 touch (cc)
-]
 
-not_shorter : (x y : Span) (xs ys : List Span) → IsCanonical (x ∷ xs) → AreInOrder (y ∷ ys) → AgreeEverywhere (x ∷ xs) (y ∷ ys)
-    → x.low ≡ y.low → x.answer ≡ y.answer → IsBelow x.high y.high → ⊥
-not_shorter x y xs ys cx oy same low answer lt = grind (arith, common_steps, below_is_at_most, first_holds, answer_in, answers_other)
+  same_low : (x y : X) (xs ys : List X) → AreSpansInOrder kind (x ∷ xs) → AreSpansInOrder kind (y ∷ ys)
+      → AnswerAlike (answer_held kind (x ∷ xs)) (answer_held kind (y ∷ ys)) → kind.low x ≡ kind.low y
+  same_low x y xs ys ox oy same = elim (order_three (kind.low x) (kind.low y)) [
+    | inl lt ↦ absurd (not_earlier x y xs ys ox oy same lt)
+    | inr (inl e) ↦ e
+    | inr (inr gt) ↦ absurd (not_earlier y x ys xs oy ox (λ p. sym (same p)) gt)
+  ]
 
-same_high : (x y : Span) (xs ys : List Span) → IsCanonical (x ∷ xs) → IsCanonical (y ∷ ys) → AgreeEverywhere (x ∷ xs) (y ∷ ys)
-    → x.low ≡ y.low → x.answer ≡ y.answer → x.high ≡ y.high
-same_high x y xs ys cx cy same low answer = grind (arith, common_steps, order_three, not_shorter)
+  same_answer : (x y : X) (xs ys : List X) → AreSpansInOrder kind (x ∷ xs) → AreSpansInOrder kind (y ∷ ys)
+      → AnswerAlike (answer_held kind (x ∷ xs)) (answer_held kind (y ∷ ys)) → kind.low x ≡ kind.low y → kind.answer x ≡ kind.answer y
+  same_answer x y xs ys ox oy same low =
+      let here = answer_in kind x xs (kind.low x) (at_most_itself (kind.low x)) (first_holds kind x xs ox) in
+      let there = answer_in kind y ys (kind.low y) (at_most_itself (kind.low y)) (first_holds kind y ys oy) in
+      let e = same (kind.low x) in
+      cc
 
-make : Position → Position → Answer → Span
-make low high answer = record { low = low; high = high; answer = answer }
+  -- at the end of its first span a canonical list doesn't give that span's answer
+  answers_other : (x : X) (xs : List X) → AreSpansInOrder kind (x ∷ xs) → DifferWhereTheyTouch kind (x ∷ xs)
+      → answer_held kind (x ∷ xs) (kind.high x) ≡ Some (kind.answer x) → ⊥
+  answers_other x [] o d e = let none = answer_after kind x [] (kind.high x) (at_most_itself (kind.high x)) in cc
+  answers_other x (t ∷ rest) o d e = elim (order_cases (kind.high x) (kind.low t)) [
+    | inl gap ↦
+        let past = answer_after kind x (t ∷ rest) (kind.high x) (at_most_itself (kind.high x)) in
+        let none = none_before kind t rest (kind.high x) o.2 gap in
+        cc
+    | inr le ↦
+        let touch = same_position (kind.high x) (kind.low t) le o.1 in
+        let past = answer_after kind x (t ∷ rest) (kind.high x) (at_most_itself (kind.high x)) in
+        let here = answer_in kind t rest (kind.high x) le (at_most_below o.1 (first_holds kind t rest o.2)) in
+        d.0 touch (cc)
+  ]
 
-made : (s : Span) → make s.low s.high s.answer ≡ s
-unfolding make
-made s = refl
+  not_shorter : (x y : X) (xs ys : List X) → AreCanonical kind (x ∷ xs) → AreSpansInOrder kind (y ∷ ys)
+      → AnswerAlike (answer_held kind (x ∷ xs)) (answer_held kind (y ∷ ys))
+      → kind.low x ≡ kind.low y → kind.answer x ≡ kind.answer y → IsBelow (kind.high x) (kind.high y) → ⊥
+  not_shorter x y xs ys cx oy same low answer lt =
+      grind (arith, common_steps, below_is_at_most, first_holds kind, answer_in kind, answers_other)
 
-same_rest : (x y : Span) (xs ys : List Span) → AreInOrder (x ∷ xs) → AreInOrder (y ∷ ys) → AgreeEverywhere (x ∷ xs) (y ∷ ys)
-    → x.high ≡ y.high → AgreeEverywhere xs ys
-same_rest x y xs ys ox oy same high p = grind (arith, common_steps, order_cases, rest_none, answer_after)
+  same_high : (x y : X) (xs ys : List X) → AreCanonical kind (x ∷ xs) → AreCanonical kind (y ∷ ys)
+      → AnswerAlike (answer_held kind (x ∷ xs)) (answer_held kind (y ∷ ys))
+      → kind.low x ≡ kind.low y → kind.answer x ≡ kind.answer y → kind.high x ≡ kind.high y
+  same_high x y xs ys cx cy same low answer = elim (order_three (kind.high x) (kind.high y)) [
+    | inl lt ↦ absurd (not_shorter x y xs ys cx cy.in_order same low answer lt)
+    | inr (inl e) ↦ e
+    | inr (inr gt) ↦ absurd (not_shorter y x ys xs cy cx.in_order (λ p. sym (same p)) (sym low) (sym answer) gt)
+  ]
 
-pub one_list : OneCanonical
-one_list [] [] cx cy same = refl
-one_list (x ∷ xs) [] cx cy same =
-    let here = answer_in x xs x.low (at_most_itself x.low) (first_holds x xs cx.in_order) in
-    let e = same x.low in
-    cc
-one_list [] (y ∷ ys) cx cy same =
-    let there = answer_in y ys y.low (at_most_itself y.low) (first_holds y ys cy.in_order) in
-    let e = same y.low in
-    cc
-one_list (x ∷ xs) (y ∷ ys) cx cy same =
-    let low = same_low x y xs ys cx.in_order cy.in_order same in
-    let answer = same_answer x y xs ys cx.in_order cy.in_order same low in
-    let high = same_high x y xs ys cx cy same low answer in
-    let head : make x.low x.high x.answer ≡ make y.low y.high y.answer = cc in
-    let first : x ≡ y = sym (made x) ∙ head ∙ made y in
-    let tails : xs ≡ ys = one_list xs ys
-    (record { in_order = rest_in_order x xs cx.in_order; differ = rest_differ x xs cx.differ })
-    (record { in_order = rest_in_order y ys cy.in_order; differ = rest_differ y ys cy.differ })
-    (same_rest x y xs ys cx.in_order cy.in_order same high) in
-    cc
+  same_rest : (x y : X) (xs ys : List X) → AreSpansInOrder kind (x ∷ xs) → AreSpansInOrder kind (y ∷ ys)
+      → AnswerAlike (answer_held kind (x ∷ xs)) (answer_held kind (y ∷ ys)) → kind.high x ≡ kind.high y
+      → AnswerAlike (answer_held kind xs) (answer_held kind ys)
+  same_rest x y xs ys ox oy same high p = grind (arith, common_steps, order_cases, rest_none kind, answer_after kind)
+
+  pub one_list : AreSameByParts kind → OneCanonicalOf kind
+  one_list alike [] [] cx cy same = refl
+  one_list alike (x ∷ xs) [] cx cy same =
+      let here = answer_in kind x xs (kind.low x) (at_most_itself (kind.low x)) (first_holds kind x xs cx.in_order) in
+      let e = same (kind.low x) in
+      cc
+  one_list alike [] (y ∷ ys) cx cy same =
+      let there = answer_in kind y ys (kind.low y) (at_most_itself (kind.low y)) (first_holds kind y ys cy.in_order) in
+      let e = same (kind.low y) in
+      cc
+  one_list alike (x ∷ xs) (y ∷ ys) cx cy same =
+      let low = same_low x y xs ys cx.in_order cy.in_order same in
+      let answer = same_answer x y xs ys cx.in_order cy.in_order same low in
+      let high = same_high x y xs ys cx cy same low answer in
+      let first : x ≡ y = alike x y low high answer in
+      let tails : xs ≡ ys = one_list alike xs ys
+      (record { in_order = rest_in_order kind x xs cx.in_order; differ = rest_differ x xs cx.differ })
+      (record { in_order = rest_in_order kind y ys cy.in_order; differ = rest_differ y ys cy.differ })
+      (same_rest x y xs ys cx.in_order cy.in_order same high) in
+      cc
+
+-- ---- by number
+
+pub one_number_list : OneCanonical
+one_number_list = one_list number_spans (λ x y low high answer. λ i. record { low = low i; high = high i; answer = answer i })

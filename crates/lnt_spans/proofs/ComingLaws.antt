@@ -1,7 +1,7 @@
 -- Spans that a source gives one after another.
 use Rattle.std.proofs.Common.{◌≡◌, List, [], ◌∷◌, ◌++◌, Some, None, refl, append_assoc, arith, append-nil}
 use Rattle.lnt_spans.specs.declared.span.Span.{Span}
-use Rattle.lnt_spans.specs.Coming.{GivesFirstSpan}
+use Rattle.lnt_spans.specs.Remaining.{GivesFirstSpan}
 use Rattle.std.proofs.lemmas.Grind.{common_steps}
 
 -- Of the spans in the list these were given, and the rest is still to come.

@@ -3,14 +3,12 @@ use Rattle.std.proofs.Common.{◌≡◌, ◌∙◌, ℕ, zero, suc, ◌+◌, ◌
 use Rattle.std.proofs.Common.{List, [], ◌∷◌, Option, Some, None, inl, inr, refl, sym, ap, subst, arith, ⊎_elim}
 use Rattle.std.specs.List.{AllByRecursion}
 use Rattle.std.proofs.lemmas.Bool.{cases_lt}
-use Rattle.lnt_spans.specs.Coming.{GivesFirstSpan}
-use Rattle.lnt_spans.specs.Counts.{addresses_answered, addresses_between, addresses_of, count_below, is_answered}
-use Rattle.lnt_spans.specs.Counts.{CountsTo, is_between, whole}
-use Rattle.lnt_spans.specs.Fitting.{FitSpans}
-use Rattle.lnt_spans.specs.Instructions.{IsOfInstructions}
-use Rattle.lnt_spans.specs.PartialLaws.{AnswersAddresses, AnswersMore, ChangesAtInstructions}
+use Rattle.lnt_spans.specs.Remaining.{GivesFirstSpan}
+use Rattle.lnt_spans.specs.Partial.{addresses_answered, addresses_between, addresses_of, count_below, is_answered, CountsTo, is_between}
+use Rattle.lnt_spans.specs.Partial.{whole}
+use Rattle.lnt_spans.specs.Spans.{number_spans, FitSpans, IsOfInstructions, AreInOrder, span_answer, Span}
+use Rattle.lnt_spans.specs.Laws.{AnswersAddresses, AnswersMore, ChangesAtInstructions}
 use Rattle.lnt_spans.specs.Positions.{IsBelow, IsAtMost, is_below, is_at_most, Position}
-use Rattle.lnt_spans.specs.Spans.{AreInOrder, span_answer, Span}
 use Rattle.lnt_spans.proofs.AnsweringLaws.{answer_after, answer_before, answer_in, rest_in_order, rest_none}
 use Rattle.lnt_spans.proofs.PositionLaws.{order_cases, test_at_most, test_below, test_not_at_most, test_not_below}
 use Rattle.std.proofs.lemmas.Grind.{common_steps}
@@ -169,7 +167,8 @@ added_range answers more low high h =
 
 span_added : (span : Span) (rest : List Span) → AreInOrder (span ∷ rest)
     → AnswersMore (span_answer rest) (span_answer (span ∷ rest)) span.low span.high
-span_added span rest order = grind (arith, common_steps, answer_in, rest_none, answer_before, answer_after)
+span_added span rest order =
+    grind (arith, common_steps, answer_in number_spans, rest_none number_spans, answer_before number_spans, answer_after number_spans)
 
 pub addresses_of_spans : (spans : List Span) → AreInOrder spans → addresses_answered (span_answer spans) ≡ addresses_of spans
 addresses_of_spans [] order = no_addresses (span_answer []) (λ p. refl)
@@ -177,7 +176,7 @@ addresses_of_spans (span ∷ rest) order =
     omega (
       arith,
       added_range (span_answer rest) (span_answer (span ∷ rest)) span.low span.high (span_added span rest order),
-      addresses_of_spans rest (rest_in_order span rest order),
+      addresses_of_spans rest (rest_in_order number_spans span rest order),
     )
 
 -- spans whose numbers have at most 64 bits answer nothing at other addresses
@@ -186,7 +185,7 @@ fitting_spans [] fit p l = refl
 fitting_spans (span ∷ rest) fit p l =
     let past : IsAtMost span.high p =
     record { address = omega (arith, l, fit.0.high.address); op = λ e. absurd (omega (arith, l, fit.0.high.address, e)) } in
-    answer_after span rest p past ∙ fitting_spans rest fit.1 p l
+    answer_after number_spans span rest p past ∙ fitting_spans rest fit.1 p l
 
 -- the answers of spans that begin and end at operation index 0
 pub instruction_spans : (spans : List Span) → AllByRecursion IsOfInstructions spans → ChangesAtInstructions (span_answer spans)
@@ -195,17 +194,19 @@ instruction_spans (span ∷ rest) each p = elim (order_cases p span.low) [
   | inl h ↦
       let under : IsBelow (whole p.address) span.low =
       record { address = h.address; op = λ e. omega (arith, h.op e, each.0.0) } in
-      answer_before span rest p h ∙ instruction_spans rest each.1 p ∙ sym (answer_before span rest (whole p.address) under)
+      answer_before number_spans span rest p h ∙ instruction_spans rest each.1 p
+      ∙ sym (answer_before number_spans span rest (whole p.address) under)
   | inr h ↦
       let from : IsAtMost span.low (whole p.address) = record { address = h.address; op = λ e. omega (arith, each.0.0) } in
       elim (order_cases p span.high) [
         | inl k ↦
             let under : IsBelow (whole p.address) span.high =
             record { address = k.address; op = λ e. omega (arith, k.op e, each.0.1) } in
-            answer_in span rest p h k ∙ sym (answer_in span rest (whole p.address) from under)
+            answer_in number_spans span rest p h k ∙ sym (answer_in number_spans span rest (whole p.address) from under)
         | inr k ↦
             let past : IsAtMost span.high (whole p.address) = record { address = k.address; op = λ e. omega (arith, each.0.1) } in
-            answer_after span rest p k ∙ instruction_spans rest each.1 p ∙ sym (answer_after span rest (whole p.address) past)
+            answer_after number_spans span rest p k ∙ instruction_spans rest each.1 p
+            ∙ sym (answer_after number_spans span rest (whole p.address) past)
       ]
 ]
 

@@ -3,12 +3,12 @@ use Rattle.std.proofs.Common.{◌≡◌, ◌∙◌, ℕ, ◌+◌, ◌^◌, ◌�
 use Rattle.std.proofs.Common.{is_some, option_map, true≢false}
 use Rattle.std.proofs.lemmas.Option.{same_Some}
 use Rattle.lnt_spans.specs.declared.merge.Merge.{Merge}
-use Rattle.lnt_spans.specs.Ahead.{IsAhead}
+use Rattle.lnt_spans.specs.Remaining.{IsAhead}
 use Rattle.lnt_spans.specs.AnyStretches.{Stretch}
-use Rattle.lnt_spans.specs.Counts.{CountsTo, addresses_answered, addresses_between, addresses_of, is_answered, whole}
+use Rattle.lnt_spans.specs.Partial.{CountsTo, addresses_answered, addresses_between, addresses_of, is_answered, whole, IsRightWherever}
+use Rattle.lnt_spans.specs.Partial.{where_missed}
 use Rattle.lnt_spans.specs.Differences.{IsFirstDifference}
 use Rattle.lnt_spans.specs.Merged.{AreCounted, AreFound, ArePassed, HasGap, HasMerged, answer_told, until}
-use Rattle.lnt_spans.specs.Partial.{IsRightWherever, where_missed}
 use Rattle.lnt_spans.specs.Positions.{IsAtMost, Position}
 use Rattle.lnt_spans.specs.Spans.{span_answer, Answer, Span}
 use Rattle.lnt_spans.proofs.AheadLaws.{left_first}

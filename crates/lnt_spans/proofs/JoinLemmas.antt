@@ -1,7 +1,8 @@
 -- Joining a span with one that touches it and answers the same.
 use Rattle.std.proofs.Common.{append_assoc, ◌≡◌, ◌≢◌, List, [], ◌∷◌, ◌++◌, subst, None, false, arith}
 use Rattle.lnt_spans.specs.Positions.{IsBelow, Position}
-use Rattle.lnt_spans.specs.Spans.{AreInOrder, DifferWhereTheyTouch, span_answer, span_in_version, version_answer, Version, Span}
+use Rattle.lnt_spans.specs.Spans.{number_spans, AreInOrder, span_answer, span_in_version, version_answer, Version, Span}
+use Rattle.lnt_spans.specs.SpanKinds.{DifferWhereTheyTouch}
 use Rattle.lnt_spans.proofs.AnsweringLaws.{answer_in, answer_before, answer_after, answer_same, first_holds, rest_in_order}
 use Rattle.lnt_spans.proofs.PositionLaws.{order_cases, below_at_most, below_is_at_most}
 use Rattle.lnt_spans.proofs.ToldLaws.{told, told_answer, told_order}
@@ -32,15 +33,15 @@ join_order [] first next (m ∷ more) touch h = (joined_holds first next touch h
 join_order (d ∷ []) first next more touch h = (h.0, h.1, join_order [] first next more touch h.2)
 join_order (d ∷ e ∷ done) first next more touch h = (h.0, h.1, join_order (e ∷ done) first next more touch h.2)
 
-pub join_differ : (done : List Span) (first : Span) (high : Position) → DifferWhereTheyTouch (done ++ first ∷ [])
-    → DifferWhereTheyTouch (done ++ joined_span first high ∷ [])
+pub join_differ : (done : List Span) (first : Span) (high : Position) → DifferWhereTheyTouch number_spans (done ++ first ∷ [])
+    → DifferWhereTheyTouch number_spans (done ++ joined_span first high ∷ [])
 join_differ [] first high h = tt
 join_differ (d ∷ []) first high h = (h.0, tt)
 join_differ (d ∷ e ∷ done) first high h = (h.0, join_differ (e ∷ done) first high h.1)
 
-pub push_differ : (done : List Span) (first next : Span) → DifferWhereTheyTouch (done ++ first ∷ [])
+pub push_differ : (done : List Span) (first next : Span) → DifferWhereTheyTouch number_spans (done ++ first ∷ [])
     → (first.high ≡ next.low → first.answer ≢ next.answer)
-    → DifferWhereTheyTouch ((done ++ first ∷ []) ++ next ∷ [])
+    → DifferWhereTheyTouch number_spans ((done ++ first ∷ []) ++ next ∷ [])
 push_differ [] first next h k = (k, tt)
 push_differ (d ∷ []) first next h k = (h.0, (k, tt))
 push_differ (d ∷ e ∷ done) first next h k = (h.0, push_differ (e ∷ done) first next h.1 k)
@@ -49,23 +50,32 @@ answer_joined : (first next : Span) (more : List Span) (p : Position) → first.
     → IsBelow first.low first.high → IsBelow next.low next.high
     → span_answer (joined_span first next.high ∷ more) p ≡ span_answer (first ∷ next ∷ more) p
 answer_joined first next more p touch same h k =
-    grind (arith, common_steps, order_cases, below_at_most, below_is_at_most, answer_before, answer_in, answer_after)
+    grind (
+      arith,
+      common_steps,
+      order_cases,
+      below_at_most,
+      below_is_at_most,
+      answer_before number_spans,
+      answer_in number_spans,
+      answer_after number_spans,
+    )
 
 pub join_answer : (done : List Span) (first next : Span) (more : List Span) (p : Position) → first.high ≡ next.low
     → first.answer ≡ next.answer
     → AreInOrder (done ++ first ∷ next ∷ more)
     → span_answer (done ++ joined_span first next.high ∷ more) p ≡ span_answer (done ++ first ∷ next ∷ more) p
-join_answer [] first next more p touch same h = answer_joined first next more p touch same h.0 (first_holds next more h.2)
+join_answer [] first next more p touch same h = answer_joined first next more p touch same h.0 (first_holds number_spans next more h.2)
 join_answer (d ∷ done) first next more p touch same h =
-    answer_same d (done ++ joined_span first next.high ∷ more) (done ++ first ∷ next ∷ more) p
-    (join_answer done first next more p touch same (rest_in_order d (done ++ first ∷ next ∷ more) h))
+    answer_same number_spans d (done ++ joined_span first next.high ∷ more) (done ++ first ∷ next ∷ more) p
+    (join_answer done first next more p touch same (rest_in_order number_spans d (done ++ first ∷ next ∷ more) h))
 
 -- ---- the loop
 
 -- the loop's state: the spans joined so far, the span that may still grow, and the spans not looked at yet
 pub record Joining (spans done : List Span) (first : Span) (rest : List Span) : Type 0 where
   pub order : AreInOrder (done ++ first ∷ rest)
-  pub differ : DifferWhereTheyTouch (done ++ first ∷ [])
+  pub differ : DifferWhereTheyTouch number_spans (done ++ first ∷ [])
   pub same : (p : Position) → span_answer (done ++ first ∷ rest) p ≡ span_answer spans p
 
 pub keep_join : (spans done : List Span) (first next : Span) (more : List Span) → Joining spans done first (next ∷ more)

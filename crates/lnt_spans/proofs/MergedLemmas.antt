@@ -3,26 +3,24 @@ use Rattle.std.proofs.Common.{◌≡◌, ◌≢◌, ◌∙◌, ℕ, ◌+◌, ◌
 use Rattle.std.proofs.Common.{Option, arith, is_some, option_map, IfSome, MatchOption, true≢false}
 use Rattle.std.proofs.lemmas.Option.{same_Some}
 use Rattle.lnt_spans.specs.declared.merge.Merge.{Merge}
-use Rattle.lnt_spans.specs.Ahead.{IsAhead, Ahead}
+use Rattle.lnt_spans.specs.Remaining.{IsAhead, Ahead}
 use Rattle.lnt_spans.specs.AnyStretches.{Stretch}
-use Rattle.lnt_spans.specs.Counts.{addresses_answered, addresses_between}
+use Rattle.lnt_spans.specs.Partial.{addresses_answered, addresses_between, IsRightAt, where_missed, where_none}
 use Rattle.lnt_spans.specs.Differences.{IsFirstDifference}
 use Rattle.lnt_spans.specs.Merged.{AnswersNothing, AreCounted, AreMergedBy, ArePassed, BeginFrom, HasGap, HasMerged}
 use Rattle.lnt_spans.specs.Merged.{HasOneMore, IsMistakenIn, Says, answer_told, until}
-use Rattle.lnt_spans.specs.Partial.{IsRightAt, where_missed, where_none}
 use Rattle.lnt_spans.specs.Positions.{IsBelow, IsAtMost, Position}
-use Rattle.lnt_spans.specs.Spans.{AreInOrder, span_answer, Answer, Span}
+use Rattle.lnt_spans.specs.Spans.{number_spans, AreInOrder, span_answer, Answer, Span}
 use Rattle.lnt_spans.proofs.AheadLaws.{left_first}
 use Rattle.lnt_spans.proofs.AnsweringLaws.{answer_after, answer_in, first_holds, none_before, rest_in_order}
 use Rattle.lnt_spans.proofs.CountLemmas.{added_range, most_addresses, no_addresses, same_addresses}
-use Rattle.lnt_spans.proofs.PassedLaws.{origin_first}
-use Rattle.lnt_spans.proofs.PositionLaws.{at_most_below, at_most_itself, at_most_trans, below_at_most, below_is_at_most}
+use Rattle.lnt_spans.proofs.PositionLaws.{at_most_below, at_most_itself, at_most_trans, below_at_most, below_is_at_most, origin_first}
 use Rattle.lnt_spans.proofs.PositionLaws.{order_cases, test_below, test_not_below}
 use Rattle.std.proofs.lemmas.Grind.{common_steps}
 
 -- before the first span there is no answer
 pub none_from : (rest : List Span) (p at : Position) → AreInOrder rest → BeginFrom at rest → IsBelow p at → span_answer rest p ≡ None
-none_from rest p at o f h = grind (arith, common_steps, none_before, below_at_most)
+none_from rest p at o f h = grind (arith, common_steps, none_before number_spans, below_at_most)
 
 after_first : (span : Span) (more : List Span) → AreInOrder (span ∷ more) → BeginFrom span.high more
 after_first span more o = grind (arith, common_steps)
@@ -74,10 +72,11 @@ passed_span tell list by_table at AreLeft AreLeft' span more passed e le h left 
     record {
       rest = more;
       left = left;
-      order = rest_in_order span more order;
+      order = rest_in_order number_spans span more order;
       from = after_first span more order;
       right = right_more tell list by_table at span.high AreLeft passed h;
-      same = λ p k. passed.same p (at_most_trans le k) ∙ ap (λ (xs : List Span). span_answer xs p) e ∙ answer_after span more p k;
+      same = λ p k. passed.same p (at_most_trans le k) ∙ ap (λ (xs : List Span). span_answer xs p) e
+          ∙ answer_after number_spans span more p k;
     }
 
 -- it is passed up to a position in it
@@ -103,9 +102,9 @@ passed_part tell list by_table at end AreLeft AreLeft' span more passed e le fro
 
     same : (p : Position) → IsAtMost end p → span_answer (span ∷ more) p ≡ span_answer (record span { low = end } ∷ more) p
     same p k = elim (order_cases p span.high) [
-      | inl under ↦ answer_in span more p (at_most_trans from k) under
-          ∙ sym (answer_in (record span { low = end }) more p k under)
-      | inr over ↦ answer_after span more p over ∙ sym (answer_after (record span { low = end }) more p over)
+      | inl under ↦ answer_in number_spans span more p (at_most_trans from k) under
+          ∙ sym (answer_in number_spans (record span { low = end }) more p k under)
+      | inr over ↦ answer_after number_spans span more p over ∙ sym (answer_after number_spans (record span { low = end }) more p over)
     ]
 
 -- ---- one record of the table
@@ -127,7 +126,7 @@ pub mistaken_gap : {S X : Type 0} (to_come : S → List Span → Type 0) (tell :
     → mistake ≡ (record { position = at; by_section = None; by_table = Some said })
     → ArePassed tell list by_table at (IsAhead to_come ahead) → IsMistakenIn tell list by_table low high mistake
 mistaken_gap {S} to_come tell list by_table ahead low high at said mistake gap le lt says e passed =
-    grind (arith, common_steps, mistaken_at, none_before)
+    grind (arith, common_steps, mistaken_at, none_before number_spans)
 
 -- the next span answers differently
 pub mistaken_other : {S X : Type 0} (to_come : S → List Span → Type 0) (tell : Answer → X) (list : List Span)
@@ -136,7 +135,7 @@ pub mistaken_other : {S X : Type 0} (to_come : S → List Span → Type 0) (tell
     → Says by_table low high said → mistake ≡ (record { position = at; by_section = Some (tell span.answer); by_table = Some said })
     → ArePassed tell list by_table at (IsAhead to_come ahead) → IsMistakenIn tell list by_table low high mistake
 mistaken_other to_come tell list by_table ahead low high at said span mistake is begun ne le lt says e passed =
-    grind (arith, common_steps, left_first, mistaken_at, answer_in, at_most_below, first_holds, same_Some)
+    grind (arith, common_steps, left_first, mistaken_at, answer_in number_spans, at_most_below, first_holds number_spans, same_Some)
 
 -- up to `end` the table says what the next span answers
 says_so : {X : Type 0} (tell : Answer → X) (list : List Span) (by_table : Position → Option X) (low at end high : Position) (said : X)
@@ -144,7 +143,7 @@ says_so : {X : Type 0} (tell : Answer → X) (list : List Span) (by_table : Posi
     → passed.rest ≡ span ∷ more → tell span.answer ≡ said → IsAtMost span.low at → IsAtMost end span.high → IsAtMost low at
     → IsAtMost end high → Says by_table low high said → IsRightUpTo tell list by_table at end
 says_so tell list by_table low at end high said AreLeft span more passed e same from within le ge says p h k =
-    grind (arith, common_steps, at_most_trans, below_at_most, answer_in)
+    grind (arith, common_steps, at_most_trans, below_at_most, answer_in number_spans)
 
 -- the next span answers alike, and ends beyond the record
 pub passed_within : {S X : Type 0} (to_come : S → List Span → Type 0) (tell : Answer → X) (list : List Span)
@@ -173,7 +172,7 @@ passed_whole to_come tell list by_table old new low high at said span is begun s
     let order : AreInOrder (span ∷ one.0) = subst AreInOrder one.1 passed.order in
     let begins : IsAtMost at span.low = subst (BeginFrom at) one.1 passed.from in
     passed_span tell list by_table at (IsAhead to_come old) (IsAhead to_come new) span one.0 passed one.1
-    (at_most_trans begins (below_is_at_most (first_holds span one.0 order)))
+    (at_most_trans begins (below_is_at_most (first_holds number_spans span one.0 order)))
     (says_so tell list by_table low at span.high high said (IsAhead to_come old) span one.0 passed one.1 same begun
     (at_most_itself span.high) le over says)
     (passes span one.0 (subst (IsAhead to_come old) one.1 passed.left))
@@ -183,7 +182,7 @@ pub low_after : {S X : Type 0} (to_come : S → List Span → Type 0) (tell : An
     (ahead : Ahead S) (low at : Position) (span : Span) → ahead.next ≡ Some span → IsAtMost low at
     → ArePassed tell list by_table at (IsAhead to_come ahead) → IsAtMost low span.high
 low_after to_come tell list by_table ahead low at span is le passed =
-    grind (arith, common_steps, left_first, at_most_trans, below_is_at_most, first_holds)
+    grind (arith, common_steps, left_first, at_most_trans, below_is_at_most, first_holds number_spans)
 
 -- ---- the addresses at which the table doesn't answer
 
@@ -224,7 +223,7 @@ missed_span {X} tell list by_table at end AreLeft span more passed e holds withi
     added_range (until at missed) (until end missed) span.low end (record {
       added = λ p h k. ap is_some (until_below end p missed k ∙ missed_here by_table section p (nothing p (at_most_trans begins h) k)
           ∙ ap (option_map tell) (passed.same p (at_most_trans begins h) ∙ ap (λ (xs : List Span). span_answer xs p) e
-          ∙ answer_in span more p h (below_at_most k within)));
+          ∙ answer_in number_spans span more p h (below_at_most k within)));
       unanswered = λ p h k. until_from at p missed (at_most_trans begins h);
       below = λ p h. ap is_some (elim (order_cases p at) [
         | inl early ↦ until_below end p missed (below_at_most h (below_is_at_most holds)) ∙ sym (until_below at p missed early)
@@ -309,7 +308,7 @@ pub counted_span : {S X : Type 0} (to_come : S → List Span → Type 0) (tell :
 counted_span to_come tell list by_table ahead next at end old new span is within passes nothing adds now =
     let one = left_first to_come ahead now.passed.rest span is now.passed.left in
     let order : AreInOrder (span ∷ one.0) = subst AreInOrder one.1 now.passed.order in
-    let holds : IsBelow span.low span.high = first_holds span one.0 order in
+    let holds : IsBelow span.low span.high = first_holds number_spans span one.0 order in
     let begins : IsAtMost at span.low = subst (BeginFrom at) one.1 now.passed.from in
     let le : IsAtMost at span.high = at_most_trans begins (below_is_at_most holds) in
     let none : AnswersNothing by_table at span.high = λ p h k. nothing p h (below_at_most k within) in (
@@ -345,7 +344,7 @@ gap_begins to_come tell list by_table ahead at span first is nothing e passed no
     let from : BeginFrom span.low passed.rest = subst (BeginFrom span.low) (sym one.1) (at_most_itself span.low) in
     rw e (record {
       section = sym (ap (option_map tell) (passed.same span.low begins ∙ ap (λ (xs : List Span). span_answer xs span.low) one.1
-          ∙ answer_in span one.0 span.low (at_most_itself span.low) (first_holds span one.0 order)));
+          ∙ answer_in number_spans span one.0 span.low (at_most_itself span.low) (first_holds number_spans span one.0 order)));
       table = sym (nothing span.low begins (at_most_itself span.low));
       differ = λ e. cc e;
       least = λ p h. elim (order_cases p at) [

@@ -5,12 +5,10 @@ use Rattle.std.specs.List.{AllByRecursion}
 use Rattle.std.proofs.lemmas.Bool.{cases_lt, false≢true}
 use Rattle.lnt_spans.specs.declared.answer.Answer.{Answer}
 use Rattle.lnt_spans.specs.AnyStretches.{AreAllStretches, AreAnswers, BeginsStretch, IsInOne, Stretch, Position}
-use Rattle.lnt_spans.specs.Counts.{addresses_answered, is_answered, whole}
-use Rattle.lnt_spans.specs.Differences.{IsLeastDifference}
-use Rattle.lnt_spans.specs.Partial.{AreAllMistakes, AreCounts, IsFirstMistake, IsRightWherever, where_answered}
-use Rattle.lnt_spans.specs.Partial.{where_missed, where_none, where_some}
-use Rattle.lnt_spans.specs.PartialLaws.{AnswerAlike, AnswersAddresses, ChangesAtInstructions}
-use Rattle.lnt_spans.specs.Stretches.{stretch_of, Difference}
+use Rattle.lnt_spans.specs.Partial.{addresses_answered, is_answered, whole, AreAllMistakes, AreCounts, IsFirstMistake, IsRightWherever}
+use Rattle.lnt_spans.specs.Partial.{where_answered, where_missed, where_none, where_some}
+use Rattle.lnt_spans.specs.Differences.{IsLeastDifference, stretch_of, Difference}
+use Rattle.lnt_spans.specs.Laws.{AnswerAlike, AnswersAddresses, ChangesAtInstructions}
 use Rattle.lnt_spans.proofs.CountLemmas.{count_either, no_addresses, one_if, passed_same, same_addresses}
 use Rattle.std.proofs.lemmas.Grind.{common_steps}
 

@@ -69,3 +69,6 @@ same_position p q h k = grind (arith, common_steps, make, made)
 
 pub order_three : (p q : Position) → IsBelow p q ⊎ (p ≡ q) ⊎ IsBelow q p
 order_three p q = grind (arith, common_steps, order_cases, same_position)
+
+pub origin_first : (p : Position) → IsAtMost (record { address = 0; op = 0 }) p
+origin_first p = record { address = omega arith; op = λ e. omega arith }

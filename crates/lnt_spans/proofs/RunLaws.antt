@@ -6,7 +6,7 @@ use Rattle.std.proofs.lemmas.Option.{same_Some}
 use Rattle.lnt_spans.specs.AnyStretches.{AreAnswers, Stay}
 use Rattle.lnt_spans.specs.Positions.{IsBelow, IsAtMost, Position}
 use Rattle.lnt_spans.specs.Remaining.{EndsAfter}
-use Rattle.lnt_spans.specs.Spans.{AreInOrder, span_answer, Answer, Span}
+use Rattle.lnt_spans.specs.Spans.{number_spans, AreInOrder, span_answer, Answer, Span}
 use Rattle.lnt_spans.specs.Runs.{IsBefore, IsRun, IsUpTo, run_end}
 use Rattle.lnt_spans.proofs.AnsweringLaws.{answer_after, answer_in, first_holds, none_before, rest_in_order}
 use Rattle.lnt_spans.proofs.PositionLaws.{at_most_below, at_most_itself, at_most_trans, below_at_most, below_is_at_most}
@@ -26,11 +26,11 @@ end_inside span at le = rw (test_not_below at span.low le) refl
 pub up_to_high : (span : Span) (more : List Span) (at end : Position) → AreInOrder (span ∷ more) → IsUpTo end (run_end at (Some span))
     → IsAtMost end span.high
 up_to_high span more at end o h =
-    grind (arith, common_steps, order_cases, at_most_trans, same_Some, end_gap, below_is_at_most, first_holds, end_inside)
+    grind (arith, common_steps, order_cases, at_most_trans, same_Some, end_gap, below_is_at_most, first_holds number_spans, end_inside)
 
 -- the spans after it end later
 pub after_high : (span : Span) (more : List Span) (end : Position) → AreInOrder (span ∷ more) → IsAtMost end span.high → EndsAfter end more
-after_high span more end o le = grind (arith, common_steps, at_most_below, at_most_trans, first_holds)
+after_high span more end o le = grind (arith, common_steps, at_most_below, at_most_trans, first_holds number_spans)
 
 -- the part of a run from a position in it on
 later_run : {X : Type 0} (answers : Position → Option X) (at from end : Position) (answer : Option X) → IsAtMost at from
@@ -69,11 +69,11 @@ pub span_runs : {X : Type 0} (tell : Answer → X) (rest : List Span) (at : Posi
     → EndsAfter at rest → ((p : Position) → IsAtMost at p → option_map tell (span_answer rest p) ≡ answers p) → HasRuns answers at
 span_runs tell [] at answers o past same = ([], λ p h. sym (same p h))
 span_runs tell (span ∷ more) at answers o past same =
-    first_runs answers at span.low span.high (tell span.answer) (first_holds span more o) past
-    (λ p h k. sym (same p h) ∙ ap (option_map tell) (none_before span more p o k))
-    (λ p h le lt. sym (same p h) ∙ ap (option_map tell) (answer_in span more p le lt))
-    (span_runs tell more span.high answers (rest_in_order span more o) (next_after span more o)
-    (λ p h. sym (ap (option_map tell) (answer_after span more p h)) ∙ same p (at_most_trans (below_is_at_most past) h)))
+    first_runs answers at span.low span.high (tell span.answer) (first_holds number_spans span more o) past
+    (λ p h k. sym (same p h) ∙ ap (option_map tell) (none_before number_spans span more p o k))
+    (λ p h le lt. sym (same p h) ∙ ap (option_map tell) (answer_in number_spans span more p le lt))
+    (span_runs tell more span.high answers (rest_in_order number_spans span more o) (next_after span more o)
+    (λ p h. sym (ap (option_map tell) (answer_after number_spans span more p h)) ∙ same p (at_most_trans (below_is_at_most past) h)))
 
 -- ---- both sides, to the earlier of their ends
 

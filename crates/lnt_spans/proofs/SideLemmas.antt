@@ -1,10 +1,9 @@
 -- One side's answers, followed from one end of an answer to the next.
 use Rattle.std.proofs.Common.{◌≡◌, ◌∙◌, List, ◌∷◌, ap, sym, subst, Some, None, Option, arith, option_map}
-use Rattle.lnt_spans.specs.Ahead.{IsAhead, Ahead}
+use Rattle.lnt_spans.specs.Remaining.{IsAhead, Ahead, EndsAfter}
 use Rattle.lnt_spans.specs.Positions.{IsBelow, IsAtMost, Position}
-use Rattle.lnt_spans.specs.Remaining.{EndsAfter}
 use Rattle.lnt_spans.specs.Runs.{IsAheadAt, IsRun, IsSideAt, IsUpTo, run_end}
-use Rattle.lnt_spans.specs.Spans.{AreInOrder, span_answer, Answer, Span}
+use Rattle.lnt_spans.specs.Spans.{number_spans, AreInOrder, span_answer, Answer, Span}
 use Rattle.lnt_spans.proofs.AheadLaws.{left_first, none_left}
 use Rattle.lnt_spans.proofs.AnsweringLaws.{answer_after, answer_in, none_before, rest_in_order}
 use Rattle.lnt_spans.proofs.PositionLaws.{at_most_trans}
@@ -36,11 +35,11 @@ module _ {S : Type 0} (to_come : S → List Span → Type 0) (ahead : Ahead S) (
 
   -- the next span begins later
   pub gap_run : (span : Span) → ahead.next ≡ Some span → IsBelow at span.low → IsRun answers at None (Some span.low)
-  gap_run span some gap = grind (arith, common_steps, left_first, none_before)
+  gap_run span some gap = grind (arith, common_steps, left_first, none_before number_spans)
 
   -- the next span holds the position
   pub span_run : (span : Span) → ahead.next ≡ Some span → IsAtMost span.low at → IsRun answers at (Some span.answer) (Some span.high)
-  span_run span some low = grind (arith, common_steps, left_first, answer_in, at_most_trans)
+  span_run span some low = grind (arith, common_steps, left_first, answer_in number_spans, at_most_trans)
 
   ends_later : (to : Position) (rest : List Span) → IsAhead to_come ahead rest
       → ((span : Span) → ahead.next ≡ Some span → IsBelow to span.high) → EndsAfter to rest
@@ -62,8 +61,8 @@ module _ {S : Type 0} (to_come : S → List Span → Type 0) (ahead : Ahead S) (
       record {
         rest = one.0;
         coming = passes span one.0 (subst (IsAhead to_come ahead) one.1 h.coming);
-        order = rest_in_order span one.0 order;
+        order = rest_in_order number_spans span one.0 order;
         past = after_high span one.0 to order (up_to_high span one.0 at to order up_to);
-        same = λ p k. sym (answer_after span one.0 p (at_most_trans high k))
+        same = λ p k. sym (answer_after number_spans span one.0 p (at_most_trans high k))
             ∙ ap (λ (xs : List Span). span_answer xs p) (sym one.1) ∙ h.same p (at_most_trans le k);
       }

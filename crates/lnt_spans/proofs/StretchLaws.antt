@@ -4,13 +4,11 @@ use Rattle.std.proofs.lemmas.List.{map-append}
 use Rattle.lnt_spans.specs.declared.ahead.Ahead.{Ahead}
 use Rattle.lnt_spans.specs.declared.stretches.Differences.{Differences}
 use Rattle.lnt_spans.specs.Answers.{in_version}
-use Rattle.lnt_spans.specs.AnyStretches.{AreAllStretches, Stretch, stretch_at, Position}
-use Rattle.lnt_spans.specs.Differing.{HasTold}
+use Rattle.lnt_spans.specs.AnyStretches.{AreAllStretches, Stretch, stretch_at, Position, AreToldBelow}
+use Rattle.lnt_spans.specs.Stretching.{HasTold, HasGiven, Stretches}
 use Rattle.lnt_spans.specs.Runs.{IsAheadAt, IsSideAt}
 use Rattle.lnt_spans.specs.Spans.{span_answer, Answer, Span}
-use Rattle.lnt_spans.specs.Stretches.{AreStretches, stretch_of, stretches_of, Difference}
-use Rattle.lnt_spans.specs.Stretching.{HasGiven, Stretches}
-use Rattle.lnt_spans.specs.ToldStretches.{AreToldBelow}
+use Rattle.lnt_spans.specs.Differences.{AreStretches, stretch_of, stretches_of, Difference}
 use Rattle.lnt_spans.proofs.RunLaws.{AreDecided, GoesOn, HasRuns, all_told, span_runs}
 use Rattle.lnt_spans.proofs.SameLaws.{same_answers, same_options}
 use Rattle.lnt_spans.proofs.StretchLemmas.{same_option}

@@ -2,21 +2,17 @@
 use Rattle.std.proofs.Common.{◌≡◌, ◌∙◌, ℕ, ◌+◌, ◌^◌, ◌≤◌, Bool, true, false, cond, List, [], ◌∷◌, ◌++◌, ◌⊎◌, inl, inr, arith, is_some, ap}
 use Rattle.std.proofs.Common.{sym, subst, Some, None, Option, option_map}
 use Rattle.std.specs.List.{AllByRecursion}
-use Rattle.lnt_spans.specs.Ahead.{IsAhead, Ahead}
+use Rattle.lnt_spans.specs.Remaining.{IsAhead, Ahead}
 use Rattle.lnt_spans.specs.Answers.{in_version}
-use Rattle.lnt_spans.specs.AnyStretches.{AreAllStretches, AreRising, IsInOne, Stretch, stretch_at}
-use Rattle.lnt_spans.specs.Comparing.{IsTold, end_of}
-use Rattle.lnt_spans.specs.Counts.{addresses_answered}
-use Rattle.lnt_spans.specs.Differing.{HasTold}
+use Rattle.lnt_spans.specs.AnyStretches.{AreAllStretches, AreRising, IsInOne, Stretch, stretch_at, AreToldBelow}
+use Rattle.lnt_spans.specs.Spans.{number_spans, IsTold, end_of, AreInOrder, span_answer, version_answer, Answer, Version, Span}
+use Rattle.lnt_spans.specs.Partial.{addresses_answered, where_missed}
+use Rattle.lnt_spans.specs.Stretching.{HasTold, HasBegun, HasGiven, Stretches}
 use Rattle.lnt_spans.specs.Laws.{FirstStretch}
 use Rattle.lnt_spans.specs.Merged.{until}
-use Rattle.lnt_spans.specs.Partial.{where_missed}
 use Rattle.lnt_spans.specs.Positions.{IsBelow, IsAtMost, Position}
 use Rattle.lnt_spans.specs.Runs.{IsAheadAt, IsRun, IsSideAt, IsUpTo}
-use Rattle.lnt_spans.specs.Spans.{AreInOrder, span_answer, version_answer, Answer, Version, Span}
 use Rattle.lnt_spans.specs.Stepping.{IsKnown, missed_between}
-use Rattle.lnt_spans.specs.Stretching.{HasBegun, HasGiven, Stretches}
-use Rattle.lnt_spans.specs.ToldStretches.{AreToldBelow}
 use Rattle.lnt_spans.proofs.AnsweringLaws.{back_in_order}
 use Rattle.lnt_spans.proofs.CountLemmas.{added_range, most_addresses, no_addresses, same_addresses}
 use Rattle.lnt_spans.proofs.MergedLemmas.{missed_here, missed_said, missed_same, missed_unanswered, until_below, until_from}
@@ -116,7 +112,7 @@ begins_at to_come tell ahead passed spans answers coming order same = record {
   valued = record {
     rest = spans;
     coming = coming;
-    order = back_in_order passed spans order;
+    order = back_in_order number_spans passed spans order;
     past = ends_after passed spans order;
     same = λ p h. sym (answer_from passed spans p order h);
   };

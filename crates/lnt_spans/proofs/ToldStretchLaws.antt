@@ -2,9 +2,9 @@
 -- next.
 use Rattle.std.proofs.Common.{◌≡◌, ◌≢◌, ◌∙◌, List, [], ◌∷◌, ◌++◌, ◌⊎◌, inl, inr, sym, None, Option, arith}
 use Rattle.std.specs.List.{AllByRecursion}
-use Rattle.lnt_spans.specs.AnyStretches.{AreAllStretches, AreRising, BeginsStretch, IsInOne, IsInStretch, Stay, Stretch}
+use Rattle.lnt_spans.specs.AnyStretches.{AreAllStretches, AreRising, BeginsStretch, IsInOne, IsInStretch, Stay, Stretch, AreToldBelow}
+use Rattle.lnt_spans.specs.AnyStretches.{IsOpen}
 use Rattle.lnt_spans.specs.Positions.{IsBelow, IsAtMost, Position}
-use Rattle.lnt_spans.specs.ToldStretches.{AreToldBelow, IsOpen}
 use Rattle.lnt_spans.proofs.PositionLaws.{at_most_itself, at_most_trans, below_at_most, below_is_at_most, order_cases}
 use Rattle.lnt_spans.proofs.RunLaws.{Moves, last_answers, stay_on}
 use Rattle.std.proofs.lemmas.Grind.{common_steps}

@@ -4,11 +4,10 @@ use Rattle.std.specs.Prelude.{◌≡◌, ℕ, cond, List, [], ◌∷◌, MatchOp
 use Rattle.std.specs.Option.{option_map, option_or}
 use Rattle.lnt_spans.specs.declared.found.Found.{Found}
 use Rattle.lnt_spans.specs.declared.merge.Merge.{Merge}
-use Rattle.lnt_spans.specs.Ahead.{IsAhead}
+use Rattle.lnt_spans.specs.Remaining.{IsAhead}
 use Rattle.lnt_spans.specs.AnyStretches.{Stretch}
-use Rattle.lnt_spans.specs.Counts.{addresses_answered}
+use Rattle.lnt_spans.specs.Partial.{addresses_answered, IsFirstMistake, IsRightAt, IsRightWherever, where_missed}
 use Rattle.lnt_spans.specs.Differences.{IsFirstDifference}
-use Rattle.lnt_spans.specs.Partial.{IsFirstMistake, IsRightAt, IsRightWherever, where_missed}
 use Rattle.lnt_spans.specs.Positions.{IsBelow, IsAtMost, is_below, Position}
 use Rattle.lnt_spans.specs.Spans.{AreInOrder, span_answer, Answer, Span}
 

@@ -2,9 +2,8 @@
 use Rattle.std.specs.Prelude.{◌≡◌, ℕ, ◌+◌, cond, List, Option, Some, None, option_map}
 pub use Rattle.lnt_spans.specs.declared.answer.Answer.{Answer}
 pub use Rattle.lnt_spans.specs.declared.span.Span.{Span}
-use Rattle.lnt_spans.specs.Ahead.{count_ahead, gap_before, IsAhead, Ahead}
+use Rattle.lnt_spans.specs.Remaining.{count_ahead, gap_before, IsAhead, Ahead, EndsAfter}
 use Rattle.lnt_spans.specs.Positions.{IsBelow, IsAtMost, is_below, Position}
-use Rattle.lnt_spans.specs.Remaining.{EndsAfter}
 use Rattle.lnt_spans.specs.Spans.{AreInOrder, span_answer}
 
 -- ---- one run

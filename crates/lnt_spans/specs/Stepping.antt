@@ -1,14 +1,25 @@
 -- What the bodies of this crate say of one step. No public contract speaks of it.
-use Rattle.std.specs.Prelude.{◌≡◌, ◌≢◌, ◌⊎◌, ℕ, ◌<◌, ◌≤◌, Bool, ◌&&◌, cond, is_some, is_none, List, [], ◌∷◌, ◌++◌, Option, Some, None}
-use Rattle.std.specs.Prelude.{MatchBool, option_map}
+use Rattle.std.specs.Prelude.{ℕ, ◌<◌, ◌≤◌, List, get_or, length, ◌≡◌, ◌≢◌, ◌⊎◌, Bool, ◌&&◌, cond, is_some, is_none, [], ◌∷◌, ◌++◌, Option}
+use Rattle.std.specs.Prelude.{Some, None, MatchBool, option_map}
+use Rattle.lnt_spans.specs.Positions.{IsBelow, IsAtMost, Position}
 use Rattle.lnt_spans.specs.declared.any_stretches.Step.{Step}
 use Rattle.lnt_spans.specs.declared.runs.Run.{Run}
 use Rattle.lnt_spans.specs.AnyStretches.{AreAllStretches, Stretch, stretch_at}
-use Rattle.lnt_spans.specs.Counts.{addresses_answered, addresses_between}
-use Rattle.lnt_spans.specs.Partial.{where_missed}
-use Rattle.lnt_spans.specs.Positions.{IsAtMost, Position}
+use Rattle.lnt_spans.specs.Partial.{addresses_answered, addresses_between, where_missed}
 use Rattle.lnt_spans.specs.Runs.{IsBefore, IsUpTo, runs_left, Answer, Span}
 use Rattle.lnt_spans.specs.Stretching.{HasGiven, Stretches}
+
+-- ---- the state of a bisection over spans in order: which spans may still hold the position. Bodies here
+-- and in lnt_ffi bisect so, and no public contract speaks of it.
+
+-- The spans at indices below `low` end at or before p, and those from `high` on begin above it.
+pub record IsBracket (spans : List Span) (p : Position) (low high : ℕ) : Type 0 where
+  pub upto : low ≤ high
+  pub within : high ≤ length spans
+  pub before : (k : ℕ) (d : Span) → k < low → IsAtMost (get_or spans k d).high p
+  pub past : (k : ℕ) (d : Span) → high ≤ k → k < length spans → IsBelow p (get_or spans k d).low
+
+-- ---- runs
 
 -- Within this run of a side, which began at `from`: the side still stands there, and up to the run's end it answers as the run does.
 pub record IsInRun {N A V : Type 0} (is_at : N → Position → (Position → Option V) → Type 0) (value_of : A → V) (run : Run A)

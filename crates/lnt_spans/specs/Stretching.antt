@@ -2,13 +2,14 @@
 -- `Stretches`.
 use Rattle.std.specs.Prelude.{◌≡◌, ℕ, ◌+◌, List, Option, None, option_map}
 pub use Rattle.lnt_spans.specs.declared.any_stretches.Stretches.{Stretches}
-use Rattle.lnt_spans.specs.Ahead.{IsAhead}
-use Rattle.lnt_spans.specs.AnyStretches.{Stretch, Position}
-use Rattle.lnt_spans.specs.Counts.{addresses_answered}
+use Rattle.lnt_spans.specs.Remaining.{IsAhead}
+use Rattle.lnt_spans.specs.AnyStretches.{Stretch, Position, AreToldBelow}
+use Rattle.lnt_spans.specs.Partial.{addresses_answered, where_missed}
 use Rattle.lnt_spans.specs.Merged.{until}
-use Rattle.lnt_spans.specs.Partial.{where_missed}
 use Rattle.lnt_spans.specs.Runs.{IsAheadAt, IsSideAt, runs_left, Answer, Span}
-use Rattle.lnt_spans.specs.ToldStretches.{AreToldBelow}
+use Rattle.lnt_spans.specs.declared.stretches.Differences.{Differences}
+use Rattle.lnt_spans.specs.Answers.{in_version}
+use Rattle.lnt_spans.specs.Differences.{stretches_of, Difference}
 
 -- These stretches were given, both sides answer so from there on, and below, the section answers at as many addresses at which the
 -- table doesn't as were counted.
@@ -36,3 +37,20 @@ pub record HasBegun {S N A : Type 0} (to_come : S → List Span → Type 0) (sec
 abbrev pub stretches_to_give : {S N A : Type 0} → (S → ℕ) → (N → Position → ℕ) → Stretches S N A → ℕ
 stretches_to_give left runs stretches =
     runs_left stretches.at stretches.section.next (left stretches.section.spans) + runs stretches.table stretches.at
+
+-- ---- how far the stretches of a section and a table by number were given: what contracts see of `Differences`
+
+-- These stretches were given, and the sources have the spans from there on still to come.
+abbrev pub HasTold : {S T : Type 0} → (S → List Span → Type 0) → (T → List Span → Type 0) → Differences S T → (Position → Option Answer)
+    → (Position → Option Answer) → List Difference → Type 0
+HasTold of_section of_table differences by_section by_table told = HasGiven of_section (IsAheadAt of_table) (λ answer. answer)
+    (in_version differences.version) (λ answer. answer) differences.stretches by_section by_table (stretches_of told)
+
+-- an upper bound on the stretches that are left to give, if the two functions bound the spans that are left in the sources
+abbrev pub stretches_left : {S T : Type 0} → (S → ℕ) → (T → ℕ) → Differences S T → ℕ
+stretches_left of_section of_table differences =
+    stretches_to_give of_section (λ ahead at. runs_left at ahead.next (of_table ahead.spans)) differences.stretches
+
+-- the number of addresses, among those that were compared, at which the section answers and the table doesn't
+abbrev pub missed_by : {S T : Type 0} → Differences S T → ℕ
+missed_by differences = differences.stretches.missed

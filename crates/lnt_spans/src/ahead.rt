@@ -1,7 +1,7 @@
 //! Looks one span ahead in a source of spans.
 ghost use Rattle.std.specs.Prelude.{List, ◌∷◌, ◌<◌, IsSome};
 ghost use Rattle.lnt_spans.specs.declared.span.Span as spec;
-ghost use Rattle.lnt_spans.specs.Ahead.{IsAhead, count_ahead};
+ghost use Rattle.lnt_spans.specs.Remaining.{IsAhead, count_ahead};
 
 use crate::source::SpanSource;
 use crate::span::Span;

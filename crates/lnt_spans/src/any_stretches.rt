@@ -3,8 +3,7 @@ ghost use Rattle.std.specs.Prelude.{◌≡◌, ◌≢◌, ◌⊎◌, ◌+◌, �
 ghost use Rattle.std.specs.Prelude.{OnOk, MatchBool, option_map};
 ghost use Rattle.lnt_spans.specs.declared.position.Position as spec_position;
 ghost use Rattle.lnt_spans.specs.AnyStretches.{AreAllStretches, Stretch};
-ghost use Rattle.lnt_spans.specs.Counts.{addresses_answered};
-ghost use Rattle.lnt_spans.specs.Partial.{where_missed};
+ghost use Rattle.lnt_spans.specs.Partial.{addresses_answered, where_missed};
 ghost use Rattle.lnt_spans.specs.Runs.{IsBefore, IsUpTo};
 ghost use Rattle.lnt_spans.specs.Stepping.{HasFewerOrEnds, HasGivenIn, IsInRun, IsKnown, StretchStep, missed_between};
 ghost use Rattle.lnt_spans.specs.Stretching.{HasBegun, HasGiven, stretches_to_give};

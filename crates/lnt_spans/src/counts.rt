@@ -1,7 +1,7 @@
 //! How many addresses answer: those of ranges of positions, added up.
 ghost use Rattle.std.specs.Prelude.{◌≡◌, ℕ, ◌+◌, ◌^◌, ◌<◌, ◌≤◌, List};
 ghost use Rattle.lnt_spans.specs.declared.span.Span as spec;
-ghost use Rattle.lnt_spans.specs.Counts.{CountsTo, addresses_answered, addresses_between, whole};
+ghost use Rattle.lnt_spans.specs.Partial.{CountsTo, addresses_answered, addresses_between, whole};
 ghost use Rattle.lnt_spans.specs.Positions.{IsAtMost, IsBelow};
 ghost use Rattle.lnt_spans.specs.Spans.{AreInOrder, span_answer};
 

@@ -9,7 +9,7 @@ pub fn borders()
 {}
 
 /// Two canonical lists of spans that answer alike at every position are the same list.
-#[tactic(auto, using(crate::proofs::CanonicalLaws::one_list))]
+#[tactic(auto, using(crate::proofs::CanonicalLaws::one_number_list))]
 pub fn one_canonical()
     ensures { OneCanonical }
 {}

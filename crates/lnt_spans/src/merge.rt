@@ -3,7 +3,7 @@ ghost use Rattle.std.specs.Prelude.{◌≡◌, List, Option, IfOk, IfSome, Match
 ghost use Rattle.lnt_spans.specs.declared.answer.Answer.{Answer as SpecAnswer};
 ghost use Rattle.lnt_spans.specs.declared.position.Position as spec_position;
 ghost use Rattle.lnt_spans.specs.declared.span.Span as spec;
-ghost use Rattle.lnt_spans.specs.Ahead.{IsAhead};
+ghost use Rattle.lnt_spans.specs.Remaining.{IsAhead};
 ghost use Rattle.lnt_spans.specs.Merged.{AnswersNothing, AreCounted, AreFound, ArePassed, HasGap, HasMerged, HasOneMore, IsMistakenIn};
 ghost use Rattle.lnt_spans.specs.Merged.{Says, answer_told, end_of_records};
 ghost use Rattle.lnt_spans.specs.Positions.{IsAtMost, IsBelow};

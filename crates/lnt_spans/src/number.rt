@@ -2,7 +2,7 @@
 ghost use Rattle.std.specs.Prelude.{◌≡◌, ◌≢◌, IfOk, OnOk, MatchBool, option_map};
 ghost use Rattle.lnt_spans.specs.AnyStretches.{stretch_at};
 ghost use Rattle.lnt_spans.specs.Answers.{in_version};
-ghost use Rattle.lnt_spans.specs.Stretches.{stretch_of};
+ghost use Rattle.lnt_spans.specs.Differences.{stretch_of};
 
 use crate::answer::{Answer, Version};
 use crate::difference::Difference;
@@ -13,7 +13,7 @@ impl Telling for Version {
     ghost use Rattle.std.specs.Prelude.{◌≡◌};
     ghost use Rattle.lnt_spans.specs.declared.answer.Answer.{Answer as SpecAnswer};
     ghost use Rattle.lnt_spans.specs.Answers.{in_version};
-    ghost use Rattle.lnt_spans.specs.Stretches.{stretch_of};
+    ghost use Rattle.lnt_spans.specs.Differences.{stretch_of};
 
     type Said = Answer;
 

@@ -1,8 +1,8 @@
 //! Laws of tables that answer a part of the positions, and of counts of addresses, for any type of answers. Each is the contract of
 //! a function that takes nothing and does nothing.
-ghost use Rattle.lnt_spans.specs.PartialLaws.{RightAsAnswered, FirstMistake, AllMistakes, MistakesAmong};
-ghost use Rattle.lnt_spans.specs.PartialLaws.{MostAddresses, SameAddresses, AddedRange, AddressesOfSpans};
-ghost use Rattle.lnt_spans.specs.PartialLaws.{AnsweredAndMissed, WholeTable, TableAddresses, AllAnswered, EmptyTable, FittingSpans, InstructionSpans};
+ghost use Rattle.lnt_spans.specs.Laws.{RightAsAnswered, FirstMistake, AllMistakes, MistakesAmong, MostAddresses, SameAddresses, AddedRange};
+ghost use Rattle.lnt_spans.specs.Laws.{AddressesOfSpans, AnsweredAndMissed, WholeTable, TableAddresses, AllAnswered, EmptyTable};
+ghost use Rattle.lnt_spans.specs.Laws.{FittingSpans, InstructionSpans};
 
 /// A table is right wherever it answers exactly if it answers at every position as the section does at those positions at which the
 /// table answers, and not at all elsewhere.

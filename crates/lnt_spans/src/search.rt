@@ -1,7 +1,7 @@
 //! Looks up the answer at a position, by bisection.
 ghost use Rattle.std.specs.Prelude.{◌≡◌, ◌+◌, ◌^◌, ◌<◌, ◌≤◌, ℕ, length};
 ghost use Rattle.lnt_spans.specs.Spans.{AreInOrder, span_answer};
-ghost use Rattle.lnt_spans.specs.Sides.{IsSide};
+ghost use Rattle.lnt_spans.specs.Positions.{IsSide};
 
 use crate::answer::Answer;
 use crate::position::Position;

@@ -1,7 +1,7 @@
 //! Sources that give spans one after another.
 ghost use Rattle.std.specs.Prelude.{◌≡◌, ℕ, ◌<◌, List, length, IfOk, IfSome};
 ghost use Rattle.lnt_spans.specs.declared.span.Span as spec;
-ghost use Rattle.lnt_spans.specs.Coming.{GivesFirstSpan};
+ghost use Rattle.lnt_spans.specs.Remaining.{GivesFirstSpan};
 
 use crate::span::Span;
 use std::alloc::{AllocError, Global};

@@ -5,12 +5,10 @@ ghost use Rattle.lnt_spans.specs.declared.answer.Answer as spec_answer;
 ghost use Rattle.lnt_spans.specs.declared.difference.Difference as spec_difference;
 ghost use Rattle.lnt_spans.specs.declared.position.Position as spec_position;
 ghost use Rattle.lnt_spans.specs.declared.span.Span as spec;
-ghost use Rattle.lnt_spans.specs.Comparing.{IsTold, end_of};
-ghost use Rattle.lnt_spans.specs.Differing.{HasTold, missed_by, stretches_left};
-ghost use Rattle.lnt_spans.specs.Counts.{addresses_answered};
-ghost use Rattle.lnt_spans.specs.Partial.{where_missed};
-ghost use Rattle.lnt_spans.specs.Spans.{AreInOrder, span_answer, version_answer};
-ghost use Rattle.lnt_spans.specs.Stretches.{AreStretches};
+ghost use Rattle.lnt_spans.specs.Spans.{IsTold, end_of, AreInOrder, span_answer, version_answer};
+ghost use Rattle.lnt_spans.specs.Stretching.{HasTold, missed_by, stretches_left};
+ghost use Rattle.lnt_spans.specs.Partial.{addresses_answered, where_missed};
+ghost use Rattle.lnt_spans.specs.Differences.{AreStretches};
 
 use crate::ahead::Ahead;
 use crate::answer::{Answer, Version};

@@ -25,8 +25,7 @@ use Rattle.lnt_lines.specs.Laws.{GoodHasNoFlaw}
 use Rattle.lnt_table.specs.Verdicts.{Checked, verdict_of, Verdict}
 use Rattle.lnt_table.specs.declared.kinds.OfKind.TheVariants.{Numbered, ByPath}
 use Rattle.lnt_table.specs.AnyVersion.{IsTrueCheck}
-use Rattle.lnt_table.specs.ByPath.{answer_by_path}
-use Rattle.lnt_table.specs.Headline.{told_rows}
+use Rattle.lnt_table.specs.Headline.{answer_by_path, told_rows}
 use Rattle.lnt_table.specs.Laws.{OneNumbered, OneVerdict, OwnTableByPath}
 use Rattle.lnt_table.proofs.OneVerdictLemmas.{Kind, kind_of}
 use Rattle.lnt_table.proofs.OneVerdictLemmas.Kind.{bad, compared}

@@ -5,7 +5,7 @@ use Rattle.lnt_spans.specs.declared.difference.Difference.{Difference}
 use Rattle.lnt_spans.specs.declared.position.Position.{Position}
 use Rattle.lnt_spans.specs.declared.span.Span.{Span}
 use Rattle.lnt_spans.specs.Answers.{in_version}
-use Rattle.lnt_spans.specs.Counts.{addresses_answered}
+use Rattle.lnt_spans.specs.Partial.{addresses_answered}
 use Rattle.lnt_spans.specs.Spans.{span_answer, version_answer}
 use Rattle.lnt_spans.proofs.CountLemmas.{same_addresses}
 use Rattle.lnt_sequences.specs.Sequences.{line_answer, Selection}
@@ -14,7 +14,7 @@ use Rattle.lnt_compare.specs.declared.outcome.Compared.{Compared}
 use Rattle.lnt_compare.specs.declared.outcome.Compared.TheVariants.{Same, Fault, Differs}
 use Rattle.lnt_lines.specs.declared.no.No.{No as SectionNo}
 use Rattle.lnt_lines.specs.declared.options.Options.{Options}
-use Rattle.lnt_lines.specs.Drafts.{IsIndexOfSection}
+use Rattle.lnt_lines.specs.Judging.{IsIndexOfSection}
 use Rattle.lnt_lines.specs.Indexed.{Indexed}
 use Rattle.lnt_table.specs.declared.verdict.TableNo.TheVariants as no
 use Rattle.lnt_table.specs.declared.verdict.Verdict.TheVariants.{No}

@@ -1,4 +1,5 @@
 -- What a comparison of a table of any version with a good section says of the two.
+use Rattle.lnt_spans.specs.SpanKinds.{answer_held}
 use Rattle.std.proofs.Common.{◌≡◌, ◌≢◌, ◌-◌, ◌++◌, ℕ, List, [], Option, Some, None, IfSome, arith, inl, inr, refl, subst, MatchOption}
 use Rattle.std.proofs.lemmas.Option.{IfSome_then}
 use Rattle.lnt_spans.specs.declared.difference.Difference.{Difference}
@@ -6,14 +7,13 @@ use Rattle.lnt_spans.specs.declared.found.Found.{Found as FoundSpec}
 use Rattle.lnt_spans.specs.declared.position.Position.{Position}
 use Rattle.lnt_spans.specs.declared.span.Span.{Span}
 use Rattle.lnt_spans.specs.Answers.{in_version}
-use Rattle.lnt_spans.specs.Counts.{addresses_answered}
+use Rattle.lnt_spans.specs.Partial.{addresses_answered, AreCounts, IsFirstMistake, IsRightWherever, where_missed}
 use Rattle.lnt_spans.specs.Merged.{missed_of, unless}
-use Rattle.lnt_spans.specs.Partial.{AreCounts, IsFirstMistake, IsRightWherever, where_missed}
 use Rattle.lnt_spans.specs.Spans.{span_answer}
 use Rattle.lnt_spans.proofs.PartialLemmas.{answered_and_missed}
 use Rattle.lnt_sequences.specs.Sequences.{line_answer, Selection}
 use Rattle.lnt_records.specs.declared.fault.TableFault.TheVariants as fault
-use Rattle.lnt_compare.specs.Outcomes.{IsOutcome, IsOutcomeOf, Outcome, compared_of, part_of, whole_of}
+use Rattle.lnt_compare.specs.Outcomes.{IsOutcome, IsOutcomeOf, Outcome, compared_of, part_of, whole_of, IsPathOutcome, tables_by_path}
 use Rattle.lnt_compare.specs.declared.outcome.TableRead.TheVariants.{Fault, Table}
 use Rattle.lnt_compare.specs.Comparisons.{TableKind, in_versions, tables_by_number}
 use Rattle.lnt_records.specs.Faults.{IsUnnumbered}
@@ -28,13 +28,12 @@ use Rattle.lnt_compare.proofs.ComparedLaws.{compared_whole, outcome_so}
 use Rattle.lnt_compare.proofs.StreamLaws.{line_taken, not_header}
 use Rattle.lnt_compare.specs.declared.by_path.answer.DifferenceByPath.{DifferenceByPath}
 use Rattle.lnt_records.specs.declared.by_path.version.PathVersion.{PathVersion}
-use Rattle.lnt_records.specs.PathAnswers.{path_answer, spans_by_path}
-use Rattle.lnt_compare.specs.PathOutcomes.{IsPathOutcome, tables_by_path}
+use Rattle.lnt_records.specs.PathSpans.{path_answer, spans_by_path}
 use Rattle.lnt_records.specs.PathTables.{path_column_names}
 use Rattle.lnt_records.proofs.PathLineLaws.{header_begins}
 use Rattle.lnt_lines.specs.declared.no.No.{No as SectionNo}
 use Rattle.lnt_lines.specs.declared.options.Options.{Options}
-use Rattle.lnt_lines.specs.Drafts.{IsIndexOfSection}
+use Rattle.lnt_lines.specs.Judging.{IsIndexOfSection}
 use Rattle.lnt_lines.specs.Good.{selected}
 use Rattle.lnt_lines.specs.Indexed.{Indexed, IsIndexOf, OfUnits}
 use Rattle.lnt_table.specs.Verdicts.{Checked, verdict_of}
@@ -48,10 +47,9 @@ use Rattle.lnt_table.specs.declared.within.CheckedWithin.TheVariants.{Checked as
 use Rattle.lnt_table.specs.declared.within.Coverage.{Coverage}
 use Rattle.lnt_table.specs.declared.within.Scope.{Scope}
 use Rattle.lnt_table.specs.declared.within.Scope.TheVariants.{All, Answered}
-use Rattle.lnt_table.specs.AnyVersion.{IsTrueCheck, IsTrueCheckOfSection, told_paths}
-use Rattle.lnt_table.specs.ByPath.{indexed_path, path_at, told_path}
-use Rattle.lnt_table.specs.Headline.{told_rows}
-use Rattle.lnt_table.specs.Within.{coverage_but, IsMistakenOf, IsOfScope, IsRightOf, IsTrueOfSectionWithin, IsTrueWithin}
+use Rattle.lnt_table.specs.AnyVersion.{IsTrueCheck, IsTrueCheckOfSection, told_paths, coverage_but, IsMistakenOf, IsOfScope, IsRightOf}
+use Rattle.lnt_table.specs.AnyVersion.{IsTrueOfSectionWithin, IsTrueWithin}
+use Rattle.lnt_table.specs.Headline.{indexed_path, path_at, told_path, told_rows}
 use Rattle.lnt_table.proofs.AnyLawLemmas.{names_differ}
 use Rattle.lnt_table.proofs.CheckLemmas.{compared_told, none_of_section, section_told, told_addresses, told_so}
 use Rattle.lnt_table.proofs.UnitPathLemmas.{told_by_units}
@@ -171,8 +169,8 @@ part_found : {V X Y D : Type 0} (kind : TableKind V X Y D) (section : V → Posi
 part_found {V} {X} {Y} {D} kind section table found all checked IsSo addresses right mistaken h = by_mistake found.mistake refl
   where
     Mistakes : Option D → Type 0
-    Mistakes mistake = MatchOption mistake (IsRightWherever (kind.answers h.table) (section h.version))
-        (λ mistake. IsFirstMistake (kind.answers h.table) (section h.version) (kind.stretch mistake))
+    Mistakes mistake = MatchOption mistake (IsRightWherever (answer_held kind.spans h.table) (section h.version))
+        (λ mistake. IsFirstMistake (answer_held kind.spans h.table) (section h.version) (kind.stretch mistake))
 
     by_mistake : (mistake : Option D) → found.mistake ≡ mistake → IsSo (covered_or (unless mistake found.missed) all (checked mistake))
     by_mistake None e = right (record { answered = all - found.missed; all = all }) (record {
@@ -181,7 +179,7 @@ part_found {V} {X} {Y} {D} kind section table found all checked IsSo addresses r
       is_table = h.is_table;
       so = (
         subst Mistakes e h.so.mistake,
-        counts_of (kind.answers h.table) (section h.version) all found.missed (addresses h.version) (h.so.missed e),
+        counts_of (answer_held kind.spans h.table) (section h.version) all found.missed (addresses h.version) (h.so.missed e),
       );
     })
     by_mistake (Some mistake) e =

@@ -5,15 +5,13 @@ use Rattle.std.specs.List.{AllByRecursion}
 use Rattle.lnt_compare.specs.declared.by_path.write.PathTable.{PathTable}
 use Rattle.lnt_compare.specs.declared.by_path.write.PathTable.TheVariants.{OperationIndex, Written}
 use Rattle.lnt_records.specs.declared.by_path.version.PathVersion.{PathVersion}
-use Rattle.lnt_compare.specs.Borders.{IsPathSpanOfInstructions, IsLeastOperation}
-use Rattle.lnt_records.specs.PathAnswers.{PathAnswer, spans_by_path}
-use Rattle.lnt_records.specs.PathSpans.{AreCanonicalOf, PathSpan}
+use Rattle.lnt_compare.specs.PathStretches.{IsPathSpanOfInstructions, IsLeastOperation}
+use Rattle.lnt_records.specs.PathSpans.{PathAnswer, spans_by_path, AreCanonicalOf, PathSpan}
 use Rattle.lnt_compare.specs.Canonical.{BeginsPathTable, HasBecome, IsCanonicalPathTable}
 use Rattle.lnt_compare.proofs.PathWrittenLaws.{no_operation_or_least, whole_or_none}
 use Rattle.lnt_spans.specs.declared.position.Position.{Position}
 use Rattle.lnt_spans.specs.declared.span.Span.{Span}
-use Rattle.lnt_spans.specs.Fitting.{FitSpans}
-use Rattle.lnt_spans.specs.Spans.{AreInOrder}
+use Rattle.lnt_spans.specs.Spans.{FitSpans, AreInOrder}
 use Rattle.lnt_table.specs.Written.{BeginsPaths, BeginsTableByPath}
 
 canonical_so : (f g : Position → Option PathAnswer) (spans : List PathSpan) → ((p : Position) → f p ≡ g p) → AreCanonicalOf f spans

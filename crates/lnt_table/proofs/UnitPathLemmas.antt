@@ -15,9 +15,9 @@ use Rattle.lnt_spans.specs.declared.span.Span.{Span}
 use Rattle.lnt_spans.specs.Spans.{span_answer}
 use Rattle.lnt_sequences.specs.Sequences.{line_answer, Selection}
 use Rattle.lnt_records.specs.declared.by_path.version.PathVersion.{PathVersion}
-use Rattle.lnt_records.specs.PathAnswers.{path_answer, spans_by_path}
+use Rattle.lnt_records.specs.PathSpans.{path_answer, spans_by_path}
 use Rattle.lnt_lines.specs.Indexed.{header_in, Indexed, IsIndexOf}
-use Rattle.lnt_table.specs.ByPath.{header_at, indexed_path, path_at, told_path}
+use Rattle.lnt_table.specs.Headline.{header_at, indexed_path, path_at, told_path}
 
 abbrev header_of : Option KeptProgram → Option HeaderParts
 header_of found = option_map (λ (kept : KeptProgram). kept.header) found

@@ -1,5 +1,9 @@
 -- The lines that say whether a table answers as a section does, as their types print them.
-use Rattle.std.specs.Prelude.{ℕ, List, ◌++◌, codes, decimal}
+use Rattle.std.specs.Prelude.{ℕ, List, [], ◌++◌, Option, None, Some, codes, decimal}
+use Rattle.lnt_records.specs.PathSpans.{PathAnswer}
+use Rattle.lnt_spans.specs.AnyStretches.{Stretch}
+use Rattle.lnt_spans.specs.declared.position.Position.{Position}
+use Rattle.lnt_text.specs.Texts.{quoted_text, position_text, difference_text}
 use Rattle.lnt_table.specs.declared.verdict.TableNo.{TableNo}
 use Rattle.lnt_table.specs.declared.verdict.TableNo.TheVariants as no
 use Rattle.lnt_table.specs.declared.verdict.Verdict.TheVariants.{Yes, No}
@@ -7,7 +11,6 @@ use Rattle.lnt_table.specs.Verdicts.{Checked, no_of_fault, Verdict}
 use Rattle.lnt_table.specs.declared.kinds.OfKind.TheVariants.{Numbered, ByPath}
 use Rattle.lnt_table.specs.declared.within.CheckedWithin.{CheckedWithin}
 use Rattle.lnt_table.specs.declared.within.CheckedWithin.TheVariants.{Checked as Told, Covered}
-use Rattle.lnt_table.specs.PathTexts.{path_stretch_text}
 use Rattle.lnt_lines.specs.FaultTexts.{no_text}
 use Rattle.lnt_records.specs.FaultTexts.{table_fault_text}
 use Rattle.lnt_records.specs.declared.fault.TableFault.TheVariants as fault
@@ -15,7 +18,30 @@ use Rattle.lnt_compare.specs.declared.outcome.Compared.{Compared}
 use Rattle.lnt_compare.specs.declared.outcome.Compared.TheVariants.{Same, Fault, Differs}
 use Rattle.lnt_compare.specs.declared.by_path.answer.DifferenceByPath.{DifferenceByPath}
 use Rattle.lnt_compare.specs.PathStretches.{stretch_of}
-use Rattle.lnt_text.specs.Texts.{difference_text}
+
+-- ---- the lines that are printed for tables by path, as their types print them
+
+-- a comma and the column of an answer, if the version has columns; otherwise nothing
+abbrev pub column_text : Option ℕ → List ℕ
+column_text None = []
+column_text (Some column) = codes "," ++ decimal column
+
+-- an answer by path, as the fields of a table's record after the positions, with the path always in quotes; or none
+abbrev pub path_answer_text : Option PathAnswer → List ℕ
+path_answer_text None = codes "none"
+path_answer_text (Some answer) = quoted_text answer.path ++ (codes "," ++ (decimal answer.line ++ column_text answer.column))
+
+-- the first position of a stretch, with both answers
+abbrev pub path_stretch_text : Stretch PathAnswer → List ℕ
+path_stretch_text stretch =
+    codes "no 40 differs at " ++ (position_text stretch.position ++ (codes " table " ++
+    (path_answer_text stretch.by_table ++ (codes " section " ++ path_answer_text stretch.by_section))))
+
+-- the line with number 43: a span begins or ends at this position, whose operation index isn't 0
+abbrev pub operation_text : Position → List ℕ
+operation_text position = codes "no 43 operation index at " ++ position_text position
+
+-- ---- the lines of answers
 
 -- why a table doesn't answer as the section does
 abbrev pub table_no_text : TableNo → List ℕ

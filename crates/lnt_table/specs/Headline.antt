@@ -1,7 +1,7 @@
 -- What verdicts say of a section (DWARF 5, section 6.2) and an address table.
 --     line, general    the bytes of .debug_line_str and of .debug_str
 --     section, table   the bytes of .debug_line, and those of the address table
-use Rattle.std.specs.Prelude.{◌≡◌, ℕ, List, Option, option_map}
+use Rattle.std.specs.Prelude.{◌≡◌, ℕ, List, Option, option_map, ◌==◌, find, option_and_then}
 use Rattle.lnt_header.specs.declared.unit_parts.UnitParts.{UnitParts}
 use Rattle.lnt_spans.specs.declared.answer.Answer.{Answer}
 use Rattle.lnt_spans.specs.declared.answer.Version.{Version}
@@ -22,6 +22,11 @@ use Rattle.lnt_table.specs.declared.verdict.TableNo.{TableNo}
 use Rattle.lnt_table.specs.declared.verdict.TableNo.TheVariants as no
 use Rattle.lnt_table.specs.declared.verdict.Verdict.{Verdict}
 use Rattle.lnt_table.specs.declared.verdict.Verdict.TheVariants.{Yes, No}
+use Rattle.lnt_header.specs.declared.header.HeaderParts.{HeaderParts}
+use Rattle.lnt_files.specs.Paths.{path_bytes, path_or_empty}
+use Rattle.lnt_lines.specs.Indexed.{Indexed, file_path_in}
+use Rattle.lnt_records.specs.declared.by_path.version.PathVersion.{PathVersion}
+use Rattle.lnt_records.specs.PathSpans.{PathAnswer, path_answer}
 
 -- the answer of a section's rows at a position, in the fields of this version of the address table
 abbrev pub told_answer : Version → Selection → Position → Option Answer
@@ -76,3 +81,28 @@ IsGoodSection line general options section = (units : List (ℕ × UnitParts)) �
 abbrev pub IsTrueOfSection : List ℕ → List ℕ → Options → List ℕ → Verdict → Type 0
 IsTrueOfSection line general options section (No (no.Section reason)) = IsTrueNo line general options section reason
 IsTrueOfSection line general options section other = IsGoodSection line general options section
+
+-- ---- the answers of a section by path
+--     line, general   the bytes of .debug_line_str and of .debug_str
+
+-- the header of the unit at an offset in the section, if one stands there
+abbrev pub header_at : List (ℕ × UnitParts) → ℕ → Option HeaderParts
+header_at units offset = option_map (λ unit. unit.1.header) (find (λ unit. unit.0 == offset) units)
+
+-- the full path of a file of a unit (DWARF 5, section 6.2.4.1)
+abbrev pub path_at : List ℕ → List ℕ → List (ℕ × UnitParts) → ℕ → ℕ → List ℕ
+path_at line general units unit file =
+    path_or_empty (option_and_then (λ header. path_bytes line general header file) (header_at units unit))
+
+-- the answer of the units' rows at a position, by path, in the fields of this version
+abbrev pub answer_by_path : PathVersion → List ℕ → List ℕ → Selection → Position → Option PathAnswer
+answer_by_path version line general selection p =
+    option_map (path_answer version (path_at line general selection.units)) (line_answer selection p)
+
+-- the full path of a file of a unit, as an index of the units gives it
+abbrev pub indexed_path : Indexed → ℕ → ℕ → List ℕ
+indexed_path index unit file = path_or_empty (file_path_in index unit file)
+
+-- the answers of the units of an index
+abbrev pub told_path : PathVersion → Indexed → Selection → Position → Option PathAnswer
+told_path version index = answer_by_path version index.line index.general

@@ -4,12 +4,11 @@ use Rattle.lnt_spans.specs.declared.difference.Difference.{Difference}
 use Rattle.lnt_spans.specs.Merged.{missed_of}
 use Rattle.lnt_sequences.specs.Sequences.{line_answer, Selection}
 use Rattle.lnt_records.specs.declared.fault.TableFault.TheVariants as fault
-use Rattle.lnt_compare.specs.Outcomes.{IsOutcomeOf, Outcome, part_of, whole_of}
+use Rattle.lnt_compare.specs.Outcomes.{IsOutcomeOf, Outcome, part_of, whole_of, tables_by_path}
 use Rattle.lnt_compare.specs.declared.outcome.TableRead.TheVariants.{Fault, Table}
 use Rattle.lnt_compare.specs.Comparisons.{in_versions, tables_by_number}
 use Rattle.lnt_records.specs.Faults.{IsUnnumbered}
 use Rattle.lnt_compare.specs.declared.by_path.answer.DifferenceByPath.{DifferenceByPath}
-use Rattle.lnt_compare.specs.PathOutcomes.{tables_by_path}
 use Rattle.lnt_lines.specs.Indexed.{Indexed}
 use Rattle.lnt_table.specs.Verdicts.{Checked, verdict_of}
 use Rattle.lnt_table.specs.declared.kinds.OfKind.TheVariants.{Numbered, ByPath}
@@ -19,8 +18,8 @@ use Rattle.lnt_table.specs.declared.within.CheckedWithin.{CheckedWithin}
 use Rattle.lnt_table.specs.declared.within.CheckedWithin.TheVariants.{Checked as Told, Covered}
 use Rattle.lnt_table.specs.declared.within.Scope.{Scope}
 use Rattle.lnt_table.specs.declared.within.Scope.TheVariants.{All, Answered}
-use Rattle.lnt_table.specs.ByPath.{told_path}
-use Rattle.lnt_table.specs.Within.{coverage_but}
+use Rattle.lnt_table.specs.Headline.{told_path}
+use Rattle.lnt_table.specs.AnyVersion.{coverage_but}
 
 -- what the comparison of a table of either kind comes to
 abbrev pub Judged : Type 0

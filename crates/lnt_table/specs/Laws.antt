@@ -6,20 +6,19 @@ use Rattle.lnt_spans.specs.declared.position.Position.{Position}
 use Rattle.lnt_sequences.specs.Sequences.{Selection}
 use Rattle.lnt_lines.specs.declared.options.Options.{Options}
 use Rattle.lnt_lines.specs.Contents.{Contents}
-use Rattle.lnt_lines.specs.Drafts.{AreLinesOf}
+use Rattle.lnt_lines.specs.Judging.{AreLinesOf}
 use Rattle.lnt_lines.specs.Good.{IsGood, selected}
 use Rattle.lnt_compare.specs.declared.outcome.Compared.TheVariants.{Same}
 use Rattle.lnt_compare.specs.Comparisons.{stretch_told}
 use Rattle.lnt_records.specs.declared.by_path.version.PathVersion.{PathVersion}
-use Rattle.lnt_records.specs.PathAnswers.{PathAnswer}
+use Rattle.lnt_records.specs.PathSpans.{PathAnswer}
 use Rattle.lnt_compare.specs.PathStretches.{stretch_of}
 use Rattle.lnt_compare.specs.Canonical.{IsCanonicalPathTable}
 use Rattle.lnt_table.specs.Verdicts.{Checked, Verdict}
 use Rattle.lnt_table.specs.declared.kinds.OfKind.TheVariants.{Numbered, ByPath}
 use Rattle.lnt_table.specs.AnyVersion.{IsTrueCheck}
-use Rattle.lnt_table.specs.ByPath.{answer_by_path}
+use Rattle.lnt_table.specs.Headline.{answer_by_path, AnswersRight, IsTrueVerdict}
 use Rattle.lnt_table.specs.declared.verdict.Verdict.TheVariants.{Yes}
-use Rattle.lnt_table.specs.Headline.{AnswersRight, IsTrueVerdict}
 use Rattle.lnt_table.specs.Written.{IsTableOfLines, IsTableOfUnits}
 
 -- For a good section, and a table that answers as it does, Yes is the only true verdict.

@@ -1,13 +1,10 @@
 pub mod AnyVersion
-pub mod ByPath
 pub mod FaultTexts
 pub mod Headline
 pub mod Judged
 pub mod Laws
-pub mod PathTexts
 pub mod Stretches
 pub mod Verdicts
-pub mod Within
 pub mod Written
 -- what public clauses say of sources
 pub use Rattle.lnt_io.specs.FaultTexts as SourceTexts
@@ -21,12 +18,12 @@ pub use Rattle.lnt_compare.specs.Canonical
 pub use Rattle.lnt_compare.specs.Comparisons
 pub use Rattle.lnt_compare.specs.Differing
 pub use Rattle.lnt_compare.specs.Held
-pub use Rattle.lnt_compare.specs.PathOutcomes
+pub use Rattle.lnt_compare.specs.Outcomes
 pub use Rattle.lnt_compare.specs.PathStretches
-pub use Rattle.lnt_compare.specs.Stretching
+pub use Rattle.lnt_compare.specs.Differing
 pub use Rattle.lnt_records.specs.FaultTexts as TableTexts
 pub use Rattle.lnt_records.specs.Faults
-pub use Rattle.lnt_records.specs.PathAnswers
+pub use Rattle.lnt_records.specs.PathSpans
 pub use Rattle.lnt_records.specs.PathLines
 pub use Rattle.lnt_records.specs.PathSpans
 pub use Rattle.lnt_records.specs.Table

@@ -9,7 +9,7 @@ use Rattle.lnt_sequences.specs.Sequences.{Selection}
 use Rattle.lnt_records.specs.Written.{IsWrittenTable}
 use Rattle.lnt_compare.specs.declared.by_path.write.PathTable.TheVariants.{OperationIndex}
 use Rattle.lnt_records.specs.declared.by_path.version.PathVersion.{PathVersion}
-use Rattle.lnt_records.specs.PathAnswers.{PathAnswer}
+use Rattle.lnt_records.specs.PathSpans.{PathAnswer}
 use Rattle.lnt_compare.specs.Canonical.{HasBecome, IsCanonicalPathTable}
 use Rattle.lnt_table.specs.Headline.{told_answer}
 

@@ -44,7 +44,7 @@ impl fmt::Display for OfKind<Verdict, Compared<DifferenceByPath>> {
 /// is one of version 3 or 4 that gives at every position the answer of the section's rows: each file's full path byte for
 /// byte, the line and, in version 3, the column (`IsTrueCheck`). If not, it returns the first fault or the least difference.
 ///
-/// Of a table by path it holds the bytes from the first line on that isn't the section's, but neither its records nor the section's
+/// Of a table by path it holds the bytes from the first line on that isn't written plainly, but neither its records nor the section's
 /// spans. Stops as `check` does.
 pub fn check_any<R: Source, T: Source>(
     alloc: Global,

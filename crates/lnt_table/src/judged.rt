@@ -66,8 +66,6 @@ pub(crate) fn judge_index<T: Source>(
     ensures failures { CountsFailure ⟦<T as Source>⟧ table.old table.new result Stop.Read }
     ensures too_long { IsTooLongOn ⟦<T as Source>⟧ table.old table.new result Stop.TooLong }
 {
-    // For the proofs: a table has no more bytes than its source may give, so their number fits.
-    let _may_give = table.left();
     let mut window = Window::of(alloc, table)?;
     if let Some(version) = pass_header(&mut window, Version::One, Version::Two) {
         let outcome = compare_lines(alloc, table, window, version, index.spans())?;

@@ -1,7 +1,7 @@
 //! The lines that are printed for tables by path: where one differs from a section, and why there can't be one.
 ghost use Rattle.std.specs.Prelude.{Some, option_map};
 ghost use Rattle.lnt_compare.specs.PathStretches.{stretch_of, told_path_answer};
-ghost use Rattle.lnt_table.specs.PathTexts.{column_text, operation_text, path_answer_text, path_stretch_text};
+ghost use Rattle.lnt_table.specs.FaultTexts.{column_text, operation_text, path_answer_text, path_stretch_text};
 
 use lnt_compare::{AnswerByPath, DifferenceByPath};
 use lnt_spans::Position;

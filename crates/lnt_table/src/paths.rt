@@ -2,7 +2,7 @@
 ghost use Rattle.std.specs.Prelude.{◌≡◌, IfOk, OnErr};
 ghost use Rattle.lnt_compare.specs.Canonical.{HasBecome};
 ghost use Rattle.lnt_lines.specs.Indexed.{OfUnits};
-ghost use Rattle.lnt_table.specs.ByPath.{indexed_path, told_path};
+ghost use Rattle.lnt_table.specs.Headline.{indexed_path, told_path};
 ghost use Rattle.lnt_table.specs.Written.{BeginsPaths};
 
 use lnt_compare::{PathTable, write_by_path, write_instructions_by_path};

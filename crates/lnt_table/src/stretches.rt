@@ -2,14 +2,12 @@
 ghost use Rattle.std.specs.Prelude.{◌-◌, ◌^◌, ◌<◌, [], map, Option, IfOk, IfSome};
 ghost use Rattle.lnt_io.specs.declared.stop.Stop.TheVariants.{Read, TooLong};
 ghost use Rattle.lnt_spans.specs.declared.position.Position.{Position};
-ghost use Rattle.lnt_compare.specs.Differing.{IsDiffering, IsStarted};
+ghost use Rattle.lnt_compare.specs.Differing.{IsDiffering, IsStarted, HasToldByPath};
 ghost use Rattle.lnt_sequences.specs.Sequences.{line_answer};
 ghost use Rattle.lnt_compare.specs.Held.{held_span};
-ghost use Rattle.lnt_records.specs.PathAnswers.{PathAnswer};
-ghost use Rattle.lnt_records.specs.PathSpans.{StandInOrder, path_span_answer};
-ghost use Rattle.lnt_compare.specs.Stretching.{HasToldByPath};
+ghost use Rattle.lnt_records.specs.PathSpans.{PathAnswer, StandInOrder, path_span_answer};
 ghost use Rattle.lnt_lines.specs.Indexed.{OfUnits};
-ghost use Rattle.lnt_table.specs.ByPath.{indexed_path, told_path};
+ghost use Rattle.lnt_table.specs.Headline.{indexed_path, told_path};
 ghost use Rattle.lnt_table.specs.Stretches.{IsAnyDiffering, IsStartedAny};
 ghost use Rattle.lnt_io.specs.Stopping.{CountsFailure, IsTooLongOn};
 
@@ -79,8 +77,6 @@ pub fn differences_any<'i, T: Source>(
     ensures failures { CountsFailure ⟦<T as Source>⟧ table.old table.new result Stop.Read }
     ensures too_long { IsTooLongOn ⟦<T as Source>⟧ table.old table.new result Stop.TooLong }
 {
-    // For the proofs: a table has no more bytes than its source may give, so their number fits.
-    let _may_give = table.left();
     let mut window = Window::of(alloc, table)?;
     if let Some(version) = pass_header(&mut window, Version::One, Version::Two) {
         let differing = differ_lines(alloc, table, window, version, index.spans())?;

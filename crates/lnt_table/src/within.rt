@@ -4,10 +4,10 @@ ghost use Rattle.lnt_lines.specs.declared.no.No.{No as SectionNo};
 ghost use Rattle.lnt_lines.specs.Indexed.{OfUnits};
 ghost use Rattle.lnt_io.specs.declared.stop.Stop.TheVariants.{Read, TooLong};
 ghost use Rattle.lnt_sequences.specs.Sequences.{line_answer};
-ghost use Rattle.lnt_spans.specs.Counts.{addresses_answered};
+ghost use Rattle.lnt_spans.specs.Partial.{addresses_answered};
 ghost use Rattle.lnt_table.specs.FaultTexts.{within_text};
 ghost use Rattle.lnt_table.specs.Judged.{within_scope};
-ghost use Rattle.lnt_table.specs.Within.{IsOfScope, IsTrueOfSectionWithin, IsTrueWithin, coverage_but, scope_in};
+ghost use Rattle.lnt_table.specs.AnyVersion.{IsOfScope, IsTrueOfSectionWithin, IsTrueWithin, coverage_but, scope_in};
 ghost use Rattle.lnt_io.specs.Stopping.{IsEitherTooLongOn, CountsFailures};
 
 use crate::by_path::Checked;

@@ -6,8 +6,7 @@ use Rattle.std.proofs.lemmas.Grind.{pow_more, common_steps}
 use Rattle.std.proofs.lemmas.List.{drop_more}
 use Rattle.std.specs.List.{AllByRecursion}
 use Rattle.lnt_text.specs.declared.radix.Radix.TheVariants.{Ten, Sixteen}
-use Rattle.lnt_text.specs.Digits.{IsAddress, IsDigit, IsHexadecimalDigit, IsNumber, radix_base, digit_value, digits_value, Radix}
-use Rattle.lnt_text.specs.Delimited.{Begins}
+use Rattle.lnt_text.specs.Digits.{IsAddress, IsDigit, IsHexadecimalDigit, IsNumber, radix_base, digit_value, digits_value, Radix, Begins}
 
 all_push : (P : ℕ → Type 0) (prefix : List ℕ) (b : ℕ) → AllByRecursion P prefix → P b → AllByRecursion P (prefix ++ b ∷ [])
 all_push P [] b h k = (k, tt)

@@ -89,3 +89,11 @@ pub record Puts (Spells : List ℕ → ℕ → Type 0) (n : ℕ) (old new : List
   pub text : List ℕ
   pub joined : new ≡ old ++ text
   pub spells : Spells text n
+
+-- ---- a text that begins with a number, up to a byte that ends it
+
+-- The text begins with a text of n, then the byte `end`, then `rest`.
+pub record Begins (Spells : List ℕ → ℕ → Type 0) (text : List ℕ) (n end : ℕ) (rest : List ℕ) : Type 0 where
+  pub prefix : List ℕ
+  pub joined : text ≡ prefix ++ end ∷ rest
+  pub spells : Spells prefix n

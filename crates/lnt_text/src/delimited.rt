@@ -1,7 +1,6 @@
 //! Parses numbers at an index of a text, up to a byte that ends them.
 ghost use Rattle.std.specs.Prelude.{◌≡◌, ◌∷◌, drop, IfSome};
-ghost use Rattle.lnt_text.specs.Digits.{IsAddress, IsDecimal, IsNumber};
-ghost use Rattle.lnt_text.specs.Delimited.{Begins};
+ghost use Rattle.lnt_text.specs.Digits.{IsAddress, IsDecimal, IsNumber, Begins};
 ghost use Rattle.lnt_text.specs.declared.radix.Radix.TheVariants.{Sixteen};
 
 use crate::radix::{decimal_value, is_hexadecimal, letter_or_digit_value};

@@ -1,6 +1,6 @@
 //! Texts between quotes.
 ghost use Rattle.std.specs.Prelude.{Some};
-ghost use Rattle.lnt_text.specs.Quotes.{quoted_byte, quoted_text};
+ghost use Rattle.lnt_text.specs.Texts.{quoted_byte, quoted_text};
 
 use std::fmt;
 

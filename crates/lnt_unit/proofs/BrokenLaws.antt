@@ -1,13 +1,11 @@
 -- Why no unit stands in a frame: the frame, its header or its operations are at fault.
 use Rattle.std.proofs.Common.{◌≡◌, ℕ, ◌+◌, ◌<◌, List, [], ◌∷◌, ◌++◌, length, refl, sym, ap, subst, ◌∙◌, append_assoc, arith, inl}
 use Rattle.std.proofs.Common.{slice_index, append-nil, length-append}
-use Rattle.lnt_wire.specs.At.{At}
-use Rattle.lnt_wire.specs.FrameBytes.{FrameBytes, version_five}
+use Rattle.lnt_wire.specs.Reading.{At, Refuses}
+use Rattle.lnt_wire.specs.FrameBytes.{FrameBytes, version_five, initial_length, LengthFits}
 use Rattle.lnt_wire.specs.FrameFaults.{InFrame, IsFrameFault}
-use Rattle.lnt_wire.specs.InitialLength.{initial_length, LengthFits}
 use Rattle.lnt_wire.proofs.LengthLaws.{length-initial}
 use Rattle.lnt_wire.specs.Numbers.{number_bytes, offset_size}
-use Rattle.lnt_wire.specs.Reading.{Refuses}
 use Rattle.lnt_wire.specs.declared.fault.Fault.{Fault}
 use Rattle.lnt_wire.specs.declared.fault.Reason.{Reason}
 use Rattle.lnt_wire.specs.declared.fault.Reason.TheVariants.{Truncated, ReservedLength, VersionNotFive}

@@ -2,17 +2,15 @@
 use Rattle.std.proofs.Common.{◌≡◌, ℕ, ◌+◌, ◌^◌, ◌<◌, List, [], ◌++◌, length, drop, sym, ap, subst, ◌∙◌, arith}
 use Rattle.std.proofs.Math.Seq.{drop-append_seam}
 use Rattle.std.proofs.lemmas.List.{length-append, append-nil, nil_from_length}
-use Rattle.lnt_wire.specs.At.{At}
+use Rattle.lnt_wire.specs.Reading.{At, Reads}
 use Rattle.lnt_wire.specs.declared.format.Order.{Order}
 use Rattle.lnt_wire.specs.declared.format.Format.{Format}
 use Rattle.lnt_wire.specs.declared.format.Format.TheVariants.{D32, D64}
 use Rattle.lnt_wire.specs.declared.frame.Frame.{Frame}
 use Rattle.lnt_wire.specs.Numbers.{number_bytes}
-use Rattle.lnt_wire.specs.InitialLength.{initial_length}
-use Rattle.lnt_wire.specs.FrameBytes.{FrameBytes, IsFrame}
-use Rattle.lnt_wire.specs.Reading.{Reads}
+use Rattle.lnt_wire.specs.FrameBytes.{initial_length, FrameBytes, IsFrame}
 use Rattle.lnt_wire.proofs.LengthLaws.{length-number_bytes}
-use Rattle.lnt_unit.specs.Sizes.{IsLeastSize}
+use Rattle.lnt_unit.specs.Spelled.{IsLeastSize}
 use Rattle.lnt_unit.specs.Units.{IsSpelled, initial_size}
 
 -- what follows an initial length

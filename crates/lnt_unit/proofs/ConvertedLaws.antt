@@ -1,7 +1,7 @@
 -- Units of a section that are converted one after another.
 use Rattle.std.proofs.Common.{◌≡◌, ℕ, ◌+◌, ◌<◌, List, [], ◌∷◌, ◌++◌, length, refl, sym, ap, subst, ◌∙◌, append_assoc, arith, append-nil}
 use Rattle.std.proofs.Common.{length-append, map}
-use Rattle.lnt_wire.specs.At.{At}
+use Rattle.lnt_wire.specs.Reading.{At}
 use Rattle.lnt_wire.specs.Bytes.{IsShortest, Appends}
 use Rattle.lnt_wire.specs.declared.format.Format.{Format}
 use Rattle.lnt_wire.specs.declared.format.Order.{Order}
@@ -11,10 +11,9 @@ use Rattle.lnt_header.specs.Joins.{Each}
 use Rattle.lnt_header.proofs.ReaderLaws.{each_push}
 use Rattle.lnt_header_bytes.proofs.TableReaders.{empty_list}
 use Rattle.lnt_unit.specs.BrokenUnits.{BrokenUnit, IsTrueFault}
-use Rattle.lnt_unit.specs.ConvertedUnits.{Converts, ConvertsUnit, IsNextStop}
+use Rattle.lnt_unit.specs.Converting.{Converts, ConvertsUnit, IsNextStop, units_in_format, IsConverted}
 use Rattle.lnt_unit.specs.ConversionSteps.{ConvertedTo}
 use Rattle.lnt_header.specs.Conversion.{unit_in_format}
-use Rattle.lnt_unit.specs.Converting.{units_in_format, IsConverted}
 use Rattle.lnt_unit.proofs.UnitLaws.{no_section, one_spelling, unit_is_some, units_push}
 use Rattle.lnt_unit.specs.UnitBytes.{UnitBytesIn, UnitsFrom, SectionBytes}
 use Rattle.lnt_unit.specs.declared.convert.ConvertFault.{ConvertFault}

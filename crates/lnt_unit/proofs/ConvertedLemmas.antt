@@ -1,9 +1,8 @@
 -- Units that are converted.
 use Rattle.std.proofs.Common.{◌≡◌, ◌≢◌, ℕ, ◌+◌, List, [], ◌++◌, sym, ap, subst, ◌∙◌, true, false, arith}
-use Rattle.lnt_wire.specs.At.{At}
+use Rattle.lnt_wire.specs.Reading.{At, Reads}
 use Rattle.lnt_wire.specs.Bytes.{Appends, IsShortest}
 use Rattle.lnt_wire.specs.FrameBytes.{frame_bytes, IsFrame}
-use Rattle.lnt_wire.specs.Reading.{Reads}
 use Rattle.lnt_wire.specs.declared.fault.Fault.{Fault}
 use Rattle.lnt_wire.specs.declared.fault.Reason.TheVariants.{Memory}
 use Rattle.lnt_wire.specs.declared.format.Format.{Format}
@@ -21,7 +20,7 @@ use Rattle.lnt_header.specs.declared.op.Op.{Op}
 use Rattle.lnt_ops.specs.OpBytes.{OpBytes}
 use Rattle.lnt_ops.specs.OpPuts.{AddsOps}
 use Rattle.lnt_unit.specs.BrokenUnits.{BrokenUnit}
-use Rattle.lnt_unit.specs.ConvertedUnits.{ConvertsUnit, IsLargeUnit, IsNextStop}
+use Rattle.lnt_unit.specs.Converting.{ConvertsUnit, IsLargeUnit, IsNextStop}
 use Rattle.lnt_unit.specs.ConversionSteps.{ConvertsBytes, IsLarge, IsToldAs, IsUnitStop, JudgesUnit}
 use Rattle.lnt_unit.specs.declared.convert.ConvertFault.{ConvertFault}
 use Rattle.lnt_unit.specs.declared.convert.ConvertFault.TheVariants as convert

@@ -1,8 +1,7 @@
 -- The program of a unit in a buffer goes to the end of the unit.
 use Rattle.std.proofs.Common.{◌≡◌, ℕ, ◌-◌, ◌≤◌, List, [], ◌∷◌, ◌++◌, length, drop, sym, ap, ◌∙◌, append_assoc, arith, length-append}
 use Rattle.std.proofs.Math.Seq.{drop-append_seam}
-use Rattle.lnt_wire.specs.FrameBytes.{version_five}
-use Rattle.lnt_wire.specs.InitialLength.{initial_length}
+use Rattle.lnt_wire.specs.FrameBytes.{version_five, initial_length}
 use Rattle.lnt_wire.specs.Numbers.{number_bytes, offset_size}
 use Rattle.lnt_header_bytes.specs.HeaderBytes.{unit_body}
 use Rattle.lnt_unit.specs.Views.{View, IsUnitView}

@@ -1,18 +1,16 @@
 -- Sections that are judged, unit by unit, whether they have a conversion.
 use Rattle.std.proofs.Common.{◌≡◌, ℕ, ◌<◌, List, [], ◌∷◌, ◌++◌, length, refl, sym, subst, append_assoc, Bool, true, false, Option, Some}
 use Rattle.std.proofs.Common.{None, arith}
-use Rattle.lnt_wire.specs.At.{At}
+use Rattle.lnt_wire.specs.Reading.{At}
 use Rattle.lnt_wire.specs.declared.fault.Fault.{Fault}
 use Rattle.lnt_wire.specs.declared.format.Format.{Format}
 use Rattle.lnt_wire.specs.declared.format.Order.{Order}
 use Rattle.lnt_unit.specs.BrokenUnits.{BrokenUnit}
-use Rattle.lnt_unit.specs.ConvertedUnits.{Converts}
+use Rattle.lnt_unit.specs.Converting.{Converts, units_in_format, IsFirstLarge, HasFirstLarge, IsConvertFault}
 use Rattle.lnt_wire.specs.Bytes.{IsShortest}
 use Rattle.lnt_header.specs.Joins.{Each}
 use Rattle.lnt_unit.specs.UnitBytes.{UnitBytesIn}
 use Rattle.lnt_unit.specs.ConversionSteps.{JudgesUnit, IsSaid, IsToldAs, first_large}
-use Rattle.lnt_unit.specs.Converting.{units_in_format}
-use Rattle.lnt_unit.specs.ConvertFaults.{IsFirstLarge, HasFirstLarge, IsConvertFault}
 use Rattle.lnt_unit.proofs.ConvertedLaws.{units_more, each_spelled, whole_converted}
 use Rattle.lnt_header_bytes.proofs.TableReaders.{empty_list}
 use Rattle.lnt_unit.specs.declared.convert.ConvertFault.{ConvertFault}

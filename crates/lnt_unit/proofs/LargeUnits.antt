@@ -7,7 +7,7 @@ use Rattle.lnt_header.specs.Joins.{Each}
 use Rattle.lnt_header_bytes.specs.Large.{HasLargeOffset, IfTooLarge, IsTooLong}
 use Rattle.lnt_ops.specs.OpBytes.{OpBytes}
 use Rattle.lnt_header.specs.declared.unit_parts.UnitParts.{UnitParts}
-use Rattle.lnt_unit.specs.TooLong.{IsTooLongUnit}
+use Rattle.lnt_unit.specs.Spelled.{IsTooLongUnit}
 use Rattle.lnt_unit.proofs.EncodeLaws.{Program}
 
 either : (unit : UnitParts) (program : List ℕ) → IsShortest (Each (OpBytes unit.header.numbers)) unit.ops program

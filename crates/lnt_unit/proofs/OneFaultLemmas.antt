@@ -3,8 +3,7 @@ use Rattle.std.proofs.Common.{◌≡◌, ℕ, ◌+◌, List, [], ◌∷◌, ◌+
 use Rattle.std.proofs.Common.{length-append}
 use Rattle.std.proofs.lemmas.Bool.{cases_eq}
 use Rattle.lnt_wire.specs.Bytes.{NoneSpelled}
-use Rattle.lnt_wire.specs.FrameBytes.{version_five}
-use Rattle.lnt_wire.specs.InitialLength.{initial_length}
+use Rattle.lnt_wire.specs.FrameBytes.{version_five, initial_length}
 use Rattle.lnt_wire.specs.Numbers.{number_bytes, offset_size}
 use Rattle.lnt_wire.specs.declared.fault.Fault.{Fault}
 use Rattle.lnt_wire.specs.declared.fault.Reason.{Reason}

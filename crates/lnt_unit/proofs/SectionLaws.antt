@@ -1,13 +1,12 @@
 -- Units one after the other.
 use Rattle.std.proofs.Common.{◌≡◌, ℕ, ◌<◌, List, [], ◌∷◌, ◌++◌, length, refl, sym, ap, subst, ◌∙◌, append_assoc, arith}
 use Rattle.std.proofs.lemmas.List.{append-nil, length-append}
-use Rattle.lnt_wire.specs.At.{At}
-use Rattle.lnt_wire.specs.Reading.{Reads}
+use Rattle.lnt_wire.specs.Reading.{At, Reads}
 use Rattle.lnt_wire.specs.declared.fault.Fault.{Fault}
 use Rattle.lnt_wire.specs.declared.format.Order.{Order}
 use Rattle.lnt_unit.specs.BrokenUnits.{BrokenUnit, IsTrueFault, BrokenSection}
 use Rattle.lnt_unit.proofs.UnitLaws.{unit_is_some, units_push, no_section}
-use Rattle.lnt_unit.specs.Stepping.{AddsUnit}
+use Rattle.lnt_unit.specs.ConversionSteps.{AddsUnit}
 use Rattle.lnt_unit.specs.UnitBytes.{UnitBytesIn, SectionBytes}
 use Rattle.lnt_header.specs.declared.unit_parts.UnitParts.{UnitParts}
 use Rattle.std.proofs.lemmas.Grind.{common_steps}

@@ -1,17 +1,16 @@
 -- How long a frame has to be that begins with some bytes.
 use Rattle.std.proofs.Common.{◌≡◌, ℕ, ◌+◌, ◌<◌, ◌≤◌, List, [], ◌++◌, length, sym, ap, ◌∙◌, append_assoc, arith, length-append}
-use Rattle.lnt_wire.specs.At.{At}
+use Rattle.lnt_wire.specs.Reading.{At, Reads}
 use Rattle.lnt_wire.specs.declared.format.Order.{Order}
 use Rattle.lnt_wire.specs.declared.format.Format.{Format}
 use Rattle.lnt_wire.specs.declared.format.Format.TheVariants.{D32, D64}
 use Rattle.lnt_wire.specs.Numbers.{NumberBytes, number_bytes}
-use Rattle.lnt_wire.specs.InitialLength.{initial_length, LengthFits}
+use Rattle.lnt_wire.specs.FrameBytes.{initial_length, LengthFits}
 use Rattle.lnt_wire.specs.FrameFaults.{IsCutFrame}
 use Rattle.lnt_wire.specs.FrameFaults.IsCutFrame.{no_length, no_wide_length, too_long}
-use Rattle.lnt_wire.specs.Reading.{Reads}
 use Rattle.lnt_wire.proofs.FrameLaws.{cut_none}
 use Rattle.lnt_wire.proofs.LengthLaws.{length-number_bytes, width_4, same_number_prefix, same_length, length-initial}
-use Rattle.lnt_unit.specs.Sizes.{IsLeastSize}
+use Rattle.lnt_unit.specs.Spelled.{IsLeastSize}
 use Rattle.std.proofs.lemmas.Grind.{common_steps}
 
 -- nothing was taken yet

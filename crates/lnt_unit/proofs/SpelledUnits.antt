@@ -1,15 +1,14 @@
 -- Units that are allowed have bytes, where their offsets and lengths fit their format.
 use Rattle.std.proofs.Common.{ℕ, List, length, arith}
 use Rattle.lnt_header_bytes.specs.HeaderBytes.{unit_body}
-use Rattle.lnt_header_bytes.specs.AllowedHeaders as header
+use Rattle.lnt_header_bytes.specs.Spelled as header
 use Rattle.lnt_header_bytes.proofs.ProgramLaws.{fits_less, length-body}
 use Rattle.lnt_header_bytes.specs.Spelled.{HasSmallOffsets}
 use Rattle.lnt_ops.specs.Laws as operations
 use Rattle.lnt_header.specs.declared.unit_parts.UnitParts.{UnitParts}
-use Rattle.lnt_unit.specs.AllowedUnits.{AllowedUnitIsSpelled}
-use Rattle.lnt_unit.specs.Spelled.{FitsUnit, UnitLengthsFit}
+use Rattle.lnt_unit.specs.Spelled.{AllowedUnitIsSpelled, FitsUnit, UnitLengthsFit}
 use Rattle.lnt_unit.specs.UnitBytes.{UnitBytes}
-use Rattle.lnt_header.specs.UnitRules.{IsUnit}
+use Rattle.lnt_header.specs.HeaderRules.{IsUnit}
 
 unit_spelled : header.AllowedHeaderIsSpelled → operations.AllowedOpsAreSpelled → (unit : UnitParts) → IsUnit unit → FitsUnit unit
     → HasSmallOffsets unit.header → UnitLengthsFit unit → (bytes : List ℕ) × UnitBytes unit bytes

@@ -3,7 +3,7 @@ use Rattle.std.proofs.Common.{ℕ, ◌+◌, ◌≤◌, List, ◌++◌, length, O
 use Rattle.lnt_wire.specs.declared.format.Order.{Order}
 use Rattle.lnt_io.specs.Pulling.{GivesMore}
 use Rattle.lnt_io.proofs.PullLaws.{pulls_none, pulls_more, more_from_start}
-use Rattle.lnt_unit.specs.Sizes.{IsLeastSize}
+use Rattle.lnt_unit.specs.Spelled.{IsLeastSize}
 use Rattle.lnt_unit.proofs.SizeLemmas.{least_nothing}
 use Rattle.std.proofs.lemmas.Grind.{common_steps}
 

@@ -12,7 +12,7 @@ use Rattle.lnt_unit.proofs.BrokenLaws.{ops_broken}
 use Rattle.lnt_unit.proofs.UnitLaws.{unit_found}
 use Rattle.lnt_unit.specs.UnitBytes.{UnitBytesIn}
 use Rattle.lnt_unit.specs.Views.{View, IsUnitView, with_ops}
-use Rattle.lnt_unit.specs.Stepping.{HasGiven}
+use Rattle.lnt_unit.specs.ConversionSteps.{HasGiven}
 
 pub given_none : (view : View) (walk : Walk) → walk.header ≡ view.header.numbers → walk.failed ≡ false → walk.at.place ≡ view.place
     → walk.at.rest ≡ view.program → walk.at.order ≡ view.header.numbers.order → HasGiven view [] walk

@@ -11,7 +11,7 @@ use Rattle.lnt_header.specs.declared.op.OpView.{OpView}
 use Rattle.lnt_ops.specs.Walks.{Walk, Ends, GivesOperation}
 use Rattle.lnt_unit.proofs.ViewLaws.{given_none, given_more, given_all}
 use Rattle.lnt_unit.specs.Views.{View, IsUnitView, HasCount}
-use Rattle.lnt_unit.specs.Stepping.{HasGiven}
+use Rattle.lnt_unit.specs.ConversionSteps.{HasGiven}
 use Rattle.std.proofs.lemmas.Grind.{common_steps}
 
 -- ---- the header

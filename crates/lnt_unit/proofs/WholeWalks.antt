@@ -20,7 +20,7 @@ use Rattle.lnt_unit.proofs.UnitLaws.{no_section}
 use Rattle.lnt_unit.proofs.ViewLaws.{given_all, given_broken, given_more, given_none}
 use Rattle.lnt_unit.specs.UnitBytes.{SectionBytes}
 use Rattle.lnt_unit.specs.Views.{View}
-use Rattle.lnt_unit.specs.Stepping.{HasGiven}
+use Rattle.lnt_unit.specs.ConversionSteps.{HasGiven}
 use Rattle.std.proofs.lemmas.Grind.{common_steps}
 
 -- ---- operations

@@ -1,18 +1,11 @@
-pub mod AllowedUnits
 pub mod BrokenUnits
 pub mod ConversionSteps
-pub mod ConvertFaults
-pub mod ConvertedUnits
 pub mod Converting
 pub mod FaultTexts
 pub mod Laws
 pub mod Readers
-pub mod Sizes
 pub mod Spelled
-pub mod Stepping
-pub mod Steps
 pub mod Stops
-pub mod TooLong
 pub mod UnitBytes
 pub mod Units
 pub mod Views
@@ -23,13 +16,13 @@ pub use Rattle.lnt_header.specs.FaultTexts as UnitFaultTexts
 pub use Rattle.lnt_header.specs.HeaderRules
 pub use Rattle.lnt_header.specs.HeaderTests
 pub use Rattle.lnt_header.specs.OpRules
-pub use Rattle.lnt_header.specs.UnitRules
-pub use Rattle.lnt_header.specs.UnitTests
+pub use Rattle.lnt_header.specs.HeaderRules
+pub use Rattle.lnt_header.specs.HeaderTests
 -- of their bytes
 pub use Rattle.lnt_header_bytes.specs.Borrowed
 pub use Rattle.lnt_header_bytes.specs.Broken
 pub use Rattle.lnt_header_bytes.specs.HeaderBytes
-pub use Rattle.lnt_header_bytes.specs.Kept
+pub use Rattle.lnt_header_bytes.specs.Stepping
 pub use Rattle.lnt_header_bytes.specs.Marks
 pub use Rattle.lnt_header_bytes.specs.Large
 pub use Rattle.lnt_ops.specs.OpBytes

@@ -3,7 +3,7 @@ ghost use Rattle.std.specs.Prelude.{◌≡◌, ◌+◌, ◌^◌, ◌<◌, length
 ghost use Rattle.lnt_wire.specs.FrameBytes.{FrameBytes, IsPlacedFrame, frame_bytes};
 ghost use Rattle.lnt_wire.specs.FrameFaults.{IsFrameFault};
 ghost use Rattle.lnt_wire.specs.Reading.{Refuses};
-ghost use Rattle.lnt_unit.specs.Sizes.{IsLeastSize};
+ghost use Rattle.lnt_unit.specs.Spelled.{IsLeastSize};
 ghost use Rattle.lnt_unit.specs.Units.{IsWholeUnit};
 
 use lnt_wire::{Cursor, Fault, Format, Frame, Order, take_frame};

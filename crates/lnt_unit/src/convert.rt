@@ -1,9 +1,7 @@
 //! Sections in another format and byte order (DWARF 5, sections 6.2.4 and 7.4).
 ghost use Rattle.std.specs.Prelude.{◌≡◌, IfOk, IfErr, OnOk, Some};
-ghost use Rattle.lnt_unit.specs.ConvertedUnits.{Converts};
+ghost use Rattle.lnt_unit.specs.Converting.{Converts, IsConverted, IsConvertFault};
 ghost use Rattle.lnt_unit.specs.ConversionSteps.{IsToldAs, first_large};
-ghost use Rattle.lnt_unit.specs.Converting.{IsConverted};
-ghost use Rattle.lnt_unit.specs.ConvertFaults.{IsConvertFault};
 ghost use Rattle.lnt_unit.specs.FaultTexts.{convert_fault_text};
 
 use crate::converting::{convert_unit, judge_unit};

@@ -4,7 +4,7 @@ ghost use Rattle.lnt_wire.specs.Bytes.{Extends};
 ghost use Rattle.lnt_wire.specs.FrameBytes.{frame_bytes, IsPlacedFrame};
 ghost use Rattle.lnt_header_bytes.specs.HeaderBytes.{HeaderBytesIn};
 ghost use Rattle.lnt_unit.specs.BrokenUnits.{BrokenUnit};
-ghost use Rattle.lnt_unit.specs.ConvertedUnits.{ConvertsUnit, IsNextStop};
+ghost use Rattle.lnt_unit.specs.Converting.{ConvertsUnit, IsNextStop};
 ghost use Rattle.lnt_unit.specs.ConversionSteps.{ConvertsBytes, IsUnitStop, JudgesUnit};
 
 use crate::convert::ConvertFault;

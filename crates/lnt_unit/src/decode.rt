@@ -3,7 +3,7 @@ ghost use Rattle.std.specs.Prelude.{◌≡◌, ◌≢◌, ◌+◌, length, IfOk,
 ghost use Rattle.lnt_wire.specs.FrameBytes.{frame_bytes, IsFrame, IsPlacedFrame};
 ghost use Rattle.lnt_wire.specs.Reading.{Reads};
 ghost use Rattle.lnt_unit.specs.BrokenUnits.{BrokenUnit, BrokenSection};
-ghost use Rattle.lnt_unit.specs.Stepping.{AddsUnit};
+ghost use Rattle.lnt_unit.specs.ConversionSteps.{AddsUnit};
 ghost use Rattle.lnt_unit.specs.UnitBytes.{UnitBytesIn, SectionBytes};
 
 use lnt_header::Unit;

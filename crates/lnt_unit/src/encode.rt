@@ -3,7 +3,7 @@ ghost use Rattle.std.specs.Prelude.{◌⊎◌, IfOk, IfErr};
 ghost use Rattle.lnt_wire.specs.Bytes.{IsShortest};
 ghost use Rattle.lnt_header.specs.Encoding.{RefusedPut};
 ghost use Rattle.lnt_header_bytes.specs.Large.{HasLargeOffset, IfTooLarge};
-ghost use Rattle.lnt_unit.specs.TooLong.{IsTooLongUnit};
+ghost use Rattle.lnt_unit.specs.Spelled.{IsTooLongUnit};
 ghost use Rattle.lnt_unit.specs.UnitBytes.{UnitBytesIn};
 
 use lnt_header::Unit;

@@ -1,5 +1,5 @@
 //! Laws of the format, each the contract of a function without parameters that does nothing.
-ghost use Rattle.lnt_unit.specs.AllowedUnits.{AllowedUnitIsSpelled};
+ghost use Rattle.lnt_unit.specs.Spelled.{AllowedUnitIsSpelled};
 ghost use Rattle.lnt_unit.specs.Laws.{FaultOfSection, OneSection, OneSpelling, OneTrueFault, WholeWalk};
 
 pub use lnt_header_bytes::laws::one_header;

@@ -38,8 +38,7 @@ pub struct SectionReader<'s, R: Source> {
 }
 
 impl<'s, R: Source> SectionReader<'s, R> {
-    ghost use Rattle.lnt_unit.specs.Readers.{source_of, loan_of, order_of, offset_of, progress_of};
-    ghost use Rattle.lnt_unit.specs.Steps.{IsStep};
+    ghost use Rattle.lnt_unit.specs.Readers.{source_of, loan_of, order_of, offset_of, progress_of, IsStep};
 
     /// A reader before the first unit of the section that the source gives from its current position on, with numbers in
     /// this byte order. It doesn't read from the source yet. The caller ensures that the source has failed fewer than

@@ -1,7 +1,7 @@
 //! The number of bytes of a unit that may be read, by those that came already (DWARF 5, section 7.4).
 ghost use Rattle.std.specs.Prelude.{◌≡◌, ◌+◌, ◌<◌, length};
 ghost use Rattle.lnt_wire.specs.FrameFaults.{IsCutFrame};
-ghost use Rattle.lnt_unit.specs.Sizes.{IsLeastSize};
+ghost use Rattle.lnt_unit.specs.Spelled.{IsLeastSize};
 
 use lnt_wire::{Cursor, Order};
 

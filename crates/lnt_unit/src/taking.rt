@@ -2,7 +2,7 @@
 ghost use Rattle.std.specs.Prelude.{◌≡◌, ◌+◌, ◌-◌, ◌^◌, ◌<◌, [], length, IfOk, IfSome, OnOk, false, MatchBool};
 ghost use Rattle.lnt_wire.specs.FrameFaults.{IsCutFrame};
 ghost use Rattle.lnt_io.specs.Pulling.{Pulls};
-ghost use Rattle.lnt_unit.specs.Sizes.{IsLeastSize};
+ghost use Rattle.lnt_unit.specs.Spelled.{IsLeastSize};
 ghost use Rattle.lnt_io.specs.Stopping.{CountsFailure, IsTooLongOn};
 
 use crate::size::missing_size;

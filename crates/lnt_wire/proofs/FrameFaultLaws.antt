@@ -1,9 +1,7 @@
 -- Two faults of the same bytes lie in one frame, or outside of any. Crates above cite these.
 use Rattle.std.proofs.Common.{◌≡◌, ℕ, List, [], ◌∷◌, ◌++◌, length, refl, sym, ◌∙◌, append_assoc, arith, length-append}
-use Rattle.lnt_wire.specs.FrameBytes.{version_five}
-use Rattle.lnt_wire.specs.FrameFaults.{InFrame, IsCutFrame, IsFrameFault, IsReserved}
-use Rattle.lnt_wire.specs.InitialFaults.{IsVersionFault}
-use Rattle.lnt_wire.specs.InitialLength.{initial_length}
+use Rattle.lnt_wire.specs.FrameBytes.{version_five, initial_length}
+use Rattle.lnt_wire.specs.FrameFaults.{InFrame, IsCutFrame, IsFrameFault, IsReserved, IsVersionFault}
 use Rattle.lnt_wire.specs.Numbers.{number_bytes, Format, Order}
 use Rattle.lnt_wire.specs.declared.fault.Reason.{Reason}
 use Rattle.lnt_wire.specs.declared.fault.Reason.TheVariants.{ReservedLength, Truncated, VersionNotFive}

@@ -2,9 +2,8 @@
 -- Crates above cite these.
 use Rattle.std.proofs.Common.{◌≡◌, ℕ, ◌≤◌, List, ◌++◌, length, sym, append_assoc, arith, [], length-append, append-nil}
 use Rattle.lnt_wire.specs.Bytes.{IsCode, NoneSpelled}
-use Rattle.lnt_wire.specs.FrameBytes.{FrameBytes, version_five, Order}
+use Rattle.lnt_wire.specs.FrameBytes.{FrameBytes, version_five, Order, initial_length, LengthFits}
 use Rattle.lnt_wire.specs.FrameFaults.{IsCutFrame, InFrame, IsReserved, IsFrameFault}
-use Rattle.lnt_wire.specs.InitialLength.{initial_length, LengthFits}
 use Rattle.lnt_wire.proofs.LengthLaws.{width_4, same_prefix, same_number_prefix, same_length, length-initial, length-number_bytes, width_2}
 use Rattle.lnt_wire.specs.declared.format.Format.{Format}
 use Rattle.lnt_wire.specs.declared.fault.Reason.{Reason}

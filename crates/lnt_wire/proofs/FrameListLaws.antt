@@ -1,9 +1,8 @@
 -- A walk over the frames of a section, one after another.
 use Rattle.std.proofs.Common.{◌≡◌, ℕ, ◌+◌, ◌<◌, List, [], ◌∷◌, ◌++◌, length, refl, sym, ap, subst, ◌∙◌, append_assoc, arith}
 use Rattle.std.proofs.lemmas.List.{length-append, append-nil}
-use Rattle.lnt_wire.specs.At.{At}
+use Rattle.lnt_wire.specs.Reading.{At, Reads}
 use Rattle.lnt_wire.specs.FrameBytes.{IsFrame, FramesFrom, Order, Frame}
-use Rattle.lnt_wire.specs.Reading.{Reads}
 use Rattle.lnt_wire.proofs.LengthLaws.{length-initial}
 use Rattle.std.proofs.lemmas.Grind.{common_steps}
 

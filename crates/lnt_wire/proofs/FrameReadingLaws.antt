@@ -1,16 +1,13 @@
 -- The exits of the reader of a frame: a frame at the prefix of the bytes, and each reason why none is there.
 use Rattle.std.proofs.Common.{◌≡◌, ℕ, ◌+◌, ◌<◌, ◌≤◌, List, [], ◌++◌, length, refl, sym, ap, subst, ◌∙◌, append_assoc, arith}
 use Rattle.std.proofs.lemmas.List.{length-append, append-nil}
-use Rattle.lnt_wire.specs.At.{At}
+use Rattle.lnt_wire.specs.Reading.{At, Refuses, RefusesField, Reads, IsCutShort, Fault, Reason}
 use Rattle.lnt_wire.specs.Bytes.{TakenBytes}
 use Rattle.lnt_wire.specs.declared.fault.Reason.TheVariants.{Truncated}
 use Rattle.lnt_wire.specs.Numbers.{NumberBytes, number_bytes, Order, Format}
-use Rattle.lnt_wire.specs.InitialLength.{initial_length, InitialBytes}
-use Rattle.lnt_wire.specs.FrameBytes.{BeginsWithFive, FrameBytes, IsFrame, Frame}
-use Rattle.lnt_wire.specs.FrameFaults.{InFrame, IsCutFrame, IsFrameFault}
-use Rattle.lnt_wire.specs.InitialFaults.{IsInitialFault, IsVersionFault}
+use Rattle.lnt_wire.specs.FrameBytes.{initial_length, InitialBytes, BeginsWithFive, FrameBytes, IsFrame, Frame}
+use Rattle.lnt_wire.specs.FrameFaults.{InFrame, IsCutFrame, IsFrameFault, IsInitialFault, IsVersionFault}
 use Rattle.lnt_wire.specs.FrameFaults.IsCutFrame.{no_wide_length, too_long}
-use Rattle.lnt_wire.specs.Reading.{Refuses, RefusesField, Reads, IsCutShort, Fault, Reason}
 use Rattle.lnt_wire.proofs.FrameLaws.{no_frame}
 use Rattle.lnt_wire.proofs.LengthLaws.{length-initial}
 use Rattle.std.proofs.lemmas.Grind.{common_steps}

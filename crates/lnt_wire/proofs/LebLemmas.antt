@@ -9,12 +9,9 @@ use Rattle.std.proofs.lemmas.Bool.{lt-leb, le-leb, cases_lt}
 use Rattle.std.proofs.lemmas.List.{take_more, take-append-drop, length-take-le, get_or-take}
 use Rattle.lnt_wire.specs.Bytes.{NoneSpelled}
 use Rattle.lnt_wire.specs.declared.fault.Reason.TheVariants.{LebTooLarge}
-use Rattle.lnt_wire.specs.Leb128.{IsLeb, AreHigh, IsLargeUnsigned, groups, has_sign, signed_groups, UnsignedLeb, SignedLeb}
-use Rattle.lnt_wire.specs.Leb128.{IsLargeSigned, IsLebFault}
-use Rattle.lnt_wire.specs.ShortLebs.{IsShortLeb}
-use Rattle.lnt_wire.specs.At.{At}
-use Rattle.lnt_wire.specs.Reading.{Reads}
-use Rattle.lnt_wire.specs.Skipping.{Skips}
+use Rattle.lnt_wire.specs.Leb128.{IsLeb, AreHigh, IsLargeUnsigned, groups, has_sign, signed_groups, UnsignedLeb, SignedLeb, IsLargeSigned}
+use Rattle.lnt_wire.specs.Leb128.{IsLebFault, IsShortLeb}
+use Rattle.lnt_wire.specs.Reading.{At, Reads, Skips}
 use Rattle.lnt_wire.proofs.CodeLaws.{same_leb}
 use Rattle.lnt_wire.proofs.ReadLemmas.{reads_skipped}
 use Rattle.std.proofs.lemmas.Grind.{common_steps}

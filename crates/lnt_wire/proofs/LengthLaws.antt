@@ -5,7 +5,7 @@ use Rattle.std.proofs.lemmas.Nat.{from_le_bytes-to_le_bytes_2, from_be_bytes-to_
 use Rattle.std.proofs.lemmas.Nat.{from_be_bytes-to_be_bytes_4, from_le_bytes-to_le_bytes_8, from_be_bytes-to_be_bytes_8}
 use Rattle.std.specs.Int.{bytes_low_first, bytes_high_first}
 use Rattle.lnt_wire.specs.Numbers.{number_bytes, Order, Format}
-use Rattle.lnt_wire.specs.InitialLength.{initial_length, LengthFits}
+use Rattle.lnt_wire.specs.FrameBytes.{initial_length, LengthFits}
 use Rattle.std.proofs.lemmas.Grind.{common_steps}
 
 -- ---- prefixes of one length

@@ -1,11 +1,9 @@
 -- Reads of a cursor, and their refusals, by the bytes that were passed or are too few.
 use Rattle.std.proofs.Common.{◌≡◌, ℕ, ◌<◌, ◌≤◌, take, List, length, ap, arith, length-append, length-take-le, take-append-drop}
 use Rattle.lnt_wire.specs.declared.fault.Reason.TheVariants.{Truncated}
-use Rattle.lnt_wire.specs.At.{At}
+use Rattle.lnt_wire.specs.Reading.{At, Reads, RefusesField, IsCutShort, Fault, Reason, Skips}
 use Rattle.lnt_wire.specs.Bytes.{NoneSpelled, TakenBytes}
 use Rattle.lnt_wire.specs.Numbers.{NumberBytes, Order}
-use Rattle.lnt_wire.specs.Reading.{Reads, RefusesField, IsCutShort, Fault, Reason}
-use Rattle.lnt_wire.specs.Skipping.{Skips}
 use Rattle.lnt_wire.proofs.LengthLaws.{length-number_bytes}
 use Rattle.std.proofs.lemmas.Grind.{common_steps}
 

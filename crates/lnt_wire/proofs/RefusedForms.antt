@@ -1,6 +1,6 @@
 -- Where no field of the kind that a form has is read, no value in the form is, for the same reason; and where one is, a value is.
 use Rattle.std.proofs.Common.{◌≡◌, ℕ, List, Result, IsErr, IsErrAnd, IfOk, IfErr, OnErr, arith}
-use Rattle.lnt_wire.specs.At.{At}
+use Rattle.lnt_wire.specs.Reading.{At, Reads, RefusesField, IsCutShort, Fault, Reason}
 use Rattle.lnt_wire.specs.Bytes.{TakenBytes}
 use Rattle.lnt_wire.specs.declared.form.Form.TheVariants as forms
 use Rattle.lnt_wire.specs.declared.form.BlockLength.TheVariants.{Leb, One, Two, Four}
@@ -11,7 +11,6 @@ use Rattle.lnt_wire.specs.FormFaults.{IsCutText, IsValueFault}
 use Rattle.lnt_wire.specs.Leb128.{UnsignedLeb, IsLargeUnsigned, IsLebFault}
 use Rattle.lnt_wire.specs.Numbers.{NumberBytes, OffsetBytes, offset_size, Format}
 use Rattle.lnt_wire.specs.BlockLengths.{LengthBytes, IsBlockValueFault}
-use Rattle.lnt_wire.specs.Reading.{Reads, RefusesField, IsCutShort, Fault, Reason}
 use Rattle.std.proofs.lemmas.Grind.{common_steps}
 
 -- no value of one kind, where there is none of another that each has

@@ -2,8 +2,7 @@
 use Rattle.std.proofs.Common.{◌≡◌, ◌≢◌, ℕ, zero, suc, ◌+◌, ◌<◌, List, [], ◌∷◌, ◌++◌, length, get_or, take, Option, Some, None, refl, ap}
 use Rattle.std.proofs.Common.{arith, option_map}
 use Rattle.std.proofs.lemmas.List.{take_more}
-use Rattle.lnt_wire.specs.FormBytes.{HasNoZero}
-use Rattle.lnt_wire.specs.Texts.{up_to_zero}
+use Rattle.lnt_wire.specs.FormBytes.{HasNoZero, up_to_zero}
 use Rattle.std.proofs.lemmas.Grind.{common_steps}
 
 no_zero_push : (prefix : List ℕ) (b : ℕ) → HasNoZero prefix → 0 < b → HasNoZero (prefix ++ b ∷ [])

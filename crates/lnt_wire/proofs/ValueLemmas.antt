@@ -2,14 +2,12 @@
 use Rattle.std.proofs.Common.{◌≡◌, ℕ, ◌+◌, ◌<◌, ◌≤◌, List, [], ◌∷◌, ◌++◌, length, get_or, take, drop, refl, sym, ap, subst, ◌∙◌}
 use Rattle.std.proofs.Common.{append_assoc, arith}
 use Rattle.std.proofs.lemmas.List.{length-append, length-take-le, take_more, take-append-drop}
-use Rattle.lnt_wire.specs.At.{At}
+use Rattle.lnt_wire.specs.Reading.{At, Reads, RefusesField, Fault, Skips}
 use Rattle.lnt_wire.specs.declared.fault.Reason.TheVariants.{Truncated}
 use Rattle.lnt_wire.specs.FormBytes.{HasNoZero, TextBytes, BlockBytes}
 use Rattle.lnt_wire.specs.FormFaults.{IsCutText}
 use Rattle.lnt_wire.specs.BlockLengths.{LengthBytes, IsLengthFault, IsBlockValueFault, BlockLength}
 use Rattle.lnt_wire.specs.FormFaults.IsBlockFault.{cut_block}
-use Rattle.lnt_wire.specs.Reading.{Reads, RefusesField, Fault}
-use Rattle.lnt_wire.specs.Skipping.{Skips}
 use Rattle.lnt_wire.proofs.LengthLaws.{same_rest}
 use Rattle.lnt_wire.proofs.ValueLaws.{length_code}
 use Rattle.std.proofs.lemmas.Grind.{common_steps}

@@ -1,12 +1,12 @@
 -- Values in the forms that a table of a line number header may have, and the bytes that encode them (DWARF 5, section
 -- 7.5.6).
-use Rattle.std.specs.Prelude.{◌≡◌, ◌≢◌, ℕ, ◌^◌, ◌<◌, List, [], ◌∷◌, ◌++◌, length}
+use Rattle.std.specs.Prelude.{◌≡◌, ◌≢◌, ℕ, ◌^◌, ◌<◌, List, [], ◌∷◌, ◌++◌, length, zero, suc, drop, Option, Some, None, option_map}
 use Rattle.std.specs.List.{AllByRecursion}
 pub use Rattle.lnt_wire.specs.declared.form.Form.{Form}
 use Rattle.lnt_wire.specs.declared.form.Form.TheVariants as forms
 pub use Rattle.lnt_wire.specs.declared.form.FormValue.{FormValue}
-use Rattle.lnt_wire.specs.declared.form.FormValue.TheVariants.{Text, LineStrp, Strp, Udata, Data1, Data2, Data4, Data8, Data16}
-use Rattle.lnt_wire.specs.declared.form.FormValue.TheVariants.{Block, Block1, Block2, Block4}
+use Rattle.lnt_wire.specs.declared.form.FormValue.TheVariants.{Text, LineStrp, Strp, Udata, Data1, Data2, Data4, Data8, Data16, Block}
+use Rattle.lnt_wire.specs.declared.form.FormValue.TheVariants.{Block1, Block2, Block4}
 use Rattle.lnt_wire.specs.Bytes.{Exactly, TakenBytes, ◌⨾◌}
 use Rattle.lnt_wire.specs.Leb128.{UnsignedLeb}
 use Rattle.lnt_wire.specs.Numbers.{NumberBytes, OffsetBytes, IsLargeOffset, Order, Format}
@@ -94,3 +94,18 @@ abbrev pub IsTooLarge : Format → FormValue → Type 0
 IsTooLarge format (Strp offset) = IsLargeOffset format offset
 IsTooLarge format (LineStrp offset) = IsLargeOffset format offset
 IsTooLarge format _ = ⊥
+
+-- ---- the text that a value stands for (DWARF 5, sections 7.5.5 and 7.5.6)
+
+-- The bytes before the first zero byte. `None` if no byte is zero.
+abbrev pub up_to_zero : List ℕ → Option (List ℕ)
+up_to_zero [] = None
+up_to_zero (zero ∷ bytes) = Some []
+up_to_zero (suc b ∷ bytes) = option_map (λ text. suc b ∷ text) (up_to_zero bytes)
+
+-- The text of a value, where line is the section `.debug_line_str` and general is `.debug_str`. Only the string forms have one.
+abbrev pub text_of : List ℕ → List ℕ → FormValue → Option (List ℕ)
+text_of line general (Text text) = Some text
+text_of line general (LineStrp offset) = up_to_zero (drop offset line)
+text_of line general (Strp offset) = up_to_zero (drop offset general)
+text_of line general _ = None

@@ -6,7 +6,7 @@ use Rattle.std.specs.Prelude.{◌≡◌, ◌≢◌, ℕ, ◌^◌, ◌<◌, ◌�
 use Rattle.lnt_wire.specs.declared.fault.Reason.{Reason}
 use Rattle.lnt_wire.specs.declared.fault.Reason.TheVariants.{Truncated, ReservedLength, VersionNotFive}
 use Rattle.lnt_wire.specs.Numbers.{number_bytes, Order, Format}
-use Rattle.lnt_wire.specs.InitialLength.{initial_length, LengthFits}
+use Rattle.lnt_wire.specs.FrameBytes.{initial_length, LengthFits}
 
 -- The bytes begin with a whole unit, judged by its initial length. Its body is the fields before the place, and the rest from
 -- there on.
@@ -51,3 +51,19 @@ IsFrameFault order Truncated (b ∷ before) from = IsCutVersion order (b ∷ bef
 IsFrameFault order ReservedLength before from = (before ≡ []) × IsReserved order from
 IsFrameFault order (VersionNotFive version) before from = IsOtherVersion order version before from
 IsFrameFault order _ before from = ⊥
+
+-- ---- why the readers of a frame's parts fail: that of the initial length, and that of the version. Why bytes don't begin with a
+-- frame is `IsFrameFault`.
+
+-- Why the bytes don't begin with an initial length.
+abbrev pub IsInitialFault : Order → Reason → List ℕ → Type 0
+IsInitialFault order Truncated bytes = IsCutFrame order bytes
+IsInitialFault order ReservedLength bytes = IsReserved order bytes
+IsInitialFault order _ bytes = ⊥
+
+-- Why the body of a unit doesn't begin with version 5.
+abbrev pub IsVersionFault : Order → Reason → List ℕ → Type 0
+IsVersionFault order Truncated body = length body < 2
+IsVersionFault order (VersionNotFive version) body =
+    (left : List ℕ) × (version < 2 ^ 16) × (version ≢ 5) × (body ≡ number_bytes order 2 version ++ left)
+IsVersionFault order _ body = ⊥

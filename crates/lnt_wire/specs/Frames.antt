@@ -1,9 +1,8 @@
 -- The frames of a section, and how they end (DWARF 5, sections 6.2.4 and 7.4).
 use Rattle.std.specs.Prelude.{◌≡◌, ℕ, ◌<◌, List, [], ◌++◌, length, Option, Some, None}
-use Rattle.lnt_wire.specs.At.{At}
+use Rattle.lnt_wire.specs.Reading.{At, Refuses, Fault}
 use Rattle.lnt_wire.specs.FrameBytes.{FrameBytes, FramesFrom, Order, Frame}
 use Rattle.lnt_wire.specs.FrameFaults.{IsFrameFault}
-use Rattle.lnt_wire.specs.Reading.{Refuses, Fault}
 
 -- What follows the last frame: nothing; or, if there is a fault, some bytes that don't begin with a frame, for the fault's reason at
 -- its place.

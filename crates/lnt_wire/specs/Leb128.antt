@@ -1,6 +1,6 @@
 -- LEB128 numbers: encoded in groups of seven bits, the lowest group first (DWARF 5, section 7.6).
-use Rattle.std.specs.Prelude.{◌≡◌, ℕ, ◌+◌, ◌*◌, ◌%◌, ◌^◌, ◌<◌, ◌≤◌, Bool, false, nat_le, if◌then◌else◌, List, [], ◌∷◌, ◌++◌}
-use Rattle.std.specs.Prelude.{length, ℤ, pos, ◌-ℤ◌, FitsSigned}
+use Rattle.std.specs.Prelude.{◌≡◌, ℕ, ◌+◌, ◌*◌, ◌%◌, ◌^◌, ◌<◌, ◌≤◌, Bool, false, nat_le, if◌then◌else◌, List, [], ◌∷◌, ◌++◌, length, ℤ, pos}
+use Rattle.std.specs.Prelude.{◌-ℤ◌, FitsSigned, take}
 use Rattle.std.specs.Int.{w64}
 use Rattle.std.specs.List.{AllByRecursion}
 use Rattle.lnt_wire.specs.declared.fault.Reason.{Reason}
@@ -59,3 +59,14 @@ IsLebFault IsLarge Truncated bytes = AreHigh bytes
 IsLebFault IsLarge LebTooLarge bytes =
     (spelling : List ℕ) × (rest : List ℕ) × IsLeb spelling × IsLarge spelling × (bytes ≡ spelling ++ rest)
 IsLebFault IsLarge _ bytes = ⊥
+
+-- ---- lEB128 numbers of at most 9 bytes, as their reader finds them. No public contract speaks of these.
+
+-- The bytes begin with a number of at most 9 bytes: size is how many they are, sum the number that their groups encode, unsigned,
+-- and scale one more than the greatest number of as many groups.
+pub record IsShortLeb (size sum scale : ℕ) (bytes : List ℕ) : Type 0 where
+  pub within : size ≤ length bytes
+  pub few : size ≤ 9
+  pub shape : IsLeb (take size bytes)
+  pub sum_is : sum ≡ groups (take size bytes)
+  pub scale_is : scale ≡ 128 ^ size

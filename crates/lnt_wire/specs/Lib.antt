@@ -1,4 +1,3 @@
-pub mod At
 pub mod Borrowed
 pub mod Bytes
 pub mod FaultTexts
@@ -8,17 +7,12 @@ pub mod FormFaults
 pub mod FrameBytes
 pub mod FrameFaults
 pub mod Frames
-pub mod InitialFaults
-pub mod InitialLength
 pub mod Laws
 pub mod Leb128
 pub mod Numbers
 pub mod BlockLengths
 pub mod Reading
-pub mod ShortLebs
-pub mod Skipping
 pub mod Spelled
-pub mod Texts
 -- what public clauses say of sources
 pub use Rattle.lnt_io.specs.CountedSources
 pub use Rattle.lnt_io.specs.FaultTexts as SourceTexts

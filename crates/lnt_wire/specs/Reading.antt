@@ -1,10 +1,27 @@
 -- What a read of a cursor does, and what holds if it fails.
-use Rattle.std.specs.Prelude.{◌≡◌, ◌≢◌, ℕ, ◌+◌, ◌<◌, List, ◌++◌, length}
+use Rattle.std.specs.Prelude.{ℕ, List, ◌≡◌, ◌+◌, drop, ◌≢◌, ◌<◌, ◌++◌, length}
+use Rattle.lnt_wire.specs.declared.format.Order.{Order}
 pub use Rattle.lnt_wire.specs.declared.fault.Fault.{Fault}
 pub use Rattle.lnt_wire.specs.declared.fault.Reason.{Reason}
 use Rattle.lnt_wire.specs.declared.fault.Reason.TheVariants.{Truncated, Memory}
-use Rattle.lnt_wire.specs.At.{At}
 use Rattle.lnt_wire.specs.Bytes.{NoneSpelled}
+
+-- ---- what a contract sees of a cursor: the offset in the section of the next byte, the remaining bytes, and the byte order of numbers
+
+pub record At : Type 0 where
+  pub place : ℕ
+  pub rest : List ℕ
+  pub order : Order
+
+-- ---- what a cursor does when it skips bytes. No public contract speaks of this; what a read does is `Reads`.
+
+-- The cursor skipped the next n bytes.
+pub record Skips (n : ℕ) (old new : At) : Type 0 where
+  pub rest : new.rest ≡ drop n old.rest
+  pub place : new.place ≡ old.place + n
+  pub order : new.order ≡ old.order
+
+-- ---- what a read does
 
 -- The read returned v, and moved past bytes that encode it, and past no others. What follows them remains.
 pub record Reads {X : Type 0} (Spells : X → List ℕ → Type 0) (v : X) (old new : At) : Type 0 where

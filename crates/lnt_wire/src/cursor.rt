@@ -1,8 +1,7 @@
 //! A cursor over the bytes of a section, from which fields are read one after another.
 ghost use Rattle.std.specs.Prelude.{◌≡◌, ◌+◌, ◌^◌, ◌<◌, ◌≤◌, length, IfOk, OnErr, IfErr};
 ghost use Rattle.lnt_wire.specs.Bytes.{TakenBytes};
-ghost use Rattle.lnt_wire.specs.Reading.{Reads, RefusesField, IsCutShort};
-ghost use Rattle.lnt_wire.specs.Skipping.{Skips};
+ghost use Rattle.lnt_wire.specs.Reading.{Reads, RefusesField, IsCutShort, Skips};
 
 use crate::fault::{Fault, Reason};
 use crate::format::Order;
@@ -22,7 +21,7 @@ pub struct Cursor<'a> {
 
 impl<'a> Model for Cursor<'a> {
     ghost use Rattle.std.specs.Prelude.{◌+◌, ◌<◌, ◌^◌, length};
-    ghost use Rattle.lnt_wire.specs.At.{At};
+    ghost use Rattle.lnt_wire.specs.Reading.{At};
 
     ghost Value = { At };
 

@@ -1,8 +1,7 @@
 //! The initial length and the version of a unit (DWARF 5, sections 6.2.4 and 7.4).
 ghost use Rattle.std.specs.Prelude.{◌≡◌, ◌+◌, ◌^◌, ◌<◌, length, IfOk, IfErr, OnOk};
-ghost use Rattle.lnt_wire.specs.FrameBytes.{BeginsWithFive};
-ghost use Rattle.lnt_wire.specs.InitialFaults.{IsInitialFault, IsVersionFault};
-ghost use Rattle.lnt_wire.specs.InitialLength.{InitialBytes};
+ghost use Rattle.lnt_wire.specs.FrameBytes.{BeginsWithFive, InitialBytes};
+ghost use Rattle.lnt_wire.specs.FrameFaults.{IsInitialFault, IsVersionFault};
 ghost use Rattle.lnt_wire.specs.Reading.{Reads};
 
 use crate::cursor::Cursor;

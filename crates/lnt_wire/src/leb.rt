@@ -1,10 +1,9 @@
 //! Reads LEB128 numbers, which are encoded in groups of seven bits (DWARF 5, section 7.6).
 ghost use Rattle.std.specs.Prelude.{◌≡◌, ◌+◌, ◌<◌, ◌≤◌, [], ◌∷◌, length, take, MatchOption, IfOk, IfErr, IfSome, OnErr};
 ghost use Rattle.lnt_wire.specs.Bytes.{NoneSpelled};
-ghost use Rattle.lnt_wire.specs.Leb128.{IsLeb, AreHigh, groups, signed_groups, UnsignedLeb, SignedLeb};
-ghost use Rattle.lnt_wire.specs.Leb128.{IsLargeUnsigned, IsLargeSigned, IsLebFault};
+ghost use Rattle.lnt_wire.specs.Leb128.{IsLeb, AreHigh, groups, signed_groups, UnsignedLeb, SignedLeb, IsLargeUnsigned, IsLargeSigned};
+ghost use Rattle.lnt_wire.specs.Leb128.{IsLebFault, IsShortLeb};
 ghost use Rattle.lnt_wire.specs.Reading.{Reads, RefusesField};
-ghost use Rattle.lnt_wire.specs.ShortLebs.{IsShortLeb};
 
 use crate::cursor::Cursor;
 use crate::fault::{Fault, Reason};

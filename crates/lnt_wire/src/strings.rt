@@ -1,8 +1,7 @@
 //! The texts of values: the string sections, and what an offset into them refers to (DWARF 5, sections 7.5.5 and 7.5.6).
 ghost use Rattle.std.specs.Prelude.{◌≡◌, ◌<◌, length, take, drop, get_or, MatchOption, option_map};
 ghost use Rattle.lnt_wire.specs.Borrowed.{value_of};
-ghost use Rattle.lnt_wire.specs.FormBytes.{HasNoZero};
-ghost use Rattle.lnt_wire.specs.Texts.{text_of, up_to_zero};
+ghost use Rattle.lnt_wire.specs.FormBytes.{HasNoZero, text_of, up_to_zero};
 
 use crate::form::FormValue;
 use crate::view::ValueView;

@@ -16,13 +16,14 @@ use Rattle.lnt_wire.specs.declared.format.Order.TheVariants.{Little, Big}
 use Rattle.lnt_words.specs.declared.request.AddressSize.{AddressSize}
 use Rattle.lnt_words.specs.declared.request.AddressSize.TheVariants as sizes
 pub use Rattle.lnt_words.specs.declared.request.Asked.{Asked}
+use Rattle.lnt_words.specs.declared.request.FileQuestion.TheVariants.{Lines, Check}
 use Rattle.lnt_words.specs.declared.request.Judging.{Judging}
 use Rattle.lnt_words.specs.declared.request.Question.{Question}
 use Rattle.lnt_words.specs.declared.request.Question.TheVariants.{Verify, Lookup, Files, Table, TableByPath, Md5}
 use Rattle.lnt_words.specs.declared.request.Reading.{Reading}
 use Rattle.lnt_words.specs.declared.request.Reading.TheVariants.{Units, Dump, Convert}
 use Rattle.lnt_words.specs.declared.request.Request.{Request}
-use Rattle.lnt_words.specs.declared.request.Request.TheVariants.{Help, Read, Upgrade, Judge, Addresses, Check}
+use Rattle.lnt_words.specs.declared.request.Request.TheVariants.{Help, Read, Upgrade, Judge, JudgeWith}
 use Rattle.lnt_words.specs.Words.{linetab}
 
 -- This is the word that was given for the argument.
@@ -123,11 +124,11 @@ IsAskedIn name rows (Upgrade from) =
     (name ≡ codes "upgrade") × IsWord rows (codes "SECTION") from.section.now × IsOrder rows from.order × IsSize rows from.address_size
     × (option_copied from.directories ≡ first_of (codes "directories") rows)
 IsAskedIn name rows (Judge from question) = IsJudging rows from × IsQuestion name rows question
-IsAskedIn name rows (Addresses from file op) =
+IsAskedIn name rows (JudgeWith from file (Lines op)) =
     (name ≡ codes "lookup") × IsJudging rows from × IsWord rows (codes "addresses") file.now
     × (all_of (codes "ADDRESS") rows ≡ None) × IsOp rows op
-IsAskedIn name rows (Check from table all partial) =
-    (name ≡ codes "check") × IsJudging rows from × IsWord rows (codes "TABLE") table.now × IsFlagGiven rows (codes "all") all
+IsAskedIn name rows (JudgeWith from file (Check all partial)) =
+    (name ≡ codes "check") × IsJudging rows from × IsWord rows (codes "TABLE") file.now × IsFlagGiven rows (codes "all") all
     × IsFlagGiven rows (codes "partial") partial
 
 -- The subcommand that clap found, with its rows, asks for this request.

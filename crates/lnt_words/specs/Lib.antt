@@ -1,4 +1,3 @@
 pub mod Asking
 pub mod Described
-pub mod Sizes
 pub mod Words

@@ -1,10 +1,20 @@
 -- The words that the command takes, as README.md lists them: its subcommands, and the arguments of each, in clap's terms. Help
 -- texts aren't part of this, nor which arguments exclude one another: `Asking` says for each request what isn't given.
-use Rattle.std.specs.Prelude.{List, [], ◌∷◌, ◌++◌, Some, true, false, codes}
+use Rattle.std.specs.Prelude.{ℕ, List, [], ◌∷◌, ◌++◌, Some, true, false, codes}
+use Rattle.lnt_words.specs.declared.request.AddressSize.{AddressSize}
+use Rattle.lnt_words.specs.declared.request.AddressSize.TheVariants.{Two, Four, Eight}
 use Rattle.clap.specs.Lexer.{usize_max}
 use Rattle.clap.specs.Simple.{new_shape}
 use Rattle.clap.specs.Words.{App, Rule, Shape, Text, new_rule}
 use Rattle.clap.specs.declared.builder.action.ArgAction.TheVariants.{Set, Append, SetTrue}
+
+-- ---- sizes of addresses
+
+-- how many bytes an address has
+abbrev pub size_bytes : AddressSize → ℕ
+size_bytes Two = 2
+size_bytes Four = 4
+size_bytes Eight = 8
 
 -- ---- the words that an argument takes
 

@@ -10,6 +10,8 @@ mod request;
 mod stop;
 mod words;
 
-pub use request::{AddressSize, Asked, Judging, Question, Reading, Request, Upgrading};
+pub use request::{
+    AddressSize, Asked, FileQuestion, Judging, Question, Reading, Request, Upgrading,
+};
 pub use stop::WordsStop;
 pub use words::request_of;

@@ -1,6 +1,6 @@
 //! What is asked for.
 ghost use Rattle.std.specs.Prelude.{◌≡◌};
-ghost use Rattle.lnt_words.specs.Sizes.{size_bytes};
+ghost use Rattle.lnt_words.specs.Words.{size_bytes};
 
 use lnt_spans::{Position, Version};
 use lnt_wire::{Format, Order};
@@ -37,25 +37,14 @@ pub enum Request<'a> {
         /// What is asked of it.
         question: Question,
     },
-    /// What a good section answers at the positions in the lines of a file.
-    Addresses {
+    /// What a section says of the contents of another file.
+    JudgeWith {
         /// The section.
         from: Judging<'a>,
-        /// The file of the lines.
+        /// The other file.
         file: &'a str,
-        /// The operation index for a line without one.
-        op: u64,
-    },
-    /// Whether a table answers as a section does.
-    Check {
-        /// The section.
-        from: Judging<'a>,
-        /// The file of the table.
-        table: &'a str,
-        /// Whether all positions at which it doesn't are reported, instead of only the first.
-        all: bool,
-        /// Whether they are compared only at the positions at which the table answers.
-        partial: bool,
+        /// What is asked of both.
+        question: FileQuestion,
     },
 }
 
@@ -148,4 +137,19 @@ pub enum Question {
     },
     /// Whether files have the sums that are listed.
     Md5,
+}
+
+/// What is asked of a section and another file.
+#[derive(Clone, Copy)]
+pub enum FileQuestion {
+    /// What the section answers, if it is good, at the positions in the file's lines. This is the operation index for a line
+    /// without one.
+    Lines(u64),
+    /// Whether the table in the file answers as the section does.
+    Check {
+        /// Whether all positions at which it doesn't are reported, instead of only the first.
+        all: bool,
+        /// Whether they are compared only at the positions at which the table answers.
+        partial: bool,
+    },
 }

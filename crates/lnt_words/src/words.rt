@@ -10,7 +10,9 @@ ghost use Rattle.lnt_words.specs.declared.request.Judging.{Judging as JudgingSpe
 ghost use Rattle.lnt_words.specs.declared.request.Request.{Request as RequestSpec};
 
 use crate::command::command_of;
-use crate::request::{AddressSize, Asked, Judging, Question, Reading, Request, Upgrading};
+use crate::request::{
+    AddressSize, Asked, FileQuestion, Judging, Question, Reading, Request, Upgrading,
+};
 use crate::stop::WordsStop;
 use clap::error::ErrorKind;
 use clap::{ArgMatches, Error};
@@ -131,11 +133,13 @@ fn request_in<'a>(
 fn check_in<'a>(alloc: Global, words: &ArgMatches<'a>) -> Result<Request<'a>, WordsStop>
     ensures { IsFound (IsAskedIn (codes "check") (rows_in words.now)) result }
 {
-    Ok(Request::Check {
+    Ok(Request::JudgeWith {
         from: judging_in(alloc, words)?,
-        table: word_in(alloc, words, "TABLE")?,
-        all: flag_in(words, "all"),
-        partial: flag_in(words, "partial"),
+        file: word_in(alloc, words, "TABLE")?,
+        question: FileQuestion::Check {
+            all: flag_in(words, "all"),
+            partial: flag_in(words, "partial"),
+        },
     })
 }
 
@@ -189,9 +193,13 @@ fn lookup_in<'a>(
             judge_in(alloc, words, Question::Lookup(positions))
         }
         (None, Some(file)) => {
-            let op = op_in(alloc, words)?;
+            let question = FileQuestion::Lines(op_in(alloc, words)?);
             let from = judging_in(alloc, words)?;
-            Ok(Request::Addresses { from, file, op })
+            Ok(Request::JudgeWith {
+                from,
+                file,
+                question,
+            })
         }
         (Some(_), Some(_)) | (None, None) => Err(refusal(alloc, given)),
     }

@@ -2,8 +2,7 @@
 ghost use Rattle.std.specs.Prelude.{List, IfOk, MatchOption, OnOk};
 ghost use Rattle.std.specs.List.{AllByRecursion};
 ghost use Rattle.lnt_spans.specs.declared.span.Span as spec;
-ghost use Rattle.lnt_spans.specs.Instructions.{IsOfInstructions};
-ghost use Rattle.lnt_spans.specs.Spans.{AreInOrder};
+ghost use Rattle.lnt_spans.specs.Spans.{IsOfInstructions, AreInOrder};
 ghost use Rattle.lnt_compare.specs.Joining.{Any, AreJoined, IsFirstOperation, LeaveOff};
 
 use crate::joined::Joined;

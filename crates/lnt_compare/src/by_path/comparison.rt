@@ -1,33 +1,33 @@
 //! Compares a table by path with the spans of a section, record by record.
-ghost use Rattle.std.specs.Prelude.{◌≡◌, ◌+◌, ◌^◌, ◌<◌, List, [], ◌∷◌, length, IfOk, ℕ};
-ghost use Rattle.lnt_records.specs.Passing.{IsCutAfter};
-ghost use Rattle.lnt_records.specs.Table.{BeginsWith, Fields};
+ghost use Rattle.std.specs.Prelude.{◌≡◌, List, IfOk, MatchBool, OnOk};
 ghost use Rattle.lnt_spans.specs.declared.span.Span as spec;
+ghost use Rattle.lnt_spans.specs.Merged.{end_of_records};
 ghost use Rattle.lnt_spans.specs.Spans.{AreInOrder};
-ghost use Rattle.lnt_compare.specs.Progress.{AnswerAlike, Judges};
-ghost use Rattle.lnt_compare.specs.Remembering.{IsRemembered};
-ghost use Rattle.lnt_records.specs.PathAnswers.{path_answer, spans_by_path};
-ghost use Rattle.lnt_compare.specs.PathOutcomes.{IsPathOutcome, tables_by_path};
-ghost use Rattle.lnt_records.specs.PathSpans.{path_end, whole};
-ghost use Rattle.lnt_records.specs.PathTables.{path_column_names};
+ghost use Rattle.lnt_compare.specs.Outcomes.{IsPathOutcome};
+ghost use Rattle.lnt_compare.specs.Passing.{IsRemembered};
+ghost use Rattle.lnt_compare.specs.PathStretches.{stretch_of};
+ghost use Rattle.lnt_compare.specs.Progress.{Comes, HasPushed};
+ghost use Rattle.lnt_records.specs.PathSpans.{path_answer, spans_by_path, whole};
+ghost use Rattle.lnt_records.specs.PathTables.{record_answer};
 
 use crate::by_path::answer::DifferenceByPath;
-use crate::by_path::passing::pass_lines;
 use crate::by_path::telling::{PathMemory, PathTelling};
 use crate::comparison::{Comparison, compare_after};
+use crate::lines::TakesLines;
 use crate::outcome::{Outcome, TableRead};
 use csv::ByteRecord;
-use lnt_records::{PathVersion, Paths, TableFault, TakesRecords, header_of, record_of};
+use lnt_records::{
+    PathRecord, PathVersion, Paths, TableFault, TakesRecords, header_of, line_at, record_of,
+};
 use lnt_spans::{Position, SpanSource};
 use std::alloc::{AllocError, Global};
 use std::marker::PhantomData;
 
 /// Compares the table by path in these bytes with the spans of a section, which come from a source.
 ///
-/// As long as the table's lines have nothing in quotes, they are parsed in one pass over their bytes; the records after
-/// these are read one by one by `csv`. None is kept. `Found`: the bytes are a table by path, and this is what its comparison
-/// with the spans found, with paths, in the fields of the table's version: paths are compared byte for byte. `Fault`: the bytes
-/// are not such a table. The first faulty record is reported, even if answers differed before it.
+/// The records are read one by one, as `csv` reads them, and none is kept. `Table`: the bytes are a table by path, and this is what
+/// its comparison with the spans found, with paths, in the fields of the table's version: paths are compared byte for byte. `Fault`:
+/// the bytes are not such a table. The first faulty record is reported, even if answers differed before it.
 ///
 /// No list of the spans is made, and a path is made again only after another file took its slot in a cache. The caller makes
 /// sure that the spans are in order and none is empty. Fails only if memory runs out.
@@ -44,36 +44,14 @@ pub fn compare_by_path<S: SpanSource + Drop, P: Paths>(
         return Ok(TableRead::Fault(TableFault::Header));
     };
     let memory = PathMemory::new(alloc)?;
-    let comparison = Comparison::past(memory, spans, whole(0), 1);
+    let comparison = Comparison::past(memory, spans, whole(0));
     let telling = PathTelling {
         alloc,
         paths,
         version,
         held: PhantomData,
     };
-    compare_text(alloc, table, &telling, comparison)
-}
-
-// Compares the records of a text after its header with the spans that a section has left, line by line as long as that works. The
-// comparison may have taken others before them.
-pub(crate) fn compare_text<'t, S: SpanSource + Drop, P: Paths>(
-    alloc: Global,
-    text: &'t [u8],
-    telling: &PathTelling<'_, 't, P>,
-    mut comparison: PathComparison<S>,
-) -> Result<Outcome<DifferenceByPath>, AllocError>
-    requires sound { IsRemembered (P.bytes_of telling.now.paths.now) comparison.memory }
-    requires header { BeginsWith text.now (path_column_names telling.now.version ∷ []) }
-    requires few { comparison.count + length text.now < 2 ^ 64 + 1 }
-    ensures { IfOk result (λ outcome. (bytes : List ℕ) (passed : List Fields) (list section : List spec.Span)
-        → IsCutAfter (path_column_names telling.now.version) text.now bytes (path_column_names telling.now.version ∷ passed)
-        → Judges S.to_come tables_by_path path_end (path_answer telling.now.version (P.bytes_of telling.now.paths.now)) telling.now.version
-        comparison list (path_column_names telling.now.version ∷ passed)
-        → AnswerAlike (path_answer telling.now.version (P.bytes_of telling.now.paths.now)) list section
-        → IsPathOutcome bytes (λ version. spans_by_path version (P.bytes_of telling.now.paths.now) section) outcome) }
-{
-    let at = pass_lines(&mut comparison, telling, text)?;
-    compare_after(alloc, &text[at..], telling, comparison)
+    compare_after(alloc, table, &telling, comparison, 1)
 }
 
 // The state of a comparison with a table by path.
@@ -81,15 +59,13 @@ pub(crate) type PathComparison<S> = Comparison<S, DifferenceByPath, PathMemory>;
 
 impl<'p, 'r, S: SpanSource + Drop, P: Paths> TakesRecords<PathComparison<S>>
     for PathTelling<'p, 'r, P> {
-    ghost use Rattle.std.specs.Prelude.{◌≡◌};
-    ghost use Rattle.lnt_compare.specs.PathOutcomes.{tables_by_path};
+    ghost use Rattle.lnt_compare.specs.Outcomes.{tables_by_path};
     ghost use Rattle.lnt_compare.specs.Progress.{Judges};
-    ghost use Rattle.lnt_compare.specs.Remembering.{IsRemembered};
-    ghost use Rattle.lnt_records.specs.PathAnswers.{path_answer};
-    ghost use Rattle.lnt_records.specs.PathFaults.{IsPathFault};
-    ghost use Rattle.lnt_records.specs.PathSpans.{path_end};
+    ghost use Rattle.lnt_compare.specs.Passing.{IsRemembered};
+    ghost use Rattle.lnt_records.specs.PathSpans.{path_answer, path_end};
+    ghost use Rattle.lnt_records.specs.Faults.{IsPathFault};
 
-    ghost has_taken = { λ s comparison count. IsRemembered (P.bytes_of s.paths.now) comparison.memory × (comparison.count ≡ count) };
+    ghost is_right = { λ s comparison. IsRemembered (P.bytes_of s.paths.now) comparison.memory };
 
     ghost judges = { λ s comparison section records.
         Judges S.to_come tables_by_path path_end (path_answer s.version (P.bytes_of s.paths.now)) s.version comparison section records };
@@ -100,22 +76,62 @@ impl<'p, 'r, S: SpanSource + Drop, P: Paths> TakesRecords<PathComparison<S>>
         &self,
         comparison: &mut PathComparison<S>,
         row: &ByteRecord,
+        number: u64,
     ) -> Result<Option<TableFault>, AllocError> {
         let said = match record_of(row, self.version) {
             Ok(said) => said,
-            Err(fault) => return Ok(Some(fault.at(comparison.count))),
+            Err(fault) => return Ok(Some(fault.at(number))),
         };
-        let telling = PathTelling {
-            alloc: self.alloc,
-            paths: self.paths,
-            version: self.version,
-            held: PhantomData,
-        };
-        if !comparison.push(&telling, whole(said.low), whole(said.high), said.answer)? {
-            return Ok(Some(TableFault::Order(comparison.count)));
+        if !push(self, comparison, said)? {
+            return Ok(Some(TableFault::Order(number)));
         }
         Ok(None)
     }
+}
+
+impl<'p, 'r, S: SpanSource + Drop, P: Paths> TakesLines<PathComparison<S>>
+    for PathTelling<'p, 'r, P> {
+    fn take_line(
+        &self,
+        comparison: &mut PathComparison<S>,
+        last: &mut Vec<u8>,
+        text: &[u8],
+    ) -> Result<Option<usize>, AllocError> {
+        let Some((said, length)) = line_at(text, 0, self.version, last.as_slice()) else {
+            return Ok(None);
+        };
+        if !push(self, comparison, said)? {
+            return Ok(None);
+        }
+        if said.answer.path != last.as_slice() {
+            *last = Vec::from_slice(self.alloc, said.answer.path)?;
+        }
+        Ok(Some(length))
+    }
+}
+
+// Compares one more record, if it isn't empty, and doesn't begin below the end of the one before it.
+#[inline(always)]
+fn push<S: SpanSource + Drop, P: Paths>(
+    telling: &PathTelling<'_, '_, P>,
+    comparison: &mut PathComparison<S>,
+    said: PathRecord<'_>,
+) -> Result<bool, AllocError>
+    requires sound { IsRemembered (P.bytes_of telling.now.paths.now) comparison.old.memory }
+    ensures sound { OnOk result (IsRemembered (P.bytes_of telling.now.paths.now) comparison.new.memory) }
+    ensures pushed { IfOk result (λ pushed. MatchBool pushed
+        (HasPushed S.to_come (path_answer telling.now.version (P.bytes_of telling.now.paths.now)) stretch_of comparison.old comparison.new
+        (whole said.entry.low) (whole said.entry.high) (record_answer said.entry))
+        ((comparison.new ≡ comparison.old)
+        × (Comes (end_of_records comparison.old.merge) (whole said.entry.low) (whole said.entry.high) → ⊥))) }
+{
+    let telling = PathTelling {
+        alloc: telling.alloc,
+        paths: telling.paths,
+        version: telling.version,
+        held: PhantomData,
+    };
+    comparison.push(&telling, whole(said.low), whole(said.high), said.answer)
 }
 
 // The position of a whole instruction.

@@ -40,7 +40,7 @@ pub fn hold_table(alloc: Global, table: &[u8]) -> Result<HeldTable, AllocError>
     };
     let mut spans = Vec::new(alloc);
     let holder = Holder { alloc, version };
-    match take_records(alloc, table, &holder, &mut spans)? {
+    match take_records(alloc, table, &holder, &mut spans, 1)? {
         Some(fault) => Ok(TableRead::Fault(fault)),
         None => Ok(TableRead::Table((version, spans))),
     }
@@ -56,10 +56,10 @@ struct Holder {
 impl TakesRecords<Vec<HeldSpan>> for Holder {
     ghost use Rattle.std.specs.Prelude.{map};
     ghost use Rattle.lnt_compare.specs.Held.{held_span};
-    ghost use Rattle.lnt_records.specs.PathFaults.{IsPathFault};
+    ghost use Rattle.lnt_records.specs.Faults.{IsPathFault};
     ghost use Rattle.lnt_records.specs.PathTables.{IsPathTable};
 
-    ghost has_taken = { λ holder spans count. Unit {0} };
+    ghost is_right = { λ holder spans. Unit {0} };
 
     ghost judges = { λ holder spans section records. IsPathTable holder.version records (map held_span spans.items) };
 
@@ -69,8 +69,8 @@ impl TakesRecords<Vec<HeldSpan>> for Holder {
         &self,
         spans: &mut Vec<HeldSpan>,
         row: &ByteRecord,
+        number: u64,
     ) -> Result<Option<TableFault>, AllocError> {
-        let number = spans.len() as u64 + 1;
         let said = match record_of(row, self.version) {
             Ok(said) => said,
             Err(fault) => return Ok(Some(fault.at(number))),

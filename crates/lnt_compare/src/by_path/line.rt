@@ -1,7 +1,7 @@
 //! The lines of spans in tables by path.
 ghost use Rattle.std.specs.Prelude.{◌≡◌, ◌++◌, ℕ, List, IfSome, MatchBool};
-ghost use Rattle.lnt_spans.specs.Instructions.{IsOfInstructions};
-ghost use Rattle.lnt_records.specs.PathAnswers.{path_answer};
+ghost use Rattle.lnt_spans.specs.Spans.{IsOfInstructions};
+ghost use Rattle.lnt_records.specs.PathSpans.{path_answer};
 ghost use Rattle.lnt_records.specs.PathLines.{IsSpanLine, path_field};
 
 use crate::by_path::answer::DifferenceByPath;
@@ -17,15 +17,14 @@ use std::alloc::{AllocError, Global};
 
 impl<'p, 'r, P: Paths> LineTelling for PathTelling<'p, 'r, P> {
     ghost use Rattle.std.specs.Prelude.{List, Option, IfOk};
-    ghost use Rattle.lnt_spans.specs.Instructions.{IsOfInstructions};
+    ghost use Rattle.lnt_spans.specs.Spans.{IsOfInstructions};
     ghost use Rattle.lnt_spans.specs.Merged.{AreFound, HasMerged, answer_told};
     ghost use Rattle.lnt_spans.specs.declared.position.Position.{Position as SpecPosition};
     ghost use Rattle.lnt_spans.specs.declared.span.Span.{Span as SpecSpan};
     ghost use Rattle.lnt_compare.specs.PathStretches.{stretch_of};
     ghost use Rattle.lnt_compare.specs.Joining.{tell_span};
-    ghost use Rattle.lnt_records.specs.PathAnswers.{PathAnswer, path_answer};
+    ghost use Rattle.lnt_records.specs.PathSpans.{PathAnswer, path_answer, PathSpan};
     ghost use Rattle.lnt_records.specs.PathLines.{plain_by_path};
-    ghost use Rattle.lnt_records.specs.PathSpans.{PathSpan};
     ghost use Rattle.lnt_records.specs.PathTables.{by_path};
     ghost use Rattle.lnt_records.specs.declared.by_path.version.PathVersion.{PathVersion as SpecVersion};
 

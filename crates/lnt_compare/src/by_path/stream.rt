@@ -1,17 +1,17 @@
 //! Compares a table by path with the spans of a section, both as they come.
-ghost use Rattle.std.specs.Prelude.{◌+◌, ◌-◌, ◌^◌, ◌<◌, ◌++◌, List, length, IfOk, IfSome};
+ghost use Rattle.std.specs.Prelude.{◌-◌, ◌^◌, ◌<◌, ◌++◌, List, IfOk, IfSome};
 ghost use Rattle.lnt_records.specs.Written.{line_text};
 ghost use Rattle.lnt_spans.specs.declared.span.Span as spec;
 ghost use Rattle.lnt_spans.specs.Spans.{AreInOrder};
-ghost use Rattle.lnt_records.specs.PathAnswers.{spans_by_path};
-ghost use Rattle.lnt_compare.specs.PathOutcomes.{IsPathOutcome};
+ghost use Rattle.lnt_records.specs.PathSpans.{spans_by_path};
+ghost use Rattle.lnt_compare.specs.Outcomes.{IsPathOutcome};
 ghost use Rattle.lnt_records.specs.PathTables.{path_column_names};
 ghost use Rattle.lnt_io.specs.Stopping.{CountsFailure, IsTooLongOn};
 
 use crate::by_path::answer::DifferenceByPath;
-use crate::by_path::comparison::compare_text;
 use crate::by_path::telling::{PathMemory, PathTelling};
-use crate::comparison::Comparison;
+use crate::comparison::{Comparison, compare_after};
+use crate::lines::push_lines;
 use crate::outcome::Outcome;
 use crate::passing::pass_spans;
 use crate::window::Window;
@@ -25,12 +25,9 @@ use std::marker::PhantomData;
 /// `window` has the bytes after it that were taken from the source so far.
 ///
 /// The outcome is that of `compare_by_path` for all bytes of the table. As long as its lines are those that `write_by_path` writes
-/// for the spans, they are compared as text and not parsed, and neither the table nor the spans are held. The bytes from the first
-/// other line on are held all at once.
+/// for the spans, they are compared as text and not parsed. The lines from there on are taken as `compare_lines` takes them.
 ///
-/// The caller makes sure that the spans are in order and none is empty, that the number of the source's failures is below `u64::MAX`,
-/// and that the table has fewer than 2^64 bytes as far as the source may give them. Stops with `Memory`; with `Read` only if the
-/// source failed; and with `TooLong` only if the source has more bytes than it may give.
+/// The caller makes sure of what `compare_lines` asks for. Stops as it does.
 pub fn compare_lines_by_path<S: SpanSource + Drop, P: Paths, T: Source>(
     alloc: Global,
     table: &mut T,
@@ -39,9 +36,7 @@ pub fn compare_lines_by_path<S: SpanSource + Drop, P: Paths, T: Source>(
     spans: S,
     paths: &P,
 ) -> Result<Outcome<DifferenceByPath>, Stop>
-    requires failures { T.failures table.old < 2 ^ 64 - 1 }
-    requires few { length (line_text (path_column_names version)) + length window + T.left table.old < 2 ^ 64 }
-    requires spans { (list : List spec.Span) × S.to_come spans list × AreInOrder list }
+    requires { T.failures table.old < 2 ^ 64 - 1 }
     ensures ok { IfOk result (λ outcome. (list : List spec.Span) → S.to_come spans list → AreInOrder list
         → IfSome (T.remaining table.old) (λ more. IsPathOutcome (line_text (path_column_names version) ++ (window ++ more))
         (λ version. spans_by_path version (P.bytes_of paths.now) list) outcome)) }
@@ -63,8 +58,16 @@ pub fn compare_lines_by_path<S: SpanSource + Drop, P: Paths, T: Source>(
         table,
         &mut window,
     )?;
+    let mut comparison = Comparison::past(memory, passed.spans, passed.end);
+    let next = push_lines(
+        alloc,
+        &telling,
+        &mut comparison,
+        passed.count,
+        table,
+        &mut window,
+    )?;
     let text = window.rest_after(alloc, version.header_line(), table)?;
-    let comparison = Comparison::past(memory, passed.spans, passed.end, passed.count);
-    let outcome = compare_text(alloc, &text, &telling, comparison)?;
+    let outcome = compare_after(alloc, &text, &telling, comparison, next)?;
     Ok(outcome)
 }

@@ -2,17 +2,15 @@
 ghost use Rattle.std.specs.Prelude.{◌≡◌, ◌<◌, ℕ, List, [], ◌∷◌, ◌++◌, map, None, Option, Some, IfOk, IfSome, MatchOption};
 ghost use Rattle.lnt_spans.specs.declared.position.Position as spec_position;
 ghost use Rattle.lnt_spans.specs.declared.span.Span as spec;
-ghost use Rattle.lnt_spans.specs.Counts.{addresses_answered};
-ghost use Rattle.lnt_spans.specs.Partial.{where_missed};
+ghost use Rattle.lnt_spans.specs.Partial.{addresses_answered, where_missed};
 ghost use Rattle.lnt_spans.specs.Spans.{AreInOrder};
 ghost use Rattle.lnt_compare.specs.declared.by_path.answer.DifferenceByPath as spec_difference;
-ghost use Rattle.lnt_compare.specs.Remembering.{IsRemembered};
+ghost use Rattle.lnt_compare.specs.Passing.{IsRemembered};
 ghost use Rattle.lnt_compare.specs.Held.{held_span};
-ghost use Rattle.lnt_records.specs.PathAnswers.{PathAnswer, spans_by_path};
+ghost use Rattle.lnt_records.specs.PathSpans.{PathAnswer, spans_by_path, StandInOrder, path_span_answer};
 ghost use Rattle.lnt_compare.specs.PathStretches.{ArePathStretches, stretches_of, told_path_answer};
-ghost use Rattle.lnt_records.specs.PathSpans.{StandInOrder, path_span_answer};
-ghost use Rattle.lnt_records.specs.PathRecords.{said_answer};
-ghost use Rattle.lnt_compare.specs.Stretching.{HasToldByPath, path_missed_by, path_stretches_left};
+ghost use Rattle.lnt_records.specs.PathTables.{said_answer};
+ghost use Rattle.lnt_compare.specs.Differing.{HasToldByPath, path_missed_by, path_stretches_left};
 
 use crate::by_path::answer::{AnswerByPath, DifferenceByPath};
 use crate::by_path::comparison::whole;
@@ -127,9 +125,9 @@ fn keep(kept: &mut Option<PathMemory>, memory: PathMemory)
 }
 
 impl<'t> Runs<SaidPath<'t>> for HeldSpans<'t> {
-    ghost use Rattle.lnt_records.specs.PathAnswers.{PathAnswer};
-    ghost use Rattle.lnt_records.specs.PathRecords.{said_answer};
-    ghost use Rattle.lnt_compare.specs.TableRuns.{IsTableAt, held_end, held_runs};
+    ghost use Rattle.lnt_records.specs.PathSpans.{PathAnswer};
+    ghost use Rattle.lnt_records.specs.PathTables.{said_answer};
+    ghost use Rattle.lnt_compare.specs.Held.{IsTableAt, held_end, held_runs};
 
     ghost Value = { PathAnswer };
 

@@ -1,10 +1,10 @@
 //! What tables by path contain of an answer.
 ghost use Rattle.std.specs.Prelude.{◌≡◌, ◌≢◌, ℕ, List, IfOk, MatchBool, option_map};
 ghost use Rattle.lnt_spans.specs.AnyStretches.{stretch_at};
-ghost use Rattle.lnt_compare.specs.Remembering.{IsRemembered};
-ghost use Rattle.lnt_records.specs.PathAnswers.{path_answer, told_column};
+ghost use Rattle.lnt_compare.specs.Passing.{IsRemembered};
+ghost use Rattle.lnt_records.specs.PathSpans.{path_answer, told_column};
 ghost use Rattle.lnt_compare.specs.PathStretches.{stretch_of, told_path_answer};
-ghost use Rattle.lnt_records.specs.PathRecords.{said_answer};
+ghost use Rattle.lnt_records.specs.PathTables.{said_answer};
 
 use crate::by_path::answer::{AnswerByPath, DifferenceByPath};
 use crate::by_path::known::has_told_path;
@@ -49,10 +49,10 @@ pub(crate) struct PathTelling<'p, 'r, P> {
 impl<'p, 'r, P: Paths> Telling for PathTelling<'p, 'r, P> {
     ghost use Rattle.std.specs.Prelude.{◌≡◌};
     ghost use Rattle.lnt_records.specs.KeptPaths.{AreTold};
-    ghost use Rattle.lnt_compare.specs.Remembering.{IsRemembered};
-    ghost use Rattle.lnt_records.specs.PathAnswers.{PathAnswer, path_answer};
+    ghost use Rattle.lnt_compare.specs.Passing.{IsRemembered};
+    ghost use Rattle.lnt_records.specs.PathSpans.{PathAnswer, path_answer};
     ghost use Rattle.lnt_compare.specs.PathStretches.{stretch_of};
-    ghost use Rattle.lnt_records.specs.PathRecords.{said_answer};
+    ghost use Rattle.lnt_records.specs.PathTables.{said_answer};
 
     type Said = SaidPath<'r>;
 

@@ -4,9 +4,8 @@ ghost use Rattle.std.specs.Io.KnownBytes.{Appends};
 ghost use Rattle.std.specs.List.{AllByRecursion};
 ghost use Rattle.lnt_spans.specs.declared.position.Position as position;
 ghost use Rattle.lnt_spans.specs.declared.span.Span as spec;
-ghost use Rattle.lnt_spans.specs.Spans.{AreInOrder, span_answer};
-ghost use Rattle.lnt_spans.specs.Instructions.{IsOfInstructions};
-ghost use Rattle.lnt_records.specs.PathAnswers.{spans_by_path};
+ghost use Rattle.lnt_spans.specs.Spans.{AreInOrder, span_answer, IsOfInstructions};
+ghost use Rattle.lnt_records.specs.PathSpans.{spans_by_path};
 ghost use Rattle.lnt_compare.specs.Canonical.{BeginsPathTable, HasBecome, IsCanonicalPathTable};
 
 use crate::by_path::border::first_operation;

@@ -2,7 +2,7 @@
 ghost use Rattle.std.specs.Prelude.{◌≡◌, ◌<◌, ◌↔◌, IsTrue, MatchOption, length};
 ghost use Rattle.std.specs.List.{AllByRecursion};
 ghost use Rattle.lnt_header.specs.HeaderTests.{IsFirstNot};
-ghost use Rattle.lnt_files.specs.Seen.{first_missing, HasAll, IsFilesFault, NamesDirectoryBelow};
+ghost use Rattle.lnt_files.specs.Walks.{first_missing, HasAll, IsFilesFault, NamesDirectoryBelow};
 ghost use Rattle.lnt_files.specs.Tables.{HasUsableFormat, HasPath, AreUsableTables, IsTablesFault};
 
 use crate::ends::StringEnds;

@@ -1,7 +1,7 @@
 //! The paths and MD5 sums of files, each built on request (DWARF 5, section 6.2.4.1).
 ghost use Rattle.std.specs.Prelude.{◌≡◌, ◌<◌, ◌↔◌, length, IfOk, IsSome, option_map};
 ghost use Rattle.lnt_files.specs.Paths.{path_bytes, listed_sum};
-ghost use Rattle.lnt_files.specs.Seen.{EntryAt};
+ghost use Rattle.lnt_files.specs.Walks.{EntryAt};
 ghost use Rattle.lnt_files.specs.Tables.{AreUsableTables};
 
 use crate::contents::place_of;

@@ -3,8 +3,7 @@ ghost use Rattle.std.specs.Prelude.{◌≡◌, ◌≢◌, ◌≤◌, length, Mat
 ghost use Rattle.csv.specs.Records.{fields_of};
 ghost use Rattle.lnt_records.specs.Table.{AreNamed};
 ghost use Rattle.lnt_records.specs.declared.by_path.version.PathVersion.TheVariants as version;
-ghost use Rattle.lnt_records.specs.PathTables.{path_column_count, path_column_names, PathVersion};
-ghost use Rattle.lnt_records.specs.PathRecords.{place_names};
+ghost use Rattle.lnt_records.specs.PathTables.{path_column_count, path_column_names, PathVersion, place_names};
 
 use crate::by_path::version::PathVersion;
 use crate::column::is_field;

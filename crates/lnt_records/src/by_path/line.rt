@@ -1,9 +1,8 @@
 //! Writes the line of a span: the addresses, the path as a field, and the line in the file with what follows it.
 ghost use Rattle.std.specs.Prelude.{◌<◌, ℕ, List, [], drop, OnOk};
-ghost use Rattle.lnt_text.specs.Delimited.{Begins};
-ghost use Rattle.lnt_text.specs.Digits.{IsPlainAddress, IsPlainDecimal};
+ghost use Rattle.lnt_text.specs.Digits.{Begins, IsPlainAddress, IsPlainDecimal};
 ghost use Rattle.lnt_records.specs.Progress.{AddsLine};
-ghost use Rattle.lnt_records.specs.PathAnswers.{path_answer, told_column};
+ghost use Rattle.lnt_records.specs.PathSpans.{path_answer, told_column};
 ghost use Rattle.lnt_records.specs.PathLines.{AreFieldsOf, IsPlace, plain_told};
 
 use crate::by_path::fields::PathFields;

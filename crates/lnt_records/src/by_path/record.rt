@@ -2,8 +2,7 @@
 ghost use Rattle.std.specs.Prelude.{◌≡◌, length, IfOk, IfErr};
 ghost use Rattle.csv.specs.Records.{fields_of};
 ghost use Rattle.lnt_text.specs.Digits.{IsAddress, IsDecimal};
-ghost use Rattle.lnt_records.specs.PathTables.{SaysColumn, SaysPath, path_column_count, path_kinds};
-ghost use Rattle.lnt_records.specs.PathRecords.{record_answer};
+ghost use Rattle.lnt_records.specs.PathTables.{SaysColumn, SaysPath, path_column_count, path_kinds, record_answer};
 ghost use Rattle.lnt_records.specs.Progress.{AreSoundBefore, IsColumnFault, IsRecordFault};
 
 use crate::by_path::header::columns;

@@ -3,6 +3,7 @@ use crate::samples::{Narrow, Reader, TABLE, failing, whole};
 use lnt_cli::{CliStop, Opener, Status, run};
 use lnt_io::OpenedFile;
 use std::alloc::{AllocError, Global};
+use std::io;
 
 // Files by their names: a section F, its table T, lines of addresses A, and a source file, which holds `abc`. One of them
 // fails after this many bytes.
@@ -67,9 +68,9 @@ pub(crate) fn ran(
     line: &str,
     room: usize,
 ) -> (Result<Status, CliStop>, Vec<u8>) {
-    let mut out = Narrow::new(alloc, room);
+    let mut out = Narrow::new(alloc, 1, room);
     let ended = match words(alloc, line) {
-        Ok(words) => run(alloc, words, &mut files, &mut out),
+        Ok(words) => run(alloc, words, &mut files, &mut out, &mut io::sink()),
         Err(error) => Err(CliStop::from(error)),
     };
     (ended, out.into_taken())

@@ -77,19 +77,21 @@ impl Read for Pieces<'_> {
     }
 }
 
-/// Takes one byte at a time, and this many in all.
+/// Takes a piece at a time. After some writes it fails each further one.
 #[derive(Drop)]
 pub(crate) struct Narrow {
     taken: Vec<u8>,
-    room: usize,
+    piece: usize,
+    sound: usize,
 }
 
 impl Narrow {
-    /// A writer with room for this many bytes.
-    pub(crate) fn new(alloc: Global, room: usize) -> Narrow {
+    /// Takes at most `piece` bytes at a time. The first `sound` writes succeed, and each one after them fails.
+    pub(crate) fn new(alloc: Global, piece: usize, sound: usize) -> Narrow {
         Narrow {
             taken: Vec::new(alloc),
-            room,
+            piece,
+            sound,
         }
     }
 
@@ -101,14 +103,13 @@ impl Narrow {
 
 impl Write for Narrow {
     fn write(&mut self, buf: &[u8]) -> io::Result<usize> {
-        if self.taken.len() >= self.room {
+        if self.sound == 0 {
             return Err(io::Error::from(io::ErrorKind::BrokenPipe));
         }
-        let Some(first) = buf.first() else {
-            return Ok(0);
-        };
-        self.taken.push(*first)?;
-        Ok(1)
+        self.sound -= 1;
+        let count = self.piece.min(buf.len());
+        self.taken.extend_from_slice(&buf[..count])?;
+        Ok(count)
     }
 
     fn flush(&mut self) -> io::Result<()> {

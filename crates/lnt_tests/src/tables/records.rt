@@ -45,15 +45,18 @@ fn tables_written(rt: HostRuntime) {
     assert!(rt; out.as_slice() == TABLE);
 }
 
-// Whether a writer with room for this many bytes stops the table.
-fn is_refused(alloc: Global, room: usize) -> bool {
-    let mut out = Narrow::new(alloc, room);
+// Whether a writer that takes pieces of this size, and fails after some of them, stops the table.
+fn is_refused(alloc: Global, piece: usize, sound: usize) -> bool {
+    let mut out = Narrow::new(alloc, piece, sound);
     write_spans(alloc, &narrow_plain(), Version::One, &mut out) == Err(WriteStop::Write)
 }
 
 #[test]
 fn writers_at_fault(rt: HostRuntime) {
-    assert!(rt; is_refused(rt.alloc(), 0));
-    assert!(rt; is_refused(rt.alloc(), TABLE.len() - 1));
-    assert!(rt; !is_refused(rt.alloc(), TABLE.len()));
+    assert!(rt; is_refused(rt.alloc(), 1, 0));
+    assert!(rt; is_refused(rt.alloc(), 1, TABLE.len() - 1));
+    assert!(rt; !is_refused(rt.alloc(), 1, TABLE.len()));
+    assert!(rt; is_refused(rt.alloc(), 10, 0));
+    assert!(rt; is_refused(rt.alloc(), 10, 10));
+    assert!(rt; !is_refused(rt.alloc(), 10, 11));
 }

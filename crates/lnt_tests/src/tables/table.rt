@@ -94,9 +94,9 @@ fn is_written(alloc: Global) -> bool {
     write_table(alloc, &lines, Version::One, &mut out).is_ok() && out.as_slice() == TABLE
 }
 
-// Whether a writer with room for this many bytes stops the table of `PLAIN`.
-fn is_refused(alloc: Global, room: usize) -> bool {
-    let mut out = Narrow::new(alloc, room);
+// Whether a writer that takes pieces of this size, and fails after some of them, stops the table of `PLAIN`.
+fn is_refused(alloc: Global, piece: usize, sound: usize) -> bool {
+    let mut out = Narrow::new(alloc, piece, sound);
     lines_of(alloc, &PLAIN).is_some_and(|lines| {
         write_table(alloc, &lines, Version::One, &mut out) == Err(WriteStop::Write)
     })
@@ -105,6 +105,8 @@ fn is_refused(alloc: Global, room: usize) -> bool {
 #[test]
 fn tables_written(rt: HostRuntime) {
     assert!(rt; is_written(rt.alloc()));
-    assert!(rt; is_refused(rt.alloc(), 0));
-    assert!(rt; is_refused(rt.alloc(), 30));
+    assert!(rt; is_refused(rt.alloc(), 1, 0));
+    assert!(rt; is_refused(rt.alloc(), 1, 30));
+    assert!(rt; is_refused(rt.alloc(), 10, 0));
+    assert!(rt; is_refused(rt.alloc(), 10, 3));
 }

@@ -1,6 +1,5 @@
 use Rattle.std.proofs.Common.{◌≡◌, List, ℕ, drop, refl, rules, subst, sym}
-use Rattle.lnt_text.specs.Delimited.{Begins}
-use Rattle.lnt_text.specs.Digits.{IsAddress, IsDecimal}
+use Rattle.lnt_text.specs.Digits.{Begins, IsAddress, IsDecimal}
 use Rattle.lnt_answers.proofs.AddressLineLemmas.{address_line, comma_line}
 use Rattle.lnt_answers.proofs.CommaLemmas.{rest_after}
 use Rattle.lnt_answers.proofs.addresses.line_at.Goals as goal

@@ -1,9 +1,9 @@
 use Rattle.std.proofs.Common.{◌≡◌, [], Option}
 use Rattle.lnt_spans.specs.declared.answer.Answer.{Answer}
 use Rattle.lnt_spans.specs.declared.position.Position.{Position}
-use Rattle.lnt_spans.specs.Differing.{HasTold, stretches_left}
-use Rattle.lnt_spans.specs.Stretches.{stretch_of}
-use Rattle.lnt_answers.specs.DifferenceLines.{stretch_line}
+use Rattle.lnt_spans.specs.Stretching.{HasTold, stretches_left}
+use Rattle.lnt_spans.specs.Differences.{stretch_of}
+use Rattle.lnt_answers.specs.Stretches.{stretch_line}
 use Rattle.lnt_answers.proofs.ScopeLemmas.{HasPrinted}
 use Rattle.lnt_answers.proofs.differences.print_differences.Given as goal
 

@@ -1,5 +1,5 @@
 use Rattle.lnt_io.proofs.PrefixLaws.{prefix_none, so_stopped}
-use Rattle.lnt_answers.specs.FileLines.{file_record}
+use Rattle.lnt_answers.specs.Lines.{file_record}
 use Rattle.lnt_answers.proofs.files.print_file.Goals as goal
 
 pub returns-in_err-bytes-clause-prefix : goal.returns-in_err-bytes-clause-prefix

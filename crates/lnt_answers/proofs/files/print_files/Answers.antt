@@ -2,7 +2,7 @@ use Rattle.std.proofs.Common.{rules, codes, arith, flat_map}
 use Rattle.std.proofs.lemmas.Grind.{elements}
 use Rattle.lnt_io.proofs.PrefixLaws.{prefix_before, prefix_in_items, so_stopped}
 use Rattle.lnt_answers.proofs.FileLemmas.{appended_all, appended_more}
-use Rattle.lnt_answers.specs.FileLines.{unit_records}
+use Rattle.lnt_answers.specs.Lines.{unit_records}
 use Rattle.lnt_answers.proofs.files.print_files.Goals as goal
 
 pub loop-unit-preserved : goal.loop-unit-preserved

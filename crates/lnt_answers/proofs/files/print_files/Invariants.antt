@@ -1,6 +1,6 @@
 use Rattle.std.proofs.Common.{◌++◌, codes, take, flat_map}
 use Rattle.std.specs.Io.KnownBytes.{Appends}
-use Rattle.lnt_answers.specs.FileLines.{unit_records}
+use Rattle.lnt_answers.specs.Lines.{unit_records}
 use Rattle.lnt_answers.proofs.files.print_files.Given as goal
 
 abbrev pub invariant-loop-unit : goal.invariant-loop-unit

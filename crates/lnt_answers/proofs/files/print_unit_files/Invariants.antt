@@ -1,5 +1,5 @@
 use Rattle.std.specs.Io.KnownBytes.{Appends}
-use Rattle.lnt_answers.specs.FileLines.{file_record, lists_below}
+use Rattle.lnt_answers.specs.Lines.{file_record, lists_below}
 use Rattle.lnt_answers.proofs.files.print_unit_files.Given as goal
 
 abbrev pub invariant-loop-file : goal.invariant-loop-file

@@ -3,7 +3,7 @@ use Rattle.std.specs.Io.KnownBytes.{Appends}
 use Rattle.std.proofs.KnownBytes.{Appends-nil}
 use Rattle.lnt_io.specs.Prefixes.{AppendsPrefix}
 use Rattle.lnt_io.proofs.PrefixLaws.{so_stopped}
-use Rattle.lnt_spans.specs.Counts.{addresses_answered}
+use Rattle.lnt_spans.specs.Partial.{addresses_answered}
 use Rattle.lnt_sequences.specs.Sequences.{line_answer}
 use Rattle.lnt_table.specs.declared.within.CheckedWithin.{CheckedWithin}
 use Rattle.lnt_answers.specs.Stepping.{end_text}

@@ -1,9 +1,9 @@
 use Rattle.std.proofs.Common.{◌≡◌, [], Option}
 use Rattle.lnt_spans.specs.declared.position.Position.{Position}
-use Rattle.lnt_records.specs.PathAnswers.{PathAnswer}
+use Rattle.lnt_records.specs.PathSpans.{PathAnswer}
 use Rattle.lnt_compare.specs.PathStretches.{stretch_of, stretches_of}
-use Rattle.lnt_compare.specs.Stretching.{HasToldByPath, path_stretches_left}
-use Rattle.lnt_answers.specs.DifferenceLines.{path_stretch_line}
+use Rattle.lnt_compare.specs.Differing.{HasToldByPath, path_stretches_left}
+use Rattle.lnt_answers.specs.Stretches.{path_stretch_line}
 use Rattle.lnt_answers.proofs.ScopeLemmas.{HasPrinted}
 use Rattle.lnt_answers.proofs.stretches.print_path_differences.Given as goal
 

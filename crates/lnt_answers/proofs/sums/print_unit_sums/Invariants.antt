@@ -1,5 +1,5 @@
 use Rattle.lnt_io.specs.Files.{TellsNoMore}
-use Rattle.lnt_answers.specs.FileLines.{lists_below}
+use Rattle.lnt_answers.specs.Lines.{lists_below}
 use Rattle.lnt_answers.specs.SumLines.{AreSumsTold, listed_at}
 use Rattle.lnt_answers.proofs.sums.print_unit_sums.Given as goal
 

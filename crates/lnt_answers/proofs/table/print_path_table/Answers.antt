@@ -3,7 +3,7 @@ use Rattle.lnt_io.proofs.PrefixLaws.{prefix_since, so_stopped}
 use Rattle.lnt_answers.specs.PathTables.{operation_line}
 use Rattle.lnt_answers.proofs.PathTableLemmas.{line_begun, table_begun}
 use Rattle.lnt_answers.proofs.table.print_path_table.Goals as goal
-use Rattle.lnt_table.specs.ByPath.{told_path}
+use Rattle.lnt_table.specs.Headline.{told_path}
 
 pub returns-in_err-print_line-in-OperationIndex-clause-begun : goal.returns-in_err-print_line-in-OperationIndex-clause-begun
 returns-in_err-print_line-in-OperationIndex-clause-begun g c =

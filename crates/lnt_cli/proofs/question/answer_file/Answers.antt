@@ -1,22 +1,60 @@
-use Rattle.lnt_cli.specs.Questions.{AnswersGoodFile, AnswersJudged, BeginsGoodFile, BeginsJudged}
-use Rattle.lnt_cli.proofs.QuestionLemmas.{of_file_answered}
-use Rattle.lnt_cli.proofs.StopLemmas.{of_file_stopped}
+use Rattle.std.proofs.Common.{◌∙◌, sym}
+use Rattle.std.proofs.lemmas.Result.{IfOk-weaker}
+use Rattle.lnt_cli.proofs.QuestionLemmas.{of_file}
+use Rattle.lnt_cli.proofs.StopLemmas.{begun_of}
 use Rattle.lnt_cli.proofs.question.answer_file.Goals as goal
+
+pub returns-in-Check-false-default-clause-answer : goal.returns-in-Check-false-default-clause-answer
+returns-in-Check-false-default-clause-answer g c =
+    let arm = c.in-Check-false-default in
+    rw (arm.is, ← sym arm.all-test ∙ arm.all-is, ← arm.partial-is, ← c.of-scope.ensures)
+    (IfOk-weaker c.check_table.result _ _
+    (λ answered so.
+    of_file (g.O.Opener.tells c.args.opener.now) c.args.from.now c.args.file.now _ _ _ _ _ c.in_ok-files.ensures.texts
+    c.in_ok-files.ensures.told (c.open_judged.ensures.later _ _ c.in_ok-other.ensures.told) so)
+    c.check_table.ensures.answer)
+
+pub returns-in-Check-false-default-clause-stopped : goal.returns-in-Check-false-default-clause-stopped
+returns-in-Check-false-default-clause-stopped g c =
+    let arm = c.in-Check-false-default in
+    rw (arm.is, ← sym arm.all-test ∙ arm.all-is, ← arm.partial-is, ← c.of-scope.ensures)
+    (begun_of _ _ _ c.check_table.result c.check_table.ensures.stopped
+    (λ begun.
+    of_file (g.O.Opener.tells c.args.opener.now) c.args.from.now c.args.file.now _ _ _ _ _ c.in_ok-files.ensures.texts
+    c.in_ok-files.ensures.told (c.open_judged.ensures.later _ _ c.in_ok-other.ensures.told) begun))
+
+pub returns-in-Check-true-default-clause-answer : goal.returns-in-Check-true-default-clause-answer
+returns-in-Check-true-default-clause-answer g c =
+    let arm = c.in-Check-true-default in
+    rw (arm.is, ← sym arm.all-test ∙ arm.all-is)
+    (IfOk-weaker c.answer_both.result _ _
+    (λ answered so.
+    of_file (g.O.Opener.tells c.args.opener.now) c.args.from.now c.args.file.now _ _ _ _ _ c.in_ok-files.ensures.texts
+    c.in_ok-files.ensures.told (c.open_judged.ensures.later _ _ c.in_ok-other.ensures.told) so)
+    (rw arm.is at c.answer_both.ensures.answer))
+
+pub returns-in-Check-true-default-clause-stopped : goal.returns-in-Check-true-default-clause-stopped
+returns-in-Check-true-default-clause-stopped g c =
+    let arm = c.in-Check-true-default in
+    rw (arm.is, ← sym arm.all-test ∙ arm.all-is)
+    (begun_of _ _ _ c.answer_both.result (rw arm.is at c.answer_both.ensures.stopped)
+    (λ begun.
+    of_file (g.O.Opener.tells c.args.opener.now) c.args.from.now c.args.file.now _ _ _ _ _ c.in_ok-files.ensures.texts
+    c.in_ok-files.ensures.told (c.open_judged.ensures.later _ _ c.in_ok-other.ensures.told) begun))
 
 pub returns-clause-answer : goal.returns-clause-answer
 returns-clause-answer g c =
-    let old = g.W.Write.contents c.args.out.now in
-    let new = g.W.Write.contents c.answer_both.new.out in
-    of_file_answered (g.O.Opener.tells c.args.opener.now) c.args.from.now c.args.file.now
-    (λ answered bytes. AnswersJudged (AnswersGoodFile c.args.question bytes) old new answered.status)
-    c.in_ok-files.files.texts _ _ c.answer_both.result c.in_ok-files.ensures.texts c.in_ok-files.ensures.told
-    (c.open_judged.ensures.later _ _ c.in_ok-other.ensures.told) c.answer_both.ensures.answer
+    rw c.in-Lines.is
+    (IfOk-weaker c.answer_both-in-Lines.result _ _
+    (λ answered so.
+    of_file (g.O.Opener.tells c.args.opener.now) c.args.from.now c.args.file.now _ _ _ _ _ c.in_ok-files.ensures.texts
+    c.in_ok-files.ensures.told (c.open_judged.ensures.later _ _ c.in_ok-other.ensures.told) so)
+    (rw c.in-Lines.is at c.answer_both-in-Lines.ensures.answer))
 
 pub returns-clause-stopped : goal.returns-clause-stopped
 returns-clause-stopped g c =
-    let old = g.W.Write.contents c.args.out.now in
-    let new = g.W.Write.contents c.answer_both.new.out in
-    of_file_stopped (g.O.Opener.tells c.args.opener.now) c.args.from.now c.args.file.now
-    (λ bytes. BeginsJudged (BeginsGoodFile c.args.question bytes) old new) old new c.in_ok-files.files.texts _
-    _ c.answer_both.result c.in_ok-files.ensures.texts c.in_ok-files.ensures.told (c.open_judged.ensures.later _ _ c.in_ok-other.ensures.told)
-    c.answer_both.ensures.stopped
+    rw c.in-Lines.is
+    (begun_of _ _ _ c.answer_both-in-Lines.result (rw c.in-Lines.is at c.answer_both-in-Lines.ensures.stopped)
+    (λ begun.
+    of_file (g.O.Opener.tells c.args.opener.now) c.args.from.now c.args.file.now _ _ _ _ _ c.in_ok-files.ensures.texts
+    c.in_ok-files.ensures.told (c.open_judged.ensures.later _ _ c.in_ok-other.ensures.told) begun))

@@ -1,17 +1,14 @@
-use Rattle.lnt_cli.specs.Questions.{BeginsGood, BeginsJudged}
 use Rattle.std.proofs.Common.{inr}
 use Rattle.lnt_io.proofs.PrefixLaws.{so_stopped}
 use Rattle.lnt_lines.specs.declared.section.JudgedIndex.TheVariants.{Good}
+use Rattle.lnt_cli.specs.Questions.{BeginsGood}
 use Rattle.lnt_cli.proofs.StopLemmas.{begins_bad, stopped_by}
 use Rattle.lnt_cli.proofs.question.answer_opened.Goals as goal
 
 pub returns-in_err-index-clause-stopped : goal.returns-in_err-index-clause-stopped
 returns-in_err-index-clause-stopped g c =
-    let old = g.W.Write.contents c.args.out.now in
-    let new = g.W.Write.contents c.judge.new.out in
-    begins_bad c.args.files.now.texts c.args.from.now (g.S.Source.remaining c.args.files.now.section)
-    (BeginsJudged (BeginsGood (g.O.Opener.tells c.args.opener.now) c.args.question.now) old new)
-    old new c.from_residual-in_err-index.result (λ reason prefix. prefix) c.in_err-index.ensures.stopped
+    begins_bad c.args.from.now (BeginsGood (g.O.Opener.tells c.args.opener.now) c.args.question.now) _ _ _ _ _
+    c.from_residual-in_err-index.result c.in_err-index.ensures.stopped
 
 pub returns-in_err-status-in-Good-clause-stopped : goal.returns-in_err-status-in-Good-clause-stopped
 returns-in_err-status-in-Good-clause-stopped g c =

@@ -1,17 +1,27 @@
-use Rattle.lnt_cli.proofs.QuestionLemmas.{question_of}
-use Rattle.lnt_cli.proofs.StopLemmas.{question_stopped}
+use Rattle.std.proofs.lemmas.Result.{IfOk-weaker}
+use Rattle.lnt_cli.proofs.QuestionLemmas.{judged_later, of_section}
+use Rattle.lnt_cli.proofs.StopLemmas.{begun_of, judged_begun_later}
 use Rattle.lnt_cli.proofs.question.answer_question.Goals as goal
 
 pub returns-clause-answer : goal.returns-clause-answer
 returns-clause-answer g c =
-    question_of (g.O.Opener.tells c.args.opener.now) (g.O.Opener.tells c.open_judged.new.opener) c.args.from.now c.args.question.now
-    (g.W.Write.contents c.args.out.now) (g.W.Write.contents c.answer_opened.new.out) c.in_ok-files.files.texts _ c.answer_opened.result
-    (λ answered. answered.status) c.in_ok-files.ensures.texts c.in_ok-files.ensures.told c.open_judged.ensures.later
+    IfOk-weaker c.answer_opened.result _ _
+    (λ answered so.
+    of_section (g.O.Opener.tells c.args.opener.now) c.args.from.now _ _ _ _ c.in_ok-files.ensures.texts c.in_ok-files.ensures.told (
+      so.0,
+      so.1,
+      judged_later _ (g.O.Opener.tells c.open_judged.new.opener) c.args.question.now _ _ _ so.0
+          c.open_judged.ensures.later so.2,
+    ))
     c.answer_opened.ensures.answer
 
 pub returns-clause-stopped : goal.returns-clause-stopped
 returns-clause-stopped g c =
-    question_stopped (g.O.Opener.tells c.args.opener.now) (g.O.Opener.tells c.open_judged.new.opener) c.args.from.now
-    c.args.question.now (g.W.Write.contents c.args.out.now) (g.W.Write.contents c.answer_opened.new.out) c.in_ok-files.files.texts _
-    c.answer_opened.result c.in_ok-files.ensures.texts c.in_ok-files.ensures.told c.open_judged.ensures.later
-    c.answer_opened.ensures.stopped
+    begun_of _ _ _ c.answer_opened.result c.answer_opened.ensures.stopped
+    (λ begun.
+    of_section (g.O.Opener.tells c.args.opener.now) c.args.from.now _ _ _ _ c.in_ok-files.ensures.texts c.in_ok-files.ensures.told (
+      begun.0,
+      begun.1,
+      judged_begun_later _ (g.O.Opener.tells c.open_judged.new.opener) c.args.question.now _ _ begun.0
+          c.open_judged.ensures.later begun.2,
+    ))

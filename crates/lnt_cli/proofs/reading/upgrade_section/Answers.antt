@@ -1,5 +1,5 @@
 use Rattle.std.proofs.Common.{◌≡◌, option_map, option_copied}
-use Rattle.lnt_words.specs.Sizes.{size_bytes}
+use Rattle.lnt_words.specs.Words.{size_bytes}
 use Rattle.lnt_cli.proofs.UpgradeLemmas.{text_before, told_of}
 use Rattle.lnt_cli.proofs.reading.upgrade_section.Goals as goal
 

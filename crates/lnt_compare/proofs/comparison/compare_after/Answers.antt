@@ -1,8 +1,8 @@
 use Rattle.lnt_compare.proofs.comparison.compare_after.Goals as goal
 
 pub returns-in-Ok : goal.returns-in-Ok
-returns-in-Ok g c first list passed bytes narrow begins cut j =
-    let now = rw c.in_default.is at c.in_ok-fault.ensures first list passed bytes narrow begins cut j in
+returns-in-Ok g c first list passed bytes narrow begins cut j number =
+    let now = rw c.in_default.is at c.in_ok-fault.ensures first list passed bytes narrow begins cut j number in
     record {
       comparison = c.take_records.new.state;
       more = now.0;

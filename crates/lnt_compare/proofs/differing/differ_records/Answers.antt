@@ -26,8 +26,8 @@ returns-clause-started g c =
     (all_to_come version known.0 (span_answer known.0) known.2 (λ p. refl)) (c.all.ensures known.0 known.1)))
     c.differ_after.ensures
 
-pub gather_after-gathered-requires-clause-begins : goal.gather_after-gathered-requires-clause-begins
-gather_after-gathered-requires-clause-begins g c = rw c.in-Some.is at c.in_ok-version.ensures
+pub gather_after-gathered-requires : goal.gather_after-gathered-requires
+gather_after-gathered-requires g c = rw c.in-Some.is at c.in_ok-version.ensures
 
 pub returns-in_default-clause-differing : goal.returns-in_default-clause-differing
 returns-in_default-clause-differing g c list section coming order answers = rw c.in_default.is at c.in_ok-version.ensures

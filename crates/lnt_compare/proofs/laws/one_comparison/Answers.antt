@@ -1,7 +1,7 @@
 use Rattle.lnt_records.proofs.NumberLaws.{numbered}
 use Rattle.lnt_records.proofs.PathLaws.{pathed}
 use Rattle.lnt_compare.specs.Comparisons.{tables_by_number}
-use Rattle.lnt_compare.specs.PathOutcomes.{tables_by_path}
+use Rattle.lnt_compare.specs.Outcomes.{tables_by_path}
 use Rattle.lnt_compare.proofs.ComparedLaws.{one_comparison}
 use Rattle.lnt_compare.proofs.laws.one_comparison.Goals as goal
 

@@ -1,50 +1,70 @@
-use Rattle.std.proofs.Common.{◌∙◌, arith, drop, refl}
-use Rattle.std.proofs.lemmas.Grind.{common_steps}
-use Rattle.lnt_records.specs.Lines.{IsTextLine}
-use Rattle.lnt_compare.proofs.PassingLemmas.{few_read, reads_filled, reads_line, reads_none}
+use Rattle.std.proofs.Common.{◌∙◌, [], ◌++◌, ap, arith, drop, length, length-append, refl}
+use Rattle.std.proofs.lemmas.List.Elements.{All-nil}
+use Rattle.lnt_records.specs.PathLines.{IsPlainByte}
+use Rattle.lnt_compare.proofs.ComparisonLemmas.{lines_none, lines_taken}
+use Rattle.lnt_compare.proofs.PassingLemmas.{filled}
+use Rattle.lnt_compare.proofs.WindowLaws.{passes_line, passes_none}
 use Rattle.lnt_compare.proofs.lines.push_lines.Goals as goal
 
-pub loop-window-init : goal.loop-window-init
-loop-window-init g c = record {
-  failures = refl;
-  reads = reads_none g.S.SpanSource.to_come c.args.version c.args.comparison.now (g.T.Source.remaining c.args.source.now)
-      (g.T.Source.left c.args.source.now) c.args.window.now;
-}
+pub loop-last-init : goal.loop-last-init
+loop-last-init g c = (
+  [],
+  refl,
+  c.requires.right,
+  rw c.new-last.ensures.items (All-nil IsPlainByte),
+  passes_none _ _ _,
+  lines_none _ _ _ _ _ _,
+)
 
-pub push-requires-clause-few : goal.push-requires-clause-few
-push-requires-clause-few g c =
-    let window = c.fill.new.self in
-    let rest = drop c.in-Some.length window in
-    let line : IsTextLine c.args.version c.in-Some.span window rest = rw c.bytes.ensures at c.in-Some.ensures in
-    let filled = reads_filled g.S.SpanSource.to_come c.args.version c.args.comparison.now c.loop-window.comparison _ _ _ _ _ _
-    c.args.window.now c.loop-window.window window c.loop-window.invariant.reads c.in_ok-fill.ensures.taken in
-    few_read g.S.SpanSource.to_come c.args.version c.args.comparison.now c.loop-window.comparison _ _ _ _ c.args.window.now window rest
-    c.in-Some.span filled line c.requires.few
+pub returns-then-not-branch-clause-ok : goal.returns-then-not-branch-clause-ok
+returns-then-not-branch-clause-ok g c =
+    let inv = c.loop-last.invariant in
+    let same = rw c.in_default.is at c.in_ok-length.ensures.taken in
+    rw same (inv.0, filled _ _ _ _ _ _ _ _ _ inv.0 inv.4 c.in_ok-grow.ensures.taken, inv.5)
 
-pub returns-in_default-clause-ok : goal.returns-in_default-clause-ok
-returns-in_default-clause-ok g c =
-    let filled = reads_filled g.S.SpanSource.to_come c.args.version c.args.comparison.now c.loop-window.comparison _ _ _ _ _ _
-    c.args.window.now c.loop-window.window c.fill.new.self c.loop-window.invariant.reads c.in_ok-fill.ensures.taken in
-    (filled.text, filled.bytes, filled.records, filled.text_is, filled.taken)
+pub loop-last-preserved-in_default : goal.loop-last-preserved-in_default
+loop-last-preserved-in_default g c =
+    let inv = c.loop-last.invariant in
+    let same = rw c.in_default.is at c.in_ok-length.ensures.taken in (
+      inv.0,
+      c.in_ok-grow.ensures.failures.no_failure (λ e. cc e) ∙ inv.1,
+      c.in_ok-length.ensures.right,
+      c.in_ok-length.ensures.plain,
+      filled _ _ _ _ _ _ _ _ _ inv.0 inv.4 c.in_ok-grow.ensures.taken,
+      rw same inv.5,
+    )
 
-pub returns-in-Ok-false-clause-ok : goal.returns-in-Ok-false-clause-ok
-returns-in-Ok-false-clause-ok g c =
-    let known = rw c.in-Ok-false.field-0-test at c.in-Ok-false.ensures.pushed in
-    let filled = reads_filled g.S.SpanSource.to_come c.args.version c.args.comparison.now c.loop-window.comparison _ _ _ _ _ _
-    c.args.window.now c.loop-window.window c.fill.new.self c.loop-window.invariant.reads c.in_ok-fill.ensures.taken in
-    rw known.0 (filled.text, filled.bytes, filled.records, filled.text_is, filled.taken)
+pub loop-last-preserved : goal.loop-last-preserved
+loop-last-preserved g c =
+    let inv = c.loop-last.invariant in
+    let taken = rw (c.in-Some.is, c.bytes.ensures) at c.in_ok-length.ensures.taken in
+    let line = taken.1 in (
+      inv.0 ++ g.L.LineTelling.plain.line line.fields,
+      inv.1,
+      c.in_ok-length.ensures.right,
+      c.in_ok-length.ensures.plain,
+      rw c.pass.ensures (passes_line _ _ _ _ _ _ _ inv.0 _ inv.4 line.joined),
+      lines_taken _ _ _ _ _ _ _ inv.0 _ _ _ _ _ taken.0 inv.5 line taken.2 c.in_ok-number.ensures,
+    )
 
-pub loop-window-preserved : goal.loop-window-preserved
-loop-window-preserved g c =
-    let inv = c.loop-window.invariant in
-    let window = c.fill.new.self in
-    let rest = drop c.in-Some.length window in
-    let line : IsTextLine c.args.version c.in-Some.span window rest = rw c.bytes.ensures at c.in-Some.ensures in
-    let filled = reads_filled g.S.SpanSource.to_come c.args.version c.args.comparison.now c.loop-window.comparison _ _ _ _ _ _
-    c.args.window.now c.loop-window.window window inv.reads c.in_ok-fill.ensures.taken in
-    let reads = reads_line g.S.SpanSource.to_come c.args.version c.args.comparison.now c.loop-window.comparison c.push.new.self _ _ _ _
-    c.args.window.now window rest c.in-Some.span filled line (rw c.in-Ok-true.field-0-test at c.in-Ok-true.ensures.pushed) in
-    record { failures = c.in_ok-fill.ensures.failures.no_failure (λ e. cc e) ∙ inv.failures; reads = rw c.pass.ensures reads }
+pub loop-last-smaller-in_default : goal.loop-last-smaller-in_default
+loop-last-smaller-in_default g c =
+    omega (
+      arith,
+      c.in_ok-grow.ensures.more (cc),
+      c.in_ok-grow.ensures.taken.count,
+      ap length c.in_ok-grow.ensures.taken.joined,
+      length-append c.loop-last.window c.in_ok-grow.ensures.taken.given,
+    )
 
-pub loop-window-smaller : goal.loop-window-smaller
-loop-window-smaller g c = grind (arith, common_steps)
+pub loop-last-smaller : goal.loop-last-smaller
+loop-last-smaller g c =
+    let taken = rw (c.in-Some.is, c.bytes.ensures) at c.in_ok-length.ensures.taken in
+    let line = taken.1 in
+    omega (
+      arith,
+      line.some,
+      ap length line.joined,
+      ap length c.pass.ensures,
+      length-append (g.L.LineTelling.plain.line line.fields) (drop c.in-Some.length c.loop-last.window),
+    )

@@ -1,8 +1,8 @@
-use Rattle.std.proofs.Common.{◌∙◌, ℕ, List, [], ◌∷◌, ◌++◌, arith, refl, subst, sym}
+use Rattle.std.proofs.Common.{◌∙◌, ℕ, List, [], ◌∷◌, ◌++◌, refl, subst, sym}
 use Rattle.lnt_compare.specs.Passing.{Passes}
 use Rattle.lnt_compare.proofs.JoiningLemmas.{left_first, left_more, left_next}
 use Rattle.lnt_compare.proofs.PassingLemmas.{filled, line_added, no_lines_of}
-use Rattle.lnt_compare.proofs.WindowLaws.{few_passed, passes_line, passes_none}
+use Rattle.lnt_compare.proofs.WindowLaws.{passes_line, passes_none}
 use Rattle.lnt_compare.proofs.passing.pass_spans.Goals as goal
 
 pub loop-joined-init : goal.loop-joined-init
@@ -31,18 +31,6 @@ returns-then-not-branch-clause-ok g c =
           c.remaining-spans.ensures,
     )
 
-pub overflow_add-count : goal.overflow_add-count
-overflow_add-count g c =
-    let inv = c.loop-joined.invariant in
-    let passed = rw c.if-not-branch.false at c.in_ok-pass_line.ensures.passed in
-    let bytes = passes_line (g.T.Source.remaining c.args.source.now) (g.T.Source.remaining c.pass_line.new.source)
-    (g.T.Source.left c.args.source.now) (g.T.Source.left c.pass_line.new.source) c.args.window.now passed.0 c.pass_line.new.window inv.0
-    (g.L.LineTelling.plain.line passed.2.0.fields) (filled _ _ _ _ _ _ _ _ _ inv.0 inv.4 passed.1) passed.2.0.joined in
-    let lines = line_added g.L.LineTelling.format g.L.LineTelling.plain (g.L.LineTelling.told c.args.telling.now)
-    (g.L.LineTelling.version c.args.telling.now) inv.0 inv.1 c.loop-joined.count c.loop-joined.end c.in-Some.span passed.0
-    c.pass_line.new.window inv.5 passed.2.0 in
-    omega (arith, c.requires.few, lines.few, few_passed _ _ _ _ _ _ _ bytes)
-
 pub loop-joined-preserved : goal.loop-joined-preserved
 loop-joined-preserved g c =
     let inv = c.loop-joined.invariant in
@@ -54,6 +42,6 @@ loop-joined-preserved g c =
       c.in_ok-pass_line.ensures.failures.no_failure (λ e. cc e) ∙ inv.2,
       c.in_ok-pass_line.ensures.sound,
       passes_line _ _ _ _ _ _ _ inv.0 _ (filled _ _ _ _ _ _ _ _ _ inv.0 inv.4 passed.1) line.joined,
-      line_added _ _ _ _ inv.0 inv.1 _ _ c.in-Some.span _ _ inv.5 line,
+      rw c.in_ok-count.ensures (line_added _ _ _ _ inv.0 inv.1 _ _ c.in-Some.span _ _ inv.5 line),
       λ list come order. left_more _ _ _ list inv.1 c.in-Some.span (inv.6 list come order) left,
     )

@@ -1,7 +1,6 @@
 use Rattle.std.specs.Prelude.{◌≡◌, ℕ, List}
 use Rattle.lnt_spans.specs.declared.span.Span.{Span}
-use Rattle.lnt_spans.specs.Ahead.{count_ahead}
-use Rattle.lnt_spans.specs.Remaining.{SpansAreLeft}
+use Rattle.lnt_spans.specs.Remaining.{count_ahead, SpansAreLeft}
 use Rattle.lnt_spans.specs.Spans.{AreInOrder}
 use Rattle.lnt_compare.specs.Joining.{LeaveOff}
 use Rattle.lnt_compare.specs.Passing.{AreLinesOf, Passes}

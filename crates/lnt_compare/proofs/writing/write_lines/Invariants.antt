@@ -1,8 +1,7 @@
 use Rattle.std.specs.Prelude.{List, map}
 use Rattle.std.specs.List.{AllByRecursion}
 use Rattle.lnt_spans.specs.declared.span.Span.{Span}
-use Rattle.lnt_spans.specs.Ahead.{count_ahead}
-use Rattle.lnt_spans.specs.Remaining.{SpansAreLeft}
+use Rattle.lnt_spans.specs.Remaining.{count_ahead, SpansAreLeft}
 use Rattle.lnt_spans.specs.Spans.{AreInOrder}
 use Rattle.lnt_records.proofs.LineLaws.{Lines}
 use Rattle.lnt_compare.specs.Joining.{LeaveOff}

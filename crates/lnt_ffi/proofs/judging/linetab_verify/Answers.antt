@@ -1,10 +1,6 @@
-use Rattle.std.proofs.Common.{arith, refl}
+use Rattle.std.proofs.Common.{arith, inl, inr, refl}
 use Rattle.lnt_lines.proofs.SpanCountLaws.{permuted_within_section}
-use Rattle.lnt_ffi.specs.Told.{IsToldOfSpans}
 use Rattle.lnt_ffi.proofs.judging.linetab_verify.Goals as goal
-
-pub returns-in-None-clause-told : goal.returns-in-None-clause-told
-returns-in-None-clause-told c = IsToldOfSpans.refused c.in-None.ensures.refused refl refl
 
 pub put_spans-requires : goal.put_spans-requires
 put_spans-requires c =
@@ -17,8 +13,16 @@ pub returns-in-Some-clause-told : goal.returns-in-Some-clause-told
 returns-in-Some-clause-told c =
     let is = c.in-Some.ensures.good in
     let all = c.spans.ensures.gives _ is.index_is in
-    IsToldOfSpans.good all.spans
-    (record { units = is.units; good = is.good; spans_are = all.spans_are; in_order = all.in_order; answers = all.answers })
-    (c.put_spans.ensures.count all.spans all.to_come)
-    (λ fits. c.put_spans.ensures.there all.spans all.to_come (omega (arith, fits, c.put_spans.ensures.length)))
-    c.put_spans.ensures.behind c.in-Some.ensures.yes
+    inl (
+      (
+        all.spans,
+        record { units = is.units; good = is.good; spans_are = all.spans_are; in_order = all.in_order; answers = all.answers },
+        c.put_spans.ensures.count all.spans all.to_come,
+        λ fits. c.put_spans.ensures.there all.spans all.to_come (omega (arith, fits, c.put_spans.ensures.length)),
+        c.put_spans.ensures.behind,
+      ),
+      c.in-Some.ensures.yes,
+    )
+
+pub returns-in-None-clause-told : goal.returns-in-None-clause-told
+returns-in-None-clause-told c = inr (c.in-None.ensures.refused, refl, refl)

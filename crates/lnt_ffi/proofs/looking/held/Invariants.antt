@@ -1,7 +1,7 @@
 use Rattle.std.proofs.Common.{◌-◌, ◌<◌, ◌≤◌, ◌^◌, length, map}
 use Rattle.lnt_spans.proofs.BisectionLaws.{IsBounded}
 use Rattle.lnt_spans.specs.Spans.{AreInOrder}
-use Rattle.lnt_spans.specs.Brackets.{IsBracket}
+use Rattle.lnt_spans.specs.Stepping.{IsBracket}
 use Rattle.lnt_ffi.specs.Flat.{span_of}
 use Rattle.lnt_ffi.proofs.looking.held.Given as goal
 

@@ -1,6 +1,6 @@
 use Rattle.std.proofs.Common.{ℕ, List, None, Option, Some, subst, IfSome}
 use Rattle.lnt_lines.specs.Contents.{Contents, TellsOf}
-use Rattle.lnt_lines.specs.Drafts.{AreLinesOf, IsIndexOfSection}
+use Rattle.lnt_lines.specs.Judging.{AreLinesOf, IsIndexOfSection}
 use Rattle.lnt_lines.specs.Good.{selected, Options}
 use Rattle.lnt_lines.specs.Indexed.{Indexed, OfUnits}
 use Rattle.lnt_lines.proofs.section.verify.Goals as goal

@@ -1,7 +1,7 @@
 use Rattle.std.proofs.Common.{◌≡◌, ℕ, List, rules, subst}
 use Rattle.std.proofs.lemmas.Result.{IfErr-weaker, on_ok_weaker}
 use Rattle.lnt_older.specs.Directories.{directory_at}
-use Rattle.lnt_older.specs.SectionSteps.{IsLargeNext}
+use Rattle.lnt_older.specs.Upgradable.{IsLargeNext}
 use Rattle.lnt_older.proofs.UpgradedSections.{five_added, older_added, older_large}
 use Rattle.lnt_older.proofs.section.append_unit.Goals as goal
 

@@ -1,4 +1,4 @@
-use Rattle.std.proofs.Common.{◌+◌, ◌++◌, ◌∷◌, [], append-nil, append_assoc, arith, length, length-append, subst, sym}
+use Rattle.std.proofs.Common.{◌++◌, ◌∷◌, [], append-nil, append_assoc, arith, length-append, subst, sym}
 use Rattle.csv.specs.Records.{fields_of}
 use Rattle.lnt_records.specs.Reading.{IsNarrow}
 use Rattle.lnt_records.proofs.ReadingLaws.{begins}
@@ -17,12 +17,13 @@ loop-row-init g c =
       first_there c.read_next.new.reader prefix c.args.text.now known.0 fields c.in_ok-read_next.field-0 c.in_ok-prefix.ensures known.1
           known.2 (c.in_ok-read_next.ensures.read prefix [] c.reader_of-reader.ensures),
       tt,
-      λ count taken. subst (g.T.TakesRecords.has_taken c.args.taker.now c.args.state.now) (omega arith) taken,
-      λ spans passed j. subst (g.T.TakesRecords.judges c.args.taker.now c.args.state.now spans) (sym (append-nil passed)) j,
+      c.requires.right,
+      omega arith,
+      λ spans passed j is. subst (g.T.TakesRecords.judges c.args.taker.now c.args.state.now spans) (sym (append-nil passed)) j,
     )
 
 pub returns-in-Some : goal.returns-in-Some
-returns-in-Some g c first spans passed bytes few text cut j =
+returns-in-Some g c first spans passed bytes few text cut j is =
     let inv = c.loop-row.invariant in
     let fields = fields_of c.read_next-in-loop-row.new.row in
     let read = rw c.if-branch.true at c.in_ok-read_next-2.ensures.read inv.0 (inv.1 ∷ inv.2) inv.4 in
@@ -30,33 +31,34 @@ returns-in-Some g c first spans passed bytes few text cut j =
     (first_is c.loop-row.reader inv.0 c.args.text.now first inv.1 inv.2 inv.3 few text inv.4) in
     let begun = begins_on inv.0 c.args.text.now bytes inv.1 passed inv.2 fields inv.3 cut_here
     (begins c.read_next-in-loop-row.new.reader inv.0 (inv.1 ∷ (inv.2 ++ fields ∷ [])) read) in
-    rw c.in-Some.is at c.in_ok-fault.ensures.taken spans (passed ++ inv.2) (inv.7 spans passed j) begun.0 bytes begun.1 begun.2
+    rw c.in-Some.is at c.in_ok-fault.ensures.taken spans (passed ++ inv.2) (inv.8 spans passed j is)
+    (omega (arith, inv.7, is, length-append passed inv.2)) begun.0 bytes begun.1 begun.2
 
 pub loop-row-preserved : goal.loop-row-preserved
 loop-row-preserved g c =
     let inv = c.loop-row.invariant in
     let fields = fields_of c.read_next-in-loop-row.new.row in
     let read = rw c.if-branch.true at c.in_ok-read_next-2.ensures.read inv.0 (inv.1 ∷ inv.2) inv.4 in
-    let taken = rw c.in_default.is at c.in_ok-fault.ensures.taken in
-    let counted = rw c.in_default.is at c.in_ok-fault.ensures.counted in (
+    let taken = rw c.in_default.is at c.in_ok-fault.ensures.taken in (
       inv.0,
       inv.1,
       inv.2 ++ fields ∷ [],
       inv.3,
       read,
       all_pushed IsNarrow inv.2 fields inv.5 (rw c.in_default.is at c.in_ok-fault.ensures.narrow),
-      λ count known. subst (g.T.TakesRecords.has_taken c.args.taker.now c.take.new.state)
-          (omega (arith, length-append inv.2 (fields ∷ []))) (counted (count + length inv.2) (inv.6 count known)),
-      λ spans passed j. subst (g.T.TakesRecords.judges c.args.taker.now c.take.new.state spans)
-          (append_assoc passed inv.2 (fields ∷ [])) (taken spans (passed ++ inv.2) (inv.7 spans passed j)),
+      c.in_ok-fault.ensures.right,
+      omega (arith, inv.7, c.in_ok-number.ensures, length-append inv.2 (fields ∷ [])),
+      λ spans passed j is. subst (g.T.TakesRecords.judges c.args.taker.now c.take.new.state spans)
+          (append_assoc passed inv.2 (fields ∷ []))
+          (taken spans (passed ++ inv.2) (inv.8 spans passed j is) (omega (arith, inv.7, is, length-append passed inv.2))),
     )
 
 pub returns : goal.returns
-returns g c first spans passed bytes few text cut j =
+returns g c first spans passed bytes few text cut j is =
     let inv = c.loop-row.invariant in
     let rest = rw c.if-branch.false at c.in_ok-read_next-2.ensures.read inv.0 (inv.1 ∷ inv.2) inv.4 in
     let same = first_is c.loop-row.reader inv.0 c.args.text.now first inv.1 inv.2 inv.3 few text inv.4 in (
       inv.2,
       all_on inv.0 c.args.text.now bytes first inv.1 passed inv.2 inv.3 few same inv.5 cut rest,
-      inv.7 spans passed j,
+      inv.8 spans passed j is,
     )

@@ -1,6 +1,5 @@
 use Rattle.std.proofs.Common.{◌∙◌, arith, ap, ◌∷◌, ℕ, List, subst, ◌<◌, ◌≤◌, length, drop}
-use Rattle.lnt_text.specs.Digits.{IsPlainDecimal}
-use Rattle.lnt_text.specs.Delimited.{Begins}
+use Rattle.lnt_text.specs.Digits.{IsPlainDecimal, Begins}
 use Rattle.lnt_records.proofs.TextLemmas.{more_put, no_more_put, room_ends, set_before}
 use Rattle.lnt_records.proofs.text.more_before.Goals as goal
 

@@ -3,7 +3,7 @@ use Rattle.std.specs.List.{dedup}
 use Rattle.std.proofs.lemmas.Fn.{dedup_same}
 use Rattle.std.proofs.lemmas.List.Sorted.{length_permutation}
 use Rattle.lnt_sequences.specs.declared.extent.Extent.{Extent}
-use Rattle.lnt_sequences.specs.Copies.{end_alike}
+use Rattle.lnt_sequences.specs.Overlaps.{end_alike}
 use Rattle.lnt_sequences.proofs.CopyLemmas.{kept_of_gathered}
 use Rattle.lnt_sequences.proofs.KeptLemmas.{written_back}
 use Rattle.lnt_sequences.proofs.extent.kept.Goals as goal

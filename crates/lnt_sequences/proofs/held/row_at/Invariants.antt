@@ -1,8 +1,8 @@
 use Rattle.std.proofs.Common.{List}
 use Rattle.lnt_machine.specs.declared.row.Row.{Row}
 use Rattle.lnt_machine.specs.Walking.{WillGive}
-use Rattle.lnt_sequences.specs.Marking.{IsMarkIn, IsNotAbove}
-use Rattle.lnt_sequences.specs.Spanning.{rows_left}
+use Rattle.lnt_sequences.specs.Briefs.{IsMarkIn, IsNotAbove}
+use Rattle.lnt_sequences.specs.RowSpans.{rows_left}
 use Rattle.lnt_sequences.proofs.held.row_at.Given as goal
 
 abbrev pub invariant-loop-position : goal.invariant-loop-position

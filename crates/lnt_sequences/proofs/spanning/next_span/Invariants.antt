@@ -1,6 +1,6 @@
 use Rattle.std.proofs.Common.{◌≤◌, List}
 use Rattle.lnt_spans.specs.declared.span.Span.{Span}
-use Rattle.lnt_sequences.specs.Spanning.{HasSpans, rows_left}
+use Rattle.lnt_sequences.specs.RowSpans.{HasSpans, rows_left}
 use Rattle.lnt_sequences.proofs.spanning.next_span.Given as goal
 
 abbrev pub invariant-loop-row : goal.invariant-loop-row

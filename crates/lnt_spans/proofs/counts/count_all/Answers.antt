@@ -1,5 +1,5 @@
 use Rattle.std.proofs.Common.{◌∙◌, sym}
-use Rattle.lnt_spans.specs.Counts.{addresses_of}
+use Rattle.lnt_spans.specs.Partial.{addresses_of}
 use Rattle.lnt_spans.proofs.CountLemmas.{addresses_of_spans, counts_none}
 use Rattle.lnt_spans.proofs.counts.count_all.Goals as goal
 

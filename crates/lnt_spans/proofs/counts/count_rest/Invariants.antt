@@ -1,6 +1,6 @@
 use Rattle.std.specs.Prelude.{ℕ, List}
 use Rattle.lnt_spans.specs.declared.span.Span.{Span}
-use Rattle.lnt_spans.specs.Counts.{CountsTo}
+use Rattle.lnt_spans.specs.Partial.{CountsTo}
 use Rattle.lnt_spans.proofs.CountLemmas.{CountsOn}
 use Rattle.lnt_spans.proofs.counts.count_rest.Given as goal
 

@@ -1,6 +1,6 @@
 use Rattle.std.proofs.Common.{subst}
 use Rattle.lnt_spans.specs.declared.position.Position.{Position}
-use Rattle.lnt_spans.specs.Ahead.{IsAhead}
+use Rattle.lnt_spans.specs.Remaining.{IsAhead}
 use Rattle.lnt_spans.specs.Merged.{ArePassed}
 use Rattle.lnt_spans.proofs.MergedLemmas.{low_after, mistaken_gap, mistaken_other, passed_whole, passed_within}
 use Rattle.lnt_spans.proofs.PositionLaws.{at_most_itself, below_is_at_most, same_position}

@@ -1,6 +1,6 @@
 use Rattle.std.specs.Prelude.{List, Option}
 use Rattle.lnt_spans.specs.declared.span.Span.{Span}
-use Rattle.lnt_spans.specs.Ahead.{count_ahead, IsAhead}
+use Rattle.lnt_spans.specs.Remaining.{count_ahead, IsAhead}
 use Rattle.lnt_spans.specs.Merged.{ArePassed, Says}
 use Rattle.lnt_spans.specs.Positions.{IsAtMost, Position}
 use Rattle.lnt_spans.proofs.merge.first_mistake.Given as goal

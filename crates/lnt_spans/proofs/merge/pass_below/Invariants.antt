@@ -1,7 +1,7 @@
 use Rattle.std.specs.Prelude.{List, Option}
 use Rattle.lnt_spans.specs.declared.answer.Answer.{Answer}
 use Rattle.lnt_spans.specs.declared.span.Span.{Span}
-use Rattle.lnt_spans.specs.Ahead.{count_ahead, IsAhead}
+use Rattle.lnt_spans.specs.Remaining.{count_ahead, IsAhead}
 use Rattle.lnt_spans.specs.Merged.{AnswersNothing, AreCounted}
 use Rattle.lnt_spans.specs.Positions.{IsAtMost, Position}
 use Rattle.lnt_spans.proofs.merge.pass_below.Given as goal

@@ -1,6 +1,6 @@
 use Rattle.std.proofs.Common.{◌-◌, ◌<◌, ◌^◌, length}
 use Rattle.lnt_spans.proofs.BisectionLaws.{IsBounded}
-use Rattle.lnt_spans.specs.Brackets.{IsBracket}
+use Rattle.lnt_spans.specs.Stepping.{IsBracket}
 use Rattle.lnt_spans.proofs.search.lookup.Given as goal
 
 abbrev pub invariant-loop-low : goal.invariant-loop-low

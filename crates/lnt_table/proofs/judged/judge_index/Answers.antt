@@ -1,28 +1,8 @@
-use Rattle.std.proofs.Common.{arith, ap, length, length-append, sym, ◌∙◌}
-use Rattle.lnt_records.specs.Table.{column_names}
-use Rattle.lnt_records.specs.Written.{line_text}
-use Rattle.lnt_compare.proofs.WindowLaws.{few_passed, longer_from_start}
+use Rattle.std.proofs.Common.{arith, sym, ◌∙◌}
+use Rattle.lnt_compare.proofs.WindowLaws.{longer_from_start}
 use Rattle.lnt_compare.proofs.StreamLaws.{all_taken}
-use Rattle.lnt_records.specs.PathTables.{path_column_names}
 use Rattle.lnt_table.proofs.JudgedLemmas.{begun_by_number, begun_by_path}
 use Rattle.lnt_table.proofs.judged.judge_index.Goals as goal
-
-pub compare_lines-requires-clause-few : goal.compare_lines-requires-clause-few
-compare_lines-requires-clause-few g c =
-    omega (
-      arith,
-      few_passed _ _ _ _ _ _ _ c.in_ok-window.ensures.taken,
-      ap length c.in-Some.ensures,
-      length-append (line_text (column_names c.in-Some.version)) c.pass_header.new.window,
-      c.left-may_give.ensures,
-      c.left-may_give.type_inv,
-    )
-
-pub compare_lines-requires-clause-spans : goal.compare_lines-requires-clause-spans
-compare_lines-requires-clause-spans g c =
-    let known = c.spans.ensures.is_index in
-    let all = c.spans.ensures.gives known.selection known.index_is in
-    (all.spans, all.to_come, all.in_order)
 
 pub returns-in-Some-clause-ok : goal.returns-in-Some-clause-ok
 returns-in-Some-clause-ok g c selection is =
@@ -30,23 +10,6 @@ returns-in-Some-clause-ok g c selection is =
     begun_by_number _ _ _ _ c.in_ok-window.window c.pass_header.new.window c.in-Some.version c.args.index.now selection all.spans
     c.in_ok-outcome.outcome c.in_ok-window.ensures.taken c.in-Some.ensures all.answers
     (c.in_ok-outcome.ensures.ok all.spans all.to_come all.in_order)
-
-pub compare_lines_by_path-requires-clause-few : goal.compare_lines_by_path-requires-clause-few
-compare_lines_by_path-requires-clause-few g c =
-    omega (
-      arith,
-      few_passed _ _ _ _ _ _ _ c.in_ok-window.ensures.taken,
-      ap length (sym c.in_default.ensures ∙ c.in-Some-pass_header.ensures),
-      length-append (line_text (path_column_names c.in-Some-pass_header.version)) c.pass_header-2.new.window,
-      c.left-may_give.ensures,
-      c.left-may_give.type_inv,
-    )
-
-pub compare_lines_by_path-requires-clause-spans : goal.compare_lines_by_path-requires-clause-spans
-compare_lines_by_path-requires-clause-spans g c =
-    let known = c.spans-in-Some-pass_header.ensures.is_index in
-    let all = c.spans-in-Some-pass_header.ensures.gives known.selection known.index_is in
-    (all.spans, all.to_come, all.in_order)
 
 pub returns-in-Some-pass_header-clause-ok : goal.returns-in-Some-pass_header-clause-ok
 returns-in-Some-pass_header-clause-ok g c selection is =

@@ -5,12 +5,6 @@ use Rattle.lnt_records.specs.declared.fault.TableFault.TheVariants as fault
 use Rattle.lnt_table.proofs.JudgedLemmas.{numbered_with, pathed_with}
 use Rattle.lnt_table.proofs.judged.judge_text.Goals as goal
 
-pub compare_records-requires : goal.compare_records-requires
-compare_records-requires c =
-    let known = c.spans.ensures.is_index in
-    let all = c.spans.ensures.gives known.selection known.index_is in
-    (all.spans, all.to_come, all.in_order)
-
 pub returns-in-Fault-Header : goal.returns-in-Fault-Header
 returns-in-Fault-Header c selection is =
     let table = c.spans.ensures.gives selection is in

@@ -1,8 +1,8 @@
 use Rattle.std.proofs.Common.{◌∙◌, sym}
 use Rattle.std.proofs.lemmas.Result.{IfOk-weaker, on_err_weaker}
 use Rattle.lnt_compare.specs.declared.by_path.write.PathTable.TheVariants.{Written}
-use Rattle.lnt_records.specs.PathAnswers.{spans_by_path}
-use Rattle.lnt_table.specs.ByPath.{indexed_path, told_path}
+use Rattle.lnt_records.specs.PathSpans.{spans_by_path}
+use Rattle.lnt_table.specs.Headline.{indexed_path, told_path}
 use Rattle.lnt_table.proofs.PathLemmas.{becomes_so, paths_begun}
 use Rattle.lnt_table.proofs.UnitPathLemmas.{told_by_units}
 use Rattle.lnt_io.proofs.PrefixLaws.{so_stopped}

@@ -1,24 +1,13 @@
-use Rattle.std.proofs.Common.{arith, ap, length, length-append, ◌++◌}
+use Rattle.std.proofs.Common.{arith, ◌++◌}
 use Rattle.std.proofs.lemmas.Option.{IfSome_then}
 use Rattle.lnt_sequences.specs.Sequences.{line_answer}
 use Rattle.lnt_compare.proofs.StreamLaws.{all_taken, line_taken, no_header_fault}
-use Rattle.lnt_compare.proofs.WindowLaws.{few_passed, longer_from_start}
+use Rattle.lnt_compare.proofs.WindowLaws.{longer_from_start}
 use Rattle.lnt_records.specs.Table.{by_number, column_names}
 use Rattle.lnt_records.specs.Written.{line_text, plain_by_number}
 use Rattle.lnt_records.proofs.LineLaws.{header_begins}
 use Rattle.lnt_records.proofs.WriteLaws.{plain_numbers}
 use Rattle.lnt_table.proofs.stretches.differences_any.Goals as goal
-
-pub differ_lines-requires-clause-few : goal.differ_lines-requires-clause-few
-differ_lines-requires-clause-few g c =
-    omega (
-      arith,
-      few_passed _ _ _ _ _ _ _ c.in_ok-window.ensures.taken,
-      ap length c.in-Some.ensures,
-      length-append (line_text (column_names c.in-Some.version)) c.pass_header.new.window,
-      c.left-may_give.ensures,
-      c.left-may_give.type_inv,
-    )
 
 pub differ_lines-requires-clause-spans : goal.differ_lines-requires-clause-spans
 differ_lines-requires-clause-spans g c =

@@ -1,6 +1,6 @@
 use Rattle.std.proofs.Common.{refl}
-use Rattle.lnt_records.specs.PathAnswers.{spans_by_path}
-use Rattle.lnt_table.specs.ByPath.{indexed_path, told_path}
+use Rattle.lnt_records.specs.PathSpans.{spans_by_path}
+use Rattle.lnt_table.specs.Headline.{indexed_path, told_path}
 use Rattle.lnt_table.proofs.UnitPathLemmas.{told_by_units}
 use Rattle.lnt_table.proofs.stretches.differences_by_path.Goals as goal
 

@@ -1,6 +1,6 @@
 use Rattle.std.proofs.Common.{◌≡◌, ◌+◌, length}
 use Rattle.lnt_io.specs.Pulling.{Pulls}
-use Rattle.lnt_unit.specs.Sizes.{IsLeastSize}
+use Rattle.lnt_unit.specs.Spelled.{IsLeastSize}
 use Rattle.lnt_unit.proofs.taking.take_unit_bytes.Given as goal
 
 abbrev pub invariant-loop-order : goal.invariant-loop-order

@@ -1,11 +1,8 @@
 use Rattle.std.proofs.Common.{◌≡◌, ◌∙◌, refl, subst, rules, arith}
 use Rattle.std.proofs.lemmas.Grind.{common_steps}
-use Rattle.lnt_wire.specs.At.{At}
-use Rattle.lnt_wire.specs.FrameBytes.{BeginsWithFive, FrameBytes, IsFrame, Order, Frame}
-use Rattle.lnt_wire.specs.FrameFaults.{IsFrameFault}
-use Rattle.lnt_wire.specs.InitialFaults.{IsInitialFault, IsVersionFault}
-use Rattle.lnt_wire.specs.InitialLength.{InitialBytes}
-use Rattle.lnt_wire.specs.Reading.{Reads, Refuses, Fault}
+use Rattle.lnt_wire.specs.Reading.{At, Reads, Refuses, Fault}
+use Rattle.lnt_wire.specs.FrameBytes.{BeginsWithFive, FrameBytes, IsFrame, Order, Frame, InitialBytes}
+use Rattle.lnt_wire.specs.FrameFaults.{IsFrameFault, IsInitialFault, IsVersionFault}
 use Rattle.lnt_wire.proofs.FrameReadingLaws.{refuses_initial, refuses_long, refuses_version, reads_frame}
 use Rattle.lnt_wire.proofs.RefusedForms.{passed_on, gives_none, leaves_it}
 use Rattle.lnt_wire.proofs.frame.take_frame.Goals as goal

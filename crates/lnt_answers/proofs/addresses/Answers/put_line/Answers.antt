@@ -1,5 +1,5 @@
 use Rattle.std.proofs.Common.{◌≡◌, ◌++◌, codes, rules, Some, None, refl}
-use Rattle.lnt_text.specs.Quotes.{quoted_text}
+use Rattle.lnt_text.specs.Texts.{quoted_text}
 use Rattle.lnt_answers.proofs.AddressLemmas.{told_one}
 use Rattle.lnt_answers.proofs.addresses.Answers.put_line.Goals as goal
 

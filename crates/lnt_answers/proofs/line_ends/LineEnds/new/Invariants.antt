@@ -1,5 +1,5 @@
 use Rattle.lnt_lines.specs.Indexed.{Indexed}
-use Rattle.lnt_answers.specs.LineEnds.{AreEndsOf}
+use Rattle.lnt_answers.specs.AddressBlocks.{AreEndsOf}
 use Rattle.lnt_answers.proofs.line_ends.LineEnds.new.Given as goal
 
 abbrev pub invariant-loop : goal.invariant-loop

@@ -1,10 +1,8 @@
 use Rattle.std.specs.Prelude.{List}
 use Rattle.std.specs.List.{AllByRecursion}
 use Rattle.lnt_spans.specs.declared.span.Span.{Span}
-use Rattle.lnt_spans.specs.Ahead.{count_ahead}
-use Rattle.lnt_spans.specs.Instructions.{IsOfInstructions}
-use Rattle.lnt_spans.specs.Remaining.{SpansAreLeft}
-use Rattle.lnt_spans.specs.Spans.{AreInOrder}
+use Rattle.lnt_spans.specs.Remaining.{count_ahead, SpansAreLeft}
+use Rattle.lnt_spans.specs.Spans.{IsOfInstructions, AreInOrder}
 use Rattle.lnt_compare.specs.Joining.{LeaveOff}
 use Rattle.lnt_compare.proofs.by_path.border.first_operation.Given as goal
 

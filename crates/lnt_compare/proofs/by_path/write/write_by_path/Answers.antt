@@ -1,5 +1,5 @@
 use Rattle.lnt_spans.specs.declared.answer.Answer.{Answer}
-use Rattle.lnt_records.specs.PathAnswers.{PathAnswer, path_answer}
+use Rattle.lnt_records.specs.PathSpans.{PathAnswer, path_answer}
 use Rattle.lnt_compare.proofs.PathWriteLemmas.{keeps_same, lines_begun, operation_found, table_begun_none, table_written}
 use Rattle.lnt_io.proofs.PrefixLaws.{so_stopped}
 use Rattle.lnt_compare.proofs.by_path.write.write_by_path.Goals as goal

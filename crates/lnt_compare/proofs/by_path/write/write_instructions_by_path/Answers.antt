@@ -1,5 +1,5 @@
 use Rattle.std.proofs.lemmas.Result.{on_err_weaker, on_ok_weaker}
-use Rattle.lnt_records.specs.PathAnswers.{path_answer}
+use Rattle.lnt_records.specs.PathSpans.{path_answer}
 use Rattle.lnt_io.proofs.PrefixLaws.{so_stopped}
 use Rattle.lnt_compare.proofs.PathWriteLemmas.{alike_itself, all_whole, lines_begun, table_begun_none, table_written}
 use Rattle.lnt_compare.proofs.by_path.write.write_instructions_by_path.Goals as goal

@@ -1,6 +1,6 @@
 use Rattle.std.proofs.Common.{◌++◌, refl}
 use Rattle.csv.specs.Records.{fields_of}
-use Rattle.lnt_spans.specs.Comparing.{end_of}
+use Rattle.lnt_spans.specs.Spans.{end_of}
 use Rattle.lnt_compare.specs.Comparisons.{tables_by_number}
 use Rattle.lnt_compare.proofs.ComparisonLemmas.{order_refused}
 use Rattle.lnt_compare.proofs.GatherLemmas.{gathers_more}
@@ -8,11 +8,11 @@ use Rattle.lnt_compare.proofs.KindLaws.{number_laws}
 use Rattle.lnt_compare.proofs.gather.VersionTakesRecordsGathering.take.Goals as goal
 
 pub returns-then-not-comes-clause-taken : goal.returns-then-not-comes-clause-taken
-returns-then-not-comes-clause-taken c spans records h =
+returns-then-not-comes-clause-taken c spans records h number =
     order_refused tables_by_number end_of number_laws c.args.self.now c.args.gathering.now.at (spans ++ c.args.gathering.now.spans.items) records
-    (fields_of c.args.row.now) c.in-Ok.span c.args.gathering.now.count h.is_table h.count h.at c.in-Ok.ensures.ok c.if-not-comes.ensures
+    (fields_of c.args.row.now) c.in-Ok.span c.args.number h.is_table number h.at c.in-Ok.ensures.ok c.if-not-comes.ensures
 
 pub returns-clause-taken : goal.returns-clause-taken
-returns-clause-taken c spans records h =
+returns-clause-taken c spans records h number =
     gathers_more c.args.self.now c.args.gathering.now _ spans records (fields_of c.args.row.now) c.in-Ok.span h c.in-Ok.ensures.ok
-    c.if-not-comes.ensures c.in_ok-push.ensures.items refl refl
+    c.if-not-comes.ensures c.in_ok-push.ensures.items refl

@@ -1,8 +1,7 @@
 use Rattle.std.proofs.Common.{subst, sym, List}
 use Rattle.lnt_sequences.specs.declared.extent.Extent.{Extent}
 use Rattle.lnt_sequences.specs.Extents.{IsHolderAt, NoneHolds}
-use Rattle.lnt_lines.specs.Finding.{Answers}
-use Rattle.lnt_lines.specs.Indexed.{Indexed, IsIndexOf}
+use Rattle.lnt_lines.specs.Indexed.{Answers, Indexed, IsIndexOf}
 use Rattle.lnt_lines.proofs.IndexLemmas.{found_none, held_answers}
 use Rattle.lnt_lines.proofs.index.Index.held.Goals as goal
 

@@ -2,8 +2,7 @@ use Rattle.std.proofs.Common.{subst, sym}
 use Rattle.std.proofs.lemmas.List.Elements.{All-set}
 use Rattle.std.proofs.lemmas.Result.{IfOk-weaker}
 use Rattle.lnt_sequences.specs.declared.sequence.SeqId.{SeqId}
-use Rattle.lnt_lines.specs.Finding.{IsCachedOf}
-use Rattle.lnt_lines.specs.Indexed.{Indexed, IsSequenceIn}
+use Rattle.lnt_lines.specs.Indexed.{IsCachedOf, Indexed, IsSequenceIn}
 use Rattle.lnt_lines.proofs.LookupLemmas.{cached_at}
 use Rattle.lnt_lines.proofs.lookups.Known.decoded_at.Goals as goal
 

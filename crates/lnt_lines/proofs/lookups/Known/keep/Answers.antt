@@ -1,5 +1,5 @@
 use Rattle.std.proofs.Common.{subst, sym, All}
-use Rattle.lnt_lines.specs.Finding.{IsCachedOf}
+use Rattle.lnt_lines.specs.Indexed.{IsCachedOf}
 use Rattle.lnt_lines.proofs.LookupLemmas.{known_more}
 use Rattle.lnt_lines.proofs.lookups.Known.keep.Goals as goal
 

@@ -1,6 +1,6 @@
 use Rattle.std.proofs.Common.{List, None, subst, sym}
 use Rattle.lnt_spans.specs.declared.span.Span.{Span}
-use Rattle.lnt_spans.specs.Coming.{GivesFirstSpan}
+use Rattle.lnt_spans.specs.Remaining.{GivesFirstSpan}
 use Rattle.lnt_lines.specs.Cursors.{AreToCome}
 use Rattle.lnt_lines.proofs.spans.SpansSpanSource.next_span.Goals as goal
 

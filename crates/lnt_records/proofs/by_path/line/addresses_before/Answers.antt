@@ -1,6 +1,5 @@
 use Rattle.std.proofs.Common.{ℕ, List, drop, subst}
-use Rattle.lnt_text.specs.Delimited.{Begins}
-use Rattle.lnt_text.specs.Digits.{IsPlainAddress}
+use Rattle.lnt_text.specs.Digits.{Begins, IsPlainAddress}
 use Rattle.lnt_records.proofs.TextLemmas.{room_ends}
 use Rattle.lnt_records.proofs.by_path.line.addresses_before.Goals as goal
 

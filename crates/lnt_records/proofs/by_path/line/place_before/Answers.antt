@@ -1,6 +1,5 @@
 use Rattle.std.proofs.Common.{ℕ, List, drop, subst, refl}
-use Rattle.lnt_text.specs.Delimited.{Begins}
-use Rattle.lnt_text.specs.Digits.{IsPlainDecimal}
+use Rattle.lnt_text.specs.Digits.{Begins, IsPlainDecimal}
 use Rattle.lnt_records.proofs.TextLemmas.{room_ends}
 use Rattle.lnt_records.proofs.by_path.line.place_before.Goals as goal
 

@@ -1,5 +1,5 @@
 use Rattle.std.proofs.Common.{subst, sym, All}
-use Rattle.lnt_sequences.specs.Marking.{IsMarkIn}
+use Rattle.lnt_sequences.specs.Briefs.{IsMarkIn}
 use Rattle.lnt_sequences.proofs.MarkLemmas.{marks_more}
 use Rattle.lnt_sequences.proofs.marks.Marks.row_at.Goals as goal
 

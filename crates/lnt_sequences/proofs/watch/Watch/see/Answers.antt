@@ -1,6 +1,6 @@
 use Rattle.std.proofs.Common.{ap, ◌∙◌}
 use Rattle.lnt_sequences.specs.declared.watch.Watch.{Watch}
-use Rattle.lnt_sequences.specs.Stepping.{gone_on}
+use Rattle.lnt_sequences.specs.Watching.{gone_on}
 use Rattle.lnt_sequences.proofs.WatchLemmas.{collects_more, seen_more}
 use Rattle.lnt_sequences.proofs.watch.Watch.see.Goals as goal
 

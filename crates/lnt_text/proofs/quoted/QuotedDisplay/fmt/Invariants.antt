@@ -1,6 +1,6 @@
 use Rattle.std.proofs.Common.{◌++◌, codes, take, flat_map}
 use Rattle.std.specs.Fmt.{HasWritten, IsPlainFormatter}
-use Rattle.lnt_text.specs.Quotes.{quoted_byte}
+use Rattle.lnt_text.specs.Texts.{quoted_byte}
 use Rattle.lnt_text.proofs.quoted.QuotedDisplay.fmt.Given as goal
 
 abbrev pub invariant-loop-byte : goal.invariant-loop-byte

@@ -1,11 +1,10 @@
 use Rattle.std.proofs.Common.{◌≡◌, ℕ, List, refl, sym, subst}
-use Rattle.lnt_wire.specs.At.{At}
+use Rattle.lnt_wire.specs.Reading.{At, Reads}
 use Rattle.lnt_wire.specs.declared.form.FormValue.TheVariants.{Block, Block1, Block2, Block4}
 use Rattle.lnt_wire.specs.declared.form.BlockLength.TheVariants.{Leb, One, Two, Four}
 use Rattle.lnt_wire.specs.declared.format.Format.{Format}
 use Rattle.lnt_wire.specs.FormBytes.{BlockBytes, ValueBytes, FormBytes, form_of, FormValue}
 use Rattle.lnt_wire.specs.BlockLengths.{LengthBytes, block_form, BlockLength}
-use Rattle.lnt_wire.specs.Reading.{Reads}
 use Rattle.lnt_wire.proofs.RefusedForms.{reads_value}
 use Rattle.lnt_wire.proofs.cursor.Cursor.block_value.Goals as goal
 

@@ -1,5 +1,5 @@
 use Rattle.std.proofs.Common.{◌∙◌, false, true}
-use Rattle.lnt_records.specs.PathAnswers.{path_answer}
+use Rattle.lnt_records.specs.PathSpans.{path_answer}
 use Rattle.lnt_compare.proofs.LineLemmas.{path_line}
 use Rattle.lnt_compare.proofs.by_path.line.PathTellingLineTelling.pass_line.Goals as goal
 

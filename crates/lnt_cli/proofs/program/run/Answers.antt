@@ -2,7 +2,7 @@ use Rattle.std.proofs.Common.{map, rules, string_bytes}
 use Rattle.std.specs.Io.KnownBytes.{Keeps}
 use Rattle.lnt_cli.proofs.RefusedLemmas.{run_told}
 use Rattle.lnt_cli.proofs.RunLemmas.{words_answered, words_refused, words_stopped}
-use Rattle.lnt_cli.proofs.program.run_with_notes.Goals as goal
+use Rattle.lnt_cli.proofs.program.run.Goals as goal
 
 pub returns-in-Err-clause-stop : goal.returns-in-Err-clause-stop
 returns-in-Err-clause-stop g c =
