@@ -55,3 +55,6 @@ pub text_passed : (block text window : List ℕ) (at : ℕ) → window ≡ drop 
     → window ≡ text ++ drop (at + length text) block
 text_passed block text window at e f =
     f ∙ ap (λ (t : List ℕ). text ++ drop (length text) t) e ∙ ap (λ (t : List ℕ). text ++ t) (drop-drop (length text) at block)
+
+-- The lemmas of `read_rest`.
+pub ruleset read_rest_lemmas = (passes_none, passes_block, passes_all, longer_from_start)

@@ -172,7 +172,7 @@ fn fill_block<T: Source>(source: &mut T, block: &mut Vec<u8>, count: usize) -> R
 }
 
 // Appends all bytes that a source has left.
-#[tactic(auto, using(crate::proofs::WindowLaws::passes_none, crate::proofs::WindowLaws::passes_block, crate::proofs::WindowLaws::passes_all, crate::proofs::WindowLaws::longer_from_start))]
+#[tactic(auto, using(crate::proofs::WindowLaws::read_rest_lemmas))]
 fn read_rest<T: Source>(source: &mut T, all: &mut Vec<u8>) -> Result<(), Stop>
     requires { T.failures source.old < 2 ^ 64 - 1 }
     ensures ok { OnOk result (Ends (T.remaining source.old) (T.left source.old) all.old.items all.new.items) }

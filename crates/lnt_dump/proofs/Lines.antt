@@ -56,3 +56,6 @@ pub numbered_prefix : {X : Type 0} (line : ℕ → X → List ℕ) (first : ℕ)
     → (more : List ℕ) × (numbered line first (xs ++ ys) ≡ numbered line first xs ++ more)
 numbered_prefix line first [] ys = (numbered line first ys, refl)
 numbered_prefix line first (x ∷ xs) ys = grind (arith, common_steps, append_assoc, numbered_prefix line (first + 1) xs ys)
+
+-- The lemmas of `print_bytes`.
+pub ruleset print_bytes_lemmas = (digits_none, digits_more, digits_fewer, digits_all)

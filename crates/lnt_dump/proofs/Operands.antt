@@ -128,3 +128,6 @@ bytes_told (byte ∷ bytes) prefix old middle spaced new some before space here 
 pub not_err : {A E : Type 0} (result : Result A E) (IsSo : Type 0) → is_err result ≡ false → OnOk result IsSo → IsSo
 not_err (Ok value) IsSo fine so = so
 not_err (Err error) IsSo fine so = absurd (true≢false fine)
+
+-- The lemmas of `put_spelled`.
+pub ruleset put_spelled_lemmas = (left_none, left_more, left_all, rest_shorter)

@@ -205,7 +205,7 @@ fn print_block<W: Write>(alloc: Global, bytes: &[u8], out: &mut W) -> Result<(),
 }
 
 // Prints the hexadecimal digits of the bytes, some bytes at a time.
-#[tactic(auto, using(crate::proofs::Lines::digits_none, crate::proofs::Lines::digits_more, crate::proofs::Lines::digits_fewer, crate::proofs::Lines::digits_all))]
+#[tactic(auto, using(crate::proofs::Lines::print_bytes_lemmas))]
 pub(crate) fn print_bytes<W: Write>(alloc: Global, bytes: &[u8], out: &mut W) -> Result<(), Halt>
     ensures { OnOk result (Appends (W.contents out.old) (W.contents out.new) (encode_lower bytes.now)) }
 {

@@ -166,7 +166,7 @@ fn put_listed(text: &mut Vec<u8>, numbers: &[u64]) -> Result<(), AllocError>
 }
 
 // Adds the numbers that the bytes encode, one after another up to their end, each after a space.
-#[tactic(auto, using(crate::proofs::Operands::left_none, crate::proofs::Operands::left_more, crate::proofs::Operands::left_all, crate::proofs::Operands::rest_shorter))]
+#[tactic(auto, using(crate::proofs::Operands::put_spelled_lemmas))]
 fn put_spelled(text: &mut Vec<u8>, bytes: &[u8]) -> Result<(), AllocError>
     requires { (numbers : List ℕ) × Each UnsignedLeb numbers bytes.now }
     ensures { OnOk result ((numbers : List ℕ) → Each UnsignedLeb numbers bytes.now

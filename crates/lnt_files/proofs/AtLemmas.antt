@@ -105,3 +105,6 @@ within_files h table number view pairs_are entries_are at = grind (arith, common
 pub none_listed : (h : HeaderParts) (pairs : List Pair) (number : ℕ) → pairs ≡ h.file_format → place_of content_md5 pairs ≡ None
     → None ≡ listed_sum h number
 none_listed h pairs number same none = grind (arith, common_steps)
+
+-- The lemmas of `entry_at`.
+pub ruleset entry_at_lemmas = (after_first, after_more, not_there, entry_is, there)

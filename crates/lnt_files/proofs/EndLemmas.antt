@@ -75,3 +75,6 @@ last_zero section end some le h e = grind (arith, common_steps, below, zero_ends
 -- no byte is zero
 pub no_zero : (section : List ℕ) → NoneFrom 0 section → TextsEndAt 0 section
 no_zero section h = record { texts = λ offset. (below section 0 offset h, λ lt. absurd (omega arith)) }
+
+-- The lemmas of `texts_end`.
+pub ruleset texts_end_lemmas = (none_past, none_before, last_zero, no_zero)

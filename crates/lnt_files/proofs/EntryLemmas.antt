@@ -159,3 +159,6 @@ pub none_there : (format : Format) (pairs : List Pair) (places : Places) (i : �
     → NoneSpelled (ValueBytes format middle.order (get_or pairs i d).form) middle.rest
     → NoneSpelled (EntryBytes format old.order pairs) old.rest
 none_there format pairs places i d view old middle lt p none = no_entry format pairs i d p.values old middle lt p.read none
+
+-- The lemmas of `read_values`.
+pub ruleset read_values_lemmas = (nothing_read, one_more_read, all_read, none_there)

@@ -187,3 +187,9 @@ judged line general h d f count found j m =
     (subst (λ (es : List Entry). IsFound line general found (with_tables h d.pairs d.entries f.pairs es)) j.files
     (found_in line general h d f found j.directory_format j.file_format j.paths
     (subst (λ (n : ℕ). MatchOption found (HasAll line general n f) (λ fault. IsFilesFault line general n f fault)) j.count_is m)))))
+
+-- The lemmas of `first_without_path`.
+pub ruleset first_without_path_lemmas = (all_begun, all_stepped, all_done, all_but, never_ends)
+
+-- The lemmas of `files_fault`.
+pub ruleset files_fault_lemmas = (files_stepped, files_never_end, files_but, files_sound, files_missing)

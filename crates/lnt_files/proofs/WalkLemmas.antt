@@ -92,3 +92,6 @@ pub none_in_table : (table : BorrowedTable) (format : Format) (pairs : List Pair
     → NoneSpelled (EntryBytes format at.order pairs) at.rest
     → NoneSpelled (EntryBytes table.format at.order table.pairs) at.rest
 none_in_table table format pairs at format_is pairs_are none = grind (arith, common_steps)
+
+-- The lemmas of `next_entry`.
+pub ruleset next_entry_lemmas = (walk_ended, walk_steps, walk_goes_on, walk_never_stops)

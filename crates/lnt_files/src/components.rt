@@ -154,7 +154,7 @@ fn read_summed_path<'a>(
 
 // The components of an entry of any format.
 #[inline(never)]
-#[tactic(auto, using(crate::proofs::EntryLemmas::nothing_read, crate::proofs::EntryLemmas::one_more_read, crate::proofs::EntryLemmas::all_read, crate::proofs::EntryLemmas::none_there))]
+#[tactic(auto, using(crate::proofs::EntryLemmas::read_values_lemmas))]
 fn read_values<'a>(
     cursor: &mut Cursor<'a>,
     format: Format,

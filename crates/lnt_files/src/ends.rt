@@ -54,7 +54,7 @@ impl<'a> StringEnds<'a> {
 }
 
 // The number of bytes of the section up to and including its last zero byte; 0 if it has none.
-#[tactic(auto, using(crate::proofs::EndLemmas::none_past, crate::proofs::EndLemmas::none_before, crate::proofs::EndLemmas::last_zero, crate::proofs::EndLemmas::no_zero))]
+#[tactic(auto, using(crate::proofs::EndLemmas::texts_end_lemmas))]
 fn texts_end(section: &[u8]) -> usize
     ensures { TextsEndAt result section.now }
 {

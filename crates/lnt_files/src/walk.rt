@@ -81,7 +81,7 @@ impl<'t> Entries<'t> {
 
     /// The components of the next entry. `None` after the last one.
     #[inline(always)]
-    #[tactic(auto, using(crate::proofs::WalkLemmas::walk_ended, crate::proofs::WalkLemmas::walk_steps, crate::proofs::WalkLemmas::walk_goes_on, crate::proofs::WalkLemmas::walk_never_stops))]
+    #[tactic(auto, using(crate::proofs::WalkLemmas::next_entry_lemmas))]
     pub(crate) fn next_entry(&mut self) -> Option<EntryView<'t>>
         ensures { EntryStep self.old result self.new }
     {

@@ -113,3 +113,6 @@ each_at P (x ∷ xs) (suc i) d bytes lt p = each_at P xs i d p.back (omega arith
 -- want of memory says nothing
 pub refused_memory : {X : Type 0} (Spells : X → List ℕ → Type 0) (x : X) (fault : EncodeFault) → fault ≡ Memory → RefusedPut Spells x fault
 refused_memory Spells x fault is = record { none = λ large. absurd cc }
+
+-- The lemmas of loops that append each item of a list.
+pub ruleset puts_each = (each_begun, each_more, each_done)

@@ -178,3 +178,6 @@ no_header h (TextHoldsZero Directories index) wrong is =
     first_is_wrong wrong.2 (all_sound h.directory_format h.directories is.directories.of_format)
 no_header h (TextHoldsZero Files index) wrong is = first_is_wrong wrong.3 (all_sound h.file_format h.files is.files.of_format)
 no_header h (OpNotOfUnit index) wrong is = wrong
+
+-- The lemmas of `is_of_format`.
+pub ruleset is_of_format_lemmas = (zip_start, zip_more, zip_not, zip_end, other_lengths)

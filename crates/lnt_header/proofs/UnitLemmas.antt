@@ -31,3 +31,6 @@ parts_with header ops = record { header = header; ops = ops }
 pub same_parts : (unit : UnitParts) (header : HeaderParts) → header ≡ unit.header → record { header = header; ops = unit.ops } ≡ unit
 unfolding parts_with
 same_parts unit header same = ap (λ (h : HeaderParts). parts_with h unit.ops) same
+
+-- The lemmas of `Unit::new`.
+pub ruleset unit_lemmas = (no_header_first, no_ops, header_fault)

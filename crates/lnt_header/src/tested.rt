@@ -106,7 +106,7 @@ fn first_of_no_format(entries: &[Entry], pairs: &[Pair]) -> Option<u64>
 }
 
 // Whether the entry has one value for each pair, in the pair's form.
-#[tactic(auto, using(crate::proofs::TestLemmas::zip_start, crate::proofs::TestLemmas::zip_more, crate::proofs::TestLemmas::zip_not, crate::proofs::TestLemmas::zip_end, crate::proofs::TestLemmas::other_lengths))]
+#[tactic(auto, using(crate::proofs::TestLemmas::is_of_format_lemmas))]
 fn is_of_format(entry: &Entry, pairs: &[Pair]) -> bool
     ensures { IsTrue result ↔ IsOfFormat pairs.now entry.now }
 {

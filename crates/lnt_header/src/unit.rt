@@ -40,7 +40,7 @@ impl Unit {
     ///
     /// Otherwise the parts are returned with the first fault: those of `Header::new`, then `OpNotOfUnit` with the index,
     /// counted from 0, of the first operation that the header doesn't admit. No unit has such parts.
-    #[tactic(auto, using(crate::proofs::UnitLemmas::no_header_first, crate::proofs::UnitLemmas::no_ops, crate::proofs::UnitLemmas::header_fault))]
+    #[tactic(auto, using(crate::proofs::UnitLemmas::unit_lemmas))]
     pub fn new(parts: UnitParts) -> Result<Unit, (UnitFault, UnitParts)>
         ensures ok { IfOk result (λ unit. unit ≡ parts) }
         ensures err { IfErr result (λ refused. IsUnitFault refused.0 parts × (refused.1 ≡ parts)) }

@@ -245,3 +245,6 @@ pub header_found : (order : Order) (format : Format) (offset : ℕ) (body : List
     → HasFields format order size counted h → HeaderBytesIn order (h, program) (frame_bytes order format body)
 header_found order format offset body size zero_size place counted program old new h fits b there placed program_is has =
     grind (arith, common_steps, counted_by)
+
+-- The lemmas of `view_header`.
+pub ruleset view_header_lemmas = (refuses_start, refuses_fields, header_found)

@@ -329,3 +329,12 @@ module _ (format : Format) (s : Singles) (ls : List ℕ) (old m1 m2 : At) (r : R
       let tables = reads_both (TableOf format m2.order) (λ order _. TableOf format order) directories files m2 m3 new u v in
       let past = reads_both (LengthsBytes s.opcode_base) (AfterLengths format) ls (directories, files) m1 m2 new t tables in
       reads_both SinglesBytes (AfterSingles format) s (ls, (directories, files)) old m1 new r past
+
+-- The lemmas of `read_fields`.
+pub ruleset read_fields_lemmas = (refuses_singles, refuses_lengths, refuses_directories, refuses_files)
+
+-- The lemmas of `read_singles`.
+pub ruleset read_singles_lemmas = (max_ops_zero, line_range_zero, opcode_base_zero, cut_singles, reads_singles)
+
+-- The lemmas of `read_lengths`.
+pub ruleset read_lengths_lemmas = (refuses_length, cut_lengths, reads_lengths)

@@ -167,3 +167,15 @@ pub refuses_passed : (format : Format) (pairs : List Pair) (n count : ℕ) (old 
     → Refuses (IsEntriesFault format old.order pairs n) (Several n (EntryBytes format old.order pairs)) old fault
 refuses_passed format pairs n count old middle fault p lt r =
     refuses_entries format pairs n p.entries old middle fault p.read (omega (arith, p.count_is)) r
+
+-- The lemmas of `pass_entries`.
+pub ruleset pass_entries_lemmas = (none_passed, one_more_passed, all_passed, refuses_passed)
+
+-- The lemmas of `pass_indexed_path`.
+pub ruleset pass_indexed_path_lemmas = (indexed_path_passed, path_refused, index_refused)
+
+-- The lemmas of `pass_summed_path`.
+pub ruleset pass_summed_path_lemmas = (summed_path_passed, path_refused, index_refused, sum_refused)
+
+-- The lemmas of `pass_values`.
+pub ruleset pass_values_lemmas = (values_begun, values_next_passed, values_passed, refuses_value_passed)

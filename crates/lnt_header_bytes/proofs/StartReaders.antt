@@ -218,3 +218,15 @@ pub start_read : (format : Format) (size zero_size : ℕ) (counted : List ℕ) (
 start_read format size zero_size counted old m1 m2 new r s t =
     reads_both AddressSizeBytes (AfterSize format) size (zero_size, counted) old m1 new r
     (reads_both SelectorBytes (λ order _. CountedBytes format order) zero_size counted m1 m2 new s t)
+
+-- The lemmas of `read_start`.
+pub ruleset read_start_lemmas = (size_refused, selector_refused, counted_refused, start_read)
+
+-- The lemmas of `read_address_size`.
+pub ruleset read_address_size_lemmas = (reads_kind, refuses_size, refuses_other_size)
+
+-- The lemmas of `read_selector_size`.
+pub ruleset read_selector_size_lemmas = (reads_kind, refuses_selector, refuses_other_selector)
+
+-- The lemmas of `read_counted`.
+pub ruleset read_counted_lemmas = (reads_counted, refuses_length, refuses_counted)

@@ -360,3 +360,6 @@ module _ (format : Format) (n : ℕ) (pairs : List Pair) (old m1 m2 : At) (r : R
       let whole = reads_both (NumberBytes old.order 1) (KindsOn format) n (pairs, (size, entries)) old m1 new r second in
       reads_map (CountOn format old.order) (TableOf format old.order) (n, (pairs, (size, entries))) (pairs, entries) old new
       (to_table format old.order n size pairs entries) whole
+
+-- The lemmas of `read_pair`.
+pub ruleset read_pair_lemmas = (reads_pair, refuses_pair_content, refuses_pair_form, refuses_unknown)

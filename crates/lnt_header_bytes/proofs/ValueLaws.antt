@@ -112,3 +112,6 @@ no_entry format pairs i d values old middle lt p none entry x more q e =
     (none_values format old.order (take i pairs) (get_or pairs i d) (drop (i + 1) pairs) values p.read.spelling middle.rest old.rest
     p.read.spelled p.read.whole here) in
     there entry.values x more q e
+
+-- The lemmas of `read_values`.
+pub ruleset read_values_lemmas = (values_none, values_next)

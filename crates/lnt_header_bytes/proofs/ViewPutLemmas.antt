@@ -156,3 +156,9 @@ entries_refused table format order count at old middle fault lt p refused =
     record {
       is_so = λ e. (entry, Contains-get_or table.entries count d lt, refused.large e entry here.prefix here.back first here.joined);
     }
+
+-- The lemmas of `add_entries_view`.
+pub ruleset add_entries_view_lemmas = (entries_begun, entries_done)
+
+-- The lemmas of `add_entry_view`.
+pub ruleset add_entry_view_lemmas = (entry_begun, entry_done)

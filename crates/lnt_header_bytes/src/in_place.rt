@@ -84,7 +84,7 @@ impl<'a> HeaderInPlace<'a> {
 /// first field that is truncated or has an invalid value, and its place is the field's first byte; if the fields of one
 /// byte end too early, it is their end. Allocates memory only for the formats of the entries and the standard opcode
 /// lengths. The caller passes a frame from `take_frame`, and the order in which that was read.
-#[tactic(auto, using(crate::proofs::HeaderFrames::refuses_start, crate::proofs::HeaderFrames::refuses_fields, crate::proofs::HeaderFrames::header_found))]
+#[tactic(auto, using(crate::proofs::HeaderFrames::view_header_lemmas))]
 pub fn view_header<'a>(
     alloc: Global,
     frame: &Frame<'a>,
@@ -187,7 +187,7 @@ struct FieldsRead<'a> {
 }
 
 // The fields up to the file table.
-#[tactic(auto, using(crate::proofs::HeaderReaders::refuses_singles, crate::proofs::HeaderReaders::refuses_lengths, crate::proofs::HeaderReaders::refuses_directories, crate::proofs::HeaderReaders::refuses_files, crate::proofs::ViewLemmas::fields_read))]
+#[tactic(auto, using(crate::proofs::HeaderReaders::read_fields_lemmas, crate::proofs::ViewLemmas::fields_read))]
 fn read_fields<'a>(
     alloc: Global,
     cursor: &mut Cursor<'a>,

@@ -21,7 +21,7 @@ pub(crate) struct Singles {
 
 /// Reads the six fields of one byte before the standard opcode lengths. Fails at a field that is 0 but mustn't be, and,
 /// with `Truncated`, at the end of the bytes if fewer than six are left.
-#[tactic(auto, using(crate::proofs::HeaderReaders::max_ops_zero, crate::proofs::HeaderReaders::line_range_zero, crate::proofs::HeaderReaders::opcode_base_zero, crate::proofs::HeaderReaders::cut_singles, crate::proofs::HeaderReaders::reads_singles))]
+#[tactic(auto, using(crate::proofs::HeaderReaders::read_singles_lemmas))]
 pub(crate) fn read_singles(cursor: &mut Cursor<'_>) -> Result<Singles, Fault>
     ensures ok { IfOk result (λ s. Reads SinglesBytes s cursor.old cursor.new) }
     ensures err { IfErr result (λ fault. Refuses IsSinglesFault SinglesBytes cursor.old fault) }
@@ -73,7 +73,7 @@ fn known_end(opcode_base: u8) -> u8
 
 /// Reads the lengths of the standard opcodes, `opcode_base - 1` bytes, which are borrowed. Fails at the first one that
 /// isn't the length of its known opcode, and, with `Truncated`, at the end of the bytes if there are fewer.
-#[tactic(auto, using(crate::proofs::HeaderReaders::refuses_length, crate::proofs::HeaderReaders::cut_lengths, crate::proofs::HeaderReaders::reads_lengths))]
+#[tactic(auto, using(crate::proofs::HeaderReaders::read_lengths_lemmas))]
 pub fn read_lengths<'a>(cursor: &mut Cursor<'a>, opcode_base: u8) -> Result<&'a [u8], Fault>
     requires { 0 < opcode_base }
     ensures ok { IfOk result (λ lengths. Reads (LengthsBytes opcode_base) lengths.now cursor.old cursor.new) }

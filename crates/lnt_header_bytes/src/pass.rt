@@ -11,7 +11,7 @@ use lnt_wire::{Cursor, Fault, Form, Format};
 
 /// Moves the cursor past `count` entries, and returns their bytes. Fails with the fault of the first invalid value.
 /// Allocates nothing.
-#[tactic(auto, using(crate::proofs::PassLemmas::none_passed, crate::proofs::PassLemmas::one_more_passed, crate::proofs::PassLemmas::all_passed, crate::proofs::PassLemmas::refuses_passed))]
+#[tactic(auto, using(crate::proofs::PassLemmas::pass_entries_lemmas))]
 pub(crate) fn pass_entries<'a>(
     cursor: &mut Cursor<'a>,
     format: Format,
@@ -98,7 +98,7 @@ fn pass_path(cursor: &mut Cursor<'_>, format: Format, pairs: &[Pair]) -> Result<
 
 // Moves past the next path and the index of its directory.
 #[inline(always)]
-#[tactic(auto, using(crate::proofs::PassLemmas::indexed_path_passed, crate::proofs::PassLemmas::path_refused, crate::proofs::PassLemmas::index_refused))]
+#[tactic(auto, using(crate::proofs::PassLemmas::pass_indexed_path_lemmas))]
 fn pass_indexed_path(cursor: &mut Cursor<'_>, format: Format, pairs: &[Pair]) -> Result<(), Fault>
     requires { IsLayout Layout.IndexedPath pairs.now }
     ensures ok { OnOk result (Passes (EntryBytes format cursor.old.order pairs.now) cursor.old cursor.new) }
@@ -112,7 +112,7 @@ fn pass_indexed_path(cursor: &mut Cursor<'_>, format: Format, pairs: &[Pair]) ->
 
 // Moves past the next path, the index of its directory and its MD5 sum.
 #[inline(always)]
-#[tactic(auto, using(crate::proofs::PassLemmas::summed_path_passed, crate::proofs::PassLemmas::path_refused, crate::proofs::PassLemmas::index_refused, crate::proofs::PassLemmas::sum_refused))]
+#[tactic(auto, using(crate::proofs::PassLemmas::pass_summed_path_lemmas))]
 fn pass_summed_path(cursor: &mut Cursor<'_>, format: Format, pairs: &[Pair]) -> Result<(), Fault>
     requires { IsLayout Layout.SummedPath pairs.now }
     ensures ok { OnOk result (Passes (EntryBytes format cursor.old.order pairs.now) cursor.old cursor.new) }
@@ -127,7 +127,7 @@ fn pass_summed_path(cursor: &mut Cursor<'_>, format: Format, pairs: &[Pair]) -> 
 
 // Moves past the next entry, with any forms.
 #[inline(never)]
-#[tactic(auto, using(crate::proofs::PassLemmas::values_begun, crate::proofs::PassLemmas::values_next_passed, crate::proofs::PassLemmas::values_passed, crate::proofs::PassLemmas::refuses_value_passed))]
+#[tactic(auto, using(crate::proofs::PassLemmas::pass_values_lemmas))]
 fn pass_values(cursor: &mut Cursor<'_>, format: Format, pairs: &[Pair]) -> Result<(), Fault>
     ensures ok { OnOk result (Passes (EntryBytes format cursor.old.order pairs.now) cursor.old cursor.new) }
     ensures err { IfErr result (λ fault. Refuses (IsEntryFault format cursor.old.order pairs.now)

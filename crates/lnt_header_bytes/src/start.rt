@@ -16,7 +16,7 @@ pub(crate) struct Start<'a> {
 }
 
 /// Reads the address size, which is 2, 4 or 8, the segment selector size, which is 0, and the bytes that header_length counts.
-#[tactic(auto, using(crate::proofs::StartReaders::size_refused, crate::proofs::StartReaders::selector_refused, crate::proofs::StartReaders::counted_refused, crate::proofs::StartReaders::start_read))]
+#[tactic(auto, using(crate::proofs::StartReaders::read_start_lemmas))]
 pub(crate) fn read_start<'a>(cursor: &mut Cursor<'a>, format: Format) -> Result<Start<'a>, Fault>
     ensures ok { IfOk result (λ s. Reads (StartBytes format cursor.old.order) (s.address_size, (s.selector_size, s.header.now)) cursor.old
         cursor.new) }
@@ -34,7 +34,7 @@ pub(crate) fn read_start<'a>(cursor: &mut Cursor<'a>, format: Format) -> Result<
 }
 
 // Reads the size of an address: 2, 4 or 8.
-#[tactic(auto, using(crate::proofs::StartReaders::reads_kind, crate::proofs::StartReaders::refuses_size, crate::proofs::StartReaders::refuses_other_size))]
+#[tactic(auto, using(crate::proofs::StartReaders::read_address_size_lemmas))]
 fn read_address_size(cursor: &mut Cursor<'_>) -> Result<u8, Fault>
     ensures ok { IfOk result (λ size. Reads AddressSizeBytes size cursor.old cursor.new) }
     ensures err { IfErr result (λ fault. RefusesField IsAddressSizeFault AddressSizeBytes cursor.old fault) }
@@ -52,7 +52,7 @@ fn read_address_size(cursor: &mut Cursor<'_>) -> Result<u8, Fault>
 }
 
 // The size of a segment selector, which is 0.
-#[tactic(auto, using(crate::proofs::StartReaders::reads_kind, crate::proofs::StartReaders::refuses_selector, crate::proofs::StartReaders::refuses_other_selector))]
+#[tactic(auto, using(crate::proofs::StartReaders::read_selector_size_lemmas))]
 fn read_selector_size(cursor: &mut Cursor<'_>) -> Result<u8, Fault>
     ensures ok { IfOk result (λ size. Reads SelectorBytes size cursor.old cursor.new) }
     ensures err { IfErr result (λ fault. RefusesField IsSelectorFault SelectorBytes cursor.old fault) }
@@ -71,7 +71,7 @@ fn read_selector_size(cursor: &mut Cursor<'_>) -> Result<u8, Fault>
 
 /// Reads `header_length`, and the bytes that it counts, which are borrowed (DWARF 5, section 6.2.4). Fails at the number if it
 /// isn't there whole, and with `HeaderLength` if fewer bytes follow than it says.
-#[tactic(auto, using(crate::proofs::StartReaders::reads_counted, crate::proofs::StartReaders::refuses_length, crate::proofs::StartReaders::refuses_counted))]
+#[tactic(auto, using(crate::proofs::StartReaders::read_counted_lemmas))]
 pub fn read_counted<'a>(cursor: &mut Cursor<'a>, format: Format) -> Result<&'a [u8], Fault>
     ensures ok { IfOk result (λ counted. Reads (CountedBytes format cursor.old.order) counted.now cursor.old cursor.new) }
     ensures err { IfErr result (λ fault. RefusesField (IsCountedFault format cursor.old.order) (CountedBytes format cursor.old.order)

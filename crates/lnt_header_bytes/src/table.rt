@@ -11,7 +11,7 @@ use lnt_wire::{Cursor, Fault, Form, FormValue, Format, Items, Reason};
 use std::alloc::Global;
 
 // Reads a pair of a format: a content type and the code of a form.
-#[tactic(auto, using(crate::proofs::TableReaders::reads_pair, crate::proofs::TableReaders::refuses_pair_content, crate::proofs::TableReaders::refuses_pair_form, crate::proofs::TableReaders::refuses_unknown))]
+#[tactic(auto, using(crate::proofs::TableReaders::read_pair_lemmas))]
 fn read_pair(cursor: &mut Cursor<'_>) -> Result<Pair, Fault>
     ensures ok { IfOk result (λ pair. Reads PairBytes pair cursor.old cursor.new) }
     ensures err { IfErr result (λ fault. Refuses IsPairFault PairBytes cursor.old fault) }
@@ -63,7 +63,7 @@ fn add_pair(cursor: &mut Cursor<'_>, pairs: &mut Vec<Pair>) -> Result<(), Fault>
 }
 
 // Reads the values of an entry, one for each pair.
-#[tactic(auto, using(crate::proofs::ValueLaws::values_none, crate::proofs::ValueLaws::values_next, crate::proofs::TableReaders::refuses_values_at))]
+#[tactic(auto, using(crate::proofs::ValueLaws::read_values_lemmas, crate::proofs::TableReaders::refuses_values_at))]
 fn read_values(
     alloc: Global,
     cursor: &mut Cursor<'_>,

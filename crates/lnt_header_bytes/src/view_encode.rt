@@ -12,7 +12,7 @@ use lnt_wire::{Cursor, EncodeFault, Format, Order, Reason, put_form};
 use std::alloc::Global;
 
 /// Adds the entries of a table, each read where it lies.
-#[tactic(auto, using(crate::proofs::ViewPutLemmas::entries_begun, crate::proofs::ViewPutLemmas::entries_done, crate::proofs::LargeLemmas::memory_not_large))]
+#[tactic(auto, using(crate::proofs::ViewPutLemmas::add_entries_view_lemmas, crate::proofs::LargeLemmas::memory_not_large))]
 pub(crate) fn add_entries_view(
     alloc: Global,
     out: &mut Vec<u8>,
@@ -33,7 +33,7 @@ pub(crate) fn add_entries_view(
 
 // Adds the values of the entry at the cursor, which is in the format `from`. The caller sees to it that an entry stands
 // there, so the only reason for which a value isn't read is want of memory.
-#[tactic(auto, using(crate::proofs::ViewPutLemmas::entry_begun, crate::proofs::ViewPutLemmas::entry_done, crate::proofs::AllowedLaws::spelled_value))]
+#[tactic(auto, using(crate::proofs::ViewPutLemmas::add_entry_view_lemmas, crate::proofs::AllowedLaws::spelled_value))]
 fn add_entry_view(
     alloc: Global,
     out: &mut Vec<u8>,

@@ -79,3 +79,6 @@ place_missing units unit low high b empty =
     let at : position_or_len (λ offset. offset == unit) units ≡ length units =
     position_or_len_is (λ offset. offset == unit) units (length units) 0 (omega arith) other (λ lt. absurd (omega arith)) in
     rw (at, outside_is (length units) (length units) (omega arith)) refl
+
+-- The lemmas of `place_of`.
+pub ruleset place_of_lemmas = (between_all, between_above, between_below)

@@ -53,3 +53,6 @@ multiple_fits n a r m same some small byte is = omega (arith, product_within n a
 
 pub rest : (n a r m : ℕ) → n ≡ a → 0 < r → r < 256 → a < 256 → m ≡ 65536 / r + 1 → a - n * m / 65536 * r ≡ a % r
 rest n a r m same some small byte is = rw (quotient n a r m same some small byte is) (sym (mod-eq-sub-div-mul a r))
+
+-- The lemmas of `divided`.
+pub ruleset divided_lemmas = (quotient, rest, quotient_fits, product_fits, product_within, multiple_fits)

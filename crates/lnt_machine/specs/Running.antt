@@ -7,7 +7,7 @@ use Rattle.lnt_machine.specs.Matrix.{rows_after, sequences_of, Row}
 use Rattle.std.specs.List.{list_any}
 use Rattle.lnt_header.specs.declared.op.OpView.{OpView}
 use Rattle.lnt_header.specs.OpRules.{StandsFor}
-use Rattle.lnt_machine.specs.Registers.{is_copy_or_special, part, Row}
+use Rattle.lnt_machine.specs.Registers.{is_copy_or_special, part}
 use Rattle.lnt_machine.specs.State.{StandsAfter, MachineState, Steps}
 
 -- ---- programs in parts, each of whole sequences (DWARF 5, section 6.2.5): the effect of an operation depends on nothing before

@@ -2,7 +2,7 @@
 use Rattle.std.specs.Prelude.{◌≡◌, ℕ, ◌*◌, ◌^◌, ◌<◌, List, ◌+◌, ◌-◌, min, ◌∷◌, Option}
 use Rattle.lnt_header.specs.declared.numbers.NumberParts.{NumberParts}
 use Rattle.lnt_header.specs.declared.op.Op.{Op}
-use Rattle.lnt_machine.specs.Registers.{IsLine, line, registers_after, Row}
+use Rattle.lnt_machine.specs.Registers.{IsLine, line, registers_after}
 use Rattle.lnt_header.specs.declared.op.OpView.{OpView}
 use Rattle.lnt_header.specs.OpRules.{StandsFor}
 use Rattle.lnt_machine.specs.Matrix.{row_made, Row}

@@ -148,7 +148,7 @@ fn special(
 // The quotient and the remainder of two bytes, by a multiplication with `reciprocal`, which is 2^16 / `divisor` + 1. For
 // bytes both are exact.
 #[inline(always)]
-#[tactic(auto, using(crate::proofs::DivisionLemmas::quotient, crate::proofs::DivisionLemmas::rest, crate::proofs::DivisionLemmas::quotient_fits, crate::proofs::DivisionLemmas::product_fits, crate::proofs::DivisionLemmas::product_within, crate::proofs::DivisionLemmas::multiple_fits))]
+#[tactic(auto, using(crate::proofs::DivisionLemmas::divided_lemmas))]
 fn divided(dividend: u8, divisor: u8, reciprocal: u32) -> (u8, u8)
     requires some { 0 < divisor }
     requires reciprocal { reciprocal ≡ 65536 / divisor + 1 }

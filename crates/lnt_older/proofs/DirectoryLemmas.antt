@@ -210,3 +210,6 @@ sound_from older bytes directories file = grind (arith, common_steps, no_zero_at
 
 pub sound_none : (directories : List Directory) → directories ≡ [] → AreSoundDirectories directories
 sound_none directories none = rw none (record { rising = λ i j d lt few. absurd (omega (arith, few)); no_zero = λ offset. tt })
+
+-- The lemmas of `names_columns`.
+pub ruleset names_columns_lemmas = (all_named, not_unit, not_directory)

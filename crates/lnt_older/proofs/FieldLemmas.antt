@@ -106,3 +106,6 @@ fields_read version format n ls directories files old m1 m2 m3 new r t u v =
     m3 new u v in
     let past = reads_both (LengthsBytes n.opcode_base) (λ order _. TwoLists format order) ls (directories, files) m1 m2 new t lists in
     reads_both (NumbersBytes version) (AfterNumbers format) n (ls, (directories, files)) old m1 new r past
+
+-- The lemmas of `read_parts`.
+pub ruleset read_parts_lemmas = (numbers_missing, lengths_missing, directories_missing, files_missing)

@@ -79,3 +79,6 @@ module _ (order : Order) (size : ℕ) (directories : List Directory) (section : 
         upgraded_before = record { units = s.units; sound = before.sound; sizes = before.sizes; upgraded = before.upgraded };
         large = rw w.order_is at l.large;
       })
+
+-- The lemmas of `judge_sizes`.
+pub ruleset judge_sizes_lemmas = (sized_none, sized_more, sized_next, sized_all, sized_large, added_long)

@@ -200,3 +200,9 @@ reads_there unit other at new place rest order p = rw (same_at other at place re
 pub fault_there : (other at : At) (fault : Fault) → other.place ≡ at.place → other.rest ≡ at.rest → other.order ≡ at.order
     → Refuses (IsAnyFault other.order) (AnyBytes other.order) other fault → Refuses (IsAnyFault at.order) (AnyBytes at.order) at fault
 fault_there other at fault place rest order p = rw (same_at other at place rest order) at p
+
+-- The lemmas of `read_any_unit`.
+pub ruleset read_any_unit_lemmas = (any_read, any_sound, any_missing)
+
+-- The lemmas of `older_unit`.
+pub ruleset older_unit_lemmas = (unit_found, length_missing, field_missing)

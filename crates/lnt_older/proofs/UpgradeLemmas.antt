@@ -132,3 +132,6 @@ unit_too_long unit size directory fields named fault is_size is_unit are is long
 -- what is as it was has nothing added
 pub unchanged : (old : List ℕ) → Extends old old
 unchanged old = record { more = []; joined = sym (append-nil old) }
+
+-- The lemmas of `upgraded_fields`.
+pub ruleset upgraded_fields_lemmas = (directories_few, files_few, files_there)

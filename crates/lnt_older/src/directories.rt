@@ -64,7 +64,7 @@ fn read_columns(reader: &mut Reader<&[u8]>, row: &mut ByteRecord) -> Result<bool
 }
 
 // Whether the fields of a record are the names of the columns.
-#[tactic(auto, using(crate::proofs::DirectoryLemmas::all_named, crate::proofs::DirectoryLemmas::not_unit, crate::proofs::DirectoryLemmas::not_directory))]
+#[tactic(auto, using(crate::proofs::DirectoryLemmas::names_columns_lemmas))]
 fn names_columns(row: &ByteRecord) -> bool
     ensures { MatchBool result (fields_of row.now ≡ directory_names) (fields_of row.now ≢ directory_names) }
 {

@@ -50,7 +50,7 @@ pub fn read_older_header<'a>(
 }
 
 // The fields up to the files, and what is left after them.
-#[tactic(auto, using(crate::proofs::FieldLemmas::numbers_missing, crate::proofs::FieldLemmas::lengths_missing, crate::proofs::FieldLemmas::directories_missing, crate::proofs::FieldLemmas::files_missing, crate::proofs::HeaderLemmas::parts_read))]
+#[tactic(auto, using(crate::proofs::FieldLemmas::read_parts_lemmas, crate::proofs::HeaderLemmas::parts_read))]
 fn read_parts<'a>(
     cursor: &mut Cursor<'a>,
     version: OlderVersion,

@@ -103,7 +103,7 @@ fn list_directories(
 }
 
 // Tests that the unit of version 5 for each unit is no longer than its format can say.
-#[tactic(auto, using(crate::proofs::SizeLemmas::sized_none, crate::proofs::SizeLemmas::sized_more, crate::proofs::SizeLemmas::sized_next, crate::proofs::SizeLemmas::sized_all, crate::proofs::SizeLemmas::sized_large, crate::proofs::SizeLemmas::added_long))]
+#[tactic(auto, using(crate::proofs::SizeLemmas::judge_sizes_lemmas))]
 fn judge_sizes(
     alloc: Global,
     bytes: &[u8],

@@ -50,7 +50,7 @@ pub fn take_any_unit<'a>(cursor: &mut Cursor<'a>) -> Result<AnyUnit<'a>, Fault>
 }
 
 // The same, where nothing is said of the cursor after a refusal.
-#[tactic(auto, using(crate::proofs::UnitLemmas::any_read, crate::proofs::UnitLemmas::any_sound, crate::proofs::UnitLemmas::any_missing, crate::proofs::PrefixLemmas::prefix_room))]
+#[tactic(auto, using(crate::proofs::UnitLemmas::read_any_unit_lemmas, crate::proofs::PrefixLemmas::prefix_room))]
 fn read_any_unit<'a>(cursor: &mut Cursor<'a>) -> Result<AnyUnit<'a>, Fault>
     ensures ok { IfOk result (λ unit. ReadsAny unit cursor.old cursor.new) }
     ensures sound { IfOk result IsSoundUnit }
@@ -83,7 +83,7 @@ fn any_unit<'a>(prefix: &Prefix<'a>, bytes: &'a [u8], order: Order) -> Result<An
 }
 
 // The older unit of a prefix.
-#[tactic(auto, using(crate::proofs::UnitLemmas::unit_found, crate::proofs::UnitLemmas::length_missing, crate::proofs::UnitLemmas::field_missing))]
+#[tactic(auto, using(crate::proofs::UnitLemmas::older_unit_lemmas))]
 fn older_unit<'a>(
     prefix: &Prefix<'a>,
     version: OlderVersion,

@@ -51,7 +51,7 @@ pub fn append_upgraded_unit(
 }
 
 // The fields that header_length counts.
-#[tactic(auto, using(crate::proofs::UpgradeLemmas::directories_few, crate::proofs::UpgradeLemmas::files_few, crate::proofs::UpgradeLemmas::files_there))]
+#[tactic(auto, using(crate::proofs::UpgradeLemmas::upgraded_fields_lemmas))]
 fn upgraded_fields(
     alloc: Global,
     unit: &OlderUnit<'_>,

@@ -63,3 +63,6 @@ pub converted_extends : (h : NumberParts) (place : ℕ) (program : List ℕ) (or
     → ConvertedSoFar h place program order old walk new → Extends old new
 converted_extends h place program order old new walk so =
     appended_extends (Each (OpBytes (in_order h order))) so.ops old new so.adds
+
+-- The lemmas of `convert_ops`.
+pub ruleset convert_ops_lemmas = (converted_none, converted_more, converted_all)

@@ -336,3 +336,9 @@ pub ruleset operand_tests = (
   wrong_discriminator,
   no_code,
 )
+
+-- The lemmas of `read_extended`.
+pub ruleset read_extended_lemmas = (gives_extended, refuses_length, refuses_cut, refuses_counted)
+
+-- The lemmas of `is_leb`.
+pub ruleset is_leb_lemmas = (leb_found, leb_last, leb_all)

@@ -18,7 +18,8 @@ use Rattle.lnt_header.specs.declared.op.Operands.{Operands}
 use Rattle.lnt_header.specs.declared.op.Operands.TheVariants.{Spelled, Listed}
 use Rattle.lnt_header.specs.OpRules.{AreOperands, StandsFor, Admits, AdmitsCoding, Coding, coding, coding_of, Operand}
 use Rattle.lnt_header.specs.Joins.{Each}
-use Rattle.lnt_header.proofs.PutLaws.{put_as, each_begun, each_put, each_more}
+use Rattle.lnt_header.proofs.PutLaws.{put_as, each_begun, each_done, each_put, each_more}
+use Rattle.lnt_header.proofs.FirstLaws.{all_at}
 use Rattle.lnt_ops.proofs.OpLaws.{extended_parts, same_whole}
 use Rattle.lnt_ops.proofs.ViewLaws.{leb_is_some, is_coded, IsListed, is_op_of, operands_of}
 use Rattle.lnt_ops.specs.OpBytes.{CodingBytes, OpBytes, Standard, Extended, SpellsNumbers}
@@ -282,3 +283,9 @@ unchanged_extends old new same = record { more = []; joined = same ∙ sym (appe
 
 pub extends_more : (old middle new : List ℕ) → Extends old middle → Extends middle new → Extends old new
 extends_more old middle new p q = grind (arith, common_steps, append_assoc)
+
+-- The lemmas of `add_spelled`.
+pub ruleset add_spelled_lemmas = (spelled_begun, spelled_more, spelled_done)
+
+-- The lemmas of `add_ops`.
+pub ruleset add_ops_lemmas = (each_begun, ops_more, each_done, all_at)

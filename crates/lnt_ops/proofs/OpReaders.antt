@@ -83,3 +83,6 @@ pub refuses_after : (h : NumberParts) (k : ℕ) (old ahead middle : At) (fault :
     → Refuses (IsOpFault h.address_size) (OpBytes h) old fault
 refuses_after h k old ahead middle fault place rest r lt s =
     refuses_op h old fault (first_after h k old ahead middle fault place rest r lt s)
+
+-- The lemmas of `read_op`.
+pub ruleset read_op_lemmas = (gives_special, gives_after, first_opcode, first_after, refuses_opcode, refuses_after)

@@ -58,3 +58,6 @@ numbers_done bytes numbers at fault some so r =
 -- each number shortens the rest
 pub number_long : (n : ℕ) (at new : At) → Reads UnsignedLeb n at new → length new.rest < length at.rest
 number_long n at new r = omega (arith, leb_is_some n r.spelling r.spelled, ap length r.whole, length-append r.spelling new.rest)
+
+-- The lemmas of `spelled_numbers`.
+pub ruleset spelled_numbers_lemmas = (numbers_none, numbers_more, numbers_done, number_long)

@@ -110,3 +110,6 @@ at_end walk going (inr empty) = empty
 pub walk_done : (h : NumberParts) (place : ℕ) (program : List ℕ) (ops : List Op) (old new : Walk) → old.failed ≡ false
     → OpsSoFar h place program ops old.at → Ends old new → Each (OpBytes h) ops program
 walk_done h place program ops old new going so e = ops_spelled h place program ops old.at so (at_end old going e.ended)
+
+-- The lemmas of `read_ops`.
+pub ruleset read_ops_lemmas = (ops_none, ops_more, ops_spelled, ops_admitted, walk_done, is_view)

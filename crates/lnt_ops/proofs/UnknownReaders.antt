@@ -68,3 +68,9 @@ refuses_unknown h k count old fault some lt counted r = record {
   place = r.place ∙ r.reads.place;
   reason = unknown_operand k r.operands r.reads.spelling some lt r.reads.spelled (omega (arith, r.fewer, counted)) refl r.reason;
 }
+
+-- The lemmas of `read_unknown`.
+pub ruleset read_unknown_lemmas = (opcode_there, gives_unknown, refuses_unknown)
+
+-- The lemmas of `pass_operands`.
+pub ruleset pass_operands_lemmas = (operands_none, operands_more, refuses_operands)

@@ -31,3 +31,6 @@ fails_here fault old new going failed header at some r t = grind (arith, common_
 pub order_kept : (h : NumberParts) (view : OpView) (old new : At) (order : Order) → GivesOp h view old new → old.order ≡ order
     → new.order ≡ order
 order_kept h view old new order g e = g.reads.order ∙ e
+
+-- The lemmas of the iterator.
+pub ruleset walk_lemmas = (ends_failed, ends_empty, steps_on, fails_here, order_kept)

@@ -15,7 +15,7 @@ use lnt_wire::{Fault, Order, Reason};
 ///
 /// It refuses only where no operations spell the program, with the fault of the first operation that isn't there, or
 /// with `Memory`. Then `out` may end with the first of them, and a part of the next.
-#[tactic(auto, using(crate::proofs::ConvertedLemmas::converted_none, crate::proofs::ConvertedLemmas::converted_more, crate::proofs::ConvertedLemmas::converted_all))]
+#[tactic(auto, using(crate::proofs::ConvertedLemmas::convert_ops_lemmas))]
 pub fn convert_ops(
     out: &mut Vec<u8>,
     numbers: &HeaderNumbers,

@@ -12,7 +12,7 @@ use lnt_wire::{Cursor, Fault, Reason};
 
 /// Reads an extended operation after its zero byte: a length, and that many bytes, which are a code and its operand.
 #[inline(never)]
-#[tactic(auto, using(crate::proofs::ExtendedReaders::gives_extended, crate::proofs::ExtendedReaders::refuses_length, crate::proofs::ExtendedReaders::refuses_cut, crate::proofs::ExtendedReaders::refuses_counted))]
+#[tactic(auto, using(crate::proofs::ExtendedReaders::read_extended_lemmas))]
 pub(crate) fn read_extended<'a>(
     cursor: &mut Cursor<'a>,
     numbers: &HeaderNumbers,
@@ -76,7 +76,7 @@ fn has_right_operand(bytes: &[u8], numbers: &HeaderNumbers) -> bool
 }
 
 // Whether these bytes are one number in groups of seven bits: the last byte is the first below 128.
-#[tactic(auto, using(lnt_wire::proofs::LebLemmas::high_more, crate::proofs::ExtendedReaders::leb_found, crate::proofs::ExtendedReaders::leb_last, crate::proofs::ExtendedReaders::leb_all))]
+#[tactic(auto, using(lnt_wire::proofs::LebLemmas::high_more, crate::proofs::ExtendedReaders::is_leb_lemmas))]
 fn is_leb(bytes: &[u8]) -> bool
     ensures { IsTrue result ↔ IsLeb bytes.now }
 {

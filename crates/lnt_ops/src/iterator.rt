@@ -136,7 +136,7 @@ impl<'a> Iterator for Ops<'a> {
     ghost remaining = { λ walk. at_most (if walk.failed then 0 else length walk.at.rest) };
 
     #[inline(always)]
-    #[tactic(auto, using(crate::proofs::WalkLemmas::ends_failed, crate::proofs::WalkLemmas::ends_empty, crate::proofs::WalkLemmas::steps_on, crate::proofs::WalkLemmas::fails_here, crate::proofs::WalkLemmas::order_kept))]
+    #[tactic(auto, using(crate::proofs::WalkLemmas::walk_lemmas))]
     fn next(&mut self) -> Option<Result<OpView<'a>, Fault>> {
         if self.failed || self.rest.is_empty() {
             return None;

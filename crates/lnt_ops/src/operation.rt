@@ -22,7 +22,7 @@ use std::alloc::{AllocError, Global};
 /// isn't that of its code and operand is `ExtendedLength` at the length; if the length counts more bytes than remain, it is
 /// `Truncated` at the first byte that the length counts.
 #[inline(always)]
-#[tactic(auto, using(crate::proofs::OpReaders::gives_special, crate::proofs::OpReaders::gives_after, crate::proofs::OpReaders::first_opcode, crate::proofs::OpReaders::first_after, crate::proofs::OpReaders::refuses_opcode, crate::proofs::OpReaders::refuses_after))]
+#[tactic(auto, using(crate::proofs::OpReaders::read_op_lemmas))]
 pub fn read_op<'a>(cursor: &mut Cursor<'a>, numbers: &HeaderNumbers) -> Result<OpView<'a>, Fault>
     requires { cursor.old.order ≡ numbers.now.order }
     ensures ok { IfOk result (λ view. GivesOp numbers.now view cursor.old cursor.new) }

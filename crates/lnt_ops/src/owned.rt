@@ -24,7 +24,7 @@ pub(crate) fn owned_operands(
 }
 
 // The numbers that the bytes encode, up to their end.
-#[tactic(auto, using(crate::proofs::OwnedLemmas::numbers_none, crate::proofs::OwnedLemmas::numbers_more, crate::proofs::OwnedLemmas::numbers_done, crate::proofs::OwnedLemmas::number_long))]
+#[tactic(auto, using(crate::proofs::OwnedLemmas::spelled_numbers_lemmas))]
 fn spelled_numbers(alloc: Global, bytes: &[u8]) -> Result<Items<u64>, AllocError>
     requires { SpellsNumbers bytes.now }
     ensures { IfOk result (λ numbers. Each UnsignedLeb numbers bytes.now) }

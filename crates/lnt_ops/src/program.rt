@@ -17,7 +17,7 @@ use std::alloc::Global;
 ///
 /// Fails only if the program isn't a list of operations, with the fault of the first one that isn't valid, or with
 /// `Memory`.
-#[tactic(auto, using(crate::proofs::ProgramLaws::ops_none, crate::proofs::ProgramLaws::ops_more, crate::proofs::ProgramLaws::ops_spelled, crate::proofs::ProgramLaws::ops_admitted, crate::proofs::ProgramLaws::walk_done, crate::proofs::ProgramLaws::is_view))]
+#[tactic(auto, using(crate::proofs::ProgramLaws::read_ops_lemmas))]
 pub fn read_ops(
     alloc: Global,
     numbers: &HeaderNumbers,

@@ -33,7 +33,7 @@ pub fn put_ops(out: &mut Vec<u8>, numbers: &HeaderNumbers, ops: &[Op]) -> Result
 }
 
 // Appends operations. After an error a part of them may have been added.
-#[tactic(auto, using(lnt_header::proofs::PutLaws::each_begun, crate::proofs::OpPutLemmas::ops_more, lnt_header::proofs::PutLaws::each_done, lnt_header::proofs::FirstLaws::all_at))]
+#[tactic(auto, using(crate::proofs::OpPutLemmas::add_ops_lemmas))]
 fn add_ops(out: &mut Vec<u8>, numbers: &HeaderNumbers, ops: &[Op]) -> Result<(), AllocError>
     requires { AllByRecursion (Admits numbers.now) ops.now }
     ensures ok { OnOk result (Appends (Each (OpBytes numbers.now)) ops.now out.old.items out.new.items) }
@@ -137,7 +137,7 @@ fn add_operands(out: &mut Vec<u8>, code: u8, operands: Operands<'_>) -> Result<(
 }
 
 // Appends the unsigned numbers that the bytes encode.
-#[tactic(auto, using(crate::proofs::OpPutLemmas::spelled_begun, crate::proofs::OpPutLemmas::spelled_more, crate::proofs::OpPutLemmas::spelled_done, crate::proofs::OwnedLemmas::number_long))]
+#[tactic(auto, using(crate::proofs::OpPutLemmas::add_spelled_lemmas, crate::proofs::OwnedLemmas::number_long))]
 fn add_spelled(out: &mut Vec<u8>, bytes: &[u8]) -> Result<(), AllocError>
     requires { SpellsNumbers bytes.now }
     ensures ok { OnOk result (AddsSpelled bytes.now out.old.items out.new.items) }
@@ -151,7 +151,7 @@ fn add_spelled(out: &mut Vec<u8>, bytes: &[u8]) -> Result<(), AllocError>
 }
 
 // Appends unsigned numbers.
-#[tactic(auto, using(lnt_header::proofs::PutLaws::each_begun, lnt_header::proofs::PutLaws::each_more, lnt_header::proofs::PutLaws::each_done))]
+#[tactic(auto, using(lnt_header::proofs::PutLaws::puts_each))]
 fn add_numbers(out: &mut Vec<u8>, numbers: &[u64]) -> Result<(), AllocError>
     ensures ok { OnOk result (Appends (Each UnsignedLeb) numbers.now out.old.items out.new.items) }
     ensures extends { OnErr result (Extends out.old.items out.new.items) }

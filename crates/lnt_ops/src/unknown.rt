@@ -8,7 +8,7 @@ use lnt_wire::{Cursor, Fault};
 
 /// Reads the operands of an unknown standard operation: as many numbers as the header lists, which are borrowed.
 #[inline(never)]
-#[tactic(auto, using(crate::proofs::UnknownReaders::opcode_there, crate::proofs::UnknownReaders::gives_unknown, crate::proofs::UnknownReaders::refuses_unknown))]
+#[tactic(auto, using(crate::proofs::UnknownReaders::read_unknown_lemmas))]
 pub(crate) fn read_unknown<'a>(
     cursor: &mut Cursor<'a>,
     numbers: &HeaderNumbers,
@@ -27,7 +27,7 @@ pub(crate) fn read_unknown<'a>(
 }
 
 // Moves past `count` unsigned LEB128 numbers.
-#[tactic(auto, using(crate::proofs::UnknownReaders::operands_none, crate::proofs::UnknownReaders::operands_more, crate::proofs::UnknownReaders::refuses_operands))]
+#[tactic(auto, using(crate::proofs::UnknownReaders::pass_operands_lemmas))]
 fn pass_operands(cursor: &mut Cursor<'_>, count: u8) -> Result<(), Fault>
     ensures ok { OnOk result (PassesOperands count cursor.old cursor.new) }
     ensures err { IfErr result (λ fault. RefusesOperands count cursor.old fault) }

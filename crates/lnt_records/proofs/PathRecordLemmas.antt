@@ -52,3 +52,6 @@ pub says_path : (version : PathVersion) (fields : Fields) (low high line : ℕ) 
     → SaysPath IsAddress IsDecimal version fields low high (record { path = path; line = line; column = column })
 says_path version fields low high line path column count l h p n c =
     record { count = count; low_is = l; high_is = h; path = sym p; line = n; column = c }
+
+-- The lemmas of `record_in`.
+pub ruleset record_in_lemmas = (four_columns, path_is_sound, says_path)

@@ -37,3 +37,9 @@ pub column_fault : (columns : List Kind) (count : ℕ) (fields : Fields) (told :
     → IsColumnFault columns fields told → IsRecordFault columns count fields told
 column_fault columns count fields fault.Fields same h = absurd h
 column_fault columns count fields (fault.Number i) same h = (same, h)
+
+-- The lemmas of `record_in`.
+pub ruleset record_in_lemmas = (none_before, column_fault)
+
+-- The lemmas of `span_in`.
+pub ruleset span_in_lemmas = (common_columns, none_before, says_span, column_fault)

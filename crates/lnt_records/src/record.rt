@@ -44,7 +44,7 @@ pub fn span_of(row: &ByteRecord, version: Version) -> Result<Span, RecordFault>
     span_in(row, version)
 }
 
-#[tactic(auto, using(crate::proofs::RecordLemmas::common_columns, crate::proofs::RecordLemmas::none_before, crate::proofs::RecordLemmas::says_span, crate::proofs::RecordLemmas::column_fault))]
+#[tactic(auto, using(crate::proofs::RecordLemmas::span_in_lemmas))]
 fn span_in(row: &ByteRecord, version: Version) -> Result<Span, RecordFault>
     requires { length (fields_of row.now) ≡ column_count version }
     ensures ok { IfOk result (λ span. IsSpanRecord version (fields_of row.now) span) }

@@ -174,3 +174,6 @@ stops_by_memory order section format to at bytes (TooLarge place) all p some b =
     all.bytes p.sound all.converted.sound (p.whole ∙ ap (λ (z : List ℕ). p.prefix ++ z) large.read.whole) large.read.spelled
     all.converted.shortest large.none)
 stops_by_memory order section format to at bytes Memory all p some b = refl
+
+-- The lemmas of `convert_section`.
+pub ruleset convert_section_lemmas = (converted_none, converted_all, converted_long)

@@ -132,3 +132,9 @@ pub frame_malformed : (order : Order) (format : Format) (to : Order) (frame : Fr
     → IsUnitStop order format to frame.offset (frame_bytes order frame.format frame.body.now) stop → stop ≡ convert.Malformed fault
     → BrokenUnit order fault at.place at.rest
 frame_malformed order format to frame stop fault at next r here p is = frame_without_unit order frame fault at next r here (rw is at p)
+
+-- The lemmas of `convert_unit`.
+pub ruleset convert_unit_lemmas = (unit_converted, told_next, frame_stop)
+
+-- The lemmas of `judge_unit`.
+pub ruleset judge_unit_lemmas = (frame_malformed, unit_judged, unit_judged_large)

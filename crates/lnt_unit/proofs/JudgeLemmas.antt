@@ -86,3 +86,6 @@ judged_broken order section format to large at fault (Malformed found) p some br
     (sections.section_broken order section p.units fault at p.so some (broken is.1))
 judged_broken order section format to large at fault (TooLarge place) p some broken is = absurd is
 judged_broken order section format to large at fault Memory p some broken is = tt
+
+-- The lemmas of `judge_conversion`.
+pub ruleset judge_conversion_lemmas = (judged_none, judged_more, judged_sound, judged_large, judged_long)

@@ -76,3 +76,6 @@ pub frame_refused : (order : Order) (frame : Frame) (fault : Fault) (at next : A
     → (fault.reason ≢ Memory → BrokenUnit order fault frame.offset (frame_bytes order frame.format frame.body.now))
     → fault.reason ≢ Memory → BrokenUnit order fault at.place at.rest
 frame_refused order frame fault at next r here broken some = frame_without_unit order frame fault at next r here (broken some)
+
+-- The lemmas of `frame_ahead`.
+pub ruleset frame_ahead_lemmas = (frame_there, no_frame_there, frame_placed, frame_end)

@@ -67,3 +67,6 @@ pub section_broken : (order : Order) (bytes : List ℕ) (units : List (ℕ × Un
 section_broken order bytes units fault cursor so_far some b =
     let t = true_fault order bytes units fault cursor so_far some b in
     record { none = no_section order fault bytes t; true_fault = t }
+
+-- The lemmas of `decode_section`.
+pub ruleset decode_section_lemmas = (no_units, unit_added, unit_added_long, all_units)

@@ -55,3 +55,6 @@ counted_all view count old new is so ends = grind (arith, common_steps, given_al
 pub counted_room : (view : View) (count : ℕ) (item : OpView) (old new : Walk) → CountedTo view count old → GivesOperation item old new
     → length view.program < 2 ^ 64 → count + 1 < 2 ^ 64
 counted_room view count item old new so step lt = omega (arith, so.few, step.shorter, lt)
+
+-- The lemmas of `operation_count`.
+pub ruleset operation_count_lemmas = (counted_none, counted_more, counted_all, counted_room)

@@ -52,7 +52,7 @@ impl From<Fault> for ConvertFault {
 ///
 /// It refuses with `Malformed` where no units spell the section; with `TooLarge` and the offset of the first unit
 /// that has no encoding in the format, which is an offset in `bytes`; and else with `Memory`.
-#[tactic(auto, using(crate::proofs::ConvertedLaws::converted_none, crate::proofs::ConvertedLaws::converted_all, crate::proofs::ConvertedLaws::converted_long))]
+#[tactic(auto, using(crate::proofs::ConvertedLaws::convert_section_lemmas))]
 pub fn convert_section(
     alloc: Global,
     bytes: &[u8],
@@ -76,7 +76,7 @@ pub fn convert_section(
 /// takes the memory of one converted unit.
 ///
 /// It refuses as `convert_section` does.
-#[tactic(auto, using(crate::proofs::JudgeLemmas::judged_none, crate::proofs::JudgeLemmas::judged_more, crate::proofs::JudgeLemmas::judged_sound, crate::proofs::JudgeLemmas::judged_large, crate::proofs::JudgeLemmas::judged_long))]
+#[tactic(auto, using(crate::proofs::JudgeLemmas::judge_conversion_lemmas))]
 pub fn judge_conversion(
     alloc: Global,
     bytes: &[u8],

@@ -21,7 +21,7 @@ use std::alloc::Global;
 /// It refuses with `Malformed` where no unit begins the bytes that are left, with the fault of `decode_unit`; with
 /// `TooLarge` and the unit's offset if it has no encoding in the format; and else with `Memory`. Then the cursor is as
 /// it was, and `out` may end with a part of the unit.
-#[tactic(auto, using(crate::proofs::ConvertedLemmas::unit_converted, crate::proofs::ConvertedLemmas::told_next, crate::proofs::ConvertedLemmas::frame_stop))]
+#[tactic(auto, using(crate::proofs::ConvertedLemmas::convert_unit_lemmas))]
 pub fn convert_unit(
     alloc: Global,
     cursor: &mut Cursor<'_>,
@@ -46,7 +46,7 @@ pub fn convert_unit(
 /// unit. The caller sees to it that `order` is the cursor's.
 ///
 /// It refuses as `decode_unit` does, and then leaves the cursor as it was.
-#[tactic(auto, using(crate::proofs::ConvertedLemmas::frame_malformed, crate::proofs::ConvertedLemmas::unit_judged, crate::proofs::ConvertedLemmas::unit_judged_large))]
+#[tactic(auto, using(crate::proofs::ConvertedLemmas::judge_unit_lemmas))]
 pub(crate) fn judge_unit(
     alloc: Global,
     cursor: &mut Cursor<'_>,

@@ -33,7 +33,7 @@ pub fn decode_unit(alloc: Global, cursor: &mut Cursor<'_>, order: Order) -> Resu
 }
 
 // The frame at the cursor, whose order `order` is, and a cursor past it.
-#[tactic(auto, using(crate::proofs::ReadLaws::frame_there, crate::proofs::ReadLaws::no_frame_there, crate::proofs::ReadLaws::frame_placed, crate::proofs::ReadLaws::frame_end))]
+#[tactic(auto, using(crate::proofs::ReadLaws::frame_ahead_lemmas))]
 pub(crate) fn frame_ahead<'a>(
     cursor: &Cursor<'a>,
     order: Order,
@@ -74,7 +74,7 @@ fn unit_of(alloc: Global, frame: &Frame<'_>, end: u64, order: Order) -> Result<U
 ///
 /// Fails with `Memory`, and otherwise only if the section isn't a list of units, with the fault that `decode_unit` gives at
 /// the end of the last valid unit.
-#[tactic(auto, using(crate::proofs::SectionLaws::no_units, crate::proofs::SectionLaws::unit_added, crate::proofs::SectionLaws::unit_added_long, crate::proofs::SectionLaws::all_units))]
+#[tactic(auto, using(crate::proofs::SectionLaws::decode_section_lemmas))]
 pub fn decode_section(alloc: Global, bytes: &[u8], order: Order) -> Result<Vec<(u64, Unit)>, Fault>
     ensures ok { IfOk result (λ units. SectionBytes order units.items bytes.now) }
     ensures err { IfErr result (λ fault. fault.reason ≢ Reason.Memory → BrokenSection order fault bytes.now) }

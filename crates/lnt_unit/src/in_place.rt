@@ -115,7 +115,7 @@ impl<'a> UnitInPlace<'a> {
 
     /// The number of operations of the unit. If the bytes encode no unit, fails with the fault of the first operation that
     /// isn't valid. Allocates nothing.
-    #[tactic(auto, using(crate::proofs::ViewLemmas::counted_none, crate::proofs::ViewLemmas::counted_more, crate::proofs::ViewLemmas::counted_all, crate::proofs::ViewLemmas::counted_room))]
+    #[tactic(auto, using(crate::proofs::ViewLemmas::operation_count_lemmas))]
     pub fn operation_count(&self) -> Result<u64, Fault>
         ensures ok { IfOk result (HasCount self.now) }
         ensures err { IfErr result (λ fault. BrokenUnit self.now.unit.order fault self.now.unit.offset self.now.unit.bytes) }

@@ -2,7 +2,7 @@
 -- and 7.4).
 use Rattle.std.specs.Prelude.{◌≡◌, ℕ, ◌^◌, ◌<◌, List, ◌++◌, ◌+◌, [], ◌∷◌, length}
 use Rattle.lnt_wire.specs.declared.format.Format.TheVariants.{D32, D64}
-use Rattle.lnt_wire.specs.Numbers.{number_bytes, Order, Format}
+use Rattle.lnt_wire.specs.Numbers.{number_bytes, Format}
 pub use Rattle.lnt_wire.specs.declared.format.Order.{Order}
 pub use Rattle.lnt_wire.specs.declared.frame.Frame.{Frame}
 

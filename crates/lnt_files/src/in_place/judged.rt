@@ -45,7 +45,7 @@ fn has_usable_format(table: &EntryTableView<'_>) -> bool
 }
 
 // The first of the table's entries whose path has no text.
-#[tactic(auto, using(crate::proofs::JudgedLemmas::all_begun, crate::proofs::JudgedLemmas::all_stepped, crate::proofs::JudgedLemmas::all_done, crate::proofs::JudgedLemmas::all_but, crate::proofs::JudgedLemmas::never_ends))]
+#[tactic(auto, using(crate::proofs::JudgedLemmas::first_without_path_lemmas))]
 fn first_without_path(table: &EntryTableView<'_>, ends: &StringEnds<'_>) -> Option<u64>
     ensures { MatchOption result (AllByRecursion (HasPath ends.now.line ends.now.general table.now.pairs) table.now.entries)
         (λ index. IsFirstNot (HasPath ends.now.line ends.now.general table.now.pairs) table.now.entries index) }
@@ -64,7 +64,7 @@ fn first_without_path(table: &EntryTableView<'_>, ends: &StringEnds<'_>) -> Opti
 }
 
 // What is wrong with the files of a header with this many directories, if the format of the files is usable.
-#[tactic(auto, using(crate::proofs::JudgedLemmas::files_stepped, crate::proofs::JudgedLemmas::files_never_end, crate::proofs::JudgedLemmas::files_but, crate::proofs::JudgedLemmas::files_sound, crate::proofs::JudgedLemmas::files_missing))]
+#[tactic(auto, using(crate::proofs::JudgedLemmas::files_fault_lemmas))]
 fn files_fault(
     files: &EntryTableView<'_>,
     ends: &StringEnds<'_>,

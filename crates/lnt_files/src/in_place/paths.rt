@@ -63,7 +63,7 @@ pub fn path_of(
 }
 
 /// The components of the entry with this number. `None` if there is no such entry.
-#[tactic(auto, using(crate::proofs::AtLemmas::after_first, crate::proofs::AtLemmas::after_more, crate::proofs::AtLemmas::not_there, crate::proofs::AtLemmas::entry_is, crate::proofs::AtLemmas::there))]
+#[tactic(auto, using(crate::proofs::AtLemmas::entry_at_lemmas))]
 pub(crate) fn entry_at<'t>(table: &'t EntryTableView<'t>, number: u64) -> Option<EntryView<'t>>
     ensures { EntryAt table.entry.now number result }
 {

@@ -56,7 +56,7 @@ pub fn record_of<'r>(
     record_in(row, version)
 }
 
-#[tactic(auto, using(crate::proofs::PathRecordLemmas::four_columns, crate::proofs::RecordLemmas::none_before, crate::proofs::PathRecordLemmas::path_is_sound, crate::proofs::PathRecordLemmas::says_path, crate::proofs::RecordLemmas::column_fault))]
+#[tactic(auto, using(crate::proofs::PathRecordLemmas::record_in_lemmas, crate::proofs::RecordLemmas::record_in_lemmas))]
 fn record_in<'r>(row: &'r ByteRecord, version: PathVersion) -> Result<PathRecord<'r>, RecordFault>
     requires { length (fields_of row.now) ≡ path_column_count version }
     ensures ok { IfOk result (λ said. SaysPath IsAddress IsDecimal version (fields_of row.now) said.low said.high (record_answer said)) }
