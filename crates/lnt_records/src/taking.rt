@@ -1,5 +1,5 @@
 //! Takes the records of a table one after another, as `csv` reads them.
-ghost use Rattle.std.specs.Prelude.{◌≡◌, ◌+◌, ◌++◌, ◌∷◌, ℕ, List, [], length, IfOk, MatchOption};
+ghost use Rattle.std.specs.Prelude.{◌≡◌, ◌+◌, ◌^◌, ◌≤◌, ◌++◌, ◌∷◌, ℕ, List, [], length, IfOk, MatchOption, OnErr};
 ghost use Rattle.csv.specs.Records.{fields_of};
 ghost use Rattle.lnt_spans.specs.declared.span.Span.{Span};
 ghost use Rattle.lnt_records.specs.Progress.{IsCutAfter};
@@ -50,7 +50,8 @@ pub trait TakesRecords<C> {
 /// The number of the next record. A number of more than 64 bits counts as one for which there is no memory: no table is that long.
 #[inline(always)]
 pub fn next_number(number: u64) -> Result<u64, AllocError>
-    ensures { IfOk result (λ next. next ≡ number + 1) }
+    ensures next { IfOk result (λ next. next ≡ number + 1) }
+    ensures large { OnErr result (2 ^ 64 ≤ number + 1) }
 {
     number.checked_add(1).ok_or(AllocError)
 }

@@ -44,7 +44,7 @@ loop-last-preserved g c =
       c.in_ok-length.ensures.right,
       c.in_ok-length.ensures.plain,
       rw c.pass.ensures (passes_line _ _ _ _ _ _ _ inv.0 _ inv.4 line.joined),
-      lines_taken _ _ _ _ _ _ _ inv.0 _ _ _ _ _ taken.0 inv.5 line taken.2 c.in_ok-number.ensures,
+      lines_taken _ _ _ _ _ _ _ inv.0 _ _ _ _ _ taken.0 inv.5 line taken.2 c.in_ok-number.ensures.next,
     )
 
 pub loop-last-smaller-in_default : goal.loop-last-smaller-in_default

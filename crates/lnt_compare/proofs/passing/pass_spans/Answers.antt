@@ -42,6 +42,6 @@ loop-joined-preserved g c =
       c.in_ok-pass_line.ensures.failures.no_failure (λ e. cc e) ∙ inv.2,
       c.in_ok-pass_line.ensures.sound,
       passes_line _ _ _ _ _ _ _ inv.0 _ (filled _ _ _ _ _ _ _ _ _ inv.0 inv.4 passed.1) line.joined,
-      rw c.in_ok-count.ensures (line_added _ _ _ _ inv.0 inv.1 _ _ c.in-Some.span _ _ inv.5 line),
+      rw c.in_ok-count.ensures.next (line_added _ _ _ _ inv.0 inv.1 _ _ c.in-Some.span _ _ inv.5 line),
       λ list come order. left_more _ _ _ list inv.1 c.in-Some.span (inv.6 list come order) left,
     )

@@ -47,7 +47,7 @@ loop-row-preserved g c =
       read,
       all_pushed IsNarrow inv.2 fields inv.5 (rw c.in_default.is at c.in_ok-fault.ensures.narrow),
       c.in_ok-fault.ensures.right,
-      omega (arith, inv.7, c.in_ok-number.ensures, length-append inv.2 (fields ∷ [])),
+      omega (arith, inv.7, c.in_ok-number.ensures.next, length-append inv.2 (fields ∷ [])),
       λ spans passed j is. subst (g.T.TakesRecords.judges c.args.taker.now c.take.new.state spans)
           (append_assoc passed inv.2 (fields ∷ []))
           (taken spans (passed ++ inv.2) (inv.8 spans passed j is) (omega (arith, inv.7, is, length-append passed inv.2))),
