@@ -38,7 +38,7 @@ for numbers, name, text in re.findall(r"(?m)^\| (\d[\d, ]*)(?: `(\w+)`)? \| (.*?
     for number in map(int, numbers.split(", ")):
         names.setdefault(number, name)
         texts.setdefault(number, skeleton((re.match(r"`(.*?)`", text) or ["", ""])[1]))
-judge(sorted(names) == list(range(1, 45)), "the numbers of docs/NUMBERS.md aren't 1 to 44")
+judge(sorted(names) == list(range(1, len(names) + 1)), "the numbers of docs/NUMBERS.md have gaps")
 
 sources = {name: read(name) for name in sorted(glob.glob("crates/*/src/**/*.rt", recursive=True))}
 named = collections.defaultdict(set)
@@ -53,7 +53,8 @@ for source, text in sources.items():
 judge(set(names) - set(named) == {42}, "the code has the numbers %s" % sorted(named))
 
 reasons = re.findall(r'Reason::(\w+)[^=]*=> \{?\s*(?:f.write_str\(|write!\(f, )"(.*?)"', sources["crates/lnt_wire/src/fault.rt"])
-judge(len(reasons) == 15, "not each reason has a text")
+reason = re.search(r"(?ms)^pub enum Reason \{$.*?^\}$", sources["crates/lnt_wire/src/fault.rt"])[0]
+judge(len(reasons) == len(re.findall(r"/// \d+: ", reason)), "not each reason has a text")
 for name, text in reasons:
     number = next((number for number in range(1, 16) if names[number] == name), 0)
     judge(number == 15 or skeleton(text) == texts.get(number), "the text of %s, %r, isn't that of docs/NUMBERS.md" % (name, text))
@@ -62,7 +63,12 @@ told = re.findall(
     r"\b(?:Reason|RunFault|Stop|No|TableNo)::(\w+)[^=]*=> (?:\(|(?:FlatVerdict \{[^}]*?\.\.)?(?:numbered|placed|at)\((?:position, )?)(\d+)",
     sources["crates/lnt_ffi/src/verdict.rt"],
 )
-judge(len(told) == 31, "lnt_ffi gives %d numbers by name" % len(told))
+# The numbers of each type that C gets, and those that lnt_ffi gives, by a variant's name or in a function of its own.
+kinds = "Reason|RunFault|Stop|No|TableNo"
+enums = re.findall(r"(?ms)^pub enum (?:%s) \{$.*?^\}$" % kinds, "\n".join(sources.values()))
+wanted = {int(number) for enum in enums for number in re.findall(r"/// (\d+): ", enum)}
+given = {int(number) for _, number in told} | set(map(int, re.findall(r"\b(?:placed\(|at\(position, )(\d+)", sources["crates/lnt_ffi/src/verdict.rt"])))
+judge(len(enums) == 5 and given == wanted, "lnt_ffi gives the numbers %s in place of %s" % (sorted(given), sorted(wanted)))
 for name, number in told:
     judge(names[int(number)] == name, "lnt_ffi gives %s the number %s" % (name, number))
 print("\n".join(faults + ["%d passed, %d failed" % (passed, len(faults))]))

@@ -13,7 +13,7 @@ TOP = os.path.dirname(os.path.dirname(os.path.abspath(__file__)))
 CONTRACT = "crates/lnt_cli/src/program.rt", "run"
 # The clause of the contract that answers come by, what it says of a check, and what that says where the answer is `yes`.
 CLAUSE = ("Rattle.lnt_cli.specs.Runs", "AnswersWords")
-ASKED = ("Rattle.lnt_words.specs.Asking", "IsAskedBy")
+ASKED = ("Rattle.lnt_words.specs.Words", "IsAskedBy")
 CHECK = [ASKED, ("Rattle.lnt_cli.specs.Answered", "IsOfFile"), ("Rattle.lnt_cli.specs.Answered", "IsChecked")]
 YES = [
     ASKED,

@@ -2,7 +2,7 @@
 use Rattle.std.proofs.Common.{ℕ, List, ◌⊎◌, Result, Ok, Err, inl, inr}
 use Rattle.lnt_io.specs.Files.{FileState, RefusesOnly}
 use Rattle.lnt_io.specs.declared.status.Status.{Status}
-use Rattle.lnt_words.specs.Asking.{IsAskedBy}
+use Rattle.lnt_words.specs.Words.{IsAskedBy}
 use Rattle.lnt_words.specs.declared.request.Asked.{Asked}
 use Rattle.lnt_cli.specs.Runs.{TellUnreadable}
 use Rattle.lnt_cli.specs.Stops.{IsToldUnreadable}

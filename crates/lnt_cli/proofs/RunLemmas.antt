@@ -3,7 +3,7 @@ use Rattle.std.proofs.Common.{◌≡◌, ◌≢◌, ℕ, List, Option, Result, O
 use Rattle.std.specs.Io.KnownBytes.{Keeps}
 use Rattle.lnt_io.specs.Files.{FileState}
 use Rattle.lnt_io.specs.declared.status.Status.{Status}
-use Rattle.lnt_words.specs.Asking.{AskForNothing, IsAskedBy}
+use Rattle.lnt_words.specs.Words.{AskForNothing, IsAskedBy}
 use Rattle.lnt_words.specs.declared.request.Asked.{Asked}
 use Rattle.lnt_words.specs.declared.stop.WordsStop.{WordsStop}
 use Rattle.lnt_words.specs.declared.stop.WordsStop.TheVariants.{Memory}

@@ -5,7 +5,7 @@ use Rattle.std.specs.Prelude.{◌⊎◌, ℕ, IsErrAnd, List, Option, Result}
 use Rattle.std.specs.Io.KnownBytes.{Keeps}
 use Rattle.lnt_io.specs.Files.{FileState}
 use Rattle.lnt_io.specs.declared.status.Status.{Status}
-use Rattle.lnt_words.specs.Asking.{AskForNothing, IsAskedBy}
+use Rattle.lnt_words.specs.Words.{AskForNothing, IsAskedBy}
 use Rattle.lnt_words.specs.declared.request.Asked.{Asked}
 use Rattle.lnt_words.specs.declared.request.Request.{Request}
 use Rattle.lnt_cli.specs.Answered.{IsAnswered}

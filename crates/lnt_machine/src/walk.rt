@@ -121,10 +121,22 @@ fn next_row(machine: &mut Machine<'_>, ops: &mut Ops<'_>) -> Option<Row>
     ensures gives { (h : NumberParts) (rows : List spec.Row) → HasRows h rows machine.old ops.old
         → GivesNext h rows result machine.new ops.new }
 {
-    if let Some(row) = short_row(machine, ops) {
-        return Some(row);
+    match short_row(machine, ops) {
+        Some(row) => Some(row),
+        None => row_of_copies(machine, ops),
     }
-    // The slow path works on copies of both, which are written back, so that both stay in registers.
+}
+
+// The same, by the slow path, on copies of both, which are written back: so both stay in registers where the path isn't taken.
+// `inline(always)` would inline it before LLVM knows that no copy has to begin with zeros, and each row would store these.
+#[inline]
+fn row_of_copies(machine: &mut Machine<'_>, ops: &mut Ops<'_>) -> Option<Row>
+    requires { machine.old.header ≡ ops.old.header }
+    ensures same { machine.new.header ≡ ops.new.header }
+    ensures shorter { IfSome result (λ row. length ops.new.at.rest < length ops.old.at.rest) }
+    ensures gives { (h : NumberParts) (rows : List spec.Row) → HasRows h rows machine.old ops.old
+        → GivesNext h rows result machine.new ops.new }
+{
     let mut own = machine.fork();
     let mut ahead = ops.fork();
     let row = any_row(&mut own, &mut ahead);

@@ -7,7 +7,7 @@ use Rattle.clap.specs.declared.error.kind.ErrorKind.TheVariants.{OutOfMemory}
 use Rattle.lnt_text.specs.Digits.{IsAddress}
 use Rattle.lnt_words.specs.declared.request.AddressSize.{AddressSize}
 use Rattle.lnt_words.specs.declared.request.Request.{Request}
-use Rattle.lnt_words.specs.Asking.{AreAddresses, IsAskedIn, IsMarker, IsSize, IsWord}
+use Rattle.lnt_words.specs.Words.{AreAddresses, IsAskedIn, IsMarker, IsSize, IsWord}
 use Rattle.lnt_words.proofs.WordLemmas.{texts_of}
 use Rattle.std.proofs.lemmas.Grind.{common_steps}
 

@@ -8,9 +8,8 @@ use Rattle.clap.specs.declared.error.kind.ErrorKind.TheVariants as kind
 use Rattle.clap.specs.declared.parser.matches.ArgMatches.{ArgMatches}
 use Rattle.clap.specs.declared.parser.matches.ArgMatches.TheViews.{out-ArgMatches}
 use Rattle.lnt_text.specs.Digits.{IsAddress}
-use Rattle.lnt_words.specs.Asking.{AreAddresses, IsAskedOf, Asked}
+use Rattle.lnt_words.specs.Words.{AreAddresses, IsAskedOf, Asked, linetab}
 use Rattle.lnt_words.specs.Described.{IsAskedOfMatches}
-use Rattle.lnt_words.specs.Words.{linetab}
 use Rattle.std.proofs.lemmas.Grind.{common_steps}
 
 -- for this command clap's matches and the kinds of its errors are known for all words

@@ -7,8 +7,7 @@ use Rattle.clap.specs.declared.builder.arg.Arg.{Arg}
 use Rattle.clap.specs.declared.builder.command.Command.{Command}
 use Rattle.clap.specs.declared.builder.command.Command.TheViews.{out-Command as fields_of}
 use Rattle.clap.specs.declared.parser.matches.ArgMatches.{ArgMatches}
-use Rattle.lnt_words.specs.Asking.{IsAskedIn, IsFlagGiven, Asked}
-use Rattle.lnt_words.specs.Words.{flag, option, required, several, word}
+use Rattle.lnt_words.specs.Words.{IsAskedIn, IsFlagGiven, Asked, flag, option, required, several, word}
 use Rattle.lnt_words.specs.declared.description.ArgumentRule.{ArgumentRule}
 use Rattle.lnt_words.specs.declared.description.Kind.{Kind}
 use Rattle.lnt_words.specs.declared.description.Kind.TheVariants.{Word, WordsUnless, Flag, FlagWithout, FlagWithoutBoth, Valued, Required}

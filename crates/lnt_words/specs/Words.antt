@@ -1,20 +1,42 @@
--- The words that the command takes, as README.md lists them: its subcommands, and the arguments of each, in clap's terms. Help
--- texts aren't part of this, nor which arguments exclude one another: `Asking` says for each request what isn't given.
-use Rattle.std.specs.Prelude.{ℕ, List, [], ◌∷◌, ◌++◌, Some, true, false, codes}
+-- The words that the command takes, and the requests that they make. Its subcommands, and the arguments of each, are in clap's terms,
+-- as README.md lists them. Help texts aren't part of them, nor which arguments exclude one another: each request says what isn't given.
+-- clap's result is a function of the words and of the command (`linetab`): the subcommand's name, and a row for each of its arguments,
+-- with the values that it was given or has by default.
+use Rattle.std.specs.Prelude.{◌≡◌, ◌≢◌, ◌↔◌, ◌⊎◌, ◌∷◌, ◌++◌, Bool, IsTrue, true, false, ℕ, map, List, []}
+use Rattle.std.specs.Prelude.{Option, Some, None, codes, IsSomeAnd, MatchOption, option_copied}
+use Rattle.std.specs.List.{AllZip}
+use Rattle.clap.specs.Words.{IsAmong, Row, Text, all_of, fault_of, first_of, subcommand_of, App, Rule, Shape, new_rule}
+use Rattle.clap.specs.declared.error.kind.ErrorKind.{ErrorKind}
+use Rattle.clap.specs.declared.error.kind.ErrorKind.TheVariants.{DisplayHelp, DisplayVersion}
+use Rattle.lnt_text.specs.Digits.{IsAddress, IsDecimal}
+use Rattle.lnt_spans.specs.declared.answer.Version.TheVariants.{One, Two}
+use Rattle.lnt_spans.specs.declared.position.Position.{Position}
+use Rattle.lnt_wire.specs.declared.format.Format.{Format}
+use Rattle.lnt_wire.specs.declared.format.Format.TheVariants.{D32, D64}
+use Rattle.lnt_wire.specs.declared.format.Order.{Order}
+use Rattle.lnt_wire.specs.declared.format.Order.TheVariants.{Little, Big}
 use Rattle.lnt_words.specs.declared.request.AddressSize.{AddressSize}
-use Rattle.lnt_words.specs.declared.request.AddressSize.TheVariants.{Two, Four, Eight}
+use Rattle.lnt_words.specs.declared.request.AddressSize.TheVariants as sizes
+pub use Rattle.lnt_words.specs.declared.request.Asked.{Asked}
+use Rattle.lnt_words.specs.declared.request.FileQuestion.TheVariants.{Lines, Check}
+use Rattle.lnt_words.specs.declared.request.Judging.{Judging}
+use Rattle.lnt_words.specs.declared.request.Question.{Question}
+use Rattle.lnt_words.specs.declared.request.Question.TheVariants.{Verify, Lookup, Files, Table, TableByPath, Md5}
+use Rattle.lnt_words.specs.declared.request.Reading.{Reading}
+use Rattle.lnt_words.specs.declared.request.Reading.TheVariants.{Units, Dump, Convert}
+use Rattle.lnt_words.specs.declared.request.Request.{Request}
+use Rattle.lnt_words.specs.declared.request.Request.TheVariants.{Help, Read, Upgrade, Judge, JudgeWith}
 use Rattle.clap.specs.Lexer.{usize_max}
 use Rattle.clap.specs.Simple.{new_shape}
-use Rattle.clap.specs.Words.{App, Rule, Shape, Text, new_rule}
 use Rattle.clap.specs.declared.builder.action.ArgAction.TheVariants.{Set, Append, SetTrue}
 
 -- ---- sizes of addresses
 
 -- how many bytes an address has
 abbrev pub size_bytes : AddressSize → ℕ
-size_bytes Two = 2
-size_bytes Four = 4
-size_bytes Eight = 8
+size_bytes sizes.Two = 2
+size_bytes sizes.Four = 4
+size_bytes sizes.Eight = 8
 
 -- ---- the words that an argument takes
 
@@ -71,3 +93,139 @@ linetab = record {
   top = record (new_shape (codes "linetab")) { is_leaf = false; has_version = true; subcommand_required = true };
   subs = subcommands;
 }
+
+-- ---- what the words ask for
+
+-- This is the word that was given for the argument.
+abbrev pub IsWord : List Row → Text → Text → Type 0
+IsWord rows name word = first_of name rows ≡ Some word
+
+-- The flag is set exactly if clap's value for it is "true".
+abbrev pub IsFlagGiven : List Row → Text → Bool → Type 0
+IsFlagGiven rows name is_set = IsTrue is_set ↔ (first_of name rows ≡ Some (codes "true"))
+
+-- Numbers are big-endian if the flag --big is set, and otherwise little-endian.
+abbrev pub IsOrder : List Row → Order → Type 0
+IsOrder rows Big = IsFlagGiven rows (codes "big") true
+IsOrder rows Little = IsFlagGiven rows (codes "big") false
+
+-- The address of dead code is that in the word of --dead; there is none if no such word was given.
+abbrev pub IsMarker : List Row → Option ℕ → Type 0
+IsMarker rows None = first_of (codes "dead") rows ≡ None
+IsMarker rows (Some address) = (word : Text) × IsWord rows (codes "dead") word × IsAddress word address
+
+-- The files and options for judging a section are those that the words give.
+pub record IsJudging (rows : List Row) (from : Judging) : Type 0 where
+  pub section : IsWord rows (codes "SECTION") from.section.now
+  pub line_strings : option_copied from.line_strings ≡ first_of (codes "line-str") rows
+  pub strings : option_copied from.strings ≡ first_of (codes "str") rows
+  pub order : IsOrder rows from.order
+  pub dead : IsMarker rows from.dead
+  pub copies : IsFlagGiven rows (codes "skip-copies") from.skip_copies
+
+-- the format that a conversion writes: 32-bit or 64-bit DWARF
+abbrev pub IsWrittenFormat : List Row → Format → Type 0
+IsWrittenFormat rows D32 = IsWord rows (codes "format") (codes "32")
+IsWrittenFormat rows D64 = IsWord rows (codes "format") (codes "64")
+
+abbrev pub IsWrittenOrder : List Row → Order → Type 0
+IsWrittenOrder rows Little = IsWord rows (codes "order") (codes "little")
+IsWrittenOrder rows Big = IsWord rows (codes "order") (codes "big")
+
+-- the size of addresses in units that don't say it
+abbrev pub IsSize : List Row → AddressSize → Type 0
+IsSize rows sizes.Two = IsWord rows (codes "address-size") (codes "2")
+IsSize rows sizes.Four = IsWord rows (codes "address-size") (codes "4")
+IsSize rows sizes.Eight = IsWord rows (codes "address-size") (codes "8")
+
+-- the reading of a section that the subcommand of this name asks for
+abbrev pub IsReading : Text → List Row → Reading → Type 0
+IsReading name rows Units = name ≡ codes "units"
+IsReading name rows (Dump ops shown) = (name ≡ codes "dump") × IsFlagGiven rows (codes "ops") ops × IsFlagGiven rows (codes "rows") shown
+IsReading name rows (Convert format to) = (name ≡ codes "convert") × IsWrittenFormat rows format × IsWrittenOrder rows to
+
+-- which of the flags that choose a table are given
+pub record AreTableFlags (rows : List Row) (wide paths lines : Bool) : Type 0 where
+  pub is_wide : IsFlagGiven rows (codes "wide") wide
+  pub has_paths : IsFlagGiven rows (codes "paths") paths
+  pub has_lines : IsFlagGiven rows (codes "lines") lines
+
+-- These words are texts of these addresses, in their order.
+abbrev pub AreAddresses : List Text → List ℕ → Type 0
+AreAddresses = AllZip IsAddress
+
+-- these addresses are given as words
+abbrev pub AreAddressesIn : List Row → List ℕ → Type 0
+AreAddressesIn rows addresses = IsSomeAnd (all_of (codes "ADDRESS") rows) (λ words. AreAddresses words addresses)
+
+-- the operation index that --op gives, or 0
+abbrev pub IsOp : List Row → ℕ → Type 0
+IsOp rows op = MatchOption (first_of (codes "op") rows) (op ≡ 0) (λ word. IsDecimal word op)
+
+abbrev pub position_at : ℕ → ℕ → Position
+position_at op address = record { address = address; op = op }
+
+-- the positions at the addresses that are given, in their order, each with the operation index that is given
+pub record ArePositionsIn (rows : List Row) (positions : List Position) : Type 0 where
+  pub addresses : List ℕ
+  pub op : ℕ
+  pub are_addresses : AreAddressesIn rows addresses
+  pub is_op : IsOp rows op
+  pub same : positions ≡ map (position_at op) addresses
+
+-- The question about a good section that the subcommand of this name asks.
+abbrev pub IsQuestion : Text → List Row → Question → Type 0
+IsQuestion name rows Verify = name ≡ codes "verify"
+IsQuestion name rows (Lookup positions) = (name ≡ codes "lookup") × (first_of (codes "addresses") rows ≡ None)
+    × ArePositionsIn rows positions.items
+IsQuestion name rows Files = name ≡ codes "files"
+IsQuestion name rows (Table One) = (name ≡ codes "table") × AreTableFlags rows false false false
+IsQuestion name rows (Table Two) = (name ≡ codes "table") × AreTableFlags rows true false false
+IsQuestion name rows (TableByPath true) = (name ≡ codes "table") × AreTableFlags rows false true false
+IsQuestion name rows (TableByPath false) = (name ≡ codes "table") × AreTableFlags rows false false true
+IsQuestion name rows Md5 = name ≡ codes "md5"
+
+-- The subcommand of this name asks for this request.
+abbrev pub IsAskedIn : Text → List Row → Request → Type 0
+IsAskedIn name rows (Help text) = ⊥
+IsAskedIn name rows (Read section order reading) =
+    IsWord rows (codes "SECTION") section.now × IsOrder rows order × IsReading name rows reading
+IsAskedIn name rows (Upgrade from) =
+    (name ≡ codes "upgrade") × IsWord rows (codes "SECTION") from.section.now × IsOrder rows from.order × IsSize rows from.address_size
+    × (option_copied from.directories ≡ first_of (codes "directories") rows)
+IsAskedIn name rows (Judge from question) = IsJudging rows from × IsQuestion name rows question
+IsAskedIn name rows (JudgeWith from file (Lines op)) =
+    (name ≡ codes "lookup") × IsJudging rows from × IsWord rows (codes "addresses") file.now
+    × (all_of (codes "ADDRESS") rows ≡ None) × IsOp rows op
+IsAskedIn name rows (JudgeWith from file (Check all partial)) =
+    (name ≡ codes "check") × IsJudging rows from × IsWord rows (codes "TABLE") file.now × IsFlagGiven rows (codes "all") all
+    × IsFlagGiven rows (codes "partial") partial
+
+-- The subcommand that clap found, with its rows, asks for this request.
+pub record IsAskedOf (found : Option (Text × List Row)) (asked : Asked) : Type 0 where
+  pub name : Text
+  pub rows : List Row
+  pub found_is : found ≡ Some (name, rows)
+  pub request : IsAskedIn name rows asked.request
+  pub quiet : IsFlagGiven rows (codes "quiet") asked.quiet
+
+abbrev pub IsHelp : Request → Type 0
+IsHelp (Help text) = Unit {0}
+IsHelp _ = ⊥
+
+-- These words ask for help or for the version, by clap's rules. Its text is unspecified.
+abbrev pub AskForHelp : List Text → Type 0
+AskForHelp words = IsAmong DisplayHelp (fault_of linetab words) ⊎ IsAmong DisplayVersion (fault_of linetab words)
+
+-- These words ask for this request. The first word is the program's own name. If clap accepts all of them, the request is
+-- that of the subcommand that they name.
+abbrev pub IsAskedBy : List Text → Asked → Type 0
+IsAskedBy words asked = (AskForHelp words × IsHelp asked.request)
+    ⊎ ((fault_of linetab words ≡ []) × IsAskedOf (subcommand_of linetab words) asked)
+
+-- These words ask for nothing that the command does: by clap's rules they are refused, and not for help or the version; or they
+-- name a subcommand, and it asks for no request.
+abbrev pub AskForNothing : List Text → Type 0
+AskForNothing words =
+    ((kind : ErrorKind) × IsAmong kind (fault_of linetab words) × (kind ≢ DisplayHelp) × (kind ≢ DisplayVersion))
+    ⊎ ((fault_of linetab words ≡ []) × ((asked : Asked) → IsAskedOf (subcommand_of linetab words) asked → ⊥))

@@ -3,9 +3,9 @@ ghost use Rattle.std.specs.Prelude.{◌≡◌, ◌≢◌, ◌⊎◌, ℕ, IfErr,
 ghost use Rattle.clap.specs.Words.{Row, all_of, first_of, kind_of, subcommand_rows_of};
 ghost use Rattle.lnt_words.specs.Described.{IsAskedOfMatches, IsFound, rows_in};
 ghost use Rattle.lnt_text.specs.Digits.{IsAddress};
-ghost use Rattle.lnt_words.specs.Asking.{AreAddresses, AreAddressesIn, ArePositionsIn, AskForNothing, IsAskedBy, IsAskedIn, IsAskedOf};
-ghost use Rattle.lnt_words.specs.Asking.{IsFlagGiven, IsHelp, IsJudging, IsOp, IsOrder, IsQuestion, IsReading, IsSize, IsWord};
-ghost use Rattle.lnt_words.specs.Asking.{IsWrittenFormat, IsWrittenOrder, Asked as AskedSpec};
+ghost use Rattle.lnt_words.specs.Words.{AreAddresses, AreAddressesIn, ArePositionsIn, AskForNothing, IsAskedBy, IsAskedIn, IsAskedOf};
+ghost use Rattle.lnt_words.specs.Words.{IsFlagGiven, IsHelp, IsJudging, IsOp, IsOrder, IsQuestion, IsReading, IsSize, IsWord};
+ghost use Rattle.lnt_words.specs.Words.{IsWrittenFormat, IsWrittenOrder, Asked as AskedSpec};
 ghost use Rattle.lnt_words.specs.declared.request.Judging.{Judging as JudgingSpec};
 ghost use Rattle.lnt_words.specs.declared.request.Request.{Request as RequestSpec};
 

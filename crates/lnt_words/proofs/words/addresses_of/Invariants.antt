@@ -1,5 +1,5 @@
 use Rattle.std.proofs.Common.{take}
-use Rattle.lnt_words.specs.Asking.{AreAddresses}
+use Rattle.lnt_words.specs.Words.{AreAddresses}
 use Rattle.lnt_words.proofs.WordLemmas.{texts_of}
 use Rattle.lnt_words.proofs.words.addresses_of.Given as goal
 

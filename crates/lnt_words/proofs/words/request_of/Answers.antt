@@ -1,8 +1,7 @@
 use Rattle.std.proofs.Common.{◌≡◌, ◌∙◌, List, Option, [], ap, inl, inr, map, refl, subst, string_bytes}
 use Rattle.std.proofs.lemmas.Result.{IfErr-weaker, IfOk-weaker}
 use Rattle.clap.specs.Words.{App, HasKind, Row, Text, fault_of, is_simple, is_simple_and_free, kind_of, subcommand_of, subcommand_rows_of}
-use Rattle.lnt_words.specs.Asking.{IsAskedOf, Asked}
-use Rattle.lnt_words.specs.Words.{linetab}
+use Rattle.lnt_words.specs.Words.{IsAskedOf, Asked, linetab}
 use Rattle.lnt_words.proofs.RefusalLemmas.{kind_among}
 use Rattle.lnt_words.proofs.WordLemmas.{by_rows, help_among, linetab_is_free, linetab_is_simple}
 use Rattle.lnt_words.proofs.words.request_of.Goals as goal
