@@ -18,9 +18,9 @@ use Rattle.lnt_io.specs.declared.status.Status.{Status}
 use Rattle.lnt_io.specs.declared.status.Status.TheVariants.{Done}
 use Rattle.lnt_spans.specs.declared.position.Position.{Position}
 use Rattle.lnt_lines.specs.Indexed.{Indexed, OfUnits}
-use Rattle.lnt_answers.specs.AddressBlocks.{AreFirstTold, BeginsWithLine, HasNo, IsCut}
+use Rattle.lnt_answers.specs.AddressBlocks.{AreFirstPrinted, BeginsWithLine, HasNo, IsCut}
 use Rattle.lnt_answers.proofs.RoomLaws.{text_in_room}
-use Rattle.lnt_answers.specs.AddressLines.{AreAddressesTold, AreLinesTold, Tells, line_status, lines_status, told_line}
+use Rattle.lnt_answers.specs.AddressLines.{AreAddressesPrinted, AreLinesPrinted, Tells, line_status, lines_status, printed_line}
 use Rattle.lnt_answers.specs.Lines.{lookup_line}
 
 -- ---- where a line ends
@@ -62,33 +62,33 @@ status_append before [] b = refl
 status_append before (told ∷ a) b = status_append (line_status before told.1) a b
 
 module _ {index : Indexed} {op : ℕ} where
-  pub told_none : (old : Option (List ℕ)) (status : Status) → AreLinesTold index op [] old old status status
+  pub told_none : (old : Option (List ℕ)) (status : Status) → AreLinesPrinted index op [] old old status status
   told_none old status =
       record { told = []; lines_are = refl; so = tt; printed = λ selection is. Appends-nil old; status_is = refl }
 
   -- one line
   pub told_one : {line : List ℕ} {old new : Option (List ℕ)} {before after : Status} (position : Option Position)
-      → Tells op (line, position) → OfUnits index (λ selection. Appends old new (told_line index selection (line, position)))
-      → after ≡ line_status before position → AreLinesTold index op (line ∷ []) old new before after
+      → Tells op (line, position) → OfUnits index (λ selection. Appends old new (printed_line index selection (line, position)))
+      → after ≡ line_status before position → AreLinesPrinted index op (line ∷ []) old new before after
   told_one {line} {old} {new} position tells printed status = record {
     told = (line, position) ∷ [];
     lines_are = refl;
     so = (tells, tt);
-    printed = λ selection is. subst (Appends old new) (sym (append-nil (told_line index selection (line, position))))
+    printed = λ selection is. subst (Appends old new) (sym (append-nil (printed_line index selection (line, position))))
         (printed selection is);
     status_is = status;
   }
 
   -- and others after them
-  pub told_append : {xs ys : List (List ℕ)} {old now new : Option (List ℕ)} {s t u : Status} → AreLinesTold index op xs old now s t
-      → AreLinesTold index op ys now new t u → AreLinesTold index op (xs ++ ys) old new s u
+  pub told_append : {xs ys : List (List ℕ)} {old now new : Option (List ℕ)} {s t u : Status} → AreLinesPrinted index op xs old now s t
+      → AreLinesPrinted index op ys now new t u → AreLinesPrinted index op (xs ++ ys) old new s u
   told_append {xs} {ys} {old} {now} {new} {s} a b = record {
     told = a.told ++ b.told;
     lines_are = map-append (λ line. line.0) a.told b.told ∙ ap (λ (z : List (List ℕ)). z ++ map (λ line. line.0) b.told) a.lines_are
         ∙ ap (λ (z : List (List ℕ)). xs ++ z) b.lines_are;
     so = all_append (Tells op) a.told b.told a.so b.so;
     printed = λ selection is.
-        let text = told_line index selection in
+        let text = printed_line index selection in
         subst (Appends old new) (sym (flat_map-append text a.told b.told))
         (Appends-trans old now new (flat_map text a.told) (flat_map text b.told) (a.printed selection is)
         (b.printed selection is));
@@ -97,25 +97,25 @@ module _ {index : Indexed} {op : ℕ} where
 
   -- Their lines were made in an empty buffer, and are then written.
   told_sent : {texts : List (List ℕ)} {none made : List ℕ} {old new : Option (List ℕ)} {s t : Status}
-      → AreLinesTold index op texts (Some none) (Some made) s t → none ≡ [] → Appends old new made → AreLinesTold index op texts old new s t
+      → AreLinesPrinted index op texts (Some none) (Some made) s t → none ≡ [] → Appends old new made → AreLinesPrinted index op texts old new s t
   told_sent {none = none} {made = made} {old = old} {new = new} all empty appended = record {
     told = all.told;
     lines_are = all.lines_are;
     so = all.so;
     printed = λ selection is. subst (Appends old new) (text_in_room none made made
-        (flat_map (told_line index selection) all.told) empty (all.printed selection is) refl) appended;
+        (flat_map (printed_line index selection) all.told) empty (all.printed selection is) refl) appended;
     status_is = all.status_is;
   }
 
   -- ---- the first lines of a text
 
-  pub first_none : (text : List ℕ) (old : Option (List ℕ)) (status : Status) → AreFirstTold index op text text old old status status
+  pub first_none : (text : List ℕ) (old : Option (List ℕ)) (status : Status) → AreFirstPrinted index op text text old old status status
   first_none text old status = record { texts = []; told = told_none old status; cut = λ more. refl }
 
   -- the first one
   pub first_line : {text rest stripped : List ℕ} {old new : Option (List ℕ)} {s t : Status} (line : List ℕ) → IsCut 10 text line rest
-      → stripped ≡ strip_carriage_return line → AreLinesTold index op (stripped ∷ []) old new s t
-      → AreFirstTold index op text rest old new s t
+      → stripped ≡ strip_carriage_return line → AreLinesPrinted index op (stripped ∷ []) old new s t
+      → AreFirstPrinted index op text rest old new s t
   first_line {rest = rest} {stripped = stripped} line at stripped_is told = record {
     texts = stripped ∷ [];
     told = told;
@@ -125,8 +125,8 @@ module _ {index : Indexed} {op : ℕ} where
   }
 
   -- and those after it
-  pub first_more : {text mid rest : List ℕ} {old now new : Option (List ℕ)} {s t u : Status} → AreFirstTold index op text mid old now s t
-      → AreFirstTold index op mid rest now new t u → AreFirstTold index op text rest old new s u
+  pub first_more : {text mid rest : List ℕ} {old now new : Option (List ℕ)} {s t u : Status} → AreFirstPrinted index op text mid old now s t
+      → AreFirstPrinted index op mid rest now new t u → AreFirstPrinted index op text rest old new s u
   first_more {rest = rest} a b = record {
     texts = a.texts ++ b.texts;
     told = told_append a.told b.told;
@@ -136,33 +136,33 @@ module _ {index : Indexed} {op : ℕ} where
 
   -- The lines were made in an empty buffer, and are then written.
   pub first_sent : {text rest none made : List ℕ} {old new : Option (List ℕ)} {s t : Status}
-      → AreFirstTold index op text rest (Some none) (Some made) s t → none ≡ [] → Appends old new made
-      → AreFirstTold index op text rest old new s t
+      → AreFirstPrinted index op text rest (Some none) (Some made) s t → none ≡ [] → Appends old new made
+      → AreFirstPrinted index op text rest old new s t
   first_sent first empty appended = record { texts = first.texts; told = told_sent first.told empty appended; cut = first.cut }
 
   -- the first one, in which a position was found
   pub first_found : {text rest : List ℕ} {place : Position} {old new : List ℕ} {s : Status} → BeginsWithLine op text place rest
       → OfUnits index (λ selection. new ≡ old ++ lookup_line index selection place)
-      → AreFirstTold index op text rest (Some old) (Some new) s s
+      → AreFirstPrinted index op text rest (Some old) (Some new) s s
   first_found {place = place} begins printed = first_line begins.line begins.cut refl (told_one (Some place) begins.tells printed refl)
 
   -- A line that began before this text ends in it, and others follow.
   pub first_joined : {back next rest : List ℕ} {old now new : Option (List ℕ)} {s t u : Status} (line text prefix : List ℕ)
-      → HasNo 10 line → IsCut 10 text prefix back → AreLinesTold index op (strip_carriage_return (line ++ prefix) ∷ []) old now s t → next ≡ back
-      → AreFirstTold index op next rest now new t u → AreFirstTold index op (line ++ text) rest old new s u
+      → HasNo 10 line → IsCut 10 text prefix back → AreLinesPrinted index op (strip_carriage_return (line ++ prefix) ∷ []) old now s t → next ≡ back
+      → AreFirstPrinted index op next rest now new t u → AreFirstPrinted index op (line ++ text) rest old new s u
   first_joined {back} {next} {rest} {old} {now} {new} {s} {t} {u} line text prefix whole at told next_is more =
       let joined : IsCut 10 (line ++ text) (line ++ prefix) back = (
         ap (λ (z : List ℕ). line ++ z) at.0 ∙ sym (append_assoc line prefix (10 ∷ back)),
         All-append (λ other. (other == 10) ≡ false) line prefix whole at.1,
       ) in
       first_more (first_line (line ++ prefix) joined refl told)
-      (subst (λ (z : List ℕ). AreFirstTold index op z rest now new t u) next_is more)
+      (subst (λ (z : List ℕ). AreFirstPrinted index op z rest now new t u) next_is more)
 
   -- the rest after a line that is empty
   pub first_emptied : {text rest line : List ℕ} {old new : Option (List ℕ)} {s t : Status}
-      → AreFirstTold index op text rest old new s t → line ≡ [] → AreFirstTold index op text (line ++ rest) old new s t
+      → AreFirstPrinted index op text rest old new s t → line ≡ [] → AreFirstPrinted index op text (line ++ rest) old new s t
   first_emptied {text} {rest} {line} {old} {new} {s} {t} first empty =
-      subst (λ (z : List ℕ). AreFirstTold index op text (z ++ rest) old new s t) (sym empty) first
+      subst (λ (z : List ℕ). AreFirstPrinted index op text (z ++ rest) old new s t) (sym empty) first
 
 -- ---- the current line
 
@@ -184,7 +184,7 @@ IsTextCut (Some text) (Some rest) texts line = lines text ≡ texts ++ lines (li
 pub record IsTextTold (index : Indexed) (op : ℕ) (start now : Option (List ℕ)) (line : List ℕ) (old new : Option (List ℕ))
     (status : Status) : Type 0 where
   pub texts : List (List ℕ)
-  pub told : AreLinesTold index op texts old new Done status
+  pub told : AreLinesPrinted index op texts old new Done status
   pub cut : IsTextCut start now texts line
   pub whole : HasNo 10 line
 
@@ -221,8 +221,8 @@ appends_kept : (a b c : Option (List ℕ)) (text : List ℕ) → Appends a b tex
 appends_kept a b c text appended kept = grind (arith, common_steps)
 
 told_lines : {index : Indexed} {op : ℕ} {old new : Option (List ℕ)} {status : Status} (start : Option (List ℕ)) (texts all : List (List ℕ))
-    → IfSome start (λ text. lines text ≡ all) → texts ≡ all → AreLinesTold index op texts old new Done status
-    → AreAddressesTold index op start old new status
+    → IfSome start (λ text. lines text ≡ all) → texts ≡ all → AreLinesPrinted index op texts old new Done status
+    → AreAddressesPrinted index op start old new status
 told_lines start texts all e same told = grind (arith, common_steps)
 
 module _ {index : Indexed} {op : ℕ} {start old : Option (List ℕ)} where
@@ -234,7 +234,7 @@ module _ {index : Indexed} {op : ℕ} {start old : Option (List ℕ)} where
 
   -- with one block more
   pub text_more : {mid now then new : Option (List ℕ)} {line left : List ℕ} {s t : Status} (block : List ℕ)
-      → IsTextTold index op start mid line old then s → Pulls mid now block → AreFirstTold index op (line ++ block) left then new s t
+      → IsTextTold index op start mid line old then s → Pulls mid now block → AreFirstPrinted index op (line ++ block) left then new s t
       → HasNo 10 left → IsTextTold index op start now left old new t
   text_more {mid} {now} {line = line} {left = left} block before pulls more whole = record {
     texts = before.texts ++ more.texts;
@@ -255,7 +255,7 @@ module _ {index : Indexed} {op : ℕ} {start old : Option (List ℕ)} where
     }
 
     pub text_ended : {ended : Bool} → IsTextTold index op start now line old then s → IsAtEnd now ended → ended ≡ false → line ≡ []
-        → AreAddressesTold index op start old then s
+        → AreAddressesPrinted index op start old then s
     text_ended {ended} before at short empty =
         told_lines start before.texts (before.texts ++ lines line)
         (cut_ended start now before.texts line ended before.cut at short)
@@ -269,7 +269,7 @@ module _ {index : Indexed} {op : ℕ} {start old : Option (List ℕ)} where
         told = before.told.told;
         lines_are = before.told.lines_are;
         so = before.told.so;
-        printed = λ selection is. appends_kept old then new (flat_map (told_line index selection) before.told.told)
+        printed = λ selection is. appends_kept old then new (flat_map (printed_line index selection) before.told.told)
             (before.told.printed selection is) kept;
         status_is = before.told.status_is;
       };
@@ -279,7 +279,7 @@ module _ {index : Indexed} {op : ℕ} {start old : Option (List ℕ)} where
 
   pub text_ended_within : {now then new : Option (List ℕ)} {line : List ℕ} {s t : Status} {ended : Bool}
       → IsTextTold index op start now line old then s → IsAtEnd now ended → ended ≡ false → 0 < length line
-      → AreLinesTold index op (line ∷ []) then new s t → AreAddressesTold index op start old new t
+      → AreLinesPrinted index op (line ∷ []) then new s t → AreAddressesPrinted index op start old new t
   text_ended_within {line = []} before at short some told = absurd (omega arith)
   text_ended_within {now} {line = b ∷ line} {ended = ended} before at short some told =
       told_lines start (before.texts ++ (b ∷ line) ∷ []) (before.texts ++ lines (b ∷ line))

@@ -10,8 +10,8 @@ use Rattle.lnt_io.proofs.PrefixLaws.{prefix_after, prefix_all, prefix_before, pr
 use Rattle.lnt_io.specs.Pulling.{Pulls, IsAtEnd}
 use Rattle.lnt_io.specs.declared.status.Status.{Status}
 use Rattle.lnt_lines.specs.Indexed.{Indexed}
-use Rattle.lnt_answers.specs.AddressBlocks.{AreFirstBegun, AreFirstTold}
-use Rattle.lnt_answers.specs.AddressLines.{AreAddressesBegun, AreLinesBegun, AreLinesTold, Tells, told_line}
+use Rattle.lnt_answers.specs.AddressBlocks.{AreFirstBegun, AreFirstPrinted}
+use Rattle.lnt_answers.specs.AddressLines.{AreAddressesBegun, AreLinesBegun, AreLinesPrinted, Tells, printed_line}
 use Rattle.lnt_answers.proofs.AddressLemmas.{IsTextTold, cut_ended, line_last}
 use Rattle.lnt_answers.proofs.AddressWholes.{tell_lines}
 use Rattle.lnt_answers.proofs.RoomLaws.{text_in_room}
@@ -20,17 +20,17 @@ use Rattle.lnt_answers.proofs.RoomLaws.{text_in_room}
 
 module _ {index : Indexed} {op : ℕ} where
   -- lines that were all answered
-  begun_told : {texts : List (List ℕ)} {old new : Option (List ℕ)} {s t : Status} → AreLinesTold index op texts old new s t
+  begun_told : {texts : List (List ℕ)} {old new : Option (List ℕ)} {s t : Status} → AreLinesPrinted index op texts old new s t
       → AreLinesBegun index op texts old new
   begun_told {old = old} {new = new} all = record {
     told = all.told;
     lines_are = all.lines_are;
     so = all.so;
-    prefix = λ selection is. prefix_all old new (flat_map (told_line index selection) all.told) (all.printed selection is);
+    prefix = λ selection is. prefix_all old new (flat_map (printed_line index selection) all.told) (all.printed selection is);
   }
 
   -- those before some of which a prefix was written
-  begun_append : {xs ys : List (List ℕ)} {old now new : Option (List ℕ)} {s t : Status} → AreLinesTold index op xs old now s t
+  begun_append : {xs ys : List (List ℕ)} {old now new : Option (List ℕ)} {s t : Status} → AreLinesPrinted index op xs old now s t
       → AreLinesBegun index op ys now new → AreLinesBegun index op (xs ++ ys) old new
   begun_append {xs} {ys} {old} {now} {new} a b = record {
     told = a.told ++ b.told;
@@ -38,7 +38,7 @@ module _ {index : Indexed} {op : ℕ} where
         ∙ ap (λ (z : List (List ℕ)). xs ++ z) b.lines_are;
     so = all_append (Tells op) a.told b.told a.so b.so;
     prefix = λ selection is.
-        let text = told_line index selection in
+        let text = printed_line index selection in
         prefix_same old new _ _ (sym (flat_map-append text a.told b.told))
         (prefix_after old now new (flat_map text a.told) (flat_map text b.told) (a.printed selection is) (b.prefix selection is));
   }
@@ -54,7 +54,7 @@ module _ {index : Indexed} {op : ℕ} where
             ∙ ap (λ (z : List (List ℕ)). xs ++ z) others.1.0;
         so = all_append (Tells op) begun.told others.0 begun.so others.1.1;
         prefix = λ selection is.
-            let text = told_line index selection in
+            let text = printed_line index selection in
             prefix_same old new _ _ (sym (flat_map-append text begun.told others.0))
             (prefix_before old new (flat_map text begun.told) (flat_map text others.0) (begun.prefix selection is));
       }
@@ -66,26 +66,26 @@ module _ {index : Indexed} {op : ℕ} where
 
   -- within their lines, which were made in an empty buffer
   begun_sending : {texts : List (List ℕ)} {none made : List ℕ} {old new : Option (List ℕ)} {s t : Status}
-      → AreLinesTold index op texts (Some none) (Some made) s t → none ≡ [] → AppendsPrefix old new made → AreLinesBegun index op texts old new
+      → AreLinesPrinted index op texts (Some none) (Some made) s t → none ≡ [] → AppendsPrefix old new made → AreLinesBegun index op texts old new
   begun_sending {none = none} {made = made} {old = old} {new = new} all empty prefix = record {
     told = all.told;
     lines_are = all.lines_are;
     so = all.so;
     prefix = λ selection is. prefix_same old new made _
-        (text_in_room none made made (flat_map (told_line index selection) all.told) empty (all.printed selection is) refl) prefix;
+        (text_in_room none made made (flat_map (printed_line index selection) all.told) empty (all.printed selection is) refl) prefix;
   }
 
   -- ---- the first lines of a text
 
   -- after a line
-  pub first_kept : {text rest : List ℕ} {old new : Option (List ℕ)} {s t : Status} → AreFirstTold index op text rest old new s t
+  pub first_kept : {text rest : List ℕ} {old new : Option (List ℕ)} {s t : Status} → AreFirstPrinted index op text rest old new s t
       → AreFirstBegun index op text old new
   first_kept {rest = rest} first =
       record { texts = first.texts; begun = begun_told first.told; cut = λ more. (lines (rest ++ more), sym (first.cut more)) }
 
   -- within those after some
   pub first_stopped : {text mid rest none made : List ℕ} {old now new : Option (List ℕ)} {s t u : Status}
-      → AreFirstTold index op text mid old now s t → AreFirstTold index op mid rest (Some none) (Some made) t u → none ≡ []
+      → AreFirstPrinted index op text mid old now s t → AreFirstPrinted index op mid rest (Some none) (Some made) t u → none ≡ []
       → AppendsPrefix now new made → AreFirstBegun index op text old new
   first_stopped {rest = rest} a b empty prefix = record {
     texts = a.texts ++ b.texts;

@@ -17,7 +17,7 @@ use Rattle.lnt_spans.proofs.AmongLemmas.{mistakes_among}
 use Rattle.lnt_spans.proofs.PartialLemmas.{answered_and_missed}
 use Rattle.lnt_table.specs.declared.within.Scope.{Scope}
 use Rattle.lnt_table.specs.declared.within.Scope.TheVariants.{All, Answered}
-use Rattle.lnt_answers.specs.Stretches.{AreAllIn, AreStretchesTold, answer_if_none, lines_or, stretches_status}
+use Rattle.lnt_answers.specs.Stretches.{AreAllIn, AreStretchesPrinted, answer_if_none, lines_or, stretches_status}
 use Rattle.lnt_answers.specs.Stepping.{ArePrinted, answer_of, counts_in, end_status, end_text, if_none}
 use Rattle.lnt_answers.specs.Verdicts.{checked_line}
 use Rattle.lnt_answers.proofs.RoomLaws.{text_in_room}
@@ -172,7 +172,7 @@ prefix_of_all line none (first ∷ told) more old new prefix = grind (arith, com
 begun_of : {X : Type 0} {line : Stretch X → List ℕ} {scope : Scope} {f g : Position → Option X} {old new : Option (List ℕ)}
     (stretches : List (Stretch X)) → AreAllIn scope f g stretches
     → AppendsPrefix old new (lines_or line (checked_line (answer_if_none scope f g)) stretches)
-    → HasBegun (AreStretchesTold line scope f g old) old new
+    → HasBegun (AreStretchesPrinted line scope f g old) old new
 begun_of {line = line} {scope = scope} {f = f} {g = g} {old = old} stretches all prefix = record {
   whole = lines_or line (checked_line (answer_if_none scope f g)) stretches;
   ending = stretches_status stretches;
@@ -186,7 +186,7 @@ HasMore {D} {X} of f g given = (more : List (Stretch X)) × AreAllStretches f g 
 
 prefix_begun : {D X : Type 0} {line : Stretch X → List ℕ} {scope : Scope} {f g : Position → Option X} {old new : Option (List ℕ)}
     (of : D → Stretch X) (given : List D) → HasMore of f g given → AppendsPrefix old new (flat_map line (told_in scope (map of given)))
-    → HasBegun (AreStretchesTold line scope f g old) old new
+    → HasBegun (AreStretchesPrinted line scope f g old) old new
 prefix_begun {X = X} {line = line} {scope = scope} {f = f} {g = g} {old = old} {new = new} of given later prefix =
     begun_of (told_in scope (map of given ++ later.0)) (all_in scope f g (map of given ++ later.0) later.1)
     (grind (arith, common_steps, in_append, prefix_of_all))
@@ -195,14 +195,14 @@ module _ {D X : Type 0} {of : D → Stretch X} {line : Stretch X → List ℕ} {
     {old new : Option (List ℕ)} where
   -- before the next stretch was found
   pub stopped_between : {AreGiven : List D → Type 0} {is_right : Bool} → (h : HasPrinted of line AreGiven scope old new is_right)
-      → HasMore of f g h.given → HasBegun (AreStretchesTold line scope f g old) old new
+      → HasMore of f g h.given → HasBegun (AreStretchesPrinted line scope f g old) old new
   stopped_between h later = prefix_begun of h.given later (prefix_all old new _ h.text)
 
   -- within the line of a stretch
   pub stopped_within : {AreGiven : List D → Type 0} {now : Option (List ℕ)} {is_answered is_right : Bool} (d : D)
       → (h : HasPrinted of line AreGiven scope old now is_right) → HasMore of f g (h.given ++ d ∷ []) → is_answered ≡ is_some (of d).by_table
       → AppendsPrefix now new (cond (counts_in scope is_answered) (line (of d)) [])
-      → HasBegun (AreStretchesTold line scope f g old) old new
+      → HasBegun (AreStretchesPrinted line scope f g old) old new
   stopped_within {is_answered = is_answered} d h later same prefix =
       let lines = more_lines of line scope h.given d is_answered same in
       prefix_begun of (h.given ++ d ∷ []) later (grind (arith, lines, prefix_after, h.text))
@@ -224,7 +224,7 @@ whole_text line scope f g (first ∷ stretches) all section = append-nil (flat_m
 
 pub end_told : {X : Type 0} {line : Stretch X → List ℕ} {scope : Scope} {f g : Position → Option X} {old now new : Option (List ℕ)}
     {missed : Option ℕ} {all : ℕ} {status : Status} → ArePrinted line scope f g old now missed → all ≡ addresses_answered f
-    → Appends now new (end_text scope all missed) → status ≡ end_status missed → AreStretchesTold line scope f g old new status
+    → Appends now new (end_text scope all missed) → status ≡ end_status missed → AreStretchesPrinted line scope f g old new status
 end_told {X} {line} {scope} {f} {g} {old} {now} {new} {all = all} h section text status_is =
     let number = addresses_answered (where_missed g f) in
     let end : Appends now new (end_text scope all (if_none h.stretches number)) =
@@ -244,7 +244,7 @@ end_told {X} {line} {scope} {f} {g} {old} {now} {new} {all = all} h section text
 
 pub end_begun : {X : Type 0} {line : Stretch X → List ℕ} {scope : Scope} {f g : Position → Option X} {old now new : Option (List ℕ)}
     {missed : Option ℕ} {all : ℕ} → ArePrinted line scope f g old now missed → all ≡ addresses_answered f
-    → AppendsPrefix now new (end_text scope all missed) → HasBegun (AreStretchesTold line scope f g old) old new
+    → AppendsPrefix now new (end_text scope all missed) → HasBegun (AreStretchesPrinted line scope f g old) old new
 end_begun {X} {line} {scope} {f} {g} {old} {now} {new} {all = all} h section prefix =
     let number = addresses_answered (where_missed g f) in
     begun_of h.stretches h.are_all

@@ -32,7 +32,7 @@ use Rattle.lnt_table.specs.Verdicts.{no_of_fault}
 use Rattle.lnt_table.proofs.CheckLemmas.{told_addresses}
 use Rattle.lnt_answers.proofs.ScopeLemmas.{HasMore}
 use Rattle.lnt_answers.proofs.PathStretchLemmas.{ForPathDifferences, for_path_units, HasStarted}
-use Rattle.lnt_answers.specs.Stretches.{AreStretchesTold, path_stretch_line, stretch_line, AreStretchesBegun, IsFaultByPath, IsSoOfRows}
+use Rattle.lnt_answers.specs.Stretches.{AreStretchesPrinted, path_stretch_line, stretch_line, AreStretchesBegun, IsFaultByPath, IsSoOfRows}
 use Rattle.lnt_compare.specs.declared.by_path.held.HeldSpan.{HeldSpan}
 use Rattle.lnt_compare.specs.declared.by_path.stretches.DifferencesByPath.{DifferencesByPath}
 use Rattle.lnt_records.specs.declared.by_path.version.PathVersion.{PathVersion}
@@ -110,7 +110,7 @@ module _ (scope : Scope) (index : Indexed) (selection : Selection) where
       → IfSome table (λ text. IsDiffering of_section of_table text (line_answer selection) (Table differences)
       × (Table differences ≢ Fault fault.Header))
       → ForDifferences of_section of_table given (addresses_answered (line_answer selection))
-      (λ f g. HasBegun (AreStretchesTold stretch_line scope f g old) old new)
+      (λ f g. HasBegun (AreStretchesPrinted stretch_line scope f g old) old new)
       → IfSome table (λ text. AreStretchesBegun scope index selection text old new)
   numbered_begun of_section of_table table old new {differences} {given} same d p =
       IfSome_then table (for_units of_section of_table differences given selection table _ same d p) (λ text is. record {
@@ -126,7 +126,7 @@ module _ (scope : Scope) (index : Indexed) (selection : Selection) where
       → IfSome table (λ text. IsUnnumbered text × IsPathTableOf version text (map held_span spans))
       → StandInOrder (map held_span spans) → HasStarted to_come index differences version selection slice
       → ForPathDifferences to_come path differences (addresses_answered (line_answer selection))
-      (λ f g. HasBegun (AreStretchesTold path_stretch_line scope f g old) old new)
+      (λ f g. HasBegun (AreStretchesPrinted path_stretch_line scope f g old) old new)
       → IfSome table (λ text. AreStretchesBegun scope index selection text old new)
   path_begun to_come differences version table old new {path} {spans} {slice} same by is order started p =
       IfSome_then table (for_path_units to_come index path differences version spans slice selection table _ same by is order started p)

@@ -6,7 +6,7 @@ use Rattle.lnt_io.specs.declared.status.Status.{Status}
 use Rattle.lnt_answers.specs.declared.digest.Agreement.{Agreement}
 use Rattle.lnt_lines.specs.Indexed.{file_path_in, file_sum_in, Indexed}
 use Rattle.lnt_files.specs.Paths.{path_or_empty}
-use Rattle.lnt_answers.specs.SumLines.{AreSumsBegun, AreSumsTold, Finding, IsTrueFinding, IsTrueOfFile, IsUnreadable}
+use Rattle.lnt_answers.specs.SumLines.{AreSumsBegun, AreSumsPrinted, Finding, IsTrueFinding, IsTrueOfFile, IsUnreadable}
 
 unreadable_later : (tells tells' : List ℕ → FileState → Type 0) (path : List ℕ) → TellsNoMore tells tells' → IsUnreadable tells' path
     → IsUnreadable tells path
@@ -37,8 +37,8 @@ true_later tells tells' index (finding ∷ findings) later so = (
 
 -- the lines that were printed for them
 pub sums_later : (tells tells' : List ℕ → FileState → Type 0) (index : Indexed) (files : List (ℕ × ℕ)) (old new : Option (List ℕ))
-    (status : Status) → TellsNoMore tells tells' → AreSumsTold tells' index files old new status
-    → AreSumsTold tells index files old new status
+    (status : Status) → TellsNoMore tells tells' → AreSumsPrinted tells' index files old new status
+    → AreSumsPrinted tells index files old new status
 sums_later tells tells' index files old new status later so = record {
   findings = so.findings;
   places = so.places;

@@ -18,7 +18,7 @@ use Rattle.lnt_files.specs.Paths.{path_or_empty}
 use Rattle.lnt_answers.proofs.FileLemmas.{lists_of_more}
 use Rattle.lnt_answers.proofs.SumLaws.{true_later}
 use Rattle.lnt_answers.specs.Lines.{lists_below}
-use Rattle.lnt_answers.specs.SumLines.{AreSumsTold, Finding, IsTrueFinding, IsTrueOfFile, both, file_of, found_status, found_text}
+use Rattle.lnt_answers.specs.SumLines.{AreSumsPrinted, Finding, IsTrueFinding, IsTrueOfFile, both, file_of, found_status, found_text}
 use Rattle.lnt_answers.specs.SumLines.{head_text, listed_at, listed_in, sum_line, sums_status}
 
 -- ---- joins
@@ -46,8 +46,8 @@ status_alone (Some (Differs sum)) = refl
 
 module _ {tells tells' : List ℕ → FileState → Type 0} {index : Indexed} {a b c : Option (List ℕ)} {s t : Status}
     (later : TellsNoMore tells tells') where
-  sums_joined : {files more : List (ℕ × ℕ)} → AreSumsTold tells index files a b s → AreSumsTold tells' index more b c t
-      → AreSumsTold tells index (files ++ more) a c (both s t)
+  sums_joined : {files more : List (ℕ × ℕ)} → AreSumsPrinted tells index files a b s → AreSumsPrinted tells' index more b c t
+      → AreSumsPrinted tells index (files ++ more) a c (both s t)
   sums_joined {files} so next = record {
     findings = so.findings ++ next.findings;
     places = map-append file_of so.findings next.findings ∙ ap (λ list. list ++ map file_of next.findings) so.places
@@ -61,19 +61,19 @@ module _ {tells tells' : List ℕ → FileState → Type 0} {index : Indexed} {a
   }
 
   -- with one file of a unit more
-  pub sums_more : (unit file : ℕ) → AreSumsTold tells index (lists_below (listed_at index unit) file) a b s
-      → AreSumsTold tells' index (listed_at index unit file) b c t
-      → AreSumsTold tells index (lists_below (listed_at index unit) (file + 1)) a c (both s t)
+  pub sums_more : (unit file : ℕ) → AreSumsPrinted tells index (lists_below (listed_at index unit) file) a b s
+      → AreSumsPrinted tells' index (listed_at index unit file) b c t
+      → AreSumsPrinted tells index (lists_below (listed_at index unit) (file + 1)) a c (both s t)
   sums_more unit file so next =
       let step : suc file ≡ file + 1 = omega arith in
-      subst (λ (n : ℕ). AreSumsTold tells index (lists_below (listed_at index unit) n) a c (both s t)) step (sums_joined so next)
+      subst (λ (n : ℕ). AreSumsPrinted tells index (lists_below (listed_at index unit) n) a c (both s t)) step (sums_joined so next)
 
   -- with the files of one unit more
-  pub sums_of_more : (units : List ℕ) (i d : ℕ) → i < length units → AreSumsTold tells index (flat_map (listed_in index) (take i units)) a b s
-      → AreSumsTold tells' index (listed_in index (get_or units i d)) b c t
-      → AreSumsTold tells index (flat_map (listed_in index) (take (i + 1) units)) a c (both s t)
+  pub sums_of_more : (units : List ℕ) (i d : ℕ) → i < length units → AreSumsPrinted tells index (flat_map (listed_in index) (take i units)) a b s
+      → AreSumsPrinted tells' index (listed_in index (get_or units i d)) b c t
+      → AreSumsPrinted tells index (flat_map (listed_in index) (take (i + 1) units)) a c (both s t)
   sums_of_more units i d lt so next =
-      subst (λ (files : List (ℕ × ℕ)). AreSumsTold tells index files a c (both s t)) (sym (lists_of_more (listed_in index) units i d lt))
+      subst (λ (files : List (ℕ × ℕ)). AreSumsPrinted tells index files a c (both s t)) (sym (lists_of_more (listed_in index) units i d lt))
       (sums_joined so next)
 
 -- ---- the files of a unit
@@ -84,7 +84,7 @@ pub sum_listed : (tells : List ℕ → FileState → Type 0) (index : Indexed) (
     → path ≡ path_or_empty (file_path_in index unit file) → shown ≡ path_or_empty (file_path_in index unit file)
     → IsTrueOfFile tells path listed found
     → Appends a b ((head_text unit file ++ found_text found) ++ (codes " " ++ (quoted_text shown ++ codes "\n")))
-    → status ≡ found_status found → AreSumsTold tells index (listed_at index unit file) a b status
+    → status ≡ found_status found → AreSumsPrinted tells index (listed_at index unit file) a b status
 sum_listed tells index unit file a b listed path shown found status is path_is shown_is so printed status_is =
     let finding : Finding = record { unit = unit; file = file; found = found } in
     let named = subst (λ (name : List ℕ). IsTrueOfFile tells name listed found) path_is so in
@@ -105,7 +105,7 @@ sum_listed tells index unit file a b listed path shown found status is path_is s
 -- ---- the files of all units
 
 pub sums_of_all : {tells : List ℕ → FileState → Type 0} {index : Indexed} {a b : Option (List ℕ)} {s : Status} (units : List ℕ) (i : ℕ)
-    → length units ≤ i → AreSumsTold tells index (flat_map (listed_in index) (take i units)) a b s
-    → AreSumsTold tells index (flat_map (listed_in index) units) a b s
+    → length units ≤ i → AreSumsPrinted tells index (flat_map (listed_in index) (take i units)) a b s
+    → AreSumsPrinted tells index (flat_map (listed_in index) units) a b s
 sums_of_all {tells} {index} {a} {b} {s} units i le so =
-    subst (λ (list : List ℕ). AreSumsTold tells index (flat_map (listed_in index) list) a b s) (take_all i units le) so
+    subst (λ (list : List ℕ). AreSumsPrinted tells index (flat_map (listed_in index) list) a b s) (take_all i units le) so

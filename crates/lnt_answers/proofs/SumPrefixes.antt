@@ -13,7 +13,7 @@ use Rattle.lnt_text.specs.Texts.{quoted_text}
 use Rattle.lnt_lines.specs.Indexed.{file_path_in, file_sum_in, Indexed}
 use Rattle.lnt_files.specs.Paths.{path_or_empty}
 use Rattle.lnt_answers.specs.Lines.{lists_below}
-use Rattle.lnt_answers.specs.SumLines.{AreSumsBegun, AreSumsTold, IsTrueOfFile, found_status, found_text, head_text, listed_at, listed_in}
+use Rattle.lnt_answers.specs.SumLines.{AreSumsBegun, AreSumsPrinted, IsTrueOfFile, found_status, found_text, head_text, listed_at, listed_in}
 use Rattle.lnt_answers.specs.SumLines.{file_of, sum_line}
 use Rattle.lnt_answers.proofs.SumLaws.{true_later}
 use Rattle.lnt_answers.proofs.FileLemmas.{below_later, lists_of_more}
@@ -66,7 +66,7 @@ sum_stopped tells index unit file a b listed path shown bytes found is path_is s
 
 module _ {tells tells' : List ℕ → FileState → Type 0} {index : Indexed} {a b c : Option (List ℕ)} {s : Status}
     (later : TellsNoMore tells tells') where
-  begun_after : {files more : List (ℕ × ℕ)} → AreSumsTold tells index files a b s → AreSumsBegun tells' index more b c
+  begun_after : {files more : List (ℕ × ℕ)} → AreSumsPrinted tells index files a b s → AreSumsBegun tells' index more b c
       → AreSumsBegun tells index (files ++ more) a c
   begun_after {files} {more} so next = record {
     findings = so.findings ++ next.findings;
@@ -81,7 +81,7 @@ module _ {tells tells' : List ℕ → FileState → Type 0} {index : Indexed} {a
   }
 
   -- of a unit
-  pub sums_stopped : (unit file count : ℕ) → file < count → AreSumsTold tells index (lists_below (listed_at index unit) file) a b s
+  pub sums_stopped : (unit file count : ℕ) → file < count → AreSumsPrinted tells index (lists_below (listed_at index unit) file) a b s
       → AreSumsBegun tells' index (listed_at index unit file) b c → AreSumsBegun tells index (lists_below (listed_at index unit) count) a c
   sums_stopped unit file count lt so next =
       let after = below_later (listed_at index unit) file count lt in
@@ -90,7 +90,7 @@ module _ {tells tells' : List ℕ → FileState → Type 0} {index : Indexed} {a
 
   -- of all units
   pub units_stopped : (units : List ℕ) (i d : ℕ) → i < length units
-      → AreSumsTold tells index (flat_map (listed_in index) (take i units)) a b s
+      → AreSumsPrinted tells index (flat_map (listed_in index) (take i units)) a b s
       → AreSumsBegun tells' index (listed_in index (get_or units i d)) b c → AreSumsBegun tells index (flat_map (listed_in index) units) a c
   units_stopped units i d lt so next =
       let prefix = flat_map (listed_in index) (take i units) in

@@ -6,7 +6,7 @@ use Rattle.lnt_lines.specs.Indexed.{file_path_in, Indexed}
 use Rattle.std.specs.Str.Lines.{lines, strip_carriage_return}
 use Rattle.lnt_io.specs.declared.status.Status.{Status}
 use Rattle.lnt_spans.specs.declared.position.Position.{Position}
-use Rattle.lnt_answers.specs.AddressLines.{AreLinesBegun, AreLinesTold}
+use Rattle.lnt_answers.specs.AddressLines.{AreLinesBegun, AreLinesPrinted}
 
 -- ---- the ends of lines that are kept. No public contract speaks of this.
 
@@ -31,9 +31,9 @@ pub record BeginsWithLine (op : ℕ) (text : List ℕ) (position : Position) (re
   pub tells : TellsPosition op (strip_carriage_return line) position
 
 -- The first lines of the text were answered, up to the rest of it.
-pub record AreFirstTold (index : Indexed) (op : ℕ) (text rest : List ℕ) (old new : Option (List ℕ)) (before after : Status) : Type 0 where
+pub record AreFirstPrinted (index : Indexed) (op : ℕ) (text rest : List ℕ) (old new : Option (List ℕ)) (before after : Status) : Type 0 where
   pub texts : List (List ℕ)
-  pub told : AreLinesTold index op texts old new before after
+  pub told : AreLinesPrinted index op texts old new before after
   pub cut : (more : List ℕ) → lines (text ++ more) ≡ texts ++ lines (rest ++ more)
 
 -- The writer stopped: what was written is a prefix of what is printed for some of the first lines of the text, whatever follows it.

@@ -18,9 +18,9 @@ Tells op (line, Some position) = TellsPosition op line position
 Tells op (line, None) = (position : Position) → TellsPosition op line position → ⊥
 
 -- what is printed for a line: the answer at its position; or that it is bad
-abbrev pub told_line : Indexed → Selection → List ℕ × Option Position → List ℕ
-told_line index selection (line, Some position) = lookup_line index selection position
-told_line index selection (line, None) = codes "bad " ++ (quoted_text line ++ codes "\n")
+abbrev pub printed_line : Indexed → Selection → List ℕ × Option Position → List ℕ
+printed_line index selection (line, Some position) = lookup_line index selection position
+printed_line index selection (line, None) = codes "bad " ++ (quoted_text line ++ codes "\n")
 
 -- the status after a line
 abbrev pub line_status : Status → Option Position → Status
@@ -34,18 +34,18 @@ lines_status status (told ∷ more) = lines_status (line_status status told.1) m
 
 -- What was appended to a writer that held these bytes (old) is what is printed for each of these lines in their order, and
 -- nothing else. The operation index is op for a line without one.
-pub record AreLinesTold (index : Indexed) (op : ℕ) (texts : List (List ℕ)) (old new : Option (List ℕ)) (before after : Status) : Type
+pub record AreLinesPrinted (index : Indexed) (op : ℕ) (texts : List (List ℕ)) (old new : Option (List ℕ)) (before after : Status) : Type
     0 where
   pub told : List (List ℕ × Option Position)
   pub lines_are : map (λ line. line.0) told ≡ texts
   pub so : AllByRecursion (Tells op) told
-  pub printed : OfUnits index (λ selection. Appends old new (flat_map (told_line index selection) told))
+  pub printed : OfUnits index (λ selection. Appends old new (flat_map (printed_line index selection) told))
   pub status_is : after ≡ lines_status before told
 
 -- If the source's bytes are known (text), this holds for the text's lines. A line ends with a line feed, which includes one
 -- carriage return before it, or with the text.
-abbrev pub AreAddressesTold : Indexed → ℕ → Option (List ℕ) → Option (List ℕ) → Option (List ℕ) → Status → Type 0
-AreAddressesTold index op text old new status = IfSome text (λ bytes. AreLinesTold index op (lines bytes) old new Done status)
+abbrev pub AreAddressesPrinted : Indexed → ℕ → Option (List ℕ) → Option (List ℕ) → Option (List ℕ) → Status → Type 0
+AreAddressesPrinted index op text old new status = IfSome text (λ bytes. AreLinesPrinted index op (lines bytes) old new Done status)
 
 -- ---- where the writer stopped
 
@@ -55,7 +55,7 @@ pub record AreLinesBegun (index : Indexed) (op : ℕ) (texts : List (List ℕ)) 
   pub told : List (List ℕ × Option Position)
   pub lines_are : map (λ line. line.0) told ≡ texts
   pub so : AllByRecursion (Tells op) told
-  pub prefix : OfUnits index (λ selection. AppendsPrefix old new (flat_map (told_line index selection) told))
+  pub prefix : OfUnits index (λ selection. AppendsPrefix old new (flat_map (printed_line index selection) told))
 
 -- If the source's bytes are known (text), this holds for all the text's lines, including those that weren't read yet. Their
 -- positions are a function of the lines (`laws::one_answer`): so a text has one whole answer, of which this is a prefix.

@@ -24,9 +24,9 @@ IsIndexGiven (Bad reason) = ⊥
 
 -- What was appended to a writer that held these bytes is the line of the reason why the section isn't good, or nothing for
 -- a good one.
-abbrev pub IsReasonTold : JudgedIndex → Option (List ℕ) → Option (List ℕ) → Type 0
-IsReasonTold (Good index) old new = Keeps old new
-IsReasonTold (Bad reason) old new = Appends old new (no_text reason ++ codes "\n")
+abbrev pub IsReasonPrinted : JudgedIndex → Option (List ℕ) → Option (List ℕ) → Type 0
+IsReasonPrinted (Good index) old new = Keeps old new
+IsReasonPrinted (Bad reason) old new = Appends old new (no_text reason ++ codes "\n")
 
 -- What was appended to a writer that held these bytes is a prefix of the line of a true reason why the section isn't good, and
 -- nothing else.

@@ -73,7 +73,7 @@ stretches_status (first ∷ stretches) = No
 -- What was appended to a writer that held these bytes (old) is a line for each stretch in the scope, or the answer if there is none;
 -- and this is the status after them.
 --     line    the line of a stretch
-pub record AreStretchesTold {X : Type 0} (line : Stretch X → List ℕ) (scope : Scope) (by_section by_table : Position → Option X)
+pub record AreStretchesPrinted {X : Type 0} (line : Stretch X → List ℕ) (scope : Scope) (by_section by_table : Position → Option X)
     (old new : Option (List ℕ)) (status : Status) : Type 0 where
   pub stretches : List (Stretch X)
   pub are_all : AreAllIn scope by_section by_table stretches
@@ -100,10 +100,10 @@ IsFaultByPath table told = IsUnnumbered table × IsPathFault table told
 abbrev pub AreStretchesOf : Scope → Indexed → Selection → List ℕ → Option (List ℕ) → Option (List ℕ) → Stretches → Type 0
 AreStretchesOf scope index selection table old new (Faulty told) = IsFault table told × (told ≢ fault.Header)
 AreStretchesOf scope index selection table old new (Told status) = IsSoOfRows selection table
-    (λ by_section by_table. AreStretchesTold stretch_line scope by_section by_table old new status)
+    (λ by_section by_table. AreStretchesPrinted stretch_line scope by_section by_table old new status)
 AreStretchesOf scope index selection table old new (FaultyByPath told) = IsFaultByPath table told
 AreStretchesOf scope index selection table old new (ToldByPath status) = IsSoByPath index selection table
-    (λ by_section by_table. AreStretchesTold path_stretch_line scope by_section by_table old new status)
+    (λ by_section by_table. AreStretchesPrinted path_stretch_line scope by_section by_table old new status)
 
 -- it is true whatever the units are that the index was made of, where the table's bytes are known
 abbrev pub TellsStretches : Scope → Indexed → Option (List ℕ) → Option (List ℕ) → Option (List ℕ) → Stretches → Type 0
@@ -111,18 +111,18 @@ TellsStretches scope index table old new told = OfUnits index (λ selection. IfS
     AreStretchesOf scope index selection text old new told))
 
 -- What was appended to a writer that held these bytes is the line of what is wrong with the table, if something is.
-abbrev pub IsFaultTold : Stretches → Option (List ℕ) → Option (List ℕ) → Type 0
-IsFaultTold (Faulty told) old new = Appends old new (table_no_text (no_of_fault told) ++ codes "\n")
-IsFaultTold (Told status) old new = Unit {0}
-IsFaultTold (FaultyByPath told) old new = Appends old new (table_no_text (no_of_fault told) ++ codes "\n")
-IsFaultTold (ToldByPath status) old new = Unit {0}
+abbrev pub IsFaultPrinted : Stretches → Option (List ℕ) → Option (List ℕ) → Type 0
+IsFaultPrinted (Faulty told) old new = Appends old new (table_no_text (no_of_fault told) ++ codes "\n")
+IsFaultPrinted (Told status) old new = Unit {0}
+IsFaultPrinted (FaultyByPath told) old new = Appends old new (table_no_text (no_of_fault told) ++ codes "\n")
+IsFaultPrinted (ToldByPath status) old new = Unit {0}
 
 -- how a run that reports it ends
-abbrev pub told_status : Stretches → Status
-told_status (Faulty told) = ending.No
-told_status (Told status) = status
-told_status (FaultyByPath told) = ending.No
-told_status (ToldByPath status) = status
+abbrev pub outcome_status : Stretches → Status
+outcome_status (Faulty told) = ending.No
+outcome_status (Told status) = status
+outcome_status (FaultyByPath told) = ending.No
+outcome_status (ToldByPath status) = status
 
 -- ---- where the writer stopped
 --     old, new    what it holds before and afterwards
@@ -130,7 +130,7 @@ told_status (ToldByPath status) = status
 -- What was written is a prefix of what might have been reported of the table.
 abbrev pub AreStretchesBegun : Scope → Indexed → Selection → List ℕ → Option (List ℕ) → Option (List ℕ) → Type 0
 AreStretchesBegun scope index selection table old new =
-    HasBegun (λ end told. AreStretchesOf scope index selection table old end told × IsFaultTold told old end) old new
+    HasBegun (λ end told. AreStretchesOf scope index selection table old end told × IsFaultPrinted told old end) old new
 
 -- it is, whatever the units are that the index was made of, where the table's bytes are known; or nothing was written
 abbrev pub BeginsStretches : Scope → Indexed → Option (List ℕ) → Option (List ℕ) → Option (List ℕ) → Type 0

@@ -98,7 +98,7 @@ sums_status (finding ∷ findings) = both (found_status finding.found) (sums_sta
 
 -- What was appended to a writer that held these bytes is a line with a true finding for each of these files, and nothing
 -- else.
-pub record AreSumsTold (tells : List ℕ → FileState → Type 0) (index : Indexed) (files : List (ℕ × ℕ)) (old new : Option (List ℕ))
+pub record AreSumsPrinted (tells : List ℕ → FileState → Type 0) (index : Indexed) (files : List (ℕ × ℕ)) (old new : Option (List ℕ))
     (status : Status) : Type 0 where
   pub findings : List Finding
   pub places : map file_of findings ≡ files

@@ -5,8 +5,8 @@ ghost use Rattle.std.specs.Str.Lines.{strip_carriage_return};
 ghost use Rattle.lnt_io.specs.declared.halt.Halt.TheVariants as halt;
 ghost use Rattle.lnt_io.specs.declared.status.Status.TheVariants.{Done};
 ghost use Rattle.lnt_io.specs.Halts.{IsPrinting};
-ghost use Rattle.lnt_answers.specs.AddressBlocks.{AreFirstBegun, AreFirstTold, BeginsWithLine, HasNo, IsCut};
-ghost use Rattle.lnt_answers.specs.AddressLines.{AreAddressesBegun, AreAddressesTold, AreLinesBegun, AreLinesTold};
+ghost use Rattle.lnt_answers.specs.AddressBlocks.{AreFirstBegun, AreFirstPrinted, BeginsWithLine, HasNo, IsCut};
+ghost use Rattle.lnt_answers.specs.AddressLines.{AreAddressesBegun, AreAddressesPrinted, AreLinesBegun, AreLinesPrinted};
 ghost use Rattle.lnt_answers.specs.Lines.{TellsPosition};
 ghost use Rattle.lnt_spans.specs.declared.position.Position.{Position as Spec};
 
@@ -30,7 +30,7 @@ const FULL: usize = 1 << 15;
 /// writer is flushed, before the next read.
 ///
 /// Returns `Done` if each line has a position, and `No` otherwise. In both cases these lines have been written, and nothing
-/// else (`AreAddressesTold`). Stops with `Read` only if the source failed, and with `TooLong` only if the source has more
+/// else (`AreAddressesPrinted`). Stops with `Read` only if the source failed, and with `TooLong` only if the source has more
 /// bytes than it may give: the lines before it are then answered. Stops with `Write` if the writer failed, and with `Memory`.
 /// If it stops, a prefix of the lines for all lines of the text has been written, and nothing else (`AreAddressesBegun`). The
 /// caller ensures that the number of the source's failures is below `u64::MAX`.
@@ -42,7 +42,7 @@ pub fn print_addresses<T: Source, W: Write>(
     out: &mut W,
 ) -> Result<Status, Halt>
     requires { T.failures lines.old < 2 ^ 64 - 1 }
-    ensures told { IfOk result (λ status. AreAddressesTold index.now op (T.remaining lines.old)
+    ensures told { IfOk result (λ status. AreAddressesPrinted index.now op (T.remaining lines.old)
         (W.contents out.old) (W.contents out.new) status) }
     ensures begun { OnErr result (AreAddressesBegun index.now op (T.remaining lines.old) (W.contents out.old) (W.contents out.new)) }
     ensures read { IsErrOf result halt.Read → T.failures lines.new ≡ T.failures lines.old + 1 }
@@ -109,7 +109,7 @@ impl Asked {
         requires line { HasNo 10 self.old.line.items }
         requires none { self.old.answers.lines.items ≡ [] }
         ensures err { IfErr result IsPrinting }
-        ensures told { OnOk result (AreFirstTold lookups.old self.old.answers.op (self.old.line.items ++ block.now) self.new.line.items
+        ensures told { OnOk result (AreFirstPrinted lookups.old self.old.answers.op (self.old.line.items ++ block.now) self.new.line.items
             (W.contents out.old) (W.contents out.new) self.old.answers.status self.new.answers.status) }
         ensures stopped { OnErr result (AreFirstBegun lookups.old self.old.answers.op (self.old.line.items ++ block.now)
             (W.contents out.old) (W.contents out.new)) }
@@ -135,7 +135,7 @@ impl Asked {
         lookups: &mut CachedLookups<'_, '_>,
         bytes: &[u8],
     ) -> Result<(), AllocError>
-        ensures told { OnOk result (AreLinesTold lookups.old self.old.answers.op
+        ensures told { OnOk result (AreLinesPrinted lookups.old self.old.answers.op
             (strip_carriage_return (self.old.line.items ++ bytes.now) ∷ [])
             (Some self.old.answers.lines.items) (Some self.new.answers.lines.items) self.old.answers.status self.new.answers.status) }
         ensures begun { OnOk result (self.new.line.items ≡ []) }
@@ -158,7 +158,7 @@ impl Asked {
     ) -> Result<(), Halt>
         requires { self.old.answers.lines.items ≡ [] }
         ensures err { IfErr result IsPrinting }
-        ensures told { OnOk result (AreLinesTold lookups.old self.old.answers.op (self.old.line.items ∷ [])
+        ensures told { OnOk result (AreLinesPrinted lookups.old self.old.answers.op (self.old.line.items ∷ [])
             (W.contents out.old) (W.contents out.new) self.old.answers.status self.new.answers.status) }
         ensures stopped { OnErr result (AreLinesBegun lookups.old self.old.answers.op (self.old.line.items ∷ [])
             (W.contents out.old) (W.contents out.new)) }
@@ -187,7 +187,7 @@ impl Answers {
         lookups: &mut CachedLookups<'_, '_>,
         text: &'t [u8],
     ) -> Result<&'t [u8], AllocError>
-        ensures told { IfOk result (λ rest. AreFirstTold lookups.old self.old.op text.now rest.now
+        ensures told { IfOk result (λ rest. AreFirstPrinted lookups.old self.old.op text.now rest.now
             (Some self.old.lines.items) (Some self.new.lines.items) self.old.status self.new.status) }
         ensures shorter { IfOk result (λ rest. length rest.now ≤ length text.now) }
         ensures same { OnOk result (self.new.op ≡ self.old.op) }
@@ -210,9 +210,9 @@ impl Answers {
         text: &'t [u8],
     ) -> Result<Option<&'t [u8]>, AllocError>
         ensures told { IfOk result (λ found. MatchOption found
-            (AreFirstTold lookups.old self.old.op text.now text.now
+            (AreFirstPrinted lookups.old self.old.op text.now text.now
             (Some self.old.lines.items) (Some self.new.lines.items) self.old.status self.new.status)
-            (λ rest. AreFirstTold lookups.old self.old.op text.now rest.now
+            (λ rest. AreFirstPrinted lookups.old self.old.op text.now rest.now
             (Some self.old.lines.items) (Some self.new.lines.items) self.old.status self.new.status)) }
         ensures shorter { IfOk result (λ found. IfSome found (λ rest. length rest.now < length text.now)) }
         ensures same { OnOk result (self.new.op ≡ self.old.op) }
@@ -239,7 +239,7 @@ impl Answers {
         lookups: &mut CachedLookups<'_, '_>,
         line: &[u8],
     ) -> Result<(), AllocError>
-        ensures told { OnOk result (AreLinesTold lookups.old self.old.op (line.now ∷ [])
+        ensures told { OnOk result (AreLinesPrinted lookups.old self.old.op (line.now ∷ [])
             (Some self.old.lines.items) (Some self.new.lines.items) self.old.status self.new.status) }
         ensures same { OnOk result (self.new.op ≡ self.old.op) }
         ensures index { lookups.new ≡ lookups.old }

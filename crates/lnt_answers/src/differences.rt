@@ -1,6 +1,6 @@
 //! Prints where the answers of a table of version 1 or 2 and of a section differ, stretch by stretch.
 ghost use Rattle.std.specs.Prelude.{◌≡◌, [], List, Option, IfErr, IfOk, OnErr};
-ghost use Rattle.lnt_answers.specs.Stretches.{AreStretchesTold, stretch_line};
+ghost use Rattle.lnt_answers.specs.Stretches.{AreStretchesPrinted, stretch_line};
 ghost use Rattle.lnt_answers.specs.Stepping.{ArePrinted};
 ghost use Rattle.lnt_io.specs.Halts.{IsPrinting};
 ghost use Rattle.lnt_io.specs.Prefixes.{HasBegun};
@@ -34,7 +34,7 @@ pub(crate) fn print_differences<S: SpanSource + Drop, T: SpanSource + Drop, W: W
         → ArePrinted stretch_line scope by_section by_table (W.contents out.old) (W.contents out.new) missed) }
     ensures begun { OnErr result ((by_section by_table : Position → Option Answer)
         → HasTold S.to_come T.to_come differences by_section by_table []
-        → HasBegun (AreStretchesTold stretch_line scope by_section by_table (W.contents out.old))
+        → HasBegun (AreStretchesPrinted stretch_line scope by_section by_table (W.contents out.old))
         (W.contents out.old) (W.contents out.new)) }
 {
     let mut differences = differences;

@@ -2,7 +2,7 @@
 ghost use Rattle.std.specs.Prelude.{◌≡◌, ◌-◌, ◌^◌, ◌<◌, ◌⊎◌, IfOk, IfSome, OnErr};
 ghost use Rattle.std.specs.Io.KnownBytes.{Keeps};
 ghost use Rattle.lnt_lines.specs.Judging.{IsJudgedIndex};
-ghost use Rattle.lnt_answers.specs.Lines.{HasBegunLine, IsIndexGiven, IsReasonTold};
+ghost use Rattle.lnt_answers.specs.Lines.{HasBegunLine, IsIndexGiven, IsReasonPrinted};
 ghost use Rattle.lnt_io.specs.Stopping.{CountsFailure, IsTooLongOn};
 
 use lnt_io::{Halt, Source, print_line};
@@ -28,7 +28,7 @@ pub fn judge_section<'s, R: Source, W: Write>(
     requires { R.failures section.old < 2 ^ 64 - 1 }
     ensures judged { IfOk result (λ judged. IfSome (R.remaining section.old) (λ bytes.
         IsJudgedIndex strings.now.line.now strings.now.general.now options.now bytes judged)) }
-    ensures told { IfOk result (λ judged. IsReasonTold judged (W.contents out.old) (W.contents out.new)) }
+    ensures told { IfOk result (λ judged. IsReasonPrinted judged (W.contents out.old) (W.contents out.new)) }
     ensures silent { IfOk result (λ judged. IsIndexGiven judged → out.new ≡ out.old) }
     ensures begun { OnErr result (Keeps (W.contents out.old) (W.contents out.new)
         ⊎ HasBegunLine (λ judged. IfSome (R.remaining section.old) (λ bytes.

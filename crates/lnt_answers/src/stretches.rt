@@ -1,7 +1,7 @@
 //! All stretches of positions in a scope at which a table and a good section answer differently.
 ghost use Rattle.std.specs.Prelude.{◌≡◌, ◌-◌, ◌^◌, ◌<◌, ◌+◌, [], Option, IfErr, IfOk, OnErr, OnOk};
 ghost use Rattle.std.specs.Io.KnownBytes.{Appends};
-ghost use Rattle.lnt_answers.specs.Stretches.{AreStretchesTold, path_stretch_line, BeginsStretches, IsFaultTold, TellsStretches};
+ghost use Rattle.lnt_answers.specs.Stretches.{AreStretchesPrinted, path_stretch_line, BeginsStretches, IsFaultPrinted, TellsStretches};
 ghost use Rattle.lnt_answers.specs.Stepping.{ArePrinted, answer_of, end_status, end_text};
 ghost use Rattle.lnt_records.specs.PathSpans.{PathAnswer};
 ghost use Rattle.lnt_compare.specs.Differing.{HasToldByPath};
@@ -60,7 +60,7 @@ pub fn print_stretches<T: Source, W: Write>(
 ) -> Result<Stretches, Halt>
     requires { T.failures table.old < 2 ^ 64 - 1 }
     ensures told { IfOk result (TellsStretches scope index.now (T.remaining table.old) (W.contents out.old) (W.contents out.new)) }
-    ensures faulty { IfOk result (λ told. IsFaultTold told (W.contents out.old) (W.contents out.new)) }
+    ensures faulty { IfOk result (λ told. IsFaultPrinted told (W.contents out.old) (W.contents out.new)) }
     ensures failures { CountsFailure ⟦<T as Source>⟧ table.old table.new result Halt.Read }
     ensures begun { OnErr result (BeginsStretches scope index.now (T.remaining table.old) (W.contents out.old) (W.contents out.new)) }
 {
@@ -143,7 +143,7 @@ fn print_path_differences<S: SpanSource + Drop, P: Paths, W: Write>(
         → ArePrinted path_stretch_line scope by_section by_table (W.contents out.old) (W.contents out.new) missed) }
     ensures begun { OnErr result ((by_section by_table : Position → Option PathAnswer)
         → HasToldByPath S.to_come (P.bytes_of paths.now) differences.entry by_section by_table []
-        → HasBegun (AreStretchesTold path_stretch_line scope by_section by_table (W.contents out.old))
+        → HasBegun (AreStretchesPrinted path_stretch_line scope by_section by_table (W.contents out.old))
         (W.contents out.old) (W.contents out.new)) }
 {
     let mut differences = differences;

@@ -5,7 +5,7 @@ ghost use Rattle.lnt_io.specs.Files.{TellsNoMore};
 ghost use Rattle.lnt_io.specs.Halts.{IsPrinting};
 ghost use Rattle.lnt_lines.specs.Indexed.{file_count_in, file_sum_in};
 ghost use Rattle.lnt_text.specs.Texts.{quoted_text};
-ghost use Rattle.lnt_answers.specs.SumLines.{AreSumsBegun, AreSumsTold, IsTrueOfFile, both, found_status, found_text, head_text, listed_at};
+ghost use Rattle.lnt_answers.specs.SumLines.{AreSumsBegun, AreSumsPrinted, IsTrueOfFile, both, found_status, found_text, head_text, listed_at};
 ghost use Rattle.lnt_answers.specs.SumLines.{listed_files, listed_in};
 
 use crate::display::put_text;
@@ -34,7 +34,7 @@ pub fn print_sums<O: Opener, W: Write>(
     out: &mut W,
 ) -> Result<Status, Halt>
     ensures err { IfErr result IsPrinting }
-    ensures sums { IfOk result (λ status. AreSumsTold (O.tells opener.old) index.now (listed_files index.now)
+    ensures sums { IfOk result (λ status. AreSumsPrinted (O.tells opener.old) index.now (listed_files index.now)
         (W.contents out.old) (W.contents out.new) status) }
     ensures begun { OnErr result (AreSumsBegun (O.tells opener.old) index.now (listed_files index.now)
         (W.contents out.old) (W.contents out.new)) }
@@ -59,7 +59,7 @@ fn print_unit_sums<O: Opener, W: Write>(
 ) -> Result<Status, Halt>
     ensures err { IfErr result IsPrinting }
     ensures later { OnOk result (TellsNoMore (O.tells opener.old) (O.tells opener.new)) }
-    ensures sums { IfOk result (λ status. AreSumsTold (O.tells opener.old) index.now (listed_in index.now unit)
+    ensures sums { IfOk result (λ status. AreSumsPrinted (O.tells opener.old) index.now (listed_in index.now unit)
         (W.contents out.old) (W.contents out.new) status) }
     ensures begun { OnErr result (AreSumsBegun (O.tells opener.old) index.now (listed_in index.now unit)
         (W.contents out.old) (W.contents out.new)) }
@@ -86,7 +86,7 @@ fn print_sum<O: Opener, W: Write>(
     requires { file < file_count_in index.now unit }
     ensures err { IfErr result IsPrinting }
     ensures later { OnOk result (TellsNoMore (O.tells opener.old) (O.tells opener.new)) }
-    ensures sum { IfOk result (λ status. AreSumsTold (O.tells opener.old) index.now (listed_at index.now unit file)
+    ensures sum { IfOk result (λ status. AreSumsPrinted (O.tells opener.old) index.now (listed_at index.now unit file)
         (W.contents out.old) (W.contents out.new) status) }
     ensures begun { OnErr result (AreSumsBegun (O.tells opener.old) index.now (listed_at index.now unit file)
         (W.contents out.old) (W.contents out.new)) }

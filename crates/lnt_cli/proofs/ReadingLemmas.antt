@@ -8,13 +8,13 @@ use Rattle.lnt_io.specs.declared.status.Status.{Status}
 use Rattle.lnt_io.specs.declared.status.Status.TheVariants.{Done, No}
 use Rattle.lnt_unit.specs.Converting.{IsConverted}
 use Rattle.lnt_words.specs.declared.request.Reading.TheVariants.{Convert}
-use Rattle.lnt_dump.specs.Printed.{IsConversionBegun, IsPrintedIn, IsRefusalTold}
+use Rattle.lnt_dump.specs.Printed.{IsConversionBegun, IsPrintedIn, IsRefusalPrinted}
 use Rattle.lnt_cli.specs.Questions.{AnswersReading, BeginsReading}
 
 -- the conversion of a section, whichever way it ends
 pub conversion_told : (order : Order) (format : Format) (to : Order) (section old new : Option (List ℕ)) (printed : Result Status Halt)
     → IfOk printed (λ status. status ≡ Done → IfSome section (λ bytes. IsPrintedIn (IsConverted order bytes format to) old new))
-    → IfOk printed (λ status. status ≡ No → IfSome section (λ bytes. IsRefusalTold order bytes format to old new))
+    → IfOk printed (λ status. status ≡ No → IfSome section (λ bytes. IsRefusalPrinted order bytes format to old new))
     → IfOk printed (AnswersReading order (Convert format to) section old new)
 conversion_told order format to None old new (Ok status) if_done if_no = tt
 conversion_told order format to (Some bytes) old new (Ok Done) if_done if_no = if_done refl

@@ -5,7 +5,7 @@ use Rattle.lnt_io.specs.declared.status.Status.{Status}
 use Rattle.lnt_words.specs.Words.{IsAskedBy}
 use Rattle.lnt_words.specs.declared.request.Asked.{Asked}
 use Rattle.lnt_cli.specs.Runs.{TellUnreadable}
-use Rattle.lnt_cli.specs.Stops.{IsToldUnreadable}
+use Rattle.lnt_cli.specs.Stops.{IsNamedUnreadable}
 use Rattle.lnt_cli.specs.declared.stop.CliStop.{CliStop}
 use Rattle.lnt_cli.specs.declared.stop.FileStop.{FileStop}
 use Rattle.lnt_cli.proofs.RunLemmas.{IsEndOf}
@@ -13,7 +13,7 @@ use Rattle.lnt_cli.proofs.RunLemmas.{IsEndOf}
 -- The answer's stop tells an unreadable file, or the answer may: so does the run's, or the answer to the words.
 told_by_run : (tells : List ℕ → FileState → Type 0) (words : List (List ℕ)) (asked : Asked) (ended : Result Status FileStop)
     (run : Result Status CliStop) (name : List ℕ) → IsEndOf ended run → IsAskedBy words asked
-    → IsToldUnreadable tells asked.request ended name → TellUnreadable tells words run name
+    → IsNamedUnreadable tells asked.request ended name → TellUnreadable tells words run name
 told_by_run tells words asked (Ok status) run name is is_asked (inl told) = absurd told
 told_by_run tells words asked (Err stop) (Ok status) name is is_asked (inl told) = absurd is
 told_by_run tells words asked (Err stop) (Err halted) name is is_asked (inl told) = rw is (inl told)
@@ -21,13 +21,13 @@ told_by_run tells words asked ended run name is is_asked (inr may) = inr (asked,
 
 before_or_told : {Old : Type 0} (tells : List ℕ → FileState → Type 0) (words : List (List ℕ)) (asked : Asked)
     (ended : Result Status FileStop) (run : Result Status CliStop) (name : List ℕ) → IsEndOf ended run → IsAskedBy words asked
-    → Old ⊎ IsToldUnreadable tells asked.request ended name → Old ⊎ TellUnreadable tells words run name
+    → Old ⊎ IsNamedUnreadable tells asked.request ended name → Old ⊎ TellUnreadable tells words run name
 before_or_told tells words asked ended run name is is_asked (inl before) = inl before
 before_or_told tells words asked ended run name is is_asked (inr told) = inr (told_by_run tells words asked ended run name is is_asked told)
 
 -- the same of each file that was refused
 pub run_told : (tells : List ℕ → FileState → Type 0) (words : List (List ℕ)) (asked : Asked) (ended : Result Status FileStop)
     (run : Result Status CliStop) (old new : List ℕ → Type 0) → IsEndOf ended run → IsAskedBy words asked
-    → RefusesOnly (IsToldUnreadable tells asked.request ended) old new → RefusesOnly (TellUnreadable tells words run) old new
+    → RefusesOnly (IsNamedUnreadable tells asked.request ended) old new → RefusesOnly (TellUnreadable tells words run) old new
 run_told tells words asked ended run old new is is_asked told name refused =
     before_or_told tells words asked ended run name is is_asked (told name refused)

@@ -3,7 +3,7 @@ use Rattle.std.proofs.Common.{◌≡◌, ℕ, List, Option, Some, None, subst}
 use Rattle.lnt_io.specs.Files.{FileState, Readable, TellsNoMore}
 use Rattle.lnt_io.specs.declared.status.Status.{Status}
 use Rattle.lnt_wire.specs.declared.format.Order.{Order}
-use Rattle.lnt_dump.specs.Printed.{IsUpgradeTold}
+use Rattle.lnt_dump.specs.Printed.{IsUpgradePrinted}
 use Rattle.lnt_cli.specs.Answered.{IsTextOf}
 
 -- what is known of a file later was known before
@@ -17,6 +17,6 @@ text_before before later (Some name) (Some text) less is =
 
 -- the same bytes
 pub told_of : (order : Order) (size : ℕ) (bytes same : List ℕ) (text old new : Option (List ℕ)) (status : Status) → bytes ≡ same
-    → IsUpgradeTold order size bytes text old new status → IsUpgradeTold order size same text old new status
+    → IsUpgradePrinted order size bytes text old new status → IsUpgradePrinted order size same text old new status
 told_of order size bytes same text old new status e told =
-    subst (λ (b : List ℕ). IsUpgradeTold order size b text old new status) e told
+    subst (λ (b : List ℕ). IsUpgradePrinted order size b text old new status) e told

@@ -24,7 +24,7 @@ use Rattle.lnt_table.specs.declared.within.Scope.{Scope}
 use Rattle.lnt_table.specs.AnyVersion.{IsOfScope, IsTrueOfSectionWithin, IsTrueWithin, scope_in}
 use Rattle.lnt_answers.specs.Verdicts.{checked_line, checked_status}
 use Rattle.lnt_words.specs.Words.{size_bytes}
-use Rattle.lnt_dump.specs.Printed.{IsUpgradeTold}
+use Rattle.lnt_dump.specs.Printed.{IsUpgradePrinted}
 use Rattle.lnt_cli.specs.Questions.{AnswersGood, AnswersGoodFile, AnswersJudged, AnswersReading}
 
 -- the options with which a section is read and judged
@@ -120,7 +120,7 @@ pub record IsOfUpgrade (tells : List ℕ → FileState → Type 0) (from : Upgra
 -- The section in the named file was written with its older units anew, or why it can't be.
 abbrev pub AnswersUpgrade : (List ℕ → FileState → Type 0) → Upgrading → Option (List ℕ) → Option (List ℕ) → Status → Type 0
 AnswersUpgrade tells from old new status =
-    IsOfUpgrade tells from (λ bytes text. IsUpgradeTold from.order (size_bytes from.address_size) bytes text old new status)
+    IsOfUpgrade tells from (λ bytes text. IsUpgradePrinted from.order (size_bytes from.address_size) bytes text old new status)
 
 -- ---- requests
 

@@ -10,8 +10,8 @@ use Rattle.lnt_words.specs.declared.request.FileQuestion.TheVariants.{Lines, Che
 use Rattle.lnt_words.specs.declared.request.Reading.{Reading}
 use Rattle.lnt_words.specs.declared.request.Reading.TheVariants.{Convert, Dump, Units}
 use Rattle.lnt_dump.specs.Dumps.{IsDumpBegun, IsDumped}
-use Rattle.lnt_dump.specs.Printed.{IsConversionTold}
-use Rattle.lnt_dump.specs.Units.{AreBytes, AreUnitsTold}
+use Rattle.lnt_dump.specs.Printed.{IsConversionPrinted}
+use Rattle.lnt_dump.specs.Units.{AreBytes, AreUnitsPrinted}
 use Rattle.std.specs.Io.KnownBytes.{Appends}
 use Rattle.lnt_io.specs.Files.{FileState}
 use Rattle.lnt_io.specs.declared.status.Status.TheVariants as ending
@@ -28,13 +28,13 @@ use Rattle.lnt_table.specs.declared.within.Scope.{Scope}
 use Rattle.lnt_table.specs.AnyVersion.{scope_in}
 use Rattle.lnt_table.specs.Headline.{told_path}
 use Rattle.lnt_table.specs.Written.{BeginsTableOfUnits, IsTableOfUnits}
-use Rattle.lnt_answers.specs.AddressLines.{AreAddressesBegun, AreAddressesTold}
+use Rattle.lnt_answers.specs.AddressLines.{AreAddressesBegun, AreAddressesPrinted}
 use Rattle.lnt_answers.specs.Lines.{files_text, lookup_line}
-use Rattle.lnt_answers.specs.SumLines.{AreSumsBegun, AreSumsTold, listed_files}
+use Rattle.lnt_answers.specs.SumLines.{AreSumsBegun, AreSumsPrinted, listed_files}
 use Rattle.lnt_lines.specs.FaultTexts.{no_text}
 use Rattle.lnt_answers.specs.PathTables.{BeginsPrintedTable, IsPrintedTable}
 use Rattle.lnt_answers.specs.declared.stretches.Stretches.{Stretches}
-use Rattle.lnt_answers.specs.Stretches.{AreStretchesBegun, IsFaultTold, TellsStretches, told_status}
+use Rattle.lnt_answers.specs.Stretches.{AreStretchesBegun, IsFaultPrinted, TellsStretches, outcome_status}
 
 -- ---- the answer if a section is read and its lines aren't judged
 --     known       the section's bytes, where these are known
@@ -44,58 +44,58 @@ use Rattle.lnt_answers.specs.Stretches.{AreStretchesBegun, IsFaultTold, TellsStr
 -- fault; for Dump, the lines of its units and of its first fault; for Convert, the section in another format and order, or the line
 -- that says why there is none.
 abbrev pub AnswersReading : Order → Reading → Option (List ℕ) → Option (List ℕ) → Option (List ℕ) → Status → Type 0
-AnswersReading order Units known old new status = AreUnitsTold order known old new status
+AnswersReading order Units known old new status = AreUnitsPrinted order known old new status
 AnswersReading order (Dump ops rows) known old new status = IsDumped order (record { ops = ops; rows = rows }) known old new status
 AnswersReading order (Convert format to) known old new status =
-    IfSome known (λ bytes. IsConversionTold order bytes format to old new status)
+    IfSome known (λ bytes. IsConversionPrinted order bytes format to old new status)
 
 -- A prefix of that answer was appended to these bytes, and nothing else. For a list of units this is stated only if the section's
 -- bytes are numbers below 256, as the bytes of each file are. Of a dump it is a prefix of the lines of units that the section begins
 -- with, and of that of its first fault, if it was found.
 abbrev pub BeginsReading : Order → Reading → Option (List ℕ) → Option (List ℕ) → Option (List ℕ) → Type 0
-BeginsReading order Units known old new = IfSome known AreBytes → HasBegun (AreUnitsTold order known old) old new
+BeginsReading order Units known old new = IfSome known AreBytes → HasBegun (AreUnitsPrinted order known old) old new
 BeginsReading order (Dump ops rows) known old new = IsDumpBegun order (record { ops = ops; rows = rows }) known old new
 BeginsReading order (Convert format to) known old new =
-    IfSome known (λ bytes. HasBegun (IsConversionTold order bytes format to old) old new)
+    IfSome known (λ bytes. HasBegun (IsConversionPrinted order bytes format to old) old new)
 
 -- ---- a section that was judged
 
 -- The line of the units' answer at each of these positions was printed, and nothing else.
-abbrev pub AreLookupsTold : Indexed → List Position → Option (List ℕ) → Option (List ℕ) → Type 0
-AreLookupsTold index positions old new = OfUnits index (λ selection. Appends old new (flat_map (lookup_line index selection) positions))
+abbrev pub AreLookupsPrinted : Indexed → List Position → Option (List ℕ) → Option (List ℕ) → Type 0
+AreLookupsPrinted index positions old new = OfUnits index (λ selection. Appends old new (flat_map (lookup_line index selection) positions))
 
 -- The table of the units' answers was printed, and nothing else.
-abbrev pub IsTableTold : Version → Indexed → Option (List ℕ) → Option (List ℕ) → Type 0
-IsTableTold version index old new =
+abbrev pub IsTablePrinted : Version → Indexed → Option (List ℕ) → Option (List ℕ) → Type 0
+IsTablePrinted version index old new =
     (bytes : List ℕ) × Appends old new bytes × OfUnits index (λ selection. IsTableOfUnits version selection bytes)
 
 -- The same for the table by path; or for the line that says that there can't be one.
-abbrev pub IsPathTableTold : PathVersion → Indexed → Option (List ℕ) → Option (List ℕ) → Status → Type 0
-IsPathTableTold version index old new status =
+abbrev pub IsPathTablePrinted : PathVersion → Indexed → Option (List ℕ) → Option (List ℕ) → Status → Type 0
+IsPathTablePrinted version index old new status =
     OfUnits index (λ selection. IsPrintedTable version (told_path version index selection) old new status)
 
 -- The answer for a good section with this index.
 abbrev pub AnswersGood : (List ℕ → FileState → Type 0) → Question → Indexed → Option (List ℕ) → Option (List ℕ) → Status → Type 0
 AnswersGood tells Verify index old new status = Appends old new (codes "yes\n") × (status ≡ ending.Done)
-AnswersGood tells (Lookup positions) index old new status = AreLookupsTold index positions.items old new × (status ≡ ending.Done)
+AnswersGood tells (Lookup positions) index old new status = AreLookupsPrinted index positions.items old new × (status ≡ ending.Done)
 AnswersGood tells Files index old new status = Appends old new (files_text index) × (status ≡ ending.Done)
-AnswersGood tells (Table version) index old new status = IsTableTold version index old new × (status ≡ ending.Done)
-AnswersGood tells (TableByPath true) index old new status = IsPathTableTold Three index old new status
-AnswersGood tells (TableByPath false) index old new status = IsPathTableTold Four index old new status
-AnswersGood tells Md5 index old new status = AreSumsTold tells index (listed_files index) old new status
+AnswersGood tells (Table version) index old new status = IsTablePrinted version index old new × (status ≡ ending.Done)
+AnswersGood tells (TableByPath true) index old new status = IsPathTablePrinted Three index old new status
+AnswersGood tells (TableByPath false) index old new status = IsPathTablePrinted Four index old new status
+AnswersGood tells Md5 index old new status = AreSumsPrinted tells index (listed_files index) old new status
 
 -- What is written for a good section with this index and a table: the table's first fault, or all places in the scope where the two
 -- differ.
-pub record AreTableTold (scope : Scope) (index : Indexed) (table old new : Option (List ℕ)) (status : Status) : Type 0 where
+pub record AreTableStretchesPrinted (scope : Scope) (index : Indexed) (table old new : Option (List ℕ)) (status : Status) : Type 0 where
   pub told : Stretches
-  pub fault : IsFaultTold told old new
-  pub status_is : status ≡ told_status told
+  pub fault : IsFaultPrinted told old new
+  pub status_is : status ≡ outcome_status told
   pub so : TellsStretches scope index table old new told
 
 -- The answer for a good section with this index and another file, of these bytes.
 abbrev pub AnswersGoodFile : FileQuestion → Option (List ℕ) → Indexed → Option (List ℕ) → Option (List ℕ) → Status → Type 0
-AnswersGoodFile (Lines op) bytes index old new status = AreAddressesTold index op bytes old new status
-AnswersGoodFile (Check all partial) bytes index old new status = AreTableTold (scope_in partial) index bytes old new status
+AnswersGoodFile (Lines op) bytes index old new status = AreAddressesPrinted index op bytes old new status
+AnswersGoodFile (Check all partial) bytes index old new status = AreTableStretchesPrinted (scope_in partial) index bytes old new status
 
 -- The answer for a section with this judgement: for a good one this, and for another the line that says why it isn't good.
 abbrev pub AnswersJudged : (Indexed → Option (List ℕ) → Option (List ℕ) → Status → Type 0) → Option (List ℕ) → Option (List ℕ) → Status

@@ -85,8 +85,8 @@ MayAnswerUnreadable tells (Judge from question) = AnswersUnreadable tells from q
 MayAnswerUnreadable tells _ = ⊥
 
 -- That the file with this name can't be read is told by the stop of the answer to this request, or may be told by the answer.
-abbrev pub IsToldUnreadable : {T : Type 0} → (List ℕ → FileState → Type 0) → Request → Result T FileStop → List ℕ → Type 0
-IsToldUnreadable tells request ended name = IsErrAnd ended (λ stop. IsUnreadable stop name) ⊎ MayAnswerUnreadable tells request
+abbrev pub IsNamedUnreadable : {T : Type 0} → (List ℕ → FileState → Type 0) → Request → Result T FileStop → List ℕ → Type 0
+IsNamedUnreadable tells request ended name = IsErrAnd ended (λ stop. IsUnreadable stop name) ⊎ MayAnswerUnreadable tells request
 
 -- ---- what bodies say of stops; no public contract speaks of it
 

@@ -1,6 +1,6 @@
 //! What is answered to a request, the status and what notes depend on; and its notes.
 ghost use Rattle.std.specs.Prelude.{◌≡◌};
-ghost use Rattle.lnt_answers.specs.Stretches.{told_status};
+ghost use Rattle.lnt_answers.specs.Stretches.{outcome_status};
 ghost use Rattle.lnt_answers.specs.Verdicts.{checked_status};
 
 use crate::stop::FileStop;
@@ -94,7 +94,7 @@ impl<'t> Answered<'t> {
 
     // What is answered if this was printed about a good section and the table in the file with this name.
     pub(crate) fn of_stretches(told: &Stretches, table: &'t str) -> Answered<'t>
-        ensures { result.status ≡ told_status told.now }
+        ensures { result.status ≡ outcome_status told.now }
     {
         match told {
             Stretches::Faulty(fault) => {

@@ -3,7 +3,7 @@ ghost use Rattle.std.specs.Prelude.{map, string_bytes, IfErr, IfOk, OnErr};
 ghost use Rattle.lnt_io.specs.Files.{RefusesOnly};
 ghost use Rattle.lnt_cli.specs.Answered.{IsAnswered};
 ghost use Rattle.lnt_cli.specs.Runs.{AnswersWords, IsStopOf, TellUnreadable};
-ghost use Rattle.lnt_cli.specs.Stops.{IsStopped, IsFileIn, IsToldUnreadable, NamesOneOf};
+ghost use Rattle.lnt_cli.specs.Stops.{IsStopped, IsFileIn, IsNamedUnreadable, NamesOneOf};
 
 use crate::notes::{Answered, tell, tell_word};
 use crate::question::{answer_file, answer_question};
@@ -68,7 +68,7 @@ pub fn run<O: Opener, W: Write, N: Write>(
 ///
 /// If it stops, a prefix of an answer has been written, and nothing else (`IsStopped`). It stops with `Read` or `TooLong` for a
 /// file that the request names (`IsFileIn`); with `Write` if `out` failed; and with `Memory`. If the opener refuses a file, it stops
-/// with `Read` and that file's name (`IsToldUnreadable`). Listed sums are the exception: once the section is open, a listed file
+/// with `Read` and that file's name (`IsNamedUnreadable`). Listed sums are the exception: once the section is open, a listed file
 /// that is refused is part of the answer.
 pub fn answer<O: Opener, W: Write, N: Write>(
     alloc: Global,
@@ -81,7 +81,7 @@ pub fn answer<O: Opener, W: Write, N: Write>(
     ensures answer { IfOk result (λ status.
         IsAnswered (O.tells opener.old) asked.now.request (W.contents out.old) (W.contents out.new) status) }
     ensures stopped { OnErr result (IsStopped (O.tells opener.old) asked.now.request (W.contents out.old) (W.contents out.new)) }
-    ensures refused { RefusesOnly (IsToldUnreadable (O.tells opener.old) asked.now.request result)
+    ensures refused { RefusesOnly (IsNamedUnreadable (O.tells opener.old) asked.now.request result)
         (O.refused opener.old) (O.refused opener.new) }
 {
     let seen = Cell::new(Seen::nothing());
@@ -104,7 +104,7 @@ fn answer_request<'r, O: Opener, W: Write>(
     ensures answer { IfOk result (λ answered.
         IsAnswered (O.tells opener.old) request.now (W.contents out.old) (W.contents out.new) answered.status) }
     ensures stopped { OnErr result (IsStopped (O.tells opener.old) request.now (W.contents out.old) (W.contents out.new)) }
-    ensures refused { RefusesOnly (IsToldUnreadable (O.tells opener.old) request.now result) (O.refused opener.old) (O.refused opener.new) }
+    ensures refused { RefusesOnly (IsNamedUnreadable (O.tells opener.old) request.now result) (O.refused opener.old) (O.refused opener.new) }
 {
     match request {
         Request::Help(text) => {

@@ -3,7 +3,7 @@ ghost use Rattle.std.specs.Prelude.{◌≡◌, ◌-◌, ◌^◌, ◌<◌, ◌⊎
 ghost use Rattle.std.specs.Io.KnownBytes.{Keeps};
 ghost use Rattle.lnt_io.specs.Files.{RefusesOnly};
 ghost use Rattle.lnt_words.specs.declared.request.Question.TheVariants.{Md5};
-ghost use Rattle.lnt_answers.specs.Lines.{HasBegunLine, IsIndexGiven, IsReasonTold};
+ghost use Rattle.lnt_answers.specs.Lines.{HasBegunLine, IsIndexGiven, IsReasonPrinted};
 ghost use Rattle.lnt_cli.specs.Answered.{AnswersFile, AnswersQuestion, IsJudgedSo, IsTrueOf, options_in};
 ghost use Rattle.lnt_cli.specs.Questions.{AnswersGood, AnswersGoodFile, AnswersJudged, BeginsGood, BeginsGoodFile, BeginsJudged};
 ghost use Rattle.lnt_cli.specs.Stops.{BeginsFile, BeginsQuestion, AnswersUnreadable, IsFileOf, IsFileOfBoth, IsUnreadable, NamesOneOf};
@@ -201,7 +201,7 @@ fn judge<'t, R: Source, W: Write>(
     requires { R.failures section.old < 2 ^ 64 - 1 }
     ensures named { IfErr result (NamesOneOf (λ name. from.now.section.now ≡ name)) }
     ensures judged { IfOk result (IsTrueOf from.now texts.now.line.items texts.now.general.items (R.remaining section.old)) }
-    ensures told { IfOk result (λ judged. IsReasonTold judged (W.contents out.old) (W.contents out.new)) }
+    ensures told { IfOk result (λ judged. IsReasonPrinted judged (W.contents out.old) (W.contents out.new)) }
     ensures silent { IfOk result (λ judged. IsIndexGiven judged → out.new ≡ out.old) }
     ensures stopped { OnErr result (Keeps (W.contents out.old) (W.contents out.new)
         ⊎ HasBegunLine (IsTrueOf from.now texts.now.line.items texts.now.general.items (R.remaining section.old))

@@ -34,7 +34,7 @@ use Rattle.lnt_dump.specs.declared.dump.DumpParts.{DumpParts}
 use Rattle.lnt_dump.specs.Dumps.{BeginsWithUnits, DoesNotRun, FramedUnit, IsDumpBegun, IsDumped, IsDumpedUnit, IsDumpFault}
 use Rattle.lnt_dump.specs.Dumps.{fault_line, unit_lines}
 use Rattle.lnt_dump.specs.Units.{fault_status}
-use Rattle.lnt_dump.specs.Stepping.{IsFaultOf, IsUnitOf, UnitBegun, UnitEnds, UnitEndsSo, UnitTold}
+use Rattle.lnt_dump.specs.Stepping.{IsFaultOf, IsUnitOf, UnitBegun, UnitEnds, UnitEndsSo, IsUnitPrinted}
 use Rattle.lnt_dump.proofs.Frames.{flat_push, FramesRead, IsNextFramed, read_more, read_none}
 
 -- ---- one unit
@@ -52,7 +52,7 @@ module _ (shown : DumpParts) (frame : Frame) (unit : BufferedUnit) (old new : Op
   -- the line of any fault
   pub faulty_told : {offset : ℕ} (fault : RowFault) (printed : Result Status Halt) → offset ≡ unit.offset → IsFaultOf unit shown.rows fault
       → IfOk printed (λ status. status ≡ No) → OnOk printed (Appends old new (fault_line offset (Some fault)))
-      → IfOk printed (UnitTold shown frame unit old new)
+      → IfOk printed (IsUnitPrinted shown frame unit old new)
   faulty_told {offset} fault (Ok status) at is is_no line = (faulty_so offset fault at is line, is_no)
   faulty_told fault (Err halt) at is is_no line = tt
 
@@ -65,7 +65,7 @@ module _ (shown : DumpParts) (frame : Frame) (unit : BufferedUnit) (old new : Op
   -- the line of bytes that are no unit
   module _ (fault : Fault) (broken : fault.reason ≢ Memory → BrokenUnit unit.order fault unit.offset unit.bytes) where
     pub broken_told : (printed : Result Status Halt) → OnOk printed (fault.reason ≢ Memory) → IfOk printed (λ status. status ≡ No)
-        → OnOk printed (Appends old new (malformed_text fault ++ codes "\n")) → IfOk printed (UnitTold shown frame unit old new)
+        → OnOk printed (Appends old new (malformed_text fault ++ codes "\n")) → IfOk printed (IsUnitPrinted shown frame unit old new)
     broken_told (Ok status) other is_no line = faulty_told (Malformed fault) (Ok status) refl (broken other) is_no line
     broken_told (Err halt) other is_no line = tt
 
@@ -90,7 +90,7 @@ valid_so {shown} {frame} view (ops, is, runs) so = record {
 -- ---- the units so far
 
 -- The source gave the bytes of some units, and their lines were printed.
-pub record UnitsTold (order : Order) (shown : DumpParts) (start now old new : Option (List ℕ)) (of_reader : Order) (offset : ℕ) : Type 0
+pub record UnitsPrinted (order : Order) (shown : DumpParts) (start now old new : Option (List ℕ)) (of_reader : Order) (offset : ℕ) : Type 0
   where
     pub units : List FramedUnit
     pub read : FramesRead order start now (map (λ unit. unit.0) units) of_reader offset
@@ -98,7 +98,7 @@ pub record UnitsTold (order : Order) (shown : DumpParts) (start now old new : Op
     pub printed : Appends old new (flat_map (unit_lines shown) units)
 
 pub units_none : {order : Order} {shown : DumpParts} {start now old : Option (List ℕ)} {of_reader : Order} {offset : ℕ} → of_reader ≡ order
-    → offset ≡ 0 → now ≡ start → UnitsTold order shown start now old old of_reader offset
+    → offset ≡ 0 → now ≡ start → UnitsPrinted order shown start now old old of_reader offset
 units_none {old = old} ordered at same =
     record { units = []; read = read_none ordered at same; each = tt; printed = Appends-nil old }
 
@@ -165,7 +165,7 @@ keeps_same None = tt
 keeps_same (Some bytes) = refl
 
 module _ {order : Order} {shown : DumpParts} {start now old then : Option (List ℕ)} {of_reader : Order} {offset : ℕ}
-    (told : UnitsTold order shown start now old then of_reader offset) where
+    (told : UnitsPrinted order shown start now old then of_reader offset) where
   begins_so : (Ends : List ℕ → Type 0) → IfSome now Ends
       → IfSome start (λ bytes. (rest : List ℕ) × BeginsWithUnits order shown bytes told.units offset rest × Ends rest)
   begins_so Ends ends = begins order shown start now told.units of_reader offset Ends told.read told.each ends
@@ -267,7 +267,7 @@ faulty_unit {order} {offset} shown (Some rest) (Some more) fault is at ordered p
 
 module _ {order : Order} {shown : DumpParts} {start mid now old then : Option (List ℕ)} {of_reader next_order : Order}
     {offset after : ℕ} {unit : BufferedUnit} {frame : Frame} (ordered : next_order ≡ of_reader)
-    (told : UnitsTold order shown start mid old then of_reader offset) (n : IsNextFramed of_reader offset after mid now unit frame) where
+    (told : UnitsPrinted order shown start mid old then of_reader offset) (n : IsNextFramed of_reader offset after mid now unit frame) where
   faulty : (fault : RowFault) → IsFaultOf unit shown.rows fault → IfSome mid (λ rest. IsDumpFault order shown offset rest fault)
   faulty fault is =
       faulty_unit shown mid now fault n.next.whole n.next.offset_is (n.next.order_is ∙ told.read.so_far.order_is) n.next.pulls is
@@ -278,12 +278,12 @@ module _ {order : Order} {shown : DumpParts} {start mid now old then : Option (L
       all-append (IsDumpedUnit order shown) told.units (frame, parts) told.each (dumped_one told.units ordered told.read n spelled runs)
 
   -- it was printed
-  pub units_more : {new : Option (List ℕ)} {status : Status} → UnitTold shown frame unit then new status → (status ≡ No → ⊥)
-      → UnitsTold order shown start now old new next_order after
+  pub units_more : {new : Option (List ℕ)} {status : Status} → IsUnitPrinted shown frame unit then new status → (status ≡ No → ⊥)
+      → UnitsPrinted order shown start now old new next_order after
   units_more {new} {status} (one, status_is) goes_on = by_fault one.fault one.ends status_is
     where
       by_fault : (fault : Option RowFault) → UnitEnds shown frame unit fault one.text → status ≡ fault_status fault
-          → UnitsTold order shown start now old new next_order after
+          → UnitsPrinted order shown start now old new next_order after
       by_fault (Some fault) ends is = absurd (goes_on is)
       by_fault None (parts, spelled, runs, text_is) is = record {
         units = told.units ++ (frame, parts) ∷ [];
@@ -295,7 +295,7 @@ module _ {order : Order} {shown : DumpParts} {start mid now old then : Option (L
       }
 
   -- it is faulty, and so the last one
-  pub units_broken : {new : Option (List ℕ)} {status : Status} → UnitTold shown frame unit then new status → status ≡ No
+  pub units_broken : {new : Option (List ℕ)} {status : Status} → IsUnitPrinted shown frame unit then new status → status ≡ No
       → IsDumped order shown start old new No
   units_broken {new} {status} (one, status_is) is_no = by_fault one.fault one.ends status_is
     where

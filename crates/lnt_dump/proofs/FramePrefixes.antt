@@ -13,8 +13,8 @@ use Rattle.lnt_wire.specs.declared.frame.Frame.{Frame}
 use Rattle.lnt_unit.specs.Units.{SectionEndsBy, BufferedUnit}
 use Rattle.lnt_io.specs.declared.halt.Halt.{Halt}
 use Rattle.lnt_io.specs.declared.status.Status.{Status}
-use Rattle.lnt_dump.specs.Units.{AreBytes, AreUnitsTold, end_line, fault_status, unit_line}
-use Rattle.lnt_dump.proofs.Frames.{flat_push, FramesRead, FramesTold, frames_end, IsNextFramed, read_more}
+use Rattle.lnt_dump.specs.Units.{AreBytes, AreUnitsPrinted, end_line, fault_status, unit_line}
+use Rattle.lnt_dump.proofs.Frames.{flat_push, FramesRead, FramesPrinted, frames_end, IsNextFramed, read_more}
 use Rattle.lnt_dump.proofs.FramesAhead.{bytes_after, frames_ahead, frames_join}
 
 -- How a section ends after these frames.
@@ -55,7 +55,7 @@ rest_of {order} {frames} {of_reader} {offset} (Some bytes) (Some rest) read are 
 
 -- a prefix of the lines of these frames, where the section goes on so
 lines_begun : {order : Order} {section old new : Option (List ℕ)} {frames : List Frame} → RestOf order section frames
-    → AppendsPrefix old new (flat_map unit_line frames) → HasBegun (AreUnitsTold order section old) old new
+    → AppendsPrefix old new (flat_map unit_line frames) → HasBegun (AreUnitsPrinted order section old) old new
 lines_begun {order} {section} {old} {new} {frames} rest f =
     let before = flat_map unit_line frames in
     let later = flat_map unit_line rest.more in
@@ -78,16 +78,16 @@ lines_begun {order} {section} {old} {new} {frames} rest f =
 
 -- nothing more is written
 pub units_stopped : {order : Order} {start now old new : Option (List ℕ)} {of_reader : Order} {offset : ℕ}
-    → FramesTold order start now old new of_reader offset → IfSome start AreBytes → HasBegun (AreUnitsTold order start old) old new
+    → FramesPrinted order start now old new of_reader offset → IfSome start AreBytes → HasBegun (AreUnitsPrinted order start old) old new
 units_stopped {order} {start} {now} {old} {new} told are =
     lines_begun (rest_of start now told.read are)
     (prefix_all old new (flat_map unit_line told.frames) told.printed)
 
 -- of the line of a unit a prefix is written
 pub units_cut : {order : Order} {start mid now old then new : Option (List ℕ)} {of_reader next_order : Order} {offset after : ℕ}
-    {unit : BufferedUnit} {frame : Frame} → next_order ≡ of_reader → FramesTold order start mid old then of_reader offset
+    {unit : BufferedUnit} {frame : Frame} → next_order ≡ of_reader → FramesPrinted order start mid old then of_reader offset
     → IsNextFramed of_reader offset after mid now unit frame → AppendsPrefix then new (unit_line frame) → IfSome start AreBytes
-    → HasBegun (AreUnitsTold order start old) old new
+    → HasBegun (AreUnitsPrinted order start old) old new
 units_cut {start = start} {now = now} {old = old} {then = then} {new = new} {frame = frame} ordered told n f are =
     let before = flat_map unit_line told.frames in
     lines_begun (rest_of start now (read_more ordered told.read n) are)
@@ -96,9 +96,9 @@ units_cut {start = start} {now = now} {old = old} {then = then} {new = new} {fra
 
 -- of the line of the fault
 pub fault_cut : {order : Order} {start now old then : Option (List ℕ)} {of_reader : Order} {offset : ℕ} (new : Option (List ℕ))
-    (fault : Fault) (printed : Result Status Halt) → FramesTold order start now old then of_reader offset
+    (fault : Fault) (printed : Result Status Halt) → FramesPrinted order start now old then of_reader offset
     → SectionEndsBy offset of_reader now (Some fault) → OnErr printed (AppendsPrefix then new (end_line (Some fault)))
-    → OnErr printed (IfSome start AreBytes → HasBegun (AreUnitsTold order start old) old new)
+    → OnErr printed (IfSome start AreBytes → HasBegun (AreUnitsPrinted order start old) old new)
 fault_cut new fault (Ok status) told ends f = tt
 fault_cut {order} {start} {now} {old} {then} new fault (Err halt) told ends f =
     let before = flat_map unit_line told.frames in

@@ -20,7 +20,7 @@ use Rattle.lnt_io.specs.declared.status.Status.TheVariants.{No}
 use Rattle.lnt_dump.specs.Stepping.{IsNext}
 use Rattle.lnt_dump.specs.declared.units.Next.{Next}
 use Rattle.lnt_dump.specs.declared.units.Next.TheVariants.{Unit as NextUnit}
-use Rattle.lnt_dump.specs.Units.{AreUnitsTold, end_line, fault_status, unit_line}
+use Rattle.lnt_dump.specs.Units.{AreUnitsPrinted, end_line, fault_status, unit_line}
 
 -- The source gave the bytes of these frames, and the next byte stands at the offset.
 pub record FramesRead (order : Order) (start now : Option (List ℕ)) (frames : List Frame) (of_reader : Order) (offset : ℕ) : Type 0 where
@@ -29,7 +29,7 @@ pub record FramesRead (order : Order) (start now : Option (List ℕ)) (frames : 
   pub pulls : Pulls start now prefix
 
 -- It gave those of some frames, and the frames' lines were printed.
-pub record FramesTold (order : Order) (start now old new : Option (List ℕ)) (of_reader : Order) (offset : ℕ) : Type 0 where
+pub record FramesPrinted (order : Order) (start now old new : Option (List ℕ)) (of_reader : Order) (offset : ℕ) : Type 0 where
   pub frames : List Frame
   pub read : FramesRead order start now frames of_reader offset
   pub printed : Appends old new (flat_map unit_line frames)
@@ -43,7 +43,7 @@ read_none {order} {start} {now} {of_reader} {offset} ordered at same = record {
 }
 
 pub frames_none : {order : Order} {start now old : Option (List ℕ)} {of_reader : Order} {offset : ℕ} → of_reader ≡ order → offset ≡ 0
-    → now ≡ start → FramesTold order start now old old of_reader offset
+    → now ≡ start → FramesPrinted order start now old old of_reader offset
 frames_none {old = old} ordered at same = record { frames = []; read = read_none ordered at same; printed = Appends-nil old }
 
 -- the frames of the bytes with one frame more
@@ -102,9 +102,9 @@ read_more {order} {start} {mid} {now} {frames} {of_reader} {next_order} {offset}
 
 -- and its line was printed
 pub frames_more : {order : Order} {start mid now old then new : Option (List ℕ)} {of_reader next_order : Order} {offset after : ℕ}
-    {unit : BufferedUnit} {frame : Frame} → next_order ≡ of_reader → FramesTold order start mid old then of_reader offset
+    {unit : BufferedUnit} {frame : Frame} → next_order ≡ of_reader → FramesPrinted order start mid old then of_reader offset
     → IsNextFramed of_reader offset after mid now unit frame → Appends then new (unit_line frame)
-    → FramesTold order start now old new next_order after
+    → FramesPrinted order start now old new next_order after
 frames_more {old = old} {then = then} {new = new} {frame = frame} ordered told n printed = record {
   frames = told.frames ++ frame ∷ [];
   read = read_more ordered told.read n;
@@ -131,8 +131,8 @@ frames_end {of_reader = of_reader} (Some bytes) (Some rest) fault read ends =
 
 -- the section ends
 pub frames_all : {order : Order} {start now old then new : Option (List ℕ)} {of_reader : Order} {offset : ℕ} {status : Status}
-    (fault : Option Fault) → FramesTold order start now old then of_reader offset → SectionEndsBy offset of_reader now fault
-    → Appends then new (end_line fault) → status ≡ fault_status fault → AreUnitsTold order start old new status
+    (fault : Option Fault) → FramesPrinted order start now old then of_reader offset → SectionEndsBy offset of_reader now fault
+    → Appends then new (end_line fault) → status ≡ fault_status fault → AreUnitsPrinted order start old new status
 frames_all {order} {start} {now} {old} {then} {new} fault told ends printed ended = record {
   frames = told.frames;
   fault = fault;
@@ -143,9 +143,9 @@ frames_all {order} {start} {now} {old} {then} {new} fault told ends printed ende
 
 -- by the line of a fault, if it could be printed
 pub frames_faulty : {order : Order} {start now old then : Option (List ℕ)} {of_reader : Order} {offset : ℕ} (new : Option (List ℕ))
-    (fault : Fault) (printed : Result Status Halt) → FramesTold order start now old then of_reader offset
+    (fault : Fault) (printed : Result Status Halt) → FramesPrinted order start now old then of_reader offset
     → SectionEndsBy offset of_reader now (Some fault) → IfOk printed (λ status. status ≡ No)
-    → OnOk printed (Appends then new (end_line (Some fault))) → IfOk printed (λ status. AreUnitsTold order start old new status)
+    → OnOk printed (Appends then new (end_line (Some fault))) → IfOk printed (λ status. AreUnitsPrinted order start old new status)
 frames_faulty new fault (Ok status) told ends refused line =
     frames_all (Some fault) told ends line refused
 frames_faulty new fault (Err halt) told ends refused line = line

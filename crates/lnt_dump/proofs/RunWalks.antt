@@ -99,7 +99,7 @@ module _ {view : View} {ops : List Op} {walk walk' : Walk} {run : RunState} (r :
 -- ---- the lines of rows
 
 -- The lines of this many rows were printed, after the text before them: those of the operations that the walk gave.
-pub record RowsTold (view : View) (ops : List Op) (index : ℕ) (walk : Walk) (run : RunState) (before page : List ℕ)
+pub record RowsPrinted (view : View) (ops : List Op) (index : ℕ) (walk : Walk) (run : RunState) (before page : List ℕ)
     (old now : Option (List ℕ)) : Type 0 where
   pub running : IsRunning view ops walk run
   pub index_is : index ≡ length (so_far view ops running.k)
@@ -107,7 +107,7 @@ pub record RowsTold (view : View) (ops : List Op) (index : ℕ) (walk : Walk) (r
 
 pub rows_none : {view : View} {ops : List Op} {walk : Walk} {run : RunState} (page : List ℕ) (out : Option (List ℕ))
     → StandsAt view ops 0 walk → run.machine.header ≡ view.header.numbers → HasDone run [] → run.machine.count ≡ 0
-    → RowsTold view ops 0 walk run page page out out
+    → RowsPrinted view ops 0 walk run page page out out
 unfolding running_first
 rows_none {view} {ops} {walk} {run} page out s header has count = record {
   running = running_first s header has count;
@@ -125,10 +125,10 @@ rows_prefix h back (op ∷ xs) ys =
 
 module _ {view : View} {ops : List Op} {index : ℕ} {walk walk' : Walk} {run run' : RunState} {item : OpView} {made : Option Row}
     {before page : List ℕ} {old now : Option (List ℕ)} (header : IsHeader view.header) (is : IsUnitView view)
-    (t : RowsTold view ops index walk run before page old now) (step : GivesOperation item walk walk')
+    (t : RowsPrinted view ops index walk run before page old now) (step : GivesOperation item walk walk')
     (on : RunsOn item run run' made) where
   -- an operation without a row
-  pub rows_quiet : ((row : Row) → made ≡ Some row → ⊥) → RowsTold view ops index walk' run' before page old now
+  pub rows_quiet : ((row : Row) → made ≡ Some row → ⊥) → RowsPrinted view ops index walk' run' before page old now
   unfolding running_next
   rows_quiet none =
       let list = so_far view ops t.running.k in
@@ -147,7 +147,7 @@ module _ {view : View} {ops : List Op} {index : ℕ} {walk walk' : Walk} {run ru
   -- an operation and the line of its row
   pub rows_more : {row : Row} {page' : List ℕ} {new : Option (List ℕ)} → made ≡ Some row
       → IsPaged (page ++ row_line index row) now new page'
-      → RowsTold view ops (index + 1) walk' run' before page' old new
+      → RowsPrinted view ops (index + 1) walk' run' before page' old new
   unfolding running_next
   rows_more {row} some line =
       let list = so_far view ops t.running.k in
@@ -183,7 +183,7 @@ module _ {view : View} {ops : List Op} {index : ℕ} {walk walk' : Walk} {run ru
       told_cut row_line before list later.0 row t.index_is all t.told line
 
 pub rows_all : {view : View} {ops : List Op} {index : ℕ} {walk walk' : Walk} {run : RunState} {before page : List ℕ}
-    {old now : Option (List ℕ)} → RowsTold view ops index walk run before page old now → Ends walk walk'
+    {old now : Option (List ℕ)} → RowsPrinted view ops index walk run before page old now → Ends walk walk'
     → IsPaged (before ++ numbered row_line 0 (rows (with_ops view ops))) old now page
 rows_all {view} {ops} {index} {walk} {walk'} {run} {before} {page} {old} {now} t ends =
     let r = t.running in

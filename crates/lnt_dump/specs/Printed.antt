@@ -28,20 +28,20 @@ refusal_text Memory = []
 
 -- What was appended to a writer that held these bytes is the line that says why the section isn't converted, and that is true. Lack
 -- of memory has no line: it is a stop.
-abbrev pub IsRefusalTold : Order → List ℕ → Format → Order → Option (List ℕ) → Option (List ℕ) → Type 0
-IsRefusalTold order section format to old new =
+abbrev pub IsRefusalPrinted : Order → List ℕ → Format → Order → Option (List ℕ) → Option (List ℕ) → Type 0
+IsRefusalPrinted order section format to old new =
     (fault : ConvertFault) × (fault ≢ Memory) × IsConvertFault order section format to fault × Appends old new (refusal_text fault)
 
 -- how the work on a section ends: the converted section was printed, or the line that says why there is none
-abbrev pub IsConversionTold : Order → List ℕ → Format → Order → Option (List ℕ) → Option (List ℕ) → Status → Type 0
-IsConversionTold order section format to old new Done = IsPrintedIn (IsConverted order section format to) old new
-IsConversionTold order section format to old new No = IsRefusalTold order section format to old new
+abbrev pub IsConversionPrinted : Order → List ℕ → Format → Order → Option (List ℕ) → Option (List ℕ) → Status → Type 0
+IsConversionPrinted order section format to old new Done = IsPrintedIn (IsConverted order section format to) old new
+IsConversionPrinted order section format to old new No = IsRefusalPrinted order section format to old new
 
 -- What was appended to a writer that held these bytes is nothing, or a prefix of what the work on the section might have printed, and
 -- nothing else.
 abbrev pub IsConversionBegun : Order → List ℕ → Format → Order → Option (List ℕ) → Option (List ℕ) → Type 0
 IsConversionBegun order section format to old new =
-    Keeps old new ⊎ HasBegun (IsConversionTold order section format to old) old new
+    Keeps old new ⊎ HasBegun (IsConversionPrinted order section format to old) old new
 
 -- ---- what was written if a section was written anew, or wasn't, or if that stopped
 
@@ -54,11 +54,11 @@ upgrade_refusal upgrade.Memory = []
 
 -- How the work on a section ends, whose file of directories has these bytes (text), if there is one: the section of version 5 that says
 -- what its units say was printed, or the line that says why there is none.
-abbrev pub IsUpgradeTold : Order → ℕ → List ℕ → Option (List ℕ) → Option (List ℕ) → Option (List ℕ) → Status → Type 0
-IsUpgradeTold order address_size section text old new Done =
+abbrev pub IsUpgradePrinted : Order → ℕ → List ℕ → Option (List ℕ) → Option (List ℕ) → Option (List ℕ) → Status → Type 0
+IsUpgradePrinted order address_size section text old new Done =
     (directories : List Directory) × AreListed order section text directories
     × IsPrintedIn (IsUpgraded order address_size directories section) old new
-IsUpgradeTold order address_size section text old new No =
+IsUpgradePrinted order address_size section text old new No =
     (fault : UpgradeFault) × (fault ≢ upgrade.Memory) × IsUpgradeFault order address_size section text fault
     × Appends old new (upgrade_refusal fault)
 
@@ -66,4 +66,4 @@ IsUpgradeTold order address_size section text old new No =
 -- nothing else.
 abbrev pub IsUpgradeBegun : Order → ℕ → List ℕ → Option (List ℕ) → Option (List ℕ) → Option (List ℕ) → Type 0
 IsUpgradeBegun order address_size section text old new =
-    Keeps old new ⊎ HasBegun (IsUpgradeTold order address_size section text old) old new
+    Keeps old new ⊎ HasBegun (IsUpgradePrinted order address_size section text old) old new

@@ -95,8 +95,8 @@ pub record UnitEndsSo (shown : DumpParts) (frame : Frame) (unit : BufferedUnit) 
   pub so : IsSo text
 
 -- It was printed.
-abbrev pub UnitTold : DumpParts → Frame → BufferedUnit → Option (List ℕ) → Option (List ℕ) → Status → Type 0
-UnitTold shown frame unit old new status = (told : UnitEndsSo shown frame unit (Appends old new)) × (status ≡ fault_status told.fault)
+abbrev pub IsUnitPrinted : DumpParts → Frame → BufferedUnit → Option (List ℕ) → Option (List ℕ) → Status → Type 0
+IsUnitPrinted shown frame unit old new status = (told : UnitEndsSo shown frame unit (Appends old new)) × (status ≡ fault_status told.fault)
 
 -- A prefix of it was printed.
 abbrev pub UnitBegun : DumpParts → Frame → BufferedUnit → Option (List ℕ) → Option (List ℕ) → Type 0

@@ -41,7 +41,7 @@ fault_status (Some fault) = No
 
 -- What was appended to a writer that held these bytes (old) is the lines of frames, the line of the fault after them, if there is
 -- one, and nothing else. If the source's bytes are known (section), these are its frames, and its first fault.
-pub record AreUnitsTold (order : Order) (section old new : Option (List ℕ)) (status : Status) : Type 0 where
+pub record AreUnitsPrinted (order : Order) (section old new : Option (List ℕ)) (status : Status) : Type 0 where
   pub frames : List Frame
   pub fault : Option Fault
   pub so : IfSome section (λ bytes. AreFrames order bytes frames fault)

@@ -5,7 +5,7 @@ ghost use Rattle.lnt_io.specs.Prefixes.{AppendsPrefix};
 ghost use Rattle.lnt_io.specs.Halts.{IsPrinting};
 ghost use Rattle.lnt_io.specs.declared.status.Status.TheVariants.{Done, No};
 ghost use Rattle.lnt_unit.specs.Converting.{Converts, IsConverted};
-ghost use Rattle.lnt_dump.specs.Printed.{IsConversionBegun, IsPrintedIn, IsRefusalTold, refusal_text};
+ghost use Rattle.lnt_dump.specs.Printed.{IsConversionBegun, IsPrintedIn, IsRefusalPrinted, refusal_text};
 ghost use Rattle.lnt_dump.specs.Stepping.{IsPrefixIn};
 ghost use Rattle.lnt_io.specs.Stopping.{CountsFailure, IsTooLongOn};
 
@@ -40,7 +40,7 @@ pub fn print_converted<R: Source, W: Write>(
     ensures done { IfOk result (λ status. status ≡ Done → IfSome (R.remaining source.old) (λ bytes.
         IsPrintedIn (IsConverted order bytes format to) (W.contents out.old) (W.contents out.new))) }
     ensures no { IfOk result (λ status. status ≡ No → IfSome (R.remaining source.old) (λ bytes.
-        IsRefusalTold order bytes format to (W.contents out.old) (W.contents out.new))) }
+        IsRefusalPrinted order bytes format to (W.contents out.old) (W.contents out.new))) }
     ensures begun { OnErr result (IfSome (R.remaining source.old) (λ bytes.
         IsConversionBegun order bytes format to (W.contents out.old) (W.contents out.new))) }
     ensures failures { CountsFailure ⟦<R as Source>⟧ source.old source.new result Halt.Read }

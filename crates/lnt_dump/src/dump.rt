@@ -5,7 +5,7 @@ ghost use Rattle.lnt_io.specs.Prefixes.{AppendsPrefix};
 ghost use Rattle.lnt_header.specs.declared.op.Op.{Op};
 ghost use Rattle.lnt_unit.specs.Views.{with_ops};
 ghost use Rattle.lnt_dump.specs.Dumps.{IsDumpBegun, IsDumped, unit_lines};
-ghost use Rattle.lnt_dump.specs.Stepping.{IsSound, IsUnitOf, UnitBegun, UnitTold};
+ghost use Rattle.lnt_dump.specs.Stepping.{IsSound, IsUnitOf, UnitBegun, IsUnitPrinted};
 
 use crate::faults::{print_fault, print_unit_fault};
 use crate::header::print_header;
@@ -77,7 +77,7 @@ fn print_unit<W: Write>(
     out: &mut W,
 ) -> Result<Status, Halt>
     requires { frame.now.offset ≡ buffer.now.offset }
-    ensures told { IfOk result (UnitTold shown frame.now buffer.now (W.contents out.old) (W.contents out.new)) }
+    ensures told { IfOk result (IsUnitPrinted shown frame.now buffer.now (W.contents out.old) (W.contents out.new)) }
     ensures begun { OnErr result (Keeps (W.contents out.old) (W.contents out.new)
         ⊎ UnitBegun shown frame.now buffer.now (W.contents out.old) (W.contents out.new)) }
 {
@@ -97,7 +97,7 @@ fn print_judged<W: Write>(
     out: &mut W,
 ) -> Result<Status, Halt>
     requires { frame.now.offset ≡ unit.now.unit.offset }
-    ensures told { IfOk result (UnitTold shown frame.now unit.now.unit (W.contents out.old) (W.contents out.new)) }
+    ensures told { IfOk result (IsUnitPrinted shown frame.now unit.now.unit (W.contents out.old) (W.contents out.new)) }
     ensures begun { OnErr result (Keeps (W.contents out.old) (W.contents out.new)
         ⊎ UnitBegun shown frame.now unit.now.unit (W.contents out.old) (W.contents out.new)) }
 {

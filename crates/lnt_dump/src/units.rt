@@ -5,7 +5,7 @@ ghost use Rattle.lnt_io.specs.Prefixes.{AppendsPrefix, HasBegun};
 ghost use Rattle.lnt_unit.specs.declared.reader.Progress.TheVariants.{Reading};
 ghost use Rattle.lnt_unit.specs.Readers.{offset_of, order_of, progress_of, source_of};
 ghost use Rattle.lnt_dump.specs.Stepping.{IsNext, GivesUnit};
-ghost use Rattle.lnt_dump.specs.Units.{AreBytes, AreUnitsTold, unit_line, width};
+ghost use Rattle.lnt_dump.specs.Units.{AreBytes, AreUnitsPrinted, unit_line, width};
 
 use crate::faults::print_fault;
 use lnt_io::{Halt, Source, Status, print_line};
@@ -31,9 +31,9 @@ pub fn print_units<R: Source, W: Write>(
     out: &mut W,
 ) -> Result<Status, Halt>
     requires { R.failures source.old < 2 ^ 64 - 1 }
-    ensures told { IfOk result (λ status. AreUnitsTold order (R.remaining source.old) (W.contents out.old) (W.contents out.new) status) }
+    ensures told { IfOk result (λ status. AreUnitsPrinted order (R.remaining source.old) (W.contents out.old) (W.contents out.new) status) }
     ensures begun { OnErr result (IfSome (R.remaining source.old) AreBytes
-        → HasBegun (AreUnitsTold order (R.remaining source.old) (W.contents out.old)) (W.contents out.old) (W.contents out.new)) }
+        → HasBegun (AreUnitsPrinted order (R.remaining source.old) (W.contents out.old)) (W.contents out.old) (W.contents out.new)) }
 {
     let mut reader = SectionReader::new(source, order);
     let mut room = Vec::new(alloc);

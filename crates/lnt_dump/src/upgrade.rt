@@ -7,7 +7,7 @@ ghost use Rattle.lnt_io.specs.Halts.{IsPrinting};
 ghost use Rattle.lnt_io.specs.declared.status.Status.TheVariants.{No};
 ghost use Rattle.lnt_older.specs.Sections.{IsUpgraded};
 ghost use Rattle.lnt_older.specs.Upgradable.{AreSoundDirectories, CanUpgrade};
-ghost use Rattle.lnt_dump.specs.Printed.{IsPrintedIn, IsUpgradeBegun, IsUpgradeTold, upgrade_refusal};
+ghost use Rattle.lnt_dump.specs.Printed.{IsPrintedIn, IsUpgradeBegun, IsUpgradePrinted, upgrade_refusal};
 ghost use Rattle.lnt_dump.specs.Stepping.{IsPrefixIn};
 
 use crate::convert::print_refusal;
@@ -37,7 +37,7 @@ pub fn print_upgraded<W: Write>(
     out: &mut W,
 ) -> Result<Status, Halt>
     requires { IsAddressSize address_size }
-    ensures told { IfOk result (IsUpgradeTold order address_size bytes.now (option_copied directories.entry)
+    ensures told { IfOk result (IsUpgradePrinted order address_size bytes.now (option_copied directories.entry)
         (W.contents out.old) (W.contents out.new)) }
     ensures begun { OnErr result (IsUpgradeBegun order address_size bytes.now (option_copied directories.entry)
         (W.contents out.old) (W.contents out.new)) }

@@ -3,4 +3,4 @@ mod IndexLemmas
 mod LookLemmas
 mod PutLemmas
 mod RoomLemmas
-mod ToldLemmas
+mod ReturnLemmas

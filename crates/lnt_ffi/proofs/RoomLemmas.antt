@@ -1,7 +1,7 @@
 -- Lists that are put into the first places of a room.
 use Rattle.std.proofs.Common.{◌≡◌, ℕ, ◌+◌, ◌≤◌, List, ◌++◌, length, take, drop, set, arith, take-append-drop}
 use Rattle.std.proofs.lemmas.Grind.{common_steps}
-use Rattle.lnt_ffi.specs.Told.{with_prefix}
+use Rattle.lnt_ffi.specs.Returns.{with_prefix}
 
 pub fitting : {A : Type 0} (list room : List A) → length list ≤ length room → list ++ drop (length list) room ≡ with_prefix list room
 fitting list room le = grind (arith, common_steps)

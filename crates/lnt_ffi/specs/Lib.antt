@@ -2,5 +2,5 @@ pub mod ByPath
 pub mod ByteSources
 pub mod Flat
 pub mod Index
-pub mod Told
+pub mod Returns
 pub mod Verdicts

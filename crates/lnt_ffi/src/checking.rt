@@ -1,7 +1,7 @@
 //! Sections checked against address tables.
 ghost use Rattle.std.specs.Prelude.{◌≡◌, length};
 ghost use Rattle.lnt_ffi.specs.ByPath.{paths_in, verdict_of_check};
-ghost use Rattle.lnt_ffi.specs.Told.{IsToldOfPaths, IsToldOfTable, with_prefix};
+ghost use Rattle.lnt_ffi.specs.Returns.{ReturnsVerdictByPath, ReturnsVerdict, with_prefix};
 ghost use Rattle.lnt_table.specs.AnyVersion.{scope_in};
 ghost use Rattle.lnt_table.specs.declared.within.Scope.TheVariants as Scope;
 
@@ -23,7 +23,7 @@ pub extern "C" fn linetab_check(
     table: &[u8],
     verdict: &mut FlatVerdict,
 )
-    ensures { IsToldOfTable section.now table.now verdict.new }
+    ensures { ReturnsVerdict section.now table.now verdict.new }
 {
     *verdict = check_into(alloc, section, table, Scope::All, &mut [], &mut []);
 }
@@ -44,7 +44,7 @@ pub extern "C" fn linetab_check_paths(
 )
     ensures table_room { length by_table.new ≡ length by_table.old }
     ensures section_room { length by_section.new ≡ length by_section.old }
-    ensures told { IsToldOfPaths Scope.All section.now table.now by_table.old by_table.new by_section.old by_section.new verdict.new }
+    ensures told { ReturnsVerdictByPath Scope.All section.now table.now by_table.old by_table.new by_section.old by_section.new verdict.new }
 {
     *verdict = check_into(alloc, section, table, Scope::All, by_table, by_section);
 }
@@ -64,7 +64,7 @@ pub extern "C" fn linetab_check_within(
 )
     ensures table_room { length by_table.new ≡ length by_table.old }
     ensures section_room { length by_section.new ≡ length by_section.old }
-    ensures told { IsToldOfPaths (scope_in is_partial) section.now table.now by_table.old by_table.new by_section.old by_section.new
+    ensures told { ReturnsVerdictByPath (scope_in is_partial) section.now table.now by_table.old by_table.new by_section.old by_section.new
         verdict.new }
 {
     let scope = Scope::of(is_partial);
@@ -82,7 +82,7 @@ fn check_into(
 ) -> FlatVerdict
     ensures table_room { length by_table.new ≡ length by_table.old }
     ensures section_room { length by_section.new ≡ length by_section.old }
-    ensures told { IsToldOfPaths scope section.now table.now by_table.old by_table.new by_section.old by_section.new result }
+    ensures told { ReturnsVerdictByPath scope section.now table.now by_table.old by_table.new by_section.old by_section.new result }
 {
     let mut line = Bytes::of(section.line);
     let mut text = Bytes::of(table);

@@ -2,7 +2,7 @@
 ghost use Rattle.std.specs.Prelude.{◌≡◌, ◌+◌, ◌^◌, ◌<◌, ◌≤◌, List, [], ◌∷◌, ◌++◌, IfNone, IfSome, drop, length, map, take};
 ghost use Rattle.lnt_spans.specs.declared.span.Span as spec;
 ghost use Rattle.lnt_ffi.specs.Flat.{span_of};
-ghost use Rattle.lnt_ffi.specs.Told.{IsIndexOfFlat, IsRefused, IsToldOfSpans};
+ghost use Rattle.lnt_ffi.specs.Returns.{IsIndexOfFlat, IsRefused, ReturnsSpans};
 ghost use Rattle.lnt_ffi.specs.Verdicts.{yes};
 
 use crate::bytes::Bytes;
@@ -27,7 +27,7 @@ pub extern "C" fn linetab_verify(
     verdict: &mut FlatVerdict,
 ) -> usize
     ensures length { length spans.new ≡ length spans.old }
-    ensures told { IsToldOfSpans section.now result spans.old spans.new verdict.new }
+    ensures told { ReturnsSpans section.now result spans.old spans.new verdict.new }
 {
     match index_of(alloc, section, verdict) {
         Some(index) => put_spans(index.spans(), spans),

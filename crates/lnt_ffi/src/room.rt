@@ -1,6 +1,6 @@
 //! Bytes put where the caller has room.
 ghost use Rattle.std.specs.Prelude.{◌≡◌, length};
-ghost use Rattle.lnt_ffi.specs.Told.{with_prefix};
+ghost use Rattle.lnt_ffi.specs.Returns.{with_prefix};
 
 // Writes the bytes to the beginning of the room if there is room for all of them, and returns how many they are. It writes nothing
 // else there.

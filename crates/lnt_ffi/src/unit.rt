@@ -1,6 +1,6 @@
 //! The units of a section, and the paths of their files.
 ghost use Rattle.std.specs.Prelude.{◌≡◌, length, map};
-ghost use Rattle.lnt_ffi.specs.Told.{IsToldOfPath, IsToldOfUnits, unit_in, with_prefix};
+ghost use Rattle.lnt_ffi.specs.Returns.{ReturnsPath, ReturnsUnits, unit_in, with_prefix};
 
 use crate::judging::index_of;
 use crate::room::put_bytes;
@@ -33,7 +33,7 @@ pub extern "C" fn linetab_units(
     verdict: &mut FlatVerdict,
 ) -> usize
     ensures length { length units.new ≡ length units.old }
-    ensures told { IsToldOfUnits section.now result units.old units.new verdict.new }
+    ensures told { ReturnsUnits section.now result units.old units.new verdict.new }
 {
     match index_of(alloc, section, verdict) {
         Some(index) => put_units(&index, units),
@@ -81,7 +81,7 @@ pub extern "C" fn linetab_path(
     verdict: &mut FlatVerdict,
 ) -> bool
     ensures room { length path.new ≡ length path.old }
-    ensures told { IsToldOfPath section.now unit file result count.new path.old path.new verdict.new }
+    ensures told { ReturnsPath section.now unit file result count.new path.old path.new verdict.new }
 {
     *count = 0;
     let found = match index_of(alloc, section, verdict) {

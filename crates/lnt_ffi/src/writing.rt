@@ -1,6 +1,6 @@
 //! Address tables written.
 ghost use Rattle.std.specs.Prelude.{◌≡◌, IfNone, IfSome, length};
-ghost use Rattle.lnt_ffi.specs.Told.{IsRefused, IsTableOfFlat, IsToldOfWriting, version_of};
+ghost use Rattle.lnt_ffi.specs.Returns.{IsRefused, IsTableOfFlat, ReturnsTable, version_of};
 ghost use Rattle.lnt_ffi.specs.Verdicts.{yes};
 
 use crate::judging::index_of;
@@ -27,7 +27,7 @@ pub extern "C" fn linetab_table(
     verdict: &mut FlatVerdict,
 ) -> usize
     ensures length { length room.new ≡ length room.old }
-    ensures told { IsToldOfWriting section.now is_wide result room.old room.new verdict.new }
+    ensures told { ReturnsTable section.now is_wide result room.old room.new verdict.new }
 {
     match table_of(alloc, section, is_wide, verdict) {
         Some(table) => put_bytes(&table, room),

@@ -1,13 +1,13 @@
 use Rattle.std.proofs.Common.{◌≡◌}
 use Rattle.lnt_unit.specs.declared.reader.Progress.TheVariants.{Reading}
 use Rattle.lnt_unit.specs.Readers.{offset_of, order_of, progress_of, source_of}
-use Rattle.lnt_dump.proofs.Dumps.{UnitsTold}
+use Rattle.lnt_dump.proofs.Dumps.{UnitsPrinted}
 use Rattle.lnt_dump.proofs.dump.print_dump.Given as goal
 
 abbrev pub invariant-loop-page : goal.invariant-loop-page
 invariant-loop-page g l = record {
   reading : progress_of l.reader ≡ Reading;
-  told : UnitsTold l.fn.order l.fn.shown (g.R.Source.remaining l.fn.source) (g.R.Source.remaining (source_of l.reader))
+  told : UnitsPrinted l.fn.order l.fn.shown (g.R.Source.remaining l.fn.source) (g.R.Source.remaining (source_of l.reader))
       (g.W.Write.contents l.fn.out) (g.W.Write.contents l.out) (order_of l.reader) (offset_of l.reader);
 }
 

@@ -3,7 +3,7 @@ use Rattle.lnt_io.proofs.PrefixLaws.{so_stopped}
 use Rattle.lnt_ops.specs.Walks.{Walk}
 use Rattle.lnt_machine.proofs.RanLaws.{fails_op, gives_op}
 use Rattle.lnt_dump.proofs.Pages.{paged_none}
-use Rattle.lnt_dump.proofs.UnitWalks.{OpsTold, ops_all, ops_cut, ops_more, ops_none, stands_fails, stands_first, stands_room}
+use Rattle.lnt_dump.proofs.UnitWalks.{OpsPrinted, ops_all, ops_cut, ops_more, ops_none, stands_fails, stands_first, stands_room}
 use Rattle.lnt_dump.proofs.operations.print_ops.Goals as goal
 
 pub returns-then-not-is_shown-clause-ok : goal.returns-then-not-is_shown-clause-ok
@@ -13,7 +13,7 @@ returns-then-not-is_shown-clause-ok g c =
 pub loop-op-init : goal.loop-op-init
 loop-op-init g c =
     λ ops is. subst
-    (λ (w : Walk). OpsTold c.args.unit.now ops 0 w c.args.page.now.items c.args.page.now.items (g.W.Write.contents c.args.out.now)
+    (λ (w : Walk). OpsPrinted c.args.unit.now ops 0 w c.args.page.now.items c.args.page.now.items (g.W.Write.contents c.args.out.now)
     (g.W.Write.contents c.args.out.now)) (sym c.into_iter-op-iterator.ensures.into_iter_gives)
     (ops_none c.args.page.now.items (g.W.Write.contents c.args.out.now)
     (stands_first c.args.unit.now ops c.ops-op-items.result c.ops-op-items.ensures.is_view is c.ops-op-items.ensures.header

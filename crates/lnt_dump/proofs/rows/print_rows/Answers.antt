@@ -2,7 +2,7 @@ use Rattle.std.proofs.Common.{◌∙◌, ◌+◌, ◌^◌, ◌<◌, arith, rules
 use Rattle.lnt_io.proofs.PrefixLaws.{so_stopped}
 use Rattle.lnt_ops.specs.Walks.{Walk}
 use Rattle.lnt_dump.proofs.Pages.{paged_none}
-use Rattle.lnt_dump.proofs.RunWalks.{RowsTold, rows_all, rows_cut, rows_more, rows_none, rows_quiet, rows_room, running_allowed, running_in}
+use Rattle.lnt_dump.proofs.RunWalks.{RowsPrinted, rows_all, rows_cut, rows_more, rows_none, rows_quiet, rows_room, running_allowed, running_in}
 use Rattle.lnt_machine.proofs.RanLaws.{fails_op, gives_op}
 use Rattle.lnt_dump.proofs.UnitWalks.{stands_fails, stands_first}
 use Rattle.lnt_dump.proofs.rows.print_rows.Goals as goal
@@ -13,7 +13,7 @@ returns-then-not-is_shown-clause-ok g c =
 
 pub loop-op-init : goal.loop-op-init
 loop-op-init g c =
-    λ ops is. subst (λ (w : Walk). RowsTold c.args.unit.now ops 0 w c.new-run.result c.args.page.now.items c.args.page.now.items
+    λ ops is. subst (λ (w : Walk). RowsPrinted c.args.unit.now ops 0 w c.new-run.result c.args.page.now.items c.args.page.now.items
     (g.W.Write.contents c.args.out.now) (g.W.Write.contents c.args.out.now)) (sym c.into_iter-op-iterator.ensures.into_iter_gives)
     (rows_none c.args.page.now.items (g.W.Write.contents c.args.out.now)
     (stands_first c.args.unit.now ops c.ops-op-items.result c.ops-op-items.ensures.is_view is c.ops-op-items.ensures.header

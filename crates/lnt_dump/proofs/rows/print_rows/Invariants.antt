@@ -1,10 +1,10 @@
 use Rattle.std.proofs.Common.{List}
 use Rattle.lnt_header.specs.declared.op.Op.{Op}
 use Rattle.lnt_dump.specs.Stepping.{IsUnitOf}
-use Rattle.lnt_dump.proofs.RunWalks.{RowsTold}
+use Rattle.lnt_dump.proofs.RunWalks.{RowsPrinted}
 use Rattle.lnt_dump.proofs.rows.print_rows.Given as goal
 
 abbrev pub invariant-loop-op : goal.invariant-loop-op
 invariant-loop-op g l =
-    (ops : List Op) → IsUnitOf l.fn.unit ops → RowsTold l.fn.unit ops l.index l.op-iterator l.run l.fn.page.items l.page.items
+    (ops : List Op) → IsUnitOf l.fn.unit ops → RowsPrinted l.fn.unit ops l.index l.op-iterator l.run l.fn.page.items l.page.items
     (g.W.Write.contents l.fn.out) (g.W.Write.contents l.out)

@@ -1,13 +1,13 @@
 use Rattle.std.proofs.Common.{◌≡◌}
 use Rattle.lnt_unit.specs.declared.reader.Progress.TheVariants.{Reading}
 use Rattle.lnt_unit.specs.Readers.{offset_of, order_of, progress_of, source_of}
-use Rattle.lnt_dump.proofs.Frames.{FramesTold}
+use Rattle.lnt_dump.proofs.Frames.{FramesPrinted}
 use Rattle.lnt_dump.proofs.units.print_units.Given as goal
 
 abbrev pub invariant-loop-unit : goal.invariant-loop-unit
 invariant-loop-unit g l = record {
   reading : progress_of l.reader ≡ Reading;
-  told : FramesTold l.fn.order (g.R.Source.remaining l.fn.source) (g.R.Source.remaining (source_of l.reader))
+  told : FramesPrinted l.fn.order (g.R.Source.remaining l.fn.source) (g.R.Source.remaining (source_of l.reader))
       (g.W.Write.contents l.fn.out) (g.W.Write.contents l.out) (order_of l.reader) (offset_of l.reader);
 }
 

@@ -1,9 +1,9 @@
-use Rattle.lnt_ffi.specs.Told.{IsToldOfPaths}
+use Rattle.lnt_ffi.specs.Returns.{ReturnsVerdictByPath}
 use Rattle.lnt_ffi.proofs.checking.check_into.Goals as goal
 
 pub returns-in-Ok-clause-told : goal.returns-in-Ok-clause-told
 returns-in-Ok-clause-told c =
     let strings = c.strings.ensures in
-    IsToldOfPaths.judged c.in-Ok.found
+    ReturnsVerdictByPath.judged c.in-Ok.found
     (rw (strings.line, strings.general, c.options.ensures, c.of-line.ensures, c.of-text.ensures) at c.in-Ok.ensures.checked)
     c.put_found.ensures.verdict c.put_found.ensures.by_table c.put_found.ensures.by_section

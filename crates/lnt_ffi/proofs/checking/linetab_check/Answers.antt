@@ -1,4 +1,4 @@
-use Rattle.lnt_ffi.proofs.ToldLemmas.{of_paths}
+use Rattle.lnt_ffi.proofs.ReturnLemmas.{of_paths}
 use Rattle.lnt_ffi.proofs.checking.linetab_check.Goals as goal
 
 pub returns : goal.returns

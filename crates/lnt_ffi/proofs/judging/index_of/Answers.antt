@@ -1,4 +1,4 @@
-use Rattle.lnt_ffi.specs.Told.{IsRefused}
+use Rattle.lnt_ffi.specs.Returns.{IsRefused}
 use Rattle.lnt_ffi.proofs.judging.index_of.Goals as goal
 
 pub returns-in-Ok-Bad-clause-refused : goal.returns-in-Ok-Bad-clause-refused

@@ -1,5 +1,5 @@
 use Rattle.std.proofs.Common.{◌-◌, ◌≤◌, ◌≡◌, drop, length, map, take}
-use Rattle.lnt_ffi.specs.Told.{unit_in}
+use Rattle.lnt_ffi.specs.Returns.{unit_in}
 use Rattle.lnt_ffi.proofs.unit.put_units.Given as goal
 
 abbrev pub invariant-loop-i : goal.invariant-loop-i

@@ -1,6 +1,6 @@
 use Rattle.std.proofs.Common.{◌+◌, ◌++◌, ◌∙◌, refl, sym, subst, rules, take, List, ℕ}
 use Rattle.lnt_io.proofs.PrefixLaws.{so_stopped}
-use Rattle.lnt_answers.specs.AddressBlocks.{AreFirstTold}
+use Rattle.lnt_answers.specs.AddressBlocks.{AreFirstPrinted}
 use Rattle.lnt_answers.proofs.AddressPrefixes.{first_kept, first_stopped}
 use Rattle.lnt_answers.proofs.AddressLemmas.{first_emptied, first_joined, first_more, first_none, first_sent, none_in, none_in_joined}
 use Rattle.lnt_answers.proofs.CommaLemmas.{rest_after}
@@ -44,7 +44,7 @@ loop-end-preserved g c =
 
 pub returns-clause-told : goal.returns-clause-told
 returns-clause-told g c =
-    subst (λ (z : List ℕ). AreFirstTold c.args.lookups.now c.args.self.now.answers.op (c.args.self.now.line.items ++ c.args.block.now) z
+    subst (λ (z : List ℕ). AreFirstPrinted c.args.lookups.now c.args.self.now.answers.op (c.args.self.now.line.items ++ c.args.block.now) z
     (g.W.Write.contents c.args.out.now) (g.W.Write.contents c.loop-end.out) c.args.self.now.answers.status c.loop-end.self.answers.status)
     (sym c.in_ok-extend_from_slice.ensures.items) c.loop-end.invariant.told
 

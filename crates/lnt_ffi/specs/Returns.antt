@@ -64,13 +64,13 @@ pub record IsTableOfFlat (section : FlatSection) (version : Version) (bytes : Li
 -- ---- each call
 
 -- The verdict is yes, and this is so of the count and the room; or the section is refused, nothing is counted, and the room is as it was.
-abbrev pub IsTold : {A : Type 0} → FlatSection → (ℕ → List A → List A → Type 0) → ℕ → List A → List A → FlatVerdict → Type 0
-IsTold section IsGiven count old new told =
+abbrev pub ReturnsIfGood : {A : Type 0} → FlatSection → (ℕ → List A → List A → Type 0) → ℕ → List A → List A → FlatVerdict → Type 0
+ReturnsIfGood section IsGiven count old new told =
     (IsGiven count old new × (told ≡ yes)) ⊎ (IsRefused section told × (count ≡ 0) × (new ≡ old))
 
 -- What a room holds that is too short for the spans isn't said.
-abbrev pub IsToldOfSpans : FlatSection → ℕ → List FlatSpan → List FlatSpan → FlatVerdict → Type 0
-IsToldOfSpans section = IsTold section (λ count old new. (spans : List Span) × AreSpansOf section spans × (count ≡ length spans)
+abbrev pub ReturnsSpans : FlatSection → ℕ → List FlatSpan → List FlatSpan → FlatVerdict → Type 0
+ReturnsSpans section = ReturnsIfGood section (λ count old new. (spans : List Span) × AreSpansOf section spans × (count ≡ length spans)
     × (count ≤ length old → map span_of (take count new) ≡ spans) × (drop count new ≡ drop count old))
 
 -- what is so of the section and the bytes of a table of any version, at the positions of the scope
@@ -78,24 +78,24 @@ abbrev pub IsFound : Scope → FlatSection → List ℕ → CheckedWithin → Ty
 IsFound scope section text found =
     IsTrueWithin scope section.line_str.now section.general.now (options_of section) section.line.now text found
 
-pub data IsToldOfTable (section : FlatSection) (text : List ℕ) (told : FlatVerdict) : Type 0 where
-  judged : (found : CheckedWithin) → IsFound All section text found → told ≡ verdict_of_check found → IsToldOfTable section text told
-  stopped : told ≡ memory → IsToldOfTable section text told
+pub data ReturnsVerdict (section : FlatSection) (text : List ℕ) (told : FlatVerdict) : Type 0 where
+  judged : (found : CheckedWithin) → IsFound All section text found → told ≡ verdict_of_check found → ReturnsVerdict section text told
+  stopped : told ≡ memory → ReturnsVerdict section text told
 
 -- the same in a scope, with the paths of a difference by path in two rooms
-pub data IsToldOfPaths (scope : Scope) (section : FlatSection) (text old_table new_table old_section new_section : List ℕ)
+pub data ReturnsVerdictByPath (scope : Scope) (section : FlatSection) (text old_table new_table old_section new_section : List ℕ)
     (told : FlatVerdict) : Type 0 where
   judged : (found : CheckedWithin) → IsFound scope section text found → told ≡ verdict_of_check found
       → new_table ≡ with_prefix (paths_in found).0 old_table → new_section ≡ with_prefix (paths_in found).1 old_section
-      → IsToldOfPaths scope section text old_table new_table old_section new_section told
+      → ReturnsVerdictByPath scope section text old_table new_table old_section new_section told
   stopped : told ≡ memory → new_table ≡ old_table → new_section ≡ old_section
-      → IsToldOfPaths scope section text old_table new_table old_section new_section told
+      → ReturnsVerdictByPath scope section text old_table new_table old_section new_section told
 
 abbrev pub version_of : Bool → Version
 version_of is_wide = if is_wide then Two else One
 
-abbrev pub IsToldOfWriting : FlatSection → Bool → ℕ → List ℕ → List ℕ → FlatVerdict → Type 0
-IsToldOfWriting section is_wide = IsTold section (λ count old new. (bytes : List ℕ) × IsTableOfFlat section (version_of is_wide) bytes
+abbrev pub ReturnsTable : FlatSection → Bool → ℕ → List ℕ → List ℕ → FlatVerdict → Type 0
+ReturnsTable section is_wide = ReturnsIfGood section (λ count old new. (bytes : List ℕ) × IsTableOfFlat section (version_of is_wide) bytes
     × (count ≡ length bytes) × (new ≡ with_prefix bytes old))
 
 -- ---- units and paths
@@ -104,16 +104,16 @@ IsToldOfWriting section is_wide = IsTold section (λ count old new. (bytes : Lis
 abbrev pub unit_in : Indexed → ℕ → FlatUnit
 unit_in index offset = record { offset = offset; files = file_count_in index offset }
 
-abbrev pub IsToldOfUnits : FlatSection → ℕ → List FlatUnit → List FlatUnit → FlatVerdict → Type 0
-IsToldOfUnits section = IsTold section (λ count old new. (index : Indexed) × IsIndexOfFlat section index
+abbrev pub ReturnsUnits : FlatSection → ℕ → List FlatUnit → List FlatUnit → FlatVerdict → Type 0
+ReturnsUnits section = ReturnsIfGood section (λ count old new. (index : Indexed) × IsIndexOfFlat section index
     × (count ≡ length index.units) × (new ≡ with_prefix (map (unit_in index) index.units) old))
 
-pub data IsToldOfPath (section : FlatSection) (unit file : ℕ) (is_there : Bool) (count : ℕ) (old new : List ℕ) (told : FlatVerdict) : Type
+pub data ReturnsPath (section : FlatSection) (unit file : ℕ) (is_there : Bool) (count : ℕ) (old new : List ℕ) (told : FlatVerdict) : Type
     0 where
   found : (index : Indexed) → IsIndexOfFlat section index → (path : List ℕ) → file_path_in index unit file ≡ Some path
       → is_there ≡ true → count ≡ length path → new ≡ with_prefix path old → told ≡ yes
-      → IsToldOfPath section unit file is_there count old new told
+      → ReturnsPath section unit file is_there count old new told
   nowhere : (index : Indexed) → IsIndexOfFlat section index → file_path_in index unit file ≡ None
-      → is_there ≡ false → count ≡ 0 → new ≡ old → told ≡ yes → IsToldOfPath section unit file is_there count old new told
+      → is_there ≡ false → count ≡ 0 → new ≡ old → told ≡ yes → ReturnsPath section unit file is_there count old new told
   refused : IsRefused section told → is_there ≡ false → count ≡ 0 → new ≡ old
-      → IsToldOfPath section unit file is_there count old new told
+      → ReturnsPath section unit file is_there count old new told
