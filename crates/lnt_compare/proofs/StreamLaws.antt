@@ -1,6 +1,6 @@
 -- A table of which some lines were passed, and the rest was read after its header.
-use Rattle.std.proofs.Common.{◌≡◌, ◌≢◌, ◌∙◌, ℕ, List, [], ◌∷◌, ◌++◌, Option, Some, None, IfSome, append_assoc, length}
-use Rattle.std.proofs.Common.{ap, subst, sym, arith}
+use Rattle.std.proofs.Common.{◌≡◌, ◌≢◌, ◌∙◌, ℕ, List, [], ◌∷◌, ◌++◌, Option, Some, None, IfSome, append_assoc}
+use Rattle.std.proofs.Common.{ap, refl, subst, sym, arith}
 use Rattle.std.specs.List.{AllZip}
 use Rattle.lnt_spans.specs.declared.answer.Version.{Version}
 use Rattle.lnt_spans.specs.declared.difference.Difference.{Difference}
@@ -10,10 +10,9 @@ use Rattle.lnt_compare.specs.Comparisons.{TableKind}
 use Rattle.lnt_compare.specs.Outcomes.{IsOutcome, IsOutcomeOf, Outcome}
 use Rattle.lnt_compare.specs.declared.outcome.TableRead.TheVariants.{Fault}
 use Rattle.lnt_records.specs.declared.fault.TableFault.TheVariants as fault
-use Rattle.lnt_compare.specs.Joining.{LeaveOff}
-use Rattle.lnt_compare.specs.Passing.{AreLinesOf, Ends, HasTakenLines, Passes}
+use Rattle.lnt_compare.specs.Passing.{Ends, Passes}
 use Rattle.lnt_records.specs.Progress.{IsCutAfter}
-use Rattle.lnt_compare.specs.Progress.{HasCompared, IsPast, Judges, Comparison}
+use Rattle.lnt_compare.specs.Progress.{HasComparedLines, Judges}
 use Rattle.lnt_records.specs.Faults.{IsFaultIn}
 use Rattle.lnt_records.specs.Reading.{IsNarrow}
 use Rattle.lnt_records.specs.Table.{BeginsWith, Fields, TableFormat, column_names}
@@ -22,8 +21,9 @@ use Rattle.lnt_compare.proofs.ComparisonLemmas.{outcome_told, passed_more, passe
 use Rattle.lnt_compare.proofs.KindLaws.{ToldLaws}
 use Rattle.lnt_records.proofs.TableLaws.{FormatLaws}
 use Rattle.lnt_spans.specs.Merged.{answer_told}
+use Rattle.lnt_spans.specs.Spans.{AreInOrder}
 use Rattle.lnt_records.proofs.LineLaws.{LineLaws, all_back, cut_lines, header_begins}
-use Rattle.lnt_compare.proofs.WindowLaws.{passes_both, passes_line}
+use Rattle.lnt_compare.proofs.WindowLaws.{passes_line}
 use Rattle.lnt_spans.specs.declared.answer.Answer.{Answer}
 use Rattle.lnt_spans.specs.declared.listed.SpanList.{SpanList}
 use Rattle.lnt_compare.specs.declared.remaining.Remaining.{Remaining}
@@ -74,35 +74,36 @@ whole_cut format plain laws version (Some x) (Some y) la ld names w0 w1 text all
     subst P (ap (λ (t : List ℕ). plain.line (plain.names version) ++ t) inner)
     (h _ (rest_cut format plain laws version (Some y) ld names w1 all spans records e ends each))
 
+-- The rest of a table is a header, then bytes. What holds of every text that begins with the header holds of the rest.
+pub rest_so : (P : List ℕ → Type 0) (d : Option (List ℕ)) (ld : ℕ) (line window all : List ℕ) → Ends d ld (line ++ window) all
+    → ((rest : List ℕ) → P (line ++ rest)) → P all
+rest_so P d ld line window all ends h = subst P (sym (ends.joined ∙ append_assoc line window ends.given)) (h (window ++ ends.given))
+
 -- The outcome for the rest of a table is the outcome for the whole table. Lines were compared with spans as these came, and then others
 -- were parsed.
-pub rest_compared : {S D M V X Y : Type 0} (to_come : S → List Span → Type 0) (kind : TableKind V X Y D) (plain : LineFormat V X)
-    (end : List X → Position) → LineLaws kind.format plain → FormatLaws kind.format → (tell : Answer → Y) (told : Span → X)
-    → ToldLaws kind end tell told → (version : V) (spans : S) (start now : Comparison S D M) (list table : List Span)
-    (a b d : Option (List ℕ)) (la lb ld : ℕ) (names w0 w1 w2 one two all : List ℕ) (count next : ℕ) (at : Position)
-    (answers : V → Position → Option Y) (outcome : Outcome D) → names ≡ plain.line (plain.names version) → Passes a b la lb w0 w1 one
-    → AreLinesOf kind.format plain told version one table count at → LeaveOff tell (to_come spans) list table
-    → IsPast to_come spans start at → Passes b d lb ld w1 w2 two
-    → HasTakenLines kind.format plain version (Judges to_come kind end tell version) start now two count next
-    → Ends d ld (names ++ w2) all → ((p : Position) → answer_told tell list p ≡ answers version p)
-    → ((first : Fields) (list : List Span) (passed : List Fields) (bytes : List ℕ) → IsNarrow first → BeginsWith all (first ∷ [])
-    → IsCutAfter first all bytes passed → Judges to_come kind end tell version now list passed → next ≡ length passed
-    → HasCompared to_come tell kind.stretch (Judges {M = M} to_come kind end tell version) (IsFaultIn kind.format) list passed bytes outcome)
-    → IfSome a (λ more. IsOutcomeOf kind answers (plain.line (plain.names version) ++ (w0 ++ more)) outcome)
-rest_compared {M = M} to_come kind plain end laws format tell told told_laws version spans start now list table a b d la lb ld names w0 w1 w2
-    one two all count next at answers outcome e p lines off past q taken ends same compare =
-    let first = passed_past to_come kind plain end tell told told_laws version spans start list table one count at past lines off in
-    let h = passed_more to_come kind plain end tell version start now list one two count next first taken in
+pub rest_compared : {S R D M V X Y : Type 0} (coming : S → List Span → Type 0) (to_come : R → List Span → Type 0)
+    (kind : TableKind V X Y D) (plain : LineFormat V X) (end : List X → Position) → LineLaws kind.format plain → FormatLaws kind.format
+    → (tell : Answer → Y) (told : Span → X) → ToldLaws kind end tell told → (version : V) (section : S) (list : List Span)
+    (source : Option (List ℕ)) (may_give : ℕ) (window : List ℕ) (answers : V → Position → Option Y) (outcome : Outcome D)
+    → HasComparedLines {M = M} coming to_come kind.format plain tell told kind.stretch version (Judges to_come kind end tell version)
+    (IsFaultIn kind.format) section source may_give window outcome → coming section list → AreInOrder list
+    → ((p : Position) → answer_told tell list p ≡ answers version p)
+    → IfSome source (λ more. IsOutcomeOf kind answers (plain.line (plain.names version) ++ (window ++ more)) outcome)
+rest_compared {M = M} coming to_come kind plain end laws format tell told told_laws version section list source may_give window answers
+    outcome c come order same =
+    let first = passed_past to_come kind plain end tell told told_laws version c.spans c.old list c.table c.compared c.count c.end c.past
+    c.lines (c.left list come order) in
+    let h = passed_more to_come kind plain end tell version c.old c.new list c.compared c.parsed c.count c.next first c.taken in
     let passed : List Fields = plain.names version ∷ h.records in
     let narrow = subst IsNarrow (sym (laws.names version)) (format.narrow version) in
-    let header = rest_begins kind.format plain laws version d ld names w2 all e ends in
-    let judged = subst (λ (names : Fields). Judges to_come kind end tell version now h.list (names ∷ h.records))
+    let header = rest_begins kind.format plain laws version c.source_after c.may_still _ c.window_after c.all refl c.ends in
+    let judged = subst (λ (names : Fields). Judges to_come kind end tell version c.new h.list (names ∷ h.records))
     (sym (laws.names version)) h.judged in
-    whole_cut kind.format plain laws version a d la ld names w0 w2 (one ++ two) all h.judged.table h.records
-    (λ (bytes : List ℕ). IsOutcomeOf kind answers bytes outcome) e (passes_both a b d la lb ld w0 w1 w2 one two p q) ends h.text_is
+    whole_cut kind.format plain laws version source c.source_after may_give c.may_still _ window c.window_after (c.compared ++ c.parsed)
+    c.all h.judged.table h.records (λ (bytes : List ℕ). IsOutcomeOf kind answers bytes outcome) refl c.passes c.ends h.text_is
     h.judged.is_table.1.each
     (λ bytes cut. outcome_told M to_come kind end tell version h.list passed bytes answers outcome (λ p. h.alike p ∙ same p)
-    (compare (plain.names version) h.list passed bytes narrow header cut judged (omega (arith, h.count))))
+    (c.found (plain.names version) h.list passed bytes narrow header cut judged (omega (arith, h.count))))
 
 -- what holds of all bytes, of which the first were taken
 pub first_taken : (a b : Option (List ℕ)) (la lb : ℕ) (window text : List ℕ) (P : List ℕ → Type 0) → Passes a b la lb [] window text

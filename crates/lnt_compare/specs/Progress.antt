@@ -1,7 +1,7 @@
 -- How far a table was read and compared, by number or by path. `tell` gives what a table contains of an answer, and `end` where spans of
 -- a table end. No public contract speaks of it.
 use Rattle.lnt_spans.specs.SpanKinds.{answer_held}
-use Rattle.std.specs.Prelude.{◌≡◌, ℕ, ◌+◌, List, ◌∷◌, ◌++◌, None, Option, Vec, length, option_map}
+use Rattle.std.specs.Prelude.{◌≡◌, ℕ, ◌+◌, List, [], ◌∷◌, ◌++◌, None, Option, Vec, length, option_map}
 use Rattle.std.specs.Global.{Global}
 use Rattle.lnt_spans.specs.declared.answer.Answer.{Answer}
 use Rattle.lnt_spans.specs.declared.answer.Version.{Version}
@@ -19,10 +19,14 @@ use Rattle.lnt_compare.specs.declared.gather.Gathering.{Gathering}
 use Rattle.lnt_compare.specs.declared.outcome.TableRead.{TableRead}
 use Rattle.lnt_compare.specs.declared.outcome.TableRead.TheVariants as read
 use Rattle.lnt_compare.specs.Comparisons.{TableKind}
+use Rattle.lnt_compare.specs.Joining.{LeaveOff}
 use Rattle.lnt_compare.specs.Outcomes.{Outcome}
+use Rattle.lnt_compare.specs.Passing.{AreLinesOf, Ends, HasTakenLines, Passes}
 use Rattle.lnt_records.specs.declared.fault.TableFault.{TableFault}
 use Rattle.lnt_records.specs.Faults.{IsFault}
-use Rattle.lnt_records.specs.Table.{Fields, IsTable, IsTableIn, IsTableOf, RecordsOf}
+use Rattle.lnt_records.specs.Progress.{IsCutAfter}
+use Rattle.lnt_records.specs.Reading.{IsNarrow}
+use Rattle.lnt_records.specs.Table.{BeginsWith, Fields, IsTable, IsTableIn, IsTableOf, RecordsOf, TableFormat}
 use Rattle.lnt_records.specs.Written.{LineFormat, lines_of}
 
 -- The spans of the two lists answer alike at every position, as a table contains it.
@@ -91,6 +95,37 @@ abbrev pub HasCompared : {S D M Y : Type 0} → (S → List Span → Type 0) →
 HasCompared to_come tell value_of judges is_fault list passed bytes (read.Fault told) = is_fault bytes told
 HasCompared to_come tell value_of judges is_fault list passed bytes (read.Table found) =
     HasFound to_come tell value_of judges list passed bytes found
+
+-- ---- a table that is compared as it comes
+
+-- The first lines of a table were compared with spans as these came, and the lines after them were parsed. The other records were read
+-- from `all`: the header, then the bytes after these lines. This was found. Before, the source had `source`, and the window `window`.
+pub record HasComparedLines {S R D M V X Y : Type 0} (coming : S → List Span → Type 0) (to_come : R → List Span → Type 0)
+    (format : TableFormat V X) (plain : LineFormat V X) (tell : Answer → Y) (told : Span → X) (value_of : D → Stretch Y) (version : V)
+    (judges : Comparison R D M → List Span → List Fields → Type 0) (is_fault : List ℕ → TableFault → Type 0) (section : S)
+    (source : Option (List ℕ)) (may_give : ℕ) (window : List ℕ) (outcome : Outcome D) : Type 0 where
+  pub table : List Span
+  pub compared : List ℕ
+  pub count : ℕ
+  pub end : Position
+  pub lines : AreLinesOf format plain told version compared table count end
+  pub spans : R
+  pub left : (list : List Span) → coming section list → AreInOrder list → LeaveOff tell (to_come spans) list table
+  pub old : Comparison R D M
+  pub past : IsPast to_come spans old end
+  pub new : Comparison R D M
+  pub parsed : List ℕ
+  pub next : ℕ
+  pub taken : HasTakenLines format plain version judges old new parsed count next
+  pub source_after : Option (List ℕ)
+  pub may_still : ℕ
+  pub window_after : List ℕ
+  pub passes : Passes source source_after may_give may_still window window_after (compared ++ parsed)
+  pub all : List ℕ
+  pub ends : Ends source_after may_still (plain.line (plain.names version) ++ window_after) all
+  pub found : (first : Fields) (list : List Span) (passed : List Fields) (bytes : List ℕ) → IsNarrow first → BeginsWith all (first ∷ [])
+      → IsCutAfter first all bytes passed → judges new list passed → next ≡ length passed
+      → HasCompared to_come tell value_of judges is_fault list passed bytes outcome
 
 -- ---- spans of a table by number that are gathered
 

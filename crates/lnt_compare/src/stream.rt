@@ -1,20 +1,24 @@
 //! Compares a table with the spans of a section, both as they come.
-ghost use Rattle.std.specs.Prelude.{◌-◌, ◌^◌, ◌<◌, ◌++◌, List, IfOk, IfSome};
+ghost use Rattle.std.specs.Prelude.{◌-◌, ◌^◌, ◌<◌, ◌++◌, ◌∷◌, [], ℕ, List, IfOk, IfSome};
 ghost use Rattle.lnt_spans.specs.declared.span.Span.{Span};
 ghost use Rattle.lnt_spans.specs.Spans.{AreInOrder};
 ghost use Rattle.lnt_compare.specs.Outcomes.{IsOutcome};
-ghost use Rattle.lnt_records.specs.Table.{column_names};
+ghost use Rattle.lnt_compare.specs.Progress.{HasComparedLines};
+ghost use Rattle.lnt_compare.specs.declared.comparison.Comparison.{Comparison};
+ghost use Rattle.lnt_compare.specs.declared.remaining.Remaining.{Remaining};
+ghost use Rattle.lnt_records.specs.Reading.{IsNarrow};
+ghost use Rattle.lnt_records.specs.Table.{BeginsWith, Fields, column_names};
 ghost use Rattle.lnt_records.specs.Written.{line_text};
 ghost use Rattle.lnt_io.specs.Stopping.{CountsFailure, IsTooLongOn};
 
 use crate::comparison::{Comparison, compare_after};
-use crate::lines::push_lines;
+use crate::lines::{TakesLines, push_lines};
 use crate::outcome::Outcome;
 use crate::passing::pass_spans;
+use crate::remaining::Remaining;
 use crate::window::Window;
 use lnt_io::{Source, Stop};
-use lnt_records::TableVersion;
-use lnt_spans::{Difference, SpanSource, Version};
+use lnt_spans::{Difference, SpanSource, Telling, Version};
 use std::alloc::Global;
 
 /// Compares a table by number of this version with the spans of a section, both as they come. The header, a line of its own, was
@@ -35,7 +39,7 @@ use std::alloc::Global;
 pub fn compare_lines<S: SpanSource + Drop, T: Source>(
     alloc: Global,
     table: &mut T,
-    mut window: Window,
+    window: Window,
     version: Version,
     spans: S,
 ) -> Result<Outcome<Difference>, Stop>
@@ -45,24 +49,48 @@ pub fn compare_lines<S: SpanSource + Drop, T: Source>(
     ensures failures { CountsFailure ⟦<T as Source>⟧ table.old table.new result Stop.Read }
     ensures too_long { IsTooLongOn ⟦<T as Source>⟧ table.old table.new result Stop.TooLong }
 {
-    let passed = pass_spans::<S, Version, T, Outcome<Difference>>(
+    compare_coming(alloc, table, window, &version, (), spans)
+}
+
+// Compares a table with the spans of a section, both as they come, by number or by path. `memory` is what is remembered of answers at
+// first. The caller makes sure that it is sound, that a comparison with a sound memory is right, and that the first record of each text
+// that begins with the header has no more fields than any table.
+#[inline(always)]
+pub(crate) fn compare_coming<
+    S: SpanSource + Drop,
+    L: TakesLines<Comparison<Remaining<S>, <L as Telling>::Difference, <L as Telling>::Memory>>,
+    T: Source,
+>(
+    alloc: Global,
+    table: &mut T,
+    mut window: Window,
+    telling: &L,
+    mut memory: L::Memory,
+    spans: S,
+) -> Result<Outcome<L::Difference>, Stop>
+    requires failures { T.failures table.old < 2 ^ 64 - 1 }
+    requires sound { L.is_sound telling.now memory }
+    requires right { (state : Comparison (Remaining S) L.Difference L.Memory) → L.is_sound telling.now state.memory
+        → L.is_right telling.now state }
+    requires first { (rest : List ℕ) → (first : Fields) × IsNarrow first
+        × BeginsWith (L.plain.line (L.plain.names (L.version telling.now)) ++ rest) (first ∷ []) }
+    ensures ok { IfOk result (λ outcome. HasComparedLines S.to_come ⟦<Remaining<S> as SpanSource>⟧.to_come L.format L.plain
+        (L.tell telling.now) (L.told telling.now) L.value_of (L.version telling.now) (L.judges telling.now) (L.is_fault telling.now)
+        spans (T.remaining table.old) (T.left table.old) window outcome) }
+    ensures failures { CountsFailure ⟦<T as Source>⟧ table.old table.new result Stop.Read }
+    ensures too_long { IsTooLongOn ⟦<T as Source>⟧ table.old table.new result Stop.TooLong }
+{
+    let passed = pass_spans::<S, L, T, Outcome<L::Difference>>(
         alloc,
         spans,
-        &version,
-        &mut (),
+        telling,
+        &mut memory,
         table,
         &mut window,
     )?;
-    let mut comparison = Comparison::past((), passed.spans, passed.end);
-    let next = push_lines(
-        alloc,
-        &version,
-        &mut comparison,
-        passed.count,
-        table,
-        &mut window,
-    )?;
-    let text = window.rest_after(alloc, version.header_line(), table)?;
-    let outcome = compare_after(alloc, &text, &version, comparison, next)?;
+    let mut state = Comparison::past(memory, passed.spans, passed.end);
+    let next = push_lines(alloc, telling, &mut state, passed.count, table, &mut window)?;
+    let text = window.rest_after(alloc, telling.header(), table)?;
+    let outcome = compare_after(alloc, &text, telling, state, next)?;
     Ok(outcome)
 }

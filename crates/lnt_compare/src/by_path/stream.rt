@@ -10,13 +10,11 @@ ghost use Rattle.lnt_io.specs.Stopping.{CountsFailure, IsTooLongOn};
 
 use crate::by_path::answer::DifferenceByPath;
 use crate::by_path::telling::{PathMemory, PathTelling};
-use crate::comparison::{Comparison, compare_after};
-use crate::lines::push_lines;
 use crate::outcome::Outcome;
-use crate::passing::pass_spans;
+use crate::stream::compare_coming;
 use crate::window::Window;
 use lnt_io::{Source, Stop};
-use lnt_records::{PathVersion, Paths, TableVersion};
+use lnt_records::{PathVersion, Paths};
 use lnt_spans::SpanSource;
 use std::alloc::Global;
 use std::marker::PhantomData;
@@ -31,7 +29,7 @@ use std::marker::PhantomData;
 pub fn compare_lines_by_path<S: SpanSource + Drop, P: Paths, T: Source>(
     alloc: Global,
     table: &mut T,
-    mut window: Window,
+    window: Window,
     version: PathVersion,
     spans: S,
     paths: &P,
@@ -49,25 +47,6 @@ pub fn compare_lines_by_path<S: SpanSource + Drop, P: Paths, T: Source>(
         version,
         held: PhantomData,
     };
-    let mut memory = PathMemory::new(alloc)?;
-    let passed = pass_spans::<S, PathTelling<'_, '_, P>, T, Outcome<DifferenceByPath>>(
-        alloc,
-        spans,
-        &telling,
-        &mut memory,
-        table,
-        &mut window,
-    )?;
-    let mut comparison = Comparison::past(memory, passed.spans, passed.end);
-    let next = push_lines(
-        alloc,
-        &telling,
-        &mut comparison,
-        passed.count,
-        table,
-        &mut window,
-    )?;
-    let text = window.rest_after(alloc, version.header_line(), table)?;
-    let outcome = compare_after(alloc, &text, &telling, comparison, next)?;
-    Ok(outcome)
+    let memory = PathMemory::new(alloc)?;
+    compare_coming(alloc, table, window, &telling, memory, spans)
 }
