@@ -1,5 +1,5 @@
 -- What a comparison knows after one more record, after lines that were passed, and in the end, by number or by path.
-use Rattle.lnt_spans.specs.SpanKinds.{SpanKind, answer_held}
+use Rattle.lnt_spans.specs.SpanKinds.{SpanKind, answer_held, last_end}
 use Rattle.std.proofs.Common.{◌≡◌, ◌∙◌, ℕ, ◌+◌, List, [], ◌∷◌, ◌++◌, inl, inr, length, length-append, map, None, Option, refl, subst, ap}
 use Rattle.std.proofs.Common.{append-nil, append_assoc, sym, arith, option_map}
 use Rattle.std.specs.List.{AllZip}
@@ -9,7 +9,7 @@ use Rattle.lnt_spans.specs.declared.span.Span.{Span}
 use Rattle.lnt_spans.specs.Spans.{end_of, AreInOrder, span_answer, number_spans}
 use Rattle.lnt_spans.specs.Merged.{BeginFrom, HasMerged, HasOneMore, answer_told, end_of_records}
 use Rattle.lnt_spans.specs.Positions.{IsAtMost, IsBelow}
-use Rattle.lnt_spans.proofs.AnsweringLaws.{back_in_order, prefix_in_order, answer_after, answer_before, answer_in, answer_same}
+use Rattle.lnt_spans.proofs.AnsweringLaws.{back_in_order, end_pushed, prefix_in_order, answer_after, answer_before, answer_in, answer_same}
 use Rattle.lnt_spans.proofs.FoundLaws.{found_so}
 use Rattle.lnt_spans.proofs.MergedLemmas.{merged_past}
 use Rattle.lnt_spans.proofs.PassedLaws.{answer_below, answer_from, begin_after}
@@ -67,24 +67,24 @@ one_more spans at table span h ended = record {
       (ended p (at_most_trans h.past (at_most_trans (below_is_at_most h.holds) k))) ∙ answer_after spans span [] p k;
 }
 
-pub table_more : {V X Y D : Type 0} (kind : TableKind V X Y D) (end : List X → Position) (laws : KindLaws kind end) (version : V)
+pub table_more : {V X Y D : Type 0} (kind : TableKind V X Y D) (laws : KindLaws kind) (version : V)
     (records : List Fields) (table : List X) (fields : Fields) (span : X) → IsTableIn kind.format version records table
-    → kind.format.Says version fields span → Comes (end table) (kind.spans.low span) (kind.spans.high span)
+    → kind.format.Says version fields span → Comes (last_end kind.spans table) (kind.spans.low span) (kind.spans.high span)
     → IsTableIn kind.format version (records ++ fields ∷ []) (table ++ span ∷ [])
-table_more kind end laws version records table fields span t says comes =
+table_more kind laws version records table fields span t says comes =
     table_push kind.format version records table fields span t says
     (laws.push table span (table_order kind.format version records table t) comes)
 
-pub record_taken : {S D M V X Y : Type 0} (to_come : S → List Span → Type 0) (kind : TableKind V X Y D) (end : List X → Position)
-    (laws : KindLaws kind end) (tell : Answer → Y) (version : V) (old new : Comparison S D M) (section : List Span) (records : List Fields)
-    (fields : Fields) (span : X) → Judges to_come kind end tell version old section records → kind.format.Says version fields span
+pub record_taken : {S D M V X Y : Type 0} (to_come : S → List Span → Type 0) (kind : TableKind V X Y D) (laws : KindLaws kind)
+    (tell : Answer → Y) (version : V) (old new : Comparison S D M) (section : List Span) (records : List Fields)
+    (fields : Fields) (span : X) → Judges to_come kind tell version old section records → kind.format.Says version fields span
     → HasPushed to_come tell kind.stretch old new (kind.spans.low span) (kind.spans.high span) (kind.spans.answer span)
-    → Judges to_come kind end tell version new section (records ++ fields ∷ [])
-record_taken to_come kind end laws tell version old new section records fields span j says push = record {
+    → Judges to_come kind tell version new section (records ++ fields ∷ [])
+record_taken to_come kind laws tell version old new section records fields span j says push = record {
   table = j.table ++ span ∷ [];
-  is_table = table_more kind end laws version records j.table fields span j.is_table says
+  is_table = table_more kind laws version records j.table fields span j.is_table says
       (subst (λ (p : Position). Comes p (kind.spans.low span) (kind.spans.high span)) j.at push.comes);
-  at = push.at ∙ sym (laws.ends j.table span);
+  at = push.at ∙ sym (end_pushed kind.spans j.table span);
   merged = push.merged section (answer_held kind.spans j.table) (answer_held kind.spans (j.table ++ span ∷ [])) j.merged
       (one_more kind.spans (end_of_records old.merge) j.table span push.comes j.merged.ended);
 }
@@ -96,21 +96,22 @@ abbrev pub IsRefused : {V X : Type 0} → TableFormat V X → List Fields → Fi
 IsRefused format records fields told = (whole : Fields) (bytes : List ℕ) → IsReadAs fields whole → BeginsWith bytes (records ++ whole ∷ [])
     → IsFaultIn format bytes told
 
-pub record_refused : {V X Y D : Type 0} (kind : TableKind V X Y D) (end : List X → Position) → KindLaws kind end → (version : V)
+pub record_refused : {V X Y D : Type 0} (kind : TableKind V X Y D) → KindLaws kind → (version : V)
     (table : List X) (records : List Fields) (fields : Fields) (number : ℕ) (found : RecordFault) (told : TableFault)
     → IsTableIn kind.format version records table → number ≡ length records
     → IsRecordFault kind.format.columns (length (kind.format.names version)) fields found → told ≡ fault_at number found
     → IsRefused kind.format records fields told
-record_refused kind end laws version table records fields number found told t is h e =
+record_refused kind laws version table records fields number found told t is h e =
     refused kind.format laws.format version records table fields told t
     (subst (λ (f : TableFault). IsFaultyIn kind.format version table (length records) fields f)
     (ap (λ (n : ℕ). fault_at n found) (sym is) ∙ sym e) (faulty_at kind.format version table (length records) fields found h))
 
-pub order_refused : {V X Y D : Type 0} (kind : TableKind V X Y D) (end : List X → Position) (laws : KindLaws kind end) (version : V)
+pub order_refused : {V X Y D : Type 0} (kind : TableKind V X Y D) (laws : KindLaws kind) (version : V)
     (at : Position) (table : List X) (records : List Fields) (fields : Fields) (span : X) (number : ℕ)
-    → IsTableIn kind.format version records table → number ≡ length records → at ≡ end table → kind.format.Says version fields span
-    → (Comes at (kind.spans.low span) (kind.spans.high span) → ⊥) → IsRefused kind.format records fields (fault.Order number)
-order_refused kind end laws version at table records fields span number t is ends says not =
+    → IsTableIn kind.format version records table → number ≡ length records → at ≡ last_end kind.spans table
+    → kind.format.Says version fields span → (Comes at (kind.spans.low span) (kind.spans.high span) → ⊥)
+    → IsRefused kind.format records fields (fault.Order number)
+order_refused kind laws version at table records fields span number t is ends says not =
     refused kind.format laws.format version records table fields (fault.Order number) t (
       is,
       span,
@@ -121,11 +122,11 @@ order_refused kind end laws version at table records fields span number t is end
 
 -- ---- after records with which both sides begin
 
-past_merged : {S D M V X Y : Type 0} (to_come : S → List Span → Type 0) (kind : TableKind V X Y D) (end : List X → Position)
-    (tell : Answer → Y) (told : Span → X) → ToldLaws kind end tell told → (spans : S) (comparison : Comparison S D M) (at : Position)
+past_merged : {S D M V X Y : Type 0} (to_come : S → List Span → Type 0) (kind : TableKind V X Y D) (tell : Answer → Y)
+    (told : Span → X) → ToldLaws kind tell told → (spans : S) (comparison : Comparison S D M) (at : Position)
     (passed list : List Span) → IsPast to_come spans comparison at → to_come spans list → AreInOrder (passed ++ list)
     → at ≡ end_of passed → HasMerged to_come tell kind.stretch comparison.merge (passed ++ list) (answer_held kind.spans (map told passed))
-past_merged to_come kind end tell told laws spans comparison at passed list past coming order ends =
+past_merged to_come kind tell told laws spans comparison at passed list past coming order ends =
     merged_past to_come tell kind.stretch comparison.merge (passed ++ list) (answer_held kind.spans (map told passed)) past.gap past.mistake
     past.missed
     (λ p h. laws.answers passed p ∙ ap (option_map tell) (none p (subst (λ (q : Position). IsAtMost q p) is h)))
@@ -141,38 +142,38 @@ past_merged to_come kind end tell told laws spans comparison at passed list past
     none p h = ap (λ (xs : List Span). span_answer xs p) (sym (append-nil passed))
         ∙ answer_from passed [] p (subst AreInOrder (sym (append-nil passed)) (prefix_in_order number_spans passed list order)) h
 
-pub judges_past : {S D M V X Y : Type 0} (to_come : S → List Span → Type 0) (kind : TableKind V X Y D) (end : List X → Position)
-    (tell : Answer → Y) (told : Span → X) → ToldLaws kind end tell told → (version : V) (spans : S) (comparison : Comparison S D M)
+pub judges_past : {S D M V X Y : Type 0} (to_come : S → List Span → Type 0) (kind : TableKind V X Y D) (tell : Answer → Y)
+    (told : Span → X) → ToldLaws kind tell told → (version : V) (spans : S) (comparison : Comparison S D M)
     (at : Position) (passed list : List Span) (records : List Fields) → IsPast to_come spans comparison at
     → to_come spans list → AreInOrder (passed ++ list) → at ≡ end_of passed → AllZip (kind.format.Says version) records (map told passed)
-    → Judges to_come kind end tell version comparison (passed ++ list) (kind.format.names version ∷ records)
-judges_past to_come kind end tell told laws version spans comparison at passed list records past coming order ends each = record {
+    → Judges to_come kind tell version comparison (passed ++ list) (kind.format.names version ∷ records)
+judges_past to_come kind tell told laws version spans comparison at passed list records past coming order ends each = record {
   table = map told passed;
   is_table = (refl, record { each = each; in_order = laws.order passed (prefix_in_order number_spans passed list order) });
   at = past.at_is ∙ ends ∙ sym (laws.ends passed);
-  merged = past_merged to_come kind end tell told laws spans comparison at passed list past coming order ends;
+  merged = past_merged to_come kind tell told laws spans comparison at passed list past coming order ends;
 }
 
 -- after the header alone
-pub judges_none : {S D M V X Y : Type 0} (to_come : S → List Span → Type 0) (kind : TableKind V X Y D) (end : List X → Position)
-    (tell : Answer → Y) (told : Span → X) → ToldLaws kind end tell told → (version : V) (spans : S) (comparison : Comparison S D M)
+pub judges_none : {S D M V X Y : Type 0} (to_come : S → List Span → Type 0) (kind : TableKind V X Y D) (tell : Answer → Y)
+    (told : Span → X) → ToldLaws kind tell told → (version : V) (spans : S) (comparison : Comparison S D M)
     (list : List Span) → IsPast to_come spans comparison (record { address = 0; op = 0 }) → to_come spans list → AreInOrder list
-    → Judges to_come kind end tell version comparison list (kind.format.names version ∷ [])
-judges_none to_come kind end tell told laws version spans comparison list past coming order =
-    judges_past to_come kind end tell told laws version spans comparison _ [] list [] past coming order refl tt
+    → Judges to_come kind tell version comparison list (kind.format.names version ∷ [])
+judges_none to_come kind tell told laws version spans comparison list past coming order =
+    judges_past to_come kind tell told laws version spans comparison _ [] list [] past coming order refl tt
 
 pub passed_past : {S D M V X Y : Type 0} (to_come : S → List Span → Type 0) (kind : TableKind V X Y D) (plain : LineFormat V X)
-    (end : List X → Position) (tell : Answer → Y) (told : Span → X) → ToldLaws kind end tell told → (version : V) (spans : S)
+    (tell : Answer → Y) (told : Span → X) → ToldLaws kind tell told → (version : V) (spans : S)
     (comparison : Comparison S D M) (list table : List Span) (text : List ℕ) (count : ℕ) (at : Position)
     → IsPast to_come spans comparison at → AreLinesOf kind.format plain told version text table count at
-    → LeaveOff tell (to_come spans) list table → HasPassed to_come kind plain end tell version comparison list text count
-passed_past to_come kind plain end tell told laws version spans comparison list table text count at past lines off = record {
+    → LeaveOff tell (to_come spans) list table → HasPassed to_come kind plain tell version comparison list text count
+passed_past to_come kind plain tell told laws version spans comparison list table text count at past lines off = record {
   records = lines.lines.records;
   count = lines.lines.count_is;
   text_is = lines.lines.text_is;
   list = table ++ off.rest;
   alike = off.same;
-  judged = judges_past to_come kind end tell told laws version spans comparison at table off.rest lines.lines.records past off.left
+  judged = judges_past to_come kind tell told laws version spans comparison at table off.rest lines.lines.records past off.left
       off.order lines.end_is lines.lines.each;
 }
 
@@ -211,11 +212,11 @@ lines_taken format plain version judges first old new text bytes rest before nex
 }
 
 pub passed_more : {S D M V X Y : Type 0} (to_come : S → List Span → Type 0) (kind : TableKind V X Y D) (plain : LineFormat V X)
-    (end : List X → Position) (tell : Answer → Y) (version : V) (old new : Comparison S D M) (section : List Span) (text more : List ℕ)
-    (before after : ℕ) → HasPassed to_come kind plain end tell version old section text before
-    → HasTakenLines kind.format plain version (Judges to_come kind end tell version) old new more before after
-    → HasPassed to_come kind plain end tell version new section (text ++ more) after
-passed_more to_come kind plain end tell version old new section text more before after h taken = record {
+    (tell : Answer → Y) (version : V) (old new : Comparison S D M) (section : List Span) (text more : List ℕ)
+    (before after : ℕ) → HasPassed to_come kind plain tell version old section text before
+    → HasTakenLines kind.format plain version (Judges to_come kind tell version) old new more before after
+    → HasPassed to_come kind plain tell version new section (text ++ more) after
+passed_more to_come kind plain tell version old new section text more before after h taken = record {
   records = h.records ++ taken.lines.records;
   count = omega (arith, h.count, taken.number, taken.lines.count_is, length-append h.records taken.lines.records);
   text_is = ap (λ (t : List ℕ). t ++ more) h.text_is ∙ ap (λ (t : List ℕ). lines_of plain.line h.records ++ t) taken.lines.text_is
@@ -227,13 +228,13 @@ passed_more to_come kind plain end tell version old new section text more before
 
 -- ---- what is told
 
-pub outcome_told : {S D V X Y : Type 0} (M : Type 0) (to_come : S → List Span → Type 0) (kind : TableKind V X Y D) (end : List X → Position)
-    (tell : Answer → Y) (version : V) (list : List Span) (passed : List Fields) (bytes : List ℕ) (section : V → Position → Option Y)
+pub outcome_told : {S D V X Y : Type 0} (M : Type 0) (to_come : S → List Span → Type 0) (kind : TableKind V X Y D) (tell : Answer → Y)
+    (version : V) (list : List Span) (passed : List Fields) (bytes : List ℕ) (section : V → Position → Option Y)
     (outcome : Outcome D) → ((p : Position) → answer_told tell list p ≡ section version p)
-    → HasCompared {M = M} to_come tell kind.stretch (Judges to_come kind end tell version) (IsFaultIn kind.format) list passed bytes outcome
+    → HasCompared {M = M} to_come tell kind.stretch (Judges to_come kind tell version) (IsFaultIn kind.format) list passed bytes outcome
     → IsOutcomeOf kind section bytes outcome
-outcome_told M to_come kind end tell version list passed bytes section (Fault told) same h = h
-outcome_told M to_come kind end tell version list passed bytes section (Table found) same h = record {
+outcome_told M to_come kind tell version list passed bytes section (Fault told) same h = h
+outcome_told M to_come kind tell version list passed bytes section (Table found) same h = record {
   version = version;
   table = h.judged.table;
   is_table = (passed ++ h.more, h.all, h.judged.is_table);

@@ -49,7 +49,7 @@ gathers_more version old new before records fields span g says comes items at =
     append_assoc before old.spans.items (span ∷ []) ∙ ap (λ (t : List Span). before ++ t) (sym items) in
     record {
       is_table = subst (IsTable version (records ++ fields ∷ [])) same
-          (table_more tables_by_number end_of number_laws version records table fields span g.is_table says
+          (table_more tables_by_number number_laws version records table fields span g.is_table says
           (subst (λ (p : Position). Comes p span.low span.high) g.at comes));
       at = at ∙ sym (end_pushed number_spans table span) ∙ ap end_of same;
     }

@@ -50,7 +50,7 @@ record_held version records fields spans new said answer table says comes told p
     ap (map held_span) pushed ∙ map-append held_span spans (span ∷ [])
     ∙ ap (λ (s : PathSpan). map held_span spans ++ s ∷ []) same in
     subst (λ (t : List PathSpan). IsPathTable version (records ++ fields ∷ []) t) (sym items)
-    (table_more tables_by_path path_end path_laws version records (map held_span spans) fields (record_span said) table
+    (table_more tables_by_path path_laws version records (map held_span spans) fields (record_span said) table
     (says_span version fields said says) comes)
 
 -- ---- a whole table

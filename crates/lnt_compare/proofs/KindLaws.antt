@@ -1,5 +1,5 @@
 -- What the lemmas of comparisons need of a kind of tables.
-use Rattle.lnt_spans.specs.SpanKinds.{answer_held}
+use Rattle.lnt_spans.specs.SpanKinds.{SpanKind, answer_held, last_end}
 use Rattle.std.proofs.Common.{◌≡◌, List, [], ◌∷◌, ◌++◌, map, refl}
 use Rattle.lnt_spans.specs.declared.answer.Answer.{Answer}
 use Rattle.lnt_spans.specs.declared.answer.Version.{Version}
@@ -8,9 +8,9 @@ use Rattle.lnt_spans.specs.declared.span.Span.{Span}
 use Rattle.lnt_spans.specs.Answers.{in_version}
 use Rattle.lnt_spans.specs.Spans.{end_of, AreInOrder, span_in_version, number_spans}
 use Rattle.lnt_spans.specs.Merged.{answer_told}
-use Rattle.lnt_spans.proofs.AnsweringLaws.{end_pushed, order_push, order_pushed}
+use Rattle.lnt_spans.proofs.AnsweringLaws.{order_push, order_pushed}
 use Rattle.lnt_spans.proofs.ToldLaws.{told, told_answer, told_order}
-use Rattle.lnt_records.specs.PathSpans.{PathAnswer, path_end, path_spans}
+use Rattle.lnt_records.specs.PathSpans.{PathAnswer, path_spans}
 use Rattle.lnt_records.proofs.NumberLaws.{numbered}
 use Rattle.lnt_records.proofs.PathLaws.{pathed}
 use Rattle.lnt_records.proofs.TableLaws.{FormatLaws}
@@ -18,58 +18,58 @@ use Rattle.lnt_compare.specs.Comparisons.{TableKind, tables_by_number}
 use Rattle.lnt_compare.specs.Joining.{tell_span}
 use Rattle.lnt_compare.specs.Outcomes.{tables_by_path}
 use Rattle.lnt_compare.specs.Progress.{Comes}
-use Rattle.lnt_compare.proofs.JoiningLemmas.{by_paths, by_paths_answer, by_paths_order}
+use Rattle.lnt_compare.proofs.JoiningLemmas.{by_paths_answer, by_paths_order}
 
--- What its format needs, where a list ends, and when one more span keeps the order.
-pub record KindLaws {V X Y D : Type 0} (kind : TableKind V X Y D) (end : List X → Position) : Type 0 where
+-- What its format needs, and when one more span keeps the order.
+pub record KindLaws {V X Y D : Type 0} (kind : TableKind V X Y D) : Type 0 where
   pub format : FormatLaws kind.format
-  pub ends : (table : List X) (span : X) → end (table ++ span ∷ []) ≡ kind.spans.high span
-  pub push : (table : List X) (span : X) → kind.format.InOrder table → Comes (end table) (kind.spans.low span) (kind.spans.high span)
-      → kind.format.InOrder (table ++ span ∷ [])
+  pub push : (table : List X) (span : X) → kind.format.InOrder table
+      → Comes (last_end kind.spans table) (kind.spans.low span) (kind.spans.high span) → kind.format.InOrder (table ++ span ∷ [])
   pub pushed : (table : List X) (span : X) → kind.format.InOrder (table ++ span ∷ [])
-      → Comes (end table) (kind.spans.low span) (kind.spans.high span)
+      → Comes (last_end kind.spans table) (kind.spans.low span) (kind.spans.high span)
 
 -- What lines tell of spans of a section is told so.
-pub record ToldLaws {V X Y D : Type 0} (kind : TableKind V X Y D) (end : List X → Position) (tell : Answer → Y) (told : Span → X) : Type
-    0 where
+pub record ToldLaws {V X Y D : Type 0} (kind : TableKind V X Y D) (tell : Answer → Y) (told : Span → X) : Type 0 where
   pub order : (list : List Span) → AreInOrder list → kind.format.InOrder (map told list)
   pub answers : (list : List Span) (p : Position) → answer_held kind.spans (map told list) p ≡ answer_told tell list p
-  pub ends : (list : List Span) → end (map told list) ≡ end_of list
+  pub ends : (list : List Span) → last_end kind.spans (map told list) ≡ end_of list
+
+-- If each span is told with its own end, the list ends where it did.
+end_mapped : {X Y : Type 0} (spans : SpanKind X Y) (told : Span → X) → ((span : Span) → spans.high (told span) ≡ span.high)
+    → (list : List Span) → last_end spans (map told list) ≡ end_of list
+end_mapped spans told same [] = refl
+end_mapped spans told same (span ∷ []) = same span
+end_mapped spans told same (span ∷ next ∷ list) = end_mapped spans told same (next ∷ list)
 
 -- ---- by number
 
-abbrev pub number_laws : KindLaws tables_by_number end_of
+abbrev pub number_laws : KindLaws tables_by_number
 number_laws = record {
   format = numbered;
-  ends = end_pushed number_spans;
   push = λ table span order comes. order_push number_spans table span order comes.past comes.holds;
   pushed = λ table span order.
       let comes = order_pushed number_spans table span order in record { past = comes.0; holds = comes.1 };
 }
 
 pub end_told : (version : Version) (table : List Span) → end_of (told version table) ≡ end_of table
-end_told version [] = refl
-end_told version (span ∷ []) = refl
-end_told version (span ∷ next ∷ table) = end_told version (next ∷ table)
+end_told version table = end_mapped number_spans (span_in_version version) (λ span. refl) table
 
-pub number_told : (version : Version) → ToldLaws tables_by_number end_of (in_version version) (span_in_version version)
+pub number_told : (version : Version) → ToldLaws tables_by_number (in_version version) (span_in_version version)
 number_told version = record { order = told_order version; answers = told_answer version; ends = end_told version }
 
 -- ---- by path
 
-abbrev pub path_laws : KindLaws tables_by_path path_end
+abbrev pub path_laws : KindLaws tables_by_path
 path_laws = record {
   format = pathed;
-  ends = end_pushed path_spans;
   push = λ table span order comes. order_push path_spans table span order comes.past comes.holds;
   pushed = λ table span order.
       let comes = order_pushed path_spans table span order in record { past = comes.0; holds = comes.1 };
 }
 
-by_paths_end : (tell : Answer → PathAnswer) (list : List Span) → path_end (by_paths tell list) ≡ end_of list
-by_paths_end tell [] = refl
-by_paths_end tell (span ∷ []) = refl
-by_paths_end tell (span ∷ next ∷ list) = by_paths_end tell (next ∷ list)
-
-pub path_told : (tell : Answer → PathAnswer) → ToldLaws tables_by_path path_end tell (tell_span tell)
-path_told tell = record { order = by_paths_order tell; answers = by_paths_answer tell; ends = by_paths_end tell }
+pub path_told : (tell : Answer → PathAnswer) → ToldLaws tables_by_path tell (tell_span tell)
+path_told tell = record {
+  order = by_paths_order tell;
+  answers = by_paths_answer tell;
+  ends = end_mapped path_spans (tell_span tell) (λ span. refl);
+}

@@ -8,7 +8,7 @@ use Rattle.lnt_spans.specs.Spans.{IsOfInstructions, span_in_version}
 use Rattle.lnt_records.specs.declared.by_path.version.PathVersion.{PathVersion}
 use Rattle.lnt_records.specs.Lines.{IsTextLine}
 use Rattle.lnt_records.specs.declared.by_path.record.PathRecord.{PathRecord}
-use Rattle.lnt_records.specs.PathSpans.{PathAnswer, PathSpan, path_end, whole}
+use Rattle.lnt_records.specs.PathSpans.{PathAnswer, PathSpan, whole}
 use Rattle.lnt_records.specs.PathLines.{IsPathLine, IsSpanLine, plain_by_path}
 use Rattle.lnt_records.specs.PathTables.{by_path, record_answer, record_span}
 use Rattle.lnt_records.specs.Table.{Fields, by_number}
@@ -73,12 +73,12 @@ pub path_taken : {S M : Type 0} (to_come : S → List Span → Type 0) (tell : A
     (old new : Comparison S DifferenceByPath M) (said : PathRecord) (bytes rest : List ℕ) → IsPathLine version said bytes rest
     → HasPushed to_come tell stretch_of old new (whole said.low) (whole said.high) (record_answer said)
     → (span : PathSpan) × (line : IsLineIn by_path plain_by_path version span bytes rest)
-    × ((section : List Span) (passed : List Fields) → Judges to_come tables_by_path path_end tell version old section passed
-    → Judges to_come tables_by_path path_end tell version new section (passed ++ line.fields ∷ []))
+    × ((section : List Span) (passed : List Fields) → Judges to_come tables_by_path tell version old section passed
+    → Judges to_come tables_by_path tell version new section (passed ++ line.fields ∷ []))
 path_taken to_come tell version old new said bytes rest line push =
     let says = says_span version line.fields said line.says in (
       record_span said,
       record { fields = line.fields; joined = line.joined; some = row_some line.fields; says = says },
-      λ section passed j. record_taken to_come tables_by_path path_end path_laws tell version old new section passed line.fields
+      λ section passed j. record_taken to_come tables_by_path path_laws tell version old new section passed line.fields
           (record_span said) j says push,
     )

@@ -82,27 +82,27 @@ rest_so P d ld line window all ends h = subst P (sym (ends.joined ∙ append_ass
 -- The outcome for the rest of a table is the outcome for the whole table. Lines were compared with spans as these came, and then others
 -- were parsed.
 pub rest_compared : {S R D M V X Y : Type 0} (coming : S → List Span → Type 0) (to_come : R → List Span → Type 0)
-    (kind : TableKind V X Y D) (plain : LineFormat V X) (end : List X → Position) → LineLaws kind.format plain → FormatLaws kind.format
-    → (tell : Answer → Y) (told : Span → X) → ToldLaws kind end tell told → (version : V) (section : S) (list : List Span)
+    (kind : TableKind V X Y D) (plain : LineFormat V X) → LineLaws kind.format plain → FormatLaws kind.format
+    → (tell : Answer → Y) (told : Span → X) → ToldLaws kind tell told → (version : V) (section : S) (list : List Span)
     (source : Option (List ℕ)) (may_give : ℕ) (window : List ℕ) (answers : V → Position → Option Y) (outcome : Outcome D)
-    → HasComparedLines {M = M} coming to_come kind.format plain tell told kind.stretch version (Judges to_come kind end tell version)
+    → HasComparedLines {M = M} coming to_come kind.format plain tell told kind.stretch version (Judges to_come kind tell version)
     (IsFaultIn kind.format) section source may_give window outcome → coming section list → AreInOrder list
     → ((p : Position) → answer_told tell list p ≡ answers version p)
     → IfSome source (λ more. IsOutcomeOf kind answers (plain.line (plain.names version) ++ (window ++ more)) outcome)
-rest_compared {M = M} coming to_come kind plain end laws format tell told told_laws version section list source may_give window answers
+rest_compared {M = M} coming to_come kind plain laws format tell told told_laws version section list source may_give window answers
     outcome c come order same =
-    let first = passed_past to_come kind plain end tell told told_laws version c.spans c.old list c.table c.compared c.count c.end c.past
+    let first = passed_past to_come kind plain tell told told_laws version c.spans c.old list c.table c.compared c.count c.end c.past
     c.lines (c.left list come order) in
-    let h = passed_more to_come kind plain end tell version c.old c.new list c.compared c.parsed c.count c.next first c.taken in
+    let h = passed_more to_come kind plain tell version c.old c.new list c.compared c.parsed c.count c.next first c.taken in
     let passed : List Fields = plain.names version ∷ h.records in
     let narrow = subst IsNarrow (sym (laws.names version)) (format.narrow version) in
     let header = rest_begins kind.format plain laws version c.source_after c.may_still _ c.window_after c.all refl c.ends in
-    let judged = subst (λ (names : Fields). Judges to_come kind end tell version c.new h.list (names ∷ h.records))
+    let judged = subst (λ (names : Fields). Judges to_come kind tell version c.new h.list (names ∷ h.records))
     (sym (laws.names version)) h.judged in
     whole_cut kind.format plain laws version source c.source_after may_give c.may_still _ window c.window_after (c.compared ++ c.parsed)
     c.all h.judged.table h.records (λ (bytes : List ℕ). IsOutcomeOf kind answers bytes outcome) refl c.passes c.ends h.text_is
     h.judged.is_table.1.each
-    (λ bytes cut. outcome_told M to_come kind end tell version h.list passed bytes answers outcome (λ p. h.alike p ∙ same p)
+    (λ bytes cut. outcome_told M to_come kind tell version h.list passed bytes answers outcome (λ p. h.alike p ∙ same p)
     (c.found (plain.names version) h.list passed bytes narrow header cut judged (omega (arith, h.count))))
 
 -- what holds of all bytes, of which the first were taken

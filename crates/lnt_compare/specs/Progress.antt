@@ -1,6 +1,6 @@
--- How far a table was read and compared, by number or by path. `tell` gives what a table contains of an answer, and `end` where spans of
--- a table end. No public contract speaks of it.
-use Rattle.lnt_spans.specs.SpanKinds.{answer_held}
+-- How far a table was read and compared, by number or by path. `tell` gives what a table contains of an answer. No public contract speaks
+-- of it.
+use Rattle.lnt_spans.specs.SpanKinds.{answer_held, last_end}
 use Rattle.std.specs.Prelude.{◌≡◌, ℕ, ◌+◌, List, [], ◌∷◌, ◌++◌, None, Option, Vec, length, option_map}
 use Rattle.std.specs.Global.{Global}
 use Rattle.lnt_spans.specs.declared.answer.Answer.{Answer}
@@ -58,24 +58,23 @@ pub record HasPushed {S D M Y : Type 0} (to_come : S → List Span → Type 0) (
       → HasOneMore by_table by_more (end_of_records old.merge) low high said → HasMerged to_come tell value_of new.merge list by_more
 
 -- These records are a table so far, and were compared with the section.
-pub record Judges {S D M V X Y : Type 0} (to_come : S → List Span → Type 0) (kind : TableKind V X Y D) (end : List X → Position)
-    (tell : Answer → Y) (version : V) (comparison : Comparison S D M) (section : List Span) (records : List Fields) : Type 0 where
+pub record Judges {S D M V X Y : Type 0} (to_come : S → List Span → Type 0) (kind : TableKind V X Y D) (tell : Answer → Y)
+    (version : V) (comparison : Comparison S D M) (section : List Span) (records : List Fields) : Type 0 where
   pub table : List X
   pub is_table : IsTableIn kind.format version records table
-  pub at : end_of_records comparison.merge ≡ end table
+  pub at : end_of_records comparison.merge ≡ last_end kind.spans table
   pub merged : HasMerged to_come tell kind.stretch comparison.merge section (answer_held kind.spans table)
 
 -- These lines follow the header, and their records were compared with spans that answer as the section does. The next record has the
 -- number `next`.
 pub record HasPassed {S D M V X Y : Type 0} (to_come : S → List Span → Type 0) (kind : TableKind V X Y D) (plain : LineFormat V X)
-    (end : List X → Position) (tell : Answer → Y) (version : V) (comparison : Comparison S D M) (section : List Span) (text : List ℕ)
-    (next : ℕ) : Type 0 where
+    (tell : Answer → Y) (version : V) (comparison : Comparison S D M) (section : List Span) (text : List ℕ) (next : ℕ) : Type 0 where
   pub records : List Fields
   pub count : next ≡ length records + 1
   pub text_is : text ≡ lines_of plain.line records
   pub list : List Span
   pub alike : AnswerAlike tell list section
-  pub judged : Judges to_come kind end tell version comparison list (kind.format.names version ∷ records)
+  pub judged : Judges to_come kind tell version comparison list (kind.format.names version ∷ records)
 
 -- All records of the bytes were compared, and this was found.
 pub record HasFound {S D M Y : Type 0} (to_come : S → List Span → Type 0) (tell : Answer → Y) (value_of : D → Stretch Y)

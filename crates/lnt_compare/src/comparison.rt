@@ -138,7 +138,6 @@ pub(crate) fn comes(at: Position, low: Position, high: Position) -> bool
 
 impl<S: SpanSource + Drop> TakesRecords<Comparison<S, Difference, ()>> for Version {
     ghost use Rattle.lnt_spans.specs.Answers.{in_version};
-    ghost use Rattle.lnt_spans.specs.Spans.{end_of};
     ghost use Rattle.lnt_records.specs.Faults.{IsFault};
     ghost use Rattle.lnt_compare.specs.Comparisons.{tables_by_number};
     ghost use Rattle.lnt_compare.specs.Progress.{Judges};
@@ -146,7 +145,7 @@ impl<S: SpanSource + Drop> TakesRecords<Comparison<S, Difference, ()>> for Versi
     ghost is_right = { λ version comparison. Unit {0} };
 
     ghost judges = { λ version comparison section records.
-        Judges S.to_come tables_by_number end_of (in_version version) version comparison section records };
+        Judges S.to_come tables_by_number (in_version version) version comparison section records };
 
     ghost is_fault = { λ version bytes fault. IsFault bytes fault };
 

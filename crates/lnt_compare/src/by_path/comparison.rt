@@ -62,13 +62,13 @@ impl<'p, 'r, S: SpanSource + Drop, P: Paths> TakesRecords<PathComparison<S>>
     ghost use Rattle.lnt_compare.specs.Outcomes.{tables_by_path};
     ghost use Rattle.lnt_compare.specs.Progress.{Judges};
     ghost use Rattle.lnt_compare.specs.Passing.{IsRemembered};
-    ghost use Rattle.lnt_records.specs.PathSpans.{path_answer, path_end};
+    ghost use Rattle.lnt_records.specs.PathSpans.{path_answer};
     ghost use Rattle.lnt_records.specs.Faults.{IsPathFault};
 
     ghost is_right = { λ s comparison. IsRemembered (P.bytes_of s.paths.now) comparison.memory };
 
     ghost judges = { λ s comparison section records.
-        Judges S.to_come tables_by_path path_end (path_answer s.version (P.bytes_of s.paths.now)) s.version comparison section records };
+        Judges S.to_come tables_by_path (path_answer s.version (P.bytes_of s.paths.now)) s.version comparison section records };
 
     ghost is_fault = { λ s bytes fault. IsPathFault bytes fault };
 

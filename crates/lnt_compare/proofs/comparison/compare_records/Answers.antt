@@ -1,7 +1,7 @@
 use Rattle.std.proofs.Common.{[], ◌∷◌, refl}
 use Rattle.std.proofs.lemmas.Result.{IfOk-weaker}
 use Rattle.lnt_spans.specs.Answers.{in_version}
-use Rattle.lnt_spans.specs.Spans.{end_of, span_answer, span_in_version}
+use Rattle.lnt_spans.specs.Spans.{span_answer, span_in_version}
 use Rattle.lnt_records.specs.Table.{column_names}
 use Rattle.lnt_records.proofs.NumberLaws.{numbered}
 use Rattle.lnt_compare.specs.Comparisons.{in_versions, tables_by_number}
@@ -22,9 +22,9 @@ returns g c =
     let names = column_names version in
     IfOk-weaker c.compare_after.result _ _
     (λ outcome h list coming order.
-    outcome_told _ g.S.SpanSource.to_come tables_by_number end_of (in_version version) version list (names ∷ []) c.args.table.now
+    outcome_told _ g.S.SpanSource.to_come tables_by_number (in_version version) version list (names ∷ []) c.args.table.now
     (in_versions (span_answer list)) outcome (λ p. refl)
     (h names list (names ∷ []) c.args.table.now (numbered.narrow version) (rw c.in-Some.is at c.in_ok-version.ensures) (λ more after rest r. r)
-    (judges_none g.S.SpanSource.to_come tables_by_number end_of (in_version version) (span_in_version version) (number_told version) version
+    (judges_none g.S.SpanSource.to_come tables_by_number (in_version version) (span_in_version version) (number_told version) version
     c.args.spans c.past-comparison.result list c.past-comparison.ensures.past coming order) refl))
     c.compare_after.ensures

@@ -1,6 +1,6 @@
 use Rattle.std.proofs.Common.{[], ◌∷◌, refl}
 use Rattle.std.proofs.lemmas.Result.{IfOk-weaker}
-use Rattle.lnt_records.specs.PathSpans.{path_answer, path_end, spans_by_path}
+use Rattle.lnt_records.specs.PathSpans.{path_answer, spans_by_path}
 use Rattle.lnt_records.specs.PathTables.{path_column_names}
 use Rattle.lnt_records.proofs.PathLaws.{pathed}
 use Rattle.lnt_compare.specs.Joining.{tell_span}
@@ -28,9 +28,9 @@ returns g c =
     let tell = path_answer version path in
     IfOk-weaker c.compare_after.result _ _
     (λ outcome h list come order.
-    outcome_told _ g.S.SpanSource.to_come tables_by_path path_end tell version list (names ∷ []) c.args.table.now
+    outcome_told _ g.S.SpanSource.to_come tables_by_path tell version list (names ∷ []) c.args.table.now
     (λ version. spans_by_path version path list) outcome (λ p. refl)
     (h names list (names ∷ []) c.args.table.now (pathed.narrow version) (rw c.in-Some.is at c.in_ok-version.ensures) (λ more after rest r. r)
-    (judges_none g.S.SpanSource.to_come tables_by_path path_end tell (tell_span tell) (path_told tell) version c.args.spans
+    (judges_none g.S.SpanSource.to_come tables_by_path tell (tell_span tell) (path_told tell) version c.args.spans
     c.past-comparison.result list (rw c.whole.ensures at c.past-comparison.ensures.past) come order) refl))
     c.compare_after.ensures

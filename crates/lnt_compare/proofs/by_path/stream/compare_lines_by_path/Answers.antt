@@ -5,7 +5,7 @@ use Rattle.lnt_compare.specs.Joining.{tell_span}
 use Rattle.lnt_compare.specs.Outcomes.{IsPathOutcome, tables_by_path}
 use Rattle.lnt_records.specs.declared.by_path.version.PathVersion.{PathVersion}
 use Rattle.lnt_records.specs.PathLines.{plain_by_path}
-use Rattle.lnt_records.specs.PathSpans.{PathAnswer, path_answer, spans_by_path, path_end}
+use Rattle.lnt_records.specs.PathSpans.{PathAnswer, path_answer, spans_by_path}
 use Rattle.lnt_records.specs.PathTables.{by_path, path_column_names}
 use Rattle.lnt_compare.proofs.KindLaws.{path_told}
 use Rattle.lnt_compare.proofs.StreamLaws.{rest_compared}
@@ -31,5 +31,5 @@ returns-clause-ok g c =
     let answers = λ (version : PathVersion). spans_by_path version path list in
     subst (λ (line : List ℕ). IfSome (g.T.Source.remaining c.args.table.now) (λ more.
     IsPathOutcome (line ++ (c.args.window ++ more)) answers outcome)) (sym (header_text version))
-    (rest_compared _ _ tables_by_path plain_by_path path_end plain_paths pathed tell (tell_span tell) (path_told tell) version _ list _ _
+    (rest_compared _ _ tables_by_path plain_by_path plain_paths pathed tell (tell_span tell) (path_told tell) version _ list _ _
     c.args.window answers outcome compared come order (λ p. refl))) c.compare_coming.ensures.ok

@@ -1,6 +1,5 @@
 use Rattle.std.proofs.Common.{◌++◌, refl}
 use Rattle.csv.specs.Records.{fields_of}
-use Rattle.lnt_spans.specs.Spans.{end_of}
 use Rattle.lnt_compare.specs.Comparisons.{tables_by_number}
 use Rattle.lnt_compare.proofs.ComparisonLemmas.{order_refused}
 use Rattle.lnt_compare.proofs.GatherLemmas.{gathers_more}
@@ -9,7 +8,7 @@ use Rattle.lnt_compare.proofs.gather.VersionTakesRecordsGathering.take.Goals as 
 
 pub returns-then-not-comes-clause-taken : goal.returns-then-not-comes-clause-taken
 returns-then-not-comes-clause-taken c spans records h number =
-    order_refused tables_by_number end_of number_laws c.args.self.now c.args.gathering.now.at (spans ++ c.args.gathering.now.spans.items) records
+    order_refused tables_by_number number_laws c.args.self.now c.args.gathering.now.at (spans ++ c.args.gathering.now.spans.items) records
     (fields_of c.args.row.now) c.in-Ok.span c.args.number h.is_table number h.at c.in-Ok.ensures.ok c.if-not-comes.ensures
 
 pub returns-clause-taken : goal.returns-clause-taken

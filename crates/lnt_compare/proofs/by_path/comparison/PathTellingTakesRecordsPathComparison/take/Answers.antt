@@ -1,6 +1,6 @@
 use Rattle.csv.specs.Records.{fields_of}
 use Rattle.lnt_spans.specs.Merged.{end_of_records}
-use Rattle.lnt_records.specs.PathSpans.{path_answer, path_end}
+use Rattle.lnt_records.specs.PathSpans.{path_answer}
 use Rattle.lnt_records.specs.PathTables.{record_span}
 use Rattle.lnt_records.proofs.PathLaws.{says_span}
 use Rattle.lnt_compare.specs.Outcomes.{tables_by_path}
@@ -10,7 +10,7 @@ use Rattle.lnt_compare.proofs.by_path.comparison.PathTellingTakesRecordsPathComp
 
 pub returns-in-Err-clause-taken : goal.returns-in-Err-clause-taken
 returns-in-Err-clause-taken g c section records j number =
-    record_refused tables_by_path path_end path_laws c.args.self.now.version j.table records (fields_of c.args.row.now)
+    record_refused tables_by_path path_laws c.args.self.now.version j.table records (fields_of c.args.row.now)
     c.args.number c.in-Err.fault _ j.is_table number c.in-Err.ensures.err c.at.ensures
 
 pub returns-then-not-branch-clause-taken : goal.returns-then-not-branch-clause-taken
@@ -18,7 +18,7 @@ returns-then-not-branch-clause-taken g c section records j number =
     let said = c.in-Ok.said in
     let fields = fields_of c.args.row.now in
     let known = rw c.if-not-branch.true at c.in_ok-push.ensures.pushed in
-    order_refused tables_by_path path_end path_laws c.args.self.now.version (end_of_records c.args.comparison.now.merge) j.table records fields
+    order_refused tables_by_path path_laws c.args.self.now.version (end_of_records c.args.comparison.now.merge) j.table records fields
     (record_span said) c.args.number j.is_table number j.at (says_span c.args.self.now.version fields said c.in-Ok.ensures.ok) known.1
 
 pub returns-clause-taken : goal.returns-clause-taken
@@ -27,6 +27,6 @@ returns-clause-taken g c section records j number =
     let said = c.in-Ok.said in
     let fields = fields_of c.args.row.now in
     let known = rw c.if-not-branch.false at c.in_ok-push.ensures.pushed in
-    record_taken g.S.SpanSource.to_come tables_by_path path_end path_laws
+    record_taken g.S.SpanSource.to_come tables_by_path path_laws
     (path_answer version (g.P.Paths.bytes_of c.args.self.now.paths.now)) version c.args.comparison.now c.push.new.comparison section records fields
     (record_span said) j (says_span version fields said c.in-Ok.ensures.ok) known

@@ -1,7 +1,6 @@
 use Rattle.std.proofs.Common.{map}
 use Rattle.csv.specs.Records.{fields_of}
 use Rattle.lnt_records.specs.PathTables.{record_span}
-use Rattle.lnt_records.specs.PathSpans.{path_end}
 use Rattle.lnt_records.proofs.PathLaws.{says_span}
 use Rattle.lnt_compare.specs.Held.{held_span}
 use Rattle.lnt_compare.specs.Outcomes.{tables_by_path}
@@ -14,7 +13,7 @@ pub returns-in-Err-clause-taken : goal.returns-in-Err-clause-taken
 returns-in-Err-clause-taken c section records table number =
     let version = c.args.self.now.version in
     let items = c.args.spans.now.items in
-    record_refused tables_by_path path_end path_laws version (map held_span items) records (fields_of c.args.row.now) c.args.number
+    record_refused tables_by_path path_laws version (map held_span items) records (fields_of c.args.row.now) c.args.number
     c.in-Err.fault c.at.result table number c.in-Err.ensures.err c.at.ensures
 
 pub returns-then-not-comes-clause-taken : goal.returns-then-not-comes-clause-taken
@@ -23,7 +22,7 @@ returns-then-not-comes-clause-taken c section records table number =
     let items = c.args.spans.now.items in
     let said = c.in-Ok.said in
     let fields = fields_of c.args.row.now in
-    order_refused tables_by_path path_end path_laws version c.end_of.result (map held_span items) records fields (record_span said)
+    order_refused tables_by_path path_laws version c.end_of.result (map held_span items) records fields (record_span said)
     c.args.number table number
     (rw c.deref.ensures.value at c.end_of.ensures) (says_span version fields said c.in-Ok.ensures.ok)
     (rw (c.whole.ensures, c.whole-2.ensures) at c.if-not-comes.ensures)
