@@ -9,13 +9,14 @@ import struct
 import subprocess
 import sys
 import tempfile
+import time
 
 from line_writer import PLAIN, leb
 
 PROGRAM = "crates/linetab/out/linetab"
-# The least time of each of the two sizes counts. Where these are too far apart, and not by twice as much, more turns are taken, since
-# other work on the machine slows some of them.
-TURNS, MOST_TURNS = 5, 25
+# The least time of each of the two sizes counts. Where these are too far apart, and not by twice as much, more turns are taken, each
+# after a pause, since other work on the machine slows some of them, and may take a while.
+TURNS, MOST_TURNS, PAUSE = 5, 50, 0.25
 # Four times the size takes at most as long as two doublings of 2.3 times each, also where it no longer fits a cache; what grows with the
 # square takes sixteen times as long.
 MOST_GROWTH = 2.3**2
@@ -345,8 +346,10 @@ def judged_timed(measured, text, small, large, most=MOST_GROWTH):
             if fault:
                 return fault, figures
             least[which] = min(least[which], seconds)
-        if turn >= TURNS and not 1 < least[1] / (most * least[0]) < 2:
-            break
+        if turn >= TURNS:
+            if not 1 < least[1] / (most * least[0]) < 2:
+                break
+            time.sleep(PAUSE)
     times = "%.3f s and %.3f s, %.2f times as long" % (*least, least[1] / least[0])
     return times if least[1] > most * least[0] else None, "%s, in %d turns, %s" % (times, turn, figures)
 
