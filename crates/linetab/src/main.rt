@@ -22,13 +22,13 @@ fn main(rt: HostRuntime) -> ExitCode {
     let ended = run_words(&rt, &is_unread, &mut notes);
     // Whoever closed the pipe wants nothing more from it.
     if !(is_unread.get() && matches!(&ended, Err(CliStop::File(FileStop::Write)))) {
-        tell(&rt, &ended, &notes);
+        report(&rt, &ended, &notes);
     }
     exit_code(&ended)
 }
 
 // Prints why the run stopped, if it did, and its notes.
-fn tell(rt: &HostRuntime, ended: &Result<Status, CliStop>, notes: &[u8]) {
+fn report(rt: &HostRuntime, ended: &Result<Status, CliStop>, notes: &[u8]) {
     if let Err(stop) = ended {
         let _ = match stop {
             // A usage text already ends in a line feed.

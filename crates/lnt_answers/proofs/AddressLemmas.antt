@@ -20,7 +20,7 @@ use Rattle.lnt_spans.specs.declared.position.Position.{Position}
 use Rattle.lnt_lines.specs.Indexed.{Indexed, OfUnits}
 use Rattle.lnt_answers.specs.AddressBlocks.{AreFirstPrinted, BeginsWithLine, HasNo, IsCut}
 use Rattle.lnt_answers.proofs.RoomLaws.{text_in_room}
-use Rattle.lnt_answers.specs.AddressLines.{AreAddressesPrinted, AreLinesPrinted, Tells, line_status, lines_status, printed_line}
+use Rattle.lnt_answers.specs.AddressLines.{AreAddressesPrinted, AreLinesPrinted, NamesPositionIfAny, line_status, lines_status, printed_line}
 use Rattle.lnt_answers.specs.Lines.{lookup_line}
 
 -- ---- where a line ends
@@ -68,7 +68,7 @@ module _ {index : Indexed} {op : ℕ} where
 
   -- one line
   pub told_one : {line : List ℕ} {old new : Option (List ℕ)} {before after : Status} (position : Option Position)
-      → Tells op (line, position) → OfUnits index (λ selection. Appends old new (printed_line index selection (line, position)))
+      → NamesPositionIfAny op (line, position) → OfUnits index (λ selection. Appends old new (printed_line index selection (line, position)))
       → after ≡ line_status before position → AreLinesPrinted index op (line ∷ []) old new before after
   told_one {line} {old} {new} position tells printed status = record {
     told = (line, position) ∷ [];
@@ -86,7 +86,7 @@ module _ {index : Indexed} {op : ℕ} where
     told = a.told ++ b.told;
     lines_are = map-append (λ line. line.0) a.told b.told ∙ ap (λ (z : List (List ℕ)). z ++ map (λ line. line.0) b.told) a.lines_are
         ∙ ap (λ (z : List (List ℕ)). xs ++ z) b.lines_are;
-    so = all_append (Tells op) a.told b.told a.so b.so;
+    so = all_append (NamesPositionIfAny op) a.told b.told a.so b.so;
     printed = λ selection is.
         let text = printed_line index selection in
         subst (Appends old new) (sym (flat_map-append text a.told b.told))

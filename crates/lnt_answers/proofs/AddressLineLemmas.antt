@@ -11,7 +11,7 @@ use Rattle.lnt_text.specs.Digits.{Begins, IsAddress, IsDecimal}
 use Rattle.lnt_text.proofs.TextLaws.{FromZero, address_from_zero, decimal_from_zero}
 use Rattle.lnt_spans.specs.declared.position.Position.{Position}
 use Rattle.lnt_answers.specs.AddressBlocks.{BeginsWithLine, HasNo}
-use Rattle.lnt_answers.specs.Lines.{TellsPosition, TellsPositionAt}
+use Rattle.lnt_answers.specs.Lines.{NamesPosition, NamesPositionAt}
 use Rattle.lnt_answers.proofs.CommaLemmas.{place_found, place_missing}
 
 -- ---- bytes that numbers don't have
@@ -34,8 +34,8 @@ kept_whole (c ∷ line) none =
 -- ---- the position in a line
 
 at_place : (op : ℕ) (line : List ℕ) (comma : Option ℕ) (place : Position) → comma ≡ position (λ byte. byte == 44) line
-    → TellsPositionAt op line comma place → TellsPosition op line place
-at_place op line comma place e tells = subst (λ (o : Option ℕ). TellsPositionAt op line o place) e tells
+    → NamesPositionAt op line comma place → NamesPosition op line place
+at_place op line comma place e tells = subst (λ (o : Option ℕ). NamesPositionAt op line o place) e tells
 
 -- an address up to the line feed
 pub address_line : (op : ℕ) (text rest : List ℕ) (place : Position) → Begins IsAddress text place.address 10 rest → place.op ≡ op
@@ -47,7 +47,7 @@ address_line op text rest place begins op_is =
     record {
       line = line;
       cut = (begins.joined, no_byte 10 (omega arith) line from);
-      tells = subst (λ (l : List ℕ). TellsPosition op l place) whole
+      tells = subst (λ (l : List ℕ). NamesPosition op l place) whole
           (at_place op line None place (no_comma line from) (begins.spells, op_is));
     }
   where
@@ -73,7 +73,7 @@ comma_line op text mid rest place first second =
         first.joined ∙ ap (λ (z : List ℕ). prefix ++ 44 ∷ z) second.joined ∙ sym (append_assoc prefix (44 ∷ back) (10 ∷ rest)),
         no 10 (omega arith),
       );
-      tells = subst (λ (l : List ℕ). TellsPosition op l place) (kept_whole line (no 13 (omega arith)))
+      tells = subst (λ (l : List ℕ). NamesPosition op l place) (kept_whole line (no 13 (omega arith)))
           (at_place op line (Some (length prefix)) place (comma_at prefix back prefix_from) (
             subst (λ (l : List ℕ). IsAddress l place.address) (sym (take-append_seam prefix (44 ∷ back))) first.spells,
             subst (λ (l : List ℕ). IsDecimal l place.op) (sym (drop-append-add prefix (44 ∷ back) 1)) second.spells,

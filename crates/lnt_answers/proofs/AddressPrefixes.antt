@@ -11,7 +11,7 @@ use Rattle.lnt_io.specs.Pulling.{Pulls, IsAtEnd}
 use Rattle.lnt_io.specs.declared.status.Status.{Status}
 use Rattle.lnt_lines.specs.Indexed.{Indexed}
 use Rattle.lnt_answers.specs.AddressBlocks.{AreFirstBegun, AreFirstPrinted}
-use Rattle.lnt_answers.specs.AddressLines.{AreAddressesBegun, AreLinesBegun, AreLinesPrinted, Tells, printed_line}
+use Rattle.lnt_answers.specs.AddressLines.{AreAddressesBegun, AreLinesBegun, AreLinesPrinted, NamesPositionIfAny, printed_line}
 use Rattle.lnt_answers.proofs.AddressLemmas.{IsTextTold, cut_ended, line_last}
 use Rattle.lnt_answers.proofs.AddressWholes.{tell_lines}
 use Rattle.lnt_answers.proofs.RoomLaws.{text_in_room}
@@ -36,7 +36,7 @@ module _ {index : Indexed} {op : ℕ} where
     told = a.told ++ b.told;
     lines_are = map-append (λ line. line.0) a.told b.told ∙ ap (λ (z : List (List ℕ)). z ++ map (λ line. line.0) b.told) a.lines_are
         ∙ ap (λ (z : List (List ℕ)). xs ++ z) b.lines_are;
-    so = all_append (Tells op) a.told b.told a.so b.so;
+    so = all_append (NamesPositionIfAny op) a.told b.told a.so b.so;
     prefix = λ selection is.
         let text = printed_line index selection in
         prefix_same old new _ _ (sym (flat_map-append text a.told b.told))
@@ -52,7 +52,7 @@ module _ {index : Indexed} {op : ℕ} where
         told = begun.told ++ others.0;
         lines_are = map-append (λ line. line.0) begun.told others.0 ∙ ap (λ (z : List (List ℕ)). z ++ map (λ line. line.0) others.0) begun.lines_are
             ∙ ap (λ (z : List (List ℕ)). xs ++ z) others.1.0;
-        so = all_append (Tells op) begun.told others.0 begun.so others.1.1;
+        so = all_append (NamesPositionIfAny op) begun.told others.0 begun.so others.1.1;
         prefix = λ selection is.
             let text = printed_line index selection in
             prefix_same old new _ _ (sym (flat_map-append text begun.told others.0))

@@ -6,7 +6,7 @@ use Rattle.std.proofs.lemmas.Bool.Decides.{nat_tests}
 use Rattle.std.proofs.lemmas.List.Sums.{position_or_len_is}
 use Rattle.lnt_text.specs.Digits.{IsAddress, IsDecimal}
 use Rattle.lnt_spans.specs.declared.position.Position.{Position}
-use Rattle.lnt_answers.specs.Lines.{TellsPositionAt}
+use Rattle.lnt_answers.specs.Lines.{NamesPositionAt}
 
 inside_is : (m n : ℕ) → m < n → nat_lt m n ≡ true
 inside_is m n lt = grind (arith, nat_tests)
@@ -34,18 +34,18 @@ place_missing byte text k le before =
 
 -- a line without a comma that is no address has no position
 pub none_alone : (op : ℕ) (line : List ℕ) (comma : Option ℕ) (place : Position) → comma ≡ None → ((n : ℕ) → IsAddress line n → ⊥)
-    → TellsPositionAt op line comma place → ⊥
-none_alone op line comma place e other tells = other place.address (subst (λ (o : Option ℕ). TellsPositionAt op line o place) e tells).0
+    → NamesPositionAt op line comma place → ⊥
+none_alone op line comma place e other tells = other place.address (subst (λ (o : Option ℕ). NamesPositionAt op line o place) e tells).0
 
 -- nor has one without an address before the comma
 pub none_before : (op : ℕ) (line : List ℕ) (comma : Option ℕ) (place : Position) (k : ℕ) → comma ≡ Some k
-    → ((n : ℕ) → IsAddress (take k line) n → ⊥) → TellsPositionAt op line comma place → ⊥
-none_before op line comma place k e other tells = other place.address (subst (λ (o : Option ℕ). TellsPositionAt op line o place) e tells).0
+    → ((n : ℕ) → IsAddress (take k line) n → ⊥) → NamesPositionAt op line comma place → ⊥
+none_before op line comma place k e other tells = other place.address (subst (λ (o : Option ℕ). NamesPositionAt op line o place) e tells).0
 
 -- nor one without a number after the comma
 pub none_past : (op : ℕ) (line : List ℕ) (comma : Option ℕ) (place : Position) (k : ℕ) → comma ≡ Some k
-    → ((n : ℕ) → IsDecimal (drop (k + 1) line) n → ⊥) → TellsPositionAt op line comma place → ⊥
-none_past op line comma place k e other tells = other place.op (subst (λ (o : Option ℕ). TellsPositionAt op line o place) e tells).1
+    → ((n : ℕ) → IsDecimal (drop (k + 1) line) n → ⊥) → NamesPositionAt op line comma place → ⊥
+none_past op line comma place k e other tells = other place.op (subst (λ (o : Option ℕ). NamesPositionAt op line o place) e tells).1
 
 -- the slice from an index to the end
 pub rest_after : (line : List ℕ) (k : ℕ) → take (length line - k) (drop k line) ≡ drop k line

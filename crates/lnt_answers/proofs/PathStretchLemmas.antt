@@ -15,7 +15,7 @@ use Rattle.lnt_compare.specs.Held.{held_span}
 use Rattle.lnt_records.specs.PathSpans.{PathAnswer, path_answer, StandInOrder, path_span_answer}
 use Rattle.lnt_compare.specs.PathStretches.{stretch_of, told_path_answer}
 use Rattle.lnt_records.specs.PathTables.{IsPathTableOf}
-use Rattle.lnt_compare.specs.Differing.{HasToldByPath}
+use Rattle.lnt_compare.specs.Differing.{HasFoundStretchesByPath}
 use Rattle.lnt_table.specs.Headline.{indexed_path, path_at, told_path}
 use Rattle.lnt_table.proofs.CheckLemmas.{told_addresses}
 use Rattle.lnt_answers.specs.Stretches.{IsSoByPath}
@@ -33,13 +33,13 @@ answered_so difference is_answered same = same ∙ by_answer difference.by_table
 abbrev pub ForPathDifferences : {S : Type 0} → (S → List Span → Type 0) → (ℕ → ℕ → List ℕ) → DifferencesByPath S → ℕ
     → ((Position → Option PathAnswer) → (Position → Option PathAnswer) → Type 0) → Type 0
 ForPathDifferences to_come path differences all IsSo =
-    (f g : Position → Option PathAnswer) → HasToldByPath to_come path differences f g [] → all ≡ addresses_answered f → IsSo f g
+    (f g : Position → Option PathAnswer) → HasFoundStretchesByPath to_come path differences f g [] → all ≡ addresses_answered f → IsSo f g
 
 -- No stretch was given yet, of a table with these spans.
 abbrev pub HasStarted : {S : Type 0} → (S → List Span → Type 0) → Indexed → DifferencesByPath S → PathVersion → Selection
     → List HeldSpan → Type 0
 HasStarted to_come index differences version selection spans = StandInOrder (map held_span spans)
-    → HasToldByPath to_come (indexed_path index) differences (told_path version index selection) (path_span_answer (map held_span spans)) []
+    → HasFoundStretchesByPath to_come (indexed_path index) differences (told_path version index selection) (path_span_answer (map held_span spans)) []
 
 -- The slice has the held spans, and the paths are those of the index. So it holds of the differences from the units' rows.
 pub for_path_units : {S : Type 0} (to_come : S → List Span → Type 0) (index : Indexed) (path : ℕ → ℕ → List ℕ)

@@ -4,7 +4,7 @@ use Rattle.std.proofs.lemmas.List.{map-append}
 use Rattle.std.proofs.lemmas.Option.{IfSome_then}
 use Rattle.lnt_io.specs.Prefixes.{AppendsPrefix, HasBegun}
 use Rattle.lnt_io.proofs.PrefixLaws.{appends_known}
-use Rattle.lnt_answers.specs.declared.stretches.Stretches.TheVariants.{Faulty, FaultyByPath, Told, ToldByPath}
+use Rattle.lnt_answers.specs.declared.stretches.Stretches.TheVariants.{Faulty, FaultyByPath, Printed, PrintedByPath}
 use Rattle.lnt_spans.specs.declared.answer.Answer.{Answer}
 use Rattle.lnt_spans.specs.declared.difference.Difference.{Difference}
 use Rattle.lnt_spans.specs.declared.listed.SpanList.{SpanList}
@@ -13,7 +13,7 @@ use Rattle.lnt_spans.specs.declared.span.Span.{Span}
 use Rattle.lnt_spans.specs.declared.stretches.Differences.{Differences}
 use Rattle.lnt_spans.specs.Answers.{in_version}
 use Rattle.lnt_spans.specs.Partial.{addresses_answered}
-use Rattle.lnt_spans.specs.Stretching.{HasTold}
+use Rattle.lnt_spans.specs.Stretching.{HasFoundStretches}
 use Rattle.lnt_spans.specs.AnyStretches.{AreAllStretches}
 use Rattle.lnt_spans.specs.Differences.{stretch_of}
 use Rattle.lnt_spans.proofs.StretchLaws.{stretches_on}
@@ -46,7 +46,7 @@ use Rattle.lnt_table.specs.FaultTexts.{table_no_text}
 abbrev pub ForDifferences : {S T : Type 0} → (S → List Span → Type 0) → (T → List Span → Type 0) → Differences S T → ℕ
     → ((Position → Option Answer) → (Position → Option Answer) → Type 0) → Type 0
 ForDifferences of_section of_table differences all IsSo =
-    (f g : Position → Option Answer) → HasTold of_section of_table differences f g [] → all ≡ addresses_answered f → IsSo f g
+    (f g : Position → Option Answer) → HasFoundStretches of_section of_table differences f g [] → all ≡ addresses_answered f → IsSo f g
 
 -- So it holds of the differences from the units' rows.
 pub for_units : {S : Type 0} (of_section : Remaining S → List Span → Type 0) (of_table : SpanList → List Span → Type 0)
@@ -58,7 +58,7 @@ pub for_units : {S : Type 0} (of_section : Remaining S → List Span → Type 0)
 for_units of_section of_table differences given selection None IsSo same d p = tt
 for_units {S} of_section of_table differences given selection (Some text) IsSo same d p =
     where_so tables_by_number (in_versions (line_answer selection)) (in_versions (line_answer selection)) text
-    (λ by_section by_table. HasTold of_section of_table differences by_section by_table []) IsSo
+    (λ by_section by_table. HasFoundStretches of_section of_table differences by_section by_table []) IsSo
     (λ version by_table told. subst (λ (list : Differences (Remaining S) SpanList).
     ForDifferences of_section of_table list (addresses_answered (line_answer selection)) IsSo) same p
     (in_versions (line_answer selection) version) by_table told (told_addresses (in_version version) (line_answer selection)))
@@ -67,7 +67,7 @@ for_units {S} of_section of_table differences given selection (Some text) IsSo s
 -- Others may follow the differences that were given.
 pub more_stretches : {S T : Type 0} (of_section : S → List Span → Type 0) (of_table : T → List Span → Type 0)
     (differences : Differences S T) (f g : Position → Option Answer) (given : List Difference)
-    → HasTold of_section of_table differences f g given → HasMore stretch_of f g given
+    → HasFoundStretches of_section of_table differences f g given → HasMore stretch_of f g given
 more_stretches of_section of_table differences f g given told =
     let later = stretches_on of_section of_table differences f g given told in
     (map stretch_of later.0, subst (AreAllStretches f g) (map-append stretch_of given later.0) later.1)
@@ -115,7 +115,7 @@ module _ (scope : Scope) (index : Indexed) (selection : Selection) where
   numbered_begun of_section of_table table old new {differences} {given} same d p =
       IfSome_then table (for_units of_section of_table differences given selection table _ same d p) (λ text is. record {
         whole = is.so.whole;
-        ending = Told is.so.ending;
+        ending = Printed is.so.ending;
         is_end = (record { version = is.version; table = is.table; is_table = is.is_table; so = is.so.is_end }, tt);
         prefix = is.so.prefix;
       })
@@ -132,7 +132,7 @@ module _ (scope : Scope) (index : Indexed) (selection : Selection) where
       IfSome_then table (for_path_units to_come index path differences version spans slice selection table _ same by is order started p)
       (λ text is. record {
         whole = is.so.whole;
-        ending = ToldByPath is.so.ending;
+        ending = PrintedByPath is.so.ending;
         is_end = (record { version = is.version; table = is.table; is_table = is.is_table; so = is.so.is_end }, tt);
         prefix = is.so.prefix;
       })

@@ -7,7 +7,7 @@ use Rattle.std.specs.Io.KnownBytes.{Appends}
 use Rattle.std.proofs.KnownBytes.{Appends-trans}
 use Rattle.std.proofs.lemmas.List.{map-append, take_all}
 use Rattle.std.proofs.lemmas.List.Concat.{flat_map-append}
-use Rattle.lnt_io.specs.Files.{FileState, TellsNoMore}
+use Rattle.lnt_io.specs.Files.{FileState, FindsNoMore}
 use Rattle.lnt_io.specs.declared.status.Status.{Status}
 use Rattle.lnt_io.specs.declared.status.Status.TheVariants.{Done, No}
 use Rattle.lnt_answers.specs.declared.digest.Agreement.{Agreement}
@@ -23,11 +23,11 @@ use Rattle.lnt_answers.specs.SumLines.{head_text, listed_at, listed_in, sum_line
 
 -- ---- joins
 
-pub true_joined : (tells : List ℕ → FileState → Type 0) (index : Indexed) (first second : List Finding)
-    → AllByRecursion (IsTrueFinding tells index) first → AllByRecursion (IsTrueFinding tells index) second
-    → AllByRecursion (IsTrueFinding tells index) (first ++ second)
-true_joined tells index [] second all more = more
-true_joined tells index (finding ∷ first) second all more = (all.0, true_joined tells index first second all.1 more)
+pub true_joined : (finds : List ℕ → FileState → Type 0) (index : Indexed) (first second : List Finding)
+    → AllByRecursion (IsTrueFinding finds index) first → AllByRecursion (IsTrueFinding finds index) second
+    → AllByRecursion (IsTrueFinding finds index) (first ++ second)
+true_joined finds index [] second all more = more
+true_joined finds index (finding ∷ first) second all more = (all.0, true_joined finds index first second all.1 more)
 
 both_joined : (s t u : Status) → both (both s t) u ≡ both s (both t u)
 both_joined Done t u = refl
@@ -44,16 +44,16 @@ status_alone None = refl
 status_alone (Some Same) = refl
 status_alone (Some (Differs sum)) = refl
 
-module _ {tells tells' : List ℕ → FileState → Type 0} {index : Indexed} {a b c : Option (List ℕ)} {s t : Status}
-    (later : TellsNoMore tells tells') where
-  sums_joined : {files more : List (ℕ × ℕ)} → AreSumsPrinted tells index files a b s → AreSumsPrinted tells' index more b c t
-      → AreSumsPrinted tells index (files ++ more) a c (both s t)
+module _ {finds finds' : List ℕ → FileState → Type 0} {index : Indexed} {a b c : Option (List ℕ)} {s t : Status}
+    (later : FindsNoMore finds finds') where
+  sums_joined : {files more : List (ℕ × ℕ)} → AreSumsPrinted finds index files a b s → AreSumsPrinted finds' index more b c t
+      → AreSumsPrinted finds index (files ++ more) a c (both s t)
   sums_joined {files} so next = record {
     findings = so.findings ++ next.findings;
     places = map-append file_of so.findings next.findings ∙ ap (λ list. list ++ map file_of next.findings) so.places
         ∙ ap (λ list. files ++ list) next.places;
-    are_true = true_joined tells index so.findings next.findings so.are_true
-        (true_later tells tells' index next.findings later next.are_true);
+    are_true = true_joined finds index so.findings next.findings so.are_true
+        (true_later finds finds' index next.findings later next.are_true);
     printed = subst (Appends a c) (sym (flat_map-append (sum_line index) so.findings next.findings))
         (Appends-trans a b c (flat_map (sum_line index) so.findings) (flat_map (sum_line index) next.findings) so.printed next.printed);
     status_is = ap (λ status. both status t) so.status_is ∙ ap (both (sums_status so.findings)) next.status_is
@@ -61,33 +61,33 @@ module _ {tells tells' : List ℕ → FileState → Type 0} {index : Indexed} {a
   }
 
   -- with one file of a unit more
-  pub sums_more : (unit file : ℕ) → AreSumsPrinted tells index (lists_below (listed_at index unit) file) a b s
-      → AreSumsPrinted tells' index (listed_at index unit file) b c t
-      → AreSumsPrinted tells index (lists_below (listed_at index unit) (file + 1)) a c (both s t)
+  pub sums_more : (unit file : ℕ) → AreSumsPrinted finds index (lists_below (listed_at index unit) file) a b s
+      → AreSumsPrinted finds' index (listed_at index unit file) b c t
+      → AreSumsPrinted finds index (lists_below (listed_at index unit) (file + 1)) a c (both s t)
   sums_more unit file so next =
       let step : suc file ≡ file + 1 = omega arith in
-      subst (λ (n : ℕ). AreSumsPrinted tells index (lists_below (listed_at index unit) n) a c (both s t)) step (sums_joined so next)
+      subst (λ (n : ℕ). AreSumsPrinted finds index (lists_below (listed_at index unit) n) a c (both s t)) step (sums_joined so next)
 
   -- with the files of one unit more
-  pub sums_of_more : (units : List ℕ) (i d : ℕ) → i < length units → AreSumsPrinted tells index (flat_map (listed_in index) (take i units)) a b s
-      → AreSumsPrinted tells' index (listed_in index (get_or units i d)) b c t
-      → AreSumsPrinted tells index (flat_map (listed_in index) (take (i + 1) units)) a c (both s t)
+  pub sums_of_more : (units : List ℕ) (i d : ℕ) → i < length units → AreSumsPrinted finds index (flat_map (listed_in index) (take i units)) a b s
+      → AreSumsPrinted finds' index (listed_in index (get_or units i d)) b c t
+      → AreSumsPrinted finds index (flat_map (listed_in index) (take (i + 1) units)) a c (both s t)
   sums_of_more units i d lt so next =
-      subst (λ (files : List (ℕ × ℕ)). AreSumsPrinted tells index files a c (both s t)) (sym (lists_of_more (listed_in index) units i d lt))
+      subst (λ (files : List (ℕ × ℕ)). AreSumsPrinted finds index files a c (both s t)) (sym (lists_of_more (listed_in index) units i d lt))
       (sums_joined so next)
 
 -- ---- the files of a unit
 
 -- a file with a listed sum, its path and the finding
-pub sum_listed : (tells : List ℕ → FileState → Type 0) (index : Indexed) (unit file : ℕ) (a b : Option (List ℕ))
+pub sum_listed : (finds : List ℕ → FileState → Type 0) (index : Indexed) (unit file : ℕ) (a b : Option (List ℕ))
     (listed path shown : List ℕ) (found : Option Agreement) (status : Status) → file_sum_in index unit file ≡ Some listed
     → path ≡ path_or_empty (file_path_in index unit file) → shown ≡ path_or_empty (file_path_in index unit file)
-    → IsTrueOfFile tells path listed found
+    → IsTrueOfFile finds path listed found
     → Appends a b ((head_text unit file ++ found_text found) ++ (codes " " ++ (quoted_text shown ++ codes "\n")))
-    → status ≡ found_status found → AreSumsPrinted tells index (listed_at index unit file) a b status
-sum_listed tells index unit file a b listed path shown found status is path_is shown_is so printed status_is =
+    → status ≡ found_status found → AreSumsPrinted finds index (listed_at index unit file) a b status
+sum_listed finds index unit file a b listed path shown found status is path_is shown_is so printed status_is =
     let finding : Finding = record { unit = unit; file = file; found = found } in
-    let named = subst (λ (name : List ℕ). IsTrueOfFile tells name listed found) path_is so in
+    let named = subst (λ (name : List ℕ). IsTrueOfFile finds name listed found) path_is so in
     let line = subst (λ (name : List ℕ). Appends a b ((head_text unit file ++ found_text found)
     ++ (codes " " ++ (quoted_text name ++ codes "\n")))) shown_is printed in
     record {
@@ -95,7 +95,7 @@ sum_listed tells index unit file a b listed path shown found status is path_is s
       places = sym (ap (λ (listed' : Option (List ℕ)). option_map_or (λ _. (unit, file) ∷ []) listed' []) is);
       are_true = (
         subst (λ (listed' : Option (List ℕ)). IfSome listed' (λ bytes.
-            IsTrueOfFile tells (path_or_empty (file_path_in index unit file)) bytes found)) (sym is) named,
+            IsTrueOfFile finds (path_or_empty (file_path_in index unit file)) bytes found)) (sym is) named,
         tt,
       );
       printed = subst (Appends a b) (sym (append-nil (sum_line index finding))) line;
@@ -104,8 +104,8 @@ sum_listed tells index unit file a b listed path shown found status is path_is s
 
 -- ---- the files of all units
 
-pub sums_of_all : {tells : List ℕ → FileState → Type 0} {index : Indexed} {a b : Option (List ℕ)} {s : Status} (units : List ℕ) (i : ℕ)
-    → length units ≤ i → AreSumsPrinted tells index (flat_map (listed_in index) (take i units)) a b s
-    → AreSumsPrinted tells index (flat_map (listed_in index) units) a b s
-sums_of_all {tells} {index} {a} {b} {s} units i le so =
-    subst (λ (list : List ℕ). AreSumsPrinted tells index (flat_map (listed_in index) list) a b s) (take_all i units le) so
+pub sums_of_all : {finds : List ℕ → FileState → Type 0} {index : Indexed} {a b : Option (List ℕ)} {s : Status} (units : List ℕ) (i : ℕ)
+    → length units ≤ i → AreSumsPrinted finds index (flat_map (listed_in index) (take i units)) a b s
+    → AreSumsPrinted finds index (flat_map (listed_in index) units) a b s
+sums_of_all {finds} {index} {a} {b} {s} units i le so =
+    subst (λ (list : List ℕ). AreSumsPrinted finds index (flat_map (listed_in index) list) a b s) (take_all i units le) so

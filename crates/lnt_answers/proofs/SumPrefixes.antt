@@ -6,7 +6,7 @@ use Rattle.std.proofs.lemmas.List.{append_cancel_left, map-append}
 use Rattle.std.proofs.lemmas.List.Concat.{flat_map-append}
 use Rattle.lnt_io.specs.Prefixes.{AppendsPrefix}
 use Rattle.lnt_io.proofs.PrefixLaws.{appends_known, prefix_after, prefix_none, prefix_same}
-use Rattle.lnt_io.specs.Files.{FileState, TellsNoMore}
+use Rattle.lnt_io.specs.Files.{FileState, FindsNoMore}
 use Rattle.lnt_io.specs.declared.status.Status.{Status}
 use Rattle.lnt_answers.specs.declared.digest.Agreement.{Agreement}
 use Rattle.lnt_text.specs.Texts.{quoted_text}
@@ -21,9 +21,9 @@ use Rattle.lnt_answers.proofs.SumLemmas.{sum_listed, true_joined}
 
 -- ---- joins
 
-begun_before : (tells : List ℕ → FileState → Type 0) (index : Indexed) (files more : List (ℕ × ℕ)) (old new : Option (List ℕ))
-    → AreSumsBegun tells index files old new → AreSumsBegun tells index (files ++ more) old new
-begun_before tells index files more old new so = record {
+begun_before : (finds : List ℕ → FileState → Type 0) (index : Indexed) (files more : List (ℕ × ℕ)) (old new : Option (List ℕ))
+    → AreSumsBegun finds index files old new → AreSumsBegun finds index (files ++ more) old new
+begun_before finds index files more old new so = record {
   findings = so.findings;
   rest = so.rest ++ more;
   places = sym (append_assoc (map file_of so.findings) so.rest more) ∙ ap (λ (list : List (ℕ × ℕ)). list ++ more) so.places;
@@ -39,20 +39,20 @@ prefix_of (Some xs) new whole texts all f = prefix_same (Some xs) new whole text
 -- ---- a file
 
 -- nothing was written
-pub sums_unbegun : (tells : List ℕ → FileState → Type 0) (index : Indexed) (files : List (ℕ × ℕ)) (old : Option (List ℕ))
-    → AreSumsBegun tells index files old old
-sums_unbegun tells index files old = record { findings = []; rest = files; places = refl; are_true = tt; prefix = prefix_none old [] }
+pub sums_unbegun : (finds : List ℕ → FileState → Type 0) (index : Indexed) (files : List (ℕ × ℕ)) (old : Option (List ℕ))
+    → AreSumsBegun finds index files old old
+sums_unbegun finds index files old = record { findings = []; rest = files; places = refl; are_true = tt; prefix = prefix_none old [] }
 
 -- the writer stopped within the line of a file
-pub sum_stopped : (tells : List ℕ → FileState → Type 0) (index : Indexed) (unit file : ℕ) (a b : Option (List ℕ))
+pub sum_stopped : (finds : List ℕ → FileState → Type 0) (index : Indexed) (unit file : ℕ) (a b : Option (List ℕ))
     (listed path shown bytes : List ℕ) (found : Option Agreement) → file_sum_in index unit file ≡ Some listed
     → path ≡ path_or_empty (file_path_in index unit file) → shown ≡ path_or_empty (file_path_in index unit file)
-    → IsTrueOfFile tells path listed found
+    → IsTrueOfFile finds path listed found
     → bytes ≡ (head_text unit file ++ found_text found) ++ (codes " " ++ (quoted_text shown ++ codes "\n"))
-    → AppendsPrefix a b bytes → AreSumsBegun tells index (listed_at index unit file) a b
-sum_stopped tells index unit file a b listed path shown bytes found is path_is shown_is so same f =
+    → AppendsPrefix a b bytes → AreSumsBegun finds index (listed_at index unit file) a b
+sum_stopped finds index unit file a b listed path shown bytes found is path_is shown_is so same f =
     let text = (head_text unit file ++ found_text found) ++ (codes " " ++ (quoted_text shown ++ codes "\n")) in
-    let told = sum_listed tells index unit file a (append_known a text) listed path shown found (found_status found) is path_is shown_is so
+    let told = sum_listed finds index unit file a (append_known a text) listed path shown found (found_status found) is path_is shown_is so
     (appends_known a text) refl in
     record {
       findings = told.findings;
@@ -64,34 +64,34 @@ sum_stopped tells index unit file a b listed path shown bytes found is path_is s
 
 -- ---- within the files
 
-module _ {tells tells' : List ℕ → FileState → Type 0} {index : Indexed} {a b c : Option (List ℕ)} {s : Status}
-    (later : TellsNoMore tells tells') where
-  begun_after : {files more : List (ℕ × ℕ)} → AreSumsPrinted tells index files a b s → AreSumsBegun tells' index more b c
-      → AreSumsBegun tells index (files ++ more) a c
+module _ {finds finds' : List ℕ → FileState → Type 0} {index : Indexed} {a b c : Option (List ℕ)} {s : Status}
+    (later : FindsNoMore finds finds') where
+  begun_after : {files more : List (ℕ × ℕ)} → AreSumsPrinted finds index files a b s → AreSumsBegun finds' index more b c
+      → AreSumsBegun finds index (files ++ more) a c
   begun_after {files} {more} so next = record {
     findings = so.findings ++ next.findings;
     rest = next.rest;
     places = ap (λ (list : List (ℕ × ℕ)). list ++ next.rest)
         (map-append file_of so.findings next.findings ∙ ap (λ (list : List (ℕ × ℕ)). list ++ map file_of next.findings) so.places)
         ∙ append_assoc files (map file_of next.findings) next.rest ∙ ap (λ (list : List (ℕ × ℕ)). files ++ list) next.places;
-    are_true = true_joined tells index so.findings next.findings so.are_true
-        (true_later tells tells' index next.findings later next.are_true);
+    are_true = true_joined finds index so.findings next.findings so.are_true
+        (true_later finds finds' index next.findings later next.are_true);
     prefix = prefix_same a c _ _ (sym (flat_map-append (sum_line index) so.findings next.findings))
         (prefix_after a b c (flat_map (sum_line index) so.findings) (flat_map (sum_line index) next.findings) so.printed next.prefix);
   }
 
   -- of a unit
-  pub sums_stopped : (unit file count : ℕ) → file < count → AreSumsPrinted tells index (lists_below (listed_at index unit) file) a b s
-      → AreSumsBegun tells' index (listed_at index unit file) b c → AreSumsBegun tells index (lists_below (listed_at index unit) count) a c
+  pub sums_stopped : (unit file count : ℕ) → file < count → AreSumsPrinted finds index (lists_below (listed_at index unit) file) a b s
+      → AreSumsBegun finds' index (listed_at index unit file) b c → AreSumsBegun finds index (lists_below (listed_at index unit) count) a c
   sums_stopped unit file count lt so next =
       let after = below_later (listed_at index unit) file count lt in
-      subst (λ (list : List (ℕ × ℕ)). AreSumsBegun tells index list a c) after.1
-      (begun_before tells index (lists_below (listed_at index unit) (suc file)) after.0 a c (begun_after so next))
+      subst (λ (list : List (ℕ × ℕ)). AreSumsBegun finds index list a c) after.1
+      (begun_before finds index (lists_below (listed_at index unit) (suc file)) after.0 a c (begun_after so next))
 
   -- of all units
   pub units_stopped : (units : List ℕ) (i d : ℕ) → i < length units
-      → AreSumsPrinted tells index (flat_map (listed_in index) (take i units)) a b s
-      → AreSumsBegun tells' index (listed_in index (get_or units i d)) b c → AreSumsBegun tells index (flat_map (listed_in index) units) a c
+      → AreSumsPrinted finds index (flat_map (listed_in index) (take i units)) a b s
+      → AreSumsBegun finds' index (listed_in index (get_or units i d)) b c → AreSumsBegun finds index (flat_map (listed_in index) units) a c
   units_stopped units i d lt so next =
       let prefix = flat_map (listed_in index) (take i units) in
       let unit = listed_in index (get_or units i d) in
@@ -100,5 +100,5 @@ module _ {tells tells' : List ℕ → FileState → Type 0} {index : Indexed} {a
       ap (λ (list : List (ℕ × ℕ)). list ++ rest) (sym (lists_of_more (listed_in index) units i d lt))
       ∙ sym (flat_map-append (listed_in index) (take (i + 1) units) (drop (i + 1) units))
       ∙ ap (flat_map (listed_in index)) (take-append-drop (i + 1) units) in
-      subst (λ (list : List (ℕ × ℕ)). AreSumsBegun tells index list a c) all
-      (begun_before tells index (prefix ++ unit) rest a c (begun_after so next))
+      subst (λ (list : List (ℕ × ℕ)). AreSumsBegun finds index list a c) all
+      (begun_before finds index (prefix ++ unit) rest a c (begun_after so next))

@@ -1,7 +1,7 @@
 -- A text whose lines contain positions, as it is read block by block. No public contract speaks of this.
 use Rattle.std.specs.Prelude.{◌≡◌, List, Option, IfSome, All, ◌==◌, false, ℕ, ◌∷◌, ◌++◌}
 use Rattle.lnt_answers.specs.declared.line_ends.LineEnd.{LineEnd}
-use Rattle.lnt_answers.specs.Lines.{path_end, TellsPosition}
+use Rattle.lnt_answers.specs.Lines.{path_end, NamesPosition}
 use Rattle.lnt_lines.specs.Indexed.{file_path_in, Indexed}
 use Rattle.std.specs.Str.Lines.{lines, strip_carriage_return}
 use Rattle.lnt_io.specs.declared.status.Status.{Status}
@@ -28,7 +28,7 @@ IsCut byte text prefix back = (text ≡ prefix ++ byte ∷ back) × HasNo byte p
 pub record BeginsWithLine (op : ℕ) (text : List ℕ) (position : Position) (rest : List ℕ) : Type 0 where
   pub line : List ℕ
   pub cut : IsCut 10 text line rest
-  pub tells : TellsPosition op (strip_carriage_return line) position
+  pub tells : NamesPosition op (strip_carriage_return line) position
 
 -- The first lines of the text were answered, up to the rest of it.
 pub record AreFirstPrinted (index : Indexed) (op : ℕ) (text rest : List ℕ) (old new : Option (List ℕ)) (before after : Status) : Type 0 where

@@ -10,12 +10,12 @@ use Rattle.lnt_spans.specs.declared.position.Position.{Position}
 use Rattle.lnt_sequences.specs.Sequences.{Selection}
 use Rattle.lnt_lines.specs.Indexed.{Indexed, OfUnits}
 use Rattle.lnt_text.specs.Texts.{quoted_text}
-use Rattle.lnt_answers.specs.Lines.{TellsPosition, lookup_line}
+use Rattle.lnt_answers.specs.Lines.{NamesPosition, lookup_line}
 
 -- The line contains this position; or it contains none.
-abbrev pub Tells : ℕ → List ℕ × Option Position → Type 0
-Tells op (line, Some position) = TellsPosition op line position
-Tells op (line, None) = (position : Position) → TellsPosition op line position → ⊥
+abbrev pub NamesPositionIfAny : ℕ → List ℕ × Option Position → Type 0
+NamesPositionIfAny op (line, Some position) = NamesPosition op line position
+NamesPositionIfAny op (line, None) = (position : Position) → NamesPosition op line position → ⊥
 
 -- what is printed for a line: the answer at its position; or that it is bad
 abbrev pub printed_line : Indexed → Selection → List ℕ × Option Position → List ℕ
@@ -38,7 +38,7 @@ pub record AreLinesPrinted (index : Indexed) (op : ℕ) (texts : List (List ℕ)
     0 where
   pub told : List (List ℕ × Option Position)
   pub lines_are : map (λ line. line.0) told ≡ texts
-  pub so : AllByRecursion (Tells op) told
+  pub so : AllByRecursion (NamesPositionIfAny op) told
   pub printed : OfUnits index (λ selection. Appends old new (flat_map (printed_line index selection) told))
   pub status_is : after ≡ lines_status before told
 
@@ -54,7 +54,7 @@ AreAddressesPrinted index op text old new status = IfSome text (λ bytes. AreLin
 pub record AreLinesBegun (index : Indexed) (op : ℕ) (texts : List (List ℕ)) (old new : Option (List ℕ)) : Type 0 where
   pub told : List (List ℕ × Option Position)
   pub lines_are : map (λ line. line.0) told ≡ texts
-  pub so : AllByRecursion (Tells op) told
+  pub so : AllByRecursion (NamesPositionIfAny op) told
   pub prefix : OfUnits index (λ selection. AppendsPrefix old new (flat_map (printed_line index selection) told))
 
 -- If the source's bytes are known (text), this holds for all the text's lines, including those that weren't read yet. Their

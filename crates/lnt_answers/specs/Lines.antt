@@ -64,12 +64,12 @@ lookup_line index selection position = answer_line index position (line_answer s
 
 -- The position in a line whose first comma is at this index: an address before the comma, and an operation index after it.
 -- A line without a comma is an address, with the operation index `op`.
-abbrev pub TellsPositionAt : ℕ → List ℕ → Option ℕ → Position → Type 0
-TellsPositionAt op line None place = IsAddress line place.address × (place.op ≡ op)
-TellsPositionAt op line (Some comma) place = IsAddress (take comma line) place.address × IsDecimal (drop (comma + 1) line) place.op
+abbrev pub NamesPositionAt : ℕ → List ℕ → Option ℕ → Position → Type 0
+NamesPositionAt op line None place = IsAddress line place.address × (place.op ≡ op)
+NamesPositionAt op line (Some comma) place = IsAddress (take comma line) place.address × IsDecimal (drop (comma + 1) line) place.op
 
-abbrev pub TellsPosition : ℕ → List ℕ → Position → Type 0
-TellsPosition op line place = TellsPositionAt op line (position (λ byte. byte == 44) line) place
+abbrev pub NamesPosition : ℕ → List ℕ → Position → Type 0
+NamesPosition op line place = NamesPositionAt op line (position (λ byte. byte == 44) line) place
 
 -- ---- the files of a good section, as comma-separated values
 

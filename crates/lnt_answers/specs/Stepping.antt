@@ -6,14 +6,14 @@ use Rattle.lnt_spans.specs.AnyStretches.{Stretch}
 use Rattle.lnt_spans.specs.Partial.{addresses_answered, where_missed}
 use Rattle.lnt_records.specs.declared.fault.WriteStop.{WriteStop}
 use Rattle.lnt_records.specs.declared.fault.WriteStop.TheVariants as write
-use Rattle.lnt_io.specs.declared.halt.Halt.{Halt}
-use Rattle.lnt_io.specs.declared.halt.Halt.TheVariants as halt
+use Rattle.lnt_io.specs.declared.io_stop.IoStop.{IoStop}
+use Rattle.lnt_io.specs.declared.io_stop.IoStop.TheVariants as io_stop
 use Rattle.lnt_io.specs.declared.status.Status.{Status}
 use Rattle.lnt_io.specs.declared.status.Status.TheVariants.{Done, No}
 use Rattle.lnt_table.specs.declared.kinds.OfKind.TheVariants.{Numbered}
 use Rattle.lnt_table.specs.declared.verdict.Verdict.TheVariants.{Yes}
 use Rattle.lnt_table.specs.declared.within.CheckedWithin.{CheckedWithin}
-use Rattle.lnt_table.specs.declared.within.CheckedWithin.TheVariants.{Checked as Told, Covered}
+use Rattle.lnt_table.specs.declared.within.CheckedWithin.TheVariants.{Checked as Printed, Covered}
 use Rattle.lnt_table.specs.declared.within.Scope.{Scope}
 use Rattle.lnt_table.specs.declared.within.Scope.TheVariants.{All, Answered}
 use Rattle.lnt_table.specs.AnyVersion.{coverage_but}
@@ -45,7 +45,7 @@ pub record ArePrinted {X : Type 0} (line : Stretch X → List ℕ) (scope : Scop
 --     missed    how many of them the table misses, if there is no stretch
 
 abbrev pub answer_of : Scope → ℕ → ℕ → CheckedWithin
-answer_of All all missed = Told (Numbered Yes)
+answer_of All all missed = Printed (Numbered Yes)
 answer_of Answered all missed = Covered (coverage_but missed all)
 
 abbrev pub end_text : Scope → ℕ → Option ℕ → List ℕ

@@ -28,7 +28,7 @@ use Rattle.lnt_records.specs.Table.{by_number}
 use Rattle.lnt_records.specs.PathTables.{by_path}
 use Rattle.lnt_table.specs.Headline.{told_path}
 use Rattle.lnt_answers.specs.declared.stretches.Stretches.{Stretches}
-use Rattle.lnt_answers.specs.declared.stretches.Stretches.TheVariants.{Faulty, FaultyByPath, Told, ToldByPath}
+use Rattle.lnt_answers.specs.declared.stretches.Stretches.TheVariants.{Faulty, FaultyByPath, Printed, PrintedByPath}
 use Rattle.lnt_table.specs.Verdicts.{no_of_fault}
 use Rattle.lnt_lines.specs.Indexed.{Indexed, OfUnits}
 use Rattle.lnt_io.specs.declared.status.Status.TheVariants as ending
@@ -96,33 +96,33 @@ abbrev pub IsFaultByPath : List ℕ → TableFault → Type 0
 IsFaultByPath table told = IsUnnumbered table × IsPathFault table told
 
 -- What is reported is true of the bytes: the stretches in the scope at which the answers differ, or its first fault. Of bytes with the
--- header of version 1 or 2 it is Faulty or Told, of all others FaultyByPath or ToldByPath.
+-- header of version 1 or 2 it is Faulty or Printed, of all others FaultyByPath or PrintedByPath.
 abbrev pub AreStretchesOf : Scope → Indexed → Selection → List ℕ → Option (List ℕ) → Option (List ℕ) → Stretches → Type 0
 AreStretchesOf scope index selection table old new (Faulty told) = IsFault table told × (told ≢ fault.Header)
-AreStretchesOf scope index selection table old new (Told status) = IsSoOfRows selection table
+AreStretchesOf scope index selection table old new (Printed status) = IsSoOfRows selection table
     (λ by_section by_table. AreStretchesPrinted stretch_line scope by_section by_table old new status)
 AreStretchesOf scope index selection table old new (FaultyByPath told) = IsFaultByPath table told
-AreStretchesOf scope index selection table old new (ToldByPath status) = IsSoByPath index selection table
+AreStretchesOf scope index selection table old new (PrintedByPath status) = IsSoByPath index selection table
     (λ by_section by_table. AreStretchesPrinted path_stretch_line scope by_section by_table old new status)
 
 -- it is true whatever the units are that the index was made of, where the table's bytes are known
-abbrev pub TellsStretches : Scope → Indexed → Option (List ℕ) → Option (List ℕ) → Option (List ℕ) → Stretches → Type 0
-TellsStretches scope index table old new told = OfUnits index (λ selection. IfSome table (λ text.
+abbrev pub AreStretchesOfIndex : Scope → Indexed → Option (List ℕ) → Option (List ℕ) → Option (List ℕ) → Stretches → Type 0
+AreStretchesOfIndex scope index table old new told = OfUnits index (λ selection. IfSome table (λ text.
     AreStretchesOf scope index selection text old new told))
 
 -- What was appended to a writer that held these bytes is the line of what is wrong with the table, if something is.
 abbrev pub IsFaultPrinted : Stretches → Option (List ℕ) → Option (List ℕ) → Type 0
 IsFaultPrinted (Faulty told) old new = Appends old new (table_no_text (no_of_fault told) ++ codes "\n")
-IsFaultPrinted (Told status) old new = Unit {0}
+IsFaultPrinted (Printed status) old new = Unit {0}
 IsFaultPrinted (FaultyByPath told) old new = Appends old new (table_no_text (no_of_fault told) ++ codes "\n")
-IsFaultPrinted (ToldByPath status) old new = Unit {0}
+IsFaultPrinted (PrintedByPath status) old new = Unit {0}
 
 -- how a run that reports it ends
 abbrev pub outcome_status : Stretches → Status
 outcome_status (Faulty told) = ending.No
-outcome_status (Told status) = status
+outcome_status (Printed status) = status
 outcome_status (FaultyByPath told) = ending.No
-outcome_status (ToldByPath status) = status
+outcome_status (PrintedByPath status) = status
 
 -- ---- where the writer stopped
 --     old, new    what it holds before and afterwards

@@ -1,5 +1,5 @@
 -- The lines that say whether the files of a good section have their listed MD5 sums (DWARF 5, section 6.2.4.1).
---     tells       what may be known of the file with a name
+--     finds       what may be known of the file with a name
 --     old, new    what the writer holds before and afterwards
 use Rattle.std.specs.Prelude.{◌≡◌, ◌≢◌, ℕ, List, ◌⊎◌, [], ◌∷◌, ◌++◌, map, IfSome, IsUtf8, None, Option, Some, codes, decimal}
 use Rattle.lnt_answers.specs.declared.digest.Agreement.{Agreement}
@@ -49,20 +49,20 @@ file_of finding = (finding.unit, finding.file)
 
 -- No file is read at this path: it isn't UTF-8; or it is `-`; or the file can't be read whole.
 abbrev pub IsUnreadable : (List ℕ → FileState → Type 0) → List ℕ → Type 0
-IsUnreadable tells path = (IsUtf8 path → ⊥) ⊎ (path ≡ codes "-") ⊎ tells path Unreadable
+IsUnreadable finds path = (IsUtf8 path → ⊥) ⊎ (path ≡ codes "-") ⊎ finds path Unreadable
 
 -- What was found is true of the file at this path, for which this sum is listed. An agreement is true of the file's bytes, if they
 -- are known; with `None` the file is unreadable.
 abbrev pub IsTrueOfFile : (List ℕ → FileState → Type 0) → List ℕ → List ℕ → Option Agreement → Type 0
-IsTrueOfFile tells path listed None = IsUnreadable tells path
-IsTrueOfFile tells path listed (Some agreement) =
-    (told : Option (List ℕ)) × tells path (Readable told) × IfSome told (λ bytes. Agrees agreement (md5 bytes) listed)
+IsTrueOfFile finds path listed None = IsUnreadable finds path
+IsTrueOfFile finds path listed (Some agreement) =
+    (told : Option (List ℕ)) × finds path (Readable told) × IfSome told (λ bytes. Agrees agreement (md5 bytes) listed)
 
 -- The finding is true of the file at its listed path and of its listed sum.
 abbrev pub IsTrueFinding : (List ℕ → FileState → Type 0) → Indexed → Finding → Type 0
-IsTrueFinding tells index finding =
+IsTrueFinding finds index finding =
     IfSome (file_sum_in index finding.unit finding.file)
-    (λ listed. IsTrueOfFile tells (path_or_empty (file_path_in index finding.unit finding.file)) listed finding.found)
+    (λ listed. IsTrueOfFile finds (path_or_empty (file_path_in index finding.unit finding.file)) listed finding.found)
 
 -- ---- what is printed
 
@@ -98,20 +98,20 @@ sums_status (finding ∷ findings) = both (found_status finding.found) (sums_sta
 
 -- What was appended to a writer that held these bytes is a line with a true finding for each of these files, and nothing
 -- else.
-pub record AreSumsPrinted (tells : List ℕ → FileState → Type 0) (index : Indexed) (files : List (ℕ × ℕ)) (old new : Option (List ℕ))
+pub record AreSumsPrinted (finds : List ℕ → FileState → Type 0) (index : Indexed) (files : List (ℕ × ℕ)) (old new : Option (List ℕ))
     (status : Status) : Type 0 where
   pub findings : List Finding
   pub places : map file_of findings ≡ files
-  pub are_true : AllByRecursion (IsTrueFinding tells index) findings
+  pub are_true : AllByRecursion (IsTrueFinding finds index) findings
   pub printed : Appends old new (flat_map (sum_line index) findings)
   pub status_is : status ≡ sums_status findings
 
 -- A prefix of the lines of true findings was appended, and nothing else. They are of the first of these files, in order; of the rest
 -- nothing is said.
-pub record AreSumsBegun (tells : List ℕ → FileState → Type 0) (index : Indexed) (files : List (ℕ × ℕ)) (old new : Option (List ℕ))
+pub record AreSumsBegun (finds : List ℕ → FileState → Type 0) (index : Indexed) (files : List (ℕ × ℕ)) (old new : Option (List ℕ))
     : Type 0 where
   pub findings : List Finding
   pub rest : List (ℕ × ℕ)
   pub places : map file_of findings ++ rest ≡ files
-  pub are_true : AllByRecursion (IsTrueFinding tells index) findings
+  pub are_true : AllByRecursion (IsTrueFinding finds index) findings
   pub prefix : AppendsPrefix old new (flat_map (sum_line index) findings)

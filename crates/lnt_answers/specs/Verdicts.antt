@@ -6,7 +6,7 @@ use Rattle.lnt_compare.specs.declared.outcome.Compared.TheVariants.{Same, Fault,
 use Rattle.lnt_table.specs.declared.kinds.OfKind.TheVariants.{Numbered, ByPath}
 use Rattle.lnt_table.specs.declared.verdict.Verdict.TheVariants.{Yes, No}
 use Rattle.lnt_table.specs.declared.within.CheckedWithin.{CheckedWithin}
-use Rattle.lnt_table.specs.declared.within.CheckedWithin.TheVariants.{Checked as Told, Covered}
+use Rattle.lnt_table.specs.declared.within.CheckedWithin.TheVariants.{Checked as Printed, Covered}
 use Rattle.lnt_table.specs.FaultTexts.{within_text}
 
 -- ---- a check's answer
@@ -17,9 +17,9 @@ checked_line checked = within_text checked ++ codes "\n"
 
 -- how a run ends after it, for a table of any version, in any scope
 abbrev pub checked_status : CheckedWithin → Status
-checked_status (Told (Numbered Yes)) = status.Done
-checked_status (Told (Numbered (No reason))) = status.No
-checked_status (Told (ByPath Same)) = status.Done
-checked_status (Told (ByPath (Fault told))) = status.No
-checked_status (Told (ByPath (Differs difference))) = status.No
+checked_status (Printed (Numbered Yes)) = status.Done
+checked_status (Printed (Numbered (No reason))) = status.No
+checked_status (Printed (ByPath Same)) = status.Done
+checked_status (Printed (ByPath (Fault told))) = status.No
+checked_status (Printed (ByPath (Differs difference))) = status.No
 checked_status (Covered coverage) = status.Done

@@ -2,17 +2,17 @@
 ghost use Rattle.std.specs.Prelude.{◌≡◌, ◌+◌, ◌-◌, ◌^◌, ◌<◌, ◌==◌, [], ◌∷◌, length, IfErr, IfOk, IfSome, IsErrOf, IsTrue, MatchOption};
 ghost use Rattle.std.specs.Prelude.{◌++◌, ◌≤◌, OnErr, OnOk, Some, drop, take, position};
 ghost use Rattle.std.specs.Str.Lines.{strip_carriage_return};
-ghost use Rattle.lnt_io.specs.declared.halt.Halt.TheVariants as halt;
+ghost use Rattle.lnt_io.specs.declared.io_stop.IoStop.TheVariants as io_stop;
 ghost use Rattle.lnt_io.specs.declared.status.Status.TheVariants.{Done};
-ghost use Rattle.lnt_io.specs.Halts.{IsPrinting};
+ghost use Rattle.lnt_io.specs.IoStops.{IsPrinting};
 ghost use Rattle.lnt_answers.specs.AddressBlocks.{AreFirstBegun, AreFirstPrinted, BeginsWithLine, HasNo, IsCut};
 ghost use Rattle.lnt_answers.specs.AddressLines.{AreAddressesBegun, AreAddressesPrinted, AreLinesBegun, AreLinesPrinted};
-ghost use Rattle.lnt_answers.specs.Lines.{TellsPosition};
+ghost use Rattle.lnt_answers.specs.Lines.{NamesPosition};
 ghost use Rattle.lnt_spans.specs.declared.position.Position.{Position as Spec};
 
 use crate::display::put_text;
 use crate::lookup::{CachedLookups, put_lookup, send};
-use lnt_io::{BLOCK, Halt, Source, Status};
+use lnt_io::{BLOCK, IoStop, Source, Status};
 use lnt_lines::{Index, KeepsFrom};
 use lnt_spans::Position;
 use lnt_text::{Quoted, address, address_until, decimal, decimal_until};
@@ -40,13 +40,13 @@ pub fn print_addresses<T: Source, W: Write>(
     lines: &mut T,
     op: u64,
     out: &mut W,
-) -> Result<Status, Halt>
+) -> Result<Status, IoStop>
     requires { T.failures lines.old < 2 ^ 64 - 1 }
     ensures told { IfOk result (λ status. AreAddressesPrinted index.now op (T.remaining lines.old)
         (W.contents out.old) (W.contents out.new) status) }
     ensures begun { OnErr result (AreAddressesBegun index.now op (T.remaining lines.old) (W.contents out.old) (W.contents out.new)) }
-    ensures read { IsErrOf result halt.Read → T.failures lines.new ≡ T.failures lines.old + 1 }
-    ensures too_long { IsErrOf result halt.TooLong → IsTrue (T.too_long lines.new) }
+    ensures read { IsErrOf result io_stop.Read → T.failures lines.new ≡ T.failures lines.old + 1 }
+    ensures too_long { IsErrOf result io_stop.TooLong → IsTrue (T.too_long lines.new) }
 {
     // Of the size of a file's buffer, so that a pull is one read.
     let mut block = vec![in alloc; 0; BLOCK]?;
@@ -54,7 +54,7 @@ pub fn print_addresses<T: Source, W: Write>(
     let mut asked = Asked::new(alloc, op);
     loop {
         let Ok(count) = lines.pull(&mut block) else {
-            return Err(Halt::Read);
+            return Err(IoStop::Read);
         };
         if count == 0 {
             break;
@@ -63,7 +63,7 @@ pub fn print_addresses<T: Source, W: Write>(
         out.flush()?;
     }
     if lines.too_long() {
-        return Err(Halt::TooLong);
+        return Err(IoStop::TooLong);
     }
     if !asked.line.is_empty() {
         asked.answer_line(alloc, &mut lookups, out)?;
@@ -105,7 +105,7 @@ impl Asked {
         lookups: &mut CachedLookups<'_, '_>,
         block: &[u8],
         out: &mut W,
-    ) -> Result<(), Halt>
+    ) -> Result<(), IoStop>
         requires line { HasNo 10 self.old.line.items }
         requires none { self.old.answers.lines.items ≡ [] }
         ensures err { IfErr result IsPrinting }
@@ -155,7 +155,7 @@ impl Asked {
         alloc: Global,
         lookups: &mut CachedLookups<'_, '_>,
         out: &mut W,
-    ) -> Result<(), Halt>
+    ) -> Result<(), IoStop>
         requires { self.old.answers.lines.items ≡ [] }
         ensures err { IfErr result IsPrinting }
         ensures told { OnOk result (AreLinesPrinted lookups.old self.old.answers.op (self.old.line.items ∷ [])
@@ -284,7 +284,7 @@ fn line_at(text: &[u8], op: u64) -> Option<(Position, &[u8])>
 
 // Parses a line `ADDRESS` or `ADDRESS,N`; without N the operation index is `op`. `None` if the line is neither.
 fn position_in(line: &[u8], op: u64) -> Option<Position>
-    ensures { MatchOption result ((position : Spec) → TellsPosition op line.now position → ⊥) (TellsPosition op line.now) }
+    ensures { MatchOption result ((position : Spec) → NamesPosition op line.now position → ⊥) (NamesPosition op line.now) }
 {
     let Some(comma) = place_of(b',', line) else {
         return Some(Position {

@@ -2,14 +2,14 @@
 ghost use Rattle.std.specs.Prelude.{◌≡◌, [], List, Option, IfErr, IfOk, OnErr};
 ghost use Rattle.lnt_answers.specs.Stretches.{AreStretchesPrinted, stretch_line};
 ghost use Rattle.lnt_answers.specs.Stepping.{ArePrinted};
-ghost use Rattle.lnt_io.specs.Halts.{IsPrinting};
+ghost use Rattle.lnt_io.specs.IoStops.{IsPrinting};
 ghost use Rattle.lnt_io.specs.Prefixes.{HasBegun};
 ghost use Rattle.lnt_spans.specs.declared.answer.Answer.{Answer};
 ghost use Rattle.lnt_spans.specs.declared.position.Position.{Position};
-ghost use Rattle.lnt_spans.specs.Stretching.{HasTold};
+ghost use Rattle.lnt_spans.specs.Stretching.{HasFoundStretches};
 
 use crate::stretch_lines::StretchLines;
-use lnt_io::Halt;
+use lnt_io::IoStop;
 use lnt_spans::{Differences, SpanSource};
 use lnt_table::Scope;
 use lnt_text::DifferenceLine;
@@ -25,15 +25,15 @@ pub(crate) fn print_differences<S: SpanSource + Drop, T: SpanSource + Drop, W: W
     differences: Differences<S, T>,
     scope: Scope,
     out: &mut W,
-) -> Result<Option<u128>, Halt>
+) -> Result<Option<u128>, IoStop>
     requires { (by_section : Position → Option Answer) × (by_table : Position → Option Answer)
-        × HasTold S.to_come T.to_come differences by_section by_table [] }
+        × HasFoundStretches S.to_come T.to_come differences by_section by_table [] }
     ensures err { IfErr result IsPrinting }
     ensures lines { IfOk result (λ missed. (by_section by_table : Position → Option Answer)
-        → HasTold S.to_come T.to_come differences by_section by_table []
+        → HasFoundStretches S.to_come T.to_come differences by_section by_table []
         → ArePrinted stretch_line scope by_section by_table (W.contents out.old) (W.contents out.new) missed) }
     ensures begun { OnErr result ((by_section by_table : Position → Option Answer)
-        → HasTold S.to_come T.to_come differences by_section by_table []
+        → HasFoundStretches S.to_come T.to_come differences by_section by_table []
         → HasBegun (AreStretchesPrinted stretch_line scope by_section by_table (W.contents out.old))
         (W.contents out.old) (W.contents out.new)) }
 {

@@ -3,13 +3,13 @@ ghost use Rattle.std.specs.Prelude.{◌≡◌, ◌<◌, IfErr, IfOk, OnErr, OnOk
 ghost use Rattle.std.specs.Io.KnownBytes.{Appends};
 ghost use Rattle.lnt_io.specs.Prefixes.{AppendsPrefix};
 ghost use Rattle.lnt_io.specs.declared.status.Status.TheVariants.{Done};
-ghost use Rattle.lnt_io.specs.Halts.{IsPrinting};
+ghost use Rattle.lnt_io.specs.IoStops.{IsPrinting};
 ghost use Rattle.lnt_lines.specs.Indexed.{file_count_in, file_path_in, file_sum_in};
 ghost use Rattle.lnt_files.specs.Paths.{path_or_empty};
 ghost use Rattle.lnt_answers.specs.Lines.{file_record, files_text, sum_field, unit_records};
 
 use csv::Writer;
-use lnt_io::{Halt, Status, write_whole};
+use lnt_io::{IoStop, Status, write_whole};
 use lnt_lines::Index;
 use std::alloc::{AllocError, Global};
 use std::io::Write;
@@ -20,7 +20,11 @@ use std::io::Write;
 ///
 /// Returns `Done`. Stops with `Write` if the writer failed, and with `Memory`. If it stops, a prefix of these lines has
 /// been written, and nothing else.
-pub fn print_files<W: Write>(alloc: Global, index: &Index<'_>, out: &mut W) -> Result<Status, Halt>
+pub fn print_files<W: Write>(
+    alloc: Global,
+    index: &Index<'_>,
+    out: &mut W,
+) -> Result<Status, IoStop>
     ensures done { IfOk result (λ status. status ≡ Done) }
     ensures err { IfErr result IsPrinting }
     ensures files { OnOk result (Appends (W.contents out.old) (W.contents out.new) (files_text index.now)) }
@@ -40,7 +44,7 @@ fn print_unit_files<W: Write>(
     index: &Index<'_>,
     unit: u64,
     out: &mut W,
-) -> Result<(), Halt>
+) -> Result<(), IoStop>
     ensures err { IfErr result IsPrinting }
     ensures records { OnOk result (Appends (W.contents out.old) (W.contents out.new) (unit_records index.now unit)) }
     ensures prefix { OnErr result (AppendsPrefix (W.contents out.old) (W.contents out.new) (unit_records index.now unit)) }
@@ -58,7 +62,7 @@ fn print_file<W: Write>(
     unit: u64,
     file: u64,
     out: &mut W,
-) -> Result<(), Halt>
+) -> Result<(), IoStop>
     requires { file < file_count_in index.now unit }
     ensures err { IfErr result IsPrinting }
     ensures record { OnOk result (Appends (W.contents out.old) (W.contents out.new) (file_record index.now unit file)) }
@@ -74,7 +78,7 @@ fn record_of(alloc: Global, index: &Index<'_>, unit: u64, file: u64) -> Result<V
     requires { file < file_count_in index.now unit }
     ensures { IfOk result (λ bytes. bytes.items ≡ file_record index.now unit file) }
 {
-    let path = path_of(alloc, index, unit, file)?;
+    let path = file_path(alloc, index, unit, file)?;
     let sum = sum_of(alloc, index, unit, file)?;
     let unit = format!(in alloc; "{unit}")?;
     let file = format!(in alloc; "{file}")?;
@@ -96,7 +100,7 @@ fn record_of(alloc: Global, index: &Index<'_>, unit: u64, file: u64) -> Result<V
 }
 
 // The full path of a file of the unit.
-pub(crate) fn path_of(
+pub(crate) fn file_path(
     alloc: Global,
     index: &Index<'_>,
     unit: u64,

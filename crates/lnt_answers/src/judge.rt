@@ -5,7 +5,7 @@ ghost use Rattle.lnt_lines.specs.Judging.{IsJudgedIndex};
 ghost use Rattle.lnt_answers.specs.Lines.{HasBegunLine, IsIndexGiven, IsReasonPrinted};
 ghost use Rattle.lnt_io.specs.Stopping.{CountsFailure, IsTooLongOn};
 
-use lnt_io::{Halt, Source, print_line};
+use lnt_io::{IoStop, Source, print_line};
 use lnt_lines::{JudgedIndex, Options, index_section};
 use lnt_wire::Strings;
 use std::alloc::Global;
@@ -18,13 +18,13 @@ use std::io::Write;
 /// source failed, with `TooLong` only if the source has more bytes than it may give, with `Write` if the writer failed, and
 /// with `Memory`. If it stops, nothing has been written, or a prefix of the line of a true reason. The caller ensures that
 /// the number of the source's failures is below `u64::MAX`.
-pub fn judge_section<'s, R: Source, W: Write>(
+pub fn judge_or_refuse<'s, R: Source, W: Write>(
     alloc: Global,
     section: &mut R,
     strings: &Strings<'s>,
     options: &Options,
     out: &mut W,
-) -> Result<JudgedIndex<'s>, Halt>
+) -> Result<JudgedIndex<'s>, IoStop>
     requires { R.failures section.old < 2 ^ 64 - 1 }
     ensures judged { IfOk result (λ judged. IfSome (R.remaining section.old) (λ bytes.
         IsJudgedIndex strings.now.line.now strings.now.general.now options.now bytes judged)) }
@@ -34,8 +34,8 @@ pub fn judge_section<'s, R: Source, W: Write>(
         ⊎ HasBegunLine (λ judged. IfSome (R.remaining section.old) (λ bytes.
         IsJudgedIndex strings.now.line.now strings.now.general.now options.now bytes judged))
         (W.contents out.old) (W.contents out.new)) }
-    ensures failures { CountsFailure ⟦<R as Source>⟧ section.old section.new result Halt.Read }
-    ensures too_long { IsTooLongOn ⟦<R as Source>⟧ section.old section.new result Halt.TooLong }
+    ensures failures { CountsFailure ⟦<R as Source>⟧ section.old section.new result IoStop.Read }
+    ensures too_long { IsTooLongOn ⟦<R as Source>⟧ section.old section.new result IoStop.TooLong }
 {
     match index_section(alloc, section, strings, options)? {
         JudgedIndex::Good(index) => Ok(JudgedIndex::Good(index)),

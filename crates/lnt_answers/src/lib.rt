@@ -1,6 +1,6 @@
 //! Prints what a judged section answers as text, and the results about address tables.
 //!
-//! [`judge_section`] gives the index of a good section, or prints why the section isn't good. From the index
+//! [`judge_or_refuse`] gives the index of a good section, or prints why the section isn't good. From the index
 //! [`print_lookups`] and [`print_addresses`] print the answers at positions, [`print_files`] the files, [`print_sums`]
 //! whether the files have their listed MD5 sums, and [`print_table`] and [`print_path_table`] the section's table.
 //! [`print_stretches`] prints a line for each stretch of positions at which a table and a section answer differently. The answer of a
@@ -25,7 +25,7 @@ mod table;
 pub use addresses::print_addresses;
 pub use digest::{Agreement, md5_agrees, sum_of};
 pub use files::print_files;
-pub use judge::judge_section;
+pub use judge::judge_or_refuse;
 pub use lookup::print_lookups;
 pub use stretches::{Stretches, print_stretches};
 pub use sums::{lists_sums, print_sums};

@@ -3,13 +3,13 @@ ghost use Rattle.std.specs.Prelude.{◌≡◌, [], ◌++◌, IfErr, IfOk, OnErr,
 ghost use Rattle.std.specs.Io.KnownBytes.{Appends};
 ghost use Rattle.lnt_io.specs.declared.status.Status.TheVariants.{Done};
 ghost use Rattle.lnt_io.specs.Prefixes.{AppendsPrefix};
-ghost use Rattle.lnt_io.specs.Halts.{IsPrinting};
+ghost use Rattle.lnt_io.specs.IoStops.{IsPrinting};
 ghost use Rattle.lnt_lines.specs.Indexed.{OfUnits};
 ghost use Rattle.lnt_answers.specs.Lines.{lookup_line};
 
 use crate::answer_line::{put_answer, put_none};
 use crate::line_ends::LineEnds;
-use lnt_io::{Halt, Status, write_whole};
+use lnt_io::{IoStop, Status, write_whole};
 use lnt_lines::{Index, KeepsFrom, Lookups};
 use lnt_spans::{Position, Probes};
 use std::alloc::{AllocError, Global};
@@ -76,7 +76,7 @@ pub(crate) fn put_lookup(
 }
 
 // Writes the lines that were made, and empties their buffer.
-pub(crate) fn send<W: Write>(lines: &mut Vec<u8>, out: &mut W) -> Result<(), Halt>
+pub(crate) fn send<W: Write>(lines: &mut Vec<u8>, out: &mut W) -> Result<(), IoStop>
     ensures whole { OnOk result (Appends (W.contents out.old) (W.contents out.new) lines.old.items) }
     ensures empty { OnOk result (lines.new.items ≡ []) }
     ensures prefix { OnErr result (AppendsPrefix (W.contents out.old) (W.contents out.new) lines.old.items) }
@@ -97,9 +97,9 @@ pub fn print_lookups<W: Write>(
     index: &Index<'_>,
     positions: &[Position],
     out: &mut W,
-) -> Result<Status, Halt>
+) -> Result<Status, IoStop>
     ensures done { IfOk result (λ status. status ≡ Done) }
-    ensures err { IfErr result (λ halt. IsPrinting halt) }
+    ensures err { IfErr result (λ io_stop. IsPrinting io_stop) }
     ensures lines { OfUnits index.now (λ selection.
         OnOk result (Appends (W.contents out.old) (W.contents out.new) (flat_map (lookup_line index.now selection) positions.now))) }
     ensures prefix { OfUnits index.now (λ selection. OnErr result (AppendsPrefix (W.contents out.old) (W.contents out.new)

@@ -3,10 +3,10 @@ ghost use Rattle.std.specs.Prelude.{◌≡◌, [], true, false, cond, Some, None
 ghost use Rattle.std.specs.Io.KnownBytes.{Appends};
 ghost use Rattle.lnt_answers.specs.Stepping.{counts_in};
 ghost use Rattle.lnt_io.specs.Prefixes.{AppendsPrefix};
-ghost use Rattle.lnt_io.specs.Halts.{IsPrinting};
+ghost use Rattle.lnt_io.specs.IoStops.{IsPrinting};
 
 use crate::display::put_text;
-use lnt_io::{Halt, write_whole};
+use lnt_io::{IoStop, write_whole};
 use lnt_table::Scope;
 use std::alloc::Global;
 use std::fmt;
@@ -41,7 +41,7 @@ impl StretchLines {
         is_answered: bool,
         line: &T,
         out: &mut W,
-    ) -> Result<(), Halt>
+    ) -> Result<(), IoStop>
         ensures err { IfErr result IsPrinting }
         ensures line { IfSome (T.output line.now) (λ text. OnOk result (Appends (W.contents out.old) (W.contents out.new)
             (cond (counts_in self.old.scope is_answered) text []))) }

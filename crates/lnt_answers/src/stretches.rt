@@ -1,12 +1,12 @@
 //! All stretches of positions in a scope at which a table and a good section answer differently.
 ghost use Rattle.std.specs.Prelude.{◌≡◌, ◌-◌, ◌^◌, ◌<◌, ◌+◌, [], Option, IfErr, IfOk, OnErr, OnOk};
 ghost use Rattle.std.specs.Io.KnownBytes.{Appends};
-ghost use Rattle.lnt_answers.specs.Stretches.{AreStretchesPrinted, path_stretch_line, BeginsStretches, IsFaultPrinted, TellsStretches};
+ghost use Rattle.lnt_answers.specs.Stretches.{AreStretchesPrinted, path_stretch_line, BeginsStretches, IsFaultPrinted, AreStretchesOfIndex};
 ghost use Rattle.lnt_answers.specs.Stepping.{ArePrinted, answer_of, end_status, end_text};
 ghost use Rattle.lnt_records.specs.PathSpans.{PathAnswer};
-ghost use Rattle.lnt_compare.specs.Differing.{HasToldByPath};
+ghost use Rattle.lnt_compare.specs.Differing.{HasFoundStretchesByPath};
 ghost use Rattle.lnt_io.specs.Prefixes.{AppendsPrefix, HasBegun};
-ghost use Rattle.lnt_io.specs.Halts.{IsPrinting};
+ghost use Rattle.lnt_io.specs.IoStops.{IsPrinting};
 ghost use Rattle.lnt_sequences.specs.Sequences.{line_answer};
 ghost use Rattle.lnt_spans.specs.Partial.{addresses_answered};
 ghost use Rattle.lnt_spans.specs.declared.position.Position.{Position};
@@ -16,7 +16,7 @@ ghost use Rattle.lnt_io.specs.Stopping.{CountsFailure};
 use crate::differences::print_differences;
 use crate::stretch_lines::StretchLines;
 use lnt_compare::{DifferencesByPath, TableRead};
-use lnt_io::{Halt, Source, Status, print_line};
+use lnt_io::{IoStop, Source, Status, print_line};
 use lnt_lines::Index;
 use lnt_records::{Paths, TableFault};
 use lnt_spans::SpanSource;
@@ -33,11 +33,11 @@ pub enum Stretches {
     /// The header is that of version 1 or 2, but the bytes aren't a table: the first fault.
     Faulty(TableFault),
     /// A table of version 1 or 2: the positions at which the answers differ; `Done` if there are none.
-    Told(Status),
+    Printed(Status),
     /// The header is another, and the bytes aren't a table by path: the first fault.
     FaultyByPath(TableFault),
     /// A table by path: the positions at which the answers differ, with the paths of files; `Done` if there are none.
-    ToldByPath(Status),
+    PrintedByPath(Status),
 }
 
 /// Prints a line for each stretch of positions at which the table from a source, of any version, and a good section answer
@@ -57,18 +57,18 @@ pub fn print_stretches<T: Source, W: Write>(
     index: &Index<'_>,
     scope: Scope,
     out: &mut W,
-) -> Result<Stretches, Halt>
+) -> Result<Stretches, IoStop>
     requires { T.failures table.old < 2 ^ 64 - 1 }
-    ensures told { IfOk result (TellsStretches scope index.now (T.remaining table.old) (W.contents out.old) (W.contents out.new)) }
+    ensures told { IfOk result (AreStretchesOfIndex scope index.now (T.remaining table.old) (W.contents out.old) (W.contents out.new)) }
     ensures faulty { IfOk result (λ told. IsFaultPrinted told (W.contents out.old) (W.contents out.new)) }
-    ensures failures { CountsFailure ⟦<T as Source>⟧ table.old table.new result Halt.Read }
+    ensures failures { CountsFailure ⟦<T as Source>⟧ table.old table.new result IoStop.Read }
     ensures begun { OnErr result (BeginsStretches scope index.now (T.remaining table.old) (W.contents out.old) (W.contents out.new)) }
 {
     match differences_any(alloc, table, index) {
         Ok(OfKind::Numbered(TableRead::Table(differences))) => {
             let missed = print_differences(alloc, differences, scope, out)?;
             let status = print_end(alloc, scope, missed, index, out)?;
-            Ok(Stretches::Told(status))
+            Ok(Stretches::Printed(status))
         }
         Ok(OfKind::Numbered(TableRead::Fault(fault))) => {
             print_line(alloc, &TableNo::from(fault), out)?;
@@ -81,13 +81,13 @@ pub fn print_stretches<T: Source, W: Write>(
             drop(spans);
             let missed = printed?;
             let status = print_end(alloc, scope, missed, index, out)?;
-            Ok(Stretches::ToldByPath(status))
+            Ok(Stretches::PrintedByPath(status))
         }
         Ok(OfKind::ByPath(TableRead::Fault(fault))) => {
             print_line(alloc, &TableNo::from(fault), out)?;
             Ok(Stretches::FaultyByPath(fault))
         }
-        Err(stop) => Err(Halt::from(stop)),
+        Err(stop) => Err(IoStop::from(stop)),
     }
 }
 
@@ -99,7 +99,7 @@ fn print_end<W: Write>(
     missed: Option<u128>,
     index: &Index<'_>,
     out: &mut W,
-) -> Result<Status, Halt>
+) -> Result<Status, IoStop>
     ensures err { IfErr result IsPrinting }
     ensures status { IfOk result (λ status. status ≡ end_status missed) }
     ensures text { OfUnits index.now (λ selection. OnOk result (Appends (W.contents out.old) (W.contents out.new)
@@ -134,15 +134,15 @@ fn print_path_differences<S: SpanSource + Drop, P: Paths, W: Write>(
     paths: &P,
     scope: Scope,
     out: &mut W,
-) -> Result<Option<u128>, Halt>
+) -> Result<Option<u128>, IoStop>
     requires { (by_section : Position → Option PathAnswer) × (by_table : Position → Option PathAnswer)
-        × HasToldByPath S.to_come (P.bytes_of paths.now) differences by_section by_table [] }
+        × HasFoundStretchesByPath S.to_come (P.bytes_of paths.now) differences by_section by_table [] }
     ensures err { IfErr result IsPrinting }
     ensures lines { IfOk result (λ missed. (by_section by_table : Position → Option PathAnswer)
-        → HasToldByPath S.to_come (P.bytes_of paths.now) differences.entry by_section by_table []
+        → HasFoundStretchesByPath S.to_come (P.bytes_of paths.now) differences.entry by_section by_table []
         → ArePrinted path_stretch_line scope by_section by_table (W.contents out.old) (W.contents out.new) missed) }
     ensures begun { OnErr result ((by_section by_table : Position → Option PathAnswer)
-        → HasToldByPath S.to_come (P.bytes_of paths.now) differences.entry by_section by_table []
+        → HasFoundStretchesByPath S.to_come (P.bytes_of paths.now) differences.entry by_section by_table []
         → HasBegun (AreStretchesPrinted path_stretch_line scope by_section by_table (W.contents out.old))
         (W.contents out.old) (W.contents out.new)) }
 {

@@ -1,17 +1,17 @@
 //! Prints whether files have the MD5 sums that are listed for them.
 ghost use Rattle.std.specs.Prelude.{◌≡◌, ◌↔◌, ◌<◌, ◌++◌, IfErr, IfOk, IsSome, IsTrue, OnErr, OnOk, codes, Any};
 ghost use Rattle.std.specs.Io.KnownBytes.{Appends};
-ghost use Rattle.lnt_io.specs.Files.{TellsNoMore};
-ghost use Rattle.lnt_io.specs.Halts.{IsPrinting};
+ghost use Rattle.lnt_io.specs.Files.{FindsNoMore};
+ghost use Rattle.lnt_io.specs.IoStops.{IsPrinting};
 ghost use Rattle.lnt_lines.specs.Indexed.{file_count_in, file_sum_in};
 ghost use Rattle.lnt_text.specs.Texts.{quoted_text};
 ghost use Rattle.lnt_answers.specs.SumLines.{AreSumsBegun, AreSumsPrinted, IsTrueOfFile, both, found_status, found_text, head_text, listed_at};
 ghost use Rattle.lnt_answers.specs.SumLines.{listed_files, listed_in};
 
 use crate::display::put_text;
-use crate::files::path_of;
+use crate::files::file_path;
 use crate::{Agreement, md5_agrees};
-use lnt_io::{Halt, OpenedFile, Opener, Status, write_whole};
+use lnt_io::{IoStop, OpenedFile, Opener, Status, write_whole};
 use lnt_lines::Index;
 use lnt_text::Quoted;
 use std::alloc::{AllocError, Global};
@@ -32,11 +32,11 @@ pub fn print_sums<O: Opener, W: Write>(
     index: &Index<'_>,
     opener: &mut O,
     out: &mut W,
-) -> Result<Status, Halt>
+) -> Result<Status, IoStop>
     ensures err { IfErr result IsPrinting }
-    ensures sums { IfOk result (λ status. AreSumsPrinted (O.tells opener.old) index.now (listed_files index.now)
+    ensures sums { IfOk result (λ status. AreSumsPrinted (O.finds opener.old) index.now (listed_files index.now)
         (W.contents out.old) (W.contents out.new) status) }
-    ensures begun { OnErr result (AreSumsBegun (O.tells opener.old) index.now (listed_files index.now)
+    ensures begun { OnErr result (AreSumsBegun (O.finds opener.old) index.now (listed_files index.now)
         (W.contents out.old) (W.contents out.new)) }
 {
     let mut status = Status::Done;
@@ -56,12 +56,12 @@ fn print_unit_sums<O: Opener, W: Write>(
     opener: &mut O,
     room: &mut Vec<u8>,
     out: &mut W,
-) -> Result<Status, Halt>
+) -> Result<Status, IoStop>
     ensures err { IfErr result IsPrinting }
-    ensures later { OnOk result (TellsNoMore (O.tells opener.old) (O.tells opener.new)) }
-    ensures sums { IfOk result (λ status. AreSumsPrinted (O.tells opener.old) index.now (listed_in index.now unit)
+    ensures later { OnOk result (FindsNoMore (O.finds opener.old) (O.finds opener.new)) }
+    ensures sums { IfOk result (λ status. AreSumsPrinted (O.finds opener.old) index.now (listed_in index.now unit)
         (W.contents out.old) (W.contents out.new) status) }
-    ensures begun { OnErr result (AreSumsBegun (O.tells opener.old) index.now (listed_in index.now unit)
+    ensures begun { OnErr result (AreSumsBegun (O.finds opener.old) index.now (listed_in index.now unit)
         (W.contents out.old) (W.contents out.new)) }
 {
     let mut status = Status::Done;
@@ -82,19 +82,19 @@ fn print_sum<O: Opener, W: Write>(
     opener: &mut O,
     room: &mut Vec<u8>,
     out: &mut W,
-) -> Result<Status, Halt>
+) -> Result<Status, IoStop>
     requires { file < file_count_in index.now unit }
     ensures err { IfErr result IsPrinting }
-    ensures later { OnOk result (TellsNoMore (O.tells opener.old) (O.tells opener.new)) }
-    ensures sum { IfOk result (λ status. AreSumsPrinted (O.tells opener.old) index.now (listed_at index.now unit file)
+    ensures later { OnOk result (FindsNoMore (O.finds opener.old) (O.finds opener.new)) }
+    ensures sum { IfOk result (λ status. AreSumsPrinted (O.finds opener.old) index.now (listed_at index.now unit file)
         (W.contents out.old) (W.contents out.new) status) }
-    ensures begun { OnErr result (AreSumsBegun (O.tells opener.old) index.now (listed_at index.now unit file)
+    ensures begun { OnErr result (AreSumsBegun (O.finds opener.old) index.now (listed_at index.now unit file)
         (W.contents out.old) (W.contents out.new)) }
 {
     let Some(listed) = index.listed(unit, file) else {
         return Ok(Status::Done);
     };
-    let path = path_of(alloc, index, unit, file)?;
+    let path = file_path(alloc, index, unit, file)?;
     let found = found_of(&path, &listed, opener);
     room.clear();
     put_found(alloc, unit, file, &path, found, room)?;
@@ -104,8 +104,8 @@ fn print_sum<O: Opener, W: Write>(
 
 // Whether the file at the path has the sum. `None` if it can't be read.
 fn found_of<O: Opener>(path: &[u8], listed: &[u8; 16], opener: &mut O) -> Option<Agreement>
-    ensures later { TellsNoMore (O.tells opener.old) (O.tells opener.new) }
-    ensures found { IsTrueOfFile (O.tells opener.old) path.now listed.now result }
+    ensures later { FindsNoMore (O.finds opener.old) (O.finds opener.new) }
+    ensures found { IsTrueOfFile (O.finds opener.old) path.now listed.now result }
 {
     let name = str::from_utf8(path).ok()?;
     if name == "-" || !opener.is_regular(name) {

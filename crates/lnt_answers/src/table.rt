@@ -1,7 +1,7 @@
 //! The address table of a good section.
 ghost use Rattle.std.specs.Prelude.{◌≡◌, ℕ, List, IfErr, IfOk, OnErr, OnOk};
 ghost use Rattle.std.specs.Io.KnownBytes.{Appends};
-ghost use Rattle.lnt_io.specs.Halts.{IsPrinting};
+ghost use Rattle.lnt_io.specs.IoStops.{IsPrinting};
 ghost use Rattle.lnt_io.specs.declared.status.Status.TheVariants.{Done};
 ghost use Rattle.lnt_table.specs.Headline.{told_path};
 ghost use Rattle.lnt_table.specs.Written.{BeginsTableOfUnits, IsTableOfUnits};
@@ -9,7 +9,7 @@ ghost use Rattle.lnt_lines.specs.Indexed.{OfUnits};
 ghost use Rattle.lnt_answers.specs.PathTables.{BeginsPrintedTable, IsPrintedTable};
 
 use lnt_compare::PathTable;
-use lnt_io::{Halt, Status, print_line};
+use lnt_io::{IoStop, Status, print_line};
 use lnt_lines::Index;
 use lnt_records::PathVersion;
 use lnt_spans::Version;
@@ -26,7 +26,7 @@ pub fn print_table<W: Write>(
     index: &Index<'_>,
     version: Version,
     out: &mut W,
-) -> Result<Status, Halt>
+) -> Result<Status, IoStop>
     ensures done { IfOk result (λ status. status ≡ Done) }
     ensures err { IfErr result IsPrinting }
     ensures table { OnOk result ((bytes : List ℕ) × Appends (W.contents out.old) (W.contents out.new) bytes
@@ -48,7 +48,7 @@ pub fn print_path_table<W: Write>(
     index: &Index<'_>,
     version: PathVersion,
     out: &mut W,
-) -> Result<Status, Halt>
+) -> Result<Status, IoStop>
     ensures err { IfErr result IsPrinting }
     ensures table { IfOk result (λ status. OfUnits index.now (λ selection.
         IsPrintedTable version (told_path version index.now selection) (W.contents out.old) (W.contents out.new) status)) }

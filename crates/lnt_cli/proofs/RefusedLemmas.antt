@@ -4,30 +4,30 @@ use Rattle.lnt_io.specs.Files.{FileState, RefusesOnly}
 use Rattle.lnt_io.specs.declared.status.Status.{Status}
 use Rattle.lnt_words.specs.Words.{IsAskedBy}
 use Rattle.lnt_words.specs.declared.request.Asked.{Asked}
-use Rattle.lnt_cli.specs.Runs.{TellUnreadable}
+use Rattle.lnt_cli.specs.Runs.{NameUnreadable}
 use Rattle.lnt_cli.specs.Stops.{IsNamedUnreadable}
 use Rattle.lnt_cli.specs.declared.stop.CliStop.{CliStop}
 use Rattle.lnt_cli.specs.declared.stop.FileStop.{FileStop}
 use Rattle.lnt_cli.proofs.RunLemmas.{IsEndOf}
 
 -- The answer's stop tells an unreadable file, or the answer may: so does the run's, or the answer to the words.
-told_by_run : (tells : List ℕ → FileState → Type 0) (words : List (List ℕ)) (asked : Asked) (ended : Result Status FileStop)
+told_by_run : (finds : List ℕ → FileState → Type 0) (words : List (List ℕ)) (asked : Asked) (ended : Result Status FileStop)
     (run : Result Status CliStop) (name : List ℕ) → IsEndOf ended run → IsAskedBy words asked
-    → IsNamedUnreadable tells asked.request ended name → TellUnreadable tells words run name
-told_by_run tells words asked (Ok status) run name is is_asked (inl told) = absurd told
-told_by_run tells words asked (Err stop) (Ok status) name is is_asked (inl told) = absurd is
-told_by_run tells words asked (Err stop) (Err halted) name is is_asked (inl told) = rw is (inl told)
-told_by_run tells words asked ended run name is is_asked (inr may) = inr (asked, is_asked, may)
+    → IsNamedUnreadable finds asked.request ended name → NameUnreadable finds words run name
+told_by_run finds words asked (Ok status) run name is is_asked (inl told) = absurd told
+told_by_run finds words asked (Err stop) (Ok status) name is is_asked (inl told) = absurd is
+told_by_run finds words asked (Err stop) (Err halted) name is is_asked (inl told) = rw is (inl told)
+told_by_run finds words asked ended run name is is_asked (inr may) = inr (asked, is_asked, may)
 
-before_or_told : {Old : Type 0} (tells : List ℕ → FileState → Type 0) (words : List (List ℕ)) (asked : Asked)
+before_or_told : {Old : Type 0} (finds : List ℕ → FileState → Type 0) (words : List (List ℕ)) (asked : Asked)
     (ended : Result Status FileStop) (run : Result Status CliStop) (name : List ℕ) → IsEndOf ended run → IsAskedBy words asked
-    → Old ⊎ IsNamedUnreadable tells asked.request ended name → Old ⊎ TellUnreadable tells words run name
-before_or_told tells words asked ended run name is is_asked (inl before) = inl before
-before_or_told tells words asked ended run name is is_asked (inr told) = inr (told_by_run tells words asked ended run name is is_asked told)
+    → Old ⊎ IsNamedUnreadable finds asked.request ended name → Old ⊎ NameUnreadable finds words run name
+before_or_told finds words asked ended run name is is_asked (inl before) = inl before
+before_or_told finds words asked ended run name is is_asked (inr told) = inr (told_by_run finds words asked ended run name is is_asked told)
 
 -- the same of each file that was refused
-pub run_told : (tells : List ℕ → FileState → Type 0) (words : List (List ℕ)) (asked : Asked) (ended : Result Status FileStop)
+pub run_told : (finds : List ℕ → FileState → Type 0) (words : List (List ℕ)) (asked : Asked) (ended : Result Status FileStop)
     (run : Result Status CliStop) (old new : List ℕ → Type 0) → IsEndOf ended run → IsAskedBy words asked
-    → RefusesOnly (IsNamedUnreadable tells asked.request ended) old new → RefusesOnly (TellUnreadable tells words run) old new
-run_told tells words asked ended run old new is is_asked told name refused =
-    before_or_told tells words asked ended run name is is_asked (told name refused)
+    → RefusesOnly (IsNamedUnreadable finds asked.request ended) old new → RefusesOnly (NameUnreadable finds words run) old new
+run_told finds words asked ended run old new is is_asked told name refused =
+    before_or_told finds words asked ended run name is is_asked (told name refused)

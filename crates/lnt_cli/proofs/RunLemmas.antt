@@ -15,30 +15,30 @@ use Rattle.lnt_cli.specs.declared.stop.CliStop.TheVariants.{File, Usage}
 use Rattle.lnt_cli.specs.declared.stop.FileStop.{FileStop}
 
 -- Words that aren't a request stop the run.
-pub words_refused : (tells : List ℕ → FileState → Type 0) (words : List (List ℕ)) (old new : Option (List ℕ)) (stop : WordsStop)
+pub words_refused : (finds : List ℕ → FileState → Type 0) (words : List (List ℕ)) (old new : Option (List ℕ)) (stop : WordsStop)
     (told : CliStop) → IsOfWords stop told → (stop ≢ Memory → AskForNothing words) → Keeps old new
-    → IsStopOf tells words old new told
-words_refused tells words old new stop (Usage text) is refused kept = (refused is, kept)
-words_refused tells words old new stop (File told) is refused kept = rw is ((λ name named. absurd named), inl kept)
+    → IsStopOf finds words old new told
+words_refused finds words old new stop (Usage text) is refused kept = (refused is, kept)
+words_refused finds words old new stop (File told) is refused kept = rw is ((λ name named. absurd named), inl kept)
 
 -- how a run ends whose answer ended so
 abbrev pub IsEndOf : Result Status FileStop → Result Status CliStop → Type 0
 IsEndOf ended run = MatchResult ended (λ status. run ≡ Ok status) (λ stop. IsErrAnd run (λ told. told ≡ File stop))
 
 -- The answer to the request is the answer to the words.
-pub words_answered : (tells : List ℕ → FileState → Type 0) (words : List (List ℕ)) (asked : Asked) (old new : Option (List ℕ))
+pub words_answered : (finds : List ℕ → FileState → Type 0) (words : List (List ℕ)) (asked : Asked) (old new : Option (List ℕ))
     (ended : Result Status FileStop) (run : Result Status CliStop) → IsEndOf ended run → IsAskedBy words asked
-    → IfOk ended (IsAnswered tells asked.request old new) → IfOk run (AnswersWords tells words old new)
-words_answered tells words asked old new (Ok status) run is is_asked so = rw is (asked, is_asked, so)
-words_answered tells words asked old new (Err stop) (Ok status) is is_asked so = absurd is
-words_answered tells words asked old new (Err stop) (Err told) is is_asked so = tt
+    → IfOk ended (IsAnswered finds asked.request old new) → IfOk run (AnswersWords finds words old new)
+words_answered finds words asked old new (Ok status) run is is_asked so = rw is (asked, is_asked, so)
+words_answered finds words asked old new (Err stop) (Ok status) is is_asked so = absurd is
+words_answered finds words asked old new (Err stop) (Err told) is is_asked so = tt
 
 -- the same where that answer was stopped
-pub words_stopped : (tells : List ℕ → FileState → Type 0) (words : List (List ℕ)) (asked : Asked) (old new : Option (List ℕ))
+pub words_stopped : (finds : List ℕ → FileState → Type 0) (words : List (List ℕ)) (asked : Asked) (old new : Option (List ℕ))
     (ended : Result Status FileStop) (run : Result Status CliStop) → IsEndOf ended run → IsAskedBy words asked
-    → IfErr ended (NamesOneOf (IsFileIn asked.request)) → OnErr ended (IsStopped tells asked.request old new)
-    → IfErr run (IsStopOf tells words old new)
-words_stopped tells words asked old new (Ok status) run is is_asked named stopped = rw is tt
-words_stopped tells words asked old new (Err stop) (Ok status) is is_asked named stopped = tt
-words_stopped tells words asked old new (Err stop) (Err told) is is_asked named stopped =
+    → IfErr ended (NamesOneOf (IsFileIn asked.request)) → OnErr ended (IsStopped finds asked.request old new)
+    → IfErr run (IsStopOf finds words old new)
+words_stopped finds words asked old new (Ok status) run is is_asked named stopped = rw is tt
+words_stopped finds words asked old new (Err stop) (Ok status) is is_asked named stopped = tt
+words_stopped finds words asked old new (Err stop) (Err told) is is_asked named stopped =
     rw is ((λ name is_told. (asked, is_asked, named name is_told)), inr (asked, is_asked, stopped))

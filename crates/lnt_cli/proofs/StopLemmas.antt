@@ -2,7 +2,7 @@
 use Rattle.std.proofs.Common.{ℕ, List, ◌⊎◌, Option, IsErr, Result, Ok, Err, OnErr, inl, inr, true, false}
 use Rattle.std.proofs.lemmas.Bool.{false≢true}
 use Rattle.std.specs.Io.KnownBytes.{Keeps}
-use Rattle.lnt_io.specs.Files.{FileState, TellsNoMore}
+use Rattle.lnt_io.specs.Files.{FileState, FindsNoMore}
 use Rattle.lnt_lines.specs.declared.section.JudgedIndex.{JudgedIndex}
 use Rattle.lnt_lines.specs.declared.section.JudgedIndex.TheVariants.{Good, Bad}
 use Rattle.lnt_lines.specs.Indexed.{Indexed}
@@ -20,7 +20,7 @@ pub stopped_by : {R T S E : Type 0} (HasWritten Begins : Type 0) (worked : Resul
     → OnErr worked HasWritten → (HasWritten → Begins) → OnErr ended Begins
 stopped_by HasWritten Begins worked (Ok value) is written so = tt
 stopped_by HasWritten Begins (Ok value) (Err stop) is written so = absurd (false≢true is)
-stopped_by HasWritten Begins (Err halt) (Err stop) is written so = so written
+stopped_by HasWritten Begins (Err io_stop) (Err stop) is written so = so written
 
 -- the same of what was written if something was
 pub begun_of : {T E : Type 0} (Kept Began Begins : Type 0) (ended : Result T E) → OnErr ended (Kept ⊎ Began) → (Began → Begins)
@@ -43,18 +43,18 @@ begins_bad from BeginsOfGood line general section old new (Err stop) (inr bad) =
 -- ---- questions
 
 -- a prefix of an answer stays true where more may be told of the files
-good_begun_later : (tells tells' : List ℕ → FileState → Type 0) (question : Question) (index : Indexed) (old new : Option (List ℕ))
-    → TellsNoMore tells tells' → BeginsGood tells' question index old new → BeginsGood tells question index old new
-good_begun_later tells tells' Verify index old new later begun = begun
-good_begun_later tells tells' (Lookup positions) index old new later begun = begun
-good_begun_later tells tells' Files index old new later begun = begun
-good_begun_later tells tells' (Table version) index old new later begun = begun
-good_begun_later tells tells' (TableByPath true) index old new later begun = begun
-good_begun_later tells tells' (TableByPath false) index old new later begun = begun
-good_begun_later tells tells' Md5 index old new later begun = begun_later tells tells' index (listed_files index) old new later begun
+good_begun_later : (finds finds' : List ℕ → FileState → Type 0) (question : Question) (index : Indexed) (old new : Option (List ℕ))
+    → FindsNoMore finds finds' → BeginsGood finds' question index old new → BeginsGood finds question index old new
+good_begun_later finds finds' Verify index old new later begun = begun
+good_begun_later finds finds' (Lookup positions) index old new later begun = begun
+good_begun_later finds finds' Files index old new later begun = begun
+good_begun_later finds finds' (Table version) index old new later begun = begun
+good_begun_later finds finds' (TableByPath true) index old new later begun = begun
+good_begun_later finds finds' (TableByPath false) index old new later begun = begun
+good_begun_later finds finds' Md5 index old new later begun = begun_later finds finds' index (listed_files index) old new later begun
 
-pub judged_begun_later : (tells tells' : List ℕ → FileState → Type 0) (question : Question)
-    (old new : Option (List ℕ)) (judged : JudgedIndex) → TellsNoMore tells tells'
-    → BeginsJudged (BeginsGood tells' question) old new judged → BeginsJudged (BeginsGood tells question) old new judged
-judged_begun_later tells tells' question old new (Good index) later begun = good_begun_later tells tells' question index old new later begun
-judged_begun_later tells tells' question old new (Bad reason) later begun = begun
+pub judged_begun_later : (finds finds' : List ℕ → FileState → Type 0) (question : Question)
+    (old new : Option (List ℕ)) (judged : JudgedIndex) → FindsNoMore finds finds'
+    → BeginsJudged (BeginsGood finds' question) old new judged → BeginsJudged (BeginsGood finds question) old new judged
+judged_begun_later finds finds' question old new (Good index) later begun = good_begun_later finds finds' question index old new later begun
+judged_begun_later finds finds' question old new (Bad reason) later begun = begun

@@ -32,32 +32,32 @@ abbrev pub options_in : Judging → Options
 options_in from = record { order = from.order; dead = from.dead; skip_copies = from.skip_copies }
 
 -- This is true of the bytes of the named file, which may be unknown.
-pub record IsOfBytes (tells : List ℕ → FileState → Type 0) (name : List ℕ) (IsSo : Option (List ℕ) → Type 0) : Type 0 where
+pub record IsOfBytes (finds : List ℕ → FileState → Type 0) (name : List ℕ) (IsSo : Option (List ℕ) → Type 0) : Type 0 where
   pub bytes : Option (List ℕ)
-  pub is_told : tells name (Readable bytes)
+  pub is_told : finds name (Readable bytes)
   pub so : IsSo bytes
 
 -- the bytes of a string section: those of its file; empty if no file is named
 abbrev pub AreStringsOf : (List ℕ → FileState → Type 0) → Option (List ℕ) → List ℕ → Type 0
-AreStringsOf tells name bytes = MatchOption name (bytes ≡ []) (λ named. AreBytesOf (tells named) bytes)
+AreStringsOf finds name bytes = MatchOption name (bytes ≡ []) (λ named. AreBytesOf (finds named) bytes)
 
 -- These are the bytes of both string sections.
-pub record AreTextsOf (tells : List ℕ → FileState → Type 0) (from : Judging) (line general : List ℕ) : Type 0 where
-  pub line_is : AreStringsOf tells (option_copied from.line_strings) line
-  pub general_is : AreStringsOf tells (option_copied from.strings) general
+pub record AreTextsOf (finds : List ℕ → FileState → Type 0) (from : Judging) (line general : List ℕ) : Type 0 where
+  pub line_is : AreStringsOf finds (option_copied from.line_strings) line
+  pub general_is : AreStringsOf finds (option_copied from.strings) general
 
 -- This is true of the bytes of both string sections, and of those of the section in the named file.
-pub record IsOfSection (tells : List ℕ → FileState → Type 0) (from : Judging) (IsSo : List ℕ → List ℕ → Option (List ℕ) → Type 0)
+pub record IsOfSection (finds : List ℕ → FileState → Type 0) (from : Judging) (IsSo : List ℕ → List ℕ → Option (List ℕ) → Type 0)
     : Type 0 where
   pub line : List ℕ
   pub general : List ℕ
-  pub texts : AreTextsOf tells from line general
-  pub of_section : IsOfBytes tells from.section.now (IsSo line general)
+  pub texts : AreTextsOf finds from line general
+  pub of_section : IsOfBytes finds from.section.now (IsSo line general)
 
 -- The same, and of the bytes of another file.
 abbrev pub IsOfFile : (List ℕ → FileState → Type 0) → Judging → List ℕ
     → (Option (List ℕ) → List ℕ → List ℕ → Option (List ℕ) → Type 0) → Type 0
-IsOfFile tells from file IsSo = IsOfBytes tells file (λ bytes. IsOfSection tells from (IsSo bytes))
+IsOfFile finds from file IsSo = IsOfBytes finds file (λ bytes. IsOfSection finds from (IsSo bytes))
 
 -- ---- sections that are compared with a table
 
@@ -85,49 +85,49 @@ IsJudgedSo from IsTold line general section = (judged : JudgedIndex) × IsTrueOf
 -- The answer to the question was written, or why the section isn't good.
 abbrev pub AnswersQuestion : (List ℕ → FileState → Type 0) → Judging → Question → Option (List ℕ) → Option (List ℕ) → Status
     → Type 0
-AnswersQuestion tells from question old new status =
-    IsOfSection tells from (IsJudgedSo from (AnswersJudged (AnswersGood tells question) old new status))
+AnswersQuestion finds from question old new status =
+    IsOfSection finds from (IsJudgedSo from (AnswersJudged (AnswersGood finds question) old new status))
 
 -- The answer to the question about the section and the file with this name was written. It is that of a check, or what a section that
 -- is judged says of the file.
 abbrev pub AnswersFile : (List ℕ → FileState → Type 0) → Judging → List ℕ → FileQuestion → Option (List ℕ) → Option (List ℕ) → Status
     → Type 0
-AnswersFile tells from file (Check false partial) old new status =
-    IsOfFile tells from file (IsChecked from (scope_in partial) old new status)
-AnswersFile tells from file question old new status =
-    IsOfFile tells from file (λ bytes. IsJudgedSo from (AnswersJudged (AnswersGoodFile question bytes) old new status))
+AnswersFile finds from file (Check false partial) old new status =
+    IsOfFile finds from file (IsChecked from (scope_in partial) old new status)
+AnswersFile finds from file question old new status =
+    IsOfFile finds from file (λ bytes. IsJudgedSo from (AnswersJudged (AnswersGoodFile question bytes) old new status))
 
 -- ---- sections that are read
 
 -- The answer of this reading was written, for the section in the named file.
 abbrev pub AnswersRead : (List ℕ → FileState → Type 0) → List ℕ → Order → Reading → Option (List ℕ) → Option (List ℕ) → Status → Type 0
-AnswersRead tells section order reading old new status =
-    IsOfBytes tells section (λ known. AnswersReading order reading known old new status)
+AnswersRead finds section order reading old new status =
+    IsOfBytes finds section (λ known. AnswersReading order reading known old new status)
 
 -- the bytes of a file that is named, or not
 abbrev pub IsTextOf : (List ℕ → FileState → Type 0) → Option (List ℕ) → Option (List ℕ) → Type 0
-IsTextOf tells name text = MatchOption name (text ≡ None) (λ named. IsSomeAnd text (AreBytesOf (tells named)))
+IsTextOf finds name text = MatchOption name (text ≡ None) (λ named. IsSomeAnd text (AreBytesOf (finds named)))
 
 -- This is true of the bytes of a section that is written anew, and of the text of directories.
-pub record IsOfUpgrade (tells : List ℕ → FileState → Type 0) (from : Upgrading) (IsSo : List ℕ → Option (List ℕ) → Type 0)
+pub record IsOfUpgrade (finds : List ℕ → FileState → Type 0) (from : Upgrading) (IsSo : List ℕ → Option (List ℕ) → Type 0)
     : Type 0 where
   pub bytes : List ℕ
-  pub of_section : AreBytesOf (tells from.section.now) bytes
+  pub of_section : AreBytesOf (finds from.section.now) bytes
   pub text : Option (List ℕ)
-  pub of_directories : IsTextOf tells (option_copied from.directories) text
+  pub of_directories : IsTextOf finds (option_copied from.directories) text
   pub so : IsSo bytes text
 
 -- The section in the named file was written with its older units anew, or why it can't be.
 abbrev pub AnswersUpgrade : (List ℕ → FileState → Type 0) → Upgrading → Option (List ℕ) → Option (List ℕ) → Status → Type 0
-AnswersUpgrade tells from old new status =
-    IsOfUpgrade tells from (λ bytes text. IsUpgradePrinted from.order (size_bytes from.address_size) bytes text old new status)
+AnswersUpgrade finds from old new status =
+    IsOfUpgrade finds from (λ bytes text. IsUpgradePrinted from.order (size_bytes from.address_size) bytes text old new status)
 
 -- ---- requests
 
 -- The answer to a request.
 abbrev pub IsAnswered : (List ℕ → FileState → Type 0) → Request → Option (List ℕ) → Option (List ℕ) → Status → Type 0
-IsAnswered tells (Help text) old new status = Appends old new (string_bytes text) × (status ≡ Done)
-IsAnswered tells (Read section order reading) old new status = AnswersRead tells section.now order reading old new status
-IsAnswered tells (Upgrade from) old new status = AnswersUpgrade tells from old new status
-IsAnswered tells (Judge from question) old new status = AnswersQuestion tells from question old new status
-IsAnswered tells (JudgeWith from file question) old new status = AnswersFile tells from file.now question old new status
+IsAnswered finds (Help text) old new status = Appends old new (string_bytes text) × (status ≡ Done)
+IsAnswered finds (Read section order reading) old new status = AnswersRead finds section.now order reading old new status
+IsAnswered finds (Upgrade from) old new status = AnswersUpgrade finds from old new status
+IsAnswered finds (Judge from question) old new status = AnswersQuestion finds from question old new status
+IsAnswered finds (JudgeWith from file question) old new status = AnswersFile finds from file.now question old new status

@@ -34,7 +34,7 @@ use Rattle.lnt_answers.specs.SumLines.{AreSumsBegun, AreSumsPrinted, listed_file
 use Rattle.lnt_lines.specs.FaultTexts.{no_text}
 use Rattle.lnt_answers.specs.PathTables.{BeginsPrintedTable, IsPrintedTable}
 use Rattle.lnt_answers.specs.declared.stretches.Stretches.{Stretches}
-use Rattle.lnt_answers.specs.Stretches.{AreStretchesBegun, IsFaultPrinted, TellsStretches, outcome_status}
+use Rattle.lnt_answers.specs.Stretches.{AreStretchesBegun, IsFaultPrinted, AreStretchesOfIndex, outcome_status}
 
 -- ---- the answer if a section is read and its lines aren't judged
 --     known       the section's bytes, where these are known
@@ -76,13 +76,13 @@ IsPathTablePrinted version index old new status =
 
 -- The answer for a good section with this index.
 abbrev pub AnswersGood : (List ℕ → FileState → Type 0) → Question → Indexed → Option (List ℕ) → Option (List ℕ) → Status → Type 0
-AnswersGood tells Verify index old new status = Appends old new (codes "yes\n") × (status ≡ ending.Done)
-AnswersGood tells (Lookup positions) index old new status = AreLookupsPrinted index positions.items old new × (status ≡ ending.Done)
-AnswersGood tells Files index old new status = Appends old new (files_text index) × (status ≡ ending.Done)
-AnswersGood tells (Table version) index old new status = IsTablePrinted version index old new × (status ≡ ending.Done)
-AnswersGood tells (TableByPath true) index old new status = IsPathTablePrinted Three index old new status
-AnswersGood tells (TableByPath false) index old new status = IsPathTablePrinted Four index old new status
-AnswersGood tells Md5 index old new status = AreSumsPrinted tells index (listed_files index) old new status
+AnswersGood finds Verify index old new status = Appends old new (codes "yes\n") × (status ≡ ending.Done)
+AnswersGood finds (Lookup positions) index old new status = AreLookupsPrinted index positions.items old new × (status ≡ ending.Done)
+AnswersGood finds Files index old new status = Appends old new (files_text index) × (status ≡ ending.Done)
+AnswersGood finds (Table version) index old new status = IsTablePrinted version index old new × (status ≡ ending.Done)
+AnswersGood finds (TableByPath true) index old new status = IsPathTablePrinted Three index old new status
+AnswersGood finds (TableByPath false) index old new status = IsPathTablePrinted Four index old new status
+AnswersGood finds Md5 index old new status = AreSumsPrinted finds index (listed_files index) old new status
 
 -- What is written for a good section with this index and a table: the table's first fault, or all places in the scope where the two
 -- differ.
@@ -90,7 +90,7 @@ pub record AreTableStretchesPrinted (scope : Scope) (index : Indexed) (table old
   pub told : Stretches
   pub fault : IsFaultPrinted told old new
   pub status_is : status ≡ outcome_status told
-  pub so : TellsStretches scope index table old new told
+  pub so : AreStretchesOfIndex scope index table old new told
 
 -- The answer for a good section with this index and another file, of these bytes.
 abbrev pub AnswersGoodFile : FileQuestion → Option (List ℕ) → Indexed → Option (List ℕ) → Option (List ℕ) → Status → Type 0
@@ -112,14 +112,14 @@ BeginsPathTableText version index old new =
 
 -- A prefix of the answer for a good section with this index.
 abbrev pub BeginsGood : (List ℕ → FileState → Type 0) → Question → Indexed → Option (List ℕ) → Option (List ℕ) → Type 0
-BeginsGood tells Verify index old new = AppendsPrefix old new (codes "yes\n")
-BeginsGood tells (Lookup positions) index old new =
+BeginsGood finds Verify index old new = AppendsPrefix old new (codes "yes\n")
+BeginsGood finds (Lookup positions) index old new =
     OfUnits index (λ selection. AppendsPrefix old new (flat_map (lookup_line index selection) positions.items))
-BeginsGood tells Files index old new = AppendsPrefix old new (files_text index)
-BeginsGood tells Md5 index old new = AreSumsBegun tells index (listed_files index) old new
-BeginsGood tells (Table version) index old new = OfUnits index (λ selection. BeginsTableOfUnits version selection old new)
-BeginsGood tells (TableByPath true) index old new = BeginsPathTableText Three index old new
-BeginsGood tells (TableByPath false) index old new = BeginsPathTableText Four index old new
+BeginsGood finds Files index old new = AppendsPrefix old new (files_text index)
+BeginsGood finds Md5 index old new = AreSumsBegun finds index (listed_files index) old new
+BeginsGood finds (Table version) index old new = OfUnits index (λ selection. BeginsTableOfUnits version selection old new)
+BeginsGood finds (TableByPath true) index old new = BeginsPathTableText Three index old new
+BeginsGood finds (TableByPath false) index old new = BeginsPathTableText Four index old new
 
 -- A prefix of the answer for a good section with this index and another file, of these bytes. Lines that weren't read yet count among
 -- those of that file.

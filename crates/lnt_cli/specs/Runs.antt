@@ -19,7 +19,7 @@ AskForOne words IsSo = (asked : Asked) × IsAskedBy words asked × IsSo asked.re
 
 -- The words ask for a request, and the text that was written and the status are its answer.
 abbrev pub AnswersWords : (List ℕ → FileState → Type 0) → List (List ℕ) → Option (List ℕ) → Option (List ℕ) → Status → Type 0
-AnswersWords tells words old new status = AskForOne words (λ request. IsAnswered tells request old new status)
+AnswersWords finds words old new status = AskForOne words (λ request. IsAnswered finds request old new status)
 
 -- The words ask for a request, and it names this file.
 abbrev pub NameFile : List (List ℕ) → List ℕ → Type 0
@@ -28,9 +28,9 @@ NameFile words name = AskForOne words (λ request. IsFileIn request name)
 -- Why the run was stopped. With Usage the words ask for nothing, and nothing was written. Otherwise a file that can't be read or is too
 -- long is one that they name; and nothing was written, or no more than may be where the answer to their request is stopped.
 abbrev pub IsStopOf : (List ℕ → FileState → Type 0) → List (List ℕ) → Option (List ℕ) → Option (List ℕ) → CliStop → Type 0
-IsStopOf tells words old new (Usage text) = AskForNothing words × Keeps old new
-IsStopOf tells words old new (File stop) =
-    NamesOneOf (NameFile words) stop × (Keeps old new ⊎ AskForOne words (λ request. IsStopped tells request old new))
+IsStopOf finds words old new (Usage text) = AskForNothing words × Keeps old new
+IsStopOf finds words old new (File stop) =
+    NamesOneOf (NameFile words) stop × (Keeps old new ⊎ AskForOne words (λ request. IsStopped finds request old new))
 
 -- the run was stopped since the file with this name can't be read
 abbrev pub IsUnreadableIn : CliStop → List ℕ → Type 0
@@ -38,6 +38,6 @@ IsUnreadableIn (Usage text) name = ⊥
 IsUnreadableIn (File stop) name = IsUnreadable stop name
 
 -- That the file with this name can't be read is told by the stop of the run, or may be told by the answer to the words.
-abbrev pub TellUnreadable : (List ℕ → FileState → Type 0) → List (List ℕ) → Result Status CliStop → List ℕ → Type 0
-TellUnreadable tells words ended name =
-    IsErrAnd ended (λ stop. IsUnreadableIn stop name) ⊎ AskForOne words (MayAnswerUnreadable tells)
+abbrev pub NameUnreadable : (List ℕ → FileState → Type 0) → List (List ℕ) → Result Status CliStop → List ℕ → Type 0
+NameUnreadable finds words ended name =
+    IsErrAnd ended (λ stop. IsUnreadableIn stop name) ⊎ AskForOne words (MayAnswerUnreadable finds)

@@ -1,8 +1,8 @@
 -- How a run was stopped, and the files that a request names.
 use Rattle.std.specs.Prelude.{◌≡◌, ◌≢◌, ◌⊎◌, ℕ, IsErrAnd, List, Option, Result, Some, string_bytes, option_copied, false}
 use Rattle.lnt_io.specs.Files.{FileState, Readable, RefusesOnly}
-use Rattle.lnt_io.specs.declared.halt.Halt.{Halt}
-use Rattle.lnt_io.specs.declared.halt.Halt.TheVariants as halt
+use Rattle.lnt_io.specs.declared.io_stop.IoStop.{IoStop}
+use Rattle.lnt_io.specs.declared.io_stop.IoStop.TheVariants as io_stop
 use Rattle.lnt_words.specs.declared.request.FileQuestion.{FileQuestion}
 use Rattle.lnt_words.specs.declared.request.FileQuestion.TheVariants.{Check}
 use Rattle.lnt_words.specs.declared.request.Judging.{Judging}
@@ -34,14 +34,14 @@ IsOfWords stop (Usage text) = stop ≢ words.Memory
 IsOfWords stop (File told) = told ≡ Memory
 
 -- the file with this name can't be read, or is too long
-abbrev pub TellsFile : FileStop → List ℕ → Type 0
-TellsFile (Read told) name = string_bytes told ≡ name
-TellsFile (TooLong told) name = string_bytes told ≡ name
-TellsFile _ name = ⊥
+abbrev pub NamesFile : FileStop → List ℕ → Type 0
+NamesFile (Read told) name = string_bytes told ≡ name
+NamesFile (TooLong told) name = string_bytes told ≡ name
+NamesFile _ name = ⊥
 
 -- a file that the stop tells is one of these
 abbrev pub NamesOneOf : (List ℕ → Type 0) → FileStop → Type 0
-NamesOneOf AreNamed stop = (name : List ℕ) → TellsFile stop name → AreNamed name
+NamesOneOf AreNamed stop = (name : List ℕ) → NamesFile stop name → AreNamed name
 
 -- a file of the section that is judged: its own, or one of its strings
 abbrev pub IsFileOf : Judging → List ℕ → Type 0
@@ -76,27 +76,27 @@ StopsIfRefused ended old new = RefusesOnly (λ name. IsErrAnd ended (λ stop. Is
 
 -- The question asks for the listed sums, and the section was opened: then the answer says which of the listed files can't be read.
 abbrev pub AnswersUnreadable : (List ℕ → FileState → Type 0) → Judging → Question → Type 0
-AnswersUnreadable tells from Md5 = (bytes : Option (List ℕ)) × tells from.section.now (Readable bytes)
-AnswersUnreadable tells from _ = ⊥
+AnswersUnreadable finds from Md5 = (bytes : Option (List ℕ)) × finds from.section.now (Readable bytes)
+AnswersUnreadable finds from _ = ⊥
 
 -- the same of a request
 abbrev pub MayAnswerUnreadable : (List ℕ → FileState → Type 0) → Request → Type 0
-MayAnswerUnreadable tells (Judge from question) = AnswersUnreadable tells from question
-MayAnswerUnreadable tells _ = ⊥
+MayAnswerUnreadable finds (Judge from question) = AnswersUnreadable finds from question
+MayAnswerUnreadable finds _ = ⊥
 
 -- That the file with this name can't be read is told by the stop of the answer to this request, or may be told by the answer.
 abbrev pub IsNamedUnreadable : {T : Type 0} → (List ℕ → FileState → Type 0) → Request → Result T FileStop → List ℕ → Type 0
-IsNamedUnreadable tells request ended name = IsErrAnd ended (λ stop. IsUnreadable stop name) ⊎ MayAnswerUnreadable tells request
+IsNamedUnreadable finds request ended name = IsErrAnd ended (λ stop. IsUnreadable stop name) ⊎ MayAnswerUnreadable finds request
 
 -- ---- what bodies say of stops; no public contract speaks of it
 
 -- The stop of a run if the work on the file with this name was stopped.
-abbrev pub IsFileStop : Halt → List ℕ → FileStop → Type 0
-IsFileStop halt.Read name stop = IsUnreadable stop name
-IsFileStop halt.TooLong name (TooLong told) = string_bytes told ≡ name
-IsFileStop halt.TooLong name stop = ⊥
-IsFileStop halt.Write name stop = stop ≡ Write
-IsFileStop halt.Memory name stop = stop ≡ Memory
+abbrev pub IsFileStop : IoStop → List ℕ → FileStop → Type 0
+IsFileStop io_stop.Read name stop = IsUnreadable stop name
+IsFileStop io_stop.TooLong name (TooLong told) = string_bytes told ≡ name
+IsFileStop io_stop.TooLong name stop = ⊥
+IsFileStop io_stop.Write name stop = stop ≡ Write
+IsFileStop io_stop.Memory name stop = stop ≡ Memory
 
 -- The file that a stop names is one that failed, or one that was found too long.
 abbrev pub IsOfCause : (List ℕ → Type 0) → (List ℕ → Type 0) → FileStop → Type 0
@@ -112,8 +112,8 @@ IsOfCause HasFailed IsLong _ = Unit {0}
 
 -- The judgement of the section in the named file is true, and a prefix of the answer to the question was written.
 abbrev pub BeginsQuestion : (List ℕ → FileState → Type 0) → Judging → Question → Option (List ℕ) → Option (List ℕ) → Type 0
-BeginsQuestion tells from question old new =
-    IsOfSection tells from (IsJudgedSo from (BeginsJudged (BeginsGood tells question) old new))
+BeginsQuestion finds from question old new =
+    IsOfSection finds from (IsJudgedSo from (BeginsJudged (BeginsGood finds question) old new))
 
 -- a prefix of the answer to a check, of a table with these bytes (text)
 abbrev pub BeginsChecked : Judging → Scope → Option (List ℕ) → Option (List ℕ) → Option (List ℕ) → List ℕ → List ℕ → Option (List ℕ)
@@ -123,28 +123,28 @@ BeginsChecked from scope old new text line general section =
 
 -- A prefix of the answer to the question about the section and the file with this name was written.
 abbrev pub BeginsFile : (List ℕ → FileState → Type 0) → Judging → List ℕ → FileQuestion → Option (List ℕ) → Option (List ℕ) → Type 0
-BeginsFile tells from file (Check false partial) old new = IsOfFile tells from file (BeginsChecked from (scope_in partial) old new)
-BeginsFile tells from file question old new =
-    IsOfFile tells from file (λ bytes. IsJudgedSo from (BeginsJudged (BeginsGoodFile question bytes) old new))
+BeginsFile finds from file (Check false partial) old new = IsOfFile finds from file (BeginsChecked from (scope_in partial) old new)
+BeginsFile finds from file question old new =
+    IsOfFile finds from file (λ bytes. IsJudgedSo from (BeginsJudged (BeginsGoodFile question bytes) old new))
 
 -- ---- sections that are read
 
 -- A prefix of the answer of this reading was written, for the section in the named file.
 abbrev pub StopsRead : (List ℕ → FileState → Type 0) → List ℕ → Order → Reading → Option (List ℕ) → Option (List ℕ) → Type 0
-StopsRead tells section order reading old new =
-    IsOfBytes tells section (λ known. BeginsReading order reading known old new)
+StopsRead finds section order reading old new =
+    IsOfBytes finds section (λ known. BeginsReading order reading known old new)
 
 -- A prefix of the section with its older units anew, or of the line that says why there is none, was written.
 abbrev pub StopsUpgrade : (List ℕ → FileState → Type 0) → Upgrading → Option (List ℕ) → Option (List ℕ) → Type 0
-StopsUpgrade tells from old new =
-    IsOfUpgrade tells from (λ bytes text. IsUpgradeBegun from.order (size_bytes from.address_size) bytes text old new)
+StopsUpgrade finds from old new =
+    IsOfUpgrade finds from (λ bytes text. IsUpgradeBegun from.order (size_bytes from.address_size) bytes text old new)
 
 -- ---- requests
 
 -- What was written if the answer to this request was stopped.
 abbrev pub IsStopped : (List ℕ → FileState → Type 0) → Request → Option (List ℕ) → Option (List ℕ) → Type 0
-IsStopped tells (Help text) old new = AppendsPrefix old new (string_bytes text)
-IsStopped tells (ReadSection section order reading) old new = Keeps old new ⊎ StopsRead tells section.now order reading old new
-IsStopped tells (Upgrade from) old new = Keeps old new ⊎ StopsUpgrade tells from old new
-IsStopped tells (Judge from question) old new = Keeps old new ⊎ BeginsQuestion tells from question old new
-IsStopped tells (JudgeWith from file question) old new = Keeps old new ⊎ BeginsFile tells from file.now question old new
+IsStopped finds (Help text) old new = AppendsPrefix old new (string_bytes text)
+IsStopped finds (ReadSection section order reading) old new = Keeps old new ⊎ StopsRead finds section.now order reading old new
+IsStopped finds (Upgrade from) old new = Keeps old new ⊎ StopsUpgrade finds from old new
+IsStopped finds (Judge from question) old new = Keeps old new ⊎ BeginsQuestion finds from question old new
+IsStopped finds (JudgeWith from file question) old new = Keeps old new ⊎ BeginsFile finds from file.now question old new

@@ -9,7 +9,7 @@ use crate::inputs::{Opened, of_file};
 use crate::notes::Answered;
 use crate::question::options_of;
 use crate::stop::FileStop;
-use lnt_io::{Halt, Source, Stop, print_line};
+use lnt_io::{IoStop, Source, Stop, print_line};
 use lnt_table::{CheckedWithin, Scope, check_within};
 use lnt_words::Judging;
 use std::alloc::Global;
@@ -78,7 +78,7 @@ fn judge_table<S: Source, F: Source>(
         Err(stop) => {
             let name = cause_of(&files.section, stop, from.section, table);
             let name = String::from_str(alloc, name)?;
-            Err(FileStop::of_file(name, Halt::from(stop)))
+            Err(FileStop::of_file(name, IoStop::from(stop)))
         }
     }
 }

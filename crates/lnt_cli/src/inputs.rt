@@ -1,11 +1,11 @@
 //! The files that a run reads.
 ghost use Rattle.std.specs.Prelude.{◌≡◌, IfErr, IfOk, IsErr, IsErrOf, Ok, OnErr, Some, option_map, string_bytes, option_copied};
-ghost use Rattle.lnt_io.specs.Files.{AreBytesOf, Readable, RefusesOnly, TellsNoMore};
+ghost use Rattle.lnt_io.specs.Files.{AreBytesOf, Readable, RefusesOnly, FindsNoMore};
 ghost use Rattle.lnt_cli.specs.Answered.{AreStringsOf, AreTextsOf, IsTextOf};
 ghost use Rattle.lnt_cli.specs.Stops.{IsFileOf, IsFileStop, NamesOneOf, StopsIfRefused};
 
 use crate::stop::FileStop;
-use lnt_io::{Counted, Halt, Opener, Source, bytes_of_file, open_file, read_all, source_of};
+use lnt_io::{Counted, IoStop, Opener, Source, bytes_of_file, open_file, read_all, source_of};
 use lnt_notes::{Seen, WatchedReader};
 use lnt_wire::Strings;
 use lnt_words::Judging;
@@ -40,15 +40,15 @@ impl Texts {
 
 // The result of the work on the file with this name. A stop has the name, which is copied before the work, so that no stop
 // depends on the memory that is left then.
-pub(crate) fn of_file<T>(name: String, ended: Result<T, Halt>) -> Result<T, FileStop>
+pub(crate) fn of_file<T>(name: String, ended: Result<T, IoStop>) -> Result<T, FileStop>
     ensures ok { IfOk result (λ value. ended ≡ Ok value) }
-    ensures told { IfErr result (λ stop. IfErr ended (λ halt. IsFileStop halt (string_bytes name) stop)) }
+    ensures told { IfErr result (λ stop. IfErr ended (λ io_stop. IsFileStop io_stop (string_bytes name) stop)) }
     ensures err { OnErr result (IsErr ended) }
     ensures named { IfErr result (NamesOneOf (λ told. string_bytes name ≡ told)) }
 {
     match ended {
         Ok(value) => Ok(value),
-        Err(halt) => Err(FileStop::of_file(name, halt)),
+        Err(io_stop) => Err(FileStop::of_file(name, io_stop)),
     }
 }
 
@@ -58,15 +58,15 @@ pub(crate) fn open_section<'c, O: Opener>(
     opener: &mut O,
     name: &str,
     seen: &'c Cell<Seen>,
-) -> Result<Section<'c, O::Reader>, Halt>
+) -> Result<Section<'c, O::Reader>, IoStop>
     ensures failures { IfOk result (λ source. ⟦<Section<'c, O::Reader> as Source>⟧.failures source ≡ 0) }
-    ensures told { IfOk result (λ source. O.tells opener.old name.now (Readable (⟦<Section<'c, O::Reader> as Source>⟧.remaining source))) }
-    ensures later { TellsNoMore (O.tells opener.old) (O.tells opener.new) }
-    ensures refused { RefusesOnly (λ other. IsErrOf result Halt.Read × (name.now ≡ other)) (O.refused opener.old) (O.refused opener.new) }
+    ensures told { IfOk result (λ source. O.finds opener.old name.now (Readable (⟦<Section<'c, O::Reader> as Source>⟧.remaining source))) }
+    ensures later { FindsNoMore (O.finds opener.old) (O.finds opener.new) }
+    ensures refused { RefusesOnly (λ other. IsErrOf result IoStop.Read × (name.now ≡ other)) (O.refused opener.old) (O.refused opener.new) }
 {
     match opener.reader_of(name) {
         Some(reader) => Ok(source_of(alloc, WatchedReader::new(reader, seen))?),
-        None => Err(Halt::Read),
+        None => Err(IoStop::Read),
     }
 }
 
@@ -86,11 +86,11 @@ pub(crate) fn open_judged<'c, O: Opener>(
 ) -> Result<Opened<Section<'c, O::Reader>>, FileStop>
     ensures named { IfErr result (NamesOneOf (IsFileOf from.now)) }
     ensures texts { IfOk result (λ opened.
-        AreTextsOf (O.tells opener.old) from.now opened.texts.line.items opened.texts.general.items) }
+        AreTextsOf (O.finds opener.old) from.now opened.texts.line.items opened.texts.general.items) }
     ensures failures { IfOk result (λ opened. ⟦<Section<'c, O::Reader> as Source>⟧.failures opened.section ≡ 0) }
-    ensures told { IfOk result (λ opened. O.tells opener.old from.now.section.now
+    ensures told { IfOk result (λ opened. O.finds opener.old from.now.section.now
         (Readable (⟦<Section<'c, O::Reader> as Source>⟧.remaining opened.section))) }
-    ensures later { TellsNoMore (O.tells opener.old) (O.tells opener.new) }
+    ensures later { FindsNoMore (O.finds opener.old) (O.finds opener.new) }
     ensures refused { StopsIfRefused result (O.refused opener.old) (O.refused opener.new) }
 {
     let line = read_strings(alloc, opener, from.line_strings)?;
@@ -111,7 +111,7 @@ pub(crate) fn open_other<O: Opener>(
     ensures named { IfErr result (NamesOneOf (λ told. file.now ≡ told)) }
     ensures fails { IfOk result (λ opened. ⟦<Blocks<O::Reader> as Source>⟧.failures opened ≡ 0) }
     ensures told { IfOk result (λ opened.
-        O.tells opener.old file.now (Readable (⟦<Blocks<O::Reader> as Source>⟧.remaining opened))) }
+        O.finds opener.old file.now (Readable (⟦<Blocks<O::Reader> as Source>⟧.remaining opened))) }
     ensures refused { StopsIfRefused result (O.refused opener.old) (O.refused opener.new) }
 {
     let name = String::from_str(alloc, file)?;
@@ -125,10 +125,10 @@ pub(crate) fn read_whole<O: Opener>(
     opener: &mut O,
     name: &str,
     seen: &Cell<Seen>,
-) -> Result<Vec<u8>, Halt>
-    ensures bytes { IfOk result (λ bytes. AreBytesOf (O.tells opener.old name.now) bytes.items) }
-    ensures later { TellsNoMore (O.tells opener.old) (O.tells opener.new) }
-    ensures refused { RefusesOnly (λ other. IsErrOf result Halt.Read × (name.now ≡ other)) (O.refused opener.old) (O.refused opener.new) }
+) -> Result<Vec<u8>, IoStop>
+    ensures bytes { IfOk result (λ bytes. AreBytesOf (O.finds opener.old name.now) bytes.items) }
+    ensures later { FindsNoMore (O.finds opener.old) (O.finds opener.new) }
+    ensures refused { RefusesOnly (λ other. IsErrOf result IoStop.Read × (name.now ≡ other)) (O.refused opener.old) (O.refused opener.new) }
 {
     let mut source = open_section(alloc, opener, name, seen)?;
     Ok(read_all(alloc, &mut source)?)
@@ -142,7 +142,7 @@ pub(crate) fn read_named<O: Opener>(
 ) -> Result<Option<Vec<u8>>, FileStop>
     ensures named { IfErr result (NamesOneOf (λ name. option_copied file.entry ≡ Some name)) }
     ensures text { IfOk result (λ text.
-        IsTextOf (O.tells opener.old) (option_copied file.entry) (option_map (λ bytes. bytes.items) text)) }
+        IsTextOf (O.finds opener.old) (option_copied file.entry) (option_map (λ bytes. bytes.items) text)) }
     ensures refused { StopsIfRefused result (O.refused opener.old) (O.refused opener.new) }
 {
     match file {
@@ -158,8 +158,8 @@ fn read_strings<O: Opener>(
     file: Option<&str>,
 ) -> Result<Vec<u8>, FileStop>
     ensures named { IfErr result (NamesOneOf (λ name. option_copied file.entry ≡ Some name)) }
-    ensures strings { IfOk result (λ bytes. AreStringsOf (O.tells opener.old) (option_copied file.entry) bytes.items) }
-    ensures later { TellsNoMore (O.tells opener.old) (O.tells opener.new) }
+    ensures strings { IfOk result (λ bytes. AreStringsOf (O.finds opener.old) (option_copied file.entry) bytes.items) }
+    ensures later { FindsNoMore (O.finds opener.old) (O.finds opener.new) }
     ensures refused { StopsIfRefused result (O.refused opener.old) (O.refused opener.new) }
 {
     match file {
@@ -171,8 +171,8 @@ fn read_strings<O: Opener>(
 // All bytes of the file with this name.
 fn read_file<O: Opener>(alloc: Global, opener: &mut O, name: &str) -> Result<Vec<u8>, FileStop>
     ensures named { IfErr result (NamesOneOf (λ told. name.now ≡ told)) }
-    ensures bytes { IfOk result (λ bytes. AreBytesOf (O.tells opener.old name.now) bytes.items) }
-    ensures later { TellsNoMore (O.tells opener.old) (O.tells opener.new) }
+    ensures bytes { IfOk result (λ bytes. AreBytesOf (O.finds opener.old name.now) bytes.items) }
+    ensures later { FindsNoMore (O.finds opener.old) (O.finds opener.new) }
     ensures refused { StopsIfRefused result (O.refused opener.old) (O.refused opener.new) }
 {
     let copy = String::from_str(alloc, name)?;

@@ -19,7 +19,7 @@ pub use program::{answer, run};
 pub use stop::{CliStop, FileStop};
 
 // Files by their names, and how a run ends.
-pub use lnt_io::{Halt, Opener, Status};
+pub use lnt_io::{IoStop, Opener, Status};
 
 // MD5 sums.
 pub use lnt_answers::{Agreement, md5_agrees, sum_of};

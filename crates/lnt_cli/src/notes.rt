@@ -9,8 +9,8 @@ use lnt_compare::Compared;
 use lnt_io::{Opener, Status};
 use lnt_lines::No;
 use lnt_notes::{
-    Columns, Given, Hints, Seen, print_note, tell_agreed, tell_bad, tell_good, tell_refused,
-    tell_table,
+    Columns, Given, Hints, Seen, note_agreed, note_bad, note_good, note_refused, note_table,
+    print_note,
 };
 use lnt_records::TableFault;
 use lnt_table::{CheckedWithin, OfKind, TableNo, Verdict};
@@ -103,7 +103,7 @@ impl<'t> Answered<'t> {
             Stretches::FaultyByPath(fault) => {
                 Answered::no(Occasion::Faulty(table, *fault, Columns::ByPath))
             }
-            Stretches::Told(status) | Stretches::ToldByPath(status) => Answered {
+            Stretches::Printed(status) | Stretches::PrintedByPath(status) => Answered {
                 status: *status,
                 occasion: Occasion::Compared(table),
             },
@@ -125,7 +125,7 @@ fn given_of<'a>(from: &Judging<'a>) -> Given<'a> {
 
 // Writes the notes to a request that ended so: to its answer, or why the system couldn't open or read the file that stopped
 // it. A failure to write one doesn't stop a run.
-pub(crate) fn tell<O: Opener, N: Write>(
+pub(crate) fn print_notes<O: Opener, N: Write>(
     alloc: Global,
     request: &Request<'_>,
     ended: &Result<Answered<'_>, FileStop>,
@@ -134,7 +134,7 @@ pub(crate) fn tell<O: Opener, N: Write>(
     notes: &mut N,
 ) {
     match ended {
-        Ok(answered) => tell_answer(alloc, request, answered, seen, opener, notes),
+        Ok(answered) => note_answer(alloc, request, answered, seen, opener, notes),
         Err(FileStop::Read(_)) => {
             if let Some(reason) = opener.reason(alloc) {
                 let _ = writeln!(notes, "linetab: note: {reason}");
@@ -144,7 +144,7 @@ pub(crate) fn tell<O: Opener, N: Write>(
     }
 }
 
-fn tell_answer<O: Opener, N: Write>(
+fn note_answer<O: Opener, N: Write>(
     alloc: Global,
     request: &Request<'_>,
     answered: &Answered<'_>,
@@ -156,27 +156,27 @@ fn tell_answer<O: Opener, N: Write>(
         Request::Help(_) => return,
         Request::Read { order, .. } | Request::Upgrade(Upgrading { order, .. }) => {
             if answered.status == Status::No {
-                let _ = tell_refused(seen, *order, notes);
+                let _ = note_refused(seen, *order, notes);
             }
             return;
         }
         Request::Judge { from, .. } | Request::JudgeWith { from, .. } => given_of(from),
     };
     let _ = match answered.occasion {
-        Occasion::Good(hints) => tell_good(alloc, &hints, &given, opener, notes),
-        Occasion::Bad(no) => tell_bad(alloc, &no, seen, &given, opener, notes),
+        Occasion::Good(hints) => note_good(alloc, &hints, &given, opener, notes),
+        Occasion::Bad(no) => note_bad(alloc, &no, seen, &given, opener, notes),
         Occasion::Compared(table) if answered.status == Status::Done => {
-            tell_agreed(alloc, &given, table, opener, notes)
+            note_agreed(alloc, &given, table, opener, notes)
         }
         Occasion::Compared(_) | Occasion::Plain => Ok(()),
         Occasion::Faulty(table, fault, columns) => {
-            tell_table(alloc, fault, columns, table, opener, notes)
+            note_table(alloc, fault, columns, table, opener, notes)
         }
     };
 }
 
 // Writes a note that says what a bad word has to be, unless notes are left out.
-pub(crate) fn tell_word<N: Write>(stop: &WordsStop, notes: &mut N) {
+pub(crate) fn note_word<N: Write>(stop: &WordsStop, notes: &mut N) {
     if let WordsStop::BadWord {
         argument,
         quiet: false,

@@ -2,10 +2,10 @@
 ghost use Rattle.std.specs.Prelude.{map, string_bytes, IfErr, IfOk, OnErr};
 ghost use Rattle.lnt_io.specs.Files.{RefusesOnly};
 ghost use Rattle.lnt_cli.specs.Answered.{IsAnswered};
-ghost use Rattle.lnt_cli.specs.Runs.{AnswersWords, IsStopOf, TellUnreadable};
+ghost use Rattle.lnt_cli.specs.Runs.{AnswersWords, IsStopOf, NameUnreadable};
 ghost use Rattle.lnt_cli.specs.Stops.{IsStopped, IsFileIn, IsNamedUnreadable, NamesOneOf};
 
-use crate::notes::{Answered, tell, tell_word};
+use crate::notes::{Answered, note_word, print_notes};
 use crate::question::{answer_file, answer_question};
 use crate::reading::{read_section, upgrade_section};
 use crate::stop::{CliStop, FileStop};
@@ -24,7 +24,7 @@ use std::io::Write;
 /// A run stops with `Usage` only if the words ask for nothing (`AskForNothing`), before a file is opened and with nothing
 /// written; with `Read` or `TooLong` for a file that the words name (`NameFile`); with `Write` if `out` failed, after a prefix
 /// of the text; and with `Memory` (`IsStopOf`). What [`answer`] states was written if it stops. If the opener refuses a file, it
-/// stops with `Read` and that file's name, and for no other reason (`TellUnreadable`), except once it judges listed sums.
+/// stops with `Read` and that file's name, and for no other reason (`NameUnreadable`), except once it judges listed sums.
 ///
 /// Advice for a person is written to `notes`, a line for each note, to be shown after the answer; nothing if the words ask for
 /// no notes. A run doesn't stop if `notes` fails.
@@ -35,17 +35,17 @@ pub fn run<O: Opener, W: Write, N: Write>(
     out: &mut W,
     notes: &mut N,
 ) -> Result<Status, CliStop>
-    ensures answer { IfOk result (AnswersWords (O.tells opener.old) (map string_bytes words.items)
+    ensures answer { IfOk result (AnswersWords (O.finds opener.old) (map string_bytes words.items)
         (W.contents out.old) (W.contents out.new)) }
-    ensures stop { IfErr result (IsStopOf (O.tells opener.old) (map string_bytes words.items)
+    ensures stop { IfErr result (IsStopOf (O.finds opener.old) (map string_bytes words.items)
         (W.contents out.old) (W.contents out.new)) }
-    ensures refused { RefusesOnly (TellUnreadable (O.tells opener.old) (map string_bytes words.items) result)
+    ensures refused { RefusesOnly (NameUnreadable (O.finds opener.old) (map string_bytes words.items) result)
         (O.refused opener.old) (O.refused opener.new) }
 {
     let asked = match request_of(alloc, words.as_slice()) {
         Ok(asked) => asked,
         Err(stop) => {
-            tell_word(&stop, notes);
+            note_word(&stop, notes);
             return Err(CliStop::from(stop));
         }
     };
@@ -79,15 +79,15 @@ pub fn answer<O: Opener, W: Write, N: Write>(
 ) -> Result<Status, FileStop>
     ensures named { IfErr result (NamesOneOf (IsFileIn asked.now.request)) }
     ensures answer { IfOk result (λ status.
-        IsAnswered (O.tells opener.old) asked.now.request (W.contents out.old) (W.contents out.new) status) }
-    ensures stopped { OnErr result (IsStopped (O.tells opener.old) asked.now.request (W.contents out.old) (W.contents out.new)) }
-    ensures refused { RefusesOnly (IsNamedUnreadable (O.tells opener.old) asked.now.request result)
+        IsAnswered (O.finds opener.old) asked.now.request (W.contents out.old) (W.contents out.new) status) }
+    ensures stopped { OnErr result (IsStopped (O.finds opener.old) asked.now.request (W.contents out.old) (W.contents out.new)) }
+    ensures refused { RefusesOnly (IsNamedUnreadable (O.finds opener.old) asked.now.request result)
         (O.refused opener.old) (O.refused opener.new) }
 {
     let seen = Cell::new(Seen::nothing());
     let ended = answer_request(alloc, &asked.request, opener, &seen, out);
     if !asked.quiet {
-        tell(alloc, &asked.request, &ended, &seen.get(), opener, notes);
+        print_notes(alloc, &asked.request, &ended, &seen.get(), opener, notes);
     }
     ended.map(|answered| answered.status)
 }
@@ -102,9 +102,9 @@ fn answer_request<'r, O: Opener, W: Write>(
 ) -> Result<Answered<'r>, FileStop>
     ensures named { IfErr result (NamesOneOf (IsFileIn request.now)) }
     ensures answer { IfOk result (λ answered.
-        IsAnswered (O.tells opener.old) request.now (W.contents out.old) (W.contents out.new) answered.status) }
-    ensures stopped { OnErr result (IsStopped (O.tells opener.old) request.now (W.contents out.old) (W.contents out.new)) }
-    ensures refused { RefusesOnly (IsNamedUnreadable (O.tells opener.old) request.now result) (O.refused opener.old) (O.refused opener.new) }
+        IsAnswered (O.finds opener.old) request.now (W.contents out.old) (W.contents out.new) answered.status) }
+    ensures stopped { OnErr result (IsStopped (O.finds opener.old) request.now (W.contents out.old) (W.contents out.new)) }
+    ensures refused { RefusesOnly (IsNamedUnreadable (O.finds opener.old) request.now result) (O.refused opener.old) (O.refused opener.new) }
 {
     match request {
         Request::Help(text) => {

@@ -14,10 +14,10 @@ use crate::inputs::{Opened, Texts, of_file, open_judged, open_other};
 use crate::notes::{Answered, Occasion};
 use crate::stop::FileStop;
 use lnt_answers::{
-    judge_section, lists_sums, print_addresses, print_files, print_lookups, print_path_table,
+    judge_or_refuse, lists_sums, print_addresses, print_files, print_lookups, print_path_table,
     print_stretches, print_sums, print_table,
 };
-use lnt_io::{Halt, Opener, Source, Status, write_whole};
+use lnt_io::{IoStop, Opener, Source, Status, write_whole};
 use lnt_lines::{Index, JudgedIndex, Options};
 use lnt_notes::{Hints, Seen, hints_of};
 use lnt_records::PathVersion;
@@ -38,12 +38,12 @@ pub(crate) fn answer_question<'t, O: Opener, W: Write>(
     out: &mut W,
 ) -> Result<Answered<'t>, FileStop>
     ensures named { IfErr result (NamesOneOf (IsFileOf from.now)) }
-    ensures answer { IfOk result (λ answered. AnswersQuestion (O.tells opener.old) from.now question.now
+    ensures answer { IfOk result (λ answered. AnswersQuestion (O.finds opener.old) from.now question.now
         (W.contents out.old) (W.contents out.new) answered.status) }
     ensures stopped { OnErr result (Keeps (W.contents out.old) (W.contents out.new)
-        ⊎ BeginsQuestion (O.tells opener.old) from.now question.now (W.contents out.old) (W.contents out.new)) }
+        ⊎ BeginsQuestion (O.finds opener.old) from.now question.now (W.contents out.old) (W.contents out.new)) }
     ensures refused { RefusesOnly (λ name. IsErrAnd result (λ stop. IsUnreadable stop name)
-        ⊎ AnswersUnreadable (O.tells opener.old) from.now question.now) (O.refused opener.old) (O.refused opener.new) }
+        ⊎ AnswersUnreadable (O.finds opener.old) from.now question.now) (O.refused opener.old) (O.refused opener.new) }
 {
     let mut files = open_judged(alloc, opener, from, seen)?;
     answer_opened(alloc, from, question, &mut files, opener, out)
@@ -61,10 +61,10 @@ fn answer_opened<'t, S: Source, O: Opener, W: Write>(
     requires { S.failures files.old.section < 2 ^ 64 - 1 }
     ensures named { IfErr result (NamesOneOf (IsFileOf from.now)) }
     ensures answer { IfOk result (λ answered. IsJudgedSo from.now
-        (AnswersJudged (AnswersGood (O.tells opener.old) question.now) (W.contents out.old) (W.contents out.new) answered.status)
+        (AnswersJudged (AnswersGood (O.finds opener.old) question.now) (W.contents out.old) (W.contents out.new) answered.status)
         files.old.texts.line.items files.old.texts.general.items (S.remaining files.old.section)) }
     ensures stopped { OnErr result (Keeps (W.contents out.old) (W.contents out.new)
-        ⊎ IsJudgedSo from.now (BeginsJudged (BeginsGood (O.tells opener.old) question.now) (W.contents out.old) (W.contents out.new))
+        ⊎ IsJudgedSo from.now (BeginsJudged (BeginsGood (O.finds opener.old) question.now) (W.contents out.old) (W.contents out.new))
         files.old.texts.line.items files.old.texts.general.items (S.remaining files.old.section)) }
     ensures refused { RefusesOnly (λ _. question.now ≡ Md5) (O.refused opener.old) (O.refused opener.new) }
 {
@@ -95,10 +95,10 @@ pub(crate) fn answer_file<'f, O: Opener, W: Write>(
     out: &mut W,
 ) -> Result<Answered<'f>, FileStop>
     ensures named { IfErr result (NamesOneOf (IsFileOfBoth from.now file.now)) }
-    ensures answer { IfOk result (λ answered. AnswersFile (O.tells opener.old) from.now file.now question
+    ensures answer { IfOk result (λ answered. AnswersFile (O.finds opener.old) from.now file.now question
         (W.contents out.old) (W.contents out.new) answered.status) }
     ensures stopped { OnErr result (Keeps (W.contents out.old) (W.contents out.new)
-        ⊎ BeginsFile (O.tells opener.old) from.now file.now question (W.contents out.old) (W.contents out.new)) }
+        ⊎ BeginsFile (O.finds opener.old) from.now file.now question (W.contents out.old) (W.contents out.new)) }
     ensures refused { StopsIfRefused result (O.refused opener.old) (O.refused opener.new) }
 {
     let mut files = open_judged(alloc, opener, from, seen)?;
@@ -208,7 +208,7 @@ fn judge<'t, R: Source, W: Write>(
         (W.contents out.old) (W.contents out.new)) }
 {
     let name = String::from_str(alloc, from.section)?;
-    let judged = judge_section(alloc, section, &texts.strings(), &options_of(from), out);
+    let judged = judge_or_refuse(alloc, section, &texts.strings(), &options_of(from), out);
     of_file(name, judged)
 }
 
@@ -221,10 +221,10 @@ fn print_answer<O: Opener, W: Write>(
     question: &Question,
     opener: &mut O,
     out: &mut W,
-) -> Result<Status, Halt>
+) -> Result<Status, IoStop>
     ensures answer { IfOk result (λ status.
-        AnswersGood (O.tells opener.old) question.now index.now (W.contents out.old) (W.contents out.new) status) }
-    ensures stopped { OnErr result (BeginsGood (O.tells opener.old) question.now index.now (W.contents out.old) (W.contents out.new)) }
+        AnswersGood (O.finds opener.old) question.now index.now (W.contents out.old) (W.contents out.new) status) }
+    ensures stopped { OnErr result (BeginsGood (O.finds opener.old) question.now index.now (W.contents out.old) (W.contents out.new)) }
     ensures refused { RefusesOnly (λ _. question.now ≡ Md5) (O.refused opener.old) (O.refused opener.new) }
 {
     match question {

@@ -10,7 +10,7 @@ use crate::inputs::{of_file, open_section, read_named, read_whole};
 use crate::notes::Answered;
 use crate::stop::FileStop;
 use lnt_dump::{DumpParts, print_converted, print_dump, print_units, print_upgraded};
-use lnt_io::{Halt, Opener, Source, Status};
+use lnt_io::{IoStop, Opener, Source, Status};
 use lnt_notes::Seen;
 use lnt_wire::Order;
 use lnt_words::{Reading, Upgrading};
@@ -29,14 +29,14 @@ pub(crate) fn read_section<'t, O: Opener, W: Write>(
     out: &mut W,
 ) -> Result<Answered<'t>, FileStop>
     ensures named { IfErr result (NamesOneOf (λ name. section.now ≡ name)) }
-    ensures answer { IfOk result (λ answered. AnswersRead (O.tells opener.old) section.now order reading
+    ensures answer { IfOk result (λ answered. AnswersRead (O.finds opener.old) section.now order reading
         (W.contents out.old) (W.contents out.new) answered.status) }
     ensures stopped { OnErr result (Keeps (W.contents out.old) (W.contents out.new)
-        ⊎ StopsRead (O.tells opener.old) section.now order reading (W.contents out.old) (W.contents out.new)) }
+        ⊎ StopsRead (O.finds opener.old) section.now order reading (W.contents out.old) (W.contents out.new)) }
     ensures refused { StopsIfRefused result (O.refused opener.old) (O.refused opener.new) }
 {
     let name = String::from_str(alloc, section)?;
-    let printed = print_section(alloc, section, order, reading, opener, seen, out);
+    let printed = print_asked(alloc, section, order, reading, opener, seen, out);
     let status = of_file(name, printed)?;
     Ok(Answered::plain(status))
 }
@@ -52,9 +52,9 @@ pub(crate) fn upgrade_section<'t, O: Opener, W: Write>(
 ) -> Result<Answered<'t>, FileStop>
     ensures named { IfErr result (NamesOneOf (IsFileOfUpgrade from.now)) }
     ensures answer { IfOk result (λ answered.
-        AnswersUpgrade (O.tells opener.old) from.now (W.contents out.old) (W.contents out.new) answered.status) }
+        AnswersUpgrade (O.finds opener.old) from.now (W.contents out.old) (W.contents out.new) answered.status) }
     ensures stopped { OnErr result (Keeps (W.contents out.old) (W.contents out.new)
-        ⊎ StopsUpgrade (O.tells opener.old) from.now (W.contents out.old) (W.contents out.new)) }
+        ⊎ StopsUpgrade (O.finds opener.old) from.now (W.contents out.old) (W.contents out.new)) }
     ensures refused { StopsIfRefused result (O.refused opener.old) (O.refused opener.new) }
 {
     let name = String::from_str(alloc, from.section)?;
@@ -69,7 +69,7 @@ pub(crate) fn upgrade_section<'t, O: Opener, W: Write>(
 }
 
 // The same. The name isn't told if it is stopped.
-fn print_section<O: Opener, W: Write>(
+fn print_asked<O: Opener, W: Write>(
     alloc: Global,
     section: &str,
     order: Order,
@@ -77,12 +77,12 @@ fn print_section<O: Opener, W: Write>(
     opener: &mut O,
     seen: &Cell<Seen>,
     out: &mut W,
-) -> Result<Status, Halt>
-    ensures answer { IfOk result (λ status. AnswersRead (O.tells opener.old) section.now order reading
+) -> Result<Status, IoStop>
+    ensures answer { IfOk result (λ status. AnswersRead (O.finds opener.old) section.now order reading
         (W.contents out.old) (W.contents out.new) status) }
     ensures stopped { OnErr result (Keeps (W.contents out.old) (W.contents out.new)
-        ⊎ StopsRead (O.tells opener.old) section.now order reading (W.contents out.old) (W.contents out.new)) }
-    ensures refused { RefusesOnly (λ other. IsErrOf result Halt.Read × (section.now ≡ other))
+        ⊎ StopsRead (O.finds opener.old) section.now order reading (W.contents out.old) (W.contents out.new)) }
+    ensures refused { RefusesOnly (λ other. IsErrOf result IoStop.Read × (section.now ≡ other))
         (O.refused opener.old) (O.refused opener.new) }
 {
     let mut source = open_section(alloc, opener, section, seen)?;
@@ -96,7 +96,7 @@ fn print_reading<R: Source, W: Write>(
     order: Order,
     reading: Reading,
     out: &mut W,
-) -> Result<Status, Halt>
+) -> Result<Status, IoStop>
     requires { R.failures source.old < 2 ^ 64 - 1 }
     ensures told { IfOk result (AnswersReading order reading (R.remaining source.old) (W.contents out.old) (W.contents out.new)) }
     ensures begun { OnErr result (Keeps (W.contents out.old) (W.contents out.new)

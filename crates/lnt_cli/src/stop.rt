@@ -4,7 +4,7 @@ ghost use Rattle.lnt_cli.specs.Stops.{IsFileStop, IsOfWords, NamesOneOf};
 ghost use Rattle.lnt_cli.specs.declared.stop.CliStop.TheVariants.{File};
 ghost use Rattle.lnt_cli.specs.declared.stop.FileStop.TheVariants.{Memory, Write};
 
-use lnt_io::Halt;
+use lnt_io::IoStop;
 use lnt_text::Shown;
 use lnt_words::WordsStop;
 use std::alloc::AllocError;
@@ -42,15 +42,15 @@ pub enum FileStop {
 
 impl FileStop {
     // The stop if the work on the file with this name was stopped.
-    pub(crate) fn of_file(name: String, halt: Halt) -> FileStop
-        ensures told { IsFileStop halt (string_bytes name) result }
+    pub(crate) fn of_file(name: String, io_stop: IoStop) -> FileStop
+        ensures told { IsFileStop io_stop (string_bytes name) result }
         ensures named { NamesOneOf (λ told. string_bytes name ≡ told) result }
     {
-        match halt {
-            Halt::Read => FileStop::Read(name),
-            Halt::TooLong => FileStop::TooLong(name),
-            Halt::Write => FileStop::Write,
-            Halt::Memory => FileStop::Memory,
+        match io_stop {
+            IoStop::Read => FileStop::Read(name),
+            IoStop::TooLong => FileStop::TooLong(name),
+            IoStop::Write => FileStop::Write,
+            IoStop::Memory => FileStop::Memory,
         }
     }
 }

@@ -14,7 +14,7 @@ use Rattle.lnt_compare.specs.Held.{held_span, IsTableAt, PathsEndAfter}
 use Rattle.lnt_records.specs.PathSpans.{path_answer, PathAnswer, path_span_answer, PathSpan, StandInOrder, path_spans}
 use Rattle.lnt_spans.specs.AnyStretches.{AreAllStretches, Stretch}
 use Rattle.lnt_records.specs.PathTables.{said_answer}
-use Rattle.lnt_compare.specs.Differing.{HasToldByPath}
+use Rattle.lnt_compare.specs.Differing.{HasFoundStretchesByPath}
 use Rattle.lnt_compare.proofs.JoiningLemmas.{made, make}
 use Rattle.lnt_spans.proofs.AnsweringLaws as table
 use Rattle.lnt_compare.proofs.TableRunLemmas.{path_after}
@@ -70,7 +70,7 @@ as_said (Some answer) = refl
 -- The stretches given so far begin a list of all of them.
 pub path_stretches_on : {S : Type 0} (to_come : S → List Span → Type 0) (path : ℕ → ℕ → List ℕ) (differences : DifferencesByPath S)
     (by_section by_table : Position → Option PathAnswer) (told : List (Stretch PathAnswer))
-    → HasToldByPath to_come path differences by_section by_table told
+    → HasFoundStretchesByPath to_come path differences by_section by_table told
     → (more : List (Stretch PathAnswer)) × AreAllStretches by_section by_table (told ++ more)
 path_stretches_on to_come path differences by_section by_table told h =
     let side = h.given.table in

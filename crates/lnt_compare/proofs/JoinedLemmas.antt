@@ -12,7 +12,7 @@ use Rattle.lnt_spans.proofs.ToldLaws.{told, told_order}
 use Rattle.lnt_records.specs.Written.{IsOfVersion, plain_by_number}
 use Rattle.lnt_records.specs.Progress.{HasBegunLines, HasWrittenLines}
 use Rattle.lnt_records.proofs.WriteLaws.{begun, lines_done}
-use Rattle.lnt_compare.specs.Canonical.{BeginsCanonicalTable, IsCanonicalTable, TellsAll}
+use Rattle.lnt_compare.specs.Canonical.{BeginsCanonicalTable, IsCanonicalTable, HasAllFields}
 use Rattle.lnt_compare.specs.Joining.{Any, AreJoined, LeaveOff}
 use Rattle.lnt_compare.proofs.BegunLaws.{canonical_begins}
 use Rattle.lnt_compare.proofs.JoiningLemmas.{all_left, joins_on}
@@ -23,7 +23,7 @@ use Rattle.lnt_compare.proofs.WrittenLaws.{canonical_is_of_version, told_canonic
 -- What is known of the spans to come, so that every joined span has a line.
 pub record AreTold (list : List Span) : Type 0 where
   pub order : AreInOrder list
-  pub tells : AllByRecursion TellsAll list
+  pub tells : AllByRecursion HasAllFields list
 
 abbrev HasLine : Version → Span → Type 0
 HasLine version span = IsOfVersion version (in_version version span.answer)

@@ -19,7 +19,7 @@ use Rattle.lnt_compare.specs.Held.{held_span, IsTableAt}
 use Rattle.lnt_records.specs.PathSpans.{path_answer, PathAnswer, spans_by_path, path_span_answer, StandInOrder, whole}
 use Rattle.lnt_compare.specs.PathStretches.{ArePathStretches, stretch_of, stretches_of}
 use Rattle.lnt_records.specs.PathTables.{said_answer}
-use Rattle.lnt_compare.specs.Differing.{HasToldByPath}
+use Rattle.lnt_compare.specs.Differing.{HasFoundStretchesByPath}
 use Rattle.lnt_compare.proofs.TableRunLemmas.{path_begins}
 
 -- what a table that is held has left
@@ -30,7 +30,7 @@ pub path_begun : {S : Type 0} (to_come : S → List Span → Type 0) (section : 
     (stretches : Stretches S HeldSpans SaidPath) (path : ℕ → ℕ → List ℕ) (list : List Span) (f : Position → Option PathAnswer)
     → HasBegun to_come section held at stretches → at ≡ whole 0 → to_come section list → AreInOrder list
     → ((p : Position) → spans_by_path version path list p ≡ f p) → StandInOrder (map held_span held.spans.now)
-    → HasToldByPath to_come path (record { version = version; stretches = stretches; memory = None }) f
+    → HasFoundStretchesByPath to_come path (record { version = version; stretches = stretches; memory = None }) f
     (path_span_answer (map held_span held.spans.now)) []
 path_begun to_come section held version at stretches path list f b e coming order same stand = record {
   given = begun_given to_come IsHeldAt said_answer (path_answer version path) said_answer section held at stretches f
@@ -51,7 +51,7 @@ pub told_next : {S : Type 0} (to_come : S → List Span → Type 0) (path : ℕ 
     → MatchOption found (AreAllStretches f g (stretches_of told) × P)
     (λ difference. HasGiven to_come IsHeldAt said_answer (path_answer version path) said_answer stretches f g
     (stretches_of told ++ stretch_of difference ∷ []))
-    → MatchOption found (ArePathStretches f g told) (λ difference. HasToldByPath to_come path
+    → MatchOption found (ArePathStretches f g told) (λ difference. HasFoundStretchesByPath to_come path
     (record { version = version; stretches = stretches; memory = kept }) f g (stretches_of (told ++ difference ∷ [])))
 told_next to_come path version stretches kept f g told None P remembered all = all.0
 told_next to_come path version stretches kept f g told (Some difference) P remembered given = record {

@@ -13,7 +13,7 @@ use Rattle.lnt_spans.specs.Spans.{version_answer}
 use Rattle.lnt_spans.proofs.CanonicalLaws.{one_number_list}
 use Rattle.lnt_spans.proofs.SameLaws.{same_answers}
 use Rattle.lnt_spans.proofs.ToldLaws.{told, told_answer, told_order}
-use Rattle.lnt_compare.specs.Canonical.{IsCanonicalTable, TellsAll}
+use Rattle.lnt_compare.specs.Canonical.{IsCanonicalTable, HasAllFields}
 use Rattle.lnt_compare.specs.Joining.{AreApart, AreJoined}
 use Rattle.lnt_compare.proofs.JoiningLemmas.{all_join, has_joined, IsKept}
 use Rattle.lnt_records.specs.Written.{IsOfVersion}
@@ -62,14 +62,14 @@ canonical_each Is version given kept order each =
 
 -- ---- a canonical table
 
-tells_version : (version : Version) (given : List Span) → AllByRecursion TellsAll given
+tells_version : (version : Version) (given : List Span) → AllByRecursion HasAllFields given
     → AllByRecursion (AsTold (HasVersion version) version) given
 tells_version version [] tells = tt
 tells_version One (span ∷ given) tells = (refl, tells_version One given tells.1)
 tells_version Two (span ∷ given) tells = (tells.0, tells_version Two given tells.1)
 
 -- where each span given has an instruction set and a discriminator, each canonical span tells what the version does
-pub canonical_is_of_version : (version : Version) (given spans : List Span) → AreInOrder given → AllByRecursion TellsAll given
+pub canonical_is_of_version : (version : Version) (given spans : List Span) → AreInOrder given → AllByRecursion HasAllFields given
     → IsCanonical spans
     → ((p : Position) → span_answer spans p ≡ version_answer version given p)
     → AllByRecursion (λ (span : Span). IsOfVersion version span.answer) spans
@@ -88,7 +88,7 @@ fit_told version [] h = tt
 fit_told version (span ∷ spans) h = (fits_told version span h.0, fit_told version spans h.1)
 
 -- spans in order whose numbers fit, each with an instruction set and a discriminator, have a canonical table in each version
-pub whole_canonical : (version : Version) (given : List Span) → AreInOrder given → AllByRecursion TellsAll given → FitSpans given
+pub whole_canonical : (version : Version) (given : List Span) → AreInOrder given → AllByRecursion HasAllFields given → FitSpans given
     → (bytes : List ℕ) × IsCanonicalTable version given bytes
 whole_canonical version given order tells fit =
     let has = canonical_each FitsSpan version given (fits_kept version) order (fit_told version given fit) in

@@ -20,8 +20,8 @@ use Rattle.lnt_records.specs.PathLines.{IsPlainPathTable, plain_by_path}
 -- ---- tables by number
 
 -- The answer has an instruction set and a discriminator.
-abbrev pub TellsAll : Span → Type 0
-TellsAll span = IsOfVersion Two span.answer
+abbrev pub HasAllFields : Span → Type 0
+HasAllFields span = IsOfVersion Two span.answer
 
 -- The bytes are a table, on plain lines, of the canonical spans that answer as the given ones do, in the fields of the
 -- version.

@@ -5,7 +5,7 @@ use Rattle.lnt_spans.specs.declared.listed.SpanList.{SpanList}
 use Rattle.lnt_spans.specs.declared.stretches.Differences.{Differences}
 use Rattle.lnt_spans.specs.declared.position.Position.{Position}
 use Rattle.lnt_spans.specs.declared.span.Span.{Span}
-use Rattle.lnt_spans.specs.Stretching.{HasTold, HasGiven, stretches_to_give}
+use Rattle.lnt_spans.specs.Stretching.{HasFoundStretches, HasGiven, stretches_to_give}
 use Rattle.lnt_spans.specs.Spans.{span_answer}
 use Rattle.lnt_compare.specs.declared.outcome.TableRead.{TableRead}
 use Rattle.lnt_compare.specs.declared.outcome.TableRead.TheVariants as differing
@@ -30,20 +30,20 @@ abbrev pub IsDiffering : {S : Type 0} → (Remaining S → List Span → Type 0)
     → (Position → Option Answer) → Differing S → Type 0
 IsDiffering of_section of_table bytes section (differing.Fault told) = IsFault bytes told
 IsDiffering of_section of_table bytes section (differing.Table differences) =
-    IsTableWhere by_number span_answer (in_versions section) bytes (λ by_section by_table. HasTold of_section of_table differences by_section by_table [])
+    IsTableWhere by_number span_answer (in_versions section) bytes (λ by_section by_table. HasFoundStretches of_section of_table differences by_section by_table [])
 
 -- If the result is a table, no stretch was given yet.
 abbrev pub IsStarted : {S : Type 0} → (Remaining S → List Span → Type 0) → (SpanList → List Span → Type 0) → Differing S → Type 0
 IsStarted of_section of_table (differing.Fault told) = Unit {0}
 IsStarted of_section of_table (differing.Table differences) =
     (by_section : Position → Option Answer) × (by_table : Position → Option Answer)
-    × HasTold of_section of_table differences by_section by_table []
+    × HasFoundStretches of_section of_table differences by_section by_table []
 
 -- ---- how far the stretches of a section and a table by path were given: what contracts see of `DifferencesByPath`
 
 -- These stretches were given, and the spans from there on are still to come, if these are the paths of the files of units.
 -- What is remembered of paths is correct.
-pub record HasToldByPath {S : Type 0} (to_come : S → List Span → Type 0) (path : ℕ → ℕ → List ℕ) (differences : DifferencesByPath S)
+pub record HasFoundStretchesByPath {S : Type 0} (to_come : S → List Span → Type 0) (path : ℕ → ℕ → List ℕ) (differences : DifferencesByPath S)
     (by_section by_table : Position → Option PathAnswer) (told : List (Stretch PathAnswer)) : Type 0 where
   pub given : HasGiven to_come (λ held at answers. IsTableAt held.spans.now at answers) said_answer (path_answer differences.version path)
       said_answer differences.stretches by_section by_table told

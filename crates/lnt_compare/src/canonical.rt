@@ -4,7 +4,7 @@ ghost use Rattle.std.specs.Io.KnownBytes.{Appends};
 ghost use Rattle.std.specs.List.{AllByRecursion};
 ghost use Rattle.lnt_spans.specs.declared.span.Span as spec;
 ghost use Rattle.lnt_spans.specs.Spans.{AreInOrder};
-ghost use Rattle.lnt_compare.specs.Canonical.{BeginsCanonicalTable, IsCanonicalTable, TellsAll};
+ghost use Rattle.lnt_compare.specs.Canonical.{BeginsCanonicalTable, IsCanonicalTable, HasAllFields};
 
 use crate::writing::write_lines;
 use lnt_records::WriteStop;
@@ -28,7 +28,7 @@ pub fn write_canonical<S: SpanSource + Drop, W: Write>(
     version: Version,
     out: &mut W,
 ) -> Result<(), WriteStop>
-    requires { (list : List spec.Span) × S.to_come spans list × AreInOrder list × AllByRecursion TellsAll list }
+    requires { (list : List spec.Span) × S.to_come spans list × AreInOrder list × AllByRecursion HasAllFields list }
     ensures table { OnOk result ((bytes : List ℕ) × Appends (W.contents out.old) (W.contents out.new) bytes
         × ((list : List spec.Span) → S.to_come spans list → AreInOrder list → IsCanonicalTable version list bytes)) }
     ensures begun { OnErr result ((list : List spec.Span) → S.to_come spans list → AreInOrder list

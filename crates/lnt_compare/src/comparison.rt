@@ -130,10 +130,10 @@ impl<S: SpanSource + Drop, D: Drop, M: Drop> Comparison<S, D, M> {
 pub(crate) fn comes(at: Position, low: Position, high: Position) -> bool
     ensures { MatchBool result (Comes at low high) (Comes at low high → ⊥) }
 {
-    if low.is_below(at) {
+    if low < at {
         return false;
     }
-    low.is_below(high)
+    low < high
 }
 
 impl<S: SpanSource + Drop> TakesRecords<Comparison<S, Difference, ()>> for Version {

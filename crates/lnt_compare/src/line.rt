@@ -6,7 +6,7 @@ ghost use Rattle.lnt_records.specs.Written.{IsOfVersion};
 use crate::line_telling::LineTelling;
 use crate::window::Window;
 use lnt_io::{Source, Stop};
-use lnt_records::{ROOM, TableVersion, line_of, put_span};
+use lnt_records::{ROOM, TableVersion, put_span, put_span_line};
 use lnt_spans::{Answer, Difference, Found, Merge, Span, SpanSource, Telling, Version};
 use std::alloc::{AllocError, Global};
 
@@ -100,7 +100,7 @@ fn pass_line(window: &mut Window, room: &mut [u8; ROOM], span: &Span, version: V
     if !tells(&span.answer, version) {
         return false;
     }
-    let start = line_of(room, span);
+    let start = put_span_line(room, span);
     window.pass_text(&room[start..])
 }
 

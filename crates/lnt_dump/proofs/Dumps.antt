@@ -14,7 +14,7 @@ use Rattle.lnt_machine.specs.declared.fault.RowFault.{RowFault}
 use Rattle.lnt_machine.specs.declared.fault.RowFault.TheVariants.{Malformed, Run}
 use Rattle.lnt_machine.proofs.SequenceLaws.{all-append}
 use Rattle.lnt_machine.specs.Matrix.{Runs}
-use Rattle.lnt_io.specs.declared.halt.Halt.{Halt}
+use Rattle.lnt_io.specs.declared.io_stop.IoStop.{IoStop}
 use Rattle.lnt_io.specs.declared.status.Status.{Status}
 use Rattle.lnt_io.specs.declared.status.Status.TheVariants.{Done, No}
 use Rattle.lnt_unit.specs.Units.{BufferedUnit, IsWholeUnit, SectionEndsBy}
@@ -50,31 +50,31 @@ faulty_so offset fault at is so = record {
 
 module _ (shown : DumpParts) (frame : Frame) (unit : BufferedUnit) (old new : Option (List ℕ)) where
   -- the line of any fault
-  pub faulty_told : {offset : ℕ} (fault : RowFault) (printed : Result Status Halt) → offset ≡ unit.offset → IsFaultOf unit shown.rows fault
+  pub faulty_told : {offset : ℕ} (fault : RowFault) (printed : Result Status IoStop) → offset ≡ unit.offset → IsFaultOf unit shown.rows fault
       → IfOk printed (λ status. status ≡ No) → OnOk printed (Appends old new (fault_line offset (Some fault)))
       → IfOk printed (IsUnitPrinted shown frame unit old new)
   faulty_told {offset} fault (Ok status) at is is_no line = (faulty_so offset fault at is line, is_no)
-  faulty_told fault (Err halt) at is is_no line = tt
+  faulty_told fault (Err io_stop) at is is_no line = tt
 
-  pub faulty_begun : {offset : ℕ} (fault : RowFault) (printed : Result Status Halt) → offset ≡ unit.offset → IsFaultOf unit shown.rows fault
+  pub faulty_begun : {offset : ℕ} (fault : RowFault) (printed : Result Status IoStop) → offset ≡ unit.offset → IsFaultOf unit shown.rows fault
       → OnErr printed (AppendsPrefix old new (fault_line offset (Some fault)))
       → OnErr printed (Keeps old new ⊎ UnitBegun shown frame unit old new)
   faulty_begun fault (Ok status) at is line = tt
-  faulty_begun {offset} fault (Err halt) at is line = inr (faulty_so offset fault at is line)
+  faulty_begun {offset} fault (Err io_stop) at is line = inr (faulty_so offset fault at is line)
 
   -- the line of bytes that are no unit
   module _ (fault : Fault) (broken : fault.reason ≢ Memory → BrokenUnit unit.order fault unit.offset unit.bytes) where
-    pub broken_told : (printed : Result Status Halt) → OnOk printed (fault.reason ≢ Memory) → IfOk printed (λ status. status ≡ No)
+    pub broken_told : (printed : Result Status IoStop) → OnOk printed (fault.reason ≢ Memory) → IfOk printed (λ status. status ≡ No)
         → OnOk printed (Appends old new (malformed_text fault ++ codes "\n")) → IfOk printed (IsUnitPrinted shown frame unit old new)
     broken_told (Ok status) other is_no line = faulty_told (Malformed fault) (Ok status) refl (broken other) is_no line
-    broken_told (Err halt) other is_no line = tt
+    broken_told (Err io_stop) other is_no line = tt
 
-    pub broken_begun : (printed : Result Status Halt) → OnErr printed (Keeps old new ⊎ (fault.reason ≢ Memory))
+    pub broken_begun : (printed : Result Status IoStop) → OnErr printed (Keeps old new ⊎ (fault.reason ≢ Memory))
         → OnErr printed (AppendsPrefix old new (malformed_text fault ++ codes "\n"))
         → OnErr printed (Keeps old new ⊎ UnitBegun shown frame unit old new)
     broken_begun (Ok status) other line = tt
-    broken_begun (Err halt) (inl kept) line = inl kept
-    broken_begun (Err halt) (inr other) line = faulty_begun (Malformed fault) (Err halt) refl (broken other) line
+    broken_begun (Err io_stop) (inl kept) line = inl kept
+    broken_begun (Err io_stop) (inr other) line = faulty_begun (Malformed fault) (Err io_stop) refl (broken other) line
 
 -- of the lines of a unit
 abbrev pub valid_so : {shown : DumpParts} {frame : Frame} {IsSo : List ℕ → Type 0} (view : View)
@@ -203,19 +203,19 @@ module _ {order : Order} {shown : DumpParts} {start now old then : Option (List 
     begun = prefix_after old then new (flat_map (unit_lines shown) told.units) (fault_line offset (Some fault)) told.printed line;
   }
 
-  pub units_faulty : (new : Option (List ℕ)) (fault : Fault) (printed : Result Status Halt)
+  pub units_faulty : (new : Option (List ℕ)) (fault : Fault) (printed : Result Status IoStop)
       → SectionEndsBy offset of_reader now (Some fault) → IfOk printed (λ status. status ≡ No)
       → OnOk printed (Appends then new (malformed_text fault ++ codes "\n")) → IfOk printed (IsDumped order shown start old new)
   units_faulty new fault (Ok status) ends is_no line =
       subst (IsDumped order shown start old new) (sym is_no)
       (ends_faulty (Malformed fault) (no_frame shown now fault told.read ends) line)
-  units_faulty new fault (Err halt) ends is_no line = tt
+  units_faulty new fault (Err io_stop) ends is_no line = tt
 
-  pub units_fault_cut : (new : Option (List ℕ)) (fault : Fault) (printed : Result Status Halt)
+  pub units_fault_cut : (new : Option (List ℕ)) (fault : Fault) (printed : Result Status IoStop)
       → SectionEndsBy offset of_reader now (Some fault) → OnErr printed (AppendsPrefix then new (malformed_text fault ++ codes "\n"))
       → OnErr printed (IsDumpBegun order shown start old new)
   units_fault_cut new fault (Ok status) ends line = tt
-  units_fault_cut new fault (Err halt) ends line = begun_faulty (Malformed fault) (no_frame shown now fault told.read ends) line
+  units_fault_cut new fault (Err io_stop) ends line = begun_faulty (Malformed fault) (no_frame shown now fault told.read ends) line
 
   -- nothing more is written
   pub units_stopped : {new : Option (List ℕ)} → Keeps then new → IsDumpBegun order shown start old new

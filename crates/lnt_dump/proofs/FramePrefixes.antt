@@ -11,7 +11,7 @@ use Rattle.lnt_wire.specs.declared.fault.Fault.{Fault}
 use Rattle.lnt_wire.specs.declared.format.Order.{Order}
 use Rattle.lnt_wire.specs.declared.frame.Frame.{Frame}
 use Rattle.lnt_unit.specs.Units.{SectionEndsBy, BufferedUnit}
-use Rattle.lnt_io.specs.declared.halt.Halt.{Halt}
+use Rattle.lnt_io.specs.declared.io_stop.IoStop.{IoStop}
 use Rattle.lnt_io.specs.declared.status.Status.{Status}
 use Rattle.lnt_dump.specs.Units.{AreBytes, AreUnitsPrinted, end_line, fault_status, unit_line}
 use Rattle.lnt_dump.proofs.Frames.{flat_push, FramesRead, FramesPrinted, frames_end, IsNextFramed, read_more}
@@ -96,11 +96,11 @@ units_cut {start = start} {now = now} {old = old} {then = then} {new = new} {fra
 
 -- of the line of the fault
 pub fault_cut : {order : Order} {start now old then : Option (List ℕ)} {of_reader : Order} {offset : ℕ} (new : Option (List ℕ))
-    (fault : Fault) (printed : Result Status Halt) → FramesPrinted order start now old then of_reader offset
+    (fault : Fault) (printed : Result Status IoStop) → FramesPrinted order start now old then of_reader offset
     → SectionEndsBy offset of_reader now (Some fault) → OnErr printed (AppendsPrefix then new (end_line (Some fault)))
     → OnErr printed (IfSome start AreBytes → HasBegun (AreUnitsPrinted order start old) old new)
 fault_cut new fault (Ok status) told ends f = tt
-fault_cut {order} {start} {now} {old} {then} new fault (Err halt) told ends f =
+fault_cut {order} {start} {now} {old} {then} new fault (Err io_stop) told ends f =
     let before = flat_map unit_line told.frames in
     let end = end_line (Some fault) in
     λ are. record {

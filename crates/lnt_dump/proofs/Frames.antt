@@ -14,7 +14,7 @@ use Rattle.lnt_wire.specs.declared.frame.Frame.{Frame}
 use Rattle.lnt_wire.proofs.FrameListLaws.{FramesSoFar, no_frames, one_more_frame}
 use Rattle.lnt_io.proofs.PullLaws.{pulls_none, pulls_append}
 use Rattle.lnt_unit.specs.Units.{IsNextUnit, SectionEndsBy, BufferedUnit}
-use Rattle.lnt_io.specs.declared.halt.Halt.{Halt}
+use Rattle.lnt_io.specs.declared.io_stop.IoStop.{IoStop}
 use Rattle.lnt_io.specs.declared.status.Status.{Status}
 use Rattle.lnt_io.specs.declared.status.Status.TheVariants.{No}
 use Rattle.lnt_dump.specs.Stepping.{IsNext}
@@ -143,9 +143,9 @@ frames_all {order} {start} {now} {old} {then} {new} fault told ends printed ende
 
 -- by the line of a fault, if it could be printed
 pub frames_faulty : {order : Order} {start now old then : Option (List ℕ)} {of_reader : Order} {offset : ℕ} (new : Option (List ℕ))
-    (fault : Fault) (printed : Result Status Halt) → FramesPrinted order start now old then of_reader offset
+    (fault : Fault) (printed : Result Status IoStop) → FramesPrinted order start now old then of_reader offset
     → SectionEndsBy offset of_reader now (Some fault) → IfOk printed (λ status. status ≡ No)
     → OnOk printed (Appends then new (end_line (Some fault))) → IfOk printed (λ status. AreUnitsPrinted order start old new status)
 frames_faulty new fault (Ok status) told ends refused line =
     frames_all (Some fault) told ends line refused
-frames_faulty new fault (Err halt) told ends refused line = line
+frames_faulty new fault (Err io_stop) told ends refused line = line

@@ -5,7 +5,7 @@ use Rattle.std.specs.Int.{from_bool}
 use Rattle.std.proofs.lemmas.List.{drop-set}
 use Rattle.lnt_text.specs.Digits.{IsPlainAddress, IsPlainDecimal}
 use Rattle.lnt_machine.specs.declared.row.Row.{Row}
-use Rattle.lnt_dump.specs.Operations.{marks_text, row_line}
+use Rattle.lnt_dump.specs.Operations.{flags_text, row_line}
 use Rattle.lnt_text.proofs.WrittenLaws.{address_text, decimal_text, text_before}
 
 -- a byte that was written before a place
@@ -36,7 +36,7 @@ stmt_text false stmt rest text is joined = joined ∙ ap (λ (digit : ℕ). digi
 -- the parts of a line, from its end on
 pub line_of : {t0 t1 t2 t3 t4 t5 t6 t7 t8 t9 t10 t11 t12 t13 t14 t15 t16 : List ℕ} (number : ℕ) (row : Row) (address : List ℕ) (stmt : ℕ)
     → t0 ≡ [] → t1 ≡ decimal row.discriminator ++ (10 ∷ t0) → t2 ≡ decimal row.isa ++ (32 ∷ t1)
-    → t3 ≡ marks_text row ++ (32 ∷ t2) → t4 ≡ 32 ∷ t3 → t5 ≡ stmt ∷ t4 → stmt ≡ 48 + from_bool row.is_stmt
+    → t3 ≡ flags_text row ++ (32 ∷ t2) → t4 ≡ 32 ∷ t3 → t5 ≡ stmt ∷ t4 → stmt ≡ 48 + from_bool row.is_stmt
     → t6 ≡ decimal row.column ++ (32 ∷ t5) → t7 ≡ decimal row.line ++ (32 ∷ t6) → t8 ≡ decimal row.file ++ (32 ∷ t7)
     → t9 ≡ decimal row.op_index ++ (32 ∷ t8) → t10 ≡ 32 ∷ t9 → IsPlainAddress address row.address → t11 ≡ address ++ t10
     → t12 ≡ decimal number ++ (32 ∷ t11) → t13 ≡ 32 ∷ t12 → t14 ≡ 119 ∷ t13 → t15 ≡ 111 ∷ t14 → t16 ≡ 114 ∷ t15

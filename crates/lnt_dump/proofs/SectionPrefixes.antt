@@ -2,7 +2,7 @@
 use Rattle.std.proofs.Common.{◌≡◌, ℕ, List, [], ◌∷◌, ◌++◌, Option, Some, None, Result, Ok, Err, OnErr, ap, ◌∙◌, append-nil, inl, inr, refl}
 use Rattle.std.specs.Io.KnownBytes.{Keeps}
 use Rattle.lnt_io.specs.Prefixes.{AppendsPrefix}
-use Rattle.lnt_io.specs.declared.halt.Halt.{Halt}
+use Rattle.lnt_io.specs.declared.io_stop.IoStop.{IoStop}
 use Rattle.lnt_io.specs.declared.status.Status.{Status}
 use Rattle.lnt_io.specs.declared.status.Status.TheVariants.{No}
 use Rattle.lnt_io.proofs.PrefixLaws.{appends_known}
@@ -34,7 +34,7 @@ line_begun order section format to fault old new is prefix =
     inr (record { whole = text; ending = No; is_end = (fault, λ e. absurd (cc e), is, appends_known old text); prefix = prefix })
 
 pub refusal_begun : (order : Order) (section : List ℕ) (format : Format) (to : Order) (fault : ConvertFault) (old new : Option (List ℕ))
-    (printed : Result Status Halt) → IsConvertFault order section format to fault
+    (printed : Result Status IoStop) → IsConvertFault order section format to fault
     → OnErr printed (AppendsPrefix old new (refusal_text fault)) → OnErr printed (IsConversionBegun order section format to old new)
 refusal_begun order section format to fault old new (Ok status) is prefix = tt
-refusal_begun order section format to fault old new (Err halt) is prefix = line_begun order section format to fault old new is prefix
+refusal_begun order section format to fault old new (Err io_stop) is prefix = line_begun order section format to fault old new is prefix

@@ -2,7 +2,7 @@
 ghost use Rattle.std.specs.Prelude.{◌≡◌, ◌≢◌, ◌-◌, ◌^◌, ◌<◌, IfErr, IfOk, IfSome, OnErr, OnOk};
 ghost use Rattle.std.specs.Io.KnownBytes.{Appends};
 ghost use Rattle.lnt_io.specs.Prefixes.{AppendsPrefix};
-ghost use Rattle.lnt_io.specs.Halts.{IsPrinting};
+ghost use Rattle.lnt_io.specs.IoStops.{IsPrinting};
 ghost use Rattle.lnt_io.specs.declared.status.Status.TheVariants.{Done, No};
 ghost use Rattle.lnt_unit.specs.Converting.{Converts, IsConverted};
 ghost use Rattle.lnt_dump.specs.Printed.{IsConversionBegun, IsPrintedIn, IsRefusalPrinted, refusal_text};
@@ -11,7 +11,7 @@ ghost use Rattle.lnt_io.specs.Stopping.{CountsFailure, IsTooLongOn};
 
 use crate::faults::print_fault;
 use crate::page::{hand_on, turn_full};
-use lnt_io::{Halt, Source, Status, print_line, read_all};
+use lnt_io::{IoStop, Source, Status, print_line, read_all};
 use lnt_unit::{ConvertFault, convert_unit, judge_conversion};
 use lnt_wire::{Cursor, Format, Order};
 use std::alloc::Global;
@@ -35,7 +35,7 @@ pub fn print_converted<R: Source, W: Write>(
     format: Format,
     to: Order,
     out: &mut W,
-) -> Result<Status, Halt>
+) -> Result<Status, IoStop>
     requires { R.failures source.old < 2 ^ 64 - 1 }
     ensures done { IfOk result (λ status. status ≡ Done → IfSome (R.remaining source.old) (λ bytes.
         IsPrintedIn (IsConverted order bytes format to) (W.contents out.old) (W.contents out.new))) }
@@ -43,13 +43,13 @@ pub fn print_converted<R: Source, W: Write>(
         IsRefusalPrinted order bytes format to (W.contents out.old) (W.contents out.new))) }
     ensures begun { OnErr result (IfSome (R.remaining source.old) (λ bytes.
         IsConversionBegun order bytes format to (W.contents out.old) (W.contents out.new))) }
-    ensures failures { CountsFailure ⟦<R as Source>⟧ source.old source.new result Halt.Read }
-    ensures too_long { IsTooLongOn ⟦<R as Source>⟧ source.old source.new result Halt.TooLong }
+    ensures failures { CountsFailure ⟦<R as Source>⟧ source.old source.new result IoStop.Read }
+    ensures too_long { IsTooLongOn ⟦<R as Source>⟧ source.old source.new result IoStop.TooLong }
 {
     let bytes = read_all(alloc, source)?;
     match judge_conversion(alloc, &bytes, order, format, to) {
         Ok(()) => {
-            print_section(alloc, &bytes, order, format, to, out)?;
+            print_converted_units(alloc, &bytes, order, format, to, out)?;
             Ok(Status::Done)
         }
         Err(fault) => print_refusal(alloc, fault, out),
@@ -58,14 +58,14 @@ pub fn print_converted<R: Source, W: Write>(
 
 // Prints a section that converts in the format and in the byte order `to`, unit by unit, or a prefix of it.
 #[tactic(auto, using(crate::proofs::Sections::section_begun, crate::proofs::Sections::unit_long))]
-fn print_section<W: Write>(
+fn print_converted_units<W: Write>(
     alloc: Global,
     bytes: &[u8],
     order: Order,
     format: Format,
     to: Order,
     out: &mut W,
-) -> Result<(), Halt>
+) -> Result<(), IoStop>
     requires { Converts order bytes.now format to }
     ensures ok { OnOk result (IsPrintedIn (IsConverted order bytes.now format to) (W.contents out.old) (W.contents out.new)) }
     ensures prefix { OnErr result (IsPrefixIn (IsConverted order bytes.now format to) (W.contents out.old) (W.contents out.new)) }
@@ -77,7 +77,7 @@ fn print_section<W: Write>(
         match convert_unit(alloc, &mut cursor, order, format, to, &mut page) {
             Ok(()) => {}
             Err(stop) => match stop {
-                ConvertFault::Memory => return Err(Halt::Memory),
+                ConvertFault::Memory => return Err(IoStop::Memory),
                 // Each unit of a section that converts does.
                 _ => unreachable!(),
             },
@@ -93,7 +93,7 @@ pub(crate) fn print_refusal<W: Write>(
     alloc: Global,
     fault: ConvertFault,
     out: &mut W,
-) -> Result<Status, Halt>
+) -> Result<Status, IoStop>
     ensures no { IfOk result (λ status. status ≡ No) }
     ensures told { OnOk result (fault ≢ ConvertFault.Memory) }
     ensures err { IfErr result IsPrinting }
@@ -106,6 +106,6 @@ pub(crate) fn print_refusal<W: Write>(
             print_line(alloc, &format_args!("no 20 {fault}"), out)?;
             Ok(Status::No)
         }
-        ConvertFault::Memory => Err(Halt::Memory),
+        ConvertFault::Memory => Err(IoStop::Memory),
     }
 }

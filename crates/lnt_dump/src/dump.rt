@@ -14,7 +14,7 @@ use crate::page::hand_on;
 use crate::rows::print_rows;
 use crate::run::judge;
 use crate::units::{Next, next_of};
-use lnt_io::{Halt, Source, Status};
+use lnt_io::{IoStop, Source, Status};
 use lnt_unit::{SectionReader, UnitBuffer, UnitInPlace};
 use lnt_wire::{Frame, Order};
 use std::alloc::Global;
@@ -46,7 +46,7 @@ pub fn print_dump<R: Source, W: Write>(
     order: Order,
     shown: DumpParts,
     out: &mut W,
-) -> Result<Status, Halt>
+) -> Result<Status, IoStop>
     requires { R.failures source.old < 2 ^ 64 - 1 }
     ensures told { IfOk result (IsDumped order shown (R.remaining source.old) (W.contents out.old) (W.contents out.new)) }
     ensures begun { OnErr result (IsDumpBegun order shown (R.remaining source.old) (W.contents out.old) (W.contents out.new)) }
@@ -75,7 +75,7 @@ fn print_unit<W: Write>(
     shown: DumpParts,
     page: &mut Vec<u8>,
     out: &mut W,
-) -> Result<Status, Halt>
+) -> Result<Status, IoStop>
     requires { frame.now.offset ≡ buffer.now.offset }
     ensures told { IfOk result (IsUnitPrinted shown frame.now buffer.now (W.contents out.old) (W.contents out.new)) }
     ensures begun { OnErr result (Keeps (W.contents out.old) (W.contents out.new)
@@ -95,7 +95,7 @@ fn print_judged<W: Write>(
     shown: DumpParts,
     page: &mut Vec<u8>,
     out: &mut W,
-) -> Result<Status, Halt>
+) -> Result<Status, IoStop>
     requires { frame.now.offset ≡ unit.now.unit.offset }
     ensures told { IfOk result (IsUnitPrinted shown frame.now unit.now.unit (W.contents out.old) (W.contents out.new)) }
     ensures begun { OnErr result (Keeps (W.contents out.old) (W.contents out.new)
@@ -118,7 +118,7 @@ fn print_valid<W: Write>(
     shown: DumpParts,
     page: &mut Vec<u8>,
     out: &mut W,
-) -> Result<(), Halt>
+) -> Result<(), IoStop>
     requires { IsSound unit.now shown.rows }
     ensures whole { OnOk result ((ops : List Op) → IsUnitOf unit.now ops
         → Appends (W.contents out.old) (W.contents out.new) (unit_lines shown (frame.now, with_ops unit.now ops))) }

@@ -14,7 +14,7 @@ use crate::page::turn_full;
 use crate::units::width_of;
 use lnt_header::{HeaderNumbers, Pair};
 use lnt_header_bytes::{EntryTableView, HeaderView};
-use lnt_io::{Halt, write_whole};
+use lnt_io::{IoStop, write_whole};
 use lnt_text::Quoted;
 use lnt_wire::{Cursor, Format, Frame, ValueView};
 use std::alloc::Global;
@@ -32,7 +32,7 @@ pub(crate) fn print_header<W: Write>(
     header: &HeaderView<'_>,
     page: &mut Vec<u8>,
     out: &mut W,
-) -> Result<(), Halt>
+) -> Result<(), IoStop>
     ensures ok { OnOk result (IsPaged (page.old.items ++ header_lines frame.now header.now)
         (W.contents out.old) (W.contents out.new) page.new.items) }
     ensures prefix { OnErr result (AppendsPrefix (W.contents out.old) (W.contents out.new)
@@ -44,10 +44,10 @@ pub(crate) fn print_header<W: Write>(
 }
 
 // Adds the lines of a unit and of its header's numbers.
-fn put_numbers(frame: &Frame<'_>, numbers: &HeaderNumbers, text: &mut Vec<u8>) -> Result<(), Halt>
+fn put_numbers(frame: &Frame<'_>, numbers: &HeaderNumbers, text: &mut Vec<u8>) -> Result<(), IoStop>
     ensures { OnOk result (text.new.items ≡ text.old.items ++ ((codes "unit " ++ unit_line frame.now) ++ numbers_line numbers.now)) }
 {
-    print_numbers(frame, numbers, text).map_err(|_| Halt::Memory)
+    print_numbers(frame, numbers, text).map_err(|_| IoStop::Memory)
 }
 
 // Prints the lines of a unit and of its header's numbers, in the order in which the header has them.
@@ -55,7 +55,7 @@ fn print_numbers<W: Write>(
     frame: &Frame<'_>,
     numbers: &HeaderNumbers,
     out: &mut W,
-) -> Result<(), Halt>
+) -> Result<(), IoStop>
     ensures { OnOk result (Appends (W.contents out.old) (W.contents out.new)
         ((codes "unit " ++ unit_line frame.now) ++ numbers_line numbers.now)) }
 {
@@ -82,7 +82,7 @@ fn print_entries<W: Write>(
     table: &EntryTableView<'_>,
     page: &mut Vec<u8>,
     out: &mut W,
-) -> Result<(), Halt>
+) -> Result<(), IoStop>
     ensures ok { OnOk result (IsPaged (page.old.items ++ numbered (entry_line name.now table.now.pairs) 0 table.now.entries)
         (W.contents out.old) (W.contents out.new) page.new.items) }
     ensures prefix { OnErr result (AppendsPrefix (W.contents out.old) (W.contents out.new)
@@ -106,12 +106,12 @@ fn put_line(
     pairs: &[Pair],
     cursor: &mut Cursor<'_>,
     text: &mut Vec<u8>,
-) -> Result<(), Halt>
+) -> Result<(), IoStop>
     requires { NoneSpelled (EntryBytes format cursor.old.order pairs.now) cursor.old.rest → ⊥ }
     ensures { OnOk result (PassesPrinting (entry_line name.now pairs.now index) format pairs.now cursor.old cursor.new
         (Some text.old.items) (Some text.new.items)) }
 {
-    print_entry_line(alloc, name, index, format, pairs, cursor, text).map_err(|_| Halt::Memory)
+    print_entry_line(alloc, name, index, format, pairs, cursor, text).map_err(|_| IoStop::Memory)
 }
 
 // Prints the line of the next entry, which exists, and moves past it.
@@ -124,7 +124,7 @@ fn print_entry_line<W: Write>(
     pairs: &[Pair],
     cursor: &mut Cursor<'_>,
     out: &mut W,
-) -> Result<(), Halt>
+) -> Result<(), IoStop>
     requires { NoneSpelled (EntryBytes format cursor.old.order pairs.now) cursor.old.rest → ⊥ }
     ensures { OnOk result (PassesPrinting (entry_line name.now pairs.now index) format pairs.now cursor.old cursor.new
         (W.contents out.old) (W.contents out.new)) }
@@ -140,7 +140,7 @@ fn print_entry<W: Write>(
     pairs: &[Pair],
     cursor: &mut Cursor<'_>,
     out: &mut W,
-) -> Result<(), Halt>
+) -> Result<(), IoStop>
     requires { NoneSpelled (EntryBytes format cursor.old.order pairs.now) cursor.old.rest → ⊥ }
     ensures { OnOk result (PassesPrinting (entry_end pairs.now) format pairs.now cursor.old cursor.new
         (W.contents out.old) (W.contents out.new)) }
@@ -161,7 +161,7 @@ fn print_component<W: Write>(
     content: u64,
     value: ValueView<'_>,
     out: &mut W,
-) -> Result<(), Halt>
+) -> Result<(), IoStop>
     ensures { OnOk result (Appends (W.contents out.old) (W.contents out.new)
         (codes " " ++ (decimal content ++ (codes "=" ++ value_text (value_of value.entry))))) }
 {
@@ -170,7 +170,7 @@ fn print_component<W: Write>(
 }
 
 // Prints a value in its form.
-fn print_value<W: Write>(alloc: Global, value: ValueView<'_>, out: &mut W) -> Result<(), Halt>
+fn print_value<W: Write>(alloc: Global, value: ValueView<'_>, out: &mut W) -> Result<(), IoStop>
     ensures { OnOk result (Appends (W.contents out.old) (W.contents out.new) (value_text (value_of value.entry))) }
 {
     match value {
@@ -190,14 +190,14 @@ fn print_value<W: Write>(alloc: Global, value: ValueView<'_>, out: &mut W) -> Re
 }
 
 // Prints the text of a value.
-fn print_text<T: fmt::Display, W: Write>(value: &T, out: &mut W) -> Result<(), Halt>
+fn print_text<T: fmt::Display, W: Write>(value: &T, out: &mut W) -> Result<(), IoStop>
     ensures { IfSome (T.output value.now) (λ text. OnOk result (Appends (W.contents out.old) (W.contents out.new) text)) }
 {
     write!(out, "{value}")?;
     Ok(())
 }
 
-fn print_block<W: Write>(alloc: Global, bytes: &[u8], out: &mut W) -> Result<(), Halt>
+fn print_block<W: Write>(alloc: Global, bytes: &[u8], out: &mut W) -> Result<(), IoStop>
     ensures { OnOk result (Appends (W.contents out.old) (W.contents out.new) (block_text bytes.now)) }
 {
     write_whole(out, b"block:")?;
@@ -206,7 +206,7 @@ fn print_block<W: Write>(alloc: Global, bytes: &[u8], out: &mut W) -> Result<(),
 
 // Prints the hexadecimal digits of the bytes, some bytes at a time.
 #[tactic(auto, using(crate::proofs::Lines::print_bytes_lemmas))]
-pub(crate) fn print_bytes<W: Write>(alloc: Global, bytes: &[u8], out: &mut W) -> Result<(), Halt>
+pub(crate) fn print_bytes<W: Write>(alloc: Global, bytes: &[u8], out: &mut W) -> Result<(), IoStop>
     ensures { OnOk result (Appends (W.contents out.old) (W.contents out.new) (encode_lower bytes.now)) }
 {
     let mut rest = bytes;
@@ -218,7 +218,7 @@ pub(crate) fn print_bytes<W: Write>(alloc: Global, bytes: &[u8], out: &mut W) ->
 }
 
 // Prints the hexadecimal digits of the bytes at once.
-fn print_piece<W: Write>(alloc: Global, bytes: &[u8], out: &mut W) -> Result<(), Halt>
+fn print_piece<W: Write>(alloc: Global, bytes: &[u8], out: &mut W) -> Result<(), IoStop>
     ensures { OnOk result (Appends (W.contents out.old) (W.contents out.new) (encode_lower bytes.now)) }
 {
     write!(out, "{}", hex::encode(alloc, bytes)?)?;

@@ -1,6 +1,6 @@
 //! Lines of rows, written backwards from their ends, so that no digits have to be counted or moved.
 ghost use Rattle.std.specs.Prelude.{◌≡◌, ◌+◌, ◌<◌, ◌≤◌, ◌∷◌, ◌++◌, [], decimal, drop};
-ghost use Rattle.lnt_dump.specs.Operations.{mark_text, marks_text, row_line as line_of_row};
+ghost use Rattle.lnt_dump.specs.Operations.{flag_text, flags_text, row_line as line_of_row};
 
 use lnt_machine::Row;
 use lnt_text::{address_before, decimal_before};
@@ -16,20 +16,20 @@ pub(crate) fn row_line(room: &mut [u8; MOST], index: u64, row: &Row) -> usize
 {
     let at = number_before(room, MOST, row.discriminator, b'\n');
     let at = number_before(room, at, row.isa, b' ');
-    let at = marks_before(room, at, row);
-    let at = mark_before(room, at, true, b' ');
-    let at = mark_before(room, at, true, b'0' + u8::from(row.is_stmt));
+    let at = flags_before(room, at, row);
+    let at = flag_before(room, at, true, b' ');
+    let at = flag_before(room, at, true, b'0' + u8::from(row.is_stmt));
     let at = number_before(room, at, row.column, b' ');
     let at = number_before(room, at, row.line, b' ');
     let at = number_before(room, at, row.file, b' ');
     let at = number_before(room, at, row.op_index, b' ');
-    let at = mark_before(room, at, true, b' ');
+    let at = flag_before(room, at, true, b' ');
     let at = address_before(room, at, row.address);
     let at = number_before(room, at, index, b' ');
-    let at = mark_before(room, at, true, b' ');
-    let at = mark_before(room, at, true, b'w');
-    let at = mark_before(room, at, true, b'o');
-    mark_before(room, at, true, b'r')
+    let at = flag_before(room, at, true, b' ');
+    let at = flag_before(room, at, true, b'w');
+    let at = flag_before(room, at, true, b'o');
+    flag_before(room, at, true, b'r')
 }
 
 // Writes a number and the byte after it, so that they end before index `end`, and gives the index of the first digit.
@@ -46,28 +46,28 @@ fn number_before(room: &mut [u8; MOST], end: usize, n: u64, after: u8) -> usize
 // Writes the letters of the flags that are set, or a dash, and a space, so that they end before index `end`, and gives the
 // index of the first.
 #[inline(always)]
-fn marks_before(room: &mut [u8; MOST], end: usize, row: &Row) -> usize
+fn flags_before(room: &mut [u8; MOST], end: usize, row: &Row) -> usize
     requires { (5 ≤ end) × (end ≤ 192) }
     ensures within { (result ≤ end) × (end ≤ result + 5) }
-    ensures written { drop result room.new ≡ marks_text row.now ++ (32 ∷ drop end room.old) }
+    ensures written { drop result room.new ≡ flags_text row.now ++ (32 ∷ drop end room.old) }
 {
-    let at = mark_before(room, end, true, b' ');
+    let at = flag_before(room, end, true, b' ');
     let some = row.basic_block | row.end_sequence | row.prologue_end | row.epilogue_begin;
     if !some {
-        return mark_before(room, at, true, b'-');
+        return flag_before(room, at, true, b'-');
     }
-    let at = mark_before(room, at, row.epilogue_begin, b'g');
-    let at = mark_before(room, at, row.prologue_end, b'p');
-    let at = mark_before(room, at, row.end_sequence, b'e');
-    mark_before(room, at, row.basic_block, b'b')
+    let at = flag_before(room, at, row.epilogue_begin, b'g');
+    let at = flag_before(room, at, row.prologue_end, b'p');
+    let at = flag_before(room, at, row.end_sequence, b'e');
+    flag_before(room, at, row.basic_block, b'b')
 }
 
 // Writes the letter `byte` of a flag before index `end`, if the flag is set, and gives the index at which the text then begins.
 #[inline(always)]
-fn mark_before(room: &mut [u8; MOST], end: usize, is_set: bool, byte: u8) -> usize
+fn flag_before(room: &mut [u8; MOST], end: usize, is_set: bool, byte: u8) -> usize
     requires { (1 ≤ end) × (end ≤ 192) }
     ensures within { (result ≤ end) × (end ≤ result + 1) }
-    ensures written { drop result room.new ≡ mark_text is_set (byte ∷ []) ++ drop end room.old }
+    ensures written { drop result room.new ≡ flag_text is_set (byte ∷ []) ++ drop end room.old }
 {
     if !is_set {
         return end;

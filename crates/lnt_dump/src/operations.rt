@@ -14,7 +14,7 @@ ghost use Rattle.lnt_dump.specs.Stepping.{HasOperands, IsPaged, IsUnitOf};
 use crate::header::print_bytes;
 use crate::page::turn_full;
 use lnt_header::{OpView, Operands};
-use lnt_io::Halt;
+use lnt_io::IoStop;
 use lnt_text::{put_address, put_decimal};
 use lnt_unit::UnitInPlace;
 use lnt_wire::{Cursor, Order};
@@ -28,7 +28,7 @@ pub(crate) fn print_ops<W: Write>(
     is_shown: bool,
     page: &mut Vec<u8>,
     out: &mut W,
-) -> Result<(), Halt>
+) -> Result<(), IoStop>
     requires { (ops : List Op) × IsUnitOf unit.now ops }
     ensures ok { OnOk result ((ops : List Op) → IsUnitOf unit.now ops
         → IsPaged (page.old.items ++ cond is_shown (numbered op_line 0 ops) [])
@@ -56,7 +56,7 @@ fn print_op<W: Write>(
     op: &OpView<'_>,
     page: &mut Vec<u8>,
     out: &mut W,
-) -> Result<(), Halt>
+) -> Result<(), IoStop>
     requires { (done : Op) × StandsFor op.now done }
     ensures ok { OnOk result ((done : Op) → StandsFor op.now done
         → IsPaged (page.old.items ++ op_line index done) (W.contents out.old) (W.contents out.new) page.new.items) }

@@ -10,7 +10,7 @@ ghost use Rattle.lnt_dump.specs.Stepping.{IsPaged, IsSound, IsUnitOf};
 
 use crate::line::{MOST, row_line};
 use crate::page::turn_full;
-use lnt_io::Halt;
+use lnt_io::IoStop;
 use lnt_machine::{Row, Run};
 use lnt_unit::UnitInPlace;
 use std::io::Write;
@@ -21,7 +21,7 @@ pub(crate) fn print_rows<W: Write>(
     is_shown: bool,
     page: &mut Vec<u8>,
     out: &mut W,
-) -> Result<(), Halt>
+) -> Result<(), IoStop>
     requires { IsSound unit.now is_shown }
     ensures ok { OnOk result ((ops : List Op) → IsUnitOf unit.now ops
         → IsPaged (page.old.items ++ cond is_shown (numbered line_of_row 0 (rows (with_ops unit.now ops))) [])
@@ -57,7 +57,7 @@ fn print_row<W: Write>(
     room: &mut [u8; MOST],
     page: &mut Vec<u8>,
     out: &mut W,
-) -> Result<(), Halt>
+) -> Result<(), IoStop>
     ensures ok { OnOk result (IsPaged (page.old.items ++ line_of_row index row.now)
         (W.contents out.old) (W.contents out.new) page.new.items) }
     ensures prefix { OnErr result (AppendsPrefix (W.contents out.old) (W.contents out.new)

@@ -8,7 +8,7 @@ ghost use Rattle.lnt_dump.specs.Stepping.{IsNext, GivesUnit};
 ghost use Rattle.lnt_dump.specs.Units.{AreBytes, AreUnitsPrinted, unit_line, width};
 
 use crate::faults::print_fault;
-use lnt_io::{Halt, Source, Status, print_line};
+use lnt_io::{IoStop, Source, Status, print_line};
 use lnt_unit::{SectionReader, SectionStop, UnitBuffer};
 use lnt_wire::{Fault, Format, Frame, Order};
 use std::alloc::Global;
@@ -29,7 +29,7 @@ pub fn print_units<R: Source, W: Write>(
     source: &mut R,
     order: Order,
     out: &mut W,
-) -> Result<Status, Halt>
+) -> Result<Status, IoStop>
     requires { R.failures source.old < 2 ^ 64 - 1 }
     ensures told { IfOk result (λ status. AreUnitsPrinted order (R.remaining source.old) (W.contents out.old) (W.contents out.new) status) }
     ensures begun { OnErr result (IfSome (R.remaining source.old) AreBytes
@@ -62,7 +62,7 @@ pub(crate) enum Next {
 pub(crate) fn next_of<R: Source>(
     reader: &mut SectionReader<'_, R>,
     room: Vec<u8>,
-) -> Result<Next, Halt>
+) -> Result<Next, IoStop>
     requires { progress_of reader.old ≡ Reading }
     ensures goes_on { IfOk result (λ next. GivesUnit next
         → (progress_of reader.new ≡ Reading) × (R.left (source_of reader.new) < R.left (source_of reader.old))) }
@@ -74,15 +74,15 @@ pub(crate) fn next_of<R: Source>(
         Ok(Some(unit)) => Ok(Next::Unit(unit)),
         Ok(None) => Ok(Next::End),
         Err(SectionStop::Fault(fault)) => Ok(Next::Fault(fault)),
-        Err(SectionStop::Read) => Err(Halt::Read),
-        Err(SectionStop::TooLong) => Err(Halt::TooLong),
-        Err(SectionStop::Memory) => Err(Halt::Memory),
+        Err(SectionStop::Read) => Err(IoStop::Read),
+        Err(SectionStop::TooLong) => Err(IoStop::TooLong),
+        Err(SectionStop::Memory) => Err(IoStop::Memory),
         Err(SectionStop::Failed) => unreachable!(),
     }
 }
 
 // Prints the line of a unit, or a prefix of it.
-fn print_frame<W: Write>(alloc: Global, frame: &Frame<'_>, out: &mut W) -> Result<(), Halt>
+fn print_frame<W: Write>(alloc: Global, frame: &Frame<'_>, out: &mut W) -> Result<(), IoStop>
     ensures whole { OnOk result (Appends (W.contents out.old) (W.contents out.new) (unit_line frame.now)) }
     ensures prefix { OnErr result (AppendsPrefix (W.contents out.old) (W.contents out.new) (unit_line frame.now)) }
 {

@@ -3,7 +3,7 @@ ghost use Rattle.std.specs.Prelude.{◌≡◌, ◌≢◌, ◌++◌, IfErr, IfOk,
 ghost use Rattle.std.specs.Io.KnownBytes.{Appends};
 ghost use Rattle.lnt_io.specs.Prefixes.{AppendsPrefix};
 ghost use Rattle.lnt_header.specs.HeaderRules.{IsAddressSize};
-ghost use Rattle.lnt_io.specs.Halts.{IsPrinting};
+ghost use Rattle.lnt_io.specs.IoStops.{IsPrinting};
 ghost use Rattle.lnt_io.specs.declared.status.Status.TheVariants.{No};
 ghost use Rattle.lnt_older.specs.Sections.{IsUpgraded};
 ghost use Rattle.lnt_older.specs.Upgradable.{AreSoundDirectories, CanUpgrade};
@@ -13,7 +13,7 @@ ghost use Rattle.lnt_dump.specs.Stepping.{IsPrefixIn};
 use crate::convert::print_refusal;
 use crate::faults::print_fault;
 use crate::page::{hand_on, turn_full};
-use lnt_io::{Halt, Status, print_line};
+use lnt_io::{IoStop, Status, print_line};
 use lnt_older::{Directory, UpgradeFault, judge_upgrade, upgrade_next};
 use lnt_unit::ConvertFault;
 use lnt_wire::{Cursor, Order};
@@ -35,7 +35,7 @@ pub fn print_upgraded<W: Write>(
     address_size: u8,
     directories: Option<&[u8]>,
     out: &mut W,
-) -> Result<Status, Halt>
+) -> Result<Status, IoStop>
     requires { IsAddressSize address_size }
     ensures told { IfOk result (IsUpgradePrinted order address_size bytes.now (option_copied directories.entry)
         (W.contents out.old) (W.contents out.new)) }
@@ -61,7 +61,7 @@ fn print_anew<W: Write>(
     address_size: u8,
     directories: &[Directory],
     out: &mut W,
-) -> Result<(), Halt>
+) -> Result<(), IoStop>
     requires size { IsAddressSize address_size }
     requires sound { AreSoundDirectories directories.now }
     requires can { CanUpgrade order address_size directories.now bytes.now }
@@ -82,7 +82,7 @@ fn print_anew<W: Write>(
 }
 
 // Prints the line that says why a section isn't written anew, or a prefix of it. Lack of memory has no line: it is a stop.
-fn print_reason<W: Write>(alloc: Global, fault: UpgradeFault, out: &mut W) -> Result<Status, Halt>
+fn print_reason<W: Write>(alloc: Global, fault: UpgradeFault, out: &mut W) -> Result<Status, IoStop>
     ensures no { IfOk result (λ status. status ≡ No) }
     ensures told { OnOk result (fault ≢ UpgradeFault.Memory) }
     ensures err { IfErr result IsPrinting }
@@ -100,6 +100,6 @@ fn print_reason<W: Write>(alloc: Global, fault: UpgradeFault, out: &mut W) -> Re
             Ok(Status::No)
         }
         UpgradeFault::TooLarge(offset) => print_refusal(alloc, ConvertFault::TooLarge(offset), out),
-        UpgradeFault::Memory => Err(Halt::Memory),
+        UpgradeFault::Memory => Err(IoStop::Memory),
     }
 }

@@ -31,7 +31,7 @@ pub extern "C" fn linetab_lookup_indexed(
     let place = first_ending_above(spans, position, low, high);
     if place < spans.len() {
         let span = &spans[place];
-        if !position.is_below(span.low_end()) && position.is_below(span.high_end()) {
+        if position >= span.low_end() && position < span.high_end() {
             *answer = span.answer;
             return true;
         }
@@ -78,7 +78,7 @@ fn first_ending_above(spans: &[FlatSpan], position: Position, low: usize, high: 
     let mut high = high;
     while low < high {
         let middle = low + (high - low) / 2;
-        if position.is_below(spans[middle].high_end()) {
+        if position < spans[middle].high_end() {
             high = middle;
         } else {
             low = middle + 1;
@@ -111,7 +111,7 @@ fn ends_by(spans: &[FlatSpan], position: Position, place: usize) -> bool
     if place == 0 {
         return true;
     }
-    !position.is_below(spans[place - 1].high_end())
+    position >= spans[place - 1].high_end()
 }
 
 // Whether the span at the place, if there is one, begins above the position.
@@ -125,5 +125,5 @@ fn begins_above(spans: &[FlatSpan], position: Position, place: usize) -> bool
     if place == spans.len() {
         return true;
     }
-    position.is_below(spans[place].low_end())
+    position < spans[place].low_end()
 }

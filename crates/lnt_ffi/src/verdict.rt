@@ -19,7 +19,7 @@ use lnt_wire::{Fault, Reason};
 #[repr(C)]
 #[derive(Clone, Copy, Default)]
 pub struct FlatVerdict {
-    /// 0 for yes, else the number of the reason: 25 to 32 of a section (`No`), 33 where memory ran out (`Stop`), 36 to 40 of a
+    /// 0 for yes, else the number of the reason: of a section (`No`), 33 where memory ran out (`Stop`), 36 to 40 of a
     /// table (`TableNo`).
     pub number: u32,
     /// The number of what is wrong with the bytes (`Reason`) or with the program (`RunFault`), or 1 for the table of files and 0 for

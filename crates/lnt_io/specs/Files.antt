@@ -8,15 +8,15 @@ pub data FileState : Type 0 where
   Readable : Option (List ℕ) → FileState
 
 -- No more is known of any file afterwards (new) than before (old).
-abbrev pub TellsNoMore : (List ℕ → FileState → Type 0) → (List ℕ → FileState → Type 0) → Type 0
-TellsNoMore old new = (name : List ℕ) (state : FileState) → new name state → old name state
+abbrev pub FindsNoMore : (List ℕ → FileState → Type 0) → (List ℕ → FileState → Type 0) → Type 0
+FindsNoMore old new = (name : List ℕ) (state : FileState) → new name state → old name state
 
 -- Each file that was refused by the end (new) is one of these, unless it was refused before (old).
 abbrev pub RefusesOnly : (List ℕ → Type 0) → (List ℕ → Type 0) → (List ℕ → Type 0) → Type 0
 RefusesOnly AreThese old new = (name : List ℕ) → new name → old name ⊎ AreThese name
 
 -- These are all bytes of a file of which this may be known.
-pub record AreBytesOf (tells : FileState → Type 0) (bytes : List ℕ) : Type 0 where
+pub record AreBytesOf (finds : FileState → Type 0) (bytes : List ℕ) : Type 0 where
   pub told : Option (List ℕ)
-  pub is_told : tells (Readable told)
+  pub is_told : finds (Readable told)
   pub same : IfSome told (λ all. bytes ≡ all)

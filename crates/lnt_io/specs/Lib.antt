@@ -2,6 +2,6 @@ pub mod CountedSources
 pub mod FaultTexts
 pub mod Files
 pub mod Prefixes
-pub mod Halts
+pub mod IoStops
 pub mod Pulling
 pub mod Stopping

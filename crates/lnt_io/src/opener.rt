@@ -1,17 +1,17 @@
 //! Files by their names.
 ghost use Rattle.std.specs.Prelude.{◌≡◌, ◌≢◌, ◌^◌, ◌<◌, ◌⊎◌, ℕ, List, IfOk, IfErr, IfSome, IsErrOf, IsNone, IsTrue, ⊤, false};
-ghost use Rattle.lnt_io.specs.Files.{AreBytesOf, FileState, Readable, RefusesOnly, TellsNoMore, Unreadable};
-ghost use Rattle.lnt_io.specs.Halts.{IsOpening};
-ghost use Rattle.lnt_io.specs.declared.halt.Halt.TheVariants.{Write};
+ghost use Rattle.lnt_io.specs.Files.{AreBytesOf, FileState, Readable, RefusesOnly, FindsNoMore, Unreadable};
+ghost use Rattle.lnt_io.specs.IoStops.{IsOpening};
+ghost use Rattle.lnt_io.specs.declared.io_stop.IoStop.TheVariants.{Write};
 
-use crate::halt::Halt;
+use crate::io_stop::IoStop;
 use crate::{BLOCK, Counted, LIMIT, OpenedFile, Source, read_all};
 use std::alloc::{AllocError, Global};
 use std::io::{BufReader, Read};
 
 /// Gives readers of files by their names.
 ///
-/// Contracts see it by two ghost members. `tells` is what may be known of the file with a name. That is that it can't be read,
+/// Contracts see it by two ghost members. `finds` is what may be known of the file with a name. That is that it can't be read,
 /// or all its bytes; or `None` in their place, if its reader doesn't say them. `refused` is whether a call of `reader_of` may
 /// have given no reader for the file with a name so far. By default anything may be known of each file, and each may have been
 /// refused, so nothing is said of any.
@@ -19,23 +19,23 @@ pub trait Opener {
     /// Reads a file from its first byte on.
     type Reader: Read + Drop;
 
-    ghost tells: { Self → List ℕ → FileState → Type 0 } = { λ _ _ _. ⊤ };
+    ghost finds: { Self → List ℕ → FileState → Type 0 } = { λ _ _ _. ⊤ };
 
     ghost refused: { Self → List ℕ → Type 0 } = { λ _ _. ⊤ };
 
     /// A reader of the file with this name, or `None` if it can't be opened.
     fn reader_of(&mut self, name: &str) -> Option<Self::Reader>
-        ensures told { IfSome result (λ reader. tells self.old name.now (Readable (Self.Reader.remaining reader))) }
-        ensures none { IsNone result → tells self.old name.now Unreadable }
-        ensures later { TellsNoMore (tells self.old) (tells self.new) }
+        ensures told { IfSome result (λ reader. finds self.old name.now (Readable (Self.Reader.remaining reader))) }
+        ensures none { IsNone result → finds self.old name.now Unreadable }
+        ensures later { FindsNoMore (finds self.old) (finds self.new) }
         ensures refused { RefusesOnly (λ other. IsNone result × (name.now ≡ other)) (refused self.old) (refused self.new) };
 
     /// Takes note that a file couldn't be read whole: its source failed, or was found too long.
     fn could_not_read<'n>(&mut self, file: &OpenedFile<'n, Self::Reader>)
         requires { 0 < ⟦<OpenedFile<'n, Self::Reader> as Source>⟧.failures file.now
             ⊎ IsTrue (⟦<OpenedFile<'n, Self::Reader> as Source>⟧.too_long file.now) }
-        ensures unread { tells self.old (⟦<OpenedFile<'n, Self::Reader> as Source>⟧.name file.now) Unreadable }
-        ensures later { TellsNoMore (tells self.old) (tells self.new) };
+        ensures unread { finds self.old (⟦<OpenedFile<'n, Self::Reader> as Source>⟧.name file.now) Unreadable }
+        ensures later { FindsNoMore (finds self.old) (finds self.new) };
 
     /// Another reader of a file that was read before. `None` if its bytes can't be read a second time, like those of
     /// standard input or of a pipe.
@@ -45,7 +45,7 @@ pub trait Opener {
 
     /// Whether the name is that of a regular file, which has an end, and whose reader doesn't wait. By default each is one.
     fn is_regular(&self, name: &str) -> bool
-        ensures { result ≡ false → tells self.now name.now Unreadable }
+        ensures { result ≡ false → finds self.now name.now Unreadable }
     {
         let _ = name;
         true
@@ -66,19 +66,19 @@ pub fn open_file<O: Opener>(
     alloc: Global,
     opener: &mut O,
     name: &str,
-) -> Result<Counted<BufReader<O::Reader>>, Halt>
+) -> Result<Counted<BufReader<O::Reader>>, IoStop>
     ensures failures { IfOk result (λ source. ⟦<Counted<BufReader<O::Reader>> as Source>⟧.failures source ≡ 0) }
     ensures too_long { IfOk result (λ source. ⟦<Counted<BufReader<O::Reader>> as Source>⟧.too_long source ≡ false) }
     ensures left { IfOk result (λ source. ⟦<Counted<BufReader<O::Reader>> as Source>⟧.left source ≡ 2 ^ 40) }
-    ensures told { IfOk result (λ source. O.tells opener.old name.now (Readable (⟦<Counted<BufReader<O::Reader>> as Source>⟧.remaining source))) }
-    ensures none { IsErrOf result Halt.Read → O.tells opener.old name.now Unreadable }
-    ensures later { TellsNoMore (O.tells opener.old) (O.tells opener.new) }
-    ensures refused { RefusesOnly (λ other. IsErrOf result Halt.Read × (name.now ≡ other)) (O.refused opener.old) (O.refused opener.new) }
+    ensures told { IfOk result (λ source. O.finds opener.old name.now (Readable (⟦<Counted<BufReader<O::Reader>> as Source>⟧.remaining source))) }
+    ensures none { IsErrOf result IoStop.Read → O.finds opener.old name.now Unreadable }
+    ensures later { FindsNoMore (O.finds opener.old) (O.finds opener.new) }
+    ensures refused { RefusesOnly (λ other. IsErrOf result IoStop.Read × (name.now ≡ other)) (O.refused opener.old) (O.refused opener.new) }
     ensures err { IfErr result IsOpening }
 {
     match opener.reader_of(name) {
         Some(reader) => Ok(source_of(alloc, reader)?),
-        None => Err(Halt::Read),
+        None => Err(IoStop::Read),
     }
 }
 
@@ -105,11 +105,15 @@ pub fn source_of<R: Read + Drop>(
 ///
 /// Fails with `Read` if the file can't be opened or read, with `TooLong` if it has more bytes than the limit, and with
 /// `Memory`; never with `Write`.
-pub fn bytes_of_file<O: Opener>(alloc: Global, opener: &mut O, name: &str) -> Result<Vec<u8>, Halt>
-    ensures bytes { IfOk result (λ bytes. AreBytesOf (O.tells opener.old name.now) bytes.items) }
-    ensures later { TellsNoMore (O.tells opener.old) (O.tells opener.new) }
-    ensures refused { RefusesOnly (λ other. IsErrOf result Halt.Read × (name.now ≡ other)) (O.refused opener.old) (O.refused opener.new) }
-    ensures err { IfErr result (λ halt. halt ≢ Write) }
+pub fn bytes_of_file<O: Opener>(
+    alloc: Global,
+    opener: &mut O,
+    name: &str,
+) -> Result<Vec<u8>, IoStop>
+    ensures bytes { IfOk result (λ bytes. AreBytesOf (O.finds opener.old name.now) bytes.items) }
+    ensures later { FindsNoMore (O.finds opener.old) (O.finds opener.new) }
+    ensures refused { RefusesOnly (λ other. IsErrOf result IoStop.Read × (name.now ≡ other)) (O.refused opener.old) (O.refused opener.new) }
+    ensures err { IfErr result (λ io_stop. io_stop ≢ Write) }
 {
     let mut source = open_file(alloc, opener, name)?;
     Ok(read_all(alloc, &mut source)?)

@@ -13,7 +13,7 @@ use Rattle.lnt_machine.specs.Walking.{KeptProgram}
 use Rattle.lnt_unit.specs.UnitBytes.{SectionBytes}
 use Rattle.lnt_sequences.specs.Sequences.{Selection}
 use Rattle.lnt_files.specs.Files.{AreFilesOf, KeptFile, kept_path, kept_sum}
-use Rattle.lnt_lines.specs.Contents.{Contents, files_at, files_of, TellsOf}
+use Rattle.lnt_lines.specs.Contents.{Contents, files_at, files_of, AreContentsOf}
 use Rattle.lnt_lines.specs.Indexed.{header_in, Indexed, IsIndexOf}
 use Rattle.lnt_lines.specs.Laws.{FilesOfUnits, HeadersOfUnits, ListsFilesOf}
 use Rattle.lnt_lines.proofs.DraftLemmas.{rising_from}
@@ -26,7 +26,7 @@ FilesOf text general unit files = AreFilesOf text general unit.1.header files
 
 -- its files are held
 held : (text general : List ℕ) (selection : Selection) (order : Order) (section : List ℕ) (contents : Contents) (unit : ℕ × UnitParts)
-    → SectionBytes order selection.units section → TellsOf text general selection contents → Contains selection.units unit
+    → SectionBytes order selection.units section → AreContentsOf text general selection contents → Contains selection.units unit
     → (files : List KeptFile) × (files_of contents unit.0 ≡ Some files) × AreFilesOf text general unit.1.header files
 held text general selection order section contents unit spelled tells (k, lt, same) =
     let files = get_or contents.files k [] in
@@ -41,7 +41,7 @@ held text general selection order section contents unit spelled tells (k, lt, sa
     (files, there, subst (λ (u : ℕ × UnitParts). AreFilesOf text general u.1.header files) same kept.0)
 
 listed : (text general : List ℕ) (selection : Selection) (order : Order) (section : List ℕ) (contents : Contents) (unit : ℕ × UnitParts)
-    → SectionBytes order selection.units section → TellsOf text general selection contents → Contains selection.units unit
+    → SectionBytes order selection.units section → AreContentsOf text general selection contents → Contains selection.units unit
     → ListsFilesOf text general unit contents
 listed text general selection order section contents unit spelled tells within =
     let found = held text general selection order section contents unit spelled tells within in

@@ -49,7 +49,7 @@ sum_in contents unit file = option_and_then (λ files. kept_sum files file) (fil
 
 -- The contents are those of the units: the spans of their kept sequences, each once and in order, which answer at each position as
 -- the rows do; the units' offsets; and their files.
-pub record TellsOf (line general : List ℕ) (selection : Selection) (contents : Contents) : Type 0 where
+pub record AreContentsOf (line general : List ℕ) (selection : Selection) (contents : Contents) : Type 0 where
   pub spans_are : IsPermutation (spans_of (kept_sequences selection)) contents.spans
   pub in_order : AreInOrder contents.spans
   pub answers : (p : Position) → span_answer contents.spans p ≡ line_answer selection p

@@ -110,6 +110,6 @@ abbrev pub AreKnownOf : Indexed → Known → Type 0
 AreKnownOf index known = All (IsCachedOf index) known.sequences.items
 
 -- This is the answer at a position of the sequence with this id, if it is ordered and what is kept is known.
-abbrev pub TellsAt : Indexed → Known → SeqId → Position → Option Answer → Type 0
-TellsAt index known id position answer = (rows : List Row) → AreKnownOf index known
+abbrev pub AnswersAt : Indexed → Known → SeqId → Position → Option Answer → Type 0
+AnswersAt index known id position answer = (rows : List Row) → AreKnownOf index known
     → IsSequenceIn index.units index.programs id rows → IsOrdered rows → answer ≡ option_map (answer_of id.unit) (row_at position rows)

@@ -27,7 +27,7 @@ use Rattle.lnt_lines.specs.declared.section.Judged.{Judged}
 use Rattle.lnt_lines.specs.declared.section.Judged.TheVariants.{Good, Bad}
 use Rattle.lnt_lines.specs.declared.section.JudgedIndex.{JudgedIndex}
 use Rattle.lnt_lines.specs.declared.section.JudgedIndex.TheVariants as index
-use Rattle.lnt_lines.specs.Contents.{Contents, TellsOf}
+use Rattle.lnt_lines.specs.Contents.{Contents, AreContentsOf}
 use Rattle.lnt_lines.specs.Indexed.{Indexed, IsIndexOf}
 
 -- The bytes of the buffer are those of a unit with this flaw.
@@ -97,7 +97,7 @@ IsSoundRun line general view watch =
 pub record AreLinesOf (line general : List ℕ) (options : Options) (section : List ℕ) (lines : Contents) : Type 0 where
   pub units : List (ℕ × UnitParts)
   pub good : IsGood line general options section units
-  pub tells : TellsOf line general (selected options units) lines
+  pub tells : AreContentsOf line general (selected options units) lines
 
 -- The section is good, and this is the index of its units.
 pub record IsIndexOfSection (line general : List ℕ) (options : Options) (section : List ℕ) (index : Indexed) : Type 0 where

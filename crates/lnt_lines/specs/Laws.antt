@@ -10,7 +10,7 @@ use Rattle.lnt_spans.specs.declared.position.Position.{Position}
 use Rattle.lnt_sequences.specs.Laws.{IsLastAt}
 use Rattle.lnt_sequences.specs.Sequences.{answer_of, Holds, kept_sequences, line_answer, Placed, Selection}
 use Rattle.lnt_files.specs.Paths.{listed_sum, path_bytes}
-use Rattle.lnt_lines.specs.Contents.{Contents, count_in, files_of, path_in, sum_in, TellsOf}
+use Rattle.lnt_lines.specs.Contents.{Contents, count_in, files_of, path_in, sum_in, AreContentsOf}
 use Rattle.lnt_lines.specs.Good.{IsGood, selected, Options}
 use Rattle.lnt_lines.specs.Indexed.{header_in, Indexed, IsIndexOf}
 use Rattle.lnt_lines.specs.Nos.{IsTrueNo, No}
@@ -29,10 +29,10 @@ pub record ListsFilesOf (line general : List ℕ) (unit : ℕ × UnitParts) (con
 -- The same for each unit of the section, and no files are held for an offset without a unit.
 pub record FilesOfUnits : Type 0 where
   pub listed : (line general : List ℕ) (selection : Selection) (order : Order) (section : List ℕ) (contents : Contents)
-      (unit : ℕ × UnitParts) → SectionBytes order selection.units section → TellsOf line general selection contents
+      (unit : ℕ × UnitParts) → SectionBytes order selection.units section → AreContentsOf line general selection contents
       → Contains selection.units unit → ListsFilesOf line general unit contents
   pub none : (line general : List ℕ) (selection : Selection) (contents : Contents) (offset : ℕ)
-      → TellsOf line general selection contents → All (λ unit. unit.0 ≢ offset) selection.units → files_of contents offset ≡ None
+      → AreContentsOf line general selection contents → All (λ unit. unit.0 ≢ offset) selection.units → files_of contents offset ≡ None
 
 -- The header that an index finds at the offset of a unit is that of the unit, and it finds none at an offset without a
 -- unit.

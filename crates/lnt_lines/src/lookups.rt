@@ -2,7 +2,7 @@
 ghost use Rattle.std.specs.Prelude.{◌≡◌, ◌+◌, ◌^◌, ◌<◌, ◌≤◌, ℕ, length, Option, IfOk, IfSome, IsSome, slice_index_or};
 ghost use Rattle.lnt_sequences.specs.Sequences.{line_answer};
 ghost use Rattle.lnt_lines.specs.declared.lookups.Cached.{Cached};
-ghost use Rattle.lnt_lines.specs.Indexed.{AreKnownOf, IsCachedOf, TellsAt, Indexed, file_path_in, OfUnits};
+ghost use Rattle.lnt_lines.specs.Indexed.{AreKnownOf, IsCachedOf, AnswersAt, Indexed, file_path_in, OfUnits};
 
 use crate::index::{Held, Index};
 use lnt_sequences::{RowCache, SeqId, answer_at};
@@ -131,7 +131,7 @@ impl<'i> Known<'i> {
         position: Position,
     ) -> Result<Option<Answer>, AllocError>
         ensures known { AreKnownOf index.entry.now self.old → AreKnownOf index.entry.now self.new }
-        ensures answer { IfOk result (TellsAt index.entry.now self.old held.id position) }
+        ensures answer { IfOk result (AnswersAt index.entry.now self.old held.id position) }
     {
         match self.said_at(held, position) {
             Some(answer) => Ok(answer),
@@ -142,7 +142,7 @@ impl<'i> Known<'i> {
     // The same, where rows that are kept in brief say it.
     #[inline(always)]
     fn said_at(&self, held: Held, position: Position) -> Option<Option<Answer>>
-        ensures { IfSome result (λ answer. (index : Indexed) → TellsAt index self.now held.id position answer) }
+        ensures { IfSome result (λ answer. (index : Indexed) → AnswersAt index self.now held.id position answer) }
     {
         let known = place_in(&self.sequences, &self.places, held.place, held.id)?;
         self.sequences[known].cache.said_at(held.id.unit, position)
@@ -158,7 +158,7 @@ impl<'i> Known<'i> {
         position: Position,
     ) -> Result<Option<Answer>, AllocError>
         ensures known { AreKnownOf index.entry.now self.old → AreKnownOf index.entry.now self.new }
-        ensures answer { IfOk result (TellsAt index.entry.now self.old held.id position) }
+        ensures answer { IfOk result (AnswersAt index.entry.now self.old held.id position) }
     {
         let Held { place, id } = held;
         let Some(rows) = index.rows(id) else {

@@ -10,7 +10,7 @@ use Rattle.lnt_header.specs.declared.op.Op.TheVariants.{Special, Copy, AdvancePc
 use Rattle.lnt_header.specs.declared.op.Op.TheVariants.{FixedAdvancePc, EndSequence, SetAddress}
 use Rattle.lnt_machine.specs.Registers.{address, advance_of_special, advances, base, IsLine, line, line_increment}
 use Rattle.lnt_machine.specs.Registers.{line_sum, moved, op_index, part, registers_after}
-use Rattle.lnt_machine.specs.Changes.{advanced, changed, initial_registers, IsAllowed, line_reached, made, unmarked}
+use Rattle.lnt_machine.specs.Changes.{advanced, changed, initial_registers, IsAllowed, line_reached, made, without_flags}
 use Rattle.lnt_machine.specs.Matrix.{row_made, Row}
 use Rattle.lnt_machine.proofs.AdvanceLemmas.{div_more, mod_more}
 
@@ -73,8 +73,8 @@ pub changed_after : (h : NumberParts) (back : List Op) (op : Op) → 0 < h.max_o
 changed_after h back (Special c) some allowed fits =
     let r = registers_after h back in
     let place = at_place r (address h (Special c ∷ back)) (op_index h (Special c ∷ back)) in
-    ap (λ (x : Row). unmarked (on_line x (line_reached h r (Special c)))) (advanced_after h back (advance_of_special h c) some)
-    ∙ ap (λ (z : ℤ). unmarked (on_line place z)) (line_more (line_sum h (part back)) (line_increment h (Special c)) fits)
+    ap (λ (x : Row). without_flags (on_line x (line_reached h r (Special c)))) (advanced_after h back (advance_of_special h c) some)
+    ∙ ap (λ (z : ℤ). without_flags (on_line place z)) (line_more (line_sum h (part back)) (line_increment h (Special c)) fits)
 changed_after h back Copy some allowed fits = simp (zero-add, zero_add_z)
 changed_after h back (AdvancePc n) some allowed fits = rw (advanced_after h back n some) (simp zero_add_z)
 changed_after h back (AdvanceLine z) some allowed fits =

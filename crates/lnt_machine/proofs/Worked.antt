@@ -135,19 +135,19 @@ address_wraps = simple (SetAddress 0xffff_ffff_ffff_fff0 ∷ Special 20 ∷ Adva
 address_wraps_rows : map shown (rows address_wraps) ≡ (0xffff_ffff_ffff_fff0, 0, 3, false) ∷ (0, 0, 3, true) ∷ []
 address_wraps_rows = refl
 
--- the marks and the discriminator of the first row are gone in the second
-abbrev marks_and_discriminator : UnitParts
-marks_and_discriminator =
+-- the flags and the discriminator of the first row are gone in the second
+abbrev flags_and_discriminator : UnitParts
+flags_and_discriminator =
     simple (SetAddress 0x1000 ∷ SetDiscriminator 7 ∷ SetBasicBlock ∷ SetPrologueEnd ∷ Special 20 ∷ Special 75 ∷ AdvancePc 2 ∷ EndSequence ∷
     [])
 
 -- basic_block, prologue_end, epilogue_begin, discriminator
-abbrev marks : Row → Bool × Bool × Bool × ℕ
-marks row = (row.basic_block, row.prologue_end, row.epilogue_begin, row.discriminator)
+abbrev flags : Row → Bool × Bool × Bool × ℕ
+flags row = (row.basic_block, row.prologue_end, row.epilogue_begin, row.discriminator)
 
-marks_and_discriminator_rows : map marks (rows marks_and_discriminator)
+flags_and_discriminator_rows : map flags (rows flags_and_discriminator)
     ≡ (true, true, false, 7) ∷ (false, false, false, 0) ∷ (false, false, false, 0) ∷ []
-marks_and_discriminator_rows = refl
+flags_and_discriminator_rows = refl
 
 -- is_stmt is inverted in the first sequence alone
 abbrev two_sequences : UnitParts

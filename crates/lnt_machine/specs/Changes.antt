@@ -45,8 +45,8 @@ advanced h r n = record r {
 }
 
 -- the registers after a row
-abbrev pub unmarked : Row → Row
-unmarked r = record r { discriminator = 0; basic_block = false; prologue_end = false; epilogue_begin = false }
+abbrev pub without_flags : Row → Row
+without_flags r = record r { discriminator = 0; basic_block = false; prologue_end = false; epilogue_begin = false }
 
 -- the line that an operation leads to
 abbrev pub line_reached : NumberParts → Row → Op → ℤ
@@ -74,8 +74,8 @@ set_by h r _ = r
 
 -- the registers after an operation
 abbrev pub changed : NumberParts → Row → Op → Row
-changed h r (Special c) = unmarked (special_row h r c)
-changed h r Copy = unmarked r
+changed h r (Special c) = without_flags (special_row h r c)
+changed h r Copy = without_flags r
 changed h r EndSequence = initial_registers h
 changed h r (AdvanceLine z) = record r { line = unsigned_abs (line_reached h r (AdvanceLine z)) }
 changed h r op = set_by h r op

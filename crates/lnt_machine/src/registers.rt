@@ -1,7 +1,7 @@
 //! How operations change the registers (DWARF 5, section 6.2.5).
 ghost use Rattle.std.specs.Prelude.{◌≡◌, ◌+◌, ◌*◌, ◌/◌, ◌%◌, ◌^◌, ◌<◌, ◌≤◌, pos, ◌+ℤ◌, unsigned_abs, IfOk, OnOk, OnErr};
 ghost use Rattle.lnt_machine.specs.Changes.{advanced, Changes, initial_registers, IsAllowed, line_reached, plain};
-ghost use Rattle.lnt_machine.specs.Changes.{set_by, special_row, unmarked};
+ghost use Rattle.lnt_machine.specs.Changes.{set_by, special_row, without_flags};
 ghost use Rattle.lnt_machine.specs.Registers.{IsLine};
 ghost use Rattle.lnt_machine.specs.State.{IsBounded};
 ghost use Rattle.lnt_header.specs.HeaderRules.{IsAddressSize};
@@ -132,7 +132,7 @@ fn special(
     requires bounded { IsBounded numbers.now registers.old }
     ensures line { OnOk result (IsLine (line_reached numbers.now registers.old (Op.Special opcode))) }
     ensures row { IfOk result (λ row. row ≡ special_row numbers.now registers.old opcode) }
-    ensures after { OnOk result (registers.new ≡ unmarked (special_row numbers.now registers.old opcode)) }
+    ensures after { OnOk result (registers.new ≡ without_flags (special_row numbers.now registers.old opcode)) }
     ensures err { OnErr result (IsLine (line_reached numbers.now registers.old (Op.Special opcode)) → ⊥) }
     ensures unchanged { OnErr result (registers.new ≡ registers.old) }
 {
@@ -164,7 +164,7 @@ fn divided(dividend: u8, divisor: u8, reciprocal: u32) -> (u8, u8)
 #[inline(always)]
 fn append(registers: &mut Row) -> Row
     ensures row { result ≡ registers.old }
-    ensures reset { registers.new ≡ unmarked registers.old }
+    ensures reset { registers.new ≡ without_flags registers.old }
 {
     let row = *registers;
     registers.discriminator = 0;

@@ -5,7 +5,7 @@ use Rattle.std.proofs.KnownBytes.{Appends-trans}
 use Rattle.std.proofs.lemmas.List.Concat.{flat_map-append}
 use Rattle.lnt_text.specs.declared.note.Note.{Note}
 use Rattle.lnt_text.specs.Notes.{note_line}
-use Rattle.lnt_notes.specs.Told.{AddsNotes}
+use Rattle.lnt_notes.specs.Notes.{AddsNotes}
 
 one_note : (old new : Option (List ℕ)) (note : Note) → Appends old new (note_line note) → AddsNotes old new
 one_note old new note added = record {
@@ -28,6 +28,6 @@ line_told (Ok x) old new note printed = one_note old new note printed
 line_told (Err e) old new note printed = tt
 
 -- what a call tells after others, all of them tell
-pub told_after : {T E : Type 0} (r : Result T E) (a b c : Option (List ℕ)) → AddsNotes a b → OnOk r (AddsNotes b c) → OnOk r (AddsNotes a c)
-told_after (Ok x) a b c some more = more_notes a b c some more
-told_after (Err e) a b c some more = tt
+pub noted_after : {T E : Type 0} (r : Result T E) (a b c : Option (List ℕ)) → AddsNotes a b → OnOk r (AddsNotes b c) → OnOk r (AddsNotes a c)
+noted_after (Ok x) a b c some more = more_notes a b c some more
+noted_after (Err e) a b c some more = tt

@@ -84,7 +84,7 @@ pub record LineLaws {V X : Type 0} (format : TableFormat V X) (plain : LineForma
   pub says : (version : V) (fields : Fields) (span : X) → plain.Says version fields span → format.Says version fields span
   pub back : (version : V) (fields : Fields) (span : X) → format.Says version fields span → IsReadBack plain.line fields
   pub names_back : (version : V) → IsReadBack plain.line (plain.names version)
-  pub unmarked : (version : V) (rest : List ℕ)
+  pub without_bom : (version : V) (rest : List ℕ)
       → strip_bom (plain.line (plain.names version) ++ rest) ≡ plain.line (plain.names version) ++ rest
 
 -- ---- the header
@@ -95,7 +95,7 @@ with_header : {V X : Type 0} (format : TableFormat V X) (plain : LineFormat V X)
 unfolding Reached
 with_header format plain laws version rest more after left r =
     let read = line_read plain.line (plain.names version) rest (laws.names_back version) in
-    rw (laws.unmarked version rest) ((plain.names version, st.StartRecord, rest), read, refl, r)
+    rw (laws.without_bom version rest) ((plain.names version, st.StartRecord, rest), read, refl, r)
 
 here_reached : (rest : List ℕ) → Reached default_config st.StartRecord rest [] st.StartRecord rest
 unfolding Reached
@@ -117,11 +117,11 @@ after_header : {V X : Type 0} (format : TableFormat V X) (plain : LineFormat V X
     → Reached default_config st.StartRecord rest more after left
 unfolding Reached
 after_header format plain laws version rest more after left r =
-    let unmarked = rw (laws.unmarked version rest) at r in
+    let without_bom = rw (laws.without_bom version rest) at r in
     let read = line_read plain.line (plain.names version) rest (laws.names_back version) in
-    let same : (plain.names version, st.StartRecord, rest) ≡ unmarked.0 =
-    same_some (plain.names version, st.StartRecord, rest) unmarked.0 (sym read ∙ unmarked.1) in
-    subst (λ (p : Read). Reached default_config p.1 p.2 more after left) (sym same) unmarked.3
+    let same : (plain.names version, st.StartRecord, rest) ≡ without_bom.0 =
+    same_some (plain.names version, st.StartRecord, rest) without_bom.0 (sym read ∙ without_bom.1) in
+    subst (λ (p : Read). Reached default_config p.1 p.2 more after left) (sym same) without_bom.3
 
 -- the lines of a table's records are read back
 pub all_back : {V X : Type 0} (format : TableFormat V X) (plain : LineFormat V X) → LineLaws format plain → (version : V)
@@ -164,7 +164,7 @@ written_table format plain laws version bytes spans table order =
     let said = records_said format plain laws version table.records spans table.each in
     let all : List Fields = plain.names version ∷ table.records in
     let text : strip_bom bytes ≡ lines_of plain.line all =
-    ap strip_bom table.lines ∙ laws.unmarked version (lines_of plain.line table.records) in
+    ap strip_bom table.lines ∙ laws.without_bom version (lines_of plain.line table.records) in
     let back = all_back format plain laws version table.records spans said in
     let read = lines_read plain.line all (laws.names_back version, back) in (
       all,

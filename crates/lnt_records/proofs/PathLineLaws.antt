@@ -26,7 +26,6 @@ use Rattle.lnt_records.specs.Written.{line_text}
 use Rattle.lnt_records.proofs.QuotingLaws.{IsQuiet, address_text, number_text, quiet_text}
 use Rattle.lnt_spans.specs.declared.span.Span.{Span}
 use Rattle.lnt_records.proofs.LineLaws as any
-use Rattle.lnt_records.specs.declared.by_path.record.PathRecord.{PathRecord}
 
 -- ---- a plain record has one text
 
@@ -277,11 +276,11 @@ same_paths false p q one other e f m = λ same. m (e ∙ ap field_with_comma sam
 -- ---- lines are read back
 
 -- a header doesn't begin with a byte order mark
-no_mark : (version : PathVersion) (rest : List ℕ) → strip_bom (row_text default_writer (path_column_names version) ++ rest)
+no_bom : (version : PathVersion) (rest : List ℕ) → strip_bom (row_text default_writer (path_column_names version) ++ rest)
     ≡ row_text default_writer (path_column_names version) ++ rest
 unfolding strip_bom is_blank fields_text
-no_mark Three rest = refl
-no_mark Four rest = refl
+no_bom Three rest = refl
+no_bom Four rest = refl
 
 names_some : (version : PathVersion) → 2 ≤ length (path_column_names version)
 names_some Three = omega arith
@@ -320,7 +319,7 @@ plain_paths = record {
   says = record_said;
   back = λ version fields span says. record { some = record_some version fields span says; line_is = refl };
   names_back = λ version. record { some = names_some version; line_is = refl };
-  unmarked = no_mark;
+  without_bom = no_bom;
 }
 
 -- ---- the rest

@@ -148,12 +148,12 @@ less_left old new fields false bytes records h took r e = absurd (cc e)
 
 -- ---- the beginning
 
-pub mark_stripped : (bytes : List ℕ) → length (strip_bom bytes) ≤ length bytes
+pub bom_stripped : (bytes : List ℕ) → length (strip_bom bytes) ≤ length bytes
 unfolding strip_bom
-mark_stripped [] = omega arith
-mark_stripped (a ∷ []) = omega arith
-mark_stripped (a ∷ b ∷ []) = omega arith
-mark_stripped (a ∷ b ∷ c ∷ rest) = by (is_bom a b c)
+bom_stripped [] = omega arith
+bom_stripped (a ∷ []) = omega arith
+bom_stripped (a ∷ b ∷ []) = omega arith
+bom_stripped (a ∷ b ∷ c ∷ rest) = by (is_bom a b c)
   where
     by : (t : Bool) → length (if t then rest else a ∷ b ∷ c ∷ rest) ≤ length (a ∷ b ∷ c ∷ rest)
     by true = omega arith

@@ -84,11 +84,11 @@ record_back version fields span s =
     quiet_back fields (subst (λ (n : ℕ). 2 ≤ n) (sym s.count) (count_some version)) (quiet_record version fields span s)
 
 -- a header doesn't begin with a byte order mark
-no_mark : (version : Version) (rest : List ℕ) → strip_bom (line_text (column_names version) ++ rest) ≡ line_text (column_names version)
+no_bom : (version : Version) (rest : List ℕ) → strip_bom (line_text (column_names version) ++ rest) ≡ line_text (column_names version)
     ++ rest
 unfolding strip_bom
-no_mark One rest = refl
-no_mark Two rest = refl
+no_bom One rest = refl
+no_bom Two rest = refl
 
 pub plain_numbers : LineLaws by_number plain_by_number
 plain_numbers = record {
@@ -97,7 +97,7 @@ plain_numbers = record {
   says = record_plain;
   back = record_back;
   names_back = λ version. quiet_back (column_names version) (count_some version) (quiet_names version);
-  unmarked = no_mark;
+  without_bom = no_bom;
 }
 
 -- ---- a loop that writes

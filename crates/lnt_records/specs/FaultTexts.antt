@@ -4,8 +4,8 @@ use Rattle.lnt_records.specs.declared.fault.TableFault.{TableFault}
 use Rattle.lnt_records.specs.declared.fault.TableFault.TheVariants.{Header, Fields, Number, Order}
 use Rattle.lnt_records.specs.declared.fault.WriteStop.{WriteStop}
 use Rattle.lnt_records.specs.declared.fault.WriteStop.TheVariants as stop
-use Rattle.lnt_io.specs.declared.halt.Halt.{Halt}
-use Rattle.lnt_io.specs.declared.halt.Halt.TheVariants as halt
+use Rattle.lnt_io.specs.declared.io_stop.IoStop.{IoStop}
+use Rattle.lnt_io.specs.declared.io_stop.IoStop.TheVariants as io_stop
 
 abbrev pub table_fault_text : TableFault → List ℕ
 table_fault_text Header = codes "table header"
@@ -20,6 +20,6 @@ write_stop_text stop.Write = codes "cannot write"
 
 -- ---- how a program ends that couldn't write a table
 
-abbrev pub halt_of_write : WriteStop → Halt
-halt_of_write stop.Memory = halt.Memory
-halt_of_write stop.Write = halt.Write
+abbrev pub io_stop_of_write : WriteStop → IoStop
+io_stop_of_write stop.Memory = io_stop.Memory
+io_stop_of_write stop.Write = io_stop.Write

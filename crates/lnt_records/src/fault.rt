@@ -1,8 +1,8 @@
 //! What is wrong with a table, and why a call stopped.
 ghost use Rattle.std.specs.Prelude.{◌≡◌, Some};
-ghost use Rattle.lnt_records.specs.FaultTexts.{table_fault_text, write_stop_text, halt_of_write};
+ghost use Rattle.lnt_records.specs.FaultTexts.{table_fault_text, write_stop_text, io_stop_of_write};
 
-use lnt_io::Halt;
+use lnt_io::IoStop;
 use std::alloc::AllocError;
 use std::error::Error;
 use std::fmt;
@@ -71,13 +71,13 @@ impl From<AllocError> for WriteStop {
     }
 }
 
-impl From<WriteStop> for Halt {
-    ghost from_gives = { λ stop halt. halt ≡ halt_of_write stop };
+impl From<WriteStop> for IoStop {
+    ghost from_gives = { λ stop io_stop. io_stop ≡ io_stop_of_write stop };
 
-    fn from(stop: WriteStop) -> Halt {
+    fn from(stop: WriteStop) -> IoStop {
         match stop {
-            WriteStop::Memory => Halt::Memory,
-            WriteStop::Write => Halt::Write,
+            WriteStop::Memory => IoStop::Memory,
+            WriteStop::Write => IoStop::Write,
         }
     }
 }

@@ -13,7 +13,7 @@ pub const ROOM: usize = 256;
 
 /// Writes the line of a span, without leading zeros, so that it ends where `room` does; gives the index at which it begins.
 #[inline(always)]
-pub fn line_of(room: &mut [u8; ROOM], span: &Span) -> usize
+pub fn put_span_line(room: &mut [u8; ROOM], span: &Span) -> usize
     ensures begins { result < 256 }
     ensures written { (version : Version) → IsOfVersion version span.now.answer → IsPlainLine version span.now (drop result room.new) [] }
 {

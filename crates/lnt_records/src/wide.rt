@@ -15,7 +15,7 @@ const MOST: usize = 11;
 const QUOTE: u8 = b'"';
 
 // A byte order mark, which `csv` passes.
-const MARK: &[u8] = b"\xEF\xBB\xBF";
+const BOM: &[u8] = b"\xEF\xBB\xBF";
 
 // Where the next byte stands in a field, as `csv` reads it.
 #[derive(Clone, Copy)]
@@ -99,11 +99,7 @@ fn prefix_of(bytes: &[u8], is_first_alone: bool) -> &[u8]
 {
     let mut commas = 0;
     let mut place = Place::Start;
-    let mark = if bytes.starts_with(MARK) {
-        MARK.len()
-    } else {
-        0
-    };
+    let mark = if bytes.starts_with(BOM) { BOM.len() } else { 0 };
     for (i, byte) in bytes.iter().enumerate() {
         if i < mark {
             continue;

@@ -9,7 +9,7 @@ ghost use Rattle.lnt_records.specs.Progress.{AddsLine};
 
 use crate::fault::WriteStop;
 use crate::header::TableVersion;
-use crate::text::{ROOM, line_of};
+use crate::text::{ROOM, put_span_line};
 use lnt_io::{BLOCK, write_whole};
 use lnt_spans::{Span, Version};
 use std::alloc::{AllocError, Global};
@@ -85,6 +85,6 @@ pub fn put_span(block: &mut Vec<u8>, room: &mut [u8; ROOM], span: &Span) -> Resu
     ensures { (version : Version) → IsOfVersion version span.now.answer
         → OnOk result (AddsLine plain_by_number version span.now block.old.items block.new.items) }
 {
-    let start = line_of(room, span);
+    let start = put_span_line(room, span);
     block.extend_from_slice(&room[start..])
 }

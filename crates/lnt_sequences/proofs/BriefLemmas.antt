@@ -15,7 +15,7 @@ use Rattle.lnt_sequences.specs.Briefs.{AreInBrief, AreKept, brief_answer, IsAdde
 use Rattle.lnt_sequences.specs.Briefs.{IsNotAbove}
 use Rattle.lnt_sequences.specs.Rules.{IsOrdered}
 use Rattle.lnt_sequences.specs.Sequences.{answer_of, last_row, position_of, row_at}
-use Rattle.lnt_sequences.proofs.MarkLemmas.{found_before, ordered_tail}
+use Rattle.lnt_sequences.proofs.CheckpointLemmas.{found_before, ordered_tail}
 use Rattle.lnt_sequences.proofs.RowLemmas.{none_at, rising_from_ordered}
 use Rattle.std.proofs.lemmas.Grind.{common_steps}
 

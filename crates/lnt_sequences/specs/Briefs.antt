@@ -4,8 +4,8 @@ use Rattle.lnt_machine.specs.declared.row.Row.{Row}
 use Rattle.lnt_machine.specs.Walking.{WillGive, SequenceWalk}
 use Rattle.lnt_spans.specs.declared.position.Position.{Position}
 use Rattle.lnt_spans.specs.Positions.{IsAtMost, IsBelow}
-use Rattle.lnt_sequences.specs.declared.marks.Mark.{Mark}
-use Rattle.lnt_sequences.specs.declared.marks.Marks.{Marks}
+use Rattle.lnt_sequences.specs.declared.checkpoints.Checkpoint.{Checkpoint}
+use Rattle.lnt_sequences.specs.declared.checkpoints.Checkpoints.{Checkpoints}
 use Rattle.lnt_sequences.specs.Sequences.{last_row, position_of, answer_of}
 use Rattle.std.specs.List.{AllZip}
 use Rattle.lnt_spans.specs.declared.answer.Answer.{Answer}
@@ -16,16 +16,16 @@ use Rattle.lnt_sequences.specs.declared.row_cache.RowCache.{RowCache}
 -- ---- places in the rows of one sequence, from which lookups continue
 
 -- The place is between two rows of these, or before or after all: it has the last of those before it, and those after it.
-pub record IsMarkIn (rows : List Row) (mark : Mark) : Type 0 where
+pub record IsCheckpointIn (rows : List Row) (checkpoint : Checkpoint) : Type 0 where
   pub seen : List Row
   pub left : List Row
   pub rows_are : rows ≡ seen ++ left
-  pub last_is : mark.last ≡ last_row seen
-  pub to_come : WillGive left mark.after
+  pub last_is : checkpoint.last ≡ last_row seen
+  pub to_come : WillGive left checkpoint.after
 
--- so is each mark
-abbrev pub AreMarksIn : List Row → Marks → Type 0
-AreMarksIn rows marks = All (IsMarkIn rows) marks.marks.items
+-- so is each checkpoint
+abbrev pub AreCheckpointsIn : List Row → Checkpoints → Type 0
+AreCheckpointsIn rows checkpoints = All (IsCheckpointIn rows) checkpoints.checkpoints.items
 
 -- the row, if there is one, isn't above p
 abbrev pub IsNotAbove : Option Row → Position → Type 0
@@ -108,4 +108,4 @@ pub record IsReachedIn (brief : BriefRows) (p : Position) (count : ℕ) : Type 0
 
 pub record IsCacheOf (rows : List Row) (cache : RowCache) : Type 0 where
   pub in_brief : AreInBrief rows cache.brief
-  pub marked : AreMarksIn rows cache.marks
+  pub checkpointed : AreCheckpointsIn rows cache.checkpoints

@@ -187,7 +187,7 @@ fn reached(rows: &[BriefRow], buckets: &Buckets, at: Position) -> usize
     let (mut low, mut high) = buckets.around(rows, at);
     while low < high {
         let middle = low + (high - low) / 2;
-        if at.is_below(rows[middle].place()) {
+        if at < rows[middle].place() {
             high = middle;
         } else {
             low = middle + 1;

@@ -84,7 +84,7 @@ fn shift_for(rows: &[BriefRow]) -> u32 {
 fn low_from(rows: &[BriefRow], at: Position, count: usize) -> usize
     ensures last { (d : brief.BriefRow) → 0 < result → IsAtMost (place_of (get_or rows.now (result - 1) d)) at }
 {
-    if count == 0 || count > rows.len() || at.is_below(rows[count - 1].place()) {
+    if count == 0 || count > rows.len() || at < rows[count - 1].place() {
         0
     } else {
         count
@@ -97,7 +97,7 @@ fn high_from(rows: &[BriefRow], at: Position, count: usize) -> usize
     ensures within { result ≤ length rows.now }
     ensures next { (d : brief.BriefRow) → result < length rows.now → IsBelow at (place_of (get_or rows.now result d)) }
 {
-    if count < rows.len() && at.is_below(rows[count].place()) {
+    if count < rows.len() && at < rows[count].place() {
         count
     } else {
         rows.len()

@@ -66,7 +66,7 @@ impl Collected {
     ) -> Result<(), AllocError>
         ensures { IfOk result (λ _. self.new.extents.items ≡ self.old.extents.items ++ extent_between id first last) }
     {
-        if first.is_below(last) {
+        if first < last {
             self.extents.push(Extent {
                 low: first,
                 high: last,

@@ -124,7 +124,7 @@ fn first_crossed(extents: &[Extent]) -> Option<usize>
         × ((d : Extent) → IsBelow (slice_index_or extents.now (k + 1) d).low (slice_index_or extents.now k d).high)) }
 {
     for i in 1..extents.len() {
-        if extents[i].low.is_below(extents[i - 1].high) {
+        if extents[i].low < extents[i - 1].high {
             return Some(i - 1);
         }
     }

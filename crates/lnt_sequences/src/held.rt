@@ -6,9 +6,9 @@ ghost use Rattle.lnt_sequences.specs.Extents.{AreSettled, IsHolderAt, NoneHolds}
 ghost use Rattle.lnt_sequences.specs.Rules.{IsOrdered};
 ghost use Rattle.lnt_sequences.specs.Sequences as sequence;
 
+use crate::checkpoints::{Checkpoint, WIDE};
 use crate::collected::answer_of;
 use crate::extent::Extent;
-use crate::marks::{Mark, WIDE};
 use lnt_machine::{Row, SequenceRows};
 use lnt_spans::{Answer, Position, Probes, Side, probe};
 
@@ -44,9 +44,9 @@ pub fn holder(extents: &[Extent], position: Position, probes: &mut Probes) -> Op
 fn row_at(rows: SequenceRows<'_>, position: Position) -> Option<Row>
     ensures { (list : List spec.Row) → WillGive list rows.entry → IsOrdered list → result ≡ sequence.row_at position list }
 {
-    let mut mark = Mark::before(rows);
-    while mark.go_on(position, WIDE) {}
-    mark.last
+    let mut checkpoint = Checkpoint::before(rows);
+    while checkpoint.go_on(position, WIDE) {}
+    checkpoint.last
 }
 
 /// The answer at a position of a sequence whose positions never fall: that of the last of these rows at or below it. `unit` is

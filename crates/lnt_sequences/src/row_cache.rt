@@ -8,8 +8,8 @@ ghost use Rattle.lnt_sequences.specs.Sequences as sequence;
 
 use crate::brief::BriefRows;
 use crate::buckets::Buckets;
+use crate::checkpoints::Checkpoints;
 use crate::held::said_by;
-use crate::marks::Marks;
 use lnt_machine::SequenceRows;
 use lnt_spans::{Answer, Position};
 use std::alloc::{AllocError, Global};
@@ -17,12 +17,12 @@ use std::alloc::{AllocError, Global};
 // What a cache takes beside its rows, in rows in brief: 160 bytes.
 const OWN: usize = 10;
 
-/// What is kept of the rows of one sequence, for later lookups: the first of them in brief, or all, and marks in the others.
+/// What is kept of the rows of one sequence, for later lookups: the first of them in brief, or all, and checkpoints in the others.
 #[derive(Drop)]
 pub struct RowCache<'a> {
     brief: BriefRows,
     buckets: Buckets,
-    marks: Marks<'a>,
+    checkpoints: Checkpoints<'a>,
 }
 
 impl<'a> RowCache<'a> {
@@ -41,13 +41,13 @@ impl<'a> RowCache<'a> {
         Ok(RowCache {
             brief,
             buckets,
-            marks: Marks::new(alloc),
+            checkpoints: Checkpoints::new(alloc),
         })
     }
 
     /// Whether nothing is kept.
     pub fn is_empty(&self) -> bool {
-        self.brief.rows().is_empty() && self.marks.is_empty()
+        self.brief.rows().is_empty() && self.checkpoints.is_empty()
     }
 
     /// What the sequence answers at a position, as [`answer_at`](crate::answer_at) of all of its rows. `None` if the rows that
@@ -63,8 +63,8 @@ impl<'a> RowCache<'a> {
 
     /// The same of any position, of the sequence with these rows.
     ///
-    /// Where the rows that are kept don't say it, it walks over the rows after the last mark that isn't above the position, and
-    /// adds a mark wherever it comes to a next one. The one error is that memory ran out.
+    /// Where the rows that are kept don't say it, it walks over the rows after the last checkpoint that isn't above the position, and
+    /// adds a checkpoint wherever it comes to a next one. The one error is that memory ran out.
     pub fn answer_at(
         &mut self,
         unit: u64,
@@ -77,7 +77,7 @@ impl<'a> RowCache<'a> {
     {
         match self.said_at(unit, position) {
             Some(answer) => Ok(answer),
-            None => Ok(said_by(unit, self.marks.row_at(rows, position)?)),
+            None => Ok(said_by(unit, self.checkpoints.row_at(rows, position)?)),
         }
     }
 }

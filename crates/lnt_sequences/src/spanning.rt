@@ -22,7 +22,7 @@ pub fn next_span(unit: u64, rows: &mut SequenceRows<'_>, last: &mut Option<Row>)
         };
         let low = position_of(&previous);
         let high = position_of(&row);
-        if low.is_below(high) {
+        if low < high {
             let answer = answer_of(unit, &previous);
             return Some(Span { low, high, answer });
         }

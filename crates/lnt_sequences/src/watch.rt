@@ -186,7 +186,7 @@ fn grown(dead: Option<u64>, current: Option<Current>, row: &Row) -> Current
 fn falls_after(current: &Option<Current>, row: &Row) -> bool
     ensures { result ≡ spec.falls_after current.now row.now }
 {
-    matches!(current, Some(current) if position_of(row).is_below(current.last))
+    matches!(current, Some(current) if position_of(row) < current.last)
 }
 
 // Whether a row names a file that isn't among the first `files`. An end row names none.

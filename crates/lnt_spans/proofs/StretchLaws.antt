@@ -5,7 +5,7 @@ use Rattle.lnt_spans.specs.declared.ahead.Ahead.{Ahead}
 use Rattle.lnt_spans.specs.declared.stretches.Differences.{Differences}
 use Rattle.lnt_spans.specs.Answers.{in_version}
 use Rattle.lnt_spans.specs.AnyStretches.{AreAllStretches, Stretch, stretch_at, Position, AreToldBelow}
-use Rattle.lnt_spans.specs.Stretching.{HasTold, HasGiven, Stretches}
+use Rattle.lnt_spans.specs.Stretching.{HasFoundStretches, HasGiven, Stretches}
 use Rattle.lnt_spans.specs.Runs.{IsAheadAt, IsSideAt}
 use Rattle.lnt_spans.specs.Spans.{span_answer, Answer, Span}
 use Rattle.lnt_spans.specs.Differences.{AreStretches, stretch_of, stretches_of, Difference}
@@ -48,7 +48,7 @@ as_stretches (stretch ∷ list) = ap (λ (more : List (Stretch Answer)). stretch
 
 pub stretches_on : {S T : Type 0} (of_section : S → List Span → Type 0) (of_table : T → List Span → Type 0) (differences : Differences S T)
     (by_section by_table : Position → Option Answer) (told : List Difference)
-    → HasTold of_section of_table differences by_section by_table told
+    → HasFoundStretches of_section of_table differences by_section by_table told
     → (more : List Difference) × AreStretches by_section by_table (told ++ more)
 stretches_on of_section of_table differences by_section by_table told h =
     let all = given_on of_section (IsAheadAt of_table) (λ answer. answer) (in_version differences.version) (λ answer. answer)

@@ -7,7 +7,7 @@ use Rattle.lnt_spans.specs.Answers.{in_version}
 use Rattle.lnt_spans.specs.AnyStretches.{AreAllStretches, AreRising, IsInOne, Stretch, stretch_at, AreToldBelow}
 use Rattle.lnt_spans.specs.Spans.{number_spans, IsTold, end_of, AreInOrder, span_answer, version_answer, Answer, Version, Span}
 use Rattle.lnt_spans.specs.Partial.{addresses_answered, where_missed}
-use Rattle.lnt_spans.specs.Stretching.{HasTold, HasBegun, HasGiven, Stretches}
+use Rattle.lnt_spans.specs.Stretching.{HasFoundStretches, HasBegun, HasGiven, Stretches}
 use Rattle.lnt_spans.specs.Laws.{FirstStretch}
 use Rattle.lnt_spans.specs.Merged.{until}
 use Rattle.lnt_spans.specs.Positions.{IsBelow, IsAtMost, Position}
@@ -131,14 +131,14 @@ pub begun_given : {S N A V X : Type 0} (to_come : S → List Span → Type 0) (i
 begun_given to_come is_at value_of tell said section table at stretches f g b one other same =
     grind (arith, common_steps, told_none, no_addresses, order_cases, until_below, alike_missed, until_from)
 
-pub told_after : {S T : Type 0} (of_section : S → List Span → Type 0) (of_table : T → List Span → Type 0) (section : S) (table : Ahead T)
+pub noted_after : {S T : Type 0} (of_section : S → List Span → Type 0) (of_table : T → List Span → Type 0) (section : S) (table : Ahead T)
     (version : Version) (at : Position) (stretches : Stretches S (Ahead T) Answer) (f : Position → Option Answer)
     (passed spans records : List Span) → HasBegun of_section section table at stretches → of_section section spans
     → IsAhead of_table table records → AreInOrder (passed ++ spans) → AreInOrder (passed ++ records)
     → AllByRecursion (IsTold version) (passed ++ records) → at ≡ end_of passed
     → ((p : Position) → version_answer version (passed ++ spans) p ≡ f p)
-    → HasTold of_section of_table (record { version = version; stretches = stretches }) f (span_answer (passed ++ records)) []
-told_after of_section of_table section table version at stretches f passed spans records b a a' o o' t e same =
+    → HasFoundStretches of_section of_table (record { version = version; stretches = stretches }) f (span_answer (passed ++ records)) []
+noted_after of_section of_table section table version at stretches f passed spans records b a a' o o' t e same =
     begun_given of_section (IsAheadAt of_table) (λ answer. answer) (in_version version) (λ answer. answer) section table at stretches f
     (span_answer (passed ++ records)) b
     (rw e (begins_at of_section (in_version version) stretches.section passed spans f (b.ahead spans a) o same))

@@ -139,7 +139,7 @@ fn is_reached(end: Option<Position>, at: Position) -> bool
     ensures { IsUpTo at end → MatchBool result (end ≡ Some at) (IsBefore at end) }
 {
     match end {
-        Some(end) => !at.is_below(end),
+        Some(end) => at >= end,
         None => false,
     }
 }
@@ -194,7 +194,7 @@ fn earlier_end(one: Option<Position>, other: Option<Position>) -> Option<Positio
         (λ end. IsUpTo end one × IsUpTo end other × ((one ≡ Some end) ⊎ (other ≡ Some end))) }
 {
     match (one, other) {
-        (Some(first), Some(second)) if second.is_below(first) => other,
+        (Some(first), Some(second)) if second < first => other,
         (None, _) => other,
         _ => one,
     }

@@ -165,7 +165,7 @@ fn pass_below<S: SpanSource, T: Telling>(spans: &mut Ahead<S>, missed: &mut u128
         → AreCounted tell list by_table end (IsAhead S.to_come spans.new) missed.new }
 {
     while let Some(span) = begun_below(spans.next, end) {
-        if end.is_below(span.high) {
+        if end < span.high {
             add_between(missed, span.low, end);
             spans.next = Some(Span { low: end, ..span });
             return;
@@ -197,7 +197,7 @@ fn first_mistake<S: SpanSource, T: Telling>(
 {
     let mut at = low;
     let mut recalled = telling.nothing();
-    while at.is_below(high) {
+    while at < high {
         let Some(span) = begun_by(spans.next, at) else {
             let mistake = telling.difference(at, Some(held), None)?;
             return Ok(Some(mistake));
@@ -206,7 +206,7 @@ fn first_mistake<S: SpanSource, T: Telling>(
             let mistake = telling.difference(at, Some(held), Some(span.answer))?;
             return Ok(Some(mistake));
         }
-        if high.is_below(span.high) {
+        if high < span.high {
             spans.next = Some(Span { low: high, ..span });
             return Ok(None);
         }
@@ -221,7 +221,7 @@ fn first_mistake<S: SpanSource, T: Telling>(
 fn begun_below(next: Option<Span>, at: Position) -> Option<Span>
     ensures { MatchOption result (IfSome next (λ span. IsAtMost at span.low)) (λ span. (next ≡ Some span) × IsBelow span.low at) }
 {
-    next.filter(|span| span.low.is_below(at))
+    next.filter(|span| span.low < at)
 }
 
 // The span, if there is one and it begins at or below a position.
@@ -229,5 +229,5 @@ fn begun_below(next: Option<Span>, at: Position) -> Option<Span>
 fn begun_by(next: Option<Span>, at: Position) -> Option<Span>
     ensures { MatchOption result (IfSome next (λ span. IsBelow at span.low)) (λ span. (next ≡ Some span) × IsAtMost span.low at) }
 {
-    next.filter(|span| !at.is_below(span.low))
+    next.filter(|span| span.low <= at)
 }

@@ -74,7 +74,7 @@ impl<S: SpanSource> Runs<Answer> for Ahead<S> {
                 end: None,
             };
         };
-        if at.is_below(span.low) {
+        if at < span.low {
             return Run {
                 answer: None,
                 end: Some(span.low),
@@ -91,7 +91,7 @@ impl<S: SpanSource> Runs<Answer> for Ahead<S> {
         let Some(span) = self.next else {
             return;
         };
-        if !to.is_below(span.high) {
+        if to >= span.high {
             self.pass();
         }
     }

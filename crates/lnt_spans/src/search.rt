@@ -58,9 +58,9 @@ pub fn probe(low: Position, high: Position, position: Position, probes: &mut Pro
     ensures counted { probes.new ≡ probes.old + 1 }
 {
     probes.count += 1;
-    if position.is_below(low) {
+    if position < low {
         Side::Below
-    } else if position.is_below(high) {
+    } else if position < high {
         Side::Inside
     } else {
         Side::Above

@@ -6,7 +6,7 @@ ghost use Rattle.lnt_spans.specs.declared.difference.Difference as spec_differen
 ghost use Rattle.lnt_spans.specs.declared.position.Position as spec_position;
 ghost use Rattle.lnt_spans.specs.declared.span.Span as spec;
 ghost use Rattle.lnt_spans.specs.Spans.{IsTold, end_of, AreInOrder, span_answer, version_answer};
-ghost use Rattle.lnt_spans.specs.Stretching.{HasTold, missed_by, stretches_left};
+ghost use Rattle.lnt_spans.specs.Stretching.{HasFoundStretches, missed_by, stretches_left};
 ghost use Rattle.lnt_spans.specs.Partial.{addresses_answered, where_missed};
 ghost use Rattle.lnt_spans.specs.Differences.{AreStretches};
 
@@ -20,7 +20,7 @@ use crate::source::SpanSource;
 /// Gives the stretches: the longest ranges of positions at which a section and a table answer differently and both answers
 /// stay the same. The spans of both sides come as they are needed, each from a source of its own.
 ///
-/// Contracts see which stretches were given (`HasTold`), and an upper bound on the number left (`stretches_left`). No list
+/// Contracts see which stretches were given (`HasFoundStretches`), and an upper bound on the number left (`stretches_left`). No list
 /// of them is held: only the next span of each side, and the last two answers. Allocates nothing.
 #[derive(Drop)]
 pub struct Differences<S, T> {
@@ -39,7 +39,7 @@ impl<S: SpanSource, T: SpanSource> Differences<S, T> {
             → AreInOrder (passed ++ spans) → AreInOrder (passed ++ records) → AllByRecursion (IsTold version) (passed ++ records)
             → at ≡ end_of passed
             → ((p : spec_position.Position) → version_answer version (passed ++ spans) p ≡ by_section p)
-            → HasTold S.to_come T.to_come result by_section (span_answer (passed ++ records)) [] }
+            → HasFoundStretches S.to_come T.to_come result by_section (span_answer (passed ++ records)) [] }
     {
         Differences {
             version,
@@ -52,13 +52,13 @@ impl<S: SpanSource, T: SpanSource> Differences<S, T> {
     pub fn next_difference(&mut self) -> Option<Difference>
         requires { (by_section : spec_position.Position → Option spec_answer.Answer)
             × (by_table : spec_position.Position → Option spec_answer.Answer) × (told : List spec_difference.Difference)
-            × HasTold S.to_come T.to_come self.old by_section by_table told }
+            × HasFoundStretches S.to_come T.to_come self.old by_section by_table told }
         ensures told { (by_section by_table : spec_position.Position → Option spec_answer.Answer) (told : List spec_difference.Difference)
-            → HasTold S.to_come T.to_come self.old by_section by_table told
+            → HasFoundStretches S.to_come T.to_come self.old by_section by_table told
             → MatchOption result (AreStretches by_section by_table told)
-            (λ difference. HasTold S.to_come T.to_come self.new by_section by_table (told ++ difference ∷ [])) }
+            (λ difference. HasFoundStretches S.to_come T.to_come self.new by_section by_table (told ++ difference ∷ [])) }
         ensures missed { (by_section by_table : spec_position.Position → Option spec_answer.Answer)
-            (told : List spec_difference.Difference) → HasTold S.to_come T.to_come self.old by_section by_table told
+            (told : List spec_difference.Difference) → HasFoundStretches S.to_come T.to_come self.old by_section by_table told
             → result ≡ None → missed_by self.new ≡ addresses_answered (where_missed by_table by_section) }
         ensures fewer { IfSome result (λ _. stretches_left S.left T.left self.new < stretches_left S.left T.left self.old) }
     {

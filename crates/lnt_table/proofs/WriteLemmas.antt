@@ -10,12 +10,12 @@ use Rattle.lnt_records.specs.Written.{IsOfVersion}
 use Rattle.lnt_records.proofs.VersionLaws.{answers_of_version}
 use Rattle.lnt_lines.specs.Contents.{AreWhole}
 
-abbrev TellsAll : Span → Type 0
-TellsAll span = IsOfVersion Two span.answer
+abbrev HasAllFields : Span → Type 0
+HasAllFields span = IsOfVersion Two span.answer
 
-all_told : (spans : List Span) → AreWhole spans → All TellsAll spans
-all_told [] h = All-nil TellsAll
-all_told (span ∷ spans) h = All-cons TellsAll span spans h.0 (all_told spans h.1)
+all_told : (spans : List Span) → AreWhole spans → All HasAllFields spans
+all_told [] h = All-nil HasAllFields
+all_told (span ∷ spans) h = All-cons HasAllFields span spans h.0 (all_told spans h.1)
 
 pub told_in_version : (version : Version) (spans joined : List Span) → AreWhole spans → IsCanonical joined
     → ((p : Position) → span_answer joined p ≡ version_answer version spans p)

@@ -2,7 +2,7 @@
 ghost use Rattle.std.specs.Prelude.{◌-◌, ◌^◌, ◌<◌, [], map, Option, IfOk, IfSome};
 ghost use Rattle.lnt_io.specs.declared.stop.Stop.TheVariants.{Read, TooLong};
 ghost use Rattle.lnt_spans.specs.declared.position.Position.{Position};
-ghost use Rattle.lnt_compare.specs.Differing.{IsDiffering, IsStarted, HasToldByPath};
+ghost use Rattle.lnt_compare.specs.Differing.{IsDiffering, IsStarted, HasFoundStretchesByPath};
 ghost use Rattle.lnt_sequences.specs.Sequences.{line_answer};
 ghost use Rattle.lnt_compare.specs.Held.{held_span};
 ghost use Rattle.lnt_records.specs.PathSpans.{PathAnswer, StandInOrder, path_span_answer};
@@ -116,11 +116,11 @@ pub fn differences_by_path<'t, 'i>(
     version: PathVersion,
 ) -> DifferencesByPath<'t, Spans<'i>>
     ensures told { OfUnits index.entry.now (λ selection. StandInOrder (map held_span spans.entry.now)
-        → HasToldByPath ⟦<Spans<'i> as SpanSource>⟧.to_come (indexed_path index.entry.now) result
+        → HasFoundStretchesByPath ⟦<Spans<'i> as SpanSource>⟧.to_come (indexed_path index.entry.now) result
         (told_path version index.entry.now selection) (path_span_answer (map held_span spans.entry.now)) []) }
     ensures started { StandInOrder (map held_span spans.entry.now)
         → (by_section : Position → Option PathAnswer) × (by_table : Position → Option PathAnswer)
-        × HasToldByPath ⟦<Spans<'i> as SpanSource>⟧.to_come (indexed_path index.entry.now) result by_section by_table [] }
+        × HasFoundStretchesByPath ⟦<Spans<'i> as SpanSource>⟧.to_come (indexed_path index.entry.now) result by_section by_table [] }
 {
     DifferencesByPath::of(index.spans(), spans, version)
 }

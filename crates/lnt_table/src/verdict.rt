@@ -32,14 +32,14 @@ impl fmt::Display for Verdict {
     }
 }
 
-/// The first reason why a table doesn't answer as a section does. Each kind of reason has a number, from 25 to 32 for the
-/// section and from 36 to 40 for the table.
+/// The first reason why a table doesn't answer as a section does. Each kind of reason has a number: those of [`No`] for the
+/// section, and from 36 to 40 for the table.
 ///
 /// The section is judged before the table is read, and the records of the table are judged before answers are compared.
 /// Records and columns count from 0, and record 0 has the column names, so the first span is record 1.
 #[derive(Clone, Copy, Debug, PartialEq, Eq)]
 pub enum TableNo {
-    /// 25 to 32: the section isn't good, for this reason.
+    /// The section isn't good, for this reason, whose number it has.
     Section(No),
     /// 36: the table has no record 0, or one with the column names of no version: of 1 and 2 for `check`, of 1 to 4 for
     /// `check_any`.

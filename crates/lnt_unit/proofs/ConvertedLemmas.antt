@@ -21,7 +21,7 @@ use Rattle.lnt_ops.specs.OpBytes.{OpBytes}
 use Rattle.lnt_ops.specs.OpPuts.{AddsOps}
 use Rattle.lnt_unit.specs.BrokenUnits.{BrokenUnit}
 use Rattle.lnt_unit.specs.Converting.{ConvertsUnit, IsLargeUnit, IsNextStop}
-use Rattle.lnt_unit.specs.ConversionSteps.{ConvertsBytes, IsLarge, IsToldAs, IsUnitStop, JudgesUnit}
+use Rattle.lnt_unit.specs.ConversionSteps.{ConvertsBytes, IsLarge, IsReportedAs, IsUnitStop, JudgesUnit}
 use Rattle.lnt_unit.specs.declared.convert.ConvertFault.{ConvertFault}
 use Rattle.lnt_unit.specs.declared.convert.ConvertFault.TheVariants as convert
 use Rattle.lnt_unit.proofs.UnitLaws.{unit_found}
@@ -105,15 +105,15 @@ unit_judged_large order format to frame at next r p = grind (arith, common_steps
 
 -- ---- stops
 
-pub told_stop : (order : Order) (format : Format) (to : Order) (offset : ℕ) (bytes : List ℕ) (fault : Fault) (stop : ConvertFault)
-    → (fault.reason ≢ Memory → BrokenUnit order fault offset bytes) → IsToldAs fault stop → IsUnitStop order format to offset bytes stop
-told_stop order format to offset bytes fault (convert.Malformed found) broken is =
+pub reported_stop : (order : Order) (format : Format) (to : Order) (offset : ℕ) (bytes : List ℕ) (fault : Fault) (stop : ConvertFault)
+    → (fault.reason ≢ Memory → BrokenUnit order fault offset bytes) → IsReportedAs fault stop → IsUnitStop order format to offset bytes stop
+reported_stop order format to offset bytes fault (convert.Malformed found) broken is =
     subst (λ (f : Fault). BrokenUnit order f offset bytes) (sym is.0) (broken is.1)
-told_stop order format to offset bytes fault (convert.TooLarge place) broken is = absurd is
-told_stop order format to offset bytes fault convert.Memory broken is = tt
+reported_stop order format to offset bytes fault (convert.TooLarge place) broken is = absurd is
+reported_stop order format to offset bytes fault convert.Memory broken is = tt
 
 pub told_next : (order : Order) (format : Format) (to : Order) (at : At) (fault : Fault) (stop : ConvertFault)
-    → (fault.reason ≢ Memory → BrokenUnit order fault at.place at.rest) → IsToldAs fault stop → IsNextStop order format to at stop
+    → (fault.reason ≢ Memory → BrokenUnit order fault at.place at.rest) → IsReportedAs fault stop → IsNextStop order format to at stop
 told_next order format to at fault (convert.Malformed found) broken is =
     subst (λ (f : Fault). BrokenUnit order f at.place at.rest) (sym is.0) (broken is.1)
 told_next order format to at fault (convert.TooLarge place) broken is = absurd is

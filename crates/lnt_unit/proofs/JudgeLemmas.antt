@@ -10,7 +10,7 @@ use Rattle.lnt_unit.specs.Converting.{Converts, units_in_format, IsFirstLarge, H
 use Rattle.lnt_wire.specs.Bytes.{IsShortest}
 use Rattle.lnt_header.specs.Joins.{Each}
 use Rattle.lnt_unit.specs.UnitBytes.{UnitBytesIn}
-use Rattle.lnt_unit.specs.ConversionSteps.{JudgesUnit, IsSaid, IsToldAs, first_large}
+use Rattle.lnt_unit.specs.ConversionSteps.{JudgesUnit, IsSaid, IsReportedAs, first_large}
 use Rattle.lnt_unit.proofs.ConvertedLaws.{units_more, each_spelled, whole_converted}
 use Rattle.lnt_header_bytes.proofs.TableReaders.{empty_list}
 use Rattle.lnt_unit.specs.declared.convert.ConvertFault.{ConvertFault}
@@ -79,7 +79,7 @@ judged_large order section format to large offset at p is ended = grind (arith, 
 -- a unit that isn't there
 pub judged_broken : (order : Order) (section : List ℕ) (format : Format) (to : Order) (large : Option ℕ) (at : At) (fault : Fault)
     (stop : ConvertFault) → JudgedTo order section format to large at → 0 < length at.rest
-    → ((IsToldAs fault Memory → ⊥) → BrokenUnit order fault at.place at.rest) → IsToldAs fault stop
+    → ((IsReportedAs fault Memory → ⊥) → BrokenUnit order fault at.place at.rest) → IsReportedAs fault stop
     → IsConvertFault order section format to stop
 judged_broken order section format to large at fault (Malformed found) p some broken is =
     subst (λ (f : Fault). IsConvertFault order section format to (Malformed f)) (sym is.0)

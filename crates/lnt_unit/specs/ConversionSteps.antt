@@ -68,10 +68,10 @@ pub record JudgesUnit (order : Order) (format : Format) (to : Order) (converts :
   pub said : IsSaid converts format to unit
 
 -- the fault, or want of memory
-abbrev pub IsToldAs : Fault → ConvertFault → Type 0
-IsToldAs fault (Malformed told) = (told ≡ fault) × (fault.reason ≢ reasons.Memory)
-IsToldAs fault (TooLarge place) = ⊥
-IsToldAs fault Memory = fault.reason ≡ reasons.Memory
+abbrev pub IsReportedAs : Fault → ConvertFault → Type 0
+IsReportedAs fault (Malformed told) = (told ≡ fault) × (fault.reason ≢ reasons.Memory)
+IsReportedAs fault (TooLarge place) = ⊥
+IsReportedAs fault Memory = fault.reason ≡ reasons.Memory
 
 -- The units of the section up to a cursor, each in this format and order, are these bytes.
 pub record ConvertedTo (order : Order) (section : List ℕ) (format : Format) (to : Order) (at : At) (bytes : List ℕ) : Type 0 where

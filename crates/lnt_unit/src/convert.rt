@@ -1,7 +1,7 @@
 //! Sections in another format and byte order (DWARF 5, sections 6.2.4 and 7.4).
 ghost use Rattle.std.specs.Prelude.{◌≡◌, IfOk, IfErr, OnOk, Some};
 ghost use Rattle.lnt_unit.specs.Converting.{Converts, IsConverted, IsConvertFault};
-ghost use Rattle.lnt_unit.specs.ConversionSteps.{IsToldAs, first_large};
+ghost use Rattle.lnt_unit.specs.ConversionSteps.{IsReportedAs, first_large};
 ghost use Rattle.lnt_unit.specs.FaultTexts.{convert_fault_text};
 
 use crate::converting::{convert_unit, judge_unit};
@@ -37,7 +37,7 @@ impl Error for ConvertFault {}
 
 // Want of memory says nothing of the bytes.
 impl From<Fault> for ConvertFault {
-    ghost from_gives = { λ fault refusal. IsToldAs fault refusal };
+    ghost from_gives = { λ fault refusal. IsReportedAs fault refusal };
 
     fn from(fault: Fault) -> ConvertFault {
         match fault.reason {

@@ -104,7 +104,8 @@ impl<'p, 'r, S: SpanSource + Drop, P: Paths> TakesLines<PathComparison<S>>
             return Ok(None);
         }
         if said.answer.path != last.as_slice() {
-            *last = Vec::from_slice(self.alloc, said.answer.path)?;
+            last.clear();
+            last.extend_from_slice(said.answer.path)?;
         }
         Ok(Some(length))
     }

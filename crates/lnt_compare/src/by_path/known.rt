@@ -47,7 +47,7 @@ fn has_path<P: Paths>(
 {
     let text = match known.take(answer.unit, answer.file) {
         Some(text) => text,
-        None => path_of(alloc, paths, answer)?,
+        None => file_text_of(alloc, paths, answer)?,
     };
     let same = text.is_text(path);
     known.keep(text);
@@ -55,7 +55,7 @@ fn has_path<P: Paths>(
 }
 
 // The path of the file that an answer names.
-fn path_of<P: Paths>(alloc: Global, paths: &P, answer: &Answer) -> Result<FileText, AllocError>
+fn file_text_of<P: Paths>(alloc: Global, paths: &P, answer: &Answer) -> Result<FileText, AllocError>
     ensures { IfOk result (λ made. (made.unit ≡ answer.now.unit) × (made.file ≡ answer.now.file)
         × IsTextOf (P.bytes_of paths.now) made) }
 {

@@ -10,7 +10,7 @@ ghost use Rattle.lnt_compare.specs.Held.{held_span};
 ghost use Rattle.lnt_records.specs.PathSpans.{PathAnswer, spans_by_path, StandInOrder, path_span_answer};
 ghost use Rattle.lnt_compare.specs.PathStretches.{ArePathStretches, stretches_of, told_path_answer};
 ghost use Rattle.lnt_records.specs.PathTables.{said_answer};
-ghost use Rattle.lnt_compare.specs.Differing.{HasToldByPath, path_missed_by, path_stretches_left};
+ghost use Rattle.lnt_compare.specs.Differing.{HasFoundStretchesByPath, path_missed_by, path_stretches_left};
 
 use crate::by_path::answer::{AnswerByPath, DifferenceByPath};
 use crate::by_path::comparison::whole;
@@ -24,7 +24,7 @@ use std::marker::PhantomData;
 /// Gives the stretches: the longest ranges of positions at which a section and a table by path answer differently and both
 /// answers stay the same. The section's spans come from a source, and the table's are held.
 ///
-/// Contracts see which stretches were given (`HasToldByPath`), and an upper bound on the number left
+/// Contracts see which stretches were given (`HasFoundStretchesByPath`), and an upper bound on the number left
 /// (`path_stretches_left`). No list of them is held: only the next span of the section, the spans that the table has left,
 /// the last two answers, and some paths.
 #[derive(Drop)]
@@ -50,7 +50,7 @@ impl<'t, S: SpanSource> DifferencesByPath<'t, S> {
             → S.to_come section list → AreInOrder list
             → ((p : spec_position.Position) → spans_by_path version path list p ≡ by_section p)
             → StandInOrder (map held_span table.now)
-            → HasToldByPath S.to_come path result by_section (path_span_answer (map held_span table.now)) [] }
+            → HasFoundStretchesByPath S.to_come path result by_section (path_span_answer (map held_span table.now)) [] }
     {
         let table = HeldSpans { spans: table };
         DifferencesByPath {
@@ -70,16 +70,16 @@ impl<'t, S: SpanSource> DifferencesByPath<'t, S> {
     ) -> Result<Option<DifferenceByPath>, AllocError>
         requires { (by_section : spec_position.Position → Option PathAnswer) × (by_table : spec_position.Position → Option PathAnswer)
             × (told : List spec_difference.DifferenceByPath)
-            × HasToldByPath S.to_come (P.bytes_of paths.now) self.old by_section by_table (stretches_of told) }
+            × HasFoundStretchesByPath S.to_come (P.bytes_of paths.now) self.old by_section by_table (stretches_of told) }
         ensures told { IfOk result (λ found. (by_section by_table : spec_position.Position → Option PathAnswer)
             (told : List spec_difference.DifferenceByPath)
-            → HasToldByPath S.to_come (P.bytes_of paths.now) self.old by_section by_table (stretches_of told)
+            → HasFoundStretchesByPath S.to_come (P.bytes_of paths.now) self.old by_section by_table (stretches_of told)
             → MatchOption found (ArePathStretches by_section by_table told)
-            (λ difference. HasToldByPath S.to_come (P.bytes_of paths.now) self.new by_section by_table
+            (λ difference. HasFoundStretchesByPath S.to_come (P.bytes_of paths.now) self.new by_section by_table
             (stretches_of (told ++ difference ∷ [])))) }
         ensures missed { IfOk result (λ found. (by_section by_table : spec_position.Position → Option PathAnswer)
             (told : List spec_difference.DifferenceByPath)
-            → HasToldByPath S.to_come (P.bytes_of paths.now) self.old by_section by_table (stretches_of told)
+            → HasFoundStretchesByPath S.to_come (P.bytes_of paths.now) self.old by_section by_table (stretches_of told)
             → found ≡ None → path_missed_by self.new ≡ addresses_answered (where_missed by_table by_section)) }
         ensures fewer { IfOk result (λ found. IfSome found (λ _.
             path_stretches_left S.left self.new < path_stretches_left S.left self.old)) }
@@ -147,7 +147,7 @@ impl<'t> Runs<SaidPath<'t>> for HeldSpans<'t> {
             };
         };
         let low = whole(span.low);
-        if at.is_below(low) {
+        if at < low {
             return Run {
                 answer: None,
                 end: Some(low),
@@ -163,7 +163,7 @@ impl<'t> Runs<SaidPath<'t>> for HeldSpans<'t> {
         let Some((span, rest)) = self.spans.split_first() else {
             return;
         };
-        if !to.is_below(whole(span.high)) {
+        if to >= whole(span.high) {
             self.spans = rest;
         }
     }

@@ -15,7 +15,7 @@ pub fn line_at<'t>(
     table: &'t [u8],
     at: usize,
     version: PathVersion,
-    last: &'t [u8],
+    last: &[u8],
 ) -> Option<(PathRecord<'t>, usize)>
     requires { All IsPlainByte last.now }
     ensures line { IfSome result (λ found. IsPathLine version found.0 (drop at table.now) (drop found.1 table.now)) }
@@ -31,7 +31,7 @@ pub fn line_at<'t>(
 
 // Parses the path at `at`, then a comma; gives the next index.
 #[inline(always)]
-fn path_before<'t>(table: &'t [u8], at: usize, last: &'t [u8]) -> Option<(&'t [u8], usize)>
+fn path_before<'t>(table: &'t [u8], at: usize, last: &[u8]) -> Option<(&'t [u8], usize)>
     requires { All IsPlainByte last.now }
     ensures { IfSome result (λ found. IsPathBefore found.0.now (drop at table.now) (drop found.1 table.now)) }
 {
@@ -41,7 +41,7 @@ fn path_before<'t>(table: &'t [u8], at: usize, last: &'t [u8]) -> Option<(&'t [u
     let rest = &table[at..];
     if rest.starts_with(last) {
         if let Some(next) = past(table, at + last.len(), b',') {
-            return Some((last, next));
+            return Some((&rest[..last.len()], next));
         }
     }
     let (path, length) = plain_field(rest)?;

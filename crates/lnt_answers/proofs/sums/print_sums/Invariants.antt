@@ -1,10 +1,10 @@
 use Rattle.std.proofs.Common.{take, flat_map}
-use Rattle.lnt_io.specs.Files.{TellsNoMore}
+use Rattle.lnt_io.specs.Files.{FindsNoMore}
 use Rattle.lnt_answers.specs.SumLines.{AreSumsPrinted, listed_in}
 use Rattle.lnt_answers.proofs.sums.print_sums.Given as goal
 
 abbrev pub invariant-loop-unit : goal.invariant-loop-unit
 invariant-loop-unit g l =
-    TellsNoMore (g.O.Opener.tells l.fn.opener) (g.O.Opener.tells l.opener)
-    × AreSumsPrinted (g.O.Opener.tells l.fn.opener) l.index (flat_map (listed_in l.index) (take l.unit-index l.index.units))
+    FindsNoMore (g.O.Opener.finds l.fn.opener) (g.O.Opener.finds l.opener)
+    × AreSumsPrinted (g.O.Opener.finds l.fn.opener) l.index (flat_map (listed_in l.index) (take l.unit-index l.index.units))
     (g.W.Write.contents l.fn.out) (g.W.Write.contents l.out) l.status

@@ -1,10 +1,10 @@
-use Rattle.lnt_io.specs.Files.{TellsNoMore}
+use Rattle.lnt_io.specs.Files.{FindsNoMore}
 use Rattle.lnt_answers.specs.Lines.{lists_below}
 use Rattle.lnt_answers.specs.SumLines.{AreSumsPrinted, listed_at}
 use Rattle.lnt_answers.proofs.sums.print_unit_sums.Given as goal
 
 abbrev pub invariant-loop-file : goal.invariant-loop-file
 invariant-loop-file g l =
-    TellsNoMore (g.O.Opener.tells l.fn.opener) (g.O.Opener.tells l.opener)
-    × AreSumsPrinted (g.O.Opener.tells l.fn.opener) l.index (lists_below (listed_at l.index l.unit) l.file)
+    FindsNoMore (g.O.Opener.finds l.fn.opener) (g.O.Opener.finds l.opener)
+    × AreSumsPrinted (g.O.Opener.finds l.fn.opener) l.index (lists_below (listed_at l.index l.unit) l.file)
     (g.W.Write.contents l.fn.out) (g.W.Write.contents l.out) l.status

@@ -8,25 +8,25 @@ pub returns-in-Err-clause-stop : goal.returns-in-Err-clause-stop
 returns-in-Err-clause-stop g c =
     let old = g.W.Write.contents c.args.out.now in
     let kept : Keeps old old = search rules in
-    words_refused (g.O.Opener.tells c.args.opener.now) (map string_bytes c.args.words.items) old old c.in-Err.stop c.from.result
+    words_refused (g.O.Opener.finds c.args.opener.now) (map string_bytes c.args.words.items) old old c.in-Err.stop c.from.result
     c.from.ensures (rw c.as_slice.ensures.value at (rw c.in-Err.is at c.request_of.ensures.refused)) kept
 
 pub returns-clause-answer : goal.returns-clause-answer
 returns-clause-answer g c =
-    words_answered (g.O.Opener.tells c.args.opener.now) (map string_bytes c.args.words.items) c.in-Ok.asked
+    words_answered (g.O.Opener.finds c.args.opener.now) (map string_bytes c.args.words.items) c.in-Ok.asked
     (g.W.Write.contents c.args.out.now) (g.W.Write.contents c.answer.new.out) c.answer.result c.map_err.result c.map_err.ensures.cases
     (rw c.as_slice.ensures.value at (rw c.in-Ok.is at c.request_of.ensures.asked))
     c.answer.ensures.answer
 
 pub returns-clause-stop : goal.returns-clause-stop
 returns-clause-stop g c =
-    words_stopped (g.O.Opener.tells c.args.opener.now) (map string_bytes c.args.words.items) c.in-Ok.asked
+    words_stopped (g.O.Opener.finds c.args.opener.now) (map string_bytes c.args.words.items) c.in-Ok.asked
     (g.W.Write.contents c.args.out.now) (g.W.Write.contents c.answer.new.out) c.answer.result c.map_err.result c.map_err.ensures.cases
     (rw c.as_slice.ensures.value at (rw c.in-Ok.is at c.request_of.ensures.asked))
     c.answer.ensures.named c.answer.ensures.stopped
 
 pub returns-clause-refused : goal.returns-clause-refused
 returns-clause-refused g c =
-    run_told (g.O.Opener.tells c.args.opener.now) (map string_bytes c.args.words.items) c.in-Ok.asked c.answer.result c.map_err.result
+    run_told (g.O.Opener.finds c.args.opener.now) (map string_bytes c.args.words.items) c.in-Ok.asked c.answer.result c.map_err.result
     (g.O.Opener.refused c.args.opener.now) (g.O.Opener.refused c.answer.new.opener) c.map_err.ensures.cases
     (rw c.as_slice.ensures.value at (rw c.in-Ok.is at c.request_of.ensures.asked)) c.answer.ensures.refused

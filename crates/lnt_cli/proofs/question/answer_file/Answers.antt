@@ -10,7 +10,7 @@ returns-in-Check-false-default-clause-answer g c =
     rw (arm.is, ← sym arm.all-test ∙ arm.all-is, ← arm.partial-is, ← c.of-scope.ensures)
     (IfOk-weaker c.check_table.result _ _
     (λ answered so.
-    of_file (g.O.Opener.tells c.args.opener.now) c.args.from.now c.args.file.now _ _ _ _ _ c.in_ok-files.ensures.texts
+    of_file (g.O.Opener.finds c.args.opener.now) c.args.from.now c.args.file.now _ _ _ _ _ c.in_ok-files.ensures.texts
     c.in_ok-files.ensures.told (c.open_judged.ensures.later _ _ c.in_ok-other.ensures.told) so)
     c.check_table.ensures.answer)
 
@@ -20,7 +20,7 @@ returns-in-Check-false-default-clause-stopped g c =
     rw (arm.is, ← sym arm.all-test ∙ arm.all-is, ← arm.partial-is, ← c.of-scope.ensures)
     (begun_of _ _ _ c.check_table.result c.check_table.ensures.stopped
     (λ begun.
-    of_file (g.O.Opener.tells c.args.opener.now) c.args.from.now c.args.file.now _ _ _ _ _ c.in_ok-files.ensures.texts
+    of_file (g.O.Opener.finds c.args.opener.now) c.args.from.now c.args.file.now _ _ _ _ _ c.in_ok-files.ensures.texts
     c.in_ok-files.ensures.told (c.open_judged.ensures.later _ _ c.in_ok-other.ensures.told) begun))
 
 pub returns-in-Check-true-default-clause-answer : goal.returns-in-Check-true-default-clause-answer
@@ -29,7 +29,7 @@ returns-in-Check-true-default-clause-answer g c =
     rw (arm.is, ← sym arm.all-test ∙ arm.all-is)
     (IfOk-weaker c.answer_both.result _ _
     (λ answered so.
-    of_file (g.O.Opener.tells c.args.opener.now) c.args.from.now c.args.file.now _ _ _ _ _ c.in_ok-files.ensures.texts
+    of_file (g.O.Opener.finds c.args.opener.now) c.args.from.now c.args.file.now _ _ _ _ _ c.in_ok-files.ensures.texts
     c.in_ok-files.ensures.told (c.open_judged.ensures.later _ _ c.in_ok-other.ensures.told) so)
     (rw arm.is at c.answer_both.ensures.answer))
 
@@ -39,7 +39,7 @@ returns-in-Check-true-default-clause-stopped g c =
     rw (arm.is, ← sym arm.all-test ∙ arm.all-is)
     (begun_of _ _ _ c.answer_both.result (rw arm.is at c.answer_both.ensures.stopped)
     (λ begun.
-    of_file (g.O.Opener.tells c.args.opener.now) c.args.from.now c.args.file.now _ _ _ _ _ c.in_ok-files.ensures.texts
+    of_file (g.O.Opener.finds c.args.opener.now) c.args.from.now c.args.file.now _ _ _ _ _ c.in_ok-files.ensures.texts
     c.in_ok-files.ensures.told (c.open_judged.ensures.later _ _ c.in_ok-other.ensures.told) begun))
 
 pub returns-clause-answer : goal.returns-clause-answer
@@ -47,7 +47,7 @@ returns-clause-answer g c =
     rw c.in-Lines.is
     (IfOk-weaker c.answer_both-in-Lines.result _ _
     (λ answered so.
-    of_file (g.O.Opener.tells c.args.opener.now) c.args.from.now c.args.file.now _ _ _ _ _ c.in_ok-files.ensures.texts
+    of_file (g.O.Opener.finds c.args.opener.now) c.args.from.now c.args.file.now _ _ _ _ _ c.in_ok-files.ensures.texts
     c.in_ok-files.ensures.told (c.open_judged.ensures.later _ _ c.in_ok-other.ensures.told) so)
     (rw c.in-Lines.is at c.answer_both-in-Lines.ensures.answer))
 
@@ -56,5 +56,5 @@ returns-clause-stopped g c =
     rw c.in-Lines.is
     (begun_of _ _ _ c.answer_both-in-Lines.result (rw c.in-Lines.is at c.answer_both-in-Lines.ensures.stopped)
     (λ begun.
-    of_file (g.O.Opener.tells c.args.opener.now) c.args.from.now c.args.file.now _ _ _ _ _ c.in_ok-files.ensures.texts
+    of_file (g.O.Opener.finds c.args.opener.now) c.args.from.now c.args.file.now _ _ _ _ _ c.in_ok-files.ensures.texts
     c.in_ok-files.ensures.told (c.open_judged.ensures.later _ _ c.in_ok-other.ensures.told) begun))

@@ -5,7 +5,7 @@ use Rattle.lnt_compare.proofs.line.pass_line.Goals as goal
 
 pub returns : goal.returns
 returns c =
-    let put = c.line_of-start in
+    let put = c.put_span_line-start in
     let start = put.result in
     let room = put.new.room in
     let is = rw c.if-not-tells.false at c.tells.ensures in

@@ -1,5 +1,5 @@
 use Rattle.std.proofs.Common.{ℕ, List, None, Option, Some, subst, IfSome}
-use Rattle.lnt_lines.specs.Contents.{Contents, TellsOf}
+use Rattle.lnt_lines.specs.Contents.{Contents, AreContentsOf}
 use Rattle.lnt_lines.specs.Judging.{AreLinesOf, IsIndexOfSection}
 use Rattle.lnt_lines.specs.Good.{selected, Options}
 use Rattle.lnt_lines.specs.Indexed.{Indexed, OfUnits}
@@ -8,7 +8,7 @@ use Rattle.lnt_lines.proofs.section.verify.Goals as goal
 -- The lines of an index of the section are the section's.
 told : (text general : List ℕ) (options : Options) (section : Option (List ℕ)) (index : Indexed) (lines : Contents)
     → IfSome section (λ bytes. IsIndexOfSection text general options bytes index)
-    → OfUnits index (λ selection. TellsOf index.line index.general selection lines)
+    → OfUnits index (λ selection. AreContentsOf index.line index.general selection lines)
     → IfSome section (λ bytes. AreLinesOf text general options bytes lines)
 told text general options None index lines i tells = tt
 told text general options (Some bytes) index lines i tells =
@@ -16,8 +16,8 @@ told text general options (Some bytes) index lines i tells =
     record {
       units = i.units;
       good = i.good;
-      tells = subst (λ (l : List ℕ). TellsOf l general selection lines) i.line_is
-          (subst (λ (g : List ℕ). TellsOf index.line g selection lines) i.general_is (tells selection i.index_is));
+      tells = subst (λ (l : List ℕ). AreContentsOf l general selection lines) i.line_is
+          (subst (λ (g : List ℕ). AreContentsOf index.line g selection lines) i.general_is (tells selection i.index_is));
     }
 
 pub returns-in_ok-lines_of-in-Good-clause-judged : goal.returns-in_ok-lines_of-in-Good-clause-judged

@@ -1,7 +1,7 @@
 use Rattle.std.proofs.Common.{◌≡◌, ap, sym, ◌∙◌, rules}
 use Rattle.std.proofs.lemmas.Result.{err_from_is_err_and}
 use Rattle.lnt_header.specs.declared.op.Op.TheVariants.{Special}
-use Rattle.lnt_machine.specs.Changes.{line_reached, special_row, unmarked}
+use Rattle.lnt_machine.specs.Changes.{line_reached, special_row, without_flags}
 use Rattle.lnt_machine.specs.Registers.{IsLine}
 use Rattle.lnt_machine.proofs.registers.special.Goals as goal
 
@@ -12,7 +12,7 @@ pub returns-clause-row : goal.returns-clause-row
 returns-clause-row c = row_is c
 
 pub returns-clause-after : goal.returns-clause-after
-returns-clause-after c = c.append-row.ensures.reset ∙ ap unmarked (sym c.append-row.ensures.row ∙ row_is c)
+returns-clause-after c = c.append-row.ensures.reset ∙ ap without_flags (sym c.append-row.ensures.row ∙ row_is c)
 
 pub returns-clause-line : goal.returns-clause-line
 returns-clause-line c = search rules

@@ -1,6 +1,6 @@
 use Rattle.std.proofs.Common.{◌∙◌, refl, sym, inr, arith}
 use Rattle.csv.specs.Reading.{Reached, strip_bom}
-use Rattle.lnt_records.proofs.ReadingLaws.{mark_stripped}
+use Rattle.lnt_records.proofs.ReadingLaws.{bom_stripped}
 use Rattle.lnt_records.proofs.reading.reader_of.Goals as goal
 
 pub returns : goal.returns
@@ -18,5 +18,5 @@ returns c =
       rest = strip_bom c.args.bytes.now;
       left = made.source;
       reached = (sym made.state, refl);
-      few = omega (arith, mark_stripped c.args.bytes.now);
+      few = omega (arith, bom_stripped c.args.bytes.now);
     }

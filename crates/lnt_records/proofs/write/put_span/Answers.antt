@@ -6,7 +6,7 @@ use Rattle.lnt_records.proofs.write.put_span.Goals as goal
 
 pub returns : goal.returns
 returns c version is =
-    let put = c.line_of-start in
+    let put = c.put_span_line-start in
     let all = room_from put.new.room put.result put.array_long in
     on_ok_weaker c.extend_from_slice.result
     (λ added. line_put version c.args.span.now _ _ _ (added ∙ ap (λ (t : List ℕ). c.args.block.now.items ++ t) all)

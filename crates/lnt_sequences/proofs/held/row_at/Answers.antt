@@ -1,10 +1,10 @@
-use Rattle.lnt_sequences.proofs.MarkLemmas.{mark_before}
+use Rattle.lnt_sequences.proofs.CheckpointLemmas.{checkpoint_before}
 use Rattle.lnt_sequences.proofs.held.row_at.Goals as goal
 
 pub loop-position-init : goal.loop-position-init
 loop-position-init c = record {
-  in_rows = λ list will. mark_before list c.before-mark.result c.before-mark.ensures.last (rw c.before-mark.ensures.after will);
-  not_above = rw c.before-mark.ensures.last tt;
+  in_rows = λ list will. checkpoint_before list c.before-checkpoint.result c.before-checkpoint.ensures.last (rw c.before-checkpoint.ensures.after will);
+  not_above = rw c.before-checkpoint.ensures.last tt;
 }
 
 pub loop-position-preserved : goal.loop-position-preserved

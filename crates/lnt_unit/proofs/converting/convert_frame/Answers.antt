@@ -1,7 +1,7 @@
 use Rattle.std.proofs.Common.{[], append-nil, arith, rules, sym}
 use Rattle.std.proofs.lemmas.Result.{err_from_is_err_and}
 use Rattle.lnt_unit.proofs.BrokenLaws.{header_broken}
-use Rattle.lnt_unit.proofs.ConvertedLemmas.{told_stop}
+use Rattle.lnt_unit.proofs.ConvertedLemmas.{reported_stop}
 use Rattle.lnt_unit.proofs.ReadLaws.{program_within}
 use Rattle.lnt_unit.proofs.converting.convert_frame.Goals as goal
 
@@ -11,7 +11,7 @@ returns-in_err-header-clause-err c =
     let frame = c.args.frame.now in
     let fault = c.in_err-header.field-0.0 in
     rw p.1
-    (told_stop c.args.order c.args.format c.args.to frame.offset _ fault p.0
+    (reported_stop c.args.order c.args.format c.args.to frame.offset _ fault p.0
     (λ some. header_broken c.args.order fault frame.offset _ (c.in_err-header.ensures.err some)) p.2)
 
 pub returns-in_err-header-clause-extends : goal.returns-in_err-header-clause-extends

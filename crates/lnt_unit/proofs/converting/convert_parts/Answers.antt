@@ -11,7 +11,7 @@ use Rattle.lnt_wire.specs.declared.fault.Reason.TheVariants.{Memory}
 use Rattle.lnt_ops.specs.Programs.{BrokenProgram}
 use Rattle.lnt_unit.specs.BrokenUnits.{BrokenUnit}
 use Rattle.lnt_unit.proofs.BrokenLaws.{ops_broken}
-use Rattle.lnt_unit.proofs.ConvertedLemmas.{frame_converted, frame_large, told_stop}
+use Rattle.lnt_unit.proofs.ConvertedLemmas.{frame_converted, frame_large, reported_stop}
 use Rattle.lnt_unit.proofs.converting.convert_parts.Goals as goal
 
 pub returns-in_err-convert_ops-clause-err : goal.returns-in_err-convert_ops-clause-err
@@ -26,7 +26,7 @@ returns-in_err-convert_ops-clause-err c =
     λ some. ops_broken header.numbers.order header program bytes fault frame.offset _ c.requires.spelled c.requires.place
     (subst (λ (g : NumberParts). BrokenProgram g c.args.place program fault) c.numbers.ensures.numbers
     (c.in_err-convert_ops.ensures.err some)) in
-    rw p.1 (told_stop header.numbers.order c.args.format c.args.to frame.offset bytes fault p.0 broken p.2)
+    rw p.1 (reported_stop header.numbers.order c.args.format c.args.to frame.offset bytes fault p.0 broken p.2)
 
 pub returns-in-Ok-clause-ok : goal.returns-in-Ok-clause-ok
 returns-in-Ok-clause-ok c =

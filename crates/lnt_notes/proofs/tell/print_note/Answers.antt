@@ -1,6 +1,0 @@
-use Rattle.std.proofs.Common.{rules}
-use Rattle.lnt_notes.proofs.NoteLemmas.{line_told}
-use Rattle.lnt_notes.proofs.tell.print_note.Goals as goal
-
-pub returns-clause-notes : goal.returns-clause-notes
-returns-clause-notes g c = line_told _ _ _ c.args.note (search rules)

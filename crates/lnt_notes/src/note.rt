@@ -1,0 +1,320 @@
+//! Prints the notes to an answer.
+ghost use Rattle.std.specs.Prelude.{◌≡◌, ◌↔◌, IsTrue, OnOk, Option, [], false};
+ghost use Rattle.std.specs.Io.KnownBytes.{Appends};
+ghost use Rattle.lnt_sequences.specs.RowSpans.{spans_of};
+ghost use Rattle.lnt_sequences.specs.Sequences.{kept_sequences};
+ghost use Rattle.lnt_text.specs.Notes.{note_line};
+ghost use Rattle.lnt_lines.specs.Indexed.{OfUnits};
+ghost use Rattle.lnt_notes.specs.Notes.{AddsNotes};
+
+use crate::ends::end_alike;
+use crate::look::look_of;
+use crate::markers::{GREATEST, may_be_marker};
+use crate::records::{Columns, column_at, line_after};
+use crate::survey::{Survey, survey_of};
+use crate::texts::strings_of;
+use crate::watched::Seen;
+use lnt_header::EntryTable;
+use lnt_io::{Opener, source_of};
+use lnt_lines::{Index, No};
+use lnt_records::TableFault;
+use lnt_sequences::SeqId;
+use lnt_spans::{Position, Probes, SpanSource};
+use lnt_text::{Note, RecordRule, StringSection};
+use lnt_wire::{Order, Reason};
+use std::alloc::Global;
+use std::io::{self, Write};
+
+/// The file and options that were given to judge a section.
+#[derive(Clone, Copy)]
+pub struct Given<'a> {
+    /// The file of the section.
+    pub section: &'a str,
+    /// The byte order of its numbers.
+    pub order: Order,
+    /// The address at which sequences of dead code begin, if one is given.
+    pub dead: Option<u64>,
+    /// Whether copies are skipped.
+    pub skip_copies: bool,
+    /// Whether `.debug_line_str` is given.
+    pub has_line_strings: bool,
+    /// Whether `.debug_str` is given.
+    pub has_strings: bool,
+}
+
+/// What may be worth a note about a good section.
+#[derive(Clone, Copy)]
+pub struct Hints {
+    /// No sequence holds a position.
+    pub holds_nothing: bool,
+    /// An address that a sequence holds and at which linkers leave discarded code. A sequence may begin there.
+    pub marker: Option<u64>,
+    /// No sum is listed, and sums were asked for.
+    pub lists_no_sum: bool,
+}
+
+/// The hints of a good section with this index, if sums weren't asked for.
+pub fn hints_of(index: &Index<'_>) -> Hints
+    ensures nothing { OfUnits index.now (λ selection. IsTrue result.holds_nothing ↔ spans_of (kept_sequences selection) ≡ []) }
+    ensures sums { result.lists_no_sum ≡ false }
+{
+    let first = index.spans().next_span();
+    let marker = match &first {
+        Some(span) if span.low.address == 0 => Some(0),
+        _ => held_marker(index),
+    };
+    Hints {
+        holds_nothing: first.is_none(),
+        marker,
+        lists_no_sum: false,
+    }
+}
+
+// The first of `GREATEST` that some sequence holds while none holds the address before it, so that one may begin there.
+fn held_marker(index: &Index<'_>) -> Option<u64> {
+    for address in GREATEST {
+        if holds(index, address) && !holds(index, address - 1) {
+            return Some(address);
+        }
+    }
+    None
+}
+
+fn holds(index: &Index<'_>, address: u64) -> bool {
+    let position = Position { address, op: 0 };
+    index.lookup(position, &mut Probes::new()).is_some()
+}
+
+/// Prints the line of a note. It fails only if the writer does; then a prefix of this line may be written.
+pub fn print_note<N: Write>(note: Note, notes: &mut N) -> io::Result<()>
+    ensures line { OnOk result (Appends (N.contents notes.old) (N.contents notes.new) (note_line note)) }
+    ensures notes { OnOk result (AddsNotes (N.contents notes.old) (N.contents notes.new)) }
+{
+    writeln!(notes, "linetab: note: {note}")
+}
+
+// Prints the note if there is one.
+fn print_any<N: Write>(note: Option<Note>, notes: &mut N) -> io::Result<()>
+    ensures { OnOk result (AddsNotes (N.contents notes.old) (N.contents notes.new)) }
+{
+    match note {
+        Some(note) => print_note(note, notes),
+        None => Ok(()),
+    }
+}
+
+/// Prints the note to a rejected section, which was read in this byte order and whose lines weren't judged: what the file
+/// looks like instead, if it looks like something else. It fails only if the writer does; then a prefix of the note may be
+/// written.
+pub fn note_refused<N: Write>(seen: &Seen, order: Order, notes: &mut N) -> io::Result<()>
+    ensures { OnOk result (AddsNotes (N.contents notes.old) (N.contents notes.new)) }
+{
+    print_any(look_of(seen, order).map(Note::NotRaw), notes)
+}
+
+/// Prints the notes to the reason why a section isn't good. It fails only if the writer does; then a prefix of these notes
+/// may be written.
+#[tactic(auto, using(crate::proofs::NoteLemmas::noted_after))]
+pub fn note_bad<O: Opener, N: Write>(
+    alloc: Global,
+    no: &No,
+    seen: &Seen,
+    given: &Given<'_>,
+    opener: &O,
+    notes: &mut N,
+) -> io::Result<()>
+    ensures { OnOk result (AddsNotes (N.contents notes.old) (N.contents notes.new)) }
+{
+    match *no {
+        No::Malformed(fault) => match fault.reason {
+            Reason::VersionNotFive(2..=4) => print_note(Note::Older, notes),
+            _ => note_refused(seen, given.order, notes),
+        },
+        No::StringOutside(unit, which, _) => {
+            note_strings(alloc, unit, which, given, opener, notes)
+        }
+        No::FileNumber(..) | No::Falls(..) => note_dead(alloc, None, true, given, opener, notes),
+        No::Overlap {
+            first,
+            second,
+            position,
+        } => {
+            let address = Some(position.address).filter(|address| may_be_marker(*address));
+            note_dead(alloc, address, true, given, opener, notes)?;
+            note_copies(alloc, first, second, given, opener, notes)
+        }
+        _ => Ok(()),
+    }
+}
+
+/// Prints the notes to a good section. It fails only if the writer does; then a prefix of these notes may be written.
+pub fn note_good<O: Opener, N: Write>(
+    alloc: Global,
+    hints: &Hints,
+    given: &Given<'_>,
+    opener: &O,
+    notes: &mut N,
+) -> io::Result<()>
+    ensures { OnOk result (AddsNotes (N.contents notes.old) (N.contents notes.new)) }
+{
+    print_any(hints.holds_nothing.then_some(Note::HoldsNothing), notes)?;
+    print_any(hints.lists_no_sum.then_some(Note::NoSums), notes)?;
+    let marker = hints.marker;
+    if marker.is_none() && given.dead.is_none() {
+        return Ok(());
+    }
+    note_dead(alloc, marker, marker.is_some(), given, opener, notes)
+}
+
+// Prints the option that gives the string section with the paths of this table of a unit, if it wasn't given.
+fn note_strings<O: Opener, N: Write>(
+    alloc: Global,
+    unit: u64,
+    which: EntryTable,
+    given: &Given<'_>,
+    opener: &O,
+    notes: &mut N,
+) -> io::Result<()>
+    ensures { OnOk result (AddsNotes (N.contents notes.old) (N.contents notes.new)) }
+{
+    let Some(section) = strings_again(alloc, unit, which, given, opener) else {
+        return Ok(());
+    };
+    let is_given = match section {
+        StringSection::Line => given.has_line_strings,
+        StringSection::General => given.has_strings,
+    };
+    print_any((!is_given).then_some(Note::NoStrings(section)), notes)
+}
+
+fn strings_again<O: Opener>(
+    alloc: Global,
+    unit: u64,
+    which: EntryTable,
+    given: &Given<'_>,
+    opener: &O,
+) -> Option<StringSection> {
+    let reader = opener.reader_again(given.section)?;
+    let mut source = source_of(alloc, reader).ok()?;
+    strings_of(alloc, &mut source, given.order, unit, which)
+}
+
+// Prints the notes that sequences begin where linkers leave discarded code, and that none begins at the address given for such
+// code. If the section can't be read again, the only note is one about `known`, if there is such an address, with no count of
+// sequences. Unless `all` is asked for, the section is read only up to the unit in which a sequence begins at the given
+// address.
+#[tactic(auto, using(crate::proofs::NoteLemmas::noted_after))]
+fn note_dead<O: Opener, N: Write>(
+    alloc: Global,
+    known: Option<u64>,
+    all: bool,
+    given: &Given<'_>,
+    opener: &O,
+    notes: &mut N,
+) -> io::Result<()>
+    ensures { OnOk result (AddsNotes (N.contents notes.old) (N.contents notes.new)) }
+{
+    let Some(survey) = survey_again(alloc, all, given, opener) else {
+        return print_any(known.map(|address| Note::MaybeDead(None, address)), notes);
+    };
+    let count = Some(survey.count);
+    let marker = survey.marker.map(|address| Note::MaybeDead(count, address));
+    print_any(marker, notes)?;
+    let absent = given.dead.filter(|_| !survey.begins_dead);
+    print_any(absent.map(Note::NoneDead), notes)
+}
+
+fn survey_again<O: Opener>(
+    alloc: Global,
+    all: bool,
+    given: &Given<'_>,
+    opener: &O,
+) -> Option<Survey> {
+    let reader = opener.reader_again(given.section)?;
+    let mut source = source_of(alloc, reader).ok()?;
+    survey_of(alloc, &mut source, given.order, given.dead, all)
+}
+
+// Prints that copies can be skipped, if the two sequences that overlap begin and end at the same positions and copies
+// aren't skipped yet.
+fn note_copies<O: Opener, N: Write>(
+    alloc: Global,
+    first: SeqId,
+    second: SeqId,
+    given: &Given<'_>,
+    opener: &O,
+    notes: &mut N,
+) -> io::Result<()>
+    ensures { OnOk result (AddsNotes (N.contents notes.old) (N.contents notes.new)) }
+{
+    let are_copies = !given.skip_copies
+        && alike_again(alloc, first, second, given, opener) == Some(true);
+    print_any(are_copies.then_some(Note::Copies), notes)
+}
+
+fn alike_again<O: Opener>(
+    alloc: Global,
+    first: SeqId,
+    second: SeqId,
+    given: &Given<'_>,
+    opener: &O,
+) -> Option<bool> {
+    let reader = opener.reader_again(given.section)?;
+    let mut source = source_of(alloc, reader).ok()?;
+    end_alike(alloc, &mut source, given.order, first, second)
+}
+
+/// Prints the notes to a table, in the file of this name, that answers as a good section does. It fails only if the writer
+/// does; then a prefix of these notes may be written.
+#[tactic(auto, using(crate::proofs::NoteLemmas::noted_after))]
+pub fn note_agreed<O: Opener, N: Write>(
+    alloc: Global,
+    given: &Given<'_>,
+    table: &str,
+    opener: &O,
+    notes: &mut N,
+) -> io::Result<()>
+    ensures { OnOk result (AddsNotes (N.contents notes.old) (N.contents notes.new)) }
+{
+    let holds_nothing = opener.reader_again(table).is_some_and(|reader| {
+        // A table of its header alone answers nothing.
+        matches!(line_after(alloc, reader, 2), Ok(None))
+    });
+    print_any(holds_nothing.then_some(Note::HoldsNothing), notes)?;
+    if given.dead.is_none() {
+        return Ok(());
+    }
+    note_dead(alloc, None, false, given, opener, notes)
+}
+
+/// Prints the note to a fault of the table in the file of this name, which was read as one with these columns. For a fault of
+/// the header the columns don't count: the header isn't that of any version. It fails only if the writer does; then a prefix
+/// of the note may be written.
+pub fn note_table<O: Opener, N: Write>(
+    alloc: Global,
+    fault: TableFault,
+    columns: Columns,
+    table: &str,
+    opener: &O,
+    notes: &mut N,
+) -> io::Result<()>
+    ensures { OnOk result (AddsNotes (N.contents notes.old) (N.contents notes.new)) }
+{
+    let (record, rule) = match fault {
+        TableFault::Header => return print_note(Note::TableHeader, notes),
+        TableFault::Fields(record) => (record, RecordRule::Fields),
+        TableFault::Number(record, column) => {
+            let Some(column) = column_at(columns, column) else {
+                return Ok(());
+            };
+            (record, RecordRule::Kind(column))
+        }
+        TableFault::Order(record) => (record, RecordRule::Order),
+    };
+    let line = line_again(alloc, record, table, opener);
+    print_note(Note::TableRecord(line, rule), notes)
+}
+
+fn line_again<O: Opener>(alloc: Global, record: u64, table: &str, opener: &O) -> Option<u64> {
+    line_after(alloc, opener.reader_again(table)?, record).ok()?
+}
