@@ -1,11 +1,12 @@
 #!/usr/bin/env bash
-# The scripts of bench/, but for what they measure: their help; that bench/producers can be taken as a module; and that docs/speed.svg is
-# what bench/plot makes of bench/RESULTS.md, with each ratio of its table that is beside one of those readers.
+# The scripts of bench/, but for what they measure: their help; that bench/producers can be taken as a module; what bench/makers prints
+# of a small program; and that docs/speed.svg is what bench/plot makes of bench/RESULTS.md, with each ratio of its table that is beside
+# one of those readers.
 cd "$(dirname "$(readlink -f -- "$0")")/.." || exit 1
 . tests/check.bash
 
 for script in bench/*; do
-  [ -d "$script" ] || [[ $script == *.md ]] || expect "the help of $script" 0 '' '' bash -c '"$0" --help | grep "$0" >/dev/null' "$script"
+  [ -d "$script" ] || [[ $script == *.md || $script == *.py ]] || expect "the help of $script" 0 '' '' bash -c '"$0" --help | grep "$0" >/dev/null' "$script"
 done
 expect 'what bench/producers tries' 0 $'`gcc -g`\nyes\n' '' python3 -B - <<'END'
 import importlib.machinery
@@ -28,6 +29,27 @@ producers.followed(([], "cc -g", "cc -g6"), wrong)
 producers.followed(([], "cc -g", "cc -g7"), wrong)
 assert [it.split(": ")[1] for it in wrong] == ["no 25", "-g7 isn't what is advised", "no 25"], wrong
 END
+if here 'tables by bench/makers' cc; then
+  mkdir "$work/bin"
+  # In the place of Breakpad's, which may not be here: a function for each span of the program's own table.
+  cat >"$work/bin/dump_syms" <<'END'
+#!/usr/bin/env python3
+import csv, subprocess, sys
+table = subprocess.run(["./linetab-object", "table", "--lines", sys.argv[1]], stdout=subprocess.PIPE, text=True).stdout
+print("MODULE Linux x86_64 000000000000000000000000000000000 app")
+spans = [(int(row["low"], 16), int(row["high"], 16), row["path"], row["line"]) for row in csv.DictReader(table.splitlines())]
+paths = sorted({path for _, _, path, _ in spans})
+for number, path in enumerate(paths):
+    print("FILE", number, path)
+for low, high, path, line in spans:
+    print("FUNC %x %x 0 f\n%x %x %s %d" % (low, high - low, low, high - low, line, paths.index(path)))
+END
+  chmod +x "$work/bin/dump_syms"
+  printf 'int main(void) {\n  return 0;\n}\n' >"$work/a.c"
+  cc -g -gdwarf-5 -o "$work/app" "$work/a.c"
+  expect 'tables by bench/makers' 0 $'1\n' '' bash -c 'PATH=$0/bin:$PATH bench/makers "$0/app" |
+    grep -cE "^\| app \| dump_syms \| \`yes\`, answers ([0-9]+) of \1 \| 0 \| 0 \|\$"' "$work"
+fi
 expect 'the picture of the measured times, by bench/plot' 0 '' '' bash -c 'bench/plot | cmp - docs/speed.svg'
 expect 'of another folder' 0 '' '' bash -c 'cd / && "$0/bench/plot" "$0/bench/RESULTS.md" | cmp - "$0/docs/speed.svg"' "$top"
 expect 'its figures' 0 '' '' python3 -B - <<'END'
