@@ -59,19 +59,19 @@ line_last b line whole =
 status_append : (before : Status) (a b : List (List ℕ × Option Position))
     → lines_status before (a ++ b) ≡ lines_status (lines_status before a) b
 status_append before [] b = refl
-status_append before (told ∷ a) b = status_append (line_status before told.1) a b
+status_append before (named ∷ a) b = status_append (line_status before named.1) a b
 
 module _ {index : Indexed} {op : ℕ} where
   pub told_none : (old : Option (List ℕ)) (status : Status) → AreLinesPrinted index op [] old old status status
   told_none old status =
-      record { told = []; lines_are = refl; so = tt; printed = λ selection is. Appends-nil old; status_is = refl }
+      record { named = []; lines_are = refl; so = tt; printed = λ selection is. Appends-nil old; status_is = refl }
 
   -- one line
   pub told_one : {line : List ℕ} {old new : Option (List ℕ)} {before after : Status} (position : Option Position)
       → NamesPositionIfAny op (line, position) → OfUnits index (λ selection. Appends old new (printed_line index selection (line, position)))
       → after ≡ line_status before position → AreLinesPrinted index op (line ∷ []) old new before after
   told_one {line} {old} {new} position tells printed status = record {
-    told = (line, position) ∷ [];
+    named = (line, position) ∷ [];
     lines_are = refl;
     so = (tells, tt);
     printed = λ selection is. subst (Appends old new) (sym (append-nil (printed_line index selection (line, position))))
@@ -83,42 +83,42 @@ module _ {index : Indexed} {op : ℕ} where
   pub told_append : {xs ys : List (List ℕ)} {old now new : Option (List ℕ)} {s t u : Status} → AreLinesPrinted index op xs old now s t
       → AreLinesPrinted index op ys now new t u → AreLinesPrinted index op (xs ++ ys) old new s u
   told_append {xs} {ys} {old} {now} {new} {s} a b = record {
-    told = a.told ++ b.told;
-    lines_are = map-append (λ line. line.0) a.told b.told ∙ ap (λ (z : List (List ℕ)). z ++ map (λ line. line.0) b.told) a.lines_are
+    named = a.named ++ b.named;
+    lines_are = map-append (λ line. line.0) a.named b.named ∙ ap (λ (z : List (List ℕ)). z ++ map (λ line. line.0) b.named) a.lines_are
         ∙ ap (λ (z : List (List ℕ)). xs ++ z) b.lines_are;
-    so = all_append (NamesPositionIfAny op) a.told b.told a.so b.so;
+    so = all_append (NamesPositionIfAny op) a.named b.named a.so b.so;
     printed = λ selection is.
         let text = printed_line index selection in
-        subst (Appends old new) (sym (flat_map-append text a.told b.told))
-        (Appends-trans old now new (flat_map text a.told) (flat_map text b.told) (a.printed selection is)
+        subst (Appends old new) (sym (flat_map-append text a.named b.named))
+        (Appends-trans old now new (flat_map text a.named) (flat_map text b.named) (a.printed selection is)
         (b.printed selection is));
-    status_is = b.status_is ∙ ap (λ (z : Status). lines_status z b.told) a.status_is ∙ sym (status_append s a.told b.told);
+    status_is = b.status_is ∙ ap (λ (z : Status). lines_status z b.named) a.status_is ∙ sym (status_append s a.named b.named);
   }
 
   -- Their lines were made in an empty buffer, and are then written.
   told_sent : {texts : List (List ℕ)} {none made : List ℕ} {old new : Option (List ℕ)} {s t : Status}
       → AreLinesPrinted index op texts (Some none) (Some made) s t → none ≡ [] → Appends old new made → AreLinesPrinted index op texts old new s t
   told_sent {none = none} {made = made} {old = old} {new = new} all empty appended = record {
-    told = all.told;
+    named = all.named;
     lines_are = all.lines_are;
     so = all.so;
     printed = λ selection is. subst (Appends old new) (text_in_room none made made
-        (flat_map (printed_line index selection) all.told) empty (all.printed selection is) refl) appended;
+        (flat_map (printed_line index selection) all.named) empty (all.printed selection is) refl) appended;
     status_is = all.status_is;
   }
 
   -- ---- the first lines of a text
 
   pub first_none : (text : List ℕ) (old : Option (List ℕ)) (status : Status) → AreFirstPrinted index op text text old old status status
-  first_none text old status = record { texts = []; told = told_none old status; cut = λ more. refl }
+  first_none text old status = record { texts = []; printed = told_none old status; cut = λ more. refl }
 
   -- the first one
   pub first_line : {text rest stripped : List ℕ} {old new : Option (List ℕ)} {s t : Status} (line : List ℕ) → IsCut 10 text line rest
       → stripped ≡ strip_carriage_return line → AreLinesPrinted index op (stripped ∷ []) old new s t
       → AreFirstPrinted index op text rest old new s t
-  first_line {rest = rest} {stripped = stripped} line at stripped_is told = record {
+  first_line {rest = rest} {stripped = stripped} line at stripped_is printed = record {
     texts = stripped ∷ [];
-    told = told;
+    printed = printed;
     cut = λ more.
         ap (λ (z : List ℕ). lines (z ++ more)) at.0 ∙ ap lines (append_assoc line (10 ∷ rest) more) ∙ line_cut line (rest ++ more) at.1
         ∙ ap (λ (z : List ℕ). z ∷ lines (rest ++ more)) (sym stripped_is);
@@ -129,7 +129,7 @@ module _ {index : Indexed} {op : ℕ} where
       → AreFirstPrinted index op mid rest now new t u → AreFirstPrinted index op text rest old new s u
   first_more {rest = rest} a b = record {
     texts = a.texts ++ b.texts;
-    told = told_append a.told b.told;
+    printed = told_append a.printed b.printed;
     cut = λ more. a.cut more ∙ ap (λ (z : List (List ℕ)). a.texts ++ z) (b.cut more)
         ∙ sym (append_assoc a.texts b.texts (lines (rest ++ more)));
   }
@@ -138,7 +138,7 @@ module _ {index : Indexed} {op : ℕ} where
   pub first_sent : {text rest none made : List ℕ} {old new : Option (List ℕ)} {s t : Status}
       → AreFirstPrinted index op text rest (Some none) (Some made) s t → none ≡ [] → Appends old new made
       → AreFirstPrinted index op text rest old new s t
-  first_sent first empty appended = record { texts = first.texts; told = told_sent first.told empty appended; cut = first.cut }
+  first_sent first empty appended = record { texts = first.texts; printed = told_sent first.printed empty appended; cut = first.cut }
 
   -- the first one, in which a position was found
   pub first_found : {text rest : List ℕ} {place : Position} {old new : List ℕ} {s : Status} → BeginsWithLine op text place rest
@@ -150,12 +150,12 @@ module _ {index : Indexed} {op : ℕ} where
   pub first_joined : {back next rest : List ℕ} {old now new : Option (List ℕ)} {s t u : Status} (line text prefix : List ℕ)
       → HasNo 10 line → IsCut 10 text prefix back → AreLinesPrinted index op (strip_carriage_return (line ++ prefix) ∷ []) old now s t → next ≡ back
       → AreFirstPrinted index op next rest now new t u → AreFirstPrinted index op (line ++ text) rest old new s u
-  first_joined {back} {next} {rest} {old} {now} {new} {s} {t} {u} line text prefix whole at told next_is more =
+  first_joined {back} {next} {rest} {old} {now} {new} {s} {t} {u} line text prefix whole at printed next_is more =
       let joined : IsCut 10 (line ++ text) (line ++ prefix) back = (
         ap (λ (z : List ℕ). line ++ z) at.0 ∙ sym (append_assoc line prefix (10 ∷ back)),
         All-append (λ other. (other == 10) ≡ false) line prefix whole at.1,
       ) in
-      first_more (first_line (line ++ prefix) joined refl told)
+      first_more (first_line (line ++ prefix) joined refl printed)
       (subst (λ (z : List ℕ). AreFirstPrinted index op z rest now new t u) next_is more)
 
   -- the rest after a line that is empty
@@ -184,7 +184,7 @@ IsTextCut (Some text) (Some rest) texts line = lines text ≡ texts ++ lines (li
 pub record IsTextTold (index : Indexed) (op : ℕ) (start now : Option (List ℕ)) (line : List ℕ) (old new : Option (List ℕ))
     (status : Status) : Type 0 where
   pub texts : List (List ℕ)
-  pub told : AreLinesPrinted index op texts old new Done status
+  pub printed : AreLinesPrinted index op texts old new Done status
   pub cut : IsTextCut start now texts line
   pub whole : HasNo 10 line
 
@@ -223,14 +223,14 @@ appends_kept a b c text appended kept = grind (arith, common_steps)
 told_lines : {index : Indexed} {op : ℕ} {old new : Option (List ℕ)} {status : Status} (start : Option (List ℕ)) (texts all : List (List ℕ))
     → IfSome start (λ text. lines text ≡ all) → texts ≡ all → AreLinesPrinted index op texts old new Done status
     → AreAddressesPrinted index op start old new status
-told_lines start texts all e same told = grind (arith, common_steps)
+told_lines start texts all e same printed = grind (arith, common_steps)
 
 module _ {index : Indexed} {op : ℕ} {start old : Option (List ℕ)} where
   pub text_begun : {line : List ℕ} {status : Status} → line ≡ [] → status ≡ Done → IsTextTold index op start start line old old status
   text_begun {status = status} empty done =
       subst (λ (z : List ℕ). IsTextTold index op start start z old old status) (sym empty)
       (subst (λ (z : Status). IsTextTold index op start start [] old old z) (sym done)
-      (record { texts = []; told = told_none old Done; cut = cut_begun start; whole = λ j d few. absurd (omega arith) }))
+      (record { texts = []; printed = told_none old Done; cut = cut_begun start; whole = λ j d few. absurd (omega arith) }))
 
   -- with one block more
   pub text_more : {mid now then new : Option (List ℕ)} {line left : List ℕ} {s t : Status} (block : List ℕ)
@@ -238,7 +238,7 @@ module _ {index : Indexed} {op : ℕ} {start old : Option (List ℕ)} where
       → HasNo 10 left → IsTextTold index op start now left old new t
   text_more {mid} {now} {line = line} {left = left} block before pulls more whole = record {
     texts = before.texts ++ more.texts;
-    told = told_append before.told more.told;
+    printed = told_append before.printed more.printed;
     cut = cut_more start mid now before.texts more.texts line block left before.cut pulls more.cut;
     whole = whole;
   }
@@ -249,7 +249,7 @@ module _ {index : Indexed} {op : ℕ} {start old : Option (List ℕ)} where
         → IsTextTold index op start now line old then s
     text_pulled {mid} before pulls = record {
       texts = before.texts;
-      told = before.told;
+      printed = before.printed;
       cut = cut_pulled start mid now before.texts line before.cut pulls;
       whole = before.whole;
     }
@@ -259,19 +259,19 @@ module _ {index : Indexed} {op : ℕ} {start old : Option (List ℕ)} where
     text_ended {ended} before at short empty =
         told_lines start before.texts (before.texts ++ lines line)
         (cut_ended start now before.texts line ended before.cut at short)
-        (sym (append-nil before.texts) ∙ ap (λ (z : List ℕ). before.texts ++ lines z) (sym empty)) before.told
+        (sym (append-nil before.texts) ∙ ap (λ (z : List ℕ). before.texts ++ lines z) (sym empty)) before.printed
 
     pub text_kept : {new : Option (List ℕ)} → IsTextTold index op start now line old then s → Keeps then new
         → IsTextTold index op start now line old new s
     text_kept {new} before kept = record {
       texts = before.texts;
-      told = record {
-        told = before.told.told;
-        lines_are = before.told.lines_are;
-        so = before.told.so;
-        printed = λ selection is. appends_kept old then new (flat_map (printed_line index selection) before.told.told)
-            (before.told.printed selection is) kept;
-        status_is = before.told.status_is;
+      printed = record {
+        named = before.printed.named;
+        lines_are = before.printed.lines_are;
+        so = before.printed.so;
+        printed = λ selection is. appends_kept old then new (flat_map (printed_line index selection) before.printed.named)
+            (before.printed.printed selection is) kept;
+        status_is = before.printed.status_is;
       };
       cut = before.cut;
       whole = before.whole;
@@ -280,11 +280,11 @@ module _ {index : Indexed} {op : ℕ} {start old : Option (List ℕ)} where
   pub text_ended_within : {now then new : Option (List ℕ)} {line : List ℕ} {s t : Status} {ended : Bool}
       → IsTextTold index op start now line old then s → IsAtEnd now ended → ended ≡ false → 0 < length line
       → AreLinesPrinted index op (line ∷ []) then new s t → AreAddressesPrinted index op start old new t
-  text_ended_within {line = []} before at short some told = absurd (omega arith)
-  text_ended_within {now} {line = b ∷ line} {ended = ended} before at short some told =
+  text_ended_within {line = []} before at short some printed = absurd (omega arith)
+  text_ended_within {now} {line = b ∷ line} {ended = ended} before at short some printed =
       told_lines start (before.texts ++ (b ∷ line) ∷ []) (before.texts ++ lines (b ∷ line))
       (cut_ended start now before.texts (b ∷ line) ended before.cut at short)
-      (ap (λ (z : List (List ℕ)). before.texts ++ z) (sym (line_last b line before.whole))) (told_append before.told told)
+      (ap (λ (z : List (List ℕ)). before.texts ++ z) (sym (line_last b line before.whole))) (told_append before.printed printed)
 
 -- ---- numbers and prefixes, in the code's terms
 

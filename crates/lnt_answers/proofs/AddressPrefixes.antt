@@ -23,24 +23,24 @@ module _ {index : Indexed} {op : ℕ} where
   begun_told : {texts : List (List ℕ)} {old new : Option (List ℕ)} {s t : Status} → AreLinesPrinted index op texts old new s t
       → AreLinesBegun index op texts old new
   begun_told {old = old} {new = new} all = record {
-    told = all.told;
+    named = all.named;
     lines_are = all.lines_are;
     so = all.so;
-    prefix = λ selection is. prefix_all old new (flat_map (printed_line index selection) all.told) (all.printed selection is);
+    prefix = λ selection is. prefix_all old new (flat_map (printed_line index selection) all.named) (all.printed selection is);
   }
 
   -- those before some of which a prefix was written
   begun_append : {xs ys : List (List ℕ)} {old now new : Option (List ℕ)} {s t : Status} → AreLinesPrinted index op xs old now s t
       → AreLinesBegun index op ys now new → AreLinesBegun index op (xs ++ ys) old new
   begun_append {xs} {ys} {old} {now} {new} a b = record {
-    told = a.told ++ b.told;
-    lines_are = map-append (λ line. line.0) a.told b.told ∙ ap (λ (z : List (List ℕ)). z ++ map (λ line. line.0) b.told) a.lines_are
+    named = a.named ++ b.named;
+    lines_are = map-append (λ line. line.0) a.named b.named ∙ ap (λ (z : List (List ℕ)). z ++ map (λ line. line.0) b.named) a.lines_are
         ∙ ap (λ (z : List (List ℕ)). xs ++ z) b.lines_are;
-    so = all_append (NamesPositionIfAny op) a.told b.told a.so b.so;
+    so = all_append (NamesPositionIfAny op) a.named b.named a.so b.so;
     prefix = λ selection is.
         let text = printed_line index selection in
-        prefix_same old new _ _ (sym (flat_map-append text a.told b.told))
-        (prefix_after old now new (flat_map text a.told) (flat_map text b.told) (a.printed selection is) (b.prefix selection is));
+        prefix_same old new _ _ (sym (flat_map-append text a.named b.named))
+        (prefix_after old now new (flat_map text a.named) (flat_map text b.named) (a.printed selection is) (b.prefix selection is));
   }
 
   -- Others follow, whatever they tell: what was appended of these is a prefix of what is printed of all of them.
@@ -49,30 +49,30 @@ module _ {index : Indexed} {op : ℕ} where
   begun_before {xs} {old} {new} ys begun =
       let others = tell_lines op ys in
       record {
-        told = begun.told ++ others.0;
-        lines_are = map-append (λ line. line.0) begun.told others.0 ∙ ap (λ (z : List (List ℕ)). z ++ map (λ line. line.0) others.0) begun.lines_are
+        named = begun.named ++ others.0;
+        lines_are = map-append (λ line. line.0) begun.named others.0 ∙ ap (λ (z : List (List ℕ)). z ++ map (λ line. line.0) others.0) begun.lines_are
             ∙ ap (λ (z : List (List ℕ)). xs ++ z) others.1.0;
-        so = all_append (NamesPositionIfAny op) begun.told others.0 begun.so others.1.1;
+        so = all_append (NamesPositionIfAny op) begun.named others.0 begun.so others.1.1;
         prefix = λ selection is.
             let text = printed_line index selection in
-            prefix_same old new _ _ (sym (flat_map-append text begun.told others.0))
-            (prefix_before old new (flat_map text begun.told) (flat_map text others.0) (begun.prefix selection is));
+            prefix_same old new _ _ (sym (flat_map-append text begun.named others.0))
+            (prefix_before old new (flat_map text begun.named) (flat_map text others.0) (begun.prefix selection is));
       }
 
   -- nothing was written
   pub begun_nothing : (texts : List (List ℕ)) (old : Option (List ℕ)) → AreLinesBegun index op texts old old
   begun_nothing texts old =
-      begun_before {xs = []} texts (record { told = []; lines_are = refl; so = tt; prefix = λ selection is. prefix_none old [] })
+      begun_before {xs = []} texts (record { named = []; lines_are = refl; so = tt; prefix = λ selection is. prefix_none old [] })
 
   -- within their lines, which were made in an empty buffer
   begun_sending : {texts : List (List ℕ)} {none made : List ℕ} {old new : Option (List ℕ)} {s t : Status}
       → AreLinesPrinted index op texts (Some none) (Some made) s t → none ≡ [] → AppendsPrefix old new made → AreLinesBegun index op texts old new
   begun_sending {none = none} {made = made} {old = old} {new = new} all empty prefix = record {
-    told = all.told;
+    named = all.named;
     lines_are = all.lines_are;
     so = all.so;
     prefix = λ selection is. prefix_same old new made _
-        (text_in_room none made made (flat_map (printed_line index selection) all.told) empty (all.printed selection is) refl) prefix;
+        (text_in_room none made made (flat_map (printed_line index selection) all.named) empty (all.printed selection is) refl) prefix;
   }
 
   -- ---- the first lines of a text
@@ -81,7 +81,7 @@ module _ {index : Indexed} {op : ℕ} where
   pub first_kept : {text rest : List ℕ} {old new : Option (List ℕ)} {s t : Status} → AreFirstPrinted index op text rest old new s t
       → AreFirstBegun index op text old new
   first_kept {rest = rest} first =
-      record { texts = first.texts; begun = begun_told first.told; cut = λ more. (lines (rest ++ more), sym (first.cut more)) }
+      record { texts = first.texts; begun = begun_told first.printed; cut = λ more. (lines (rest ++ more), sym (first.cut more)) }
 
   -- within those after some
   pub first_stopped : {text mid rest none made : List ℕ} {old now new : Option (List ℕ)} {s t u : Status}
@@ -89,7 +89,7 @@ module _ {index : Indexed} {op : ℕ} where
       → AppendsPrefix now new made → AreFirstBegun index op text old new
   first_stopped {rest = rest} a b empty prefix = record {
     texts = a.texts ++ b.texts;
-    begun = begun_append a.told (begun_sending b.told empty prefix);
+    begun = begun_append a.printed (begun_sending b.printed empty prefix);
     cut = λ more. (
       lines (rest ++ more),
       append_assoc a.texts b.texts (lines (rest ++ more)) ∙ ap (λ (z : List (List ℕ)). a.texts ++ z) (sym (b.cut more)) ∙ sym (a.cut more),
@@ -115,7 +115,7 @@ pub text_kept_begun : {index : Indexed} {op : ℕ} {start now : Option (List ℕ
 text_kept_begun {start = None} before = tt
 text_kept_begun {start = Some text} {now = None} before = absurd before.cut
 text_kept_begun {start = Some text} {now = Some rest} {line = line} {old = old} {new = new} before =
-    begun_in (Some text) before.texts (lines (line ++ rest)) old new (sym before.cut) (begun_told before.told)
+    begun_in (Some text) before.texts (lines (line ++ rest)) old new (sym before.cut) (begun_told before.printed)
 
 -- within a block
 pub text_stopped : {index : Indexed} {op : ℕ} {start mid : Option (List ℕ)} {line : List ℕ} {old then new : Option (List ℕ)} {s : Status}
@@ -130,7 +130,7 @@ text_stopped {start = Some text} {mid = Some x} {line = line} {old = old} {new =
     (append_assoc before.texts begun.texts after.0 ∙ ap (λ (z : List (List ℕ)). before.texts ++ z) after.1
     ∙ sym (before.cut ∙ ap (λ (z : List ℕ). before.texts ++ lines (line ++ z)) pulls
     ∙ ap (λ (z : List ℕ). before.texts ++ lines z) (sym (append_assoc line block y))))
-    (begun_append before.told begun.begun)
+    (begun_append before.printed begun.begun)
 
 -- within the answer to a last line without a line feed
 pub last_stopped : {index : Indexed} {op : ℕ} {start now : Option (List ℕ)} {line : List ℕ} {old then new : Option (List ℕ)} {s : Status}
@@ -141,7 +141,7 @@ last_stopped {start = start} {now = now} {line = b ∷ line} {old = old} {new = 
     let texts = before.texts ++ (b ∷ line) ∷ [] in
     begun_in start texts [] old new
     (last_in start texts (before.texts ++ lines (b ∷ line)) (cut_ended start now before.texts (b ∷ line) ended before.cut at short)
-    (ap (λ (z : List (List ℕ)). before.texts ++ z) (sym (line_last b line before.whole)))) (begun_append before.told begun)
+    (ap (λ (z : List (List ℕ)). before.texts ++ z) (sym (line_last b line before.whole)))) (begun_append before.printed begun)
   where
     last_in : (start : Option (List ℕ)) (texts all : List (List ℕ)) → IfSome start (λ text. lines text ≡ all) → texts ≡ all
         → IfSome start (λ text. texts ++ [] ≡ lines text)

@@ -33,7 +33,7 @@ decide_position : (op : ℕ) (line : List ℕ) → ((place : Position) × NamesP
     ⊎ ((place : Position) → NamesPosition op line place → ⊥)
 decide_position op line = decide_position_at op line (position (λ byte. byte == 44) line)
 
-tell_line : (op : ℕ) (line : List ℕ) → (told : Option Position) × NamesPositionIfAny op (line, told)
+tell_line : (op : ℕ) (line : List ℕ) → (named : Option Position) × NamesPositionIfAny op (line, named)
 tell_line op line = elim (decide_position op line) [
   | inl place ↦ (Some place.0, place.1)
   | inr other ↦ (None, other)
@@ -69,8 +69,8 @@ one_told op line (Some p) (Some q) a b =
 one_named_position : (op : ℕ) (a b : List (List ℕ × Option Position)) → map (λ line. line.0) a ≡ map (λ line. line.0) b
     → AllByRecursion (NamesPositionIfAny op) a → AllByRecursion (NamesPositionIfAny op) b → a ≡ b
 one_named_position op [] [] e s t = refl
-one_named_position op [] (told ∷ b) e s t = absurd cc
-one_named_position op (told ∷ a) [] e s t = absurd cc
+one_named_position op [] (line ∷ b) e s t = absurd cc
+one_named_position op (line ∷ a) [] e s t = absurd cc
 one_named_position op ((line, p) ∷ a) ((other, q) ∷ b) e s t =
     let lines_are : line ∷ map (λ line. line.0) a ≡ other ∷ map (λ line. line.0) b = e in
     let same_line : line ≡ other = cc in

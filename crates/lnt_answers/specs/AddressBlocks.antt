@@ -33,7 +33,7 @@ pub record BeginsWithLine (op : ℕ) (text : List ℕ) (position : Position) (re
 -- The first lines of the text were answered, up to the rest of it.
 pub record AreFirstPrinted (index : Indexed) (op : ℕ) (text rest : List ℕ) (old new : Option (List ℕ)) (before after : Status) : Type 0 where
   pub texts : List (List ℕ)
-  pub told : AreLinesPrinted index op texts old new before after
+  pub printed : AreLinesPrinted index op texts old new before after
   pub cut : (more : List ℕ) → lines (text ++ more) ≡ texts ++ lines (rest ++ more)
 
 -- The writer stopped: what was written is a prefix of what is printed for some of the first lines of the text, whatever follows it.

@@ -30,17 +30,17 @@ line_status status None = No
 -- and after several
 abbrev pub lines_status : Status → List (List ℕ × Option Position) → Status
 lines_status status [] = status
-lines_status status (told ∷ more) = lines_status (line_status status told.1) more
+lines_status status (named ∷ more) = lines_status (line_status status named.1) more
 
 -- What was appended to a writer that held these bytes (old) is what is printed for each of these lines in their order, and
 -- nothing else. The operation index is op for a line without one.
 pub record AreLinesPrinted (index : Indexed) (op : ℕ) (texts : List (List ℕ)) (old new : Option (List ℕ)) (before after : Status) : Type
     0 where
-  pub told : List (List ℕ × Option Position)
-  pub lines_are : map (λ line. line.0) told ≡ texts
-  pub so : AllByRecursion (NamesPositionIfAny op) told
-  pub printed : OfUnits index (λ selection. Appends old new (flat_map (printed_line index selection) told))
-  pub status_is : after ≡ lines_status before told
+  pub named : List (List ℕ × Option Position)
+  pub lines_are : map (λ line. line.0) named ≡ texts
+  pub so : AllByRecursion (NamesPositionIfAny op) named
+  pub printed : OfUnits index (λ selection. Appends old new (flat_map (printed_line index selection) named))
+  pub status_is : after ≡ lines_status before named
 
 -- If the source's bytes are known (text), this holds for the text's lines. A line ends with a line feed, which includes one
 -- carriage return before it, or with the text.
@@ -52,10 +52,10 @@ AreAddressesPrinted index op text old new status = IfSome text (λ bytes. AreLin
 -- What was appended to a writer that held these bytes (old) is a prefix of what is printed for each of these lines in their order,
 -- and nothing else.
 pub record AreLinesBegun (index : Indexed) (op : ℕ) (texts : List (List ℕ)) (old new : Option (List ℕ)) : Type 0 where
-  pub told : List (List ℕ × Option Position)
-  pub lines_are : map (λ line. line.0) told ≡ texts
-  pub so : AllByRecursion (NamesPositionIfAny op) told
-  pub prefix : OfUnits index (λ selection. AppendsPrefix old new (flat_map (printed_line index selection) told))
+  pub named : List (List ℕ × Option Position)
+  pub lines_are : map (λ line. line.0) named ≡ texts
+  pub so : AllByRecursion (NamesPositionIfAny op) named
+  pub prefix : OfUnits index (λ selection. AppendsPrefix old new (flat_map (printed_line index selection) named))
 
 -- If the source's bytes are known (text), this holds for all the text's lines, including those that weren't read yet. Their
 -- positions are a function of the lines (`laws::one_answer`): so a text has one whole answer, of which this is a prefix.

@@ -6,11 +6,11 @@ use Rattle.lnt_answers.specs.AddressLines.{NamesPositionIfAny}
 
 -- These lines contain these positions, or none.
 abbrev pub AreNamedPositions : ℕ → List (List ℕ) → List (List ℕ × Option Position) → Type 0
-AreNamedPositions op texts told = (map (λ line. line.0) told ≡ texts) × AllByRecursion (NamesPositionIfAny op) told
+AreNamedPositions op texts named = (map (λ line. line.0) named ≡ texts) × AllByRecursion (NamesPositionIfAny op) named
 
 -- Each line contains some position or none.
 abbrev pub SomeNamedPositions : Type 0
-SomeNamedPositions = (op : ℕ) (texts : List (List ℕ)) → (told : List (List ℕ × Option Position)) × AreNamedPositions op texts told
+SomeNamedPositions = (op : ℕ) (texts : List (List ℕ)) → (named : List (List ℕ × Option Position)) × AreNamedPositions op texts named
 
 -- Lines contain only one such list of positions.
 abbrev pub OneNamedPositions : Type 0

@@ -93,35 +93,35 @@ IsSoByPath index selection table IsSo = IsTableWhere by_path path_span_answer (�
 -- The bytes begin with the header of neither version 1 nor 2, and this is their first fault as a table by path: `Header` if
 -- they begin with the header of neither version 3 nor 4.
 abbrev pub IsFaultByPath : List ℕ → TableFault → Type 0
-IsFaultByPath table told = IsUnnumbered table × IsPathFault table told
+IsFaultByPath table found = IsUnnumbered table × IsPathFault table found
 
 -- What is reported is true of the bytes: the stretches in the scope at which the answers differ, or its first fault. Of bytes with the
 -- header of version 1 or 2 it is Faulty or Printed, of all others FaultyByPath or PrintedByPath.
 abbrev pub AreStretchesOf : Scope → Indexed → Selection → List ℕ → Option (List ℕ) → Option (List ℕ) → Stretches → Type 0
-AreStretchesOf scope index selection table old new (Faulty told) = IsFault table told × (told ≢ fault.Header)
+AreStretchesOf scope index selection table old new (Faulty found) = IsFault table found × (found ≢ fault.Header)
 AreStretchesOf scope index selection table old new (Printed status) = IsSoOfRows selection table
     (λ by_section by_table. AreStretchesPrinted stretch_line scope by_section by_table old new status)
-AreStretchesOf scope index selection table old new (FaultyByPath told) = IsFaultByPath table told
+AreStretchesOf scope index selection table old new (FaultyByPath found) = IsFaultByPath table found
 AreStretchesOf scope index selection table old new (PrintedByPath status) = IsSoByPath index selection table
     (λ by_section by_table. AreStretchesPrinted path_stretch_line scope by_section by_table old new status)
 
 -- it is true whatever the units are that the index was made of, where the table's bytes are known
 abbrev pub AreStretchesOfIndex : Scope → Indexed → Option (List ℕ) → Option (List ℕ) → Option (List ℕ) → Stretches → Type 0
-AreStretchesOfIndex scope index table old new told = OfUnits index (λ selection. IfSome table (λ text.
-    AreStretchesOf scope index selection text old new told))
+AreStretchesOfIndex scope index table old new found = OfUnits index (λ selection. IfSome table (λ text.
+    AreStretchesOf scope index selection text old new found))
 
 -- What was appended to a writer that held these bytes is the line of what is wrong with the table, if something is.
 abbrev pub IsFaultPrinted : Stretches → Option (List ℕ) → Option (List ℕ) → Type 0
-IsFaultPrinted (Faulty told) old new = Appends old new (table_no_text (no_of_fault told) ++ codes "\n")
+IsFaultPrinted (Faulty found) old new = Appends old new (table_no_text (no_of_fault found) ++ codes "\n")
 IsFaultPrinted (Printed status) old new = Unit {0}
-IsFaultPrinted (FaultyByPath told) old new = Appends old new (table_no_text (no_of_fault told) ++ codes "\n")
+IsFaultPrinted (FaultyByPath found) old new = Appends old new (table_no_text (no_of_fault found) ++ codes "\n")
 IsFaultPrinted (PrintedByPath status) old new = Unit {0}
 
 -- how a run that reports it ends
 abbrev pub outcome_status : Stretches → Status
-outcome_status (Faulty told) = ending.No
+outcome_status (Faulty found) = ending.No
 outcome_status (Printed status) = status
-outcome_status (FaultyByPath told) = ending.No
+outcome_status (FaultyByPath found) = ending.No
 outcome_status (PrintedByPath status) = status
 
 -- ---- where the writer stopped
@@ -130,7 +130,7 @@ outcome_status (PrintedByPath status) = status
 -- What was written is a prefix of what might have been reported of the table.
 abbrev pub AreStretchesBegun : Scope → Indexed → Selection → List ℕ → Option (List ℕ) → Option (List ℕ) → Type 0
 AreStretchesBegun scope index selection table old new =
-    HasBegun (λ end told. AreStretchesOf scope index selection table old end told × IsFaultPrinted told old end) old new
+    HasBegun (λ end found. AreStretchesOf scope index selection table old end found × IsFaultPrinted found old end) old new
 
 -- it is, whatever the units are that the index was made of, where the table's bytes are known; or nothing was written
 abbrev pub BeginsStretches : Scope → Indexed → Option (List ℕ) → Option (List ℕ) → Option (List ℕ) → Type 0

@@ -56,7 +56,7 @@ IsUnreadable finds path = (IsUtf8 path → ⊥) ⊎ (path ≡ codes "-") ⊎ fin
 abbrev pub IsTrueOfFile : (List ℕ → FileState → Type 0) → List ℕ → List ℕ → Option Agreement → Type 0
 IsTrueOfFile finds path listed None = IsUnreadable finds path
 IsTrueOfFile finds path listed (Some agreement) =
-    (told : Option (List ℕ)) × finds path (Readable told) × IfSome told (λ bytes. Agrees agreement (md5 bytes) listed)
+    (found : Option (List ℕ)) × finds path (Readable found) × IfSome found (λ bytes. Agrees agreement (md5 bytes) listed)
 
 -- The finding is true of the file at its listed path and of its listed sum.
 abbrev pub IsTrueFinding : (List ℕ → FileState → Type 0) → Indexed → Finding → Type 0

@@ -20,6 +20,6 @@ abbrev pub checked_status : CheckedWithin → Status
 checked_status (Printed (Numbered Yes)) = status.Done
 checked_status (Printed (Numbered (No reason))) = status.No
 checked_status (Printed (ByPath Same)) = status.Done
-checked_status (Printed (ByPath (Fault told))) = status.No
+checked_status (Printed (ByPath (Fault found))) = status.No
 checked_status (Printed (ByPath (Differs difference))) = status.No
 checked_status (Covered coverage) = status.Done

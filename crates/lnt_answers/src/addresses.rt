@@ -42,7 +42,7 @@ pub fn print_addresses<T: Source, W: Write>(
     out: &mut W,
 ) -> Result<Status, IoStop>
     requires { T.failures lines.old < 2 ^ 64 - 1 }
-    ensures told { IfOk result (λ status. AreAddressesPrinted index.now op (T.remaining lines.old)
+    ensures printed { IfOk result (λ status. AreAddressesPrinted index.now op (T.remaining lines.old)
         (W.contents out.old) (W.contents out.new) status) }
     ensures begun { OnErr result (AreAddressesBegun index.now op (T.remaining lines.old) (W.contents out.old) (W.contents out.new)) }
     ensures read { IsErrOf result io_stop.Read → T.failures lines.new ≡ T.failures lines.old + 1 }
@@ -109,7 +109,7 @@ impl Asked {
         requires line { HasNo 10 self.old.line.items }
         requires none { self.old.answers.lines.items ≡ [] }
         ensures err { IfErr result IsPrinting }
-        ensures told { OnOk result (AreFirstPrinted lookups.old self.old.answers.op (self.old.line.items ++ block.now) self.new.line.items
+        ensures printed { OnOk result (AreFirstPrinted lookups.old self.old.answers.op (self.old.line.items ++ block.now) self.new.line.items
             (W.contents out.old) (W.contents out.new) self.old.answers.status self.new.answers.status) }
         ensures stopped { OnErr result (AreFirstBegun lookups.old self.old.answers.op (self.old.line.items ++ block.now)
             (W.contents out.old) (W.contents out.new)) }
@@ -135,7 +135,7 @@ impl Asked {
         lookups: &mut CachedLookups<'_, '_>,
         bytes: &[u8],
     ) -> Result<(), AllocError>
-        ensures told { OnOk result (AreLinesPrinted lookups.old self.old.answers.op
+        ensures printed { OnOk result (AreLinesPrinted lookups.old self.old.answers.op
             (strip_carriage_return (self.old.line.items ++ bytes.now) ∷ [])
             (Some self.old.answers.lines.items) (Some self.new.answers.lines.items) self.old.answers.status self.new.answers.status) }
         ensures begun { OnOk result (self.new.line.items ≡ []) }
@@ -158,7 +158,7 @@ impl Asked {
     ) -> Result<(), IoStop>
         requires { self.old.answers.lines.items ≡ [] }
         ensures err { IfErr result IsPrinting }
-        ensures told { OnOk result (AreLinesPrinted lookups.old self.old.answers.op (self.old.line.items ∷ [])
+        ensures printed { OnOk result (AreLinesPrinted lookups.old self.old.answers.op (self.old.line.items ∷ [])
             (W.contents out.old) (W.contents out.new) self.old.answers.status self.new.answers.status) }
         ensures stopped { OnErr result (AreLinesBegun lookups.old self.old.answers.op (self.old.line.items ∷ [])
             (W.contents out.old) (W.contents out.new)) }
@@ -187,7 +187,7 @@ impl Answers {
         lookups: &mut CachedLookups<'_, '_>,
         text: &'t [u8],
     ) -> Result<&'t [u8], AllocError>
-        ensures told { IfOk result (λ rest. AreFirstPrinted lookups.old self.old.op text.now rest.now
+        ensures printed { IfOk result (λ rest. AreFirstPrinted lookups.old self.old.op text.now rest.now
             (Some self.old.lines.items) (Some self.new.lines.items) self.old.status self.new.status) }
         ensures shorter { IfOk result (λ rest. length rest.now ≤ length text.now) }
         ensures same { OnOk result (self.new.op ≡ self.old.op) }
@@ -209,7 +209,7 @@ impl Answers {
         lookups: &mut CachedLookups<'_, '_>,
         text: &'t [u8],
     ) -> Result<Option<&'t [u8]>, AllocError>
-        ensures told { IfOk result (λ found. MatchOption found
+        ensures printed { IfOk result (λ found. MatchOption found
             (AreFirstPrinted lookups.old self.old.op text.now text.now
             (Some self.old.lines.items) (Some self.new.lines.items) self.old.status self.new.status)
             (λ rest. AreFirstPrinted lookups.old self.old.op text.now rest.now
@@ -239,7 +239,7 @@ impl Answers {
         lookups: &mut CachedLookups<'_, '_>,
         line: &[u8],
     ) -> Result<(), AllocError>
-        ensures told { OnOk result (AreLinesPrinted lookups.old self.old.op (line.now ∷ [])
+        ensures printed { OnOk result (AreLinesPrinted lookups.old self.old.op (line.now ∷ [])
             (Some self.old.lines.items) (Some self.new.lines.items) self.old.status self.new.status) }
         ensures same { OnOk result (self.new.op ≡ self.old.op) }
         ensures index { lookups.new ≡ lookups.old }

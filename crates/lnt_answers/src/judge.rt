@@ -28,7 +28,7 @@ pub fn judge_or_refuse<'s, R: Source, W: Write>(
     requires { R.failures section.old < 2 ^ 64 - 1 }
     ensures judged { IfOk result (λ judged. IfSome (R.remaining section.old) (λ bytes.
         IsJudgedIndex strings.now.line.now strings.now.general.now options.now bytes judged)) }
-    ensures told { IfOk result (λ judged. IsReasonPrinted judged (W.contents out.old) (W.contents out.new)) }
+    ensures printed { IfOk result (λ judged. IsReasonPrinted judged (W.contents out.old) (W.contents out.new)) }
     ensures silent { IfOk result (λ judged. IsIndexGiven judged → out.new ≡ out.old) }
     ensures begun { OnErr result (Keeps (W.contents out.old) (W.contents out.new)
         ⊎ HasBegunLine (λ judged. IfSome (R.remaining section.old) (λ bytes.

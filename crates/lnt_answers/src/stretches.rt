@@ -59,8 +59,8 @@ pub fn print_stretches<T: Source, W: Write>(
     out: &mut W,
 ) -> Result<Stretches, IoStop>
     requires { T.failures table.old < 2 ^ 64 - 1 }
-    ensures told { IfOk result (AreStretchesOfIndex scope index.now (T.remaining table.old) (W.contents out.old) (W.contents out.new)) }
-    ensures faulty { IfOk result (λ told. IsFaultPrinted told (W.contents out.old) (W.contents out.new)) }
+    ensures printed { IfOk result (AreStretchesOfIndex scope index.now (T.remaining table.old) (W.contents out.old) (W.contents out.new)) }
+    ensures faulty { IfOk result (λ found. IsFaultPrinted found (W.contents out.old) (W.contents out.new)) }
     ensures failures { CountsFailure ⟦<T as Source>⟧ table.old table.new result IoStop.Read }
     ensures begun { OnErr result (BeginsStretches scope index.now (T.remaining table.old) (W.contents out.old) (W.contents out.new)) }
 {

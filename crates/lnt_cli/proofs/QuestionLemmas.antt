@@ -35,11 +35,11 @@ judged_later finds finds' question old new status (Bad reason) later so = so
 pub of_section : (finds : List ℕ → FileState → Type 0) (from : Judging) (IsSo : List ℕ → List ℕ → Option (List ℕ) → Type 0)
     (line general : List ℕ) (section : Option (List ℕ)) → AreTextsOf finds from line general → finds from.section.now (Readable section)
     → IsSo line general section → IsOfSection finds from IsSo
-of_section finds from IsSo line general section are_texts is_told so = record {
+of_section finds from IsSo line general section are_texts is_found so = record {
   line = line;
   general = general;
   texts = are_texts;
-  of_section = record { bytes = section; is_told = is_told; so = so };
+  of_section = record { bytes = section; is_found = is_found; so = so };
 }
 
 -- the same of another file
@@ -47,5 +47,5 @@ pub of_file : (finds : List ℕ → FileState → Type 0) (from : Judging) (file
     (IsSo : Option (List ℕ) → List ℕ → List ℕ → Option (List ℕ) → Type 0) (line general : List ℕ) (section bytes : Option (List ℕ))
     → AreTextsOf finds from line general → finds from.section.now (Readable section) → finds file (Readable bytes)
     → IsSo bytes line general section → IsOfFile finds from file IsSo
-of_file finds from file IsSo line general section bytes are_texts of_its is_told so =
-    record { bytes = bytes; is_told = is_told; so = of_section finds from (IsSo bytes) line general section are_texts of_its so }
+of_file finds from file IsSo line general section bytes are_texts of_its is_found so =
+    record { bytes = bytes; is_found = is_found; so = of_section finds from (IsSo bytes) line general section are_texts of_its so }

@@ -14,20 +14,20 @@ use Rattle.lnt_cli.proofs.RunLemmas.{IsEndOf}
 told_by_run : (finds : List ℕ → FileState → Type 0) (words : List (List ℕ)) (asked : Asked) (ended : Result Status FileStop)
     (run : Result Status CliStop) (name : List ℕ) → IsEndOf ended run → IsAskedBy words asked
     → IsNamedUnreadable finds asked.request ended name → NameUnreadable finds words run name
-told_by_run finds words asked (Ok status) run name is is_asked (inl told) = absurd told
-told_by_run finds words asked (Err stop) (Ok status) name is is_asked (inl told) = absurd is
-told_by_run finds words asked (Err stop) (Err halted) name is is_asked (inl told) = rw is (inl told)
+told_by_run finds words asked (Ok status) run name is is_asked (inl refuses) = absurd refuses
+told_by_run finds words asked (Err stop) (Ok status) name is is_asked (inl refuses) = absurd is
+told_by_run finds words asked (Err stop) (Err halted) name is is_asked (inl refuses) = rw is (inl refuses)
 told_by_run finds words asked ended run name is is_asked (inr may) = inr (asked, is_asked, may)
 
 before_or_told : {Old : Type 0} (finds : List ℕ → FileState → Type 0) (words : List (List ℕ)) (asked : Asked)
     (ended : Result Status FileStop) (run : Result Status CliStop) (name : List ℕ) → IsEndOf ended run → IsAskedBy words asked
     → Old ⊎ IsNamedUnreadable finds asked.request ended name → Old ⊎ NameUnreadable finds words run name
 before_or_told finds words asked ended run name is is_asked (inl before) = inl before
-before_or_told finds words asked ended run name is is_asked (inr told) = inr (told_by_run finds words asked ended run name is is_asked told)
+before_or_told finds words asked ended run name is is_asked (inr refuses) = inr (told_by_run finds words asked ended run name is is_asked refuses)
 
 -- the same of each file that was refused
 pub run_told : (finds : List ℕ → FileState → Type 0) (words : List (List ℕ)) (asked : Asked) (ended : Result Status FileStop)
     (run : Result Status CliStop) (old new : List ℕ → Type 0) → IsEndOf ended run → IsAskedBy words asked
     → RefusesOnly (IsNamedUnreadable finds asked.request ended) old new → RefusesOnly (NameUnreadable finds words run) old new
-run_told finds words asked ended run old new is is_asked told name refused =
-    before_or_told finds words asked ended run name is is_asked (told name refused)
+run_told finds words asked ended run old new is is_asked refuses name refused =
+    before_or_told finds words asked ended run name is is_asked (refuses name refused)

@@ -16,14 +16,14 @@ use Rattle.lnt_cli.specs.declared.stop.FileStop.{FileStop}
 
 -- Words that aren't a request stop the run.
 pub words_refused : (finds : List ℕ → FileState → Type 0) (words : List (List ℕ)) (old new : Option (List ℕ)) (stop : WordsStop)
-    (told : CliStop) → IsOfWords stop told → (stop ≢ Memory → AskForNothing words) → Keeps old new
-    → IsStopOf finds words old new told
+    (found : CliStop) → IsOfWords stop found → (stop ≢ Memory → AskForNothing words) → Keeps old new
+    → IsStopOf finds words old new found
 words_refused finds words old new stop (Usage text) is refused kept = (refused is, kept)
-words_refused finds words old new stop (File told) is refused kept = rw is ((λ name named. absurd named), inl kept)
+words_refused finds words old new stop (File found) is refused kept = rw is ((λ name named. absurd named), inl kept)
 
 -- how a run ends whose answer ended so
 abbrev pub IsEndOf : Result Status FileStop → Result Status CliStop → Type 0
-IsEndOf ended run = MatchResult ended (λ status. run ≡ Ok status) (λ stop. IsErrAnd run (λ told. told ≡ File stop))
+IsEndOf ended run = MatchResult ended (λ status. run ≡ Ok status) (λ stop. IsErrAnd run (λ found. found ≡ File stop))
 
 -- The answer to the request is the answer to the words.
 pub words_answered : (finds : List ℕ → FileState → Type 0) (words : List (List ℕ)) (asked : Asked) (old new : Option (List ℕ))
@@ -31,7 +31,7 @@ pub words_answered : (finds : List ℕ → FileState → Type 0) (words : List (
     → IfOk ended (IsAnswered finds asked.request old new) → IfOk run (AnswersWords finds words old new)
 words_answered finds words asked old new (Ok status) run is is_asked so = rw is (asked, is_asked, so)
 words_answered finds words asked old new (Err stop) (Ok status) is is_asked so = absurd is
-words_answered finds words asked old new (Err stop) (Err told) is is_asked so = tt
+words_answered finds words asked old new (Err stop) (Err found) is is_asked so = tt
 
 -- the same where that answer was stopped
 pub words_stopped : (finds : List ℕ → FileState → Type 0) (words : List (List ℕ)) (asked : Asked) (old new : Option (List ℕ))
@@ -40,5 +40,5 @@ pub words_stopped : (finds : List ℕ → FileState → Type 0) (words : List (L
     → IfErr run (IsStopOf finds words old new)
 words_stopped finds words asked old new (Ok status) run is is_asked named stopped = rw is tt
 words_stopped finds words asked old new (Err stop) (Ok status) is is_asked named stopped = tt
-words_stopped finds words asked old new (Err stop) (Err told) is is_asked named stopped =
-    rw is ((λ name is_told. (asked, is_asked, named name is_told)), inr (asked, is_asked, stopped))
+words_stopped finds words asked old new (Err stop) (Err found) is is_asked named stopped =
+    rw is ((λ name is_found. (asked, is_asked, named name is_found)), inr (asked, is_asked, stopped))

@@ -13,10 +13,10 @@ text_before before later None None less is = is
 text_before before later None (Some text) less is = is
 text_before before later (Some name) None less is = is
 text_before before later (Some name) (Some text) less is =
-    record { told = is.told; is_told = less name (Readable is.told) is.is_told; same = is.same }
+    record { found = is.found; is_found = less name (Readable is.found) is.is_found; same = is.same }
 
 -- the same bytes
 pub told_of : (order : Order) (size : ℕ) (bytes same : List ℕ) (text old new : Option (List ℕ)) (status : Status) → bytes ≡ same
     → IsUpgradePrinted order size bytes text old new status → IsUpgradePrinted order size same text old new status
-told_of order size bytes same text old new status e told =
-    subst (λ (b : List ℕ). IsUpgradePrinted order size b text old new status) e told
+told_of order size bytes same text old new status e printed =
+    subst (λ (b : List ℕ). IsUpgradePrinted order size b text old new status) e printed

@@ -34,7 +34,7 @@ options_in from = record { order = from.order; dead = from.dead; skip_copies = f
 -- This is true of the bytes of the named file, which may be unknown.
 pub record IsOfBytes (finds : List ℕ → FileState → Type 0) (name : List ℕ) (IsSo : Option (List ℕ) → Type 0) : Type 0 where
   pub bytes : Option (List ℕ)
-  pub is_told : finds name (Readable bytes)
+  pub is_found : finds name (Readable bytes)
   pub so : IsSo bytes
 
 -- the bytes of a string section: those of its file; empty if no file is named

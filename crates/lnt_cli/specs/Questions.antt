@@ -87,10 +87,10 @@ AnswersGood finds Md5 index old new status = AreSumsPrinted finds index (listed_
 -- What is written for a good section with this index and a table: the table's first fault, or all places in the scope where the two
 -- differ.
 pub record AreTableStretchesPrinted (scope : Scope) (index : Indexed) (table old new : Option (List ℕ)) (status : Status) : Type 0 where
-  pub told : Stretches
-  pub fault : IsFaultPrinted told old new
-  pub status_is : status ≡ outcome_status told
-  pub so : AreStretchesOfIndex scope index table old new told
+  pub found : Stretches
+  pub fault : IsFaultPrinted found old new
+  pub status_is : status ≡ outcome_status found
+  pub so : AreStretchesOfIndex scope index table old new found
 
 -- The answer for a good section with this index and another file, of these bytes.
 abbrev pub AnswersGoodFile : FileQuestion → Option (List ℕ) → Indexed → Option (List ℕ) → Option (List ℕ) → Status → Type 0

@@ -31,12 +31,12 @@ use Rattle.lnt_cli.specs.Questions.{BeginsGood, BeginsGoodFile, BeginsJudged, Be
 -- how a run stops whose words aren't a request
 abbrev pub IsOfWords : WordsStop → CliStop → Type 0
 IsOfWords stop (Usage text) = stop ≢ words.Memory
-IsOfWords stop (File told) = told ≡ Memory
+IsOfWords stop (File found) = found ≡ Memory
 
 -- the file with this name can't be read, or is too long
 abbrev pub NamesFile : FileStop → List ℕ → Type 0
-NamesFile (Read told) name = string_bytes told ≡ name
-NamesFile (TooLong told) name = string_bytes told ≡ name
+NamesFile (Read file) name = string_bytes file ≡ name
+NamesFile (TooLong file) name = string_bytes file ≡ name
 NamesFile _ name = ⊥
 
 -- a file that the stop tells is one of these
@@ -67,7 +67,7 @@ IsFileIn (JudgeWith from file question) name = IsFileOfBoth from file.now name
 
 -- the stop says that the file with this name can't be read
 abbrev pub IsUnreadable : FileStop → List ℕ → Type 0
-IsUnreadable (Read told) name = string_bytes told ≡ name
+IsUnreadable (Read file) name = string_bytes file ≡ name
 IsUnreadable _ name = ⊥
 
 -- A file that was refused meanwhile stops the work, and the stop says that this file can't be read.
@@ -93,15 +93,15 @@ IsNamedUnreadable finds request ended name = IsErrAnd ended (λ stop. IsUnreadab
 -- The stop of a run if the work on the file with this name was stopped.
 abbrev pub IsFileStop : IoStop → List ℕ → FileStop → Type 0
 IsFileStop io_stop.Read name stop = IsUnreadable stop name
-IsFileStop io_stop.TooLong name (TooLong told) = string_bytes told ≡ name
+IsFileStop io_stop.TooLong name (TooLong file) = string_bytes file ≡ name
 IsFileStop io_stop.TooLong name stop = ⊥
 IsFileStop io_stop.Write name stop = stop ≡ Write
 IsFileStop io_stop.Memory name stop = stop ≡ Memory
 
 -- The file that a stop names is one that failed, or one that was found too long.
 abbrev pub IsOfCause : (List ℕ → Type 0) → (List ℕ → Type 0) → FileStop → Type 0
-IsOfCause HasFailed IsLong (Read told) = HasFailed (string_bytes told)
-IsOfCause HasFailed IsLong (TooLong told) = IsLong (string_bytes told)
+IsOfCause HasFailed IsLong (Read file) = HasFailed (string_bytes file)
+IsOfCause HasFailed IsLong (TooLong file) = IsLong (string_bytes file)
 IsOfCause HasFailed IsLong _ = Unit {0}
 
 -- ---- what was written if the answer to a request was stopped: nothing, or a prefix of an answer

@@ -42,9 +42,9 @@ impl Texts {
 // depends on the memory that is left then.
 pub(crate) fn of_file<T>(name: String, ended: Result<T, IoStop>) -> Result<T, FileStop>
     ensures ok { IfOk result (λ value. ended ≡ Ok value) }
-    ensures told { IfErr result (λ stop. IfErr ended (λ io_stop. IsFileStop io_stop (string_bytes name) stop)) }
+    ensures reported { IfErr result (λ stop. IfErr ended (λ io_stop. IsFileStop io_stop (string_bytes name) stop)) }
     ensures err { OnErr result (IsErr ended) }
-    ensures named { IfErr result (NamesOneOf (λ told. string_bytes name ≡ told)) }
+    ensures named { IfErr result (NamesOneOf (λ other. string_bytes name ≡ other)) }
 {
     match ended {
         Ok(value) => Ok(value),
@@ -60,7 +60,7 @@ pub(crate) fn open_section<'c, O: Opener>(
     seen: &'c Cell<Seen>,
 ) -> Result<Section<'c, O::Reader>, IoStop>
     ensures failures { IfOk result (λ source. ⟦<Section<'c, O::Reader> as Source>⟧.failures source ≡ 0) }
-    ensures told { IfOk result (λ source. O.finds opener.old name.now (Readable (⟦<Section<'c, O::Reader> as Source>⟧.remaining source))) }
+    ensures found { IfOk result (λ source. O.finds opener.old name.now (Readable (⟦<Section<'c, O::Reader> as Source>⟧.remaining source))) }
     ensures later { FindsNoMore (O.finds opener.old) (O.finds opener.new) }
     ensures refused { RefusesOnly (λ other. IsErrOf result IoStop.Read × (name.now ≡ other)) (O.refused opener.old) (O.refused opener.new) }
 {
@@ -88,7 +88,7 @@ pub(crate) fn open_judged<'c, O: Opener>(
     ensures texts { IfOk result (λ opened.
         AreTextsOf (O.finds opener.old) from.now opened.texts.line.items opened.texts.general.items) }
     ensures failures { IfOk result (λ opened. ⟦<Section<'c, O::Reader> as Source>⟧.failures opened.section ≡ 0) }
-    ensures told { IfOk result (λ opened. O.finds opener.old from.now.section.now
+    ensures found { IfOk result (λ opened. O.finds opener.old from.now.section.now
         (Readable (⟦<Section<'c, O::Reader> as Source>⟧.remaining opened.section))) }
     ensures later { FindsNoMore (O.finds opener.old) (O.finds opener.new) }
     ensures refused { StopsIfRefused result (O.refused opener.old) (O.refused opener.new) }
@@ -108,9 +108,9 @@ pub(crate) fn open_other<O: Opener>(
     opener: &mut O,
     file: &str,
 ) -> Result<Blocks<O::Reader>, FileStop>
-    ensures named { IfErr result (NamesOneOf (λ told. file.now ≡ told)) }
+    ensures named { IfErr result (NamesOneOf (λ other. file.now ≡ other)) }
     ensures fails { IfOk result (λ opened. ⟦<Blocks<O::Reader> as Source>⟧.failures opened ≡ 0) }
-    ensures told { IfOk result (λ opened.
+    ensures found { IfOk result (λ opened.
         O.finds opener.old file.now (Readable (⟦<Blocks<O::Reader> as Source>⟧.remaining opened))) }
     ensures refused { StopsIfRefused result (O.refused opener.old) (O.refused opener.new) }
 {
@@ -170,7 +170,7 @@ fn read_strings<O: Opener>(
 
 // All bytes of the file with this name.
 fn read_file<O: Opener>(alloc: Global, opener: &mut O, name: &str) -> Result<Vec<u8>, FileStop>
-    ensures named { IfErr result (NamesOneOf (λ told. name.now ≡ told)) }
+    ensures named { IfErr result (NamesOneOf (λ other. name.now ≡ other)) }
     ensures bytes { IfOk result (λ bytes. AreBytesOf (O.finds opener.old name.now) bytes.items) }
     ensures later { FindsNoMore (O.finds opener.old) (O.finds opener.new) }
     ensures refused { StopsIfRefused result (O.refused opener.old) (O.refused opener.new) }

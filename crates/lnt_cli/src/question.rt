@@ -201,7 +201,7 @@ fn judge<'t, R: Source, W: Write>(
     requires { R.failures section.old < 2 ^ 64 - 1 }
     ensures named { IfErr result (NamesOneOf (λ name. from.now.section.now ≡ name)) }
     ensures judged { IfOk result (IsTrueOf from.now texts.now.line.items texts.now.general.items (R.remaining section.old)) }
-    ensures told { IfOk result (λ judged. IsReasonPrinted judged (W.contents out.old) (W.contents out.new)) }
+    ensures printed { IfOk result (λ judged. IsReasonPrinted judged (W.contents out.old) (W.contents out.new)) }
     ensures silent { IfOk result (λ judged. IsIndexGiven judged → out.new ≡ out.old) }
     ensures stopped { OnErr result (Keeps (W.contents out.old) (W.contents out.new)
         ⊎ HasBegunLine (IsTrueOf from.now texts.now.line.items texts.now.general.items (R.remaining section.old))

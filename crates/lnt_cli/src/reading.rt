@@ -98,7 +98,7 @@ fn print_reading<R: Source, W: Write>(
     out: &mut W,
 ) -> Result<Status, IoStop>
     requires { R.failures source.old < 2 ^ 64 - 1 }
-    ensures told { IfOk result (AnswersReading order reading (R.remaining source.old) (W.contents out.old) (W.contents out.new)) }
+    ensures printed { IfOk result (AnswersReading order reading (R.remaining source.old) (W.contents out.old) (W.contents out.new)) }
     ensures begun { OnErr result (Keeps (W.contents out.old) (W.contents out.new)
         ⊎ BeginsReading order reading (R.remaining source.old) (W.contents out.old) (W.contents out.new)) }
 {

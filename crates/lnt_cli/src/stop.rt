@@ -43,8 +43,8 @@ pub enum FileStop {
 impl FileStop {
     // The stop if the work on the file with this name was stopped.
     pub(crate) fn of_file(name: String, io_stop: IoStop) -> FileStop
-        ensures told { IsFileStop io_stop (string_bytes name) result }
-        ensures named { NamesOneOf (λ told. string_bytes name ≡ told) result }
+        ensures reported { IsFileStop io_stop (string_bytes name) result }
+        ensures named { NamesOneOf (λ other. string_bytes name ≡ other) result }
     {
         match io_stop {
             IoStop::Read => FileStop::Read(name),

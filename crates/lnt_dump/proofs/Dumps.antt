@@ -165,19 +165,19 @@ keeps_same None = tt
 keeps_same (Some bytes) = refl
 
 module _ {order : Order} {shown : DumpParts} {start now old then : Option (List ℕ)} {of_reader : Order} {offset : ℕ}
-    (told : UnitsPrinted order shown start now old then of_reader offset) where
+    (done : UnitsPrinted order shown start now old then of_reader offset) where
   begins_so : (Ends : List ℕ → Type 0) → IfSome now Ends
-      → IfSome start (λ bytes. (rest : List ℕ) × BeginsWithUnits order shown bytes told.units offset rest × Ends rest)
-  begins_so Ends ends = begins order shown start now told.units of_reader offset Ends told.read told.each ends
+      → IfSome start (λ bytes. (rest : List ℕ) × BeginsWithUnits order shown bytes done.units offset rest × Ends rest)
+  begins_so Ends ends = begins order shown start now done.units of_reader offset Ends done.read done.each ends
 
   -- nothing is left
   pub units_end : SectionEndsBy offset of_reader now None → IsDumped order shown start old then Done
   units_end ends = record {
-    units = told.units;
+    units = done.units;
     offset = offset;
     fault = None;
     so = begins_so (λ rest. rest ≡ []) ends;
-    printed = subst (Appends old then) (sym (append-nil (flat_map (unit_lines shown) told.units))) told.printed;
+    printed = subst (Appends old then) (sym (append-nil (flat_map (unit_lines shown) done.units))) done.printed;
     status_is = refl;
   }
 
@@ -185,22 +185,22 @@ module _ {order : Order} {shown : DumpParts} {start now old then : Option (List 
   ends_faulty : {new : Option (List ℕ)} (fault : RowFault) → IfSome now (λ rest. IsDumpFault order shown offset rest fault)
       → Appends then new (fault_line offset (Some fault)) → IsDumped order shown start old new No
   ends_faulty {new} fault is line = record {
-    units = told.units;
+    units = done.units;
     offset = offset;
     fault = Some fault;
     so = begins_so (λ rest. IsDumpFault order shown offset rest fault) is;
-    printed = Appends-trans old then new (flat_map (unit_lines shown) told.units) (fault_line offset (Some fault)) told.printed line;
+    printed = Appends-trans old then new (flat_map (unit_lines shown) done.units) (fault_line offset (Some fault)) done.printed line;
     status_is = refl;
   }
 
   begun_faulty : {new : Option (List ℕ)} (fault : RowFault) → IfSome now (λ rest. IsDumpFault order shown offset rest fault)
       → AppendsPrefix then new (fault_line offset (Some fault)) → IsDumpBegun order shown start old new
   begun_faulty {new} fault is line = record {
-    units = told.units;
+    units = done.units;
     offset = offset;
     fault = Some fault;
     so = begins_so (λ rest. IsDumpFault order shown offset rest fault) is;
-    begun = prefix_after old then new (flat_map (unit_lines shown) told.units) (fault_line offset (Some fault)) told.printed line;
+    begun = prefix_after old then new (flat_map (unit_lines shown) done.units) (fault_line offset (Some fault)) done.printed line;
   }
 
   pub units_faulty : (new : Option (List ℕ)) (fault : Fault) (printed : Result Status IoStop)
@@ -208,23 +208,23 @@ module _ {order : Order} {shown : DumpParts} {start now old then : Option (List 
       → OnOk printed (Appends then new (malformed_text fault ++ codes "\n")) → IfOk printed (IsDumped order shown start old new)
   units_faulty new fault (Ok status) ends is_no line =
       subst (IsDumped order shown start old new) (sym is_no)
-      (ends_faulty (Malformed fault) (no_frame shown now fault told.read ends) line)
+      (ends_faulty (Malformed fault) (no_frame shown now fault done.read ends) line)
   units_faulty new fault (Err io_stop) ends is_no line = tt
 
   pub units_fault_cut : (new : Option (List ℕ)) (fault : Fault) (printed : Result Status IoStop)
       → SectionEndsBy offset of_reader now (Some fault) → OnErr printed (AppendsPrefix then new (malformed_text fault ++ codes "\n"))
       → OnErr printed (IsDumpBegun order shown start old new)
   units_fault_cut new fault (Ok status) ends line = tt
-  units_fault_cut new fault (Err io_stop) ends line = begun_faulty (Malformed fault) (no_frame shown now fault told.read ends) line
+  units_fault_cut new fault (Err io_stop) ends line = begun_faulty (Malformed fault) (no_frame shown now fault done.read ends) line
 
   -- nothing more is written
   pub units_stopped : {new : Option (List ℕ)} → Keeps then new → IsDumpBegun order shown start old new
   units_stopped {new} kept = record {
-    units = told.units;
+    units = done.units;
     offset = offset;
     fault = None;
     so = begins_so (λ rest. Unit {0}) (any_rest now);
-    begun = prefix_after old then new (flat_map (unit_lines shown) told.units) [] told.printed
+    begun = prefix_after old then new (flat_map (unit_lines shown) done.units) [] done.printed
         (prefix_since then new new [] kept (prefix_none new []));
   }
 
@@ -267,15 +267,15 @@ faulty_unit {order} {offset} shown (Some rest) (Some more) fault is at ordered p
 
 module _ {order : Order} {shown : DumpParts} {start mid now old then : Option (List ℕ)} {of_reader next_order : Order}
     {offset after : ℕ} {unit : BufferedUnit} {frame : Frame} (ordered : next_order ≡ of_reader)
-    (told : UnitsPrinted order shown start mid old then of_reader offset) (n : IsNextFramed of_reader offset after mid now unit frame) where
+    (done : UnitsPrinted order shown start mid old then of_reader offset) (n : IsNextFramed of_reader offset after mid now unit frame) where
   faulty : (fault : RowFault) → IsFaultOf unit shown.rows fault → IfSome mid (λ rest. IsDumpFault order shown offset rest fault)
   faulty fault is =
-      faulty_unit shown mid now fault n.next.whole n.next.offset_is (n.next.order_is ∙ told.read.so_far.order_is) n.next.pulls is
+      faulty_unit shown mid now fault n.next.whole n.next.offset_is (n.next.order_is ∙ done.read.so_far.order_is) n.next.pulls is
 
   dumped : {parts : UnitParts} → UnitBytesIn unit.order parts unit.bytes → (IsTrue shown.rows → Runs parts)
-      → AllByRecursion (IsDumpedUnit order shown) (told.units ++ (frame, parts) ∷ [])
+      → AllByRecursion (IsDumpedUnit order shown) (done.units ++ (frame, parts) ∷ [])
   dumped {parts} spelled runs =
-      all-append (IsDumpedUnit order shown) told.units (frame, parts) told.each (dumped_one told.units ordered told.read n spelled runs)
+      all-append (IsDumpedUnit order shown) done.units (frame, parts) done.each (dumped_one done.units ordered done.read n spelled runs)
 
   -- it was printed
   pub units_more : {new : Option (List ℕ)} {status : Status} → IsUnitPrinted shown frame unit then new status → (status ≡ No → ⊥)
@@ -286,11 +286,11 @@ module _ {order : Order} {shown : DumpParts} {start mid now old then : Option (L
           → UnitsPrinted order shown start now old new next_order after
       by_fault (Some fault) ends is = absurd (goes_on is)
       by_fault None (parts, spelled, runs, text_is) is = record {
-        units = told.units ++ (frame, parts) ∷ [];
-        read = read_unit told.units ordered told.read n parts;
+        units = done.units ++ (frame, parts) ∷ [];
+        read = read_unit done.units ordered done.read n parts;
         each = dumped spelled runs;
-        printed = subst (Appends old new) (flat_push (unit_lines shown) told.units (frame, parts))
-            (Appends-trans old then new (flat_map (unit_lines shown) told.units) (unit_lines shown (frame, parts)) told.printed
+        printed = subst (Appends old new) (flat_push (unit_lines shown) done.units (frame, parts))
+            (Appends-trans old then new (flat_map (unit_lines shown) done.units) (unit_lines shown (frame, parts)) done.printed
             (subst (Appends then new) text_is one.so));
       }
 
@@ -303,33 +303,33 @@ module _ {order : Order} {shown : DumpParts} {start mid now old then : Option (L
           → IsDumped order shown start old new No
       by_fault None ends is = absurd (cc (is_no, is))
       by_fault (Some fault) ends is =
-          ends_faulty told fault (faulty fault ends.0)
+          ends_faulty done fault (faulty fault ends.0)
           (subst (λ (at : ℕ). Appends then new (fault_line at (Some fault))) n.next.offset_is
           (subst (Appends then new) ends.1 one.so))
 
   -- a prefix of it is written
   pub units_cut : {new : Option (List ℕ)} → Keeps then new ⊎ UnitBegun shown frame unit then new → IsDumpBegun order shown start old new
-  units_cut (inl kept) = units_stopped told kept
+  units_cut (inl kept) = units_stopped done kept
   units_cut {new} (inr one) = by_fault one.fault one.ends
     where
       by_fault : (fault : Option RowFault) → UnitEnds shown frame unit fault one.text → IsDumpBegun order shown start old new
       by_fault (Some fault) ends =
-          begun_faulty told fault (faulty fault ends.0)
+          begun_faulty done fault (faulty fault ends.0)
           (subst (λ (at : ℕ). AppendsPrefix then new (fault_line at (Some fault))) n.next.offset_is
           (prefix_same then new one.text (fault_line unit.offset (Some fault)) ends.1 one.so))
       by_fault None (parts, spelled, runs, text_is) =
-          let units = told.units ++ (frame, parts) ∷ [] in
-          let before = flat_map (unit_lines shown) told.units in
+          let units = done.units ++ (frame, parts) ∷ [] in
+          let before = flat_map (unit_lines shown) done.units in
           let lines = flat_map (unit_lines shown) units in
           record {
             units = units;
             offset = after;
             fault = None;
             so = begins order shown start now units next_order after (λ rest. Unit {0})
-                (read_unit told.units ordered told.read n parts) (dumped spelled runs) (any_rest now);
+                (read_unit done.units ordered done.read n parts) (dumped spelled runs) (any_rest now);
             begun = prefix_before old new lines []
                 (prefix_same old new (before ++ unit_lines shown (frame, parts)) lines
-                (flat_push (unit_lines shown) told.units (frame, parts))
-                (prefix_after old then new before (unit_lines shown (frame, parts)) told.printed
+                (flat_push (unit_lines shown) done.units (frame, parts))
+                (prefix_after old then new before (unit_lines shown (frame, parts)) done.printed
                 (prefix_same then new one.text (unit_lines shown (frame, parts)) text_is one.so)));
           }

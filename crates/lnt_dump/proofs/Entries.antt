@@ -35,7 +35,7 @@ pub record AreReadTold (format : Format) (pairs : List Pair) (count : ℕ) (old 
   pub values : List FormValue
   pub count_is : length values ≡ count
   pub read : laws.AreReadTo format pairs count values old now
-  pub told : Appends before after (flat_map component_text (zip (take count pairs) values))
+  pub appended : Appends before after (flat_map component_text (zip (take count pairs) values))
 
 -- the components with one more
 zip_push : (pairs : List Pair) (values : List FormValue) (pair : Pair) (value : FormValue) → length pairs ≡ length values
@@ -61,7 +61,7 @@ module _ {format : Format} {pairs : List Pair} {i : ℕ} {old middle : At} {befo
     values = p.values ++ value ∷ [];
     count_is = omega (arith, length-append p.values (value ∷ []), p.count_is);
     read = laws.read_more format pairs i d p.values value old middle new lt p.read r;
-    told = grind (arith, common_steps, components_push);
+    appended = grind (arith, common_steps, components_push);
   }
 
   pub read_all : {after : Option (List ℕ)} → length pairs ≤ i → Appends between after (codes "\n")
@@ -83,14 +83,14 @@ pub record IsBefore (name : List ℕ) (table : BorrowedTable) (number : ℕ) (at
     : Type 0 where
   pub order_is : at.order ≡ table.order
   pub lies : AreEntryBytes (from_entry number table) at.rest
-  pub told : IsPaged (before ++ numbered (entry_line name table.pairs) 0 (take number table.entries)) old now page
+  pub paged : IsPaged (before ++ numbered (entry_line name table.pairs) 0 (take number table.entries)) old now page
 
 pub at_first : (name : List ℕ) (table : BorrowedTable) (at : At) (page : List ℕ) (out : Option (List ℕ)) → at.order ≡ table.order
     → AreEntryBytes table at.rest → IsBefore name table 0 at page page out out
 at_first name table at page out order lies = record {
   order_is = order;
   lies = lies;
-  told = paged_none page out;
+  paged = paged_none page out;
 }
 
 -- a value that was read is the first of those that are there
@@ -150,7 +150,7 @@ module _ {name : List ℕ} {table : BorrowedTable} {format : Format} {pairs : Li
   line_cut {added = added} {then = then} p f =
       let l = next_line p in
       let line = entry_line name table.pairs in
-      told_next_cut line before table.entries number l.entry lt l.is is.told
+      told_next_cut line before table.entries number l.entry lt l.is is.paged
       (prefix_same now then added (page ++ line number l.entry) l.line f)
 
   pub is_there : NoneSpelled (EntryBytes format at.order pairs) at.rest → ⊥
@@ -162,7 +162,7 @@ module _ {name : List ℕ} {table : BorrowedTable} {number : ℕ} {at : At} {bef
   pub lines_stay : AppendsPrefix old now (before ++ numbered (entry_line name table.pairs) 0 table.entries)
   lines_stay =
       told_prefix (entry_line name table.pairs) before (take number table.entries) (drop number table.entries)
-      (sym (take-append-drop number table.entries)) (paged_kept_prefix is.told)
+      (sym (take-append-drop number table.entries)) (paged_kept_prefix is.paged)
 
   -- all lines were printed
   pub all_told : length table.entries ≤ number → IsPaged (before ++ numbered (entry_line name table.pairs) 0 table.entries) old now page

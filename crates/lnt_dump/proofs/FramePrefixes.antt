@@ -79,39 +79,39 @@ lines_begun {order} {section} {old} {new} {frames} rest f =
 -- nothing more is written
 pub units_stopped : {order : Order} {start now old new : Option (List ℕ)} {of_reader : Order} {offset : ℕ}
     → FramesPrinted order start now old new of_reader offset → IfSome start AreBytes → HasBegun (AreUnitsPrinted order start old) old new
-units_stopped {order} {start} {now} {old} {new} told are =
-    lines_begun (rest_of start now told.read are)
-    (prefix_all old new (flat_map unit_line told.frames) told.printed)
+units_stopped {order} {start} {now} {old} {new} done are =
+    lines_begun (rest_of start now done.read are)
+    (prefix_all old new (flat_map unit_line done.frames) done.printed)
 
 -- of the line of a unit a prefix is written
 pub units_cut : {order : Order} {start mid now old then new : Option (List ℕ)} {of_reader next_order : Order} {offset after : ℕ}
     {unit : BufferedUnit} {frame : Frame} → next_order ≡ of_reader → FramesPrinted order start mid old then of_reader offset
     → IsNextFramed of_reader offset after mid now unit frame → AppendsPrefix then new (unit_line frame) → IfSome start AreBytes
     → HasBegun (AreUnitsPrinted order start old) old new
-units_cut {start = start} {now = now} {old = old} {then = then} {new = new} {frame = frame} ordered told n f are =
-    let before = flat_map unit_line told.frames in
-    lines_begun (rest_of start now (read_more ordered told.read n) are)
-    (prefix_same old new (before ++ unit_line frame) (flat_map unit_line (told.frames ++ frame ∷ []))
-    (flat_push unit_line told.frames frame) (prefix_after old then new before (unit_line frame) told.printed f))
+units_cut {start = start} {now = now} {old = old} {then = then} {new = new} {frame = frame} ordered done n f are =
+    let before = flat_map unit_line done.frames in
+    lines_begun (rest_of start now (read_more ordered done.read n) are)
+    (prefix_same old new (before ++ unit_line frame) (flat_map unit_line (done.frames ++ frame ∷ []))
+    (flat_push unit_line done.frames frame) (prefix_after old then new before (unit_line frame) done.printed f))
 
 -- of the line of the fault
 pub fault_cut : {order : Order} {start now old then : Option (List ℕ)} {of_reader : Order} {offset : ℕ} (new : Option (List ℕ))
     (fault : Fault) (printed : Result Status IoStop) → FramesPrinted order start now old then of_reader offset
     → SectionEndsBy offset of_reader now (Some fault) → OnErr printed (AppendsPrefix then new (end_line (Some fault)))
     → OnErr printed (IfSome start AreBytes → HasBegun (AreUnitsPrinted order start old) old new)
-fault_cut new fault (Ok status) told ends f = tt
-fault_cut {order} {start} {now} {old} {then} new fault (Err io_stop) told ends f =
-    let before = flat_map unit_line told.frames in
+fault_cut new fault (Ok status) done ends f = tt
+fault_cut {order} {start} {now} {old} {then} new fault (Err io_stop) done ends f =
+    let before = flat_map unit_line done.frames in
     let end = end_line (Some fault) in
     λ are. record {
       whole = before ++ end;
       ending = fault_status (Some fault);
       is_end = record {
-        frames = told.frames;
+        frames = done.frames;
         fault = Some fault;
-        so = frames_end start now (Some fault) told.read ends;
+        so = frames_end start now (Some fault) done.read ends;
         printed = appends_known old (before ++ end);
         status_is = refl;
       };
-      prefix = prefix_after old then new before end told.printed f;
+      prefix = prefix_after old then new before end done.printed f;
     }

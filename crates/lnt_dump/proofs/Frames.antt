@@ -105,11 +105,11 @@ pub frames_more : {order : Order} {start mid now old then new : Option (List ℕ
     {unit : BufferedUnit} {frame : Frame} → next_order ≡ of_reader → FramesPrinted order start mid old then of_reader offset
     → IsNextFramed of_reader offset after mid now unit frame → Appends then new (unit_line frame)
     → FramesPrinted order start now old new next_order after
-frames_more {old = old} {then = then} {new = new} {frame = frame} ordered told n printed = record {
-  frames = told.frames ++ frame ∷ [];
-  read = read_more ordered told.read n;
-  printed = subst (Appends old new) (flat_push unit_line told.frames frame)
-      (Appends-trans old then new (flat_map unit_line told.frames) (unit_line frame) told.printed printed);
+frames_more {old = old} {then = then} {new = new} {frame = frame} ordered done n printed = record {
+  frames = done.frames ++ frame ∷ [];
+  read = read_more ordered done.read n;
+  printed = subst (Appends old new) (flat_push unit_line done.frames frame)
+      (Appends-trans old then new (flat_map unit_line done.frames) (unit_line frame) done.printed printed);
 }
 
 pub frames_end : {order : Order} {frames : List Frame} {of_reader : Order} {offset : ℕ} (start now : Option (List ℕ)) (fault : Option Fault)
@@ -133,11 +133,11 @@ frames_end {of_reader = of_reader} (Some bytes) (Some rest) fault read ends =
 pub frames_all : {order : Order} {start now old then new : Option (List ℕ)} {of_reader : Order} {offset : ℕ} {status : Status}
     (fault : Option Fault) → FramesPrinted order start now old then of_reader offset → SectionEndsBy offset of_reader now fault
     → Appends then new (end_line fault) → status ≡ fault_status fault → AreUnitsPrinted order start old new status
-frames_all {order} {start} {now} {old} {then} {new} fault told ends printed ended = record {
-  frames = told.frames;
+frames_all {order} {start} {now} {old} {then} {new} fault done ends printed ended = record {
+  frames = done.frames;
   fault = fault;
-  so = frames_end start now fault told.read ends;
-  printed = Appends-trans old then new (flat_map unit_line told.frames) (end_line fault) told.printed printed;
+  so = frames_end start now fault done.read ends;
+  printed = Appends-trans old then new (flat_map unit_line done.frames) (end_line fault) done.printed printed;
   status_is = ended;
 }
 
@@ -146,6 +146,6 @@ pub frames_faulty : {order : Order} {start now old then : Option (List ℕ)} {of
     (fault : Fault) (printed : Result Status IoStop) → FramesPrinted order start now old then of_reader offset
     → SectionEndsBy offset of_reader now (Some fault) → IfOk printed (λ status. status ≡ No)
     → OnOk printed (Appends then new (end_line (Some fault))) → IfOk printed (λ status. AreUnitsPrinted order start old new status)
-frames_faulty new fault (Ok status) told ends refused line =
-    frames_all (Some fault) told ends line refused
-frames_faulty new fault (Err io_stop) told ends refused line = line
+frames_faulty new fault (Ok status) done ends refused line =
+    frames_all (Some fault) done ends line refused
+frames_faulty new fault (Err io_stop) done ends refused line = line

@@ -44,7 +44,7 @@ module _ (frame : Frame) (header : HeaderParts) (numbers : NumberParts) (directo
   -- the files after them
   module _ (files : BorrowedTable) (page2 : List ℕ) (old now new : Option (List ℕ))
       (file_pairs : files.pairs ≡ header.file_format) (files_are : files.entries ≡ header.files)
-      (told : IsPaged (page1 ++ numbered (entry_line (codes "dir") directories.pairs) 0 directories.entries) old now page2) where
+      (paged : IsPaged (page1 ++ numbered (entry_line (codes "dir") directories.pairs) 0 directories.entries) old now page2) where
     with_files : (page1 ++ table_lines (codes "dir") directories) ++ table_lines (codes "file") files ≡ page ++ header_lines frame header
     with_files = grind (arith, common_steps, all_parts, table_is)
 
@@ -62,4 +62,4 @@ module _ (frame : Frame) (header : HeaderParts) (numbers : NumberParts) (directo
     files_cut (Ok done) f = f
     files_cut (Err error) f =
         prefix_same old new ((page1 ++ table_lines (codes "dir") directories) ++ table_lines (codes "file") files)
-        (page ++ header_lines frame header) with_files (paged_prefix (table_lines (codes "file") files) told f)
+        (page ++ header_lines frame header) with_files (paged_prefix (table_lines (codes "file") files) paged f)

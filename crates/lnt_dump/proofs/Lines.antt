@@ -30,11 +30,11 @@ digits_fewer rest piece more count some split = omega (arith, some, split.4)
 pub record AreDigitsTold (bytes rest : List ℕ) (old new : Option (List ℕ)) : Type 0 where
   pub prefix : List ℕ
   pub joined : bytes ≡ prefix ++ rest
-  pub told : Appends old new (encode_lower prefix)
+  pub appended : Appends old new (encode_lower prefix)
 
 pub digits_none : (bytes : List ℕ) (out : Option (List ℕ)) → AreDigitsTold bytes bytes out out
 unfolding encode_with
-digits_none bytes out = record { prefix = []; joined = refl; told = Appends-nil out }
+digits_none bytes out = record { prefix = []; joined = refl; appended = Appends-nil out }
 
 pub digits_more : {bytes rest : List ℕ} {old now : Option (List ℕ)} (piece more : List ℕ) (count : ℕ) (new : Option (List ℕ))
     → AreDigitsTold bytes rest old now
@@ -42,7 +42,7 @@ pub digits_more : {bytes rest : List ℕ} {old now : Option (List ℕ)} (piece m
 digits_more {rest = rest} {old = old} {now = now} piece more count new is split printed = record {
   prefix = is.prefix ++ piece;
   joined = is.joined ∙ ap (λ (z : List ℕ). is.prefix ++ z) (whole rest piece more count split) ∙ sym (append_assoc is.prefix piece more);
-  told = grind (arith, common_steps, digits_join);
+  appended = grind (arith, common_steps, digits_join);
 }
 
 pub digits_all : {A E : Type 0} (result : Result A E) {bytes rest : List ℕ} {old now : Option (List ℕ)} (new : Option (List ℕ))

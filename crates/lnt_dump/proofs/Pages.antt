@@ -68,8 +68,8 @@ module _ {X : Type 0} (line : ℕ → X → List ℕ) (before : List ℕ) where
   pub told_more : (list : List X) (x : X) {next : List X} {index : ℕ} {page left : List ℕ} {old now new : Option (List ℕ)}
       → index ≡ length list → next ≡ list ++ x ∷ [] → IsPaged (before ++ numbered line 0 list) old now page
       → IsPaged (page ++ line index x) now new left → IsPaged (before ++ numbered line 0 next) old new left
-  told_more list x {index = index} {left = left} {old = old} {new = new} is next_is told here =
-      grind (arith, common_steps, pushed list index x is, paged_more (line index x) told here)
+  told_more list x {index = index} {left = left} {old = old} {new = new} is next_is paged here =
+      grind (arith, common_steps, pushed list index x is, paged_more (line index x) paged here)
 
   -- the lines of the first items begin those of all
   pub told_prefix : (list more : List X) {all : List X} {old new : Option (List ℕ)} → all ≡ list ++ more
@@ -82,8 +82,8 @@ module _ {X : Type 0} (line : ℕ → X → List ℕ) (before : List ℕ) where
   pub told_cut : (list more : List X) (x : X) {all : List X} {index : ℕ} {page : List ℕ} {old now new : Option (List ℕ)}
       → index ≡ length list → all ≡ (list ++ x ∷ []) ++ more → IsPaged (before ++ numbered line 0 list) old now page
       → AppendsPrefix now new (page ++ line index x) → AppendsPrefix old new (before ++ numbered line 0 all)
-  told_cut list more x {index = index} is all_is told f =
-      told_prefix (list ++ x ∷ []) more all_is (rw (pushed list index x is) at (paged_prefix (line index x) told f))
+  told_cut list more x {index = index} is all_is paged f =
+      told_prefix (list ++ x ∷ []) more all_is (rw (pushed list index x is) at (paged_prefix (line index x) paged f))
 
   taken : (xs : List X) (k : ℕ) (x : X) → k < length xs → x ≡ get_or xs k x → take (k + 1) xs ≡ take k xs ++ x ∷ []
   taken xs k x lt is = take_more xs k x lt ∙ ap (λ (y : X). take k xs ++ y ∷ []) (sym is)
@@ -92,14 +92,14 @@ module _ {X : Type 0} (line : ℕ → X → List ℕ) (before : List ℕ) where
   pub told_next : (xs : List X) (k : ℕ) (x : X) {page left : List ℕ} {old now new : Option (List ℕ)} → k < length xs → x ≡ get_or xs k x
       → IsPaged (before ++ numbered line 0 (take k xs)) old now page → IsPaged (page ++ line k x) now new left
       → IsPaged (before ++ numbered line 0 (take (k + 1) xs)) old new left
-  told_next xs k x lt is told here = grind (arith, common_steps, told_more, length-take-le, taken)
+  told_next xs k x lt is paged here = grind (arith, common_steps, told_more, length-take-le, taken)
 
   pub told_next_cut : (xs : List X) (k : ℕ) (x : X) {page : List ℕ} {old now new : Option (List ℕ)} → k < length xs → x ≡ get_or xs k x
       → IsPaged (before ++ numbered line 0 (take k xs)) old now page → AppendsPrefix now new (page ++ line k x)
       → AppendsPrefix old new (before ++ numbered line 0 xs)
-  told_next_cut xs k x lt is told f =
+  told_next_cut xs k x lt is paged f =
       told_cut (take k xs) (drop (k + 1) xs) x (sym (length-take-le k xs (omega (arith, lt))))
-      (sym (take-append-drop (k + 1) xs) ∙ ap (λ (z : List X). z ++ drop (k + 1) xs) (taken xs k x lt is)) told f
+      (sym (take-append-drop (k + 1) xs) ∙ ap (λ (z : List X). z ++ drop (k + 1) xs) (taken xs k x lt is)) paged f
 
 -- ---- the text of a unit in its three parts, of which the first stands on the page
 

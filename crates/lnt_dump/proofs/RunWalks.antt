@@ -103,7 +103,7 @@ pub record RowsPrinted (view : View) (ops : List Op) (index : ℕ) (walk : Walk)
     (old now : Option (List ℕ)) : Type 0 where
   pub running : IsRunning view ops walk run
   pub index_is : index ≡ length (so_far view ops running.k)
-  pub told : IsPaged (before ++ numbered row_line 0 (so_far view ops running.k)) old now page
+  pub paged : IsPaged (before ++ numbered row_line 0 (so_far view ops running.k)) old now page
 
 pub rows_none : {view : View} {ops : List Op} {walk : Walk} {run : RunState} (page : List ℕ) (out : Option (List ℕ))
     → StandsAt view ops 0 walk → run.machine.header ≡ view.header.numbers → HasDone run [] → run.machine.count ≡ 0
@@ -112,7 +112,7 @@ unfolding running_first
 rows_none {view} {ops} {walk} {run} page out s header has count = record {
   running = running_first s header has count;
   index_is = refl;
-  told = paged_none page out;
+  paged = paged_none page out;
 }
 
 -- the rows of the first operations begin those of all
@@ -137,7 +137,7 @@ module _ {view : View} {ops : List Op} {index : ℕ} {walk walk' : Walk} {run ru
       record {
         running = running_next header t.running step is on;
         index_is = t.index_is ∙ ap length (sym same);
-        told = subst (λ (rows : List Row). IsPaged (before ++ numbered row_line 0 rows) old now page) (sym same) t.told;
+        paged = subst (λ (rows : List Row). IsPaged (before ++ numbered row_line 0 rows) old now page) (sym same) t.paged;
       }
 
   row_next : {row : Row} → made ≡ Some row → so_far view ops (t.running.k + 1) ≡ so_far view ops t.running.k ++ row ∷ []
@@ -154,7 +154,7 @@ module _ {view : View} {ops : List Op} {index : ℕ} {walk walk' : Walk} {run ru
       record {
         running = running_next header t.running step is on;
         index_is = omega (arith, t.index_is, ap length (row_next some), length-append list (row ∷ []));
-        told = told_more row_line before list row t.index_is (row_next some) t.told line;
+        paged = told_more row_line before list row t.index_is (row_next some) t.paged line;
       }
 
   -- its number, and that of the one after it
@@ -180,7 +180,7 @@ module _ {view : View} {ops : List Op} {index : ℕ} {walk walk' : Walk} {run ru
       let all : rows (with_ops view ops) ≡ (list ++ row ∷ []) ++ later.0 =
       ap (rows_after h []) (sym (take-append-drop (k + 1) ops)) ∙ later.1
       ∙ ap (λ (z : List Row). z ++ later.0) (row_next some) in
-      told_cut row_line before list later.0 row t.index_is all t.told line
+      told_cut row_line before list later.0 row t.index_is all t.paged line
 
 pub rows_all : {view : View} {ops : List Op} {index : ℕ} {walk walk' : Walk} {run : RunState} {before page : List ℕ}
     {old now : Option (List ℕ)} → RowsPrinted view ops index walk run before page old now → Ends walk walk'
@@ -189,7 +189,7 @@ rows_all {view} {ops} {index} {walk} {walk'} {run} {before} {page} {old} {now} t
     let r = t.running in
     let all : so_far view ops r.k ≡ rows (with_ops view ops) =
     ap (rows_after view.header.numbers []) (take_all r.k ops (stands_last r.at ends)) in
-    subst (λ (list : List Row). IsPaged (before ++ numbered row_line 0 list) old now page) all t.told
+    subst (λ (list : List Row). IsPaged (before ++ numbered row_line 0 list) old now page) all t.paged
 
 -- ---- a unit that is judged while it is run
 

@@ -97,13 +97,13 @@ stands_last {view} {ops} {k} {old} {new} s ends =
 -- The lines of the first k operations were printed, after the text before them.
 pub record OpsPrinted (view : View) (ops : List Op) (k : ℕ) (walk : Walk) (before page : List ℕ) (old now : Option (List ℕ)) : Type 0 where
   pub at : StandsAt view ops k walk
-  pub told : IsPaged (before ++ numbered op_line 0 (take k ops)) old now page
+  pub paged : IsPaged (before ++ numbered op_line 0 (take k ops)) old now page
 
 pub ops_none : {view : View} {ops : List Op} {walk : Walk} (page : List ℕ) (out : Option (List ℕ)) → StandsAt view ops 0 walk
     → OpsPrinted view ops 0 walk page page out out
 ops_none {view} {ops} {walk} page out s = record {
   at = s;
-  told = paged_none page out;
+  paged = paged_none page out;
 }
 
 module _ {view : View} {ops : List Op} {k : ℕ} {item : OpView} {walk walk' : Walk} {before page : List ℕ} {old now new : Option (List ℕ)}
@@ -112,16 +112,16 @@ module _ {view : View} {ops : List Op} {k : ℕ} {item : OpView} {walk walk' : W
       → OpsPrinted view ops (k + 1) walk' before page' old new
   ops_more line =
       let n = stands_next header t.at step in
-      record { at = n.at; told = told_next op_line before ops k n.op n.more n.is t.told (line n.op n.stands) }
+      record { at = n.at; paged = told_next op_line before ops k n.op n.more n.is t.paged (line n.op n.stands) }
 
   -- of the next line a prefix was written
   pub ops_cut : ((done : Op) → StandsFor item done → AppendsPrefix now new (page ++ op_line k done))
       → AppendsPrefix old new (before ++ numbered op_line 0 ops)
   ops_cut line =
       let n = stands_next header t.at step in
-      told_next_cut op_line before ops k n.op n.more n.is t.told (line n.op n.stands)
+      told_next_cut op_line before ops k n.op n.more n.is t.paged (line n.op n.stands)
 
 pub ops_all : {view : View} {ops : List Op} {k : ℕ} {walk walk' : Walk} {before page : List ℕ} {old now : Option (List ℕ)}
     → OpsPrinted view ops k walk before page old now → Ends walk walk' → IsPaged (before ++ numbered op_line 0 ops) old now page
 ops_all {ops = ops} {k = k} {before = before} {page = page} {old = old} {now = now} t ends =
-    subst (λ (list : List Op). IsPaged (before ++ numbered op_line 0 list) old now page) (take_all k ops (stands_last t.at ends)) t.told
+    subst (λ (list : List Op). IsPaged (before ++ numbered op_line 0 list) old now page) (take_all k ops (stands_last t.at ends)) t.paged

@@ -96,7 +96,7 @@ pub record UnitEndsSo (shown : DumpParts) (frame : Frame) (unit : BufferedUnit) 
 
 -- It was printed.
 abbrev pub IsUnitPrinted : DumpParts → Frame → BufferedUnit → Option (List ℕ) → Option (List ℕ) → Status → Type 0
-IsUnitPrinted shown frame unit old new status = (told : UnitEndsSo shown frame unit (Appends old new)) × (status ≡ fault_status told.fault)
+IsUnitPrinted shown frame unit old new status = (done : UnitEndsSo shown frame unit (Appends old new)) × (status ≡ fault_status done.fault)
 
 -- A prefix of it was printed.
 abbrev pub UnitBegun : DumpParts → Frame → BufferedUnit → Option (List ℕ) → Option (List ℕ) → Type 0

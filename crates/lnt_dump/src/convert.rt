@@ -95,7 +95,7 @@ pub(crate) fn print_refusal<W: Write>(
     out: &mut W,
 ) -> Result<Status, IoStop>
     ensures no { IfOk result (λ status. status ≡ No) }
-    ensures told { OnOk result (fault ≢ ConvertFault.Memory) }
+    ensures not_memory { OnOk result (fault ≢ ConvertFault.Memory) }
     ensures err { IfErr result IsPrinting }
     ensures line { OnOk result (Appends (W.contents out.old) (W.contents out.new) (refusal_text fault)) }
     ensures prefix { OnErr result (AppendsPrefix (W.contents out.old) (W.contents out.new) (refusal_text fault)) }

@@ -48,7 +48,7 @@ pub fn print_dump<R: Source, W: Write>(
     out: &mut W,
 ) -> Result<Status, IoStop>
     requires { R.failures source.old < 2 ^ 64 - 1 }
-    ensures told { IfOk result (IsDumped order shown (R.remaining source.old) (W.contents out.old) (W.contents out.new)) }
+    ensures printed { IfOk result (IsDumped order shown (R.remaining source.old) (W.contents out.old) (W.contents out.new)) }
     ensures begun { OnErr result (IsDumpBegun order shown (R.remaining source.old) (W.contents out.old) (W.contents out.new)) }
 {
     let mut reader = SectionReader::new(source, order);
@@ -77,7 +77,7 @@ fn print_unit<W: Write>(
     out: &mut W,
 ) -> Result<Status, IoStop>
     requires { frame.now.offset ≡ buffer.now.offset }
-    ensures told { IfOk result (IsUnitPrinted shown frame.now buffer.now (W.contents out.old) (W.contents out.new)) }
+    ensures printed { IfOk result (IsUnitPrinted shown frame.now buffer.now (W.contents out.old) (W.contents out.new)) }
     ensures begun { OnErr result (Keeps (W.contents out.old) (W.contents out.new)
         ⊎ UnitBegun shown frame.now buffer.now (W.contents out.old) (W.contents out.new)) }
 {
@@ -97,7 +97,7 @@ fn print_judged<W: Write>(
     out: &mut W,
 ) -> Result<Status, IoStop>
     requires { frame.now.offset ≡ unit.now.unit.offset }
-    ensures told { IfOk result (IsUnitPrinted shown frame.now unit.now.unit (W.contents out.old) (W.contents out.new)) }
+    ensures printed { IfOk result (IsUnitPrinted shown frame.now unit.now.unit (W.contents out.old) (W.contents out.new)) }
     ensures begun { OnErr result (Keeps (W.contents out.old) (W.contents out.new)
         ⊎ UnitBegun shown frame.now unit.now.unit (W.contents out.old) (W.contents out.new)) }
 {

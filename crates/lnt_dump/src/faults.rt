@@ -24,7 +24,7 @@ pub(crate) fn print_fault<W: Write>(
     ensures err { IfErr result IsPrinting }
     ensures line { OnOk result (Appends (W.contents out.old) (W.contents out.new) (malformed_text fault ++ codes "\n")) }
     ensures prefix { OnErr result (AppendsPrefix (W.contents out.old) (W.contents out.new) (malformed_text fault ++ codes "\n")) }
-    ensures told { OnOk result (fault.reason ≢ Reason.Memory) }
+    ensures not_memory { OnOk result (fault.reason ≢ Reason.Memory) }
     ensures kept { OnErr result (Keeps (W.contents out.old) (W.contents out.new) ⊎ (fault.reason ≢ Reason.Memory)) }
 {
     if fault.reason == Reason::Memory {

@@ -37,7 +37,7 @@ pub fn print_upgraded<W: Write>(
     out: &mut W,
 ) -> Result<Status, IoStop>
     requires { IsAddressSize address_size }
-    ensures told { IfOk result (IsUpgradePrinted order address_size bytes.now (option_copied directories.entry)
+    ensures printed { IfOk result (IsUpgradePrinted order address_size bytes.now (option_copied directories.entry)
         (W.contents out.old) (W.contents out.new)) }
     ensures begun { OnErr result (IsUpgradeBegun order address_size bytes.now (option_copied directories.entry)
         (W.contents out.old) (W.contents out.new)) }
@@ -84,7 +84,7 @@ fn print_anew<W: Write>(
 // Prints the line that says why a section isn't written anew, or a prefix of it. Lack of memory has no line: it is a stop.
 fn print_reason<W: Write>(alloc: Global, fault: UpgradeFault, out: &mut W) -> Result<Status, IoStop>
     ensures no { IfOk result (λ status. status ≡ No) }
-    ensures told { OnOk result (fault ≢ UpgradeFault.Memory) }
+    ensures not_memory { OnOk result (fault ≢ UpgradeFault.Memory) }
     ensures err { IfErr result IsPrinting }
     ensures line { OnOk result (Appends (W.contents out.old) (W.contents out.new) (upgrade_refusal fault)) }
     ensures prefix { OnErr result (AppendsPrefix (W.contents out.old) (W.contents out.new) (upgrade_refusal fault)) }

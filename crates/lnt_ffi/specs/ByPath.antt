@@ -51,7 +51,7 @@ of_difference difference = record (numbered 40 0) {
 
 abbrev pub verdict_of_compared : Compared DifferenceByPath → FlatVerdict
 verdict_of_compared Same = yes
-verdict_of_compared (Fault told) = verdict_of_table (No (no_of_fault told))
+verdict_of_compared (Fault found) = verdict_of_table (No (no_of_fault found))
 verdict_of_compared (Differs difference) = of_difference difference
 
 -- A yes, with how many addresses both answer at, and how many the section does. Each number is given as how often it has 2^64, and

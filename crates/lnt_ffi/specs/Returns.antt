@@ -36,10 +36,10 @@ with_prefix list room = if nat_le (length list) (length room) then list ++ drop 
 
 -- ---- a section that isn't good, or that wasn't judged
 
-pub data IsRefused (section : FlatSection) (told : FlatVerdict) : Type 0 where
+pub data IsRefused (section : FlatSection) (returned : FlatVerdict) : Type 0 where
   bad : (reason : No) → IsTrueNo section.line_str.now section.general.now (options_of section) section.line.now reason
-      → told ≡ verdict_of_no reason → IsRefused section told
-  stopped : told ≡ memory → IsRefused section told
+      → returned ≡ verdict_of_no reason → IsRefused section returned
+  stopped : returned ≡ memory → IsRefused section returned
 
 -- ---- a good section
 
@@ -65,8 +65,8 @@ pub record IsTableOfFlat (section : FlatSection) (version : Version) (bytes : Li
 
 -- The verdict is yes, and this is so of the count and the room; or the section is refused, nothing is counted, and the room is as it was.
 abbrev pub ReturnsIfGood : {A : Type 0} → FlatSection → (ℕ → List A → List A → Type 0) → ℕ → List A → List A → FlatVerdict → Type 0
-ReturnsIfGood section IsGiven count old new told =
-    (IsGiven count old new × (told ≡ yes)) ⊎ (IsRefused section told × (count ≡ 0) × (new ≡ old))
+ReturnsIfGood section IsGiven count old new returned =
+    (IsGiven count old new × (returned ≡ yes)) ⊎ (IsRefused section returned × (count ≡ 0) × (new ≡ old))
 
 -- What a room holds that is too short for the spans isn't said.
 abbrev pub ReturnsSpans : FlatSection → ℕ → List FlatSpan → List FlatSpan → FlatVerdict → Type 0
@@ -78,18 +78,18 @@ abbrev pub IsFound : Scope → FlatSection → List ℕ → CheckedWithin → Ty
 IsFound scope section text found =
     IsTrueWithin scope section.line_str.now section.general.now (options_of section) section.line.now text found
 
-pub data ReturnsVerdict (section : FlatSection) (text : List ℕ) (told : FlatVerdict) : Type 0 where
-  judged : (found : CheckedWithin) → IsFound All section text found → told ≡ verdict_of_check found → ReturnsVerdict section text told
-  stopped : told ≡ memory → ReturnsVerdict section text told
+pub data ReturnsVerdict (section : FlatSection) (text : List ℕ) (returned : FlatVerdict) : Type 0 where
+  judged : (found : CheckedWithin) → IsFound All section text found → returned ≡ verdict_of_check found → ReturnsVerdict section text returned
+  stopped : returned ≡ memory → ReturnsVerdict section text returned
 
 -- the same in a scope, with the paths of a difference by path in two rooms
 pub data ReturnsVerdictByPath (scope : Scope) (section : FlatSection) (text old_table new_table old_section new_section : List ℕ)
-    (told : FlatVerdict) : Type 0 where
-  judged : (found : CheckedWithin) → IsFound scope section text found → told ≡ verdict_of_check found
+    (returned : FlatVerdict) : Type 0 where
+  judged : (found : CheckedWithin) → IsFound scope section text found → returned ≡ verdict_of_check found
       → new_table ≡ with_prefix (paths_in found).0 old_table → new_section ≡ with_prefix (paths_in found).1 old_section
-      → ReturnsVerdictByPath scope section text old_table new_table old_section new_section told
-  stopped : told ≡ memory → new_table ≡ old_table → new_section ≡ old_section
-      → ReturnsVerdictByPath scope section text old_table new_table old_section new_section told
+      → ReturnsVerdictByPath scope section text old_table new_table old_section new_section returned
+  stopped : returned ≡ memory → new_table ≡ old_table → new_section ≡ old_section
+      → ReturnsVerdictByPath scope section text old_table new_table old_section new_section returned
 
 abbrev pub version_of : Bool → Version
 version_of is_wide = if is_wide then Two else One
@@ -108,12 +108,12 @@ abbrev pub ReturnsUnits : FlatSection → ℕ → List FlatUnit → List FlatUni
 ReturnsUnits section = ReturnsIfGood section (λ count old new. (index : Indexed) × IsIndexOfFlat section index
     × (count ≡ length index.units) × (new ≡ with_prefix (map (unit_in index) index.units) old))
 
-pub data ReturnsPath (section : FlatSection) (unit file : ℕ) (is_there : Bool) (count : ℕ) (old new : List ℕ) (told : FlatVerdict) : Type
+pub data ReturnsPath (section : FlatSection) (unit file : ℕ) (is_there : Bool) (count : ℕ) (old new : List ℕ) (returned : FlatVerdict) : Type
     0 where
   found : (index : Indexed) → IsIndexOfFlat section index → (path : List ℕ) → file_path_in index unit file ≡ Some path
-      → is_there ≡ true → count ≡ length path → new ≡ with_prefix path old → told ≡ yes
-      → ReturnsPath section unit file is_there count old new told
+      → is_there ≡ true → count ≡ length path → new ≡ with_prefix path old → returned ≡ yes
+      → ReturnsPath section unit file is_there count old new returned
   nowhere : (index : Indexed) → IsIndexOfFlat section index → file_path_in index unit file ≡ None
-      → is_there ≡ false → count ≡ 0 → new ≡ old → told ≡ yes → ReturnsPath section unit file is_there count old new told
-  refused : IsRefused section told → is_there ≡ false → count ≡ 0 → new ≡ old
-      → ReturnsPath section unit file is_there count old new told
+      → is_there ≡ false → count ≡ 0 → new ≡ old → returned ≡ yes → ReturnsPath section unit file is_there count old new returned
+  refused : IsRefused section returned → is_there ≡ false → count ≡ 0 → new ≡ old
+      → ReturnsPath section unit file is_there count old new returned

@@ -44,7 +44,7 @@ pub extern "C" fn linetab_check_paths(
 )
     ensures table_room { length by_table.new ≡ length by_table.old }
     ensures section_room { length by_section.new ≡ length by_section.old }
-    ensures told { ReturnsVerdictByPath Scope.All section.now table.now by_table.old by_table.new by_section.old by_section.new verdict.new }
+    ensures returned { ReturnsVerdictByPath Scope.All section.now table.now by_table.old by_table.new by_section.old by_section.new verdict.new }
 {
     *verdict = check_into(alloc, section, table, Scope::All, by_table, by_section);
 }
@@ -64,7 +64,7 @@ pub extern "C" fn linetab_check_within(
 )
     ensures table_room { length by_table.new ≡ length by_table.old }
     ensures section_room { length by_section.new ≡ length by_section.old }
-    ensures told { ReturnsVerdictByPath (scope_in is_partial) section.now table.now by_table.old by_table.new by_section.old by_section.new
+    ensures returned { ReturnsVerdictByPath (scope_in is_partial) section.now table.now by_table.old by_table.new by_section.old by_section.new
         verdict.new }
 {
     let scope = Scope::of(is_partial);
@@ -82,7 +82,7 @@ fn check_into(
 ) -> FlatVerdict
     ensures table_room { length by_table.new ≡ length by_table.old }
     ensures section_room { length by_section.new ≡ length by_section.old }
-    ensures told { ReturnsVerdictByPath scope section.now table.now by_table.old by_table.new by_section.old by_section.new result }
+    ensures returned { ReturnsVerdictByPath scope section.now table.now by_table.old by_table.new by_section.old by_section.new result }
 {
     let mut line = Bytes::of(section.line);
     let mut text = Bytes::of(table);

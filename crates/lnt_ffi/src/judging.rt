@@ -27,7 +27,7 @@ pub extern "C" fn linetab_verify(
     verdict: &mut FlatVerdict,
 ) -> usize
     ensures length { length spans.new ≡ length spans.old }
-    ensures told { ReturnsSpans section.now result spans.old spans.new verdict.new }
+    ensures returned { ReturnsSpans section.now result spans.old spans.new verdict.new }
 {
     match index_of(alloc, section, verdict) {
         Some(index) => put_spans(index.spans(), spans),

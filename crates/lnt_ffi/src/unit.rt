@@ -33,7 +33,7 @@ pub extern "C" fn linetab_units(
     verdict: &mut FlatVerdict,
 ) -> usize
     ensures length { length units.new ≡ length units.old }
-    ensures told { ReturnsUnits section.now result units.old units.new verdict.new }
+    ensures returned { ReturnsUnits section.now result units.old units.new verdict.new }
 {
     match index_of(alloc, section, verdict) {
         Some(index) => put_units(&index, units),
@@ -81,7 +81,7 @@ pub extern "C" fn linetab_path(
     verdict: &mut FlatVerdict,
 ) -> bool
     ensures room { length path.new ≡ length path.old }
-    ensures told { ReturnsPath section.now unit file result count.new path.old path.new verdict.new }
+    ensures returned { ReturnsPath section.now unit file result count.new path.old path.new verdict.new }
 {
     *count = 0;
     let found = match index_of(alloc, section, verdict) {

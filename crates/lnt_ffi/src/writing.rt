@@ -27,7 +27,7 @@ pub extern "C" fn linetab_table(
     verdict: &mut FlatVerdict,
 ) -> usize
     ensures length { length room.new ≡ length room.old }
-    ensures told { ReturnsTable section.now is_wide result room.old room.new verdict.new }
+    ensures returned { ReturnsTable section.now is_wide result room.old room.new verdict.new }
 {
     match table_of(alloc, section, is_wide, verdict) {
         Some(table) => put_bytes(&table, room),

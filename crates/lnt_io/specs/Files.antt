@@ -17,6 +17,6 @@ RefusesOnly AreThese old new = (name : List ℕ) → new name → old name ⊎ A
 
 -- These are all bytes of a file of which this may be known.
 pub record AreBytesOf (finds : FileState → Type 0) (bytes : List ℕ) : Type 0 where
-  pub told : Option (List ℕ)
-  pub is_told : finds (Readable told)
-  pub same : IfSome told (λ all. bytes ≡ all)
+  pub found : Option (List ℕ)
+  pub is_found : finds (Readable found)
+  pub same : IfSome found (λ all. bytes ≡ all)

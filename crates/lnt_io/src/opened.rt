@@ -22,7 +22,7 @@ impl<'n, R: Read + Drop> OpenedFile<'n, R> {
         ensures failures { IfSome result (λ file. ⟦<OpenedFile<'n, R> as Source>⟧.failures file ≡ 0) }
         ensures too_long { IfSome result (λ file. ⟦<OpenedFile<'n, R> as Source>⟧.too_long file ≡ false) }
         ensures left { IfSome result (λ file. ⟦<OpenedFile<'n, R> as Source>⟧.left file ≡ 2 ^ 40) }
-        ensures told { IfSome result (λ file. O.finds opener.old name.now (Readable (⟦<OpenedFile<'n, R> as Source>⟧.remaining file))) }
+        ensures found { IfSome result (λ file. O.finds opener.old name.now (Readable (⟦<OpenedFile<'n, R> as Source>⟧.remaining file))) }
         ensures none { IsNone result → O.finds opener.old name.now Unreadable }
         ensures later { FindsNoMore (O.finds opener.old) (O.finds opener.new) }
         ensures refused { RefusesOnly (λ other. IsNone result × (name.now ≡ other)) (O.refused opener.old) (O.refused opener.new) }

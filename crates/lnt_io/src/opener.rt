@@ -25,7 +25,7 @@ pub trait Opener {
 
     /// A reader of the file with this name, or `None` if it can't be opened.
     fn reader_of(&mut self, name: &str) -> Option<Self::Reader>
-        ensures told { IfSome result (λ reader. finds self.old name.now (Readable (Self.Reader.remaining reader))) }
+        ensures found { IfSome result (λ reader. finds self.old name.now (Readable (Self.Reader.remaining reader))) }
         ensures none { IsNone result → finds self.old name.now Unreadable }
         ensures later { FindsNoMore (finds self.old) (finds self.new) }
         ensures refused { RefusesOnly (λ other. IsNone result × (name.now ≡ other)) (refused self.old) (refused self.new) };
@@ -70,7 +70,7 @@ pub fn open_file<O: Opener>(
     ensures failures { IfOk result (λ source. ⟦<Counted<BufReader<O::Reader>> as Source>⟧.failures source ≡ 0) }
     ensures too_long { IfOk result (λ source. ⟦<Counted<BufReader<O::Reader>> as Source>⟧.too_long source ≡ false) }
     ensures left { IfOk result (λ source. ⟦<Counted<BufReader<O::Reader>> as Source>⟧.left source ≡ 2 ^ 40) }
-    ensures told { IfOk result (λ source. O.finds opener.old name.now (Readable (⟦<Counted<BufReader<O::Reader>> as Source>⟧.remaining source))) }
+    ensures found { IfOk result (λ source. O.finds opener.old name.now (Readable (⟦<Counted<BufReader<O::Reader>> as Source>⟧.remaining source))) }
     ensures none { IsErrOf result IoStop.Read → O.finds opener.old name.now Unreadable }
     ensures later { FindsNoMore (O.finds opener.old) (O.finds opener.new) }
     ensures refused { RefusesOnly (λ other. IsErrOf result IoStop.Read × (name.now ≡ other)) (O.refused opener.old) (O.refused opener.new) }

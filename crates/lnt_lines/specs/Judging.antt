@@ -49,10 +49,10 @@ IsUnitRefusal line general dead buffer (refusal.Stop _) = ⊥
 
 -- What is reported if an operation leads out of the range of lines: the fault, if the bytes are those of a unit, and
 -- otherwise why they aren't.
-pub data IsRefusalOfRun (view : View) (unit : ℕ) (fault : RunFault) (told : Refusal) : Type 0 where
-  of_unit : (count : ℕ) → HasCount view count → told ≡ refusal.No (no.Run unit fault) → IsRefusalOfRun view unit fault told
-  broken : (first : Fault) → BrokenUnit view.unit.order first view.unit.offset view.unit.bytes → told ≡ refusal.No (no.Malformed first)
-      → IsRefusalOfRun view unit fault told
+pub data IsRefusalOfRun (view : View) (unit : ℕ) (fault : RunFault) (refused : Refusal) : Type 0 where
+  of_unit : (count : ℕ) → HasCount view count → refused ≡ refusal.No (no.Run unit fault) → IsRefusalOfRun view unit fault refused
+  broken : (first : Fault) → BrokenUnit view.unit.order first view.unit.offset view.unit.bytes → refused ≡ refusal.No (no.Malformed first)
+      → IsRefusalOfRun view unit fault refused
 
 -- The program of the unit ran to its end, all of its rows were seen, and these are the places of its sequences.
 pub record HasRun (dead : Option ℕ) (view : View) (places : List ℕ) (old new : Collected) (watch : Watch) : Type 0 where

@@ -114,5 +114,5 @@ StopsAfter walk watched now places fault =
 
 -- What is reported for the fault of a program.
 abbrev pub IsRefusedFor : View → ℕ → RunFault → Refusal → Type 0
-IsRefusedFor view unit Memory told = told ≡ refusal.Stop stop.Memory
-IsRefusedFor view unit fault told = IsRefusalOfRun view unit fault told
+IsRefusedFor view unit Memory refused = refused ≡ refusal.Stop stop.Memory
+IsRefusedFor view unit fault refused = IsRefusalOfRun view unit fault refused

@@ -73,19 +73,19 @@ pub record AreFirstStretches {X : Type 0} (by_section by_table : Position → Op
 -- The positions from `at` on, for as long as both sides keep these two answers, all lie in one of the stretches given.
 abbrev pub IsOpen : {X : Type 0} → (Position → Option X) → (Position → Option X) → Position → Option X → Option X → List (Stretch X)
     → Type 0
-IsOpen by_section by_table at section table told =
+IsOpen by_section by_table at section table given =
     (p : Position) → IsAtMost at p → Stay by_section by_table section table at p → AreAnswers by_section by_table section table p
-    → IsInOne by_section by_table told p
+    → IsInOne by_section by_table given p
 
 -- The stretches given so far are exactly those that begin below `at`.
 pub record AreToldBelow {X : Type 0} (by_section by_table : Position → Option X) (at : Position) (section table : Option X)
-    (told : List (Stretch X)) : Type 0 where
-  pub each : AllByRecursion (BeginsStretch by_section by_table) told
-  pub rising : AreRising told
-  pub below : AllByRecursion (λ stretch. IsBelow stretch.position at) told
-  pub all : (p : Position) → IsBelow p at → (by_section p ≡ by_table p) ⊎ IsInOne by_section by_table told p
+    (given : List (Stretch X)) : Type 0 where
+  pub each : AllByRecursion (BeginsStretch by_section by_table) given
+  pub rising : AreRising given
+  pub below : AllByRecursion (λ stretch. IsBelow stretch.position at) given
+  pub all : (p : Position) → IsBelow p at → (by_section p ≡ by_table p) ⊎ IsInOne by_section by_table given p
   -- `section` and `table` were the last answers: if they differ, the last stretch lasts as long as they stay
-  pub going : (section ≡ table) ⊎ IsOpen by_section by_table at section table told
+  pub going : (section ≡ table) ⊎ IsOpen by_section by_table at section table given
   -- right below `at` both sides have these answers, or answer alike
   pub last : (p : Position) → IsBelow p at
       → (q : Position) × IsAtMost p q × IsBelow q at × ((by_section q ≡ by_table q) ⊎ AreAnswers by_section by_table section table q)

@@ -55,13 +55,13 @@ missed_between of_section of_table at end = cond (is_some of_section && is_none 
 
 -- the stretches given, with the one that begins with this step, if one does
 abbrev pub told_with : {A X : Type 0} → (Answer → X) → (A → X) → List (Stretch X) → Step A → List (Stretch X)
-told_with tell said told step = cond step.is_known told
-    (told ++ stretch_at step.at (option_map tell step.both.section) (option_map said step.both.table) ∷ [])
+told_with tell said given step = cond step.is_known given
+    (given ++ stretch_at step.at (option_map tell step.both.section) (option_map said step.both.table) ∷ [])
 
 -- what holds after one step, by what it found
 abbrev pub StretchStep : {S N A V X : Type 0} → (S → List Span → Type 0) → (N → Position → (Position → Option V) → Type 0) → (A → V)
     → (Answer → X) → (A → X) → Stretches S N A → (Position → Option X) → (Position → Option X) → List (Stretch X) → Option (Step A) → Type 0
-StretchStep to_come is_at value_of tell said stretches by_section by_table told None = AreAllStretches by_section by_table told
+StretchStep to_come is_at value_of tell said stretches by_section by_table given None = AreAllStretches by_section by_table given
     × (stretches.missed ≡ addresses_answered (where_missed by_table by_section))
-StretchStep to_come is_at value_of tell said stretches by_section by_table told (Some step) =
-    HasGiven to_come is_at value_of tell said stretches by_section by_table (told_with tell said told step)
+StretchStep to_come is_at value_of tell said stretches by_section by_table given (Some step) =
+    HasGiven to_come is_at value_of tell said stretches by_section by_table (told_with tell said given step)

@@ -15,11 +15,11 @@ use Rattle.lnt_spans.specs.Differences.{stretches_of, Difference}
 -- table doesn't as were counted.
 pub record HasGiven {S N A V X : Type 0} (to_come : S → List Span → Type 0) (is_at : N → Position → (Position → Option V) → Type 0)
     (value_of : A → V) (tell : Answer → X) (said : A → X) (stretches : Stretches S N A) (by_section by_table : Position → Option X)
-    (told : List (Stretch X)) : Type 0 where
+    (given : List (Stretch X)) : Type 0 where
   pub section : IsSideAt (IsAheadAt to_come) (λ answer. answer) tell stretches.section stretches.at by_section
   pub table : IsSideAt is_at value_of said stretches.table stretches.at by_table
   pub below : AreToldBelow by_section by_table stretches.at (option_map tell stretches.before.section)
-      (option_map said stretches.before.table) told
+      (option_map said stretches.before.table) given
   pub counted : stretches.missed ≡ addresses_answered (until stretches.at (where_missed by_table by_section))
 
 -- No stretch was given yet, and nothing was counted.
@@ -43,8 +43,8 @@ stretches_to_give left runs stretches =
 -- These stretches were given, and the sources have the spans from there on still to come.
 abbrev pub HasFoundStretches : {S T : Type 0} → (S → List Span → Type 0) → (T → List Span → Type 0) → Differences S T → (Position → Option Answer)
     → (Position → Option Answer) → List Difference → Type 0
-HasFoundStretches of_section of_table differences by_section by_table told = HasGiven of_section (IsAheadAt of_table) (λ answer. answer)
-    (in_version differences.version) (λ answer. answer) differences.stretches by_section by_table (stretches_of told)
+HasFoundStretches of_section of_table differences by_section by_table given = HasGiven of_section (IsAheadAt of_table) (λ answer. answer)
+    (in_version differences.version) (λ answer. answer) differences.stretches by_section by_table (stretches_of given)
 
 -- an upper bound on the stretches that are left to give, if the two functions bound the spans that are left in the sources
 abbrev pub stretches_left : {S T : Type 0} → (S → ℕ) → (T → ℕ) → Differences S T → ℕ

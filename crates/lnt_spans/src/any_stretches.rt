@@ -82,16 +82,16 @@ pub fn next_stretch<S: SpanSource, N: Runs<T::Said>, T: Telling>(
     memory: &mut T::Memory,
 ) -> Result<Option<T::Difference>, T::Refusal>
     requires sound { T.is_sound telling.now memory.old }
-    requires told { (by_section : spec_position.Position → Option T.Told) × (by_table : spec_position.Position → Option T.Told)
-        × (told : List (Stretch T.Told))
-        × HasGiven S.to_come N.is_at N.value_of (T.tell telling.now) T.said stretches.old by_section by_table told }
+    requires given { (by_section : spec_position.Position → Option T.Told) × (by_table : spec_position.Position → Option T.Told)
+        × (given : List (Stretch T.Told))
+        × HasGiven S.to_come N.is_at N.value_of (T.tell telling.now) T.said stretches.old by_section by_table given }
     ensures sound { OnOk result (T.is_sound telling.now memory.new) }
-    ensures told { IfOk result (λ found. (by_section by_table : spec_position.Position → Option T.Told) (told : List (Stretch T.Told))
-        → HasGiven S.to_come N.is_at N.value_of (T.tell telling.now) T.said stretches.old by_section by_table told
-        → MatchOption found (AreAllStretches by_section by_table told
+    ensures given { IfOk result (λ found. (by_section by_table : spec_position.Position → Option T.Told) (given : List (Stretch T.Told))
+        → HasGiven S.to_come N.is_at N.value_of (T.tell telling.now) T.said stretches.old by_section by_table given
+        → MatchOption found (AreAllStretches by_section by_table given
         × (stretches.new.missed ≡ addresses_answered (where_missed by_table by_section)))
         (λ difference. HasGiven S.to_come N.is_at N.value_of (T.tell telling.now) T.said stretches.new by_section by_table
-        (told ++ T.value_of difference ∷ []))) }
+        (given ++ T.value_of difference ∷ []))) }
     ensures fewer { IfOk result (λ found. IfSome found (λ _.
         stretches_to_give S.left N.runs stretches.new < stretches_to_give S.left N.runs stretches.old)) }
 {
@@ -112,13 +112,13 @@ fn pass_run<S: SpanSource, N: Runs<T::Said>, T: Telling>(
     memory: &mut T::Memory,
 ) -> Result<Option<Step<T::Said>>, T::Refusal>
     requires sound { T.is_sound telling.now memory.old }
-    requires told { (by_section : spec_position.Position → Option T.Told) × (by_table : spec_position.Position → Option T.Told)
-        × (told : List (Stretch T.Told))
-        × HasGiven S.to_come N.is_at N.value_of (T.tell telling.now) T.said stretches.old by_section by_table told }
+    requires given { (by_section : spec_position.Position → Option T.Told) × (by_table : spec_position.Position → Option T.Told)
+        × (given : List (Stretch T.Told))
+        × HasGiven S.to_come N.is_at N.value_of (T.tell telling.now) T.said stretches.old by_section by_table given }
     ensures sound { OnOk result (T.is_sound telling.now memory.new) }
-    ensures told { IfOk result (λ found. (by_section by_table : spec_position.Position → Option T.Told) (told : List (Stretch T.Told))
-        → HasGiven S.to_come N.is_at N.value_of (T.tell telling.now) T.said stretches.old by_section by_table told
-        → StretchStep S.to_come N.is_at N.value_of (T.tell telling.now) T.said stretches.new by_section by_table told found) }
+    ensures given { IfOk result (λ found. (by_section by_table : spec_position.Position → Option T.Told) (given : List (Stretch T.Told))
+        → HasGiven S.to_come N.is_at N.value_of (T.tell telling.now) T.said stretches.old by_section by_table given
+        → StretchStep S.to_come N.is_at N.value_of (T.tell telling.now) T.said stretches.new by_section by_table given found) }
     ensures fewer { IfOk result (λ found. IfSome found (λ _.
         stretches_to_give S.left N.runs stretches.new < stretches_to_give S.left N.runs stretches.old)) }
 {
@@ -157,17 +157,17 @@ fn take_step<S: SpanSource, N: Runs<T::Said>, T: Telling>(
     requires sound { T.is_sound telling.now memory.old }
     requires recalled { IfSome run.answer (T.recalls telling.now recalled.old) }
     requires past { IsBefore stretches.old.at run.end }
-    requires told { (from : spec_position.Position) × (by_section : spec_position.Position → Option T.Told)
-        × (by_table : spec_position.Position → Option T.Told) × (told : List (Stretch T.Told))
-        × HasGivenIn S.to_come N.is_at N.value_of run from (T.tell telling.now) T.said stretches.old by_section by_table told }
+    requires given { (from : spec_position.Position) × (by_section : spec_position.Position → Option T.Told)
+        × (by_table : spec_position.Position → Option T.Told) × (given : List (Stretch T.Told))
+        × HasGivenIn S.to_come N.is_at N.value_of run from (T.tell telling.now) T.said stretches.old by_section by_table given }
     ensures sound { OnOk result (T.is_sound telling.now memory.new) }
     ensures recalled { OnOk result (IfSome run.answer (T.recalls telling.now recalled.new)) }
     ensures table { OnOk result (stretches.new.table ≡ stretches.old.table) }
-    ensures told { IfOk result (λ found. (from : spec_position.Position) (by_section by_table : spec_position.Position → Option T.Told)
-        (told : List (Stretch T.Told))
-        → HasGivenIn S.to_come N.is_at N.value_of run from (T.tell telling.now) T.said stretches.old by_section by_table told
+    ensures given { IfOk result (λ found. (from : spec_position.Position) (by_section by_table : spec_position.Position → Option T.Told)
+        (given : List (Stretch T.Told))
+        → HasGivenIn S.to_come N.is_at N.value_of run from (T.tell telling.now) T.said stretches.old by_section by_table given
         → StretchStep S.to_come (IsInRun N.is_at N.value_of run from) N.value_of (T.tell telling.now) T.said stretches.new
-        by_section by_table told found) }
+        by_section by_table given found) }
     ensures fewer { IfOk result (λ found. IfSome found (λ _. HasFewerOrEnds S.left stretches.old stretches.new run.end)) }
 {
     let at = stretches.at;

@@ -51,14 +51,14 @@ impl<S: SpanSource, T: SpanSource> Differences<S, T> {
     /// the stretches, in ascending order, and all addresses were compared.
     pub fn next_difference(&mut self) -> Option<Difference>
         requires { (by_section : spec_position.Position → Option spec_answer.Answer)
-            × (by_table : spec_position.Position → Option spec_answer.Answer) × (told : List spec_difference.Difference)
-            × HasFoundStretches S.to_come T.to_come self.old by_section by_table told }
-        ensures told { (by_section by_table : spec_position.Position → Option spec_answer.Answer) (told : List spec_difference.Difference)
-            → HasFoundStretches S.to_come T.to_come self.old by_section by_table told
-            → MatchOption result (AreStretches by_section by_table told)
-            (λ difference. HasFoundStretches S.to_come T.to_come self.new by_section by_table (told ++ difference ∷ [])) }
+            × (by_table : spec_position.Position → Option spec_answer.Answer) × (given : List spec_difference.Difference)
+            × HasFoundStretches S.to_come T.to_come self.old by_section by_table given }
+        ensures given { (by_section by_table : spec_position.Position → Option spec_answer.Answer) (given : List spec_difference.Difference)
+            → HasFoundStretches S.to_come T.to_come self.old by_section by_table given
+            → MatchOption result (AreStretches by_section by_table given)
+            (λ difference. HasFoundStretches S.to_come T.to_come self.new by_section by_table (given ++ difference ∷ [])) }
         ensures missed { (by_section by_table : spec_position.Position → Option spec_answer.Answer)
-            (told : List spec_difference.Difference) → HasFoundStretches S.to_come T.to_come self.old by_section by_table told
+            (given : List spec_difference.Difference) → HasFoundStretches S.to_come T.to_come self.old by_section by_table given
             → result ≡ None → missed_by self.new ≡ addresses_answered (where_missed by_table by_section) }
         ensures fewer { IfSome result (λ _. stretches_left S.left T.left self.new < stretches_left S.left T.left self.old) }
     {

@@ -58,7 +58,7 @@ by_number verdicts flawless line general options section table verdict (ByPath t
     by_kind : Kind line general options section table verdict → ⊥
     by_kind (bad reason e is) = flawless line general options section k.1.units reason k.1.good is
     by_kind (compared told e is) =
-        headed (told_rows options is.units) table told is.told (λ same. h.1 (e ∙ ap verdict_of same)) k.0
+        headed (told_rows options is.units) table told is.so (λ same. h.1 (e ∙ ap verdict_of same)) k.0
 
 pub one_numbered : OneVerdict → GoodHasNoFlaw → OneNumbered
 one_numbered verdicts flawless = record { one = by_number verdicts flawless }
@@ -82,7 +82,7 @@ own line general options section table units version good w = (
   record {
     units = units;
     good = good;
-    told = record { version = version; table = w.spans; is_table = w.table; so = λ p. sym (w.canonical.same p) };
+    so = record { version = version; table = w.spans; is_table = w.table; so = λ p. sym (w.canonical.same p) };
   },
 )
 

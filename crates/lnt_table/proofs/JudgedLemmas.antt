@@ -138,7 +138,7 @@ check_told line general options section table index (judged.Numbered outcome) i 
   compared_told line general options section table (whole_of outcome) (record {
     units = i.units;
     good = i.good;
-    told = compared_whole tables_by_number table (told_rows options i.units) outcome h.0;
+    so = compared_whole tables_by_number table (told_rows options i.units) outcome h.0;
   }),
   λ e. h.1 (header_found outcome e),
 )
@@ -147,7 +147,7 @@ check_told line general options section table index (judged.ByPath outcome) i h 
   record {
     units = i.units;
     good = i.good;
-    told = compared_whole tables_by_path table (told_paths line general options i.units) outcome
+    so = compared_whole tables_by_path table (told_paths line general options i.units) outcome
         (own_path line general options section table index outcome i h.1);
   },
 )
@@ -192,34 +192,34 @@ within_told : (scope : Scope) (line general : List ℕ) (options : Options) (sec
 within_told All line general options section table index told i h = check_told line general options section table index told i h
 within_told Answered line general options section table index (judged.Numbered (Fault fault.Header)) i h = absurd (h.1 refl)
 within_told Answered line general options section table index (judged.Numbered (Fault (fault.Fields k))) i h =
-    (record { units = i.units; good = i.good; told = h.0 }, λ e. cc e)
+    (record { units = i.units; good = i.good; so = h.0 }, λ e. cc e)
 within_told Answered line general options section table index (judged.Numbered (Fault (fault.Number k n))) i h =
-    (record { units = i.units; good = i.good; told = h.0 }, λ e. cc e)
+    (record { units = i.units; good = i.good; so = h.0 }, λ e. cc e)
 within_told Answered line general options section table index (judged.Numbered (Fault (fault.Order k))) i h =
-    (record { units = i.units; good = i.good; told = h.0 }, λ e. cc e)
+    (record { units = i.units; good = i.good; so = h.0 }, λ e. cc e)
 within_told Answered line general options section table index (judged.Numbered (Table found)) i h =
     let answers = line_answer (selected options i.units) in
     part_found tables_by_number (told_rows options i.units) table found (addresses_answered answers)
     (λ mistake. Numbered (verdict_of (compared_of mistake))) (IsTrueWithin Answered line general options section table)
     (λ version. told_addresses (in_version version) answers)
-    (λ coverage right. inl (record { units = i.units; good = i.good; told = right }))
-    (λ mistake first. record { units = i.units; good = i.good; told = first }) h.0
+    (λ coverage right. inl (record { units = i.units; good = i.good; so = right }))
+    (λ mistake first. record { units = i.units; good = i.good; so = first }) h.0
 within_told Answered line general options section table index (judged.ByPath (Fault told)) i h =
-    (h.0, record { units = i.units; good = i.good; told = h.1 })
+    (h.0, record { units = i.units; good = i.good; so = h.1 })
 within_told Answered line general options section table index (judged.ByPath (Table found)) i h =
     let answers = line_answer (selected options i.units) in
     part_found tables_by_path (told_paths line general options i.units) table found (addresses_answered answers)
     (λ mistake. ByPath (compared_of mistake)) (IsTrueWithin Answered line general options section table)
     (λ version. told_addresses (path_answer version (path_at line general i.units)) answers)
-    (λ coverage right. inr (h.0, record { units = i.units; good = i.good; told = right }))
-    (λ mistake first. (h.0, record { units = i.units; good = i.good; told = first }))
+    (λ coverage right. inr (h.0, record { units = i.units; good = i.good; so = right }))
+    (λ mistake first. (h.0, record { units = i.units; good = i.good; so = first }))
     (own_path line general options section table index (Table found) i h.1)
 
 -- ---- the same for sources whose bytes are known
 
 -- what was judged of an index is true of the table
 abbrev pub Judges : Option (List ℕ) → Indexed → Judged → Type 0
-Judges table index told = OfUnits index (λ selection. IfSome table (λ text. IsJudgedWith index selection text told))
+Judges table index found = OfUnits index (λ selection. IfSome table (λ text. IsJudgedWith index selection text found))
 
 pub scope_told : (scope : Scope) (line general : List ℕ) (options : Options) (section table : Option (List ℕ)) (index : Indexed)
     (told : Judged) (checked : CheckedWithin) → IfSome section (λ bytes. IsIndexOfSection line general options bytes index)

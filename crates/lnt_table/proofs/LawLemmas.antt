@@ -13,7 +13,7 @@ own_table_of_units only line general options bytes table units version verdict g
     only line general options bytes table verdict (record {
       units = units;
       good = good;
-      told = record { version = version; table = w.spans; is_table = w.written.table; so = λ p. sym (w.same p) };
+      so = record { version = version; table = w.spans; is_table = w.written.table; so = λ p. sym (w.same p) };
     }) v
 
 pub own_table : OwnTableOfUnits → OwnTable

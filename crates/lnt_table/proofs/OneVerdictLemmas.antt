@@ -32,7 +32,7 @@ pub one_told : {V X Y D : Type 0} (kind : TableKind V X Y D) → OneComparison k
 one_told kind comparisons line general options section table answers one other h k =
     let same : h.units ≡ k.units = same_units options.order 0 h.units k.units section h.good.spelled k.good.spelled in
     comparisons table (answers k.units) one other
-    (subst (λ (us : List (ℕ × UnitParts)). IsComparisonOf kind (answers us) table one) same h.told) k.told
+    (subst (λ (us : List (ℕ × UnitParts)). IsComparisonOf kind (answers us) table one) same h.so) k.so
 
 -- ---- verdicts, by their kinds
 

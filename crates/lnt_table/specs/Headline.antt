@@ -40,7 +40,7 @@ told_rows options units = in_versions (line_answer (selected options units))
 pub record IsGoodWith (line general : List ℕ) (options : Options) (section : List ℕ) (IsSo : List (ℕ × UnitParts) → Type 0) : Type 0 where
   pub units : List (ℕ × UnitParts)
   pub good : IsGood line general options section units
-  pub told : IsSo units
+  pub so : IsSo units
 
 -- The section is good, and the result is that of comparing the table with its rows: that the table is one of a version, and at every
 -- position its answer is that of the rows (`Same`); the first fault of bytes that aren't a table; or that the table is one of a version,

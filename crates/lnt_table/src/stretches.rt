@@ -115,7 +115,7 @@ pub fn differences_by_path<'t, 'i>(
     spans: &'t [HeldSpan],
     version: PathVersion,
 ) -> DifferencesByPath<'t, Spans<'i>>
-    ensures told { OfUnits index.entry.now (λ selection. StandInOrder (map held_span spans.entry.now)
+    ensures by_units { OfUnits index.entry.now (λ selection. StandInOrder (map held_span spans.entry.now)
         → HasFoundStretchesByPath ⟦<Spans<'i> as SpanSource>⟧.to_come (indexed_path index.entry.now) result
         (told_path version index.entry.now selection) (path_span_answer (map held_span spans.entry.now)) []) }
     ensures started { StandInOrder (map held_span spans.entry.now)

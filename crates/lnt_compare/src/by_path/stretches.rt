@@ -71,7 +71,7 @@ impl<'t, S: SpanSource> DifferencesByPath<'t, S> {
         requires { (by_section : spec_position.Position → Option PathAnswer) × (by_table : spec_position.Position → Option PathAnswer)
             × (told : List spec_difference.DifferenceByPath)
             × HasFoundStretchesByPath S.to_come (P.bytes_of paths.now) self.old by_section by_table (stretches_of told) }
-        ensures told { IfOk result (λ found. (by_section by_table : spec_position.Position → Option PathAnswer)
+        ensures given { IfOk result (λ found. (by_section by_table : spec_position.Position → Option PathAnswer)
             (told : List spec_difference.DifferenceByPath)
             → HasFoundStretchesByPath S.to_come (P.bytes_of paths.now) self.old by_section by_table (stretches_of told)
             → MatchOption found (ArePathStretches by_section by_table told)

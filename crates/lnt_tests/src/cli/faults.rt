@@ -86,7 +86,7 @@ fn failing_writes(rt: HostRuntime) {
 // Whether the stop's text is this one.
 fn says(alloc: Global, stop: &CliStop, text: &str) -> bool {
     stop.to_string(alloc)
-        .is_ok_and(|told| told.as_str() == text)
+        .is_ok_and(|found| found.as_str() == text)
 }
 
 #[test]

@@ -103,7 +103,7 @@ fn sources_at_fault(rt: HostRuntime) {
 
 // Whether this is wrong with a section whose source fails after it.
 fn is_bad_before_a_fault(alloc: Global, section: &[u8], no: No) -> bool {
-    matches!(judged(alloc, failing(section), 1000), Ok(Judged::Bad(told)) if told == no)
+    matches!(judged(alloc, failing(section), 1000), Ok(Judged::Bad(reason)) if reason == no)
 }
 
 // What is wrong with a unit is reported before later bytes are asked for.

@@ -14,12 +14,12 @@ loop-count-init g c = record {
   same = c.new-asked.ensures.op;
   index = search rules;
   none = c.new-asked.ensures.lines;
-  told = text_begun c.new-asked.ensures.line c.new-asked.ensures.status;
+  printed = text_begun c.new-asked.ensures.line c.new-asked.ensures.status;
 }
 
 pub loop-count-preserved : goal.loop-count-preserved
 loop-count-preserved g c =
-    let block = rw (c.loop-count.invariant.same, c.loop-count.invariant.index) at c.in_ok-answer_block.ensures.told in
+    let block = rw (c.loop-count.invariant.same, c.loop-count.invariant.index) at c.in_ok-answer_block.ensures.printed in
     let pulls = pulls_prefix (g.T.Source.remaining c.loop-count.lines) (g.T.Source.remaining c.pull.new.self) c.in-Ok.count
     c.loop-count.block.len c.pull.new.buf _ c.deref.result.now (search rules) c.deref.ensures.value c.in-Ok.ensures.bytes in
     record {
@@ -28,28 +28,28 @@ loop-count-preserved g c =
       same = c.in_ok-answer_block.ensures.same ∙ c.loop-count.invariant.same;
       index = c.answer_block.ensures.index ∙ c.loop-count.invariant.index;
       none = c.in_ok-answer_block.ensures.none;
-      told = text_kept (text_more _ c.loop-count.invariant.told pulls block c.in_ok-answer_block.ensures.line) c.in_ok-flush.ensures.bytes;
+      printed = text_kept (text_more _ c.loop-count.invariant.printed pulls block c.in_ok-answer_block.ensures.line) c.in_ok-flush.ensures.bytes;
     }
 
-pub returns-clause-told : goal.returns-clause-told
-returns-clause-told g c =
+pub returns-clause-printed : goal.returns-clause-printed
+returns-clause-printed g c =
     let some : 0 < length c.pull.new.buf = search rules in
     let count_is : c.in-Ok.count ≡ 0 = search rules in
     let ended : IsAtEnd (g.T.Source.remaining c.pull.new.self) c.too_long.result =
     rw c.too_long.ensures (c.in-Ok.ensures.end count_is some) in
-    let told = text_pulled {now = g.T.Source.remaining c.pull.new.self} c.loop-count.invariant.told
+    let printed = text_pulled {now = g.T.Source.remaining c.pull.new.self} c.loop-count.invariant.printed
     (rw count_is at c.in-Ok.ensures.bytes) in
     elim c.if-not-is_empty.branch [
       | then-not-is_empty+in_ok-answer_line w ↦
           let not_so : c.is_empty.result ≡ false = search rules in
           rw (w.out-is, w.asked-is) (
-          text_ended_within told ended c.if-too_long.false
+          text_ended_within printed ended c.if-too_long.false
           (not_empty c.loop-count.asked.line.len c.loop-count.asked.line.items (search rules) (sym c.is_empty.ensures ∙ not_so))
-          (rw (c.loop-count.invariant.same, c.loop-count.invariant.index) at w.in_ok-answer_line.ensures.told))
+          (rw (c.loop-count.invariant.same, c.loop-count.invariant.index) at w.in_ok-answer_line.ensures.printed))
       | else-not-is_empty w ↦
           let so : c.is_empty.result ≡ true = search rules in
           rw (w.out-is, w.asked-is) (
-          text_ended told ended c.if-too_long.false
+          text_ended printed ended c.if-too_long.false
           (is_empty c.loop-count.asked.line.len c.loop-count.asked.line.items (search rules) (sym c.is_empty.ensures ∙ so)))
     ]
 
@@ -64,7 +64,7 @@ returns-in_err-lookups-clause-begun g c =
     (text_unbegun c.args.index.now c.args.op (g.T.Source.remaining c.args.lines.now) (g.W.Write.contents c.args.out.now))
 
 pub returns-in_default-clause-begun : goal.returns-in_default-clause-begun
-returns-in_default-clause-begun g c = text_kept_begun c.loop-count.invariant.told
+returns-in_default-clause-begun g c = text_kept_begun c.loop-count.invariant.printed
 
 pub returns-in_err-answer_block-clause-begun : goal.returns-in_err-answer_block-clause-begun
 returns-in_err-answer_block-clause-begun g c =
@@ -72,20 +72,20 @@ returns-in_err-answer_block-clause-begun g c =
     let pulls = pulls_prefix (g.T.Source.remaining c.loop-count.lines) (g.T.Source.remaining c.pull.new.self) c.in-Ok.count
     c.loop-count.block.len c.pull.new.buf _ c.deref.result.now (search rules) c.deref.ensures.value c.in-Ok.ensures.bytes in
     so_stopped c.from_residual-in_err-answer_block.result _
-    (text_stopped (g.T.Source.remaining c.pull.new.self) _ c.loop-count.invariant.told pulls begun)
+    (text_stopped (g.T.Source.remaining c.pull.new.self) _ c.loop-count.invariant.printed pulls begun)
 
 pub returns-in_err-flush-clause-begun : goal.returns-in_err-flush-clause-begun
 returns-in_err-flush-clause-begun g c =
-    let block = rw (c.loop-count.invariant.same, c.loop-count.invariant.index) at c.in_ok-answer_block.ensures.told in
+    let block = rw (c.loop-count.invariant.same, c.loop-count.invariant.index) at c.in_ok-answer_block.ensures.printed in
     let pulls = pulls_prefix (g.T.Source.remaining c.loop-count.lines) (g.T.Source.remaining c.pull.new.self) c.in-Ok.count
     c.loop-count.block.len c.pull.new.buf _ c.deref.result.now (search rules) c.deref.ensures.value c.in-Ok.ensures.bytes in
     so_stopped c.from_residual-in_err-flush.result _
     (text_kept_begun (text_kept {new = g.W.Write.contents c.flush.new.self}
-    (text_more {now = g.T.Source.remaining c.pull.new.self} _ c.loop-count.invariant.told pulls block
+    (text_more {now = g.T.Source.remaining c.pull.new.self} _ c.loop-count.invariant.printed pulls block
     c.in_ok-answer_block.ensures.line) c.in_err-flush.ensures.bytes))
 
 pub returns-then-too_long-clause-begun : goal.returns-then-too_long-clause-begun
-returns-then-too_long-clause-begun g c = text_kept_begun c.loop-count.invariant.told
+returns-then-too_long-clause-begun g c = text_kept_begun c.loop-count.invariant.printed
 
 pub returns-in_err-answer_line-clause-begun : goal.returns-in_err-answer_line-clause-begun
 returns-in_err-answer_line-clause-begun g c =
@@ -93,10 +93,10 @@ returns-in_err-answer_line-clause-begun g c =
     let count_is : c.in-Ok.count ≡ 0 = search rules in
     let ended : IsAtEnd (g.T.Source.remaining c.pull.new.self) c.too_long.result =
     rw c.too_long.ensures (c.in-Ok.ensures.end count_is some) in
-    let told = text_pulled {now = g.T.Source.remaining c.pull.new.self} c.loop-count.invariant.told
+    let printed = text_pulled {now = g.T.Source.remaining c.pull.new.self} c.loop-count.invariant.printed
     (rw count_is at c.in-Ok.ensures.bytes) in
     let not_so : c.is_empty.result ≡ false = search rules in
     so_stopped c.from_residual-in_err-answer_line.result _
-    (last_stopped told ended c.if-too_long.false
+    (last_stopped printed ended c.if-too_long.false
     (not_empty c.loop-count.asked.line.len c.loop-count.asked.line.items (search rules) (sym c.is_empty.ensures ∙ not_so))
     (rw (c.loop-count.invariant.same, c.loop-count.invariant.index) at c.in_err-answer_line.ensures.stopped))

@@ -9,7 +9,7 @@ invariant-loop-count g l = record {
   same : l.asked.answers.op ≡ l.fn.op;
   index : l.lookups ≡ l.index;
   none : l.asked.answers.lines.items ≡ [];
-  told : IsTextTold l.index l.fn.op (g.T.Source.remaining l.fn.lines) (g.T.Source.remaining l.lines) l.asked.line.items
+  printed : IsTextTold l.index l.fn.op (g.T.Source.remaining l.fn.lines) (g.T.Source.remaining l.lines) l.asked.line.items
       (g.W.Write.contents l.fn.out) (g.W.Write.contents l.out) l.asked.answers.status;
 }
 

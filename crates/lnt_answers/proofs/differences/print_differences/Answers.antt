@@ -21,7 +21,7 @@ loop-difference-preserved g c = (
   c.print.ensures.scope ∙ c.loop-difference.invariant.0,
   λ f f' h.
       let printed = c.loop-difference.invariant.1 f f' h in
-      printed_more c.in-Some.difference printed (c.in-Some.ensures.told f f' printed.given printed.so) c.is_some-is_answered.ensures
+      printed_more c.in-Some.difference printed (c.in-Some.ensures.given f f' printed.given printed.so) c.is_some-is_answered.ensures
       (rw c.loop-difference.invariant.0 at c.in_ok-print.ensures.line) (rw c.loop-difference.invariant.0 at c.in_ok-print.ensures.right),
 )
 
@@ -32,11 +32,11 @@ returns-in_err-print-clause-begun g c =
     let printed = c.loop-difference.invariant.1 f f' h in
     stopped_within c.in-Some.difference printed
     (more_stretches g.S.SpanSource.to_come g.T.SpanSource.to_come c.next_difference.new.self f f' _
-    (c.in-Some.ensures.told f f' printed.given printed.so))
+    (c.in-Some.ensures.given f f' printed.given printed.so))
     c.is_some-is_answered.ensures (rw c.loop-difference.invariant.0 at c.in_err-print.ensures.prefix))
 
 pub returns-clause-lines : goal.returns-clause-lines
 returns-clause-lines g c f f' h =
     let printed = c.loop-difference.invariant.1 f f' h in
-    all_printed printed (c.in_default.ensures.told f f' printed.given printed.so)
+    all_printed printed (c.in_default.ensures.given f f' printed.given printed.so)
     (c.missed.ensures ∙ c.in_default.ensures.missed f f' printed.given printed.so refl) c.if_right.ensures

@@ -32,7 +32,7 @@ loop-lines-preserved g c = (
   c.print-printed.ensures.scope ∙ c.loop-lines.invariant.0,
   λ f f' h.
       let printed = c.loop-lines.invariant.1 f f' h in
-      printed_more c.in-Some.difference printed (rw c.in-Some.is at c.in_ok-difference.ensures.told f f' printed.given printed.so)
+      printed_more c.in-Some.difference printed (rw c.in-Some.is at c.in_ok-difference.ensures.given f f' printed.given printed.so)
       (answered_so c.in-Some.difference c.is_some-is_answered.result c.is_some-is_answered.ensures)
       (rw c.loop-lines.invariant.0 at c.in_ok-printed.ensures.line) (rw c.loop-lines.invariant.0 at c.in_ok-printed.ensures.right),
 )
@@ -42,7 +42,7 @@ returns-in_err-printed-clause-begun g c =
     so_stopped c.from_residual-in_err-printed.result _
     (λ f f' h.
     let printed = c.loop-lines.invariant.1 f f' h in
-    let told = rw c.in-Some.is at c.in_ok-difference.ensures.told f f' printed.given printed.so in
+    let told = rw c.in-Some.is at c.in_ok-difference.ensures.given f f' printed.given printed.so in
     stopped_within c.in-Some.difference printed
     (path_stretches_on g.S.SpanSource.to_come (g.P.Paths.bytes_of c.args.paths.now) c.next_difference.new.self f f' _ told)
     (answered_so c.in-Some.difference c.is_some-is_answered.result c.is_some-is_answered.ensures)
@@ -51,5 +51,5 @@ returns-in_err-printed-clause-begun g c =
 pub returns-clause-lines : goal.returns-clause-lines
 returns-clause-lines g c f f' h =
     let printed = c.loop-lines.invariant.1 f f' h in
-    all_printed printed (rw c.in_default.is at c.in_ok-difference.ensures.told f f' printed.given printed.so)
+    all_printed printed (rw c.in_default.is at c.in_ok-difference.ensures.given f f' printed.given printed.so)
     (c.missed.ensures ∙ c.in_ok-difference.ensures.missed f f' printed.given printed.so c.in_default.is) c.if_right.ensures

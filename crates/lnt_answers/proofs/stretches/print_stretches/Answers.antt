@@ -5,19 +5,19 @@ use Rattle.lnt_answers.proofs.ScopeLemmas.{end_begun, end_told}
 use Rattle.lnt_answers.proofs.StretchLemmas.{fault_begun, for_units, numbered_begun, path_begun, path_fault_begun}
 use Rattle.lnt_answers.proofs.stretches.print_stretches.Goals as goal
 
-pub returns-in_ok-status-in-Ok-Numbered-Table-clause-told : goal.returns-in_ok-status-in-Ok-Numbered-Table-clause-told
-returns-in_ok-status-in-Ok-Numbered-Table-clause-told g c selection is =
+pub returns-in_ok-status-in-Ok-Numbered-Table-clause-printed : goal.returns-in_ok-status-in-Ok-Numbered-Table-clause-printed
+returns-in_ok-status-in-Ok-Numbered-Table-clause-printed g c selection is =
     for_units _ _ _ _ selection _ _ c.in-Ok-Numbered-Table.differences-is
     (rw (c.in-Ok-Numbered-Table.field-0-is, c.in-Ok-Numbered-Table.field-0-0-is) at (c.in-Ok-Numbered-Table.ensures.ok selection is))
     (λ f f' h all. end_told (c.in_ok-missed-in-Ok-Numbered-Table.ensures.lines f f' h) all
     (c.in_ok-status-in-Ok-Numbered-Table.ensures.text selection is) c.in_ok-status-in-Ok-Numbered-Table.ensures.status)
 
-pub returns-in_ok-status-in-Ok-ByPath-Table-clause-told : goal.returns-in_ok-status-in-Ok-ByPath-Table-clause-told
-returns-in_ok-status-in-Ok-ByPath-Table-clause-told g c selection is =
+pub returns-in_ok-status-in-Ok-ByPath-Table-clause-printed : goal.returns-in_ok-status-in-Ok-ByPath-Table-clause-printed
+returns-in_ok-status-in-Ok-ByPath-Table-clause-printed g c selection is =
     for_path_units _ c.args.index.now _ _ _ _ _ selection _ _ c.deref.ensures.value c.of-paths.ensures
     (rw (c.in-Ok-ByPath-Table.field-0-is, c.in-Ok-ByPath-Table.field-0-0-is) at (c.in-Ok-ByPath-Table.ensures.ok selection is))
     (rw (c.in-Ok-ByPath-Table.field-0-is, c.in-Ok-ByPath-Table.field-0-0-is) at c.in-Ok-ByPath-Table.ensures.started)
-    (c.differences_by_path-differences.ensures.told selection is)
+    (c.differences_by_path-differences.ensures.by_units selection is)
     (λ f f' h all. end_told (c.in_ok-missed-in-Ok-ByPath-Table.ensures.lines f f' h) all
     (c.in_ok-status-in-Ok-ByPath-Table.ensures.text selection is) c.in_ok-status-in-Ok-ByPath-Table.ensures.status)
 
@@ -45,7 +45,7 @@ returns-in_err-missed-in-Ok-ByPath-Table-clause-begun g c =
     path_begun _ c.args.index.now selection _ _ _ _ _ _ c.deref.ensures.value c.of-paths.ensures
     (rw (c.in-Ok-ByPath-Table.field-0-is, c.in-Ok-ByPath-Table.field-0-0-is) at (c.in-Ok-ByPath-Table.ensures.ok selection is))
     (rw (c.in-Ok-ByPath-Table.field-0-is, c.in-Ok-ByPath-Table.field-0-0-is) at c.in-Ok-ByPath-Table.ensures.started)
-    (c.differences_by_path-differences.ensures.told selection is)
+    (c.differences_by_path-differences.ensures.by_units selection is)
     (λ f f' h all. c.in_err-missed-in-Ok-ByPath-Table.ensures.begun f f' h)))
 
 pub returns-in_err-status-in-Ok-ByPath-Table-clause-begun : goal.returns-in_err-status-in-Ok-ByPath-Table-clause-begun
@@ -55,7 +55,7 @@ returns-in_err-status-in-Ok-ByPath-Table-clause-begun g c =
     path_begun _ c.args.index.now selection _ _ _ _ _ _ c.deref.ensures.value c.of-paths.ensures
     (rw (c.in-Ok-ByPath-Table.field-0-is, c.in-Ok-ByPath-Table.field-0-0-is) at (c.in-Ok-ByPath-Table.ensures.ok selection is))
     (rw (c.in-Ok-ByPath-Table.field-0-is, c.in-Ok-ByPath-Table.field-0-0-is) at c.in-Ok-ByPath-Table.ensures.started)
-    (c.differences_by_path-differences.ensures.told selection is)
+    (c.differences_by_path-differences.ensures.by_units selection is)
     (λ f f' h all. end_begun (c.in_ok-missed-in-Ok-ByPath-Table.ensures.lines f f' h) all
     (c.in_err-status-in-Ok-ByPath-Table.ensures.prefix selection is))))
 

@@ -11,7 +11,7 @@ returns-in-Check-false-default-clause-answer g c =
     (IfOk-weaker c.check_table.result _ _
     (λ answered so.
     of_file (g.O.Opener.finds c.args.opener.now) c.args.from.now c.args.file.now _ _ _ _ _ c.in_ok-files.ensures.texts
-    c.in_ok-files.ensures.told (c.open_judged.ensures.later _ _ c.in_ok-other.ensures.told) so)
+    c.in_ok-files.ensures.found (c.open_judged.ensures.later _ _ c.in_ok-other.ensures.found) so)
     c.check_table.ensures.answer)
 
 pub returns-in-Check-false-default-clause-stopped : goal.returns-in-Check-false-default-clause-stopped
@@ -21,7 +21,7 @@ returns-in-Check-false-default-clause-stopped g c =
     (begun_of _ _ _ c.check_table.result c.check_table.ensures.stopped
     (λ begun.
     of_file (g.O.Opener.finds c.args.opener.now) c.args.from.now c.args.file.now _ _ _ _ _ c.in_ok-files.ensures.texts
-    c.in_ok-files.ensures.told (c.open_judged.ensures.later _ _ c.in_ok-other.ensures.told) begun))
+    c.in_ok-files.ensures.found (c.open_judged.ensures.later _ _ c.in_ok-other.ensures.found) begun))
 
 pub returns-in-Check-true-default-clause-answer : goal.returns-in-Check-true-default-clause-answer
 returns-in-Check-true-default-clause-answer g c =
@@ -30,7 +30,7 @@ returns-in-Check-true-default-clause-answer g c =
     (IfOk-weaker c.answer_both.result _ _
     (λ answered so.
     of_file (g.O.Opener.finds c.args.opener.now) c.args.from.now c.args.file.now _ _ _ _ _ c.in_ok-files.ensures.texts
-    c.in_ok-files.ensures.told (c.open_judged.ensures.later _ _ c.in_ok-other.ensures.told) so)
+    c.in_ok-files.ensures.found (c.open_judged.ensures.later _ _ c.in_ok-other.ensures.found) so)
     (rw arm.is at c.answer_both.ensures.answer))
 
 pub returns-in-Check-true-default-clause-stopped : goal.returns-in-Check-true-default-clause-stopped
@@ -40,7 +40,7 @@ returns-in-Check-true-default-clause-stopped g c =
     (begun_of _ _ _ c.answer_both.result (rw arm.is at c.answer_both.ensures.stopped)
     (λ begun.
     of_file (g.O.Opener.finds c.args.opener.now) c.args.from.now c.args.file.now _ _ _ _ _ c.in_ok-files.ensures.texts
-    c.in_ok-files.ensures.told (c.open_judged.ensures.later _ _ c.in_ok-other.ensures.told) begun))
+    c.in_ok-files.ensures.found (c.open_judged.ensures.later _ _ c.in_ok-other.ensures.found) begun))
 
 pub returns-clause-answer : goal.returns-clause-answer
 returns-clause-answer g c =
@@ -48,7 +48,7 @@ returns-clause-answer g c =
     (IfOk-weaker c.answer_both-in-Lines.result _ _
     (λ answered so.
     of_file (g.O.Opener.finds c.args.opener.now) c.args.from.now c.args.file.now _ _ _ _ _ c.in_ok-files.ensures.texts
-    c.in_ok-files.ensures.told (c.open_judged.ensures.later _ _ c.in_ok-other.ensures.told) so)
+    c.in_ok-files.ensures.found (c.open_judged.ensures.later _ _ c.in_ok-other.ensures.found) so)
     (rw c.in-Lines.is at c.answer_both-in-Lines.ensures.answer))
 
 pub returns-clause-stopped : goal.returns-clause-stopped
@@ -57,4 +57,4 @@ returns-clause-stopped g c =
     (begun_of _ _ _ c.answer_both-in-Lines.result (rw c.in-Lines.is at c.answer_both-in-Lines.ensures.stopped)
     (λ begun.
     of_file (g.O.Opener.finds c.args.opener.now) c.args.from.now c.args.file.now _ _ _ _ _ c.in_ok-files.ensures.texts
-    c.in_ok-files.ensures.told (c.open_judged.ensures.later _ _ c.in_ok-other.ensures.told) begun))
+    c.in_ok-files.ensures.found (c.open_judged.ensures.later _ _ c.in_ok-other.ensures.found) begun))

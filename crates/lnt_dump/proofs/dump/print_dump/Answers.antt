@@ -7,42 +7,42 @@ use Rattle.lnt_dump.proofs.dump.print_dump.Goals as goal
 pub loop-page-init : goal.loop-page-init
 loop-page-init g c = record {
   reading = c.new-reader.ensures.reading;
-  told = units_none c.new-reader.ensures.order c.new-reader.ensures.offset (ap g.R.Source.remaining c.new-reader.ensures.source);
+  printed = units_none c.new-reader.ensures.order c.new-reader.ensures.offset (ap g.R.Source.remaining c.new-reader.ensures.source);
 }
 
 pub returns-in_err-unit-clause-begun : goal.returns-in_err-unit-clause-begun
 returns-in_err-unit-clause-begun g c =
-    so_stopped c.from_residual.result _ (units_stay c.loop-page.invariant.told)
+    so_stopped c.from_residual.result _ (units_stay c.loop-page.invariant.printed)
 
-pub returns-in-Fault-clause-told : goal.returns-in-Fault-clause-told
-returns-in-Fault-clause-told g c =
-    units_faulty c.loop-page.invariant.told (g.W.Write.contents c.print_fault.new.out) c.in-Fault.fault c.print_fault.result (rw
+pub returns-in-Fault-clause-printed : goal.returns-in-Fault-clause-printed
+returns-in-Fault-clause-printed g c =
+    units_faulty c.loop-page.invariant.printed (g.W.Write.contents c.print_fault.new.out) c.in-Fault.fault c.print_fault.result (rw
     c.in-Fault.is at c.in_ok-unit.ensures.next) c.print_fault.ensures.no c.print_fault.ensures.line
 
 pub returns-in-Fault-clause-begun : goal.returns-in-Fault-clause-begun
 returns-in-Fault-clause-begun g c =
-    units_fault_cut c.loop-page.invariant.told (g.W.Write.contents c.print_fault.new.out) c.in-Fault.fault c.print_fault.result (rw
+    units_fault_cut c.loop-page.invariant.printed (g.W.Write.contents c.print_fault.new.out) c.in-Fault.fault c.print_fault.result (rw
     c.in-Fault.is at c.in_ok-unit.ensures.next) c.print_fault.ensures.prefix
 
-pub returns-in-End-clause-told : goal.returns-in-End-clause-told
-returns-in-End-clause-told g c =
-    units_end c.loop-page.invariant.told (rw c.in-End.is at c.in_ok-unit.ensures.next)
+pub returns-in-End-clause-printed : goal.returns-in-End-clause-printed
+returns-in-End-clause-printed g c =
+    units_end c.loop-page.invariant.printed (rw c.in-End.is at c.in_ok-unit.ensures.next)
 
 pub returns-in_err-print_unit-clause-begun : goal.returns-in_err-print_unit-clause-begun
 returns-in_err-print_unit-clause-begun g c =
-    so_stopped c.from_residual-in_err-print_unit.result _ (units_cut c.in_ok-unit.ensures.order c.loop-page.invariant.told (next_framed
+    so_stopped c.from_residual-in_err-print_unit.result _ (units_cut c.in_ok-unit.ensures.order c.loop-page.invariant.printed (next_framed
     c.in-Unit.is c.in_ok-unit.ensures.next c.frame.ensures.offset c.frame.ensures.bytes c.frame.ensures.placed)
     c.in_err-print_unit.ensures.begun)
 
-pub returns-then-eq-clause-told : goal.returns-then-eq-clause-told
-returns-then-eq-clause-told g c =
-    units_broken c.in_ok-unit.ensures.order c.loop-page.invariant.told (next_framed c.in-Unit.is c.in_ok-unit.ensures.next
-    c.frame.ensures.offset c.frame.ensures.bytes c.frame.ensures.placed) c.in_ok-print_unit.ensures.told (search rules)
+pub returns-then-eq-clause-printed : goal.returns-then-eq-clause-printed
+returns-then-eq-clause-printed g c =
+    units_broken c.in_ok-unit.ensures.order c.loop-page.invariant.printed (next_framed c.in-Unit.is c.in_ok-unit.ensures.next
+    c.frame.ensures.offset c.frame.ensures.bytes c.frame.ensures.placed) c.in_ok-print_unit.ensures.printed (search rules)
 
 pub loop-page-preserved : goal.loop-page-preserved
 loop-page-preserved g c =
     record {
       reading = search rules;
-      told = units_more c.in_ok-unit.ensures.order c.loop-page.invariant.told (next_framed c.in-Unit.is c.in_ok-unit.ensures.next
-          c.frame.ensures.offset c.frame.ensures.bytes c.frame.ensures.placed) c.in_ok-print_unit.ensures.told (λ no. search rules);
+      printed = units_more c.in_ok-unit.ensures.order c.loop-page.invariant.printed (next_framed c.in-Unit.is c.in_ok-unit.ensures.next
+          c.frame.ensures.offset c.frame.ensures.bytes c.frame.ensures.placed) c.in_ok-print_unit.ensures.printed (λ no. search rules);
     }

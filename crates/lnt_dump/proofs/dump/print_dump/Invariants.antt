@@ -7,7 +7,7 @@ use Rattle.lnt_dump.proofs.dump.print_dump.Given as goal
 abbrev pub invariant-loop-page : goal.invariant-loop-page
 invariant-loop-page g l = record {
   reading : progress_of l.reader ≡ Reading;
-  told : UnitsPrinted l.fn.order l.fn.shown (g.R.Source.remaining l.fn.source) (g.R.Source.remaining (source_of l.reader))
+  printed : UnitsPrinted l.fn.order l.fn.shown (g.R.Source.remaining l.fn.source) (g.R.Source.remaining (source_of l.reader))
       (g.W.Write.contents l.fn.out) (g.W.Write.contents l.out) (order_of l.reader) (offset_of l.reader);
 }
 

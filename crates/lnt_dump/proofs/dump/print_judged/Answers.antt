@@ -8,12 +8,12 @@ returns-in_err-print_valid-in-Ok-clause-begun g c =
     so_stopped c.from_residual.result _
     (inr (valid_so c.args.unit.now c.in-Ok.ensures.ok c.in_err-print_valid-in-Ok.ensures.prefix))
 
-pub returns-in_ok-print_valid-in-Ok-clause-told : goal.returns-in_ok-print_valid-in-Ok-clause-told
-returns-in_ok-print_valid-in-Ok-clause-told g c =
+pub returns-in_ok-print_valid-in-Ok-clause-printed : goal.returns-in_ok-print_valid-in-Ok-clause-printed
+returns-in_ok-print_valid-in-Ok-clause-printed g c =
     (valid_so c.args.unit.now c.in-Ok.ensures.ok c.in_ok-print_valid-in-Ok.ensures.whole, refl)
 
-pub returns-in-Err-clause-told : goal.returns-in-Err-clause-told
-returns-in-Err-clause-told g c =
+pub returns-in-Err-clause-printed : goal.returns-in-Err-clause-printed
+returns-in-Err-clause-printed g c =
     faulty_told _ _ _ _ _ c.in-Err.fault c.print_unit_fault.result c.requires c.in-Err.ensures.err c.print_unit_fault.ensures.no
     c.print_unit_fault.ensures.line
 

@@ -7,7 +7,7 @@ use Rattle.lnt_dump.proofs.units.print_units.Given as goal
 abbrev pub invariant-loop-unit : goal.invariant-loop-unit
 invariant-loop-unit g l = record {
   reading : progress_of l.reader ≡ Reading;
-  told : FramesPrinted l.fn.order (g.R.Source.remaining l.fn.source) (g.R.Source.remaining (source_of l.reader))
+  printed : FramesPrinted l.fn.order (g.R.Source.remaining l.fn.source) (g.R.Source.remaining (source_of l.reader))
       (g.W.Write.contents l.fn.out) (g.W.Write.contents l.out) (order_of l.reader) (offset_of l.reader);
 }
 

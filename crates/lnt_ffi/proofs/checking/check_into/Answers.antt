@@ -1,8 +1,8 @@
 use Rattle.lnt_ffi.specs.Returns.{ReturnsVerdictByPath}
 use Rattle.lnt_ffi.proofs.checking.check_into.Goals as goal
 
-pub returns-in-Ok-clause-told : goal.returns-in-Ok-clause-told
-returns-in-Ok-clause-told c =
+pub returns-in-Ok-clause-returned : goal.returns-in-Ok-clause-returned
+returns-in-Ok-clause-returned c =
     let strings = c.strings.ensures in
     ReturnsVerdictByPath.judged c.in-Ok.found
     (rw (strings.line, strings.general, c.options.ensures, c.of-line.ensures, c.of-text.ensures) at c.in-Ok.ensures.checked)

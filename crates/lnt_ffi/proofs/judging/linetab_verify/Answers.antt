@@ -9,8 +9,8 @@ put_spans-requires c =
     let few = permuted_within_section _ _ _ all.spans all.spans_are is.good.spelled in
     record { few = (all.spans, all.to_come, omega (arith, few)) }
 
-pub returns-in-Some-clause-told : goal.returns-in-Some-clause-told
-returns-in-Some-clause-told c =
+pub returns-in-Some-clause-returned : goal.returns-in-Some-clause-returned
+returns-in-Some-clause-returned c =
     let is = c.in-Some.ensures.good in
     let all = c.spans.ensures.gives _ is.index_is in
     inl (
@@ -24,5 +24,5 @@ returns-in-Some-clause-told c =
       c.in-Some.ensures.yes,
     )
 
-pub returns-in-None-clause-told : goal.returns-in-None-clause-told
-returns-in-None-clause-told c = inr (c.in-None.ensures.refused, refl, refl)
+pub returns-in-None-clause-returned : goal.returns-in-None-clause-returned
+returns-in-None-clause-returned c = inr (c.in-None.ensures.refused, refl, refl)

@@ -7,8 +7,8 @@ use Rattle.lnt_spans.proofs.SideLemmas.{side_on, side_run}
 use Rattle.lnt_spans.proofs.StretchLemmas.{both_move, given_all, step_counted, step_told}
 use Rattle.lnt_spans.proofs.any_stretches.take_step.Goals as goal
 
-pub returns-in_default-clause-told : goal.returns-in_default-clause-told
-returns-in_default-clause-told g c from f f' told h =
+pub returns-in_default-clause-given : goal.returns-in_default-clause-given
+returns-in_default-clause-given g c from f f' told h =
     let own = c.args.stretches.now in
     let run = c.args.run in
     let tell = g.T.Telling.tell c.args.telling.now in
@@ -21,8 +21,8 @@ returns-in_default-clause-told g c from f f' told h =
     (λ values s. run_on g.N.Runs.is_at g.N.Runs.value_of g.T.Telling.said run from own.table f' own.at values s c.requires.past))
     c.in_default.ensures (c.run_at-section.ensures.ended c.in_default.ensures.0) (h.table.valued.ended c.in_default.ensures.1)
 
-pub returns-clause-told : goal.returns-clause-told
-returns-clause-told g c from f f' told h =
+pub returns-clause-given : goal.returns-clause-given
+returns-clause-given g c from f f' told h =
     let own = c.args.stretches.now in
     let run = c.args.run in
     let tell = g.T.Telling.tell c.args.telling.now in
@@ -48,16 +48,16 @@ returns-clause-told g c from f f' told h =
 
 pub returns-clause-fewer : goal.returns-clause-fewer
 returns-clause-fewer g c =
-    let from = c.requires.told.0 in
-    let h = c.requires.told.4 in
+    let from = c.requires.given.0 in
+    let h = c.requires.given.4 in
     let own = c.args.stretches.now in
     let run = c.args.run in
     let end = c.in-Some.end in
     let within = IsInRun g.N.Runs.is_at g.N.Runs.value_of run from in
     let moves = both_move g.S.SpanSource.to_come within g.N.Runs.value_of (g.T.Telling.tell c.args.telling.now) g.T.Telling.said
-    own.section own.table own.at end c.requires.told.1 c.requires.told.2 c.run_at-section.result.answer run.answer
+    own.section own.table own.at end c.requires.given.1 c.requires.given.2 c.run_at-section.result.answer run.answer
     c.run_at-section.result.end run.end h.section h.table c.run_at-section.ensures.run
-    (λ values s. run_on g.N.Runs.is_at g.N.Runs.value_of g.T.Telling.said run from own.table c.requires.told.2 own.at values s
+    (λ values s. run_on g.N.Runs.is_at g.N.Runs.value_of g.T.Telling.said run from own.table c.requires.given.2 own.at values s
     c.requires.past) c.in-Some.ensures in
     let fewer = c.pass_to.ensures.fewer own.at (below_is_at_most moves.below)
     (subst (IsUpTo end) c.run_at-section.ensures.end c.in-Some.ensures.0) in

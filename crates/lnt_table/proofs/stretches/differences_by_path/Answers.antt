@@ -4,8 +4,8 @@ use Rattle.lnt_table.specs.Headline.{indexed_path, told_path}
 use Rattle.lnt_table.proofs.UnitPathLemmas.{told_by_units}
 use Rattle.lnt_table.proofs.stretches.differences_by_path.Goals as goal
 
-pub returns-clause-told : goal.returns-clause-told
-returns-clause-told c selection is order =
+pub returns-clause-by_units : goal.returns-clause-by_units
+returns-clause-by_units c selection is order =
     let all = c.spans.ensures.gives selection is in
     c.of.ensures (indexed_path c.args.index.now) all.spans (told_path c.args.version c.args.index.now selection) all.to_come all.in_order
     (told_by_units c.args.version c.args.index.now selection all.spans is all.answers) order

@@ -10,7 +10,7 @@ loop-word-preserved c = grind (arith, common_steps, take_more, map-append, addre
 
 pub returns-in_err-address-clause-refused : goal.returns-in_err-address-clause-refused
 returns-in_err-address-clause-refused c =
-    err_all c.from_residual.result _ (λ stop told addresses so.
+    err_all c.from_residual.result _ (λ stop said addresses so.
     no_addresses c.args.given.now c.loop-word.word-index _ addresses c.loop-word-test.true c.in_err-address.ensures.refused so)
 
 pub returns-clause-asked : goal.returns-clause-asked

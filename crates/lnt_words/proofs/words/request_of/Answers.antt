@@ -18,8 +18,8 @@ returns-in-Ok c =
     record {
       asked = IfOk-weaker c.asked_in.result _ _ (λ asked so. inr (fine, subst (λ of. IsAskedOf of asked) found (by_rows _ asked so)))
           c.asked_in.ensures.asked;
-      refused = IfErr-weaker c.asked_in.result _ _ (λ stop none told.
-          inr (fine, subst (λ (of : Option (Text × List Row)). (asked : Asked) → IsAskedOf of asked → ⊥) found (none told)))
+      refused = IfErr-weaker c.asked_in.result _ _ (λ stop none said.
+          inr (fine, subst (λ (of : Option (Text × List Row)). (asked : Asked) → IsAskedOf of asked → ⊥) found (none said)))
           c.asked_in.ensures.refused;
     }
 
@@ -31,7 +31,7 @@ returns-in-Err c =
     (c.in-Err.ensures.kinds (ap is_simple_and_free built ∙ linetab_is_free)) in
     record {
       asked = IfOk-weaker c.help_in.result _ _ (λ asked so. inl (help_among _ c.in-Err.error kinds so.1, so.0)) c.help_in.ensures.asked;
-      refused = IfErr-weaker c.help_in.result _ _ (λ stop none told.
-          let not = none told in inl (kind_of c.in-Err.error, kind_among _ c.in-Err.error kinds not.0, not.1, not.2))
+      refused = IfErr-weaker c.help_in.result _ _ (λ stop none said.
+          let not = none said in inl (kind_of c.in-Err.error, kind_among _ c.in-Err.error kinds not.0, not.1, not.2))
           c.help_in.ensures.refused;
     }

@@ -7,7 +7,7 @@ invariant-loop-next l = record {
   same : l.self.op ≡ l.fn.self.op;
   index : l.lookups ≡ l.fn.lookups;
   shorter : length l.rest ≤ length l.fn.text;
-  told : AreFirstPrinted l.fn.lookups l.fn.self.op l.fn.text l.rest (Some l.fn.self.lines.items) (Some l.self.lines.items)
+  printed : AreFirstPrinted l.fn.lookups l.fn.self.op l.fn.text l.rest (Some l.fn.self.lines.items) (Some l.self.lines.items)
       l.fn.self.status l.self.status;
 }
 

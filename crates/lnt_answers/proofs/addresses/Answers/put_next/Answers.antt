@@ -4,14 +4,14 @@ use Rattle.lnt_answers.proofs.AddressLemmas.{first_found, first_line}
 use Rattle.lnt_answers.proofs.CommaLemmas.{rest_after}
 use Rattle.lnt_answers.proofs.addresses.Answers.put_next.Goals as goal
 
-pub returns-in-Some-clause-told : goal.returns-in-Some-clause-told
-returns-in-Some-clause-told c = first_found c.in-Some.ensures c.in_ok-put_lookup.ensures.line
+pub returns-in-Some-clause-printed : goal.returns-in-Some-clause-printed
+returns-in-Some-clause-printed c = first_found c.in-Some.ensures c.in_ok-put_lookup.ensures.line
 
-pub returns-clause-told : goal.returns-clause-told
-returns-clause-told c =
+pub returns-clause-printed : goal.returns-clause-printed
+returns-clause-printed c =
     let text = c.args.text.now in
     let end = c.in-Some-place_of.end in
     let at = rw c.in-Some-place_of.is at c.place_of.ensures.cut in
     subst (λ rest. AreFirstPrinted c.args.lookups.now c.args.self.now.op text rest (Some c.args.self.now.lines.items)
     (Some c.put_line.new.self.lines.items) c.args.self.now.status c.put_line.new.self.status) (sym (rest_after text (end + 1)))
-    (first_line (take end text) at c.without_return.ensures c.in_ok-put_line.ensures.told)
+    (first_line (take end text) at c.without_return.ensures c.in_ok-put_line.ensures.printed)

@@ -13,7 +13,7 @@ loop-end-init g c = record {
   none = c.requires.none;
   shorter = search rules;
   whole = c.requires.line;
-  told = first_none _ _ _;
+  printed = first_none _ _ _;
 }
 
 pub overflow_add-end : goal.overflow_add-end
@@ -28,8 +28,8 @@ loop-end-preserved g c =
     let rest = c.loop-end.rest.now in
     let end = c.in-Some.end in
     let at = rw c.in-Some.is at c.place_of.ensures.cut in
-    let ended = rw (before.same, before.index) at c.in_ok-end_line.ensures.told in
-    let more = rw (c.in_ok-end_line.ensures.same, before.same, c.end_line.ensures.index, before.index) at c.in_ok-rest.ensures.told in
+    let ended = rw (before.same, before.index) at c.in_ok-end_line.ensures.printed in
+    let more = rw (c.in_ok-end_line.ensures.same, before.same, c.end_line.ensures.index, before.index) at c.in_ok-rest.ensures.printed in
     let made = first_joined c.loop-end.self.line.items rest (take end rest) before.whole at ended (rest_after rest (end + 1)) more in
     let shorter = c.in_ok-rest.ensures.shorter in
     let none = c.in_ok-end_line.ensures.begun in
@@ -39,14 +39,14 @@ loop-end-preserved g c =
       none = c.in_ok-send.ensures.empty;
       shorter = search rules;
       whole = none_in 10 c.end_line.new.self.line.items none;
-      told = first_emptied (first_more before.told (first_sent made before.none c.in_ok-send.ensures.whole)) none;
+      printed = first_emptied (first_more before.printed (first_sent made before.none c.in_ok-send.ensures.whole)) none;
     }
 
-pub returns-clause-told : goal.returns-clause-told
-returns-clause-told g c =
+pub returns-clause-printed : goal.returns-clause-printed
+returns-clause-printed g c =
     subst (λ (z : List ℕ). AreFirstPrinted c.args.lookups.now c.args.self.now.answers.op (c.args.self.now.line.items ++ c.args.block.now) z
     (g.W.Write.contents c.args.out.now) (g.W.Write.contents c.loop-end.out) c.args.self.now.answers.status c.loop-end.self.answers.status)
-    (sym c.in_ok-extend_from_slice.ensures.items) c.loop-end.invariant.told
+    (sym c.in_ok-extend_from_slice.ensures.items) c.loop-end.invariant.printed
 
 pub returns-clause-line : goal.returns-clause-line
 returns-clause-line g c =
@@ -54,11 +54,11 @@ returns-clause-line g c =
     (rw c.in_default.is at c.place_of.ensures.cut) c.in_ok-extend_from_slice.ensures.items
 
 pub returns-in_err-end_line-clause-stopped : goal.returns-in_err-end_line-clause-stopped
-returns-in_err-end_line-clause-stopped g c = so_stopped c.from_residual.result _ (first_kept c.loop-end.invariant.told)
+returns-in_err-end_line-clause-stopped g c = so_stopped c.from_residual.result _ (first_kept c.loop-end.invariant.printed)
 
 pub returns-in_err-rest-clause-stopped : goal.returns-in_err-rest-clause-stopped
 returns-in_err-rest-clause-stopped g c =
-    so_stopped c.from_residual-in_err-rest.result _ (first_kept c.loop-end.invariant.told)
+    so_stopped c.from_residual-in_err-rest.result _ (first_kept c.loop-end.invariant.printed)
 
 pub returns-in_err-send-clause-stopped : goal.returns-in_err-send-clause-stopped
 returns-in_err-send-clause-stopped g c =
@@ -66,12 +66,12 @@ returns-in_err-send-clause-stopped g c =
     let rest = c.loop-end.rest.now in
     let end = c.in-Some.end in
     let at = rw c.in-Some.is at c.place_of.ensures.cut in
-    let ended = rw (before.same, before.index) at c.in_ok-end_line.ensures.told in
-    let more = rw (c.in_ok-end_line.ensures.same, before.same, c.end_line.ensures.index, before.index) at c.in_ok-rest.ensures.told in
+    let ended = rw (before.same, before.index) at c.in_ok-end_line.ensures.printed in
+    let more = rw (c.in_ok-end_line.ensures.same, before.same, c.end_line.ensures.index, before.index) at c.in_ok-rest.ensures.printed in
     let made = first_joined c.loop-end.self.line.items rest (take end rest) before.whole at ended (rest_after rest (end + 1)) more in
     so_stopped c.from_residual-in_err-send.result _
-    (first_stopped {new = g.W.Write.contents c.send.new.out} before.told made before.none c.in_err-send.ensures.prefix)
+    (first_stopped {new = g.W.Write.contents c.send.new.out} before.printed made before.none c.in_err-send.ensures.prefix)
 
 pub returns-in_err-extend_from_slice-clause-stopped : goal.returns-in_err-extend_from_slice-clause-stopped
 returns-in_err-extend_from_slice-clause-stopped g c =
-    so_stopped c.from_residual-in_err-extend_from_slice.result _ (first_kept c.loop-end.invariant.told)
+    so_stopped c.from_residual-in_err-extend_from_slice.result _ (first_kept c.loop-end.invariant.printed)

@@ -9,7 +9,7 @@ invariant-loop-end g l = record {
   none : l.self.answers.lines.items ≡ [];
   shorter : length l.rest ≤ length l.fn.block;
   whole : HasNo 10 l.self.line.items;
-  told : AreFirstPrinted l.fn.lookups l.fn.self.answers.op (l.fn.self.line.items ++ l.fn.block) (l.self.line.items ++ l.rest)
+  printed : AreFirstPrinted l.fn.lookups l.fn.self.answers.op (l.fn.self.line.items ++ l.fn.block) (l.self.line.items ++ l.rest)
       (g.W.Write.contents l.fn.out) (g.W.Write.contents l.out) l.fn.self.answers.status l.self.answers.status;
 }
 
