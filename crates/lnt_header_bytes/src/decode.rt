@@ -28,13 +28,7 @@ pub fn decode_header<'a>(
     let (view, program) = view_header(alloc, frame, order)?;
     let header = view.view().to_header(alloc);
     drop(view);
-    match header {
-        Ok(header) => Ok((header, program)),
-        Err(_) => Err(Fault {
-            place: frame.offset,
-            reason: Reason::Memory,
-        }),
-    }
+    Ok((header?, program))
 }
 
 /// A cursor after the version of the frame, which goes to the end of its body.

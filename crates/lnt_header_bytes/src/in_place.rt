@@ -2,7 +2,6 @@
 ghost use Rattle.std.specs.Prelude.{◌≡◌, ◌≢◌, ◌+◌, ◌^◌, ◌<◌, length, IfOk, IfErr};
 ghost use Rattle.lnt_wire.specs.FrameBytes.{frame_bytes, IsPlacedFrame};
 ghost use Rattle.lnt_wire.specs.Reading.{RefusesOr};
-ghost use Rattle.lnt_wire.specs.declared.fault.Reason.TheVariants.{Memory};
 ghost use Rattle.lnt_header_bytes.specs.Stepping.{AreFieldsRead};
 ghost use Rattle.lnt_header_bytes.specs.Broken.{BrokenHeader};
 ghost use Rattle.lnt_header_bytes.specs.FieldsBytes.{FieldsBytes};
@@ -131,7 +130,7 @@ fn view_parts<'a>(
         directories,
         files,
     } = read_fields(alloc, &mut cursor, format)?;
-    let lengths = lengths_of(alloc, lengths, place)?;
+    let lengths = copied(alloc, lengths)?;
     let numbers = numbers_of(singles, lengths, order, address_size);
     Ok(HeaderInPlace {
         plain: NumbersAndFormats {
@@ -144,20 +143,6 @@ fn view_parts<'a>(
         files: files.entries,
         extra: cursor.rest(),
     })
-}
-
-// A copy of these standard opcode lengths. If memory runs out, the fault has this place.
-fn lengths_of(alloc: Global, lengths: &[u8], place: u64) -> Result<Items<u8>, Fault>
-    ensures ok { IfOk result (λ items. items ≡ lengths.now) }
-    ensures err { IfErr result (λ fault. fault.reason ≡ Memory) }
-{
-    match copied(alloc, lengths) {
-        Ok(items) => Ok(items),
-        Err(_) => Err(Fault {
-            place,
-            reason: Reason::Memory,
-        }),
-    }
 }
 
 // The numbers that these fields are.

@@ -38,9 +38,7 @@ pub(crate) fn read_pairs(
     ensures ok { IfOk result (λ pairs. Reads (Several count PairBytes) pairs.items cursor.old cursor.new) }
     ensures err { IfErr result (λ fault. RefusesOr (IsPairsFault count) (Several count PairBytes) cursor.old fault) }
 {
-    let Ok(mut pairs) = Vec::with_capacity(alloc, usize::from(count)) else {
-        return Err(no_memory(cursor));
-    };
+    let mut pairs = Vec::with_capacity(alloc, usize::from(count))?;
     for _ in 0..count {
         if let Err(fault) = add_pair(cursor, &mut pairs) {
             drop(pairs);
@@ -55,11 +53,7 @@ fn add_pair(cursor: &mut Cursor<'_>, pairs: &mut Vec<Pair>) -> Result<(), Fault>
     ensures ok { OnOk result (ReadsNext PairBytes pairs.old.items pairs.new.items cursor.old cursor.new) }
     ensures err { IfErr result (λ fault. RefusesOr IsPairFault PairBytes cursor.old fault) }
 {
-    let pair = read_pair(cursor)?;
-    if pairs.push(pair).is_err() {
-        return Err(no_memory(cursor));
-    }
-    Ok(())
+    Ok(pairs.push(read_pair(cursor)?)?)
 }
 
 // Reads the values of an entry, one for each pair.
@@ -83,10 +77,7 @@ fn read_values(
                 return Err(fault);
             }
         };
-        if values.push(value).is_err() {
-            drop(values);
-            return Err(no_memory(cursor));
-        }
+        values.push(value)?;
     }
     Ok(values)
 }
@@ -105,9 +96,7 @@ pub(crate) fn read_entries(
     ensures err { IfErr result (λ fault. RefusesOr (IsEntriesFault format cursor.old.order pairs.now count)
         (Several count (EntryBytes format cursor.old.order pairs.now)) cursor.old fault) }
 {
-    let Ok(mut entries) = Vec::with_capacity(alloc, first_room(cursor, count)) else {
-        return Err(no_memory(cursor));
-    };
+    let mut entries = Vec::with_capacity(alloc, first_room(cursor, count))?;
     for _ in 0..count {
         read_entry(alloc, cursor, format, pairs, &mut entries)?;
     }
@@ -134,21 +123,7 @@ fn read_entry(
         (EntryBytes format cursor.old.order pairs.now) cursor.old fault) }
 {
     let values = read_values(alloc, cursor, format, pairs)?;
-    let entry = Entry {
+    Ok(entries.push(Entry {
         values: Items::new(values),
-    };
-    if entries.push(entry).is_err() {
-        return Err(no_memory(cursor));
-    }
-    Ok(())
-}
-
-// The fault `Memory`, at the place of the cursor.
-fn no_memory(cursor: &Cursor<'_>) -> Fault
-    ensures { result.reason ≡ Reason.Memory }
-{
-    Fault {
-        place: cursor.place(),
-        reason: Reason::Memory,
-    }
+    })?)
 }

@@ -30,12 +30,7 @@ pub fn convert_ops(
 {
     let size = numbers.address_size();
     for view in Ops::new(numbers, program, place) {
-        let Ok(()) = put_view(out, view?, to, size) else {
-            return Err(Fault {
-                place,
-                reason: Reason::Memory,
-            });
-        };
+        put_view(out, view?, to, size)?;
     }
     Ok(())
 }

@@ -29,18 +29,10 @@ pub fn read_ops(
     ensures admitted { IfOk result (λ ops. AllByRecursion (Admits numbers.now) ops) }
     ensures err { IfErr result (λ fault. fault.reason ≢ Reason.Memory → BrokenProgram numbers.now place program.now fault) }
 {
-    let memory = Fault {
-        place,
-        reason: Reason::Memory,
-    };
     let mut ops = Vec::new(alloc);
     for view in Ops::new(numbers, program, place) {
-        let Ok(op) = owned_op(alloc, view?) else {
-            return Err(memory);
-        };
-        if ops.push(op).is_err() {
-            return Err(memory);
-        }
+        let op = owned_op(alloc, view?)?;
+        ops.push(op)?;
     }
     Ok(Items::new(ops))
 }

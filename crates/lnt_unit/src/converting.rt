@@ -12,7 +12,7 @@ use crate::decode::frame_ahead;
 use lnt_header_bytes::{HeaderInPlace, put_header_view, view_header};
 use lnt_ops::convert_ops;
 use lnt_wire::{Cursor, EncodeFault, Fault, Format, Frame, Order, Reason};
-use std::alloc::Global;
+use std::alloc::{AllocError, Global};
 
 /// Adds the bytes of the unit at the cursor in the format and in the byte order `to`, each LEB128 in its shortest
 /// spelling, and moves the cursor past the unit. The caller sees to it that `order` is the cursor's. Entries and operations
@@ -71,10 +71,7 @@ pub(crate) fn judge_unit(
             Ok(false)
         }
         Err(ConvertFault::Malformed(fault)) => Err(fault),
-        Err(ConvertFault::Memory) => Err(Fault {
-            place: frame.offset,
-            reason: Reason::Memory,
-        }),
+        Err(ConvertFault::Memory) => Err(Fault::from(AllocError)),
     }
 }
 

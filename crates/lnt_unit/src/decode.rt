@@ -103,14 +103,5 @@ fn add_unit(
 {
     let offset = cursor.place();
     let unit = decode_unit(alloc, cursor, order)?;
-    match units.push((offset, unit)) {
-        Ok(()) => Ok(()),
-        Err(refused) => {
-            drop(refused);
-            Err(Fault {
-                place: offset,
-                reason: Reason::Memory,
-            })
-        }
-    }
+    Ok(units.push((offset, unit))?)
 }

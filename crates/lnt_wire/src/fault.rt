@@ -1,7 +1,9 @@
 //! Why bytes are rejected, and at which offset.
-ghost use Rattle.std.specs.Prelude.{Some};
+ghost use Rattle.std.specs.Prelude.{◌≡◌, Some};
+ghost use Rattle.lnt_wire.specs.declared.fault.Reason.TheVariants.{Memory};
 ghost use Rattle.lnt_wire.specs.FaultTexts.{fault_text, reason_text};
 
+use std::alloc::{AllocError, AllocFailed};
 use std::error::Error;
 use std::fmt;
 
@@ -87,3 +89,25 @@ impl fmt::Display for Fault {
 }
 
 impl Error for Fault {}
+
+impl From<AllocError> for Fault {
+    ghost from_gives = { λ _ fault. fault.reason ≡ Memory };
+
+    fn from(_error: AllocError) -> Fault {
+        Fault {
+            place: 0,
+            reason: Reason::Memory,
+        }
+    }
+}
+
+impl<T: Drop> From<AllocFailed<T>> for Fault {
+    ghost from_gives = { λ _ fault. fault.reason ≡ Memory };
+
+    fn from(_error: AllocFailed<T>) -> Fault {
+        Fault {
+            place: 0,
+            reason: Reason::Memory,
+        }
+    }
+}

@@ -86,16 +86,8 @@ pub fn frames<'a>(alloc: Global, bytes: &'a [u8], order: Order) -> Result<Framed
     let mut frames = Vec::new(alloc);
     let mut cursor = Cursor::new(bytes, 0, order);
     while !cursor.rest().is_empty() {
-        let place = cursor.place();
         match take_frame(&mut cursor) {
-            Ok(frame) => {
-                if frames.push(frame).is_err() {
-                    return Err(Fault {
-                        place,
-                        reason: Reason::Memory,
-                    });
-                }
-            }
+            Ok(frame) => frames.push(frame)?,
             Err(fault) => {
                 return Ok(Framed {
                     frames,

@@ -57,15 +57,8 @@ impl<'a> Cursor<'a> {
             RefusesFieldOr (IsValueFault format self.old.order form) (ValueBytes format self.old.order form) self.old fault) }
         ensures unchanged { OnErr result (self.new ≡ self.old) }
     {
-        let place = self.place();
         let mut ahead = self.fork();
-        let view = ahead.value(form, format)?;
-        let Ok(value) = owned(alloc, view) else {
-            return Err(Fault {
-                place,
-                reason: Reason::Memory,
-            });
-        };
+        let value = owned(alloc, ahead.value(form, format)?)?;
         *self = ahead;
         Ok(value)
     }

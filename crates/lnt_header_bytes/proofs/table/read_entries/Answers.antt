@@ -6,7 +6,7 @@ use Rattle.lnt_header_bytes.proofs.table.read_entries.Goals as goal
 
 pub returns-in_err-read_entry-clause-err : goal.returns-in_err-read_entry-clause-err
 returns-in_err-read_entry-clause-err c =
-    let p = err_from_is_err_and c.from_residual.result c.from_residual.ensures.1 in
+    let p = err_from_is_err_and c.from_residual-in_err-read_entry.result c.from_residual-in_err-read_entry.ensures.1 in
     let fault = c.in_err-read_entry.field-0.0 in
     rw (p.1, p.2) (λ some.
     refuses_entries c.args.format c.args.pairs.now c.args.count c.loop.entries.items c.args.cursor.now c.loop.cursor fault

@@ -5,7 +5,7 @@ use Rattle.lnt_header_bytes.proofs.table.read_pairs.Goals as goal
 
 pub loop-preserved : goal.loop-preserved
 loop-preserved c =
-    let more = one_more (λ _. PairBytes) _ _ _ _ _ c.loop.invariant.1 c.in_default-add_pair.ensures.ok in
+    let more = one_more (λ _. PairBytes) _ _ _ _ _ c.loop.invariant.1 c.in_default.ensures.ok in
     (omega (arith, more.0, c.loop.invariant.0), more.1)
 
 pub returns-in-Err-clause-err : goal.returns-in-Err-clause-err

@@ -31,7 +31,7 @@ loop-view-preserved c =
     c.in-Some.ensures.steps in
     converted_more c.args.numbers.now c.args.place c.args.program.now c.args.to c.address_size-size.result c.args.out.now.items _ _
     c.in_ok-view.field-0 c.loop-view.view-iterator c.next.new.self c.loop-view.invariant step
-    c.address_size-size.ensures.value c.in-Ok.ensures.ok
+    c.address_size-size.ensures.value c.in_ok-put_view.ensures.ok
 
 pub put_view-requires-clause-admitted : goal.put_view-requires-clause-admitted
 put_view-requires-clause-admitted c =
@@ -49,6 +49,7 @@ returns-in_err-view-clause-extends c =
     let p = err_from_is_err_and c.from_residual.result c.from_residual.ensures.1 in
     rw p.1 (converted_extends _ _ _ _ _ _ _ c.loop-view.invariant)
 
-pub returns-in_default-clause-extends : goal.returns-in_default-clause-extends
-returns-in_default-clause-extends c =
-    extends_more _ _ _ (converted_extends _ _ _ _ _ _ _ c.loop-view.invariant) c.in_default.ensures.extends
+pub returns-in_err-put_view-clause-extends : goal.returns-in_err-put_view-clause-extends
+returns-in_err-put_view-clause-extends c =
+    let p = err_from_is_err_and c.from_residual-in_err-put_view.result c.from_residual-in_err-put_view.ensures.1 in
+    rw p.1 (extends_more _ _ _ (converted_extends _ _ _ _ _ _ _ c.loop-view.invariant) c.in_err-put_view.ensures.extends)

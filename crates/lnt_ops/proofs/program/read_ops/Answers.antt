@@ -1,4 +1,4 @@
-use Rattle.std.proofs.Common.{◌≡◌, ◌≢◌, ◌∷◌, ◌++◌, [], refl, subst, arith, Some, Result}
+use Rattle.std.proofs.Common.{◌≡◌, ◌≢◌, ◌∷◌, ◌++◌, [], subst, arith, Some, Result}
 use Rattle.std.proofs.lemmas.Grind.{common_steps}
 use Rattle.std.proofs.lemmas.Result.{err_from_is_err_and}
 use Rattle.lnt_wire.specs.declared.fault.Reason.TheVariants.{Memory}
@@ -23,13 +23,13 @@ returns-in_err-view-clause-err c =
 
 pub loop-view-preserved : goal.loop-view-preserved
 loop-view-preserved c =
-    let op = c.in-Ok.op in
+    let op = c.in_ok-op.op in
     let items : c.push.new.self.items ≡ c.loop-view.ops.items ++ op ∷ [] = grind (arith, common_steps) in
     let step : GivesOperation c.in_ok-view.field-0 c.loop-view.view-iterator c.next.new.self =
     subst (λ (r : Result OpView Fault). WalkStep c.loop-view.view-iterator (Some r) c.next.new.self) c.in_ok-view.was
     c.in-Some.ensures.steps in
     rw items (walk_more c.args.numbers.now c.args.place c.args.program.now c.loop-view.ops.items op c.in_ok-view.field-0
-    c.loop-view.view-iterator c.next.new.self c.loop-view.invariant.0 c.loop-view.invariant.2 step c.in-Ok.ensures)
+    c.loop-view.view-iterator c.next.new.self c.loop-view.invariant.0 c.loop-view.invariant.2 step c.in_ok-op.ensures)
 
 pub returns-clause-ok : goal.returns-clause-ok
 returns-clause-ok c =
@@ -63,12 +63,6 @@ owned_op-requires c =
     subst (λ (r : Result OpView Fault). WalkStep c.loop-view.view-iterator (Some r) c.next.new.self) c.in_ok-view.was
     c.in-Some.ensures.steps in
     is_view c.loop-view.view-iterator.header c.in_ok-view.field-0 c.loop-view.view-iterator.at c.next.new.self.at step.gives
-
-pub returns-in_default-clause-err : goal.returns-in_default-clause-err
-returns-in_default-clause-err c other = absurd (other refl)
-
-pub returns-then-is_err-clause-err : goal.returns-then-is_err-clause-err
-returns-then-is_err-clause-err c other = absurd (other refl)
 
 pub returns-in_err-view-clause-ok : goal.returns-in_err-view-clause-ok
 returns-in_err-view-clause-ok c = rw (err_from_is_err_and c.from_residual.result c.from_residual.ensures.1).1 tt

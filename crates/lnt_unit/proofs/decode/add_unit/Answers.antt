@@ -4,9 +4,9 @@ use Rattle.lnt_wire.specs.declared.fault.Reason.TheVariants.{Memory}
 use Rattle.lnt_unit.specs.BrokenUnits.{BrokenUnit}
 use Rattle.lnt_unit.proofs.decode.add_unit.Goals as goal
 
-pub returns-in-Ok-clause-ok : goal.returns-in-Ok-clause-ok
-returns-in-Ok-clause-ok c =
-    record { unit = _; added = c.in-Ok.ensures.items; here = c.place-offset.ensures.value; read = c.in_ok-unit.ensures.ok }
+pub returns-clause-ok : goal.returns-clause-ok
+returns-clause-ok c =
+    record { unit = _; added = c.in_ok-push.ensures.items; here = c.place-offset.ensures.value; read = c.in_ok-unit.ensures.ok }
 
 pub returns-in_err-unit-clause-err : goal.returns-in_err-unit-clause-err
 returns-in_err-unit-clause-err c =
