@@ -109,3 +109,7 @@ pub record IsReachedIn (brief : BriefRows) (p : Position) (count : ℕ) : Type 0
 pub record IsCacheOf (rows : List Row) (cache : RowCache) : Type 0 where
   pub in_brief : AreInBrief rows cache.brief
   pub checkpointed : AreCheckpointsIn rows cache.checkpoints
+
+-- neither rows nor checkpoints
+abbrev pub KeepsNothing : RowCache → Type 0
+KeepsNothing cache = (cache.brief.rows.items ≡ []) × (cache.checkpoints.checkpoints.items ≡ [])

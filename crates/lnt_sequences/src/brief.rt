@@ -147,7 +147,9 @@ impl BriefRows {
     }
 
     // The rows that are kept.
-    pub(crate) fn rows(&self) -> &[BriefRow] {
+    pub(crate) fn rows(&self) -> &[BriefRow]
+        ensures { result.now ≡ self.now.rows.items }
+    {
         &self.rows
     }
 

@@ -1,5 +1,5 @@
 //! Checkpoints in the rows of one sequence, from which lookups go on.
-ghost use Rattle.std.specs.Prelude.{◌≡◌, ◌<◌, List, None, IfOk, false, true, MatchBool};
+ghost use Rattle.std.specs.Prelude.{◌≡◌, ◌<◌, List, [], None, IfOk, false, true, MatchBool};
 ghost use Rattle.lnt_machine.specs.Walking.{WillGive};
 ghost use Rattle.lnt_machine.specs.declared.row.Row as spec;
 ghost use Rattle.lnt_sequences.specs.Briefs.{AreCheckpointsIn, IsCheckpointIn, IsNotAbove};
@@ -94,7 +94,9 @@ impl<'a> Checkpoints<'a> {
     }
 
     // Whether there are none.
-    pub(crate) fn is_empty(&self) -> bool {
+    pub(crate) fn is_empty(&self) -> bool
+        ensures { MatchBool result (self.now.checkpoints.items ≡ []) (self.now.checkpoints.items ≡ [] → ⊥) }
+    {
         self.checkpoints.is_empty()
     }
 

@@ -1,8 +1,8 @@
 //! What is kept of the rows of one sequence, for later lookups.
-ghost use Rattle.std.specs.Prelude.{◌≡◌, List, IfOk, IfSome, option_map};
+ghost use Rattle.std.specs.Prelude.{◌≡◌, List, IfOk, IfSome, MatchBool, option_map};
 ghost use Rattle.lnt_machine.specs.Walking.{WillGive};
 ghost use Rattle.lnt_machine.specs.declared.row.Row as spec;
-ghost use Rattle.lnt_sequences.specs.Briefs.{IsCacheOf};
+ghost use Rattle.lnt_sequences.specs.Briefs.{IsCacheOf, KeepsNothing};
 ghost use Rattle.lnt_sequences.specs.Rules.{IsOrdered};
 ghost use Rattle.lnt_sequences.specs.Sequences as sequence;
 
@@ -46,7 +46,9 @@ impl<'a> RowCache<'a> {
     }
 
     /// Whether nothing is kept.
-    pub fn is_empty(&self) -> bool {
+    pub fn is_empty(&self) -> bool
+        ensures { MatchBool result (KeepsNothing self.now) (KeepsNothing self.now → ⊥) }
+    {
         self.brief.rows().is_empty() && self.checkpoints.is_empty()
     }
 
