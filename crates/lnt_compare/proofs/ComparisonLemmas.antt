@@ -21,16 +21,13 @@ use Rattle.lnt_compare.specs.Outcomes.{IsOutcomeOf, Outcome}
 use Rattle.lnt_compare.specs.Passing.{AreLinesOf, HasTakenLines, IsLineIn}
 use Rattle.lnt_compare.specs.Progress.{Comes, HasCompared, HasPassed, HasPushed, IsPast, Judges, Comparison}
 use Rattle.lnt_compare.proofs.KindLaws.{KindLaws, ToldLaws}
-use Rattle.lnt_records.specs.declared.fault.TableFault.{TableFault}
 use Rattle.lnt_records.specs.declared.fault.TableFault.TheVariants as fault
-use Rattle.lnt_records.specs.declared.record.RecordFault.{RecordFault}
-use Rattle.lnt_records.specs.Faults.{IsFaultIn, IsFaultyIn}
-use Rattle.lnt_records.specs.Progress.{IsRecordFault, fault_at}
+use Rattle.lnt_records.specs.Faults.{IsFaultIn}
 use Rattle.lnt_records.specs.Reading.{IsReadAs}
 use Rattle.lnt_records.specs.Table.{BeginsWith, Fields, IsTableIn, TableFormat}
 use Rattle.lnt_records.specs.Written.{LineFormat, lines_of}
 use Rattle.lnt_records.proofs.LineLaws.{lines_append}
-use Rattle.lnt_records.proofs.TableLaws.{faulty_at, refused, table_order, table_push, zip_push}
+use Rattle.lnt_records.proofs.TableLaws.{refused, table_order, table_push, zip_push}
 
 -- ---- one more record, and what the table answers
 
@@ -89,31 +86,17 @@ record_taken to_come kind laws tell version old new section records fields span 
       (one_more kind.spans (end_of_records old.merge) j.table span push.comes j.merged.ended);
 }
 
--- ---- a record that is faulty
-
--- What `TakesRecords` says of the fault of a record after these.
-abbrev pub IsRefused : {V X : Type 0} → TableFormat V X → List Fields → Fields → TableFault → Type 0
-IsRefused format records fields told = (whole : Fields) (bytes : List ℕ) → IsReadAs fields whole → BeginsWith bytes (records ++ whole ∷ [])
-    → IsFaultIn format bytes told
-
-pub record_refused : {V X Y D : Type 0} (kind : TableKind V X Y D) → KindLaws kind → (version : V)
-    (table : List X) (records : List Fields) (fields : Fields) (number : ℕ) (found : RecordFault) (told : TableFault)
-    → IsTableIn kind.format version records table → number ≡ length records
-    → IsRecordFault kind.format.columns (length (kind.format.names version)) fields found → told ≡ fault_at number found
-    → IsRefused kind.format records fields told
-record_refused kind laws version table records fields number found told t is h e =
-    refused kind.format laws.format version records table fields told t
-    (subst (λ (f : TableFault). IsFaultyIn kind.format version table (length records) fields f)
-    (ap (λ (n : ℕ). fault_at n found) (sym is) ∙ sym e) (faulty_at kind.format version table (length records) fields found h))
+-- ---- a record that is empty, or begins too low
 
 pub order_refused : {V X Y D : Type 0} (kind : TableKind V X Y D) (laws : KindLaws kind) (version : V)
-    (at : Position) (table : List X) (records : List Fields) (fields : Fields) (span : X) (number : ℕ)
-    → IsTableIn kind.format version records table → number ≡ length records → at ≡ last_end kind.spans table
+    (at : Position) (table : List X) (records : List Fields) (fields : Fields) (span : X)
+    → IsTableIn kind.format version records table → at ≡ last_end kind.spans table
     → kind.format.Says version fields span → (Comes at (kind.spans.low span) (kind.spans.high span) → ⊥)
-    → IsRefused kind.format records fields (fault.Order number)
-order_refused kind laws version at table records fields span number t is ends says not =
-    refused kind.format laws.format version records table fields (fault.Order number) t (
-      is,
+    → (whole : Fields) (bytes : List ℕ) → IsReadAs fields whole → BeginsWith bytes (records ++ whole ∷ [])
+    → IsFaultIn kind.format bytes (fault.Order (length records))
+order_refused kind laws version at table records fields span t ends says not =
+    refused kind.format laws.format version records table fields (fault.Order (length records)) t (
+      refl,
       span,
       says,
       λ order. not (subst (λ (p : Position). Comes p (kind.spans.low span) (kind.spans.high span)) (sym ends)
@@ -130,7 +113,8 @@ past_merged to_come kind tell told laws spans comparison at passed list past com
     merged_past to_come tell kind.stretch comparison.merge (passed ++ list) (answer_held kind.spans (map told passed)) past.gap past.mistake
     past.missed
     (λ p h. laws.answers passed p ∙ ap (option_map tell) (none p (subst (λ (q : Position). IsAtMost q p) is h)))
-    (λ p h. ap (option_map tell) (answer_below passed list p order (subst (λ (q : Position). IsBelow p q) is h)) ∙ sym (laws.answers passed p))
+    (λ p h. ap (option_map tell) (answer_below passed list p order (subst (λ (q : Position). IsBelow p q) is h))
+    ∙ sym (laws.answers passed p))
     list (past.ahead list coming) (back_in_order number_spans passed list order)
     (subst (λ (q : Position). BeginFrom q list) (sym is) (begin_after passed list order))
     (λ p h. answer_from passed list p order (subst (λ (q : Position). IsAtMost q p) is h))

@@ -1,84 +1,20 @@
 -- What joined spans are: in order, none extends the one before it, and they are told as all the spans are.
-use Rattle.lnt_spans.specs.SpanKinds.{is_held, DifferWhereTheyTouch}
-use Rattle.std.proofs.Common.{◌≡◌, ◌≢◌, ◌∙◌, ◌⊎◌, ◌==◌, ℕ, Bool, true, false, cond, List, [], ◌∷◌, ◌++◌, map, inl, inr, Option, Some, None}
-use Rattle.std.proofs.Common.{ap, subst, eq-eqb, refl, sym, append_assoc, append-nil, option_map}
-use Rattle.std.specs.List.{AllByRecursion, find}
+use Rattle.lnt_spans.specs.SpanKinds.{DifferWhereTheyTouch, SpanKind}
+use Rattle.std.proofs.Common.{◌≡◌, ◌≢◌, ◌∙◌, ◌⊎◌, ◌==◌, ℕ, List, [], ◌∷◌, ◌++◌, map, inl, inr, Option, Some, None}
+use Rattle.std.proofs.Common.{ap, subst, eq-eqb, refl, sym, append_assoc, append-nil}
+use Rattle.std.specs.List.{AllByRecursion}
 use Rattle.std.proofs.lemmas.Bool.{cases_Bool, eqb-true}
 use Rattle.lnt_spans.specs.declared.answer.Answer.{Answer}
 use Rattle.lnt_spans.specs.declared.position.Position.{Position}
 use Rattle.lnt_spans.specs.declared.span.Span.{Span}
-use Rattle.lnt_spans.specs.Positions.{IsBelow, IsAtMost}
-use Rattle.lnt_spans.specs.Spans.{AreInOrder, number_spans}
-use Rattle.lnt_spans.proofs.AnsweringLaws.{answer_before, answer_after, answer_in, back_in_order, first_holds}
-use Rattle.lnt_spans.proofs.PositionLaws.{below_at_most, below_is_at_most, order_cases}
+use Rattle.lnt_spans.specs.Spans.{AreInOrder}
+use Rattle.lnt_spans.proofs.JoinLemmas.{join_answer, join_order, joined_span}
 use Rattle.lnt_spans.proofs.SameLaws.{same_options, same_positions}
+use Rattle.lnt_spans.proofs.ToldLaws.{answer_as_told, made_answer, made_order}
 use Rattle.lnt_compare.specs.Joining.{Any, AreApart, AreJoined, AreJoinedAs, BeginAlike, GivesJoined, IsApart, IsExtendedBy, LeaveOff}
-use Rattle.lnt_compare.specs.Joining.{grown, tell_span}
-use Rattle.lnt_records.specs.PathSpans.{PathAnswer, AreCanonicalOf, PathSpan, StandInOrder, path_spans}
-use Rattle.lnt_records.specs.PathSpans.{path_span_answer}
+use Rattle.lnt_compare.specs.Joining.{tell_span}
+use Rattle.lnt_records.specs.PathSpans.{PathAnswer, AreCanonicalOf, path_spans}
 use Rattle.lnt_spans.specs.Merged.{answer_told}
-
--- ---- a span that grows
-
-grown_holds : (last next : Span) → last.high ≡ next.low → IsBelow last.low last.high → IsBelow next.low next.high
-    → IsBelow last.low next.high
-grown_holds last next touch h k = below_at_most (subst (λ (p : Position). IsBelow last.low p) touch h) (below_is_at_most k)
-
-grown_order : (prefix : List Span) (last next : Span) (rest : List Span) → last.high ≡ next.low
-    → AreInOrder (prefix ++ last ∷ next ∷ rest) → AreInOrder (prefix ++ grown last next.high ∷ rest)
-grown_order [] last next [] touch h = grown_holds last next touch h.0 h.2
-grown_order [] last next (r ∷ rest) touch h = (grown_holds last next touch h.0 h.2.0, h.2.1, h.2.2)
-grown_order (f ∷ []) last next rest touch h = (h.0, h.1, grown_order [] last next rest touch h.2)
-grown_order (f ∷ g ∷ prefix) last next rest touch h = (h.0, h.1, grown_order (g ∷ prefix) last next rest touch h.2)
-
-first_grown : {X : Type 0} (tell : Answer → X) (last next : Span) (rest : List Span) (p : Position) → IsExtendedBy tell last next
-    → AreInOrder (last ∷ next ∷ rest)
-    → answer_told tell (grown last next.high ∷ rest) p ≡ answer_told tell (last ∷ next ∷ rest) p
-first_grown {X} tell last next rest p goes o =
-    let told : Option Answer → Option X = option_map tell in
-    let k : IsBelow next.low next.high = first_holds number_spans next rest o.2 in
-    let whole : Span = grown last next.high in
-    elim (order_cases p last.low) [
-      | inl before ↦
-          let early : IsBelow p next.low = subst (λ (q : Position). IsBelow p q) goes.0 (below_at_most before (below_is_at_most o.0)) in
-          ap told (answer_before number_spans whole rest p before)
-          ∙ sym (ap told (answer_before number_spans last (next ∷ rest) p before ∙ answer_before number_spans next rest p early))
-      | inr from ↦ elim (order_cases p last.high) [
-        | inl under ↦
-            let early : IsBelow p next.low = subst (λ (q : Position). IsBelow p q) goes.0 under in
-            ap told (answer_in number_spans whole rest p from (below_at_most early (below_is_at_most k)))
-            ∙ sym (ap told (answer_in number_spans last (next ∷ rest) p from under))
-        | inr over ↦
-            let late : IsAtMost next.low p = subst (λ (q : Position). IsAtMost q p) goes.0 over in
-            elim (order_cases p next.high) [
-              | inl under ↦ ap told (answer_in number_spans whole rest p from under) ∙ ap Some goes.1
-                  ∙ sym (ap told (answer_after number_spans last (next ∷ rest) p over ∙ answer_in number_spans next rest p late under))
-              | inr past ↦ ap told (answer_after number_spans whole rest p past)
-                  ∙ sym (ap told (answer_after number_spans last (next ∷ rest) p over ∙ answer_after number_spans next rest p past))
-            ]
-      ]
-    ]
-
--- prepending a span to two lists that agree at p
-same_after : {X : Type 0} (tell : Answer → X) (last : Span) (xs ys : List Span) (p : Position)
-    → answer_told tell xs p ≡ answer_told tell ys p → answer_told tell (last ∷ xs) p ≡ answer_told tell (last ∷ ys) p
-same_after {X} tell last xs ys p e =
-    let told : Option Answer → Option X = option_map tell in
-    elim (order_cases p last.low) [
-      | inl h ↦ ap told (answer_before number_spans last xs p h) ∙ e ∙ sym (ap told (answer_before number_spans last ys p h))
-      | inr h ↦ elim (order_cases p last.high) [
-        | inl k ↦ ap told (answer_in number_spans last xs p h k) ∙ sym (ap told (answer_in number_spans last ys p h k))
-        | inr k ↦ ap told (answer_after number_spans last xs p k) ∙ e ∙ sym (ap told (answer_after number_spans last ys p k))
-      ]
-    ]
-
-grown_answer : {X : Type 0} (tell : Answer → X) (prefix : List Span) (last next : Span) (rest : List Span) → IsExtendedBy tell last next
-    → AreInOrder (prefix ++ last ∷ next ∷ rest) → (p : Position)
-    → answer_told tell (prefix ++ grown last next.high ∷ rest) p ≡ answer_told tell (prefix ++ last ∷ next ∷ rest) p
-grown_answer tell [] last next rest goes o p = first_grown tell last next rest p goes o
-grown_answer tell (f ∷ prefix) last next rest goes o p =
-    same_after tell f (prefix ++ grown last next.high ∷ rest) (prefix ++ last ∷ next ∷ rest) p
-    (grown_answer tell prefix last next rest goes (back_in_order number_spans (f ∷ []) (prefix ++ last ∷ next ∷ rest) o) p)
 
 -- ---- one list joined as another
 
@@ -106,10 +42,11 @@ joined_both tell xs ys zs h k = record {
 
 -- the first span is joined with the next
 pub joined_first : {X : Type 0} (tell : Answer → X) (last next : Span) (rest : List Span) → IsExtendedBy tell last next
-    → AreJoinedAs tell (last ∷ next ∷ rest) (grown last next.high ∷ rest)
+    → AreJoinedAs tell (last ∷ next ∷ rest) (joined_span last next.high ∷ rest)
 joined_first tell last next rest goes = record {
-  order = λ prefix o. grown_order prefix last next rest goes.0 o;
-  same = λ prefix o p. grown_answer tell prefix last next rest goes o p;
+  order = λ prefix o. join_order prefix last next rest goes.0 o;
+  same = λ prefix o p. sym (answer_as_told tell (prefix ++ joined_span last next.high ∷ rest) p)
+      ∙ join_answer tell prefix last next rest p goes.0 goes.1 o ∙ answer_as_told tell (prefix ++ last ∷ next ∷ rest) p;
   begin = (refl, refl);
 }
 
@@ -249,7 +186,7 @@ Decides X = (a b : X) → (a ≡ b) ⊎ (a ≢ b)
 
 -- A span that grows keeps the property.
 abbrev pub IsKept : (Span → Type 0) → Type 0
-IsKept Is = (last next : Span) → Is last → Is next → Is (grown last next.high)
+IsKept Is = (last next : Span) → Is last → Is next → Is (joined_span last next.high)
 
 goes_or_not : {X : Type 0} (tell : Answer → X) → Decides X → (last next : Span)
     → IsExtendedBy tell last next ⊎ (IsExtendedBy tell last next → ⊥)
@@ -270,11 +207,11 @@ join_from tell decides Is kept last [] h each =
     record { joined = last ∷ []; joins = joined_self tell (last ∷ []); apart = (tt, tt); each = (h, tt) }
 join_from tell decides Is kept last (next ∷ rest) h each = elim (goes_or_not tell decides last next) [
   | inl goes ↦
-      let more = join_from tell decides Is kept (grown last next.high) rest (kept last next h each.0) each.1 in
+      let more = join_from tell decides Is kept (joined_span last next.high) rest (kept last next h each.0) each.1 in
       record {
         joined = more.joined;
-        joins = joined_both tell (last ∷ next ∷ rest) (grown last next.high ∷ rest) more.joined (joined_first tell last next rest goes)
-            more.joins;
+        joins = joined_both tell (last ∷ next ∷ rest) (joined_span last next.high ∷ rest) more.joined
+            (joined_first tell last next rest goes) more.joins;
         apart = more.apart;
         each = more.each;
       }
@@ -360,36 +297,22 @@ same_answer a b = elim (same_bytes a.path b.path) [
   ]
 ]
 
--- ---- as spans by path
+-- ---- as spans of another kind
 
-abbrev pub by_paths : (Answer → PathAnswer) → List Span → List PathSpan
-by_paths tell list = map (tell_span tell) list
-
-pub by_paths_order : (tell : Answer → PathAnswer) (list : List Span) → AreInOrder list → StandInOrder (by_paths tell list)
-by_paths_order tell [] h = tt
-by_paths_order tell (span ∷ []) h = h
-by_paths_order tell (span ∷ next ∷ list) h = (h.0, h.1, by_paths_order tell (next ∷ list) h.2)
-
-pub by_paths_answer : (tell : Answer → PathAnswer) (list : List Span) (p : Position)
-    → path_span_answer (by_paths tell list) p ≡ answer_told tell list p
-by_paths_answer tell [] p = refl
-by_paths_answer tell (span ∷ list) p = by (is_held number_spans p span) (by_paths_answer tell list p)
-  where
-    by : (test : Bool) → path_span_answer (by_paths tell list) p ≡ answer_told tell list p
-        → option_map path_spans.answer (cond test (Some (tell_span tell span)) (find (is_held path_spans p) (by_paths tell list)))
-        ≡ option_map tell (option_map number_spans.answer (cond test (Some span) (find (is_held number_spans p) list)))
-    by true e = refl
-    by false e = e
-
-by_paths_differ : (tell : Answer → PathAnswer) (list : List Span) → AreApart tell list []
-    → DifferWhereTheyTouch path_spans (by_paths tell list)
-by_paths_differ tell [] h = tt
-by_paths_differ tell (span ∷ []) h = tt
-by_paths_differ tell (span ∷ next ∷ list) h = (λ touch same. h.0 (touch, same), by_paths_differ tell (next ∷ list) h.1)
+-- Spans made of such as are apart differ where they touch, if they touch with the same answer only where one extended the other.
+pub made_differ : {X Y Z : Type 0} (kind : SpanKind X Y) (make : Span → X) (tell : Answer → Z)
+    → ((s t : Span) → kind.high (make s) ≡ kind.low (make t) → kind.answer (make s) ≡ kind.answer (make t) → IsExtendedBy tell s t)
+    → (list : List Span) → AreApart tell list [] → DifferWhereTheyTouch kind (map make list)
+made_differ kind make tell goes [] h = tt
+made_differ kind make tell goes (s ∷ []) h = tt
+made_differ kind make tell goes (s ∷ t ∷ list) h = (λ touch same. h.0 (goes s t touch same), made_differ kind make tell goes (t ∷ list) h.1)
 
 pub joined_canonical : (tell : Answer → PathAnswer) (list joined : List Span) → AreJoined tell list joined
     → AreCanonicalOf (answer_told tell list) (map (tell_span tell) joined)
 joined_canonical tell list joined j = record {
-  canonical = record { in_order = by_paths_order tell joined j.order; differ = by_paths_differ tell joined j.apart };
-  same = λ p. by_paths_answer tell joined p ∙ j.same p;
+  canonical = record {
+    in_order = made_order path_spans (tell_span tell) joined j.order;
+    differ = made_differ path_spans (tell_span tell) tell (λ s t touch same. (touch, same)) joined j.apart;
+  };
+  same = λ p. made_answer path_spans (tell_span tell) joined p ∙ answer_as_told tell joined p ∙ j.same p;
 }

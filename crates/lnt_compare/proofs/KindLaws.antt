@@ -1,6 +1,6 @@
 -- What the lemmas of comparisons need of a kind of tables.
 use Rattle.lnt_spans.specs.SpanKinds.{SpanKind, answer_held, last_end}
-use Rattle.std.proofs.Common.{◌≡◌, List, [], ◌∷◌, ◌++◌, map, refl}
+use Rattle.std.proofs.Common.{◌≡◌, ◌∙◌, List, [], ◌∷◌, ◌++◌, map, refl}
 use Rattle.lnt_spans.specs.declared.answer.Answer.{Answer}
 use Rattle.lnt_spans.specs.declared.answer.Version.{Version}
 use Rattle.lnt_spans.specs.declared.position.Position.{Position}
@@ -9,7 +9,7 @@ use Rattle.lnt_spans.specs.Answers.{in_version}
 use Rattle.lnt_spans.specs.Spans.{end_of, AreInOrder, span_in_version, number_spans}
 use Rattle.lnt_spans.specs.Merged.{answer_told}
 use Rattle.lnt_spans.proofs.AnsweringLaws.{order_push, order_pushed}
-use Rattle.lnt_spans.proofs.ToldLaws.{told, told_answer, told_order}
+use Rattle.lnt_spans.proofs.ToldLaws.{answer_as_told, made_answer, made_order, told, told_answer, told_order}
 use Rattle.lnt_records.specs.PathSpans.{PathAnswer, path_spans}
 use Rattle.lnt_records.proofs.NumberLaws.{numbered}
 use Rattle.lnt_records.proofs.PathLaws.{pathed}
@@ -18,7 +18,6 @@ use Rattle.lnt_compare.specs.Comparisons.{TableKind, tables_by_number}
 use Rattle.lnt_compare.specs.Joining.{tell_span}
 use Rattle.lnt_compare.specs.Outcomes.{tables_by_path}
 use Rattle.lnt_compare.specs.Progress.{Comes}
-use Rattle.lnt_compare.proofs.JoiningLemmas.{by_paths_answer, by_paths_order}
 
 -- What its format needs, and when one more span keeps the order.
 pub record KindLaws {V X Y D : Type 0} (kind : TableKind V X Y D) : Type 0 where
@@ -69,7 +68,7 @@ path_laws = record {
 
 pub path_told : (tell : Answer → PathAnswer) → ToldLaws tables_by_path tell (tell_span tell)
 path_told tell = record {
-  order = by_paths_order tell;
-  answers = by_paths_answer tell;
+  order = made_order path_spans (tell_span tell);
+  answers = λ list p. made_answer path_spans (tell_span tell) list p ∙ answer_as_told tell list p;
   ends = end_mapped path_spans (tell_span tell) (λ span. refl);
 }

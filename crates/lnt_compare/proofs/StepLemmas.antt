@@ -1,11 +1,12 @@
 -- Spans are joined one by one, as they come.
 use Rattle.std.proofs.Common.{◌≡◌, ◌∙◌, List, [], ◌∷◌, Option, Some, None, ap, refl, sym, subst}
 use Rattle.std.proofs.lemmas.Option.{same_Some}
+use Rattle.lnt_spans.proofs.JoinLemmas.{joined_span}
 use Rattle.lnt_spans.specs.Remaining.{SpansAreLeft, GivesFirstSpan}
 use Rattle.lnt_compare.proofs.JoiningLemmas.{joined_both, joined_first, joined_self}
 use Rattle.lnt_spans.specs.declared.answer.Answer.{Answer}
 use Rattle.lnt_spans.specs.declared.span.Span.{Span}
-use Rattle.lnt_compare.specs.Joining.{AreJoinedAs, GivesJoined, IsExtendedBy, grown}
+use Rattle.lnt_compare.specs.Joining.{AreJoinedAs, GivesJoined, IsExtendedBy}
 
 -- the source gave the first span, if there was one, and the others are to come
 abbrev Gives : (List Span → Type 0) → (List Span → Type 0) → Option Span → Type 0
@@ -28,16 +29,18 @@ stands_taken to_come tell next spans last e (first ∷ rest) left = (
 
 -- the next one extends it
 pub stands_grown : {X : Type 0} (tell : Answer → X) (list : List Span) (old new : List Span → Type 0) (last span : Span)
-    → Gives old new (Some span) → IsExtendedBy tell last span → Stands tell list old last → Stands tell list new (grown last span.high)
+    → Gives old new (Some span) → IsExtendedBy tell last span → Stands tell list old last
+    → Stands tell list new (joined_span last span.high)
 stands_grown tell list old new last span gives goes h = by h.0 (gives h.0 h.1) h.2
   where
     by : (rest : List Span) → GivesFirstSpan new rest (Some span) → AreJoinedAs tell list (last ∷ rest)
-        → Stands tell list new (grown last span.high)
+        → Stands tell list new (joined_span last span.high)
     by [] g j = absurd g
     by (next ∷ rest) g j =
         let so : AreJoinedAs tell list (last ∷ span ∷ rest) =
         subst (λ (s : Span). AreJoinedAs tell list (last ∷ s ∷ rest)) (sym g.0) j in
-        (rest, g.1, joined_both tell list (last ∷ span ∷ rest) (grown last span.high ∷ rest) so (joined_first tell last span rest goes))
+        let grown = joined_first tell last span rest goes in
+        (rest, g.1, joined_both tell list (last ∷ span ∷ rest) (joined_span last span.high ∷ rest) so grown)
 
 -- the next one doesn't
 pub stands_apart : {S X : Type 0} (to_come : S → List Span → Type 0) (tell : Answer → X) (list : List Span) (old : List Span → Type 0)

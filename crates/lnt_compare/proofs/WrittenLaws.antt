@@ -1,5 +1,4 @@
 -- Canonical spans, and those whose numbers are of at most 64 bits can be written as a table.
-use Rattle.lnt_spans.specs.SpanKinds.{DifferWhereTheyTouch}
 use Rattle.std.proofs.Common.{◌≡◌, ◌∙◌, List, [], ◌∷◌, refl, sym, subst, ℕ, arith}
 use Rattle.std.proofs.lemmas.Grind.{common_steps}
 use Rattle.std.specs.List.{AllByRecursion}
@@ -14,19 +13,13 @@ use Rattle.lnt_spans.proofs.CanonicalLaws.{one_number_list}
 use Rattle.lnt_spans.proofs.SameLaws.{same_answers}
 use Rattle.lnt_spans.proofs.ToldLaws.{told, told_answer, told_order}
 use Rattle.lnt_compare.specs.Canonical.{IsCanonicalTable, HasAllFields}
-use Rattle.lnt_compare.specs.Joining.{AreApart, AreJoined}
-use Rattle.lnt_compare.proofs.JoiningLemmas.{all_join, has_joined, IsKept}
+use Rattle.lnt_compare.specs.Joining.{AreJoined}
+use Rattle.lnt_compare.proofs.JoiningLemmas.{all_join, has_joined, IsKept, made_differ}
 use Rattle.lnt_records.specs.Written.{IsOfVersion}
 use Rattle.lnt_records.proofs.VersionLaws.{HasVersion}
 use Rattle.lnt_records.proofs.WrittenLaws.{whole_table}
 
 -- ---- canonical spans
-
-told_differ : (version : Version) (joined : List Span) → AreApart (in_version version) joined []
-    → DifferWhereTheyTouch number_spans (told version joined)
-told_differ version [] h = tt
-told_differ version (span ∷ []) h = tt
-told_differ version (span ∷ next ∷ joined) h = (λ touch same. h.0 (touch, same), told_differ version (next ∷ joined) h.1)
 
 -- the spans are canonical and answer as the given ones do, in the fields of the version
 abbrev pub IsCanonicalOf : Version → List Span → List Span → Type 0
@@ -35,7 +28,10 @@ IsCanonicalOf version list spans = IsCanonical spans × ((p : Position) → span
 pub told_canonical : (version : Version) (list joined : List Span) → AreJoined (in_version version) list joined
     → IsCanonicalOf version list (told version joined)
 told_canonical version list joined j = (
-  record { in_order = told_order version joined j.order; differ = told_differ version joined j.apart },
+  record {
+    in_order = told_order version joined j.order;
+    differ = made_differ number_spans (span_in_version version) (in_version version) (λ s t touch same. (touch, same)) joined j.apart;
+  },
   λ p. told_answer version joined p ∙ j.same p,
 )
 

@@ -18,10 +18,6 @@ tell_span tell span = record { low = span.low; high = span.high; answer = tell s
 abbrev pub IsExtendedBy : {X : Type 0} → (Answer → X) → Span → Span → Type 0
 IsExtendedBy tell span next = (span.high ≡ next.low) × (tell span.answer ≡ tell next.answer)
 
--- the span, extended to another end
-abbrev pub grown : Span → Position → Span
-grown span high = record span { high = high }
-
 -- The first of the spans, if there is one, doesn't extend this one.
 abbrev pub IsApart : {X : Type 0} → (Answer → X) → Span → List Span → Type 0
 IsApart tell span [] = Unit {0}

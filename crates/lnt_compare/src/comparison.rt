@@ -14,7 +14,7 @@ use crate::line_telling::LineTelling;
 use crate::lines::TakesLines;
 use crate::outcome::{Compared, Outcome, TableRead};
 use csv::ByteRecord;
-use lnt_records::{TableFault, TakesRecords, header_of, span_at, span_of, take_records};
+use lnt_records::{TableFault, TakeFault, TakesRecords, header_of, span_at, span_of, take_records};
 use lnt_spans::{Difference, Merge, Position, Span, SpanSlice, SpanSource, Telling, Version};
 use std::alloc::{AllocError, Global};
 
@@ -153,15 +153,11 @@ impl<S: SpanSource + Drop> TakesRecords<Comparison<S, Difference, ()>> for Versi
         &self,
         comparison: &mut Comparison<S, Difference, ()>,
         row: &ByteRecord,
-        number: u64,
-    ) -> Result<Option<TableFault>, AllocError> {
-        let span = match span_of(row, *self) {
-            Ok(span) => span,
-            Err(fault) => return Ok(Some(fault.at(number))),
-        };
+    ) -> Result<(), TakeFault> {
+        let span = span_of(row, *self)?;
         match comparison.push(self, span.low, span.high, span.answer) {
-            Ok(true) => Ok(None),
-            Ok(false) => Ok(Some(TableFault::Order(number))),
+            Ok(true) => Ok(()),
+            Ok(false) => Err(TakeFault::Order),
             Err(never) => match never {},
         }
     }

@@ -9,7 +9,7 @@ ghost use Rattle.lnt_records.specs.Table.{BeginsWith, Fields, IsTable, column_na
 use crate::comparison::comes;
 use crate::outcome::TableRead;
 use csv::ByteRecord;
-use lnt_records::{TableFault, TakesRecords, span_of, take_records};
+use lnt_records::{TakeFault, TakesRecords, span_of, take_records};
 use lnt_spans::{Position, Span, Version};
 use std::alloc::{AllocError, Global};
 
@@ -55,21 +55,13 @@ impl TakesRecords<Gathering> for Version {
 
     ghost is_fault = { λ version bytes fault. IsFault bytes fault };
 
-    fn take(
-        &self,
-        gathering: &mut Gathering,
-        row: &ByteRecord,
-        number: u64,
-    ) -> Result<Option<TableFault>, AllocError> {
-        let span = match span_of(row, *self) {
-            Ok(span) => span,
-            Err(fault) => return Ok(Some(fault.at(number))),
-        };
+    fn take(&self, gathering: &mut Gathering, row: &ByteRecord) -> Result<(), TakeFault> {
+        let span = span_of(row, *self)?;
         if !comes(gathering.at, span.low, span.high) {
-            return Ok(Some(TableFault::Order(number)));
+            return Err(TakeFault::Order);
         }
         gathering.spans.push(span)?;
         gathering.at = span.high;
-        Ok(None)
+        Ok(())
     }
 }

@@ -2,10 +2,7 @@
 use Rattle.std.proofs.Common.{◌≡◌, ◌∙◌, ℕ, ◌<◌, ◌≤◌, List, [], ◌∷◌, ◌++◌, length, refl, sym, ap, subst, arith, inl, inr}
 use Rattle.std.specs.List.{AllZip}
 use Rattle.lnt_records.specs.declared.fault.TableFault.TheVariants as fault
-use Rattle.lnt_records.specs.declared.record.RecordFault.{RecordFault}
-use Rattle.lnt_records.specs.declared.record.RecordFault.TheVariants as record_fault
 use Rattle.lnt_records.specs.Faults.{HasFaultyRecordIn, IsFaultIn, IsFaultyIn, TableFault}
-use Rattle.lnt_records.specs.Progress.{IsRecordFault, fault_at}
 use Rattle.lnt_records.specs.Reading.{IsNarrow, IsReadAs}
 use Rattle.lnt_records.specs.Table.{BeginsWith, Fields, IsOfColumn, IsTableIn, IsTableOfIn, RecordsOf, TableFormat}
 use Rattle.lnt_records.proofs.BeginningLaws.{faulty_begins, table_begins}
@@ -42,13 +39,6 @@ pub table_order : {V X : Type 0} (format : TableFormat V X) (version : V) (recor
     → IsTableIn format version records spans → format.InOrder spans
 table_order format version [] spans t = absurd t
 table_order format version (first ∷ records) spans t = t.1.in_order
-
--- the fault that the record of this number has alone
-pub faulty_at : {V X : Type 0} (format : TableFormat V X) (version : V) (table : List X) (number : ℕ) (fields : Fields)
-    (told : RecordFault) → IsRecordFault format.columns (length (format.names version)) fields told
-    → IsFaultyIn format version table number fields (fault_at number told)
-faulty_at format version table number fields record_fault.Fields h = (refl, h)
-faulty_at format version table number fields (record_fault.Number i) h = (refl, h.0, h.1)
 
 pub fault_told : {V X : Type 0} (format : TableFormat V X) (bytes : List ℕ) (version : V) (records : List Fields) (fields : Fields)
     (table : List X) (told : TableFault) → BeginsWith bytes (records ++ fields ∷ []) → IsTableIn format version records table

@@ -1,5 +1,5 @@
 -- How far a record was read, and how far lines were written.
-use Rattle.std.specs.Prelude.{◌≡◌, ℕ, ◌+◌, List, ◌∷◌, ◌++◌, length, ◌≢◌, ◌<◌, [], Option, get_or}
+use Rattle.std.specs.Prelude.{◌≡◌, ℕ, ◌+◌, List, ◌∷◌, ◌++◌, length, ◌≢◌, ◌<◌, [], Option, Some, None, get_or}
 use Rattle.std.specs.List.{AllZip}
 use Rattle.csv.specs.Reading.{Reached, default_config, strip_bom}
 use Rattle.csv.specs.declared.parser.State.{State}
@@ -15,6 +15,8 @@ use Rattle.lnt_spans.specs.declared.position.Position.{Position}
 use Rattle.lnt_records.specs.declared.fault.TableFault.TheVariants as fault
 use Rattle.lnt_records.specs.declared.record.RecordFault.{RecordFault}
 use Rattle.lnt_records.specs.declared.record.RecordFault.TheVariants as record_fault
+use Rattle.lnt_records.specs.declared.taking.TakeFault.{TakeFault}
+use Rattle.lnt_records.specs.declared.taking.TakeFault.TheVariants as take_fault
 use Rattle.lnt_records.specs.Faults.{IsFaultyColumn, TableFault}
 
 -- ---- lines of a table that were passed
@@ -58,6 +60,12 @@ IsRecordFault columns count fields (record_fault.Number i) = (length fields ≡ 
 abbrev pub fault_at : ℕ → RecordFault → TableFault
 fault_at number record_fault.Fields = fault.Fields number
 fault_at number (record_fault.Number i) = fault.Number number i
+
+-- the same for a record that wasn't taken: none if memory ran out
+abbrev pub told_fault : ℕ → TakeFault → Option TableFault
+told_fault number take_fault.Memory = None
+told_fault number (take_fault.Record found) = Some (fault_at number found)
+told_fault number take_fault.Order = Some (fault.Order number)
 
 -- the position in columns i and i + 1
 pub record SaysPosition (fields : Fields) (i : ℕ) (position : Position) : Type 0 where

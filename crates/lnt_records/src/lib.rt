@@ -32,6 +32,6 @@ pub use header::{TableVersion, header_of};
 pub use lines::span_at;
 pub use reading::{read_next, reader_of};
 pub use record::{RecordFault, span_of};
-pub use taking::{TakesRecords, next_number, take_records};
+pub use taking::{TakeFault, TakesRecords, next_number, take_records};
 pub use text::{ROOM, address_field_before, number_before, put_span_line};
 pub use write::{put_header, put_span, send, send_full, write_spans};

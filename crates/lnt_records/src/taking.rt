@@ -1,26 +1,83 @@
 //! Takes the records of a table one after another, as `csv` reads them.
-ghost use Rattle.std.specs.Prelude.{◌≡◌, ◌+◌, ◌^◌, ◌≤◌, ◌++◌, ◌∷◌, ℕ, List, [], length, IfOk, MatchOption, OnErr};
+ghost use Rattle.std.specs.Prelude.{◌≡◌, ◌+◌, ◌^◌, ◌≤◌, ◌++◌, ◌∷◌, ℕ, List, [], Some, length, IfOk, MatchOption, OnErr};
 ghost use Rattle.csv.specs.Records.{fields_of};
 ghost use Rattle.lnt_spans.specs.declared.span.Span.{Span};
-ghost use Rattle.lnt_records.specs.Progress.{IsCutAfter};
+ghost use Rattle.lnt_records.specs.Progress.{IsCutAfter, told_fault};
 ghost use Rattle.lnt_records.specs.Reading.{IsNarrow, IsReadAs};
 ghost use Rattle.lnt_records.specs.Table.{BeginsWith, Fields, RecordsOf};
 
 use crate::fault::TableFault;
 use crate::reading::{read_next, reader_of};
+use crate::record::RecordFault;
 use crate::wide::up_to_wide;
 use csv::ByteRecord;
-use std::alloc::{AllocError, Global};
+use std::alloc::{AllocError, AllocFailed, Global};
+
+/// Why a record wasn't taken.
+#[derive(Clone, Copy, Debug, PartialEq, Eq)]
+pub enum TakeFault {
+    /// Memory ran out.
+    Memory,
+    /// The record isn't one of a table.
+    Record(RecordFault),
+    /// Its span is empty, or begins below the end of the span before it.
+    Order,
+}
+
+impl TakeFault {
+    // The fault of a table, if the record has this number. Fails only if memory ran out.
+    fn at(self, number: u64) -> Result<TableFault, AllocError>
+        ensures fault { IfOk result (λ fault. told_fault number self ≡ Some fault) }
+        ensures memory { OnErr result (self ≡ TakeFault.Memory) }
+    {
+        match self {
+            TakeFault::Memory => Err(AllocError),
+            TakeFault::Record(fault) => Ok(fault.at(number)),
+            TakeFault::Order => Ok(TableFault::Order(number)),
+        }
+    }
+}
+
+impl From<RecordFault> for TakeFault {
+    ghost use Rattle.lnt_records.specs.declared.taking.TakeFault.TheVariants.{Record};
+
+    ghost from_gives = { λ fault told. told ≡ Record fault };
+
+    fn from(fault: RecordFault) -> TakeFault {
+        TakeFault::Record(fault)
+    }
+}
+
+impl From<AllocError> for TakeFault {
+    ghost use Rattle.lnt_records.specs.declared.taking.TakeFault.TheVariants.{Memory};
+
+    ghost from_gives = { λ _ told. told ≡ Memory };
+
+    fn from(_error: AllocError) -> TakeFault {
+        TakeFault::Memory
+    }
+}
+
+impl<T: Drop> From<AllocFailed<T>> for TakeFault {
+    ghost use Rattle.lnt_records.specs.declared.taking.TakeFault.TheVariants.{Memory};
+
+    ghost from_gives = { λ _ told. told ≡ Memory };
+
+    fn from(_error: AllocFailed<T>) -> TakeFault {
+        TakeFault::Memory
+    }
+}
 
 /// Takes the records of a table one after another. `C` is the state after those that were taken so far.
 ///
 /// Contracts see it by three ghost members: `is_right`, whether what a state remembers is right; `judges`, what is known of a state and
 /// some spans after these records; and `is_fault`, whether this is the first fault of these bytes.
 pub trait TakesRecords<C> {
-    ghost use Rattle.std.specs.Prelude.{◌≡◌, ◌++◌, ◌∷◌, ℕ, List, [], length, IfOk, OnOk, MatchOption};
+    ghost use Rattle.std.specs.Prelude.{◌++◌, ◌∷◌, ℕ, List, [], length, IfSome, OnOk, MatchResult};
     ghost use Rattle.csv.specs.Records.{fields_of};
     ghost use Rattle.lnt_spans.specs.declared.span.Span.{Span};
     ghost use Rattle.lnt_records.specs.declared.fault.TableFault.{TableFault as SpecFault};
+    ghost use Rattle.lnt_records.specs.Progress.{told_fault};
     ghost use Rattle.lnt_records.specs.Reading.{IsNarrow, IsReadAs};
     ghost use Rattle.lnt_records.specs.Table.{BeginsWith, Fields};
 
@@ -30,21 +87,16 @@ pub trait TakesRecords<C> {
 
     ghost is_fault: { Self → List ℕ → SpecFault → Type 0 };
 
-    /// Takes one more record, which has this number, or gives its fault, which then is the first of all bytes that begin with the
-    /// records so far and this one. Fails only if memory runs out.
-    fn take(
-        &self,
-        state: &mut C,
-        row: &ByteRecord,
-        number: u64,
-    ) -> Result<Option<TableFault>, AllocError>
+    /// Takes one more record. A fault other than want of memory, told with the number of the record, is the first of all bytes that
+    /// begin with the records so far and this one.
+    fn take(&self, state: &mut C, row: &ByteRecord) -> Result<(), TakeFault>
         requires { is_right self.now state.old }
         ensures right { OnOk result (is_right self.now state.new) }
-        ensures narrow { IfOk result (λ found. MatchOption found (IsNarrow (fields_of row.now)) (λ _. Unit {0})) }
-        ensures taken { IfOk result (λ found. (spans : List Span) (records : List Fields) → judges self.now state.old spans records
-            → number ≡ length records → MatchOption found (judges self.now state.new spans (records ++ fields_of row.now ∷ []))
+        ensures narrow { OnOk result (IsNarrow (fields_of row.now)) }
+        ensures taken { (spans : List Span) (records : List Fields) → judges self.now state.old spans records
+            → MatchResult result (λ _. judges self.now state.new spans (records ++ fields_of row.now ∷ []))
             (λ fault. (whole : Fields) (bytes : List ℕ) → IsReadAs (fields_of row.now) whole → BeginsWith bytes (records ++ whole ∷ [])
-            → is_fault self.now bytes fault)) };
+            → IfSome (told_fault (length records) fault) (is_fault self.now bytes)) };
 }
 
 /// The number of the next record. A number of more than 64 bits counts as one for which there is no memory: no table is that long.
@@ -83,8 +135,8 @@ pub fn take_records<C, T: TakesRecords<C>>(
     let mut row = ByteRecord::new(alloc);
     read_next(&mut reader, &mut row)?;
     while read_next(&mut reader, &mut row)? {
-        if let Some(fault) = taker.take(state, &row, number)? {
-            return Ok(Some(fault));
+        if let Err(fault) = taker.take(state, &row) {
+            return Ok(Some(fault.at(number)?));
         }
         number = next_number(number)?;
     }

@@ -1,11 +1,11 @@
 -- Joining a span with one that touches it and answers the same.
-use Rattle.std.proofs.Common.{append_assoc, ◌≡◌, ◌≢◌, List, [], ◌∷◌, ◌++◌, subst, None, false, arith}
+use Rattle.std.proofs.Common.{append_assoc, ◌≡◌, ◌≢◌, ◌∙◌, List, [], ◌∷◌, ◌++◌, subst, None, false, arith}
 use Rattle.lnt_spans.specs.Positions.{IsBelow, Position}
-use Rattle.lnt_spans.specs.Spans.{number_spans, AreInOrder, span_answer, span_in_version, version_answer, Version, Span}
-use Rattle.lnt_spans.specs.SpanKinds.{DifferWhereTheyTouch}
+use Rattle.lnt_spans.specs.Spans.{number_spans, Answer, AreInOrder, span_answer, span_in_version, version_answer, Version, Span}
+use Rattle.lnt_spans.specs.SpanKinds.{DifferWhereTheyTouch, answer_held}
 use Rattle.lnt_spans.proofs.AnsweringLaws.{answer_in, answer_before, answer_after, answer_same, first_holds, rest_in_order}
 use Rattle.lnt_spans.proofs.PositionLaws.{order_cases, below_at_most, below_is_at_most}
-use Rattle.lnt_spans.proofs.ToldLaws.{told, told_answer, told_order}
+use Rattle.lnt_spans.proofs.ToldLaws.{told, told_answer, told_order, told_spans}
 use Rattle.std.proofs.lemmas.Grind.{common_steps}
 
 -- a default for list indices out of bounds
@@ -33,6 +33,32 @@ join_order [] first next (m ∷ more) touch h = (joined_holds first next touch h
 join_order (d ∷ []) first next more touch h = (h.0, h.1, join_order [] first next more touch h.2)
 join_order (d ∷ e ∷ done) first next more touch h = (h.0, h.1, join_order (e ∷ done) first next more touch h.2)
 
+answer_joined : {X : Type 0} (tell : Answer → X) (first next : Span) (more : List Span) (p : Position) → first.high ≡ next.low
+    → tell first.answer ≡ tell next.answer → IsBelow first.low first.high → IsBelow next.low next.high
+    → answer_held (told_spans tell) (joined_span first next.high ∷ more) p ≡ answer_held (told_spans tell) (first ∷ next ∷ more) p
+answer_joined tell first next more p touch same h k =
+    grind (
+      arith,
+      common_steps,
+      order_cases,
+      below_at_most,
+      below_is_at_most,
+      answer_before (told_spans tell),
+      answer_in (told_spans tell),
+      answer_after (told_spans tell),
+    )
+
+-- if both are told alike
+pub join_answer : {X : Type 0} (tell : Answer → X) (done : List Span) (first next : Span) (more : List Span) (p : Position)
+    → first.high ≡ next.low → tell first.answer ≡ tell next.answer → AreInOrder (done ++ first ∷ next ∷ more)
+    → answer_held (told_spans tell) (done ++ joined_span first next.high ∷ more) p
+    ≡ answer_held (told_spans tell) (done ++ first ∷ next ∷ more) p
+join_answer tell [] first next more p touch same h =
+    answer_joined tell first next more p touch same h.0 (first_holds number_spans next more h.2)
+join_answer tell (d ∷ done) first next more p touch same h =
+    answer_same (told_spans tell) d (done ++ joined_span first next.high ∷ more) (done ++ first ∷ next ∷ more) p
+    (join_answer tell done first next more p touch same (rest_in_order number_spans d (done ++ first ∷ next ∷ more) h))
+
 pub join_differ : (done : List Span) (first : Span) (high : Position) → DifferWhereTheyTouch number_spans (done ++ first ∷ [])
     → DifferWhereTheyTouch number_spans (done ++ joined_span first high ∷ [])
 join_differ [] first high h = tt
@@ -46,30 +72,6 @@ push_differ [] first next h k = (k, tt)
 push_differ (d ∷ []) first next h k = (h.0, (k, tt))
 push_differ (d ∷ e ∷ done) first next h k = (h.0, push_differ (e ∷ done) first next h.1 k)
 
-answer_joined : (first next : Span) (more : List Span) (p : Position) → first.high ≡ next.low → first.answer ≡ next.answer
-    → IsBelow first.low first.high → IsBelow next.low next.high
-    → span_answer (joined_span first next.high ∷ more) p ≡ span_answer (first ∷ next ∷ more) p
-answer_joined first next more p touch same h k =
-    grind (
-      arith,
-      common_steps,
-      order_cases,
-      below_at_most,
-      below_is_at_most,
-      answer_before number_spans,
-      answer_in number_spans,
-      answer_after number_spans,
-    )
-
-pub join_answer : (done : List Span) (first next : Span) (more : List Span) (p : Position) → first.high ≡ next.low
-    → first.answer ≡ next.answer
-    → AreInOrder (done ++ first ∷ next ∷ more)
-    → span_answer (done ++ joined_span first next.high ∷ more) p ≡ span_answer (done ++ first ∷ next ∷ more) p
-join_answer [] first next more p touch same h = answer_joined first next more p touch same h.0 (first_holds number_spans next more h.2)
-join_answer (d ∷ done) first next more p touch same h =
-    answer_same number_spans d (done ++ joined_span first next.high ∷ more) (done ++ first ∷ next ∷ more) p
-    (join_answer done first next more p touch same (rest_in_order number_spans d (done ++ first ∷ next ∷ more) h))
-
 -- ---- the loop
 
 -- the loop's state: the spans joined so far, the span that may still grow, and the spans not looked at yet
@@ -80,7 +82,11 @@ pub record Joining (spans done : List Span) (first : Span) (rest : List Span) : 
 
 pub keep_join : (spans done : List Span) (first next : Span) (more : List Span) → Joining spans done first (next ∷ more)
     → (first.high ≡ next.low) × (first.answer ≡ next.answer) → Joining spans done (joined_span first next.high) more
-keep_join spans done first next more j e = grind (arith, common_steps, join_order, join_differ, join_answer)
+keep_join spans done first next more j e = record {
+  order = join_order done first next more e.0 j.order;
+  differ = join_differ done first next.high j.differ;
+  same = λ p. join_answer (λ (answer : Answer). answer) done first next more p e.0 e.1 j.order ∙ j.same p;
+}
 
 pub keep_push : (spans done : List Span) (first next : Span) (more : List Span) → Joining spans done first (next ∷ more)
     → (first.high ≡ next.low → first.answer ≢ next.answer) → Joining spans (done ++ first ∷ []) next more

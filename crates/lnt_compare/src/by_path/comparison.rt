@@ -17,7 +17,8 @@ use crate::lines::TakesLines;
 use crate::outcome::{Outcome, TableRead};
 use csv::ByteRecord;
 use lnt_records::{
-    PathRecord, PathVersion, Paths, TableFault, TakesRecords, header_of, line_at, record_of,
+    PathRecord, PathVersion, Paths, TableFault, TakeFault, TakesRecords, header_of, line_at,
+    record_of,
 };
 use lnt_spans::{Position, SpanSource};
 use std::alloc::{AllocError, Global};
@@ -72,20 +73,12 @@ impl<'p, 'r, S: SpanSource + Drop, P: Paths> TakesRecords<PathComparison<S>>
 
     ghost is_fault = { λ s bytes fault. IsPathFault bytes fault };
 
-    fn take(
-        &self,
-        comparison: &mut PathComparison<S>,
-        row: &ByteRecord,
-        number: u64,
-    ) -> Result<Option<TableFault>, AllocError> {
-        let said = match record_of(row, self.version) {
-            Ok(said) => said,
-            Err(fault) => return Ok(Some(fault.at(number))),
-        };
+    fn take(&self, comparison: &mut PathComparison<S>, row: &ByteRecord) -> Result<(), TakeFault> {
+        let said = record_of(row, self.version)?;
         if !push(self, comparison, said)? {
-            return Ok(Some(TableFault::Order(number)));
+            return Err(TakeFault::Order);
         }
-        Ok(None)
+        Ok(())
     }
 }
 

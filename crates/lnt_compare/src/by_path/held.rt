@@ -9,7 +9,9 @@ use crate::by_path::telling::said_of;
 use crate::comparison::comes;
 use crate::outcome::TableRead;
 use csv::ByteRecord;
-use lnt_records::{PathVersion, TableFault, TakesRecords, header_of, record_of, take_records};
+use lnt_records::{
+    PathVersion, TableFault, TakeFault, TakesRecords, header_of, record_of, take_records,
+};
 use lnt_spans::Position;
 use std::alloc::{AllocError, Global};
 
@@ -65,18 +67,10 @@ impl TakesRecords<Vec<HeldSpan>> for Holder {
 
     ghost is_fault = { λ holder bytes fault. IsPathFault bytes fault };
 
-    fn take(
-        &self,
-        spans: &mut Vec<HeldSpan>,
-        row: &ByteRecord,
-        number: u64,
-    ) -> Result<Option<TableFault>, AllocError> {
-        let said = match record_of(row, self.version) {
-            Ok(said) => said,
-            Err(fault) => return Ok(Some(fault.at(number))),
-        };
+    fn take(&self, spans: &mut Vec<HeldSpan>, row: &ByteRecord) -> Result<(), TakeFault> {
+        let said = record_of(row, self.version)?;
         if !comes(end_of(spans), whole(said.low), whole(said.high)) {
-            return Ok(Some(TableFault::Order(number)));
+            return Err(TakeFault::Order);
         }
         let answer = said_of(self.alloc, said.answer)?;
         spans.push(HeldSpan {
@@ -84,7 +78,7 @@ impl TakesRecords<Vec<HeldSpan>> for Holder {
             high: said.high,
             answer,
         })?;
-        Ok(None)
+        Ok(())
     }
 }
 

@@ -7,11 +7,11 @@ use Rattle.lnt_compare.proofs.KindLaws.{number_laws}
 use Rattle.lnt_compare.proofs.gather.VersionTakesRecordsGathering.take.Goals as goal
 
 pub returns-then-not-comes-clause-taken : goal.returns-then-not-comes-clause-taken
-returns-then-not-comes-clause-taken c spans records h number =
+returns-then-not-comes-clause-taken c spans records h =
     order_refused tables_by_number number_laws c.args.self.now c.args.gathering.now.at (spans ++ c.args.gathering.now.spans.items) records
-    (fields_of c.args.row.now) c.in-Ok.span c.args.number h.is_table number h.at c.in-Ok.ensures.ok c.if-not-comes.ensures
+    (fields_of c.args.row.now) c.in_ok-span.span h.is_table h.at c.in_ok-span.ensures.ok c.if-not-comes.ensures
 
 pub returns-clause-taken : goal.returns-clause-taken
-returns-clause-taken c spans records h number =
-    gathers_more c.args.self.now c.args.gathering.now _ spans records (fields_of c.args.row.now) c.in-Ok.span h c.in-Ok.ensures.ok
+returns-clause-taken c spans records h =
+    gathers_more c.args.self.now c.args.gathering.now _ spans records (fields_of c.args.row.now) c.in_ok-span.span h c.in_ok-span.ensures.ok
     c.if-not-comes.ensures c.in_ok-push.ensures.items refl
