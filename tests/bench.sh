@@ -29,7 +29,7 @@ producers.followed(([], "cc -g", "cc -g6"), wrong)
 producers.followed(([], "cc -g", "cc -g7"), wrong)
 assert [it.split(": ")[1] for it in wrong] == ["no 25", "-g7 isn't what is advised", "no 25"], wrong
 END
-if here 'tables by bench/makers' cc; then
+if here 'tables by bench/makers' cc objcopy; then
   mkdir "$work/bin"
   # In the place of Breakpad's, which may not be here: a function for each span of the program's own table.
   cat >"$work/bin/dump_syms" <<'END'
