@@ -14,7 +14,9 @@ use crate::line_telling::LineTelling;
 use crate::lines::TakesLines;
 use crate::outcome::{Compared, Outcome, TableRead};
 use csv::ByteRecord;
-use lnt_records::{TableFault, TakeFault, TakesRecords, header_of, span_at, span_of, take_records};
+use lnt_records::{
+    TableFault, TakeFault, TakesRecords, first_span, header_of, span_of, take_records,
+};
 use lnt_spans::{Difference, Merge, Position, Span, SpanSlice, SpanSource, Telling, Version};
 use std::alloc::{AllocError, Global};
 
@@ -171,7 +173,7 @@ impl<S: SpanSource + Drop> TakesLines<Comparison<S, Difference, ()>> for Version
         _last: &mut Vec<u8>,
         text: &[u8],
     ) -> Result<Option<usize>, AllocError> {
-        let Some((span, length)) = span_at(text, 0, *self) else {
+        let Some((span, length)) = first_span(text, *self) else {
             return Ok(None);
         };
         match comparison.push(self, span.low, span.high, span.answer) {

@@ -1,6 +1,6 @@
 -- Offsets that rise, and the directories of units.
 use Rattle.std.proofs.Common.{◌≡◌, ◌≢◌, ◌∙◌, ℕ, ◌+◌, ◌-◌, ◌<◌, ◌≤◌, Bool, true, false, List, [], ◌∷◌, ◌++◌, length, get_or, Result, Ok, Err}
-use Rattle.std.proofs.Common.{Option, Some, None, inl, inr, refl, sym, ap, arith, zero, suc, MatchBool, codes, is_ok}
+use Rattle.std.proofs.Common.{Option, Some, None, inl, inr, refl, sym, arith, zero, suc, MatchBool, is_ok}
 use Rattle.lnt_records.specs.Reading.{BytesReader, HasRead}
 use Rattle.lnt_records.proofs.ReadingLaws.{first_same}
 use Rattle.lnt_records.specs.Table.{BeginsWith, Fields}
@@ -101,16 +101,6 @@ no_directory directories offset i up h =
 
 -- ---- record 0
 
-pub all_named : (fields : Fields) → length fields ≡ 2 → get_or fields 0 [] ≡ codes "unit" → get_or fields 1 [] ≡ codes "directory"
-    → fields ≡ directory_names
-all_named fields e unit directory = grind (arith, common_steps)
-
-pub not_unit : (fields : Fields) → get_or fields 0 [] ≢ codes "unit" → fields ≢ directory_names
-not_unit fields other e = other (ap (λ (f : Fields). get_or f 0 []) e)
-
-pub not_directory : (fields : Fields) → get_or fields 1 [] ≢ codes "directory" → fields ≢ directory_names
-not_directory fields other e = other (ap (λ (f : Fields). get_or f 1 []) e)
-
 pub columns_found : (named : Bool) (reader : BytesReader) (bytes : List ℕ) (fields : Fields) → HasRead reader bytes (fields ∷ [])
     → MatchBool named (fields ≡ directory_names) (fields ≢ directory_names)
     → MatchBool named (HasRead reader bytes (directory_names ∷ [])) (BeginsWith bytes (directory_names ∷ []) → ⊥)
@@ -210,6 +200,3 @@ sound_from older bytes directories file = grind (arith, common_steps, no_zero_at
 
 pub sound_none : (directories : List Directory) → directories ≡ [] → AreSoundDirectories directories
 sound_none directories none = rw none (record { rising = λ i j d lt few. absurd (omega (arith, few)); no_zero = λ offset. tt })
-
--- The lemmas of `names_columns`.
-pub ruleset names_columns_lemmas = (all_named, not_unit, not_directory)

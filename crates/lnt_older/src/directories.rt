@@ -1,5 +1,5 @@
 //! The compilation directories of older units, which their section doesn't have: comma-separated values.
-ghost use Rattle.std.specs.Prelude.{◌≡◌, ◌≢◌, ℕ, List, [], ◌∷◌, IfErr, IfOk, MatchOption, Some, MatchBool};
+ghost use Rattle.std.specs.Prelude.{◌≡◌, ℕ, List, [], ◌∷◌, IfErr, IfOk, MatchOption, Some, MatchBool};
 ghost use Rattle.lnt_header.specs.Joins.{AreRising};
 ghost use Rattle.csv.specs.Records.{fields_of};
 ghost use Rattle.lnt_records.specs.Reading.{HasRead};
@@ -9,7 +9,7 @@ ghost use Rattle.lnt_older.specs.Directories.{IsNext, IsAmong, MayFollow, direct
 
 use crate::section::UpgradeFault;
 use csv::{ByteRecord, Reader};
-use lnt_records::{field, is_field, read_next, reader_of};
+use lnt_records::{field, has_fields, read_next, reader_of};
 use lnt_text::decimal;
 use std::alloc::{AllocError, Global};
 
@@ -60,15 +60,7 @@ fn read_columns(reader: &mut Reader<&[u8]>, row: &mut ByteRecord) -> Result<bool
     if !read_next(reader, row)? {
         return Ok(false);
     }
-    Ok(names_columns(row))
-}
-
-// Whether the fields of a record are the names of the columns.
-#[tactic(auto, using(crate::proofs::DirectoryLemmas::names_columns_lemmas))]
-fn names_columns(row: &ByteRecord) -> bool
-    ensures { MatchBool result (fields_of row.now ≡ directory_names) (fields_of row.now ≢ directory_names) }
-{
-    row.len() == 2 && is_field(row, 0, b"unit") && is_field(row, 1, b"directory")
+    Ok(has_fields(row, &[b"unit".as_slice(), b"directory"]))
 }
 
 // Adds the directory in a record to those of the records before it. False exactly where the record has none that may follow

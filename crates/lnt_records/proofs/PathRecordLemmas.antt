@@ -1,34 +1,13 @@
 -- Records of a table by path, and record 0.
-use Rattle.std.proofs.Common.{◌≡◌, ◌≢◌, ℕ, ◌≤◌, List, [], Option, length, get_or, refl, sym, subst, arith, codes}
+use Rattle.std.proofs.Common.{◌≡◌, ◌≢◌, ℕ, ◌≤◌, List, [], Option, length, get_or, sym, arith}
 use Rattle.lnt_text.specs.Digits.{IsAddress, IsDecimal}
 use Rattle.lnt_records.proofs.ColumnLemmas.{sound_more}
-use Rattle.lnt_records.proofs.HeaderLaws.{all_named}
 use Rattle.lnt_records.specs.Progress.{AreSoundBefore}
-use Rattle.lnt_records.specs.Table.{AreNamed, Fields}
+use Rattle.lnt_records.specs.Table.{Fields}
 use Rattle.lnt_records.specs.declared.by_path.version.PathVersion.TheVariants.{Three, Four}
-use Rattle.lnt_records.specs.PathTables.{SaysColumn, SaysPath, path_column_count, path_column_names, path_kinds, PathVersion, place_names}
+use Rattle.lnt_records.specs.PathTables.{SaysColumn, SaysPath, path_column_count, path_column_names, path_kinds, PathVersion}
 
 -- ---- record 0
-
-pub all_three : (fields : Fields) → length fields ≡ 5 → AreNamed 0 place_names fields → get_or fields 4 [] ≡ codes "column"
-    → fields ≡ path_column_names Three
-all_three fields e h column = all_named (path_column_names Three) fields e (h.0, (h.1.0, (h.1.1.0, (h.1.1.1.0, (column, tt)))))
-
-pub all_four : (fields : Fields) → length fields ≡ 4 → AreNamed 0 place_names fields → fields ≡ path_column_names Four
-all_four fields e h = all_named (path_column_names Four) fields e h
-
-named_places : (version : PathVersion) → AreNamed 0 place_names (path_column_names version)
-named_places Three = (refl, (refl, (refl, (refl, tt))))
-named_places Four = (refl, (refl, (refl, (refl, tt))))
-
-not_places : (version : PathVersion) (fields : Fields) → (AreNamed 0 place_names fields → ⊥) → fields ≢ path_column_names version
-not_places version fields h e = h (subst (AreNamed 0 place_names) (sym e) (named_places version))
-
-pub not_three : (fields : Fields) → (AreNamed 0 place_names fields → ⊥) → fields ≢ path_column_names Three
-not_three fields h e = not_places Three fields h e
-
-pub not_four : (fields : Fields) → (AreNamed 0 place_names fields → ⊥) → fields ≢ path_column_names Four
-not_four fields h e = not_places Four fields h e
 
 pub names_none : (fields : Fields) → fields ≢ path_column_names Three → fields ≢ path_column_names Four → (version : PathVersion)
     → fields ≢ path_column_names version
@@ -53,5 +32,5 @@ pub says_path : (version : PathVersion) (fields : Fields) (low high line : ℕ) 
 says_path version fields low high line path column count l h p n c =
     record { count = count; low_is = l; high_is = h; path = sym p; line = n; column = c }
 
--- The lemmas of `record_in`.
-pub ruleset record_in_lemmas = (four_columns, path_is_sound, says_path)
+-- The lemmas of `record_of`.
+pub ruleset record_of_lemmas = (four_columns, path_is_sound, says_path)

@@ -38,8 +38,8 @@ pub column_fault : (columns : List Kind) (count : ℕ) (fields : Fields) (told :
 column_fault columns count fields fault.Fields same h = absurd h
 column_fault columns count fields (fault.Number i) same h = (same, h)
 
--- The lemmas of `record_in`.
-pub ruleset record_in_lemmas = (none_before, column_fault)
+-- The lemmas of `record_of`.
+pub ruleset record_of_lemmas = (none_before, column_fault)
 
--- The lemmas of `span_in`.
-pub ruleset span_in_lemmas = (common_columns, none_before, says_span, column_fault)
+-- The lemmas of `span_of`.
+pub ruleset span_of_lemmas = (common_columns, none_before, says_span, column_fault)

@@ -59,10 +59,6 @@ IsPathTableOf version bytes spans = IsTableOfIn by_path version bytes spans
 
 -- ---- one record of a table by path, as it is read
 
--- the columns that both versions have
-abbrev pub place_names : Fields
-place_names = codes "low" ∷ codes "high" ∷ codes "path" ∷ codes "line" ∷ []
-
 -- a record's answer that is borrowed
 abbrev pub said_answer : SaidPath → PathAnswer
 said_answer said = record { path = said.path.now; line = said.line; column = said.column }

@@ -62,10 +62,10 @@ fault_at number record_fault.Fields = fault.Fields number
 fault_at number (record_fault.Number i) = fault.Number number i
 
 -- the same for a record that wasn't taken: none if memory ran out
-abbrev pub told_fault : ℕ → TakeFault → Option TableFault
-told_fault number take_fault.Memory = None
-told_fault number (take_fault.Record found) = Some (fault_at number found)
-told_fault number take_fault.Order = Some (fault.Order number)
+abbrev pub numbered_fault : ℕ → TakeFault → Option TableFault
+numbered_fault number take_fault.Memory = None
+numbered_fault number (take_fault.Record found) = Some (fault_at number found)
+numbered_fault number take_fault.Order = Some (fault.Order number)
 
 -- the position in columns i and i + 1
 pub record SaysPosition (fields : Fields) (i : ℕ) (position : Position) : Type 0 where

@@ -1,5 +1,5 @@
 -- An address table, in terms of the records that `csv` reads from its bytes: first of any format, then by number.
-use Rattle.std.specs.Prelude.{◌≡◌, ℕ, Bool, true, false, List, [], ◌∷◌, ◌++◌, Option, Some, None, length, get_or, codes, suc}
+use Rattle.std.specs.Prelude.{◌≡◌, ℕ, Bool, true, false, List, [], ◌∷◌, ◌++◌, Option, Some, None, length, get_or, codes}
 use Rattle.std.specs.List.{AllZip}
 use Rattle.csv.specs.Reading.{AreRecords, Reached, default_config, strip_bom}
 use Rattle.csv.specs.declared.parser.State.{State}
@@ -22,11 +22,6 @@ RecordsOf bytes records = AreRecords default_config state.StartRecord (strip_bom
 -- the records of the bytes begin with these
 abbrev pub BeginsWith : List ℕ → List Fields → Type 0
 BeginsWith bytes records = (after : State) × (rest : List ℕ) × Reached default_config state.StartRecord (strip_bom bytes) records after rest
-
--- the fields from column i on are these names
-abbrev pub AreNamed : ℕ → Fields → Fields → Type 0
-AreNamed i [] fields = Unit {0}
-AreNamed i (name ∷ names) fields = (get_or fields i [] ≡ name) × AreNamed (suc i) names fields
 
 -- ---- columns
 

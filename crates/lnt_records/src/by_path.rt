@@ -15,7 +15,7 @@ pub use fields::PathFields;
 pub use kept::{FileText, FileTexts};
 pub use line::{addresses_before, place_before, put_line};
 pub use paths::Paths;
-pub use plain::line_at;
+pub use plain::first_record;
 pub use record::{PathRecord, SaidPath, record_of};
 pub use told::ToldFiles;
 pub use version::PathVersion;

@@ -1,5 +1,5 @@
 //! The fields of a record, by column.
-ghost use Rattle.std.specs.Prelude.{◌≡◌, ◌≢◌, ◌+◌, ◌<◌, [], length, get_or, IfOk, IfErr, OnOk, MatchOption, Bool, MatchBool};
+ghost use Rattle.std.specs.Prelude.{◌≡◌, ◌≢◌, ◌+◌, ◌<◌, [], length, map, get_or, IfOk, IfErr, OnOk, MatchOption, Bool, MatchBool};
 ghost use Rattle.csv.specs.Records.{fields_of};
 ghost use Rattle.lnt_text.specs.Digits.{IsAddress, IsDecimal};
 ghost use Rattle.lnt_records.specs.Progress.{AreSoundBefore, IsColumnFault, IsColumnOf};
@@ -38,12 +38,20 @@ pub fn field(row: &ByteRecord, i: usize) -> &[u8]
     field
 }
 
-/// Whether the field in column `i` of a record is this text. The caller makes sure that the record has that column.
-pub fn is_field(row: &ByteRecord, i: usize, text: &[u8]) -> bool
-    requires { i < length (fields_of row.now) }
-    ensures { MatchBool result (get_or (fields_of row.now) i [] ≡ text.now) (get_or (fields_of row.now) i [] ≢ text.now) }
+/// Whether the fields of a record are these.
+pub fn has_fields(row: &ByteRecord, fields: &[&[u8]]) -> bool
+    ensures { MatchBool result (fields_of row.now ≡ map (λ field. field.now) fields.now)
+        (fields_of row.now ≢ map (λ field. field.now) fields.now) }
 {
-    field(row, i) == text
+    if row.len() != fields.len() {
+        return false;
+    }
+    for (i, one) in fields.iter().enumerate() {
+        if field(row, i) != *one {
+            return false;
+        }
+    }
+    true
 }
 
 /// Reads the address in column `i`. The caller makes sure that this is a column of addresses, that the record has it, and that

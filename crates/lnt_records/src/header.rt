@@ -1,11 +1,9 @@
 //! Record 0 of a table, which names its columns.
-ghost use Rattle.std.specs.Prelude.{◌≡◌, ◌≢◌, ◌≤◌, ◌∷◌, [], length, IfOk, MatchOption, MatchBool};
-ghost use Rattle.csv.specs.Records.{fields_of};
+ghost use Rattle.std.specs.Prelude.{◌≡◌, ◌≤◌, ◌∷◌, [], length, IfOk, MatchOption};
 ghost use Rattle.lnt_spans.specs.declared.answer.Version.{Version};
-ghost use Rattle.lnt_spans.specs.declared.answer.Version.TheVariants as version;
-ghost use Rattle.lnt_records.specs.Table.{AreNamed, BeginsWith, column_count, column_names, common_names};
+ghost use Rattle.lnt_records.specs.Table.{BeginsWith, column_count, column_names};
 
-use crate::column::is_field;
+use crate::column::has_fields;
 use crate::reading::{read_next, reader_of};
 use crate::wide::begins_wide;
 use csv::ByteRecord;
@@ -45,9 +43,22 @@ impl TableVersion for Version {
 
     #[tactic(auto, using(crate::proofs::HeaderLaws::names_none))]
     fn of_record(row: &ByteRecord) -> Option<Version> {
-        if names_version_one(row) {
+        let names = [
+            b"low".as_slice(),
+            b"low_op",
+            b"high",
+            b"high_op",
+            b"unit",
+            b"file",
+            b"line",
+            b"column",
+            b"is_stmt",
+            b"isa",
+            b"discriminator",
+        ];
+        if has_fields(row, &names[..9]) {
             Some(Version::One)
-        } else if names_version_two(row) {
+        } else if has_fields(row, &names) {
             Some(Version::Two)
         } else {
             None
@@ -85,36 +96,4 @@ pub(crate) fn columns(version: Version) -> usize
         Version::One => 9,
         Version::Two => 11,
     }
-}
-
-#[tactic(auto, using(crate::proofs::HeaderLaws::names_one, crate::proofs::HeaderLaws::not_one))]
-fn names_version_one(row: &ByteRecord) -> bool
-    ensures { MatchBool result (fields_of row.now ≡ column_names version.One) (fields_of row.now ≢ column_names version.One) }
-{
-    row.len() == 9 && names_common_columns(row)
-}
-
-#[tactic(auto, using(crate::proofs::HeaderLaws::names_two, crate::proofs::HeaderLaws::not_two))]
-fn names_version_two(row: &ByteRecord) -> bool
-    ensures { MatchBool result (fields_of row.now ≡ column_names version.Two) (fields_of row.now ≢ column_names version.Two) }
-{
-    row.len() == 11
-        && names_common_columns(row)
-        && is_field(row, 9, b"isa")
-        && is_field(row, 10, b"discriminator")
-}
-
-fn names_common_columns(row: &ByteRecord) -> bool
-    requires { 9 ≤ length (fields_of row.now) }
-    ensures { MatchBool result (AreNamed 0 common_names (fields_of row.now)) (AreNamed 0 common_names (fields_of row.now) → ⊥) }
-{
-    is_field(row, 0, b"low")
-        && is_field(row, 1, b"low_op")
-        && is_field(row, 2, b"high")
-        && is_field(row, 3, b"high_op")
-        && is_field(row, 4, b"unit")
-        && is_field(row, 5, b"file")
-        && is_field(row, 6, b"line")
-        && is_field(row, 7, b"column")
-        && is_field(row, 8, b"is_stmt")
 }

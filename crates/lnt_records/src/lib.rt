@@ -24,12 +24,12 @@ mod write;
 
 pub use by_path::{
     FileText, FileTexts, PathFields, PathRecord, PathVersion, Paths, SaidPath, ToldFiles,
-    addresses_before, line_at, place_before, put_line, record_of,
+    addresses_before, first_record, place_before, put_line, record_of,
 };
-pub use column::{Columns, address_at, decimal_at, field, is_field};
+pub use column::{Columns, address_at, decimal_at, field, has_fields};
 pub use fault::{TableFault, WriteStop};
 pub use header::{TableVersion, header_of};
-pub use lines::span_at;
+pub use lines::first_span;
 pub use reading::{read_next, reader_of};
 pub use record::{RecordFault, span_of};
 pub use taking::{TakeFault, TakesRecords, next_number, take_records};

@@ -6,14 +6,14 @@ ghost use Rattle.lnt_records.specs.Lines.{IsAnswer, IsFlagBefore, IsTextLine, Is
 use lnt_spans::{Answer, More, Position, Span, Version};
 use lnt_text::{address_until, decimal_until, past};
 
-/// Parses the line at `at`; gives its span and the index of the next line. `None` leaves the line to `csv`.
+/// Parses the first line of a text; gives its span and the index of the next line. `None` leaves the line to `csv`.
 #[inline(always)]
-pub fn span_at(table: &[u8], at: usize, version: Version) -> Option<(Span, usize)>
-    ensures { IfSome result (λ found. IsTextLine version found.0 (drop at table.now) (drop found.1 table.now)) }
+pub fn first_span(text: &[u8], version: Version) -> Option<(Span, usize)>
+    ensures { IfSome result (λ found. IsTextLine version found.0 text.now (drop found.1 text.now)) }
 {
-    let (low, at) = position_at(table, at)?;
-    let (high, at) = position_at(table, at)?;
-    let (answer, at) = answer_at(table, at, version)?;
+    let (low, at) = position_at(text, 0)?;
+    let (high, at) = position_at(text, at)?;
+    let (answer, at) = answer_at(text, at, version)?;
     Some((Span { low, high, answer }, at))
 }
 

@@ -34,6 +34,7 @@ impl RecordFault {
 }
 
 /// The span of a record, or why it has none.
+#[tactic(auto, using(crate::proofs::RecordLemmas::span_of_lemmas))]
 pub fn span_of(row: &ByteRecord, version: Version) -> Result<Span, RecordFault>
     ensures ok { IfOk result (λ span. IsSpanRecord version (fields_of row.now) span) }
     ensures err { IfErr result (λ fault. IsRecordFault kinds (column_count version) (fields_of row.now) fault) }
@@ -41,15 +42,6 @@ pub fn span_of(row: &ByteRecord, version: Version) -> Result<Span, RecordFault>
     if row.len() != columns(version) {
         return Err(RecordFault::Fields);
     }
-    span_in(row, version)
-}
-
-#[tactic(auto, using(crate::proofs::RecordLemmas::span_in_lemmas))]
-fn span_in(row: &ByteRecord, version: Version) -> Result<Span, RecordFault>
-    requires { length (fields_of row.now) ≡ column_count version }
-    ensures ok { IfOk result (λ span. IsSpanRecord version (fields_of row.now) span) }
-    ensures err { IfErr result (λ fault. IsRecordFault kinds (column_count version) (fields_of row.now) fault) }
-{
     let low = position_at(row, 0)?;
     let high = position_at(row, 2)?;
     let answer = answer_in(row, version)?;

@@ -2,7 +2,7 @@
 ghost use Rattle.std.specs.Prelude.{◌≡◌, ◌+◌, ◌^◌, ◌≤◌, ◌++◌, ◌∷◌, ℕ, List, [], Some, length, IfOk, MatchOption, OnErr};
 ghost use Rattle.csv.specs.Records.{fields_of};
 ghost use Rattle.lnt_spans.specs.declared.span.Span.{Span};
-ghost use Rattle.lnt_records.specs.Progress.{IsCutAfter, told_fault};
+ghost use Rattle.lnt_records.specs.Progress.{IsCutAfter, numbered_fault};
 ghost use Rattle.lnt_records.specs.Reading.{IsNarrow, IsReadAs};
 ghost use Rattle.lnt_records.specs.Table.{BeginsWith, Fields, RecordsOf};
 
@@ -27,7 +27,7 @@ pub enum TakeFault {
 impl TakeFault {
     // The fault of a table, if the record has this number. Fails only if memory ran out.
     fn at(self, number: u64) -> Result<TableFault, AllocError>
-        ensures fault { IfOk result (λ fault. told_fault number self ≡ Some fault) }
+        ensures fault { IfOk result (λ fault. numbered_fault number self ≡ Some fault) }
         ensures memory { OnErr result (self ≡ TakeFault.Memory) }
     {
         match self {
@@ -77,7 +77,7 @@ pub trait TakesRecords<C> {
     ghost use Rattle.csv.specs.Records.{fields_of};
     ghost use Rattle.lnt_spans.specs.declared.span.Span.{Span};
     ghost use Rattle.lnt_records.specs.declared.fault.TableFault.{TableFault as SpecFault};
-    ghost use Rattle.lnt_records.specs.Progress.{told_fault};
+    ghost use Rattle.lnt_records.specs.Progress.{numbered_fault};
     ghost use Rattle.lnt_records.specs.Reading.{IsNarrow, IsReadAs};
     ghost use Rattle.lnt_records.specs.Table.{BeginsWith, Fields};
 
@@ -96,7 +96,7 @@ pub trait TakesRecords<C> {
         ensures taken { (spans : List Span) (records : List Fields) → judges self.now state.old spans records
             → MatchResult result (λ _. judges self.now state.new spans (records ++ fields_of row.now ∷ []))
             (λ fault. (whole : Fields) (bytes : List ℕ) → IsReadAs (fields_of row.now) whole → BeginsWith bytes (records ++ whole ∷ [])
-            → IfSome (told_fault (length records) fault) (is_fault self.now bytes)) };
+            → IfSome (numbered_fault (length records) fault) (is_fault self.now bytes)) };
 }
 
 /// The number of the next record. A number of more than 64 bits counts as one for which there is no memory: no table is that long.

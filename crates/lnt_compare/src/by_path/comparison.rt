@@ -17,7 +17,7 @@ use crate::lines::TakesLines;
 use crate::outcome::{Outcome, TableRead};
 use csv::ByteRecord;
 use lnt_records::{
-    PathRecord, PathVersion, Paths, TableFault, TakeFault, TakesRecords, header_of, line_at,
+    PathRecord, PathVersion, Paths, TableFault, TakeFault, TakesRecords, first_record, header_of,
     record_of,
 };
 use lnt_spans::{Position, SpanSource};
@@ -90,7 +90,7 @@ impl<'p, 'r, S: SpanSource + Drop, P: Paths> TakesLines<PathComparison<S>>
         last: &mut Vec<u8>,
         text: &[u8],
     ) -> Result<Option<usize>, AllocError> {
-        let Some((said, length)) = line_at(text, 0, self.version, last.as_slice()) else {
+        let Some((said, length)) = first_record(text, self.version, last.as_slice()) else {
             return Ok(None);
         };
         if !push(self, comparison, said)? {

@@ -8,23 +8,22 @@ use crate::by_path::record::{PathRecord, SaidPath};
 use crate::by_path::version::PathVersion;
 use lnt_text::{address_until, decimal_until, past};
 
-/// Parses the line at `at`; gives its record and the index of the next line. `None` leaves the line to `csv`. `last` is the
-/// path of the line before; it is tried first, since most lines repeat it.
+/// Parses the first line of a text; gives its record and the index of the next line. `None` leaves the line to `csv`. `last` is
+/// the path of the line before; it is tried first, since most lines repeat it.
 #[inline(always)]
-pub fn line_at<'t>(
-    table: &'t [u8],
-    at: usize,
+pub fn first_record<'t>(
+    text: &'t [u8],
     version: PathVersion,
     last: &[u8],
 ) -> Option<(PathRecord<'t>, usize)>
     requires { All IsPlainByte last.now }
-    ensures line { IfSome result (λ found. IsPathLine version found.0 (drop at table.now) (drop found.1 table.now)) }
+    ensures line { IfSome result (λ found. IsPathLine version found.0 text.now (drop found.1 text.now)) }
     ensures plain { IfSome result (λ found. All IsPlainByte found.0.answer.path.now) }
 {
-    let (low, at) = address_until(table, at, b',')?;
-    let (high, at) = address_until(table, at, b',')?;
-    let (path, at) = path_before(table, at, last)?;
-    let ((line, column), at) = place_at(table, at, version)?;
+    let (low, at) = address_until(text, 0, b',')?;
+    let (high, at) = address_until(text, at, b',')?;
+    let (path, at) = path_before(text, at, last)?;
+    let ((line, column), at) = place_at(text, at, version)?;
     let answer = SaidPath { path, line, column };
     Some((PathRecord { low, high, answer }, at))
 }

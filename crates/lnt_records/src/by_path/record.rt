@@ -43,6 +43,7 @@ impl Columns for ByPath {
 }
 
 /// The values of a record, or why it has none.
+#[tactic(auto, using(crate::proofs::PathRecordLemmas::record_of_lemmas, crate::proofs::RecordLemmas::record_of_lemmas))]
 pub fn record_of<'r>(
     row: &'r ByteRecord,
     version: PathVersion,
@@ -53,15 +54,6 @@ pub fn record_of<'r>(
     if row.len() != columns(version) {
         return Err(RecordFault::Fields);
     }
-    record_in(row, version)
-}
-
-#[tactic(auto, using(crate::proofs::PathRecordLemmas::record_in_lemmas, crate::proofs::RecordLemmas::record_in_lemmas))]
-fn record_in<'r>(row: &'r ByteRecord, version: PathVersion) -> Result<PathRecord<'r>, RecordFault>
-    requires { length (fields_of row.now) ≡ path_column_count version }
-    ensures ok { IfOk result (λ said. SaysPath IsAddress IsDecimal version (fields_of row.now) said.low said.high (record_answer said)) }
-    ensures err { IfErr result (λ fault. IsRecordFault path_kinds (path_column_count version) (fields_of row.now) fault) }
-{
     let low = address_at::<ByPath>(row, 0)?;
     let high = address_at::<ByPath>(row, 1)?;
     let path = field(row, 2);

@@ -9,5 +9,5 @@ returns-then-not-branch c bytes none x =
     no_record bytes directory_names (rw c.if-not-branch.true at c.in_ok-read_next.ensures.read bytes [] none) x
 
 pub returns : goal.returns
-returns c bytes none = columns_found c.names_columns.result c.read_next.new.reader bytes _
-    (rw c.if-not-branch.false at c.in_ok-read_next.ensures.read bytes [] none) c.names_columns.ensures
+returns c bytes none = columns_found c.has_fields.result c.read_next.new.reader bytes _
+    (rw c.if-not-branch.false at c.in_ok-read_next.ensures.read bytes [] none) (rw c.as_slice.ensures at c.has_fields.ensures)

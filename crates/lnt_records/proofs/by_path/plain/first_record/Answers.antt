@@ -1,5 +1,5 @@
 use Rattle.lnt_records.proofs.PathLineLemmas.{record_line}
-use Rattle.lnt_records.proofs.by_path.plain.line_at.Goals as goal
+use Rattle.lnt_records.proofs.by_path.plain.first_record.Goals as goal
 
 pub returns-clause-line : goal.returns-clause-line
 returns-clause-line c =
