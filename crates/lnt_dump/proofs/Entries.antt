@@ -1,8 +1,8 @@
 -- Entries that are read one by one where they lie, value by value.
 use Rattle.std.proofs.lemmas.Grind.{common_steps}
-use Rattle.std.proofs.Common.{◌≡◌, ℕ, ◌+◌, ◌<◌, ◌≤◌, List, [], ◌∷◌, ◌++◌, length, take, drop, get_or, codes, decimal, Option, Some, Result}
-use Rattle.std.proofs.Common.{Ok, Err, OnOk, refl, sym, ap, subst, ◌∙◌, append-nil, arith, take_all, take-append-drop, flat_map, zip}
-use Rattle.std.proofs.KnownBytes.{Appends-trans}
+use Rattle.std.proofs.Common.{◌≡◌, ℕ, ◌+◌, ◌<◌, ◌≤◌, List, [], ◌∷◌, ◌++◌, length, take, drop, get_or, codes, decimal, Option, Some}
+use Rattle.std.proofs.Common.{refl, sym, ap, subst, ◌∙◌, append-nil, arith, take_all, take-append-drop, flat_map, zip}
+use Rattle.std.proofs.KnownBytes.{Appends-nil, Appends-trans}
 use Rattle.std.proofs.lemmas.List.{drop_more, length-append, length-take-le, take_more}
 use Rattle.std.proofs.lemmas.List.Concat.{flat_map-append}
 use Rattle.std.specs.Io.KnownBytes.{Appends}
@@ -21,7 +21,7 @@ use Rattle.lnt_header_bytes.specs.Marks.{from_entry}
 use Rattle.lnt_header_bytes.specs.TableBytes.{EntryBytes}
 use Rattle.lnt_header.specs.declared.header.Entry.{Entry}
 use Rattle.lnt_header.specs.Joins.{Each}
-use Rattle.lnt_dump.specs.Headers.{component_text, entry_end, entry_line}
+use Rattle.lnt_dump.specs.Headers.{component_text, entry_line}
 use Rattle.lnt_dump.specs.Units.{numbered}
 use Rattle.lnt_dump.specs.Stepping.{IsPaged, PassesPrinting}
 use Rattle.lnt_io.specs.Prefixes.{AppendsPrefix}
@@ -36,6 +36,10 @@ pub record AreReadTold (format : Format) (pairs : List Pair) (count : ℕ) (old 
   pub count_is : length values ≡ count
   pub read : laws.AreReadTo format pairs count values old now
   pub appended : Appends before after (flat_map component_text (zip (take count pairs) values))
+
+pub read_none : (format : Format) (pairs : List Pair) (at : At) (out : Option (List ℕ)) → AreReadTold format pairs 0 at at out out
+read_none format pairs at out =
+    record { values = []; count_is = refl; read = laws.read_none format pairs at; appended = Appends-nil out }
 
 -- the components with one more
 zip_push : (pairs : List Pair) (values : List FormValue) (pair : Pair) (value : FormValue) → length pairs ≡ length values
@@ -64,12 +68,14 @@ module _ {format : Format} {pairs : List Pair} {i : ℕ} {old middle : At} {befo
     appended = grind (arith, common_steps, components_push);
   }
 
-  pub read_all : {after : Option (List ℕ)} → length pairs ≤ i → Appends between after (codes "\n")
-      → PassesPrinting (entry_end pairs) format pairs old middle before after
-  read_all {after} le end = record {
+  -- after the start of the line
+  pub read_all : (name : List ℕ) (index : ℕ) {start after : Option (List ℕ)}
+      → Appends start before (name ++ (codes " " ++ decimal index)) → length pairs ≤ i → Appends between after (codes "\n")
+      → PassesPrinting (entry_line name pairs index) format pairs old middle start after
+  read_all name index {start} {after} begun le end = record {
     entry = entry_of p.values;
     read = laws.entry_read format pairs i p.values old middle le p.read;
-    printed = grind (arith, common_steps, take_all);
+    printed = grind (arith, common_steps, take_all, Appends-trans);
   }
 
   pub none_there : (d : Pair) → i < length pairs → NoneSpelled (ValueBytes format middle.order (get_or pairs i d).form) middle.rest
@@ -97,18 +103,6 @@ at_first name table at page out order lies = record {
 first_is : {X : Type 0} (P : X → List ℕ → Type 0) → IsCode P → (vs : List X) (n : ℕ) (d u : X) (x rest bytes : List ℕ) → n < length vs
     → P u x → Each P (drop n vs) bytes → bytes ≡ x ++ rest → u ≡ get_or vs n d
 first_is P code vs n d u x rest bytes lt p q e = grind (arith, common_steps, drop_more)
-
--- the line of an entry, in its two parts
-pub line_read : {A E : Type 0} (result : Result A E) (name : List ℕ) (index : ℕ) (format : Format) (pairs : List Pair) (at new : At)
-    (old start end : Option (List ℕ)) → Appends old start (name ++ (codes " " ++ decimal index))
-    → OnOk result (PassesPrinting (entry_end pairs) format pairs at new start end)
-    → OnOk result (PassesPrinting (entry_line name pairs index) format pairs at new old end)
-line_read (Ok value) name index format pairs at new old start end begun p = record {
-  entry = p.entry;
-  read = p.read;
-  printed = Appends-trans old start end (name ++ (codes " " ++ decimal index)) (entry_end pairs p.entry) begun p.printed;
-}
-line_read (Err error) name index format pairs at new old start end begun p = p
 
 -- The next entry of a table was read, and its line was added to the page.
 record IsLineOf (name : List ℕ) (table : BorrowedTable) (number : ℕ) (new : At) (page added : List ℕ) : Type 0 where

@@ -38,17 +38,10 @@ value_text (Block4 block) = block_text block
 abbrev pub component_text : Pair × FormValue → List ℕ
 component_text component = codes " " ++ (decimal component.0.content ++ (codes "=" ++ value_text component.1))
 
--- the components of an entry whose format is these pairs
-abbrev pub components_text : List Pair → Entry → List ℕ
-components_text pairs entry = flat_map component_text (zip pairs entry.values)
-
--- the components of an entry, to the end of its line
-abbrev pub entry_end : List Pair → Entry → List ℕ
-entry_end pairs entry = components_text pairs entry ++ codes "\n"
-
--- an entry of a table: what it is, its index, and its components
+-- an entry of a table: what it is, its index, and its components, which are by the pairs of the table's format
 abbrev pub entry_line : List ℕ → List Pair → ℕ → Entry → List ℕ
-entry_line name pairs index entry = (name ++ (codes " " ++ decimal index)) ++ entry_end pairs entry
+entry_line name pairs index entry =
+    (name ++ (codes " " ++ decimal index)) ++ (flat_map component_text (zip pairs entry.values) ++ codes "\n")
 
 -- the numbers of a header, in the order in which it has them; line_base is signed
 abbrev pub numbers_line : NumberParts → List ℕ

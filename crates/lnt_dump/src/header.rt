@@ -6,7 +6,7 @@ ghost use Rattle.hex.specs.Hex.{encode_lower};
 ghost use Rattle.lnt_wire.specs.Borrowed.{value_of};
 ghost use Rattle.lnt_wire.specs.Bytes.{NoneSpelled};
 ghost use Rattle.lnt_header_bytes.specs.TableBytes.{EntryBytes};
-ghost use Rattle.lnt_dump.specs.Headers.{block_text, entry_end, entry_line, header_lines, numbers_line, value_text};
+ghost use Rattle.lnt_dump.specs.Headers.{block_text, entry_line, header_lines, numbers_line, value_text};
 ghost use Rattle.lnt_dump.specs.Units.{numbered, unit_line};
 ghost use Rattle.lnt_dump.specs.Stepping.{IsPaged, PassesPrinting};
 
@@ -115,7 +115,6 @@ fn put_line(
 }
 
 // Prints the line of the next entry, which exists, and moves past it.
-#[tactic(auto, using(crate::proofs::Entries::line_read))]
 fn print_entry_line<W: Write>(
     alloc: Global,
     name: &str,
@@ -130,21 +129,6 @@ fn print_entry_line<W: Write>(
         (W.contents out.old) (W.contents out.new)) }
 {
     print_text(&format_args!("{name} {index}"), out)?;
-    print_entry(alloc, format, pairs, cursor, out)
-}
-
-// Prints the components of the next entry, which exists, and the end of its line, and moves past it.
-fn print_entry<W: Write>(
-    alloc: Global,
-    format: Format,
-    pairs: &[Pair],
-    cursor: &mut Cursor<'_>,
-    out: &mut W,
-) -> Result<(), IoStop>
-    requires { NoneSpelled (EntryBytes format cursor.old.order pairs.now) cursor.old.rest → ⊥ }
-    ensures { OnOk result (PassesPrinting (entry_end pairs.now) format pairs.now cursor.old cursor.new
-        (W.contents out.old) (W.contents out.new)) }
-{
     for pair in pairs {
         let Ok(value) = cursor.value(pair.form, format) else {
             unreachable!()

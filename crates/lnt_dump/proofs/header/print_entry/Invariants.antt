@@ -1,6 +1,0 @@
-use Rattle.lnt_dump.proofs.Entries.{AreReadTold}
-use Rattle.lnt_dump.proofs.header.print_entry.Given as goal
-
-abbrev pub invariant-loop-pair : goal.invariant-loop-pair
-invariant-loop-pair g l =
-    AreReadTold l.fn.format l.fn.pairs l.pair-index l.fn.cursor l.cursor (g.W.Write.contents l.fn.out) (g.W.Write.contents l.out)
