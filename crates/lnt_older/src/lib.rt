@@ -11,11 +11,7 @@ mod lists;
 mod numbers;
 mod prefix;
 mod section;
-#[cfg(test)]
-mod tests;
 mod unit;
-#[cfg(test)]
-mod unit_tests;
 mod upgrade;
 mod version;
 

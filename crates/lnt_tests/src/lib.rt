@@ -10,6 +10,8 @@ mod cli;
 #[cfg(test)]
 mod each;
 #[cfg(test)]
+mod older;
+#[cfg(test)]
 mod samples;
 #[cfg(test)]
 mod tables;

@@ -1,9 +1,9 @@
 //! Older lists and headers, from bytes that are put together by hand.
 ghost use Rattle.std.specs.Prelude.{◌<◌, ◌^◌, length};
 
-use crate::header::{OlderHeader, read_older_header};
-use crate::lists::{DIRECTORY_PAIRS, FILE_PAIRS, pass_listed};
-use crate::version::OlderVersion;
+use lnt_older::{
+    DIRECTORY_PAIRS, FILE_PAIRS, OlderHeader, OlderVersion, pass_listed, read_older_header,
+};
 use lnt_wire::{Cursor, Fault, Format, Order, Reason};
 
 // The directories `a` and `bc`, an end, and a byte after it.
@@ -78,7 +78,15 @@ fn is_header(
     let Ok(header) = read else {
         return false;
     };
-    numbers == header.numbers.single_fields()
+    let read = [
+        header.numbers.minimum_instruction_length,
+        header.numbers.max_ops,
+        header.numbers.default_is_stmt,
+        header.numbers.line_base.cast_unsigned(),
+        header.numbers.line_range,
+        header.numbers.opcode_base,
+    ];
+    numbers == read
         && header.standard_lengths.len() + 1 == usize::from(numbers[5])
         && counts == [header.directories.count, header.files.count]
         && extra == header.extra

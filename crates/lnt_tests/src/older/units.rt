@@ -1,8 +1,7 @@
 //! Units from bytes that are put together by hand, and the units of version 5 that say the same at address size 8 in the directory `/w`.
 ghost use Rattle.std.specs.Prelude.{◌<◌, ◌^◌, length};
 
-use crate::unit::{AnyUnit, take_any_unit};
-use crate::upgrade::append_upgraded_unit;
+use lnt_older::{AnyUnit, append_upgraded_unit, take_any_unit};
 use lnt_wire::{Cursor, Fault, Order, Reason};
 use std::alloc::Global;
 
