@@ -1,6 +1,6 @@
 """Looks whether each link of a page leads to a file and an anchor that are there; whether docs/README.md links each page of docs/;
-whether the pages of docs/ that other files name are there, and the files of crates that two pages name; and how long the pages are.
-It tries itself on pages with such faults."""
+whether the pages of docs/ that other files name are there, and the files of crates that two pages name; how long the pages are; and
+how long the lines of crates are. It tries itself on pages with such faults."""
 
 import glob
 import os
@@ -16,10 +16,13 @@ NAMING = ["*", "bench/*", "crates/*/src/*.rt", "include/*", "must-fail/*", "shar
 # Pages that the program's help names, and that lead on to another one.
 NOT_LISTED = {"README.md"}
 LONGEST = {"README.md": 6144, "docs/*.md": 130000}
+# The most characters in a line of a crate, but for texts in quotes, and attributes, which `rt fmt` writes on one line.
+LONGEST_LINE = 140
+SOURCES = ["crates/*/src/**/*.rt", "crates/*/specs/**/*.antt", "crates/*/proofs/**/*.antt"]
 
 
 def matching(top, patterns):
-    names = {name for pattern in patterns for name in glob.glob(os.path.join(top, pattern)) if os.path.isfile(name)}
+    names = {name for pattern in patterns for name in glob.glob(os.path.join(top, pattern), recursive=True) if os.path.isfile(name)}
     return sorted(os.path.relpath(name, top) for name in names)
 
 
@@ -100,9 +103,19 @@ def results(top):
         yield None if matching(top, there) else "docs/WRONG_BODIES.md names %s, which isn't there" % name
     for picture in matching(top, ["docs/*.svg"]):
         yield wrong_picture(top, picture)
+    yield long_line(top, matching(top, SOURCES))
     for pattern, most in LONGEST.items():
         size = sum(os.path.getsize(os.path.join(top, name)) for name in matching(top, [pattern]))
         yield None if size <= most else "%s has %d bytes, and should have at most %d" % (pattern, size, most)
+
+
+def long_line(top, names):
+    """The first line of these files that is too long, or None."""
+    for name in names:
+        for number, line in enumerate(read(top, name).split("\n"), 1):
+            if len(line) > LONGEST_LINE and '"' not in line and not line.lstrip().startswith("#"):
+                return "%s:%d has %d characters, and should have at most %d" % (name, number, len(line), LONGEST_LINE)
+    return None
 
 
 def wrong_picture(top, name):
@@ -118,6 +131,7 @@ def finds_its_faults():
     """What it finds of small pages with one fault of each kind."""
     with tempfile.TemporaryDirectory() as top:
         os.mkdir(os.path.join(top, "docs"))
+        os.makedirs(os.path.join(top, "crates/lnt_c/src"))
         texts = {
             "README.md": "# A page\n\n[there](docs/A.md#one-two) [gone](docs/B.md) [far](https://example.org/x)\n",
             "docs/README.md": "[here](#nowhere) [a](ARCHITECTURE.md) [b](WRONG_BODIES.md) `[no](link.md)`\n\n```\n[no](link.md)\n```\n",
@@ -125,6 +139,7 @@ def finds_its_faults():
             "docs/ARCHITECTURE.md": "| a | `lnt_a/specs/B.antt`, `C.antt`, `lnt_b`, `d.rt` |\n",
             "docs/WRONG_BODIES.md": "| a | `a/b` |\n",
             "script": "docs/C.md\n",
+            "crates/lnt_c/src/c.rt": '"%s"\n#%s\n%s\n' % tuple(length * "é" for length in (140, 140, 141)),
             "docs/a.svg": "<svg>",
         }
         for name, text in texts.items():
@@ -144,12 +159,14 @@ WANTED = [
     "docs/ARCHITECTURE.md names crates/lnt_a/specs/C.antt, which isn't there",
     "docs/ARCHITECTURE.md names crates/lnt_b/src/d.rt, which isn't there",
     "docs/WRONG_BODIES.md names a/b, which isn't there",
+    "crates/lnt_c/src/c.rt:3 has 141 characters, and should have at most 140",
 ]
 
 
 def main():
     found = finds_its_faults()
-    whole = found[: len(WANTED)] == WANTED and len(found) == len(WANTED) + 1 and found[-1].startswith("docs/a.svg is no XML")
+    picture = [it for it in found if it.startswith("docs/a.svg is no XML")]
+    whole = len(picture) == 1 and [it for it in found if it not in picture] == WANTED
     checked = list(results(TOP)) + [None if whole else "of pages with faults it finds %s" % found]
     wrong = [it for it in checked if it]
     for text in wrong:

@@ -20,7 +20,8 @@ use Rattle.lnt_spans.specs.declared.position.Position.{Position}
 use Rattle.lnt_lines.specs.Indexed.{Indexed, OfUnits}
 use Rattle.lnt_answers.specs.AddressBlocks.{AreFirstPrinted, BeginsWithLine, HasNo, IsCut}
 use Rattle.lnt_answers.proofs.RoomLaws.{text_in_room}
-use Rattle.lnt_answers.specs.AddressLines.{AreAddressesPrinted, AreLinesPrinted, NamesPositionIfAny, line_status, lines_status, printed_line}
+use Rattle.lnt_answers.specs.AddressLines.{AreAddressesPrinted, AreLinesPrinted, NamesPositionIfAny, line_status}
+use Rattle.lnt_answers.specs.AddressLines.{lines_status, printed_line}
 use Rattle.lnt_answers.specs.Lines.{lookup_line}
 
 -- ---- where a line ends
@@ -68,7 +69,8 @@ module _ {index : Indexed} {op : ℕ} where
 
   -- one line
   pub told_one : {line : List ℕ} {old new : Option (List ℕ)} {before after : Status} (position : Option Position)
-      → NamesPositionIfAny op (line, position) → OfUnits index (λ selection. Appends old new (printed_line index selection (line, position)))
+      → NamesPositionIfAny op (line, position)
+      → OfUnits index (λ selection. Appends old new (printed_line index selection (line, position)))
       → after ≡ line_status before position → AreLinesPrinted index op (line ∷ []) old new before after
   told_one {line} {old} {new} position tells printed status = record {
     named = (line, position) ∷ [];
@@ -97,7 +99,8 @@ module _ {index : Indexed} {op : ℕ} where
 
   -- Their lines were made in an empty buffer, and are then written.
   told_sent : {texts : List (List ℕ)} {none made : List ℕ} {old new : Option (List ℕ)} {s t : Status}
-      → AreLinesPrinted index op texts (Some none) (Some made) s t → none ≡ [] → Appends old new made → AreLinesPrinted index op texts old new s t
+      → AreLinesPrinted index op texts (Some none) (Some made) s t → none ≡ [] → Appends old new made
+      → AreLinesPrinted index op texts old new s t
   told_sent {none = none} {made = made} {old = old} {new = new} all empty appended = record {
     named = all.named;
     lines_are = all.lines_are;
@@ -148,7 +151,8 @@ module _ {index : Indexed} {op : ℕ} where
 
   -- A line that began before this text ends in it, and others follow.
   pub first_joined : {back next rest : List ℕ} {old now new : Option (List ℕ)} {s t u : Status} (line text prefix : List ℕ)
-      → HasNo 10 line → IsCut 10 text prefix back → AreLinesPrinted index op (strip_carriage_return (line ++ prefix) ∷ []) old now s t → next ≡ back
+      → HasNo 10 line → IsCut 10 text prefix back → AreLinesPrinted index op (strip_carriage_return (line ++ prefix) ∷ []) old now s t
+      → next ≡ back
       → AreFirstPrinted index op next rest now new t u → AreFirstPrinted index op (line ++ text) rest old new s u
   first_joined {back} {next} {rest} {old} {now} {new} {s} {t} {u} line text prefix whole at printed next_is more =
       let joined : IsCut 10 (line ++ text) (line ++ prefix) back = (

@@ -50,7 +50,8 @@ module _ {index : Indexed} {op : ℕ} where
       let others = tell_lines op ys in
       record {
         named = begun.named ++ others.0;
-        lines_are = map-append (λ line. line.0) begun.named others.0 ∙ ap (λ (z : List (List ℕ)). z ++ map (λ line. line.0) others.0) begun.lines_are
+        lines_are = map-append (λ line. line.0) begun.named others.0
+            ∙ ap (λ (z : List (List ℕ)). z ++ map (λ line. line.0) others.0) begun.lines_are
             ∙ ap (λ (z : List (List ℕ)). xs ++ z) others.1.0;
         so = all_append (NamesPositionIfAny op) begun.named others.0 begun.so others.1.1;
         prefix = λ selection is.
@@ -66,7 +67,8 @@ module _ {index : Indexed} {op : ℕ} where
 
   -- within their lines, which were made in an empty buffer
   begun_sending : {texts : List (List ℕ)} {none made : List ℕ} {old new : Option (List ℕ)} {s t : Status}
-      → AreLinesPrinted index op texts (Some none) (Some made) s t → none ≡ [] → AppendsPrefix old new made → AreLinesBegun index op texts old new
+      → AreLinesPrinted index op texts (Some none) (Some made) s t → none ≡ [] → AppendsPrefix old new made
+      → AreLinesBegun index op texts old new
   begun_sending {none = none} {made = made} {old = old} {new = new} all empty prefix = record {
     named = all.named;
     lines_are = all.lines_are;

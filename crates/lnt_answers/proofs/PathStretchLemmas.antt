@@ -39,7 +39,8 @@ ForPathDifferences to_come path differences all IsSo =
 abbrev pub HasStarted : {S : Type 0} → (S → List Span → Type 0) → Indexed → DifferencesByPath S → PathVersion → Selection
     → List HeldSpan → Type 0
 HasStarted to_come index differences version selection spans = StandInOrder (map held_span spans)
-    → HasFoundStretchesByPath to_come (indexed_path index) differences (told_path version index selection) (path_span_answer (map held_span spans)) []
+    → HasFoundStretchesByPath to_come (indexed_path index) differences (told_path version index selection)
+    (path_span_answer (map held_span spans)) []
 
 -- The slice has the held spans, and the paths are those of the index. So it holds of the differences from the units' rows.
 pub for_path_units : {S : Type 0} (to_come : S → List Span → Type 0) (index : Indexed) (path : ℕ → ℕ → List ℕ)

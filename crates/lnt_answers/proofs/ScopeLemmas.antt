@@ -200,7 +200,8 @@ module _ {D X : Type 0} {of : D → Stretch X} {line : Stretch X → List ℕ} {
 
   -- within the line of a stretch
   pub stopped_within : {AreGiven : List D → Type 0} {now : Option (List ℕ)} {is_answered is_right : Bool} (d : D)
-      → (h : HasPrinted of line AreGiven scope old now is_right) → HasMore of f g (h.given ++ d ∷ []) → is_answered ≡ is_some (of d).by_table
+      → (h : HasPrinted of line AreGiven scope old now is_right) → HasMore of f g (h.given ++ d ∷ [])
+      → is_answered ≡ is_some (of d).by_table
       → AppendsPrefix now new (cond (counts_in scope is_answered) (line (of d)) [])
       → HasBegun (AreStretchesPrinted line scope f g old) old new
   stopped_within {is_answered = is_answered} d h later same prefix =

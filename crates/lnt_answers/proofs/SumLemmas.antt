@@ -69,7 +69,8 @@ module _ {finds finds' : List ℕ → FileState → Type 0} {index : Indexed} {a
       subst (λ (n : ℕ). AreSumsPrinted finds index (lists_below (listed_at index unit) n) a c (both s t)) step (sums_joined so next)
 
   -- with the files of one unit more
-  pub sums_of_more : (units : List ℕ) (i d : ℕ) → i < length units → AreSumsPrinted finds index (flat_map (listed_in index) (take i units)) a b s
+  pub sums_of_more : (units : List ℕ) (i d : ℕ) → i < length units
+      → AreSumsPrinted finds index (flat_map (listed_in index) (take i units)) a b s
       → AreSumsPrinted finds' index (listed_in index (get_or units i d)) b c t
       → AreSumsPrinted finds index (flat_map (listed_in index) (take (i + 1) units)) a c (both s t)
   sums_of_more units i d lt so next =

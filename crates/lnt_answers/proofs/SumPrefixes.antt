@@ -13,7 +13,8 @@ use Rattle.lnt_text.specs.Texts.{quoted_text}
 use Rattle.lnt_lines.specs.Indexed.{file_path_in, file_sum_in, Indexed}
 use Rattle.lnt_files.specs.Paths.{path_or_empty}
 use Rattle.lnt_answers.specs.Lines.{lists_below}
-use Rattle.lnt_answers.specs.SumLines.{AreSumsBegun, AreSumsPrinted, IsTrueOfFile, found_status, found_text, head_text, listed_at, listed_in}
+use Rattle.lnt_answers.specs.SumLines.{AreSumsBegun, AreSumsPrinted, IsTrueOfFile, found_status, found_text, head_text}
+use Rattle.lnt_answers.specs.SumLines.{listed_at, listed_in}
 use Rattle.lnt_answers.specs.SumLines.{file_of, sum_line}
 use Rattle.lnt_answers.proofs.SumLaws.{true_later}
 use Rattle.lnt_answers.proofs.FileLemmas.{below_later, lists_of_more}

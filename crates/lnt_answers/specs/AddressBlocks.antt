@@ -31,7 +31,8 @@ pub record BeginsWithLine (op : ℕ) (text : List ℕ) (position : Position) (re
   pub tells : NamesPosition op (strip_carriage_return line) position
 
 -- The first lines of the text were answered, up to the rest of it.
-pub record AreFirstPrinted (index : Indexed) (op : ℕ) (text rest : List ℕ) (old new : Option (List ℕ)) (before after : Status) : Type 0 where
+pub record AreFirstPrinted (index : Indexed) (op : ℕ) (text rest : List ℕ) (old new : Option (List ℕ))
+    (before after : Status) : Type 0 where
   pub texts : List (List ℕ)
   pub printed : AreLinesPrinted index op texts old new before after
   pub cut : (more : List ℕ) → lines (text ++ more) ≡ texts ++ lines (rest ++ more)

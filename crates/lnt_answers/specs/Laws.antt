@@ -14,5 +14,6 @@ SomeNamedPositions = (op : ℕ) (texts : List (List ℕ)) → (named : List (Lis
 
 -- Lines contain only one such list of positions.
 abbrev pub OneNamedPositions : Type 0
-OneNamedPositions = (op : ℕ) (texts : List (List ℕ)) (a b : List (List ℕ × Option Position)) → AreNamedPositions op texts a → AreNamedPositions op texts b
+OneNamedPositions = (op : ℕ) (texts : List (List ℕ)) (a b : List (List ℕ × Option Position)) → AreNamedPositions op texts a
+    → AreNamedPositions op texts b
     → a ≡ b

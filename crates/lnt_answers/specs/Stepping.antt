@@ -4,10 +4,6 @@ use Rattle.std.specs.Io.KnownBytes.{Appends}
 use Rattle.lnt_spans.specs.declared.position.Position.{Position}
 use Rattle.lnt_spans.specs.AnyStretches.{Stretch}
 use Rattle.lnt_spans.specs.Partial.{addresses_answered, where_missed}
-use Rattle.lnt_records.specs.declared.fault.WriteStop.{WriteStop}
-use Rattle.lnt_records.specs.declared.fault.WriteStop.TheVariants as write
-use Rattle.lnt_io.specs.declared.io_stop.IoStop.{IoStop}
-use Rattle.lnt_io.specs.declared.io_stop.IoStop.TheVariants as io_stop
 use Rattle.lnt_io.specs.declared.status.Status.{Status}
 use Rattle.lnt_io.specs.declared.status.Status.TheVariants.{Done, No}
 use Rattle.lnt_table.specs.declared.kinds.OfKind.TheVariants.{Numbered}

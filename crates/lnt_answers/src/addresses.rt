@@ -109,7 +109,8 @@ impl Asked {
         requires line { HasNo 10 self.old.line.items }
         requires none { self.old.answers.lines.items ≡ [] }
         ensures err { IfErr result IsPrinting }
-        ensures printed { OnOk result (AreFirstPrinted lookups.old self.old.answers.op (self.old.line.items ++ block.now) self.new.line.items
+        ensures printed { OnOk result (AreFirstPrinted lookups.old self.old.answers.op (self.old.line.items ++ block.now)
+            self.new.line.items
             (W.contents out.old) (W.contents out.new) self.old.answers.status self.new.answers.status) }
         ensures stopped { OnErr result (AreFirstBegun lookups.old self.old.answers.op (self.old.line.items ++ block.now)
             (W.contents out.old) (W.contents out.new)) }
@@ -302,7 +303,8 @@ fn position_in(line: &[u8], op: u64) -> Option<Position>
 fn place_of(byte: u8, text: &[u8]) -> Option<usize>
     ensures place { result ≡ position (λ other. other == byte) text.now }
     ensures within { IfSome result (λ place. place < length text.now) }
-    ensures cut { MatchOption result (HasNo byte text.now) (λ place. IsCut byte text.now (take place text.now) (drop (place + 1) text.now)) }
+    ensures cut { MatchOption result (HasNo byte text.now) (λ place.
+        IsCut byte text.now (take place text.now) (drop (place + 1) text.now)) }
 {
     for place in 0..text.len() {
         if text[place] == byte {

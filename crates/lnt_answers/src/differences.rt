@@ -1,5 +1,5 @@
 //! Prints where the answers of a table of version 1 or 2 and of a section differ, stretch by stretch.
-ghost use Rattle.std.specs.Prelude.{◌≡◌, [], List, Option, IfErr, IfOk, OnErr};
+ghost use Rattle.std.specs.Prelude.{[], Option, IfErr, IfOk, OnErr};
 ghost use Rattle.lnt_answers.specs.Stretches.{AreStretchesPrinted, stretch_line};
 ghost use Rattle.lnt_answers.specs.Stepping.{ArePrinted};
 ghost use Rattle.lnt_io.specs.IoStops.{IsPrinting};

@@ -1,11 +1,11 @@
 //! Prints whether files have the MD5 sums that are listed for them.
 ghost use Rattle.std.specs.Prelude.{◌≡◌, ◌↔◌, ◌<◌, ◌++◌, IfErr, IfOk, IsSome, IsTrue, OnErr, OnOk, codes, Any};
-ghost use Rattle.std.specs.Io.KnownBytes.{Appends};
 ghost use Rattle.lnt_io.specs.Files.{FindsNoMore};
 ghost use Rattle.lnt_io.specs.IoStops.{IsPrinting};
 ghost use Rattle.lnt_lines.specs.Indexed.{file_count_in, file_sum_in};
 ghost use Rattle.lnt_text.specs.Texts.{quoted_text};
-ghost use Rattle.lnt_answers.specs.SumLines.{AreSumsBegun, AreSumsPrinted, IsTrueOfFile, both, found_status, found_text, head_text, listed_at};
+ghost use Rattle.lnt_answers.specs.SumLines.{AreSumsBegun, AreSumsPrinted, IsTrueOfFile, both, found_status};
+ghost use Rattle.lnt_answers.specs.SumLines.{found_text, head_text, listed_at};
 ghost use Rattle.lnt_answers.specs.SumLines.{listed_files, listed_in};
 
 use crate::display::put_text;

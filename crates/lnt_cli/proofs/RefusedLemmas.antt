@@ -23,7 +23,8 @@ before_or_told : {Old : Type 0} (finds : List ℕ → FileState → Type 0) (wor
     (ended : Result Status FileStop) (run : Result Status CliStop) (name : List ℕ) → IsEndOf ended run → IsAskedBy words asked
     → Old ⊎ IsNamedUnreadable finds asked.request ended name → Old ⊎ NameUnreadable finds words run name
 before_or_told finds words asked ended run name is is_asked (inl before) = inl before
-before_or_told finds words asked ended run name is is_asked (inr refuses) = inr (told_by_run finds words asked ended run name is is_asked refuses)
+before_or_told finds words asked ended run name is is_asked (inr refuses) =
+    inr (told_by_run finds words asked ended run name is is_asked refuses)
 
 -- the same of each file that was refused
 pub run_told : (finds : List ℕ → FileState → Type 0) (words : List (List ℕ)) (asked : Asked) (ended : Result Status FileStop)

@@ -104,7 +104,8 @@ fn answer_request<'r, O: Opener, W: Write>(
     ensures answer { IfOk result (λ answered.
         IsAnswered (O.finds opener.old) request.now (W.contents out.old) (W.contents out.new) answered.status) }
     ensures stopped { OnErr result (IsStopped (O.finds opener.old) request.now (W.contents out.old) (W.contents out.new)) }
-    ensures refused { RefusesOnly (IsNamedUnreadable (O.finds opener.old) request.now result) (O.refused opener.old) (O.refused opener.new) }
+    ensures refused { RefusesOnly (IsNamedUnreadable (O.finds opener.old) request.now result)
+        (O.refused opener.old) (O.refused opener.new) }
 {
     match request {
         Request::Help(text) => {

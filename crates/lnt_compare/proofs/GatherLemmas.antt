@@ -95,7 +95,8 @@ pub version_order : (version : Version) (bytes : List ℕ) (table : List Span) �
 version_order version bytes table t = table_order by_number version t.0 table t.2
 
 -- the section answers as the lines that were passed and the spans after them do
-pub goes_on : (version : Version) (ToCome : List Span → Type 0) (list table : List Span) (section : Position → Option Answer) (at : Position)
+pub goes_on : (version : Version) (ToCome : List Span → Type 0) (list table : List Span) (section : Position → Option Answer)
+    (at : Position)
     → (off : LeaveOff (in_version version) ToCome list table) → at ≡ end_of table → ((p : Position) → span_answer list p ≡ section p)
     → IsContinuedBy version section (told version table) off.rest at
 goes_on version ToCome list table section at off end answers = record {

@@ -1,6 +1,6 @@
 -- What joined spans are: in order, none extends the one before it, and they are told as all the spans are.
 use Rattle.lnt_spans.specs.SpanKinds.{DifferWhereTheyTouch, SpanKind}
-use Rattle.std.proofs.Common.{◌≡◌, ◌≢◌, ◌∙◌, ◌⊎◌, ◌==◌, ℕ, List, [], ◌∷◌, ◌++◌, map, inl, inr, Option, Some, None}
+use Rattle.std.proofs.Common.{◌≡◌, ◌≢◌, ◌∙◌, ◌⊎◌, ◌==◌, ℕ, List, [], ◌∷◌, ◌++◌, map, inl, inr, Option, Some}
 use Rattle.std.proofs.Common.{ap, subst, eq-eqb, refl, sym, append_assoc, append-nil}
 use Rattle.std.specs.List.{AllByRecursion}
 use Rattle.std.proofs.lemmas.Bool.{cases_Bool, eqb-true}
@@ -134,20 +134,6 @@ pub left_next : {X : Type 0} (tell : Answer → X) (Old New ToCome : List Span �
 left_next tell Old New ToCome list given span l gives left =
     let one = one_more tell Old New list given span l gives in
     record { rest = span ∷ one.rest; left = left one.rest one.left; order = one.order; same = one.same; apart = one.before }
-
--- none is left
-pub left_none : {X : Type 0} (tell : Answer → X) (Old New ToCome : List Span → Type 0) (list given : List Span)
-    → LeaveOff tell Old list given → ((rest : List Span) → Old rest → GivesJoined tell rest New None)
-    → (New [] → ToCome []) → LeaveOff tell ToCome list given
-left_none {X} tell Old New ToCome list given l gives left =
-    let none = gives l.rest l.left in
-    record {
-      rest = [];
-      left = left none.1;
-      order = subst (λ (xs : List Span). AreInOrder (given ++ xs)) none.0 l.order;
-      same = λ p. ap (λ (xs : List Span). answer_told tell (given ++ xs) p) (sym none.0) ∙ l.same p;
-      apart = subst (AreApart tell given) none.0 l.apart;
-    }
 
 -- any others may be to come
 pub left_any : {X : Type 0} (tell : Answer → X) (ToCome : List Span → Type 0) (list given : List Span) → LeaveOff tell ToCome list given

@@ -30,7 +30,8 @@ abbrev pub IsDiffering : {S : Type 0} → (Remaining S → List Span → Type 0)
     → (Position → Option Answer) → Differing S → Type 0
 IsDiffering of_section of_table bytes section (differing.Fault told) = IsFault bytes told
 IsDiffering of_section of_table bytes section (differing.Table differences) =
-    IsTableWhere by_number span_answer (in_versions section) bytes (λ by_section by_table. HasFoundStretches of_section of_table differences by_section by_table [])
+    IsTableWhere by_number span_answer (in_versions section) bytes
+    (λ by_section by_table. HasFoundStretches of_section of_table differences by_section by_table [])
 
 -- If the result is a table, no stretch was given yet.
 abbrev pub IsStarted : {S : Type 0} → (Remaining S → List Span → Type 0) → (SpanList → List Span → Type 0) → Differing S → Type 0
@@ -43,7 +44,8 @@ IsStarted of_section of_table (differing.Table differences) =
 
 -- These stretches were given, and the spans from there on are still to come, if these are the paths of the files of units.
 -- What is remembered of paths is correct.
-pub record HasFoundStretchesByPath {S : Type 0} (to_come : S → List Span → Type 0) (path : ℕ → ℕ → List ℕ) (differences : DifferencesByPath S)
+pub record HasFoundStretchesByPath {S : Type 0} (to_come : S → List Span → Type 0) (path : ℕ → ℕ → List ℕ)
+    (differences : DifferencesByPath S)
     (by_section by_table : Position → Option PathAnswer) (told : List (Stretch PathAnswer)) : Type 0 where
   pub given : HasGiven to_come (λ held at answers. IsTableAt held.spans.now at answers) said_answer (path_answer differences.version path)
       said_answer differences.stretches by_section by_table told

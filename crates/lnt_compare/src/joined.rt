@@ -1,5 +1,5 @@
 //! Joins spans, as they come, where they touch and a table contains the same of their answers.
-ghost use Rattle.std.specs.Prelude.{◌≡◌, ◌<◌, List, IfOk, IfSome, OnOk, MatchBool};
+ghost use Rattle.std.specs.Prelude.{◌<◌, List, IfOk, IfSome, OnOk, MatchBool};
 ghost use Rattle.lnt_spans.specs.declared.span.Span as spec;
 ghost use Rattle.lnt_spans.specs.Remaining.{count_ahead, SpansAreLeft};
 ghost use Rattle.std.specs.List.{cons_option};

@@ -2,7 +2,7 @@
 //!
 //! Without it each line would be parsed and its span merged, as it is from the first other line on. A check of a section's own table by
 //! number takes 0.63 of the instructions of that (`bench/RESULTS.md`).
-ghost use Rattle.std.specs.Prelude.{◌≡◌, ◌≢◌, ◌-◌, ◌^◌, ◌<◌, ℕ, List, IfOk, IsErrOf};
+ghost use Rattle.std.specs.Prelude.{◌-◌, ◌^◌, ◌<◌, ℕ, List, IfOk, IsErrOf};
 ghost use Rattle.lnt_spans.specs.declared.span.Span as spec;
 ghost use Rattle.lnt_spans.specs.Spans.{AreInOrder};
 ghost use Rattle.lnt_compare.specs.Joining.{LeaveOff};

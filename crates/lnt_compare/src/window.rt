@@ -1,5 +1,6 @@
 //! The bytes of a table that were taken from its source but not parsed yet.
-ghost use Rattle.std.specs.Prelude.{◌≡◌, ◌+◌, ◌-◌, ◌^◌, ◌<◌, ◌≤◌, ◌++◌, [], drop, length, IfOk, IsErrOf, IsTrue, MatchOption, OnOk, MatchBool};
+ghost use Rattle.std.specs.Prelude.{◌≡◌, ◌+◌, ◌-◌, ◌^◌, ◌<◌, ◌≤◌, ◌++◌, [], drop, length, IfOk, IsErrOf, IsTrue};
+ghost use Rattle.std.specs.Prelude.{MatchOption, OnOk, MatchBool};
 ghost use Rattle.lnt_compare.specs.Passing.{Ends, Passes};
 ghost use Rattle.lnt_records.specs.Written.{line_text};
 ghost use Rattle.lnt_io.specs.Stopping.{CountsFailure, IsTooLongOn};

@@ -50,13 +50,15 @@ faulty_so offset fault at is so = record {
 
 module _ (shown : DumpParts) (frame : Frame) (unit : BufferedUnit) (old new : Option (List ℕ)) where
   -- the line of any fault
-  pub faulty_told : {offset : ℕ} (fault : RowFault) (printed : Result Status IoStop) → offset ≡ unit.offset → IsFaultOf unit shown.rows fault
+  pub faulty_told : {offset : ℕ} (fault : RowFault) (printed : Result Status IoStop) → offset ≡ unit.offset
+      → IsFaultOf unit shown.rows fault
       → IfOk printed (λ status. status ≡ No) → OnOk printed (Appends old new (fault_line offset (Some fault)))
       → IfOk printed (IsUnitPrinted shown frame unit old new)
   faulty_told {offset} fault (Ok status) at is is_no line = (faulty_so offset fault at is line, is_no)
   faulty_told fault (Err io_stop) at is is_no line = tt
 
-  pub faulty_begun : {offset : ℕ} (fault : RowFault) (printed : Result Status IoStop) → offset ≡ unit.offset → IsFaultOf unit shown.rows fault
+  pub faulty_begun : {offset : ℕ} (fault : RowFault) (printed : Result Status IoStop) → offset ≡ unit.offset
+      → IsFaultOf unit shown.rows fault
       → OnErr printed (AppendsPrefix old new (fault_line offset (Some fault)))
       → OnErr printed (Keeps old new ⊎ UnitBegun shown frame unit old new)
   faulty_begun fault (Ok status) at is line = tt

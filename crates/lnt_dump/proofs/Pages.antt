@@ -115,12 +115,14 @@ module _ (X : Type 0) (Is : X → Type 0) (first second : X → List ℕ) {lines
 
   -- of the third
   pub second_cut : {now new : Option (List ℕ)} {page2 : List ℕ} → ((x : X) → Is x → IsPaged (page ++ first x) start now page2)
-      → ((x : X) → Is x → AppendsPrefix now new (page2 ++ second x)) → (x : X) → Is x → AppendsPrefix old new (lines ++ (first x ++ second x))
+      → ((x : X) → Is x → AppendsPrefix now new (page2 ++ second x)) → (x : X) → Is x
+      → AppendsPrefix old new (lines ++ (first x ++ second x))
   second_cut {new = new} p f x is = grind (arith, common_steps, prefix_same, joined, paged_prefix, paged_more)
 
   -- all were written, or a prefix
   module _ {now then : Option (List ℕ)} {page2 page3 : List ℕ}
-      (p : (x : X) → Is x → IsPaged (page ++ first x) start now page2) (q : (x : X) → Is x → IsPaged (page2 ++ second x) now then page3) where
+      (p : (x : X) → Is x → IsPaged (page ++ first x) start now page2)
+      (q : (x : X) → Is x → IsPaged (page2 ++ second x) now then page3) where
     parts : (x : X) → Is x → IsPaged ((lines ++ first x) ++ second x) old then page3
     parts x is = paged_more (second x) (paged_more (first x) begun (p x is)) (q x is)
 

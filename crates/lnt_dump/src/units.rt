@@ -31,7 +31,8 @@ pub fn print_units<R: Source, W: Write>(
     out: &mut W,
 ) -> Result<Status, IoStop>
     requires { R.failures source.old < 2 ^ 64 - 1 }
-    ensures printed { IfOk result (λ status. AreUnitsPrinted order (R.remaining source.old) (W.contents out.old) (W.contents out.new) status) }
+    ensures printed { IfOk result (λ status.
+        AreUnitsPrinted order (R.remaining source.old) (W.contents out.old) (W.contents out.new) status) }
     ensures begun { OnErr result (IfSome (R.remaining source.old) AreBytes
         → HasBegun (AreUnitsPrinted order (R.remaining source.old) (W.contents out.old)) (W.contents out.old) (W.contents out.new)) }
 {

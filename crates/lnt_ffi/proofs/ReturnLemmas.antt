@@ -10,4 +10,5 @@ pub of_paths : (section : FlatSection) (text old_table new_table old_section new
     → ReturnsVerdictByPath All section text old_table new_table old_section new_section returned → ReturnsVerdict section text returned
 of_paths section text old_table new_table old_section new_section returned (ReturnsVerdictByPath.judged found is e first second) =
     ReturnsVerdict.judged found is e
-of_paths section text old_table new_table old_section new_section returned (ReturnsVerdictByPath.stopped e first second) = ReturnsVerdict.stopped e
+of_paths section text old_table new_table old_section new_section returned (ReturnsVerdictByPath.stopped e first second) =
+    ReturnsVerdict.stopped e

@@ -79,7 +79,8 @@ IsFound scope section text found =
     IsTrueWithin scope section.line_str.now section.general.now (options_of section) section.line.now text found
 
 pub data ReturnsVerdict (section : FlatSection) (text : List ℕ) (returned : FlatVerdict) : Type 0 where
-  judged : (found : CheckedWithin) → IsFound All section text found → returned ≡ verdict_of_check found → ReturnsVerdict section text returned
+  judged : (found : CheckedWithin) → IsFound All section text found → returned ≡ verdict_of_check found
+      → ReturnsVerdict section text returned
   stopped : returned ≡ memory → ReturnsVerdict section text returned
 
 -- the same in a scope, with the paths of a difference by path in two rooms
@@ -108,8 +109,8 @@ abbrev pub ReturnsUnits : FlatSection → ℕ → List FlatUnit → List FlatUni
 ReturnsUnits section = ReturnsIfGood section (λ count old new. (index : Indexed) × IsIndexOfFlat section index
     × (count ≡ length index.units) × (new ≡ with_prefix (map (unit_in index) index.units) old))
 
-pub data ReturnsPath (section : FlatSection) (unit file : ℕ) (is_there : Bool) (count : ℕ) (old new : List ℕ) (returned : FlatVerdict) : Type
-    0 where
+pub data ReturnsPath (section : FlatSection) (unit file : ℕ) (is_there : Bool) (count : ℕ) (old new : List ℕ)
+    (returned : FlatVerdict) : Type 0 where
   found : (index : Indexed) → IsIndexOfFlat section index → (path : List ℕ) → file_path_in index unit file ≡ Some path
       → is_there ≡ true → count ≡ length path → new ≡ with_prefix path old → returned ≡ yes
       → ReturnsPath section unit file is_there count old new returned

@@ -44,7 +44,8 @@ pub extern "C" fn linetab_check_paths(
 )
     ensures table_room { length by_table.new ≡ length by_table.old }
     ensures section_room { length by_section.new ≡ length by_section.old }
-    ensures returned { ReturnsVerdictByPath Scope.All section.now table.now by_table.old by_table.new by_section.old by_section.new verdict.new }
+    ensures returned { ReturnsVerdictByPath Scope.All section.now table.now
+        by_table.old by_table.new by_section.old by_section.new verdict.new }
 {
     *verdict = check_into(alloc, section, table, Scope::All, by_table, by_section);
 }
@@ -64,7 +65,8 @@ pub extern "C" fn linetab_check_within(
 )
     ensures table_room { length by_table.new ≡ length by_table.old }
     ensures section_room { length by_section.new ≡ length by_section.old }
-    ensures returned { ReturnsVerdictByPath (scope_in is_partial) section.now table.now by_table.old by_table.new by_section.old by_section.new
+    ensures returned { ReturnsVerdictByPath (scope_in is_partial) section.now table.now
+        by_table.old by_table.new by_section.old by_section.new
         verdict.new }
 {
     let scope = Scope::of(is_partial);

@@ -1,7 +1,7 @@
 //! Which offsets into the string sections have a text (DWARF 5, section 7.5.5).
 ghost use Rattle.std.specs.Prelude.{◌≡◌, ◌↔◌, IsTrue, IsSome};
 ghost use Rattle.lnt_wire.specs.Borrowed.{value_of};
-ghost use Rattle.lnt_wire.specs.FormBytes.{text_of, up_to_zero};
+ghost use Rattle.lnt_wire.specs.FormBytes.{text_of};
 ghost use Rattle.lnt_files.specs.Tables.{Sections, TextsEndAt};
 
 use lnt_wire::{Strings, ValueView};

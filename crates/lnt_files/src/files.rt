@@ -1,5 +1,5 @@
 //! The files of a header, kept without its bytes.
-ghost use Rattle.std.specs.Prelude.{◌≡◌, ◌+◌, ◌<◌, [], IfOk, length, slice_get, option_map, option_and_then, option_copied};
+ghost use Rattle.std.specs.Prelude.{◌≡◌, ◌<◌, [], IfOk, length, slice_get, option_map, option_and_then, option_copied};
 ghost use Rattle.lnt_files.specs.Files.{AreFilesOf, kept_path, kept_sum, EndAt, kept_files};
 ghost use Rattle.lnt_files.specs.Stepping.{start_of, KeepsFiles};
 ghost use Rattle.lnt_files.specs.Tables.{AreUsableTables};

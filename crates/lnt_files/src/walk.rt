@@ -1,5 +1,5 @@
 //! The entries of a table one after another, each read in place.
-ghost use Rattle.std.specs.Prelude.{◌≡◌, ◌↔◌, ◌<◌, ◌≤◌, IsTrue, length};
+ghost use Rattle.std.specs.Prelude.{◌≡◌, ◌<◌, ◌≤◌, length};
 ghost use Rattle.lnt_header_bytes.specs.Marks.{from_entry};
 ghost use Rattle.lnt_files.specs.Walks.{EntryStep};
 

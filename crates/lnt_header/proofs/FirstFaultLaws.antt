@@ -109,7 +109,8 @@ module _ {X : Type 0} (P : X → List ℕ → Type 0) (IsSo : Reason → List �
 
   -- the same of as many values as a count says
   several_one : (n : ℕ) → AreOne (FirstOfSeveral n P IsSo)
-  several_one n reason other before before' left left' (next xs prefix past lt each joined h) (next ys prefix' past' lt' each' joined' k) e =
+  several_one n reason other before before' left left' (next xs prefix past lt each joined h)
+      (next ys prefix' past' lt' each' joined' k) e =
       grind (arith, common_steps, each_one, append_assoc)
 
   pub several_of : (n : ℕ) → IsOneFault (Several n P) (FirstOfSeveral n P IsSo)

@@ -146,7 +146,8 @@ pub below : (format : Format) (n m : ℕ) → LengthFits format n → m ≤ n �
 below D32 n m fits le = omega arith
 below D64 n m fits le = omega arith
 
-pub same_header : (h h' : HeaderParts) (p p' x y r s : List ℕ) → h.numbers.order ≡ h'.numbers.order → HeaderBytes h p x → HeaderBytes h' p' y
+pub same_header : (h h' : HeaderParts) (p p' x y r s : List ℕ) → h.numbers.order ≡ h'.numbers.order → HeaderBytes h p x
+    → HeaderBytes h' p' y
     → x ++ r ≡ y ++ s → SameHeader h h' p p' x y
 same_header h h' p p' x y r s order left right e =
     let body = left.fields in

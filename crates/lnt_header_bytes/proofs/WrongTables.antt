@@ -99,7 +99,8 @@ value_so format order forms.Block4 reason bytes h = sized_so order 4 reason byte
 -- after bytes of which nothing is asked
 pub wrong_after : (reason : Reason) (prefix past before left : List ℕ) → before ≡ prefix ++ past → IsWrongTable reason past left
     → IsWrongTable reason before left
-wrong_after reason prefix past before left e h = subst (λ (z : List ℕ). IsWrongTable reason z left) (sym e) (later reason prefix past left h)
+wrong_after reason prefix past before left e h = subst (λ (z : List ℕ). IsWrongTable reason z left) (sym e)
+    (later reason prefix past left h)
 
 wrong_here : (reason : Reason) (before left : List ℕ) → before ≡ [] → IsWrongTable reason [] left → IsWrongTable reason before left
 wrong_here reason before left e h = subst (λ (z : List ℕ). IsWrongTable reason z left) (sym e) h
@@ -150,4 +151,5 @@ wrong_table format order reason before left (second n prefix past p e (first (ne
     wrong_after reason prefix past before left e (wrong_after reason done more past left e2 (wrong_pair reason more left h))
 wrong_table format order reason before left (second n prefix past p e (second pairs kinds more q e2 h)) =
     let all : before ≡ prefix ++ (kinds ++ more) = e ∙ ap (λ (z : List ℕ). prefix ++ z) e2 in
-    subst (λ (z : List ℕ). IsWrongTable reason z left) (sym all) (wrong_after_pairs format order n pairs prefix kinds more left reason p q h)
+    subst (λ (z : List ℕ). IsWrongTable reason z left) (sym all)
+    (wrong_after_pairs format order n pairs prefix kinds more left reason p q h)

@@ -1,5 +1,5 @@
 //! The fields of one byte of a header.
-ghost use Rattle.std.specs.Prelude.{◌≡◌, ◌-◌, ◌+◌, ◌<◌, ◌≤◌, length, take, IfOk, IfErr};
+ghost use Rattle.std.specs.Prelude.{◌≡◌, ◌-◌, ◌+◌, ◌<◌, ◌≤◌, take, IfOk, IfErr};
 ghost use Rattle.lnt_wire.specs.Reading.{Reads, Refuses};
 ghost use Rattle.lnt_header.specs.OpRules.{last_known};
 ghost use Rattle.lnt_header_bytes.specs.HeaderFaults.{SinglesBytes, IsSinglesFault, LengthsBytes, IsLengthsFault};

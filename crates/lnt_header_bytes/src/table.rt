@@ -1,5 +1,5 @@
 //! The pairs and the entries of a header's two tables, read from their bytes (DWARF 5, section 6.2.4.1).
-ghost use Rattle.std.specs.Prelude.{◌≡◌, ◌∷◌, ◌++◌, [], IfOk, IfErr, OnOk};
+ghost use Rattle.std.specs.Prelude.{IfOk, IfErr, OnOk};
 ghost use Rattle.lnt_header.specs.Joins.{Several};
 ghost use Rattle.lnt_wire.specs.Reading.{Reads, Refuses, RefusesOr};
 ghost use Rattle.lnt_header_bytes.specs.Stepping.{ReadsNext};

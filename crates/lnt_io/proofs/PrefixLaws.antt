@@ -29,7 +29,8 @@ pub prefix_after : (old now new : Option (List ℕ)) (first second : List ℕ) �
 prefix_after old now new first second a f = grind (arith, common_steps, append_assoc)
 
 -- a prefix of the bytes, where the writer first kept what it held
-pub prefix_since : (old now new : Option (List ℕ)) (bytes : List ℕ) → Keeps old now → AppendsPrefix now new bytes → AppendsPrefix old new bytes
+pub prefix_since : (old now new : Option (List ℕ)) (bytes : List ℕ) → Keeps old now → AppendsPrefix now new bytes
+    → AppendsPrefix old new bytes
 prefix_since old now new bytes k f = prefix_after old now new [] bytes (Appends_kept old now k) f
 
 -- replacing the bytes by equal ones

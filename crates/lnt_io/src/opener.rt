@@ -70,7 +70,8 @@ pub fn open_file<O: Opener>(
     ensures failures { IfOk result (λ source. ⟦<Counted<BufReader<O::Reader>> as Source>⟧.failures source ≡ 0) }
     ensures too_long { IfOk result (λ source. ⟦<Counted<BufReader<O::Reader>> as Source>⟧.too_long source ≡ false) }
     ensures left { IfOk result (λ source. ⟦<Counted<BufReader<O::Reader>> as Source>⟧.left source ≡ 2 ^ 40) }
-    ensures found { IfOk result (λ source. O.finds opener.old name.now (Readable (⟦<Counted<BufReader<O::Reader>> as Source>⟧.remaining source))) }
+    ensures found { IfOk result (λ source.
+        O.finds opener.old name.now (Readable (⟦<Counted<BufReader<O::Reader>> as Source>⟧.remaining source))) }
     ensures none { IsErrOf result IoStop.Read → O.finds opener.old name.now Unreadable }
     ensures later { FindsNoMore (O.finds opener.old) (O.finds opener.new) }
     ensures refused { RefusesOnly (λ other. IsErrOf result IoStop.Read × (name.now ≡ other)) (O.refused opener.old) (O.refused opener.new) }

@@ -59,7 +59,8 @@ sound_well falls missing text general dead unit (no.Overlap first second positio
 pub same_pair : (u v : ℕ × UnitParts) → u.0 ≡ v.0 → u.1 ≡ v.1 → u ≡ v
 same_pair (m, x) (n, y) places parts = cc (places, parts)
 
-pub units_begin : (order : Order) (offset : ℕ) (us vs : List (ℕ × UnitParts)) (prefix rest whole : List ℕ) → UnitsFrom order offset us prefix
+pub units_begin : (order : Order) (offset : ℕ) (us vs : List (ℕ × UnitParts)) (prefix rest whole : List ℕ)
+    → UnitsFrom order offset us prefix
     → UnitsFrom order offset vs whole → whole ≡ prefix ++ rest
     → (ws : List (ℕ × UnitParts)) × (vs ≡ us ++ ws)
 units_begin order offset [] vs prefix rest whole p q e = (vs, refl)

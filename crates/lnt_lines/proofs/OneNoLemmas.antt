@@ -115,7 +115,8 @@ flaw_and_malformed : FallIsNotOrdered → MissingFileIsNotThere
     → IsMalformed text general options section fault → ⊥
 flaw_and_malformed falls missing text general options section reason fault f m =
     let t = m.broken.true_fault in
-    none_flawed falls missing text general options.dead options.order 0 t.units f.units f.unit t.prefix f.prefix t.rest f.rest reason t.sound
+    none_flawed falls missing text general options.dead options.order 0 t.units f.units f.unit t.prefix f.prefix
+    t.rest f.rest reason t.sound
     f.spelled (sym t.split ∙ f.split) t.broken.broken.none m.sound f.flaw
 
 two_overlaps : (text general : List ℕ) (options : Options) (section : List ℕ) (a b : Overlap) → IsOverlap text general options section a

@@ -1,5 +1,5 @@
 //! The lines of an index, with all spans and paths in memory.
-ghost use Rattle.std.specs.Prelude.{◌≡◌, IfOk};
+ghost use Rattle.std.specs.Prelude.{IfOk};
 ghost use Rattle.lnt_lines.specs.Contents.{AreContentsOf};
 ghost use Rattle.lnt_lines.specs.Indexed.{OfUnits};
 

@@ -1,5 +1,5 @@
 //! All spans of an index, one after another.
-ghost use Rattle.std.specs.Prelude.{◌≡◌, ◌<◌, ◌≤◌, ℕ, List, [], None, IfSome, true, MatchBool};
+ghost use Rattle.std.specs.Prelude.{◌≡◌, ◌<◌, List, [], None, IfSome, true, MatchBool};
 ghost use Rattle.lnt_header.specs.Joins.{AreRising};
 ghost use Rattle.lnt_spans.specs.declared.span.Span as spec;
 ghost use Rattle.lnt_lines.specs.Cursors.{AreToCome, ComeLater, most_left, room_for, room_of};

@@ -28,6 +28,7 @@ line_told (Ok x) old new note printed = one_note old new note printed
 line_told (Err e) old new note printed = tt
 
 -- what a call tells after others, all of them tell
-pub noted_after : {T E : Type 0} (r : Result T E) (a b c : Option (List ℕ)) → AddsNotes a b → OnOk r (AddsNotes b c) → OnOk r (AddsNotes a c)
+pub noted_after : {T E : Type 0} (r : Result T E) (a b c : Option (List ℕ)) → AddsNotes a b → OnOk r (AddsNotes b c)
+    → OnOk r (AddsNotes a c)
 noted_after (Ok x) a b c some more = more_notes a b c some more
 noted_after (Err e) a b c some more = tt

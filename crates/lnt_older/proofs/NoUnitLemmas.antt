@@ -139,7 +139,8 @@ pub one_body : (order : Order) (f g : Format) (body other left more bytes : List
 one_body order f g body other left more bytes fits fits' e d = grind (arith, common_steps, same_length, append_assoc, same_prefix)
 
 -- where nothing of an older unit stands after its version
-pub none_of_unit : (prefix : Prefix) (version : OlderVersion) (old new : At) → ReadsPrefix prefix old new → prefix.version ≡ version_number version
+pub none_of_unit : (prefix : Prefix) (version : OlderVersion) (old new : At) → ReadsPrefix prefix old new
+    → prefix.version ≡ version_number version
     → NoneSpelled (PastBytes prefix.format version old.order) prefix.past.now → NoneSpelled (AnyBytes old.order) old.rest
 none_of_unit prefix version old new r version_is none (five_parts format body) x more p e =
     let order = old.order in

@@ -5,12 +5,11 @@ use Rattle.std.proofs.lemmas.List.{append-nil, nil_from_length}
 use Rattle.std.proofs.lemmas.List.Elements.{All-cons, All-nil, All-weaker}
 use Rattle.std.proofs.lemmas.List.Kept.{AllPairs-cons}
 use Rattle.lnt_header.specs.Joins.{AreRising, PlacedFrom}
-use Rattle.lnt_wire.specs.Reading.{At, Reads, Refuses}
-use Rattle.lnt_wire.specs.declared.fault.Fault.{Fault}
+use Rattle.lnt_wire.specs.Reading.{At, Reads}
 use Rattle.lnt_wire.specs.declared.format.Order.{Order}
-use Rattle.lnt_older.specs.OlderUnits.{AnyBytes, AnyParts, IsAnyFault, ReadsFive, ReadsOlder, five_parts, older_parts, unit_header}
+use Rattle.lnt_older.specs.OlderUnits.{AnyBytes, AnyParts, ReadsFive, ReadsOlder, five_parts, older_parts, unit_header}
 use Rattle.lnt_older.specs.Upgradable.{IsUnitNext, AreLeft}
-use Rattle.lnt_older.specs.Sections.{HasOlder, IsBroken, older_offsets}
+use Rattle.lnt_older.specs.Sections.{HasOlder, older_offsets}
 use Rattle.lnt_older.specs.declared.unit.OlderUnit.{OlderUnit}
 use Rattle.lnt_older.proofs.PlacedLaws.{left_after, placed_more}
 use Rattle.lnt_older.proofs.UpgradeLaws.{any_once, five_read, older_read, some_bytes}
@@ -97,10 +96,6 @@ pub record OlderTo (order : Order) (section : List ℕ) (at : At) (older : List 
   pub older_are : older ≡ older_offsets units
 
 module _ (order : Order) (section : List ℕ) where
-  pub older_none : (at : At) (older : List ℕ) → at.rest ≡ section → at.place ≡ 0 → at.order ≡ order → older ≡ []
-      → OlderTo order section at older
-  older_none at older rest place ordered none = grind (arith, common_steps, walked_none)
-
   older_next : (at next : At) (older new : List ℕ) (parts : AnyParts) → OlderTo order section at older
       → Reads (AnyBytes at.order) parts at next → new ≡ older ++ older_offsets ((at.place, parts) ∷ []) → OlderTo order section next new
   older_next at next older new parts o r more = record {
@@ -129,10 +124,6 @@ module _ (order : Order) (section : List ℕ) where
         record { units = o.units; sound = sound; older_are = o.older_are },
         rw o.older_are (older_rise order 0 o.units section sound),
       )
-
-  pub broken_there : (at : At) (older : List ℕ) (fault : Fault) → OlderTo order section at older
-      → Refuses (IsAnyFault at.order) (AnyBytes at.order) at fault → IsBroken order section fault
-  broken_there at older fault o r = grind (arith, common_steps)
 
 pub older_long : (at next : At) (unit : OlderUnit) → ReadsOlder unit at next → length next.rest < length at.rest
 older_long at next unit r = grind (arith, common_steps, any_long, older_read)

@@ -34,7 +34,8 @@ module _ (size : ℕ) (directories : List Directory) where
       absurd (omega (arith, ap length (sym l.joined ∙ none), length-append l.unit l.more, some))
   never_large at (unit ∷ units, (prefix, back, here, so, joined, rest)) l =
       let older = l.large.older in
-      let same : prefix ≡ l.unit = any_once at.order unit.1 (older_parts l.large.header l.large.program) prefix l.unit back l.more so.spelled
+      let same : prefix ≡ l.unit =
+      any_once at.order unit.1 (older_parts l.large.header l.large.program) prefix l.unit back l.more so.spelled
       (older.order_is, older.spelled) (sym joined ∙ l.joined) in
       l.misfit (rw (here, same) at so.fits)
 

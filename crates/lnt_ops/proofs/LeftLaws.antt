@@ -72,7 +72,8 @@ left_fails h (op ∷ later) fault old new left f =
     f.refuses.none op t.prefix t.back (subst (λ (g : NumberParts). OpBytes g op t.prefix) (sym left.header_is) t.first) (sym t.joined)
 
 -- the operations after some that a prefix of the program spells
-pub each_after : (h : NumberParts) (earlier all : List Op) (prefix rest program : List ℕ) → AreHeaderNumbers h → Each (OpBytes h) earlier prefix
+pub each_after : (h : NumberParts) (earlier all : List Op) (prefix rest program : List ℕ) → AreHeaderNumbers h
+    → Each (OpBytes h) earlier prefix
     → Each (OpBytes h) all program → program ≡ prefix ++ rest → (later : List Op) × (all ≡ earlier ++ later) × Each (OpBytes h) later rest
 each_after h [] all prefix rest program header p q whole =
     (all, refl, subst (Each (OpBytes h) all) (whole ∙ ap (λ (z : List ℕ). z ++ rest) p) q)
@@ -92,7 +93,8 @@ each_after h (op ∷ earlier) (other ∷ all) prefix rest program header p q who
     (more.0, cc (one.value, more.1), more.2)
 
 -- a place stays one, once it is known what the whole program is
-pub place_found : (h : NumberParts) (earlier all : List Op) (prefix rest program : List ℕ) → AreHeaderNumbers h → Each (OpBytes h) earlier prefix
+pub place_found : (h : NumberParts) (earlier all : List Op) (prefix rest program : List ℕ) → AreHeaderNumbers h
+    → Each (OpBytes h) earlier prefix
     → Each (OpBytes h) all program → program ≡ prefix ++ rest
     → (later : List Op) × (all ≡ earlier ++ later) × IsPlace h program earlier later (length prefix)
 place_found h earlier all prefix rest program header p q whole = grind (arith, common_steps, each_after)

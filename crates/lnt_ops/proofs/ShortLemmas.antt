@@ -325,4 +325,5 @@ none_other h k bytes is lt n0 n1 n2 n3 n4 n5 n6 n8 =
     none_here h k h.opcode_base bytes (drop 1 bytes) is (omega (arith, is, lt)) refl refl (is_rare k n0 n1 n2 n3 n4 n5 n6 n8 (drop 1 bytes))
 
 -- each short operation that bytes begin with, and why none does
-pub ruleset short_prefixes = (prefix_special, prefix_bare, prefix_unsigned, prefix_signed, prefix_discriminator, none_empty, none_here, none_other)
+pub ruleset short_prefixes =
+    (prefix_special, prefix_bare, prefix_unsigned, prefix_signed, prefix_discriminator, none_empty, none_here, none_other)

@@ -55,7 +55,8 @@ unfolding Reached
 lines_reached line [] rest more after left back r = r
 lines_reached line (f ∷ records) rest more after left back r =
     let past : List ℕ = lines_of line records ++ rest in
-    let read : next_record default_config st.StartRecord [] [] ((line f ++ lines_of line records) ++ rest) ≡ Some (f, st.StartRecord, past) =
+    let read : next_record default_config st.StartRecord [] [] ((line f ++ lines_of line records) ++ rest)
+    ≡ Some (f, st.StartRecord, past) =
     ap (λ (t : List ℕ). next_record default_config st.StartRecord [] [] t) (append_assoc (line f) (lines_of line records) rest)
     ∙ line_read line f past back.0 in
     ((f, st.StartRecord, past), read, refl, lines_reached line records rest more after left back.1 r)
@@ -68,7 +69,8 @@ lines_read : (line : Fields → List ℕ) (records : List Fields) → AllByRecur
     → Reached default_config st.StartRecord (lines_of line records) records st.StartRecord []
 lines_read line records back =
     subst (λ (t : List ℕ). Reached default_config st.StartRecord t records st.StartRecord []) (append-nil (lines_of line records))
-    (subst (λ (r : List Fields). Reached default_config st.StartRecord (lines_of line records ++ []) r st.StartRecord []) (append-nil records)
+    (subst (λ (r : List Fields). Reached default_config st.StartRecord (lines_of line records ++ []) r st.StartRecord [])
+    (append-nil records)
     (lines_reached line records [] [] st.StartRecord [] back none_reached))
 
 -- ---- what holds of each format
@@ -216,7 +218,8 @@ lines_append line (x ∷ xs) ys =
 pub no_lines_in : {V X : Type 0} (format : TableFormat V X) (plain : LineFormat V X) (version : V) → AreLinesIn format plain version [] [] 1
 no_lines_in format plain version = record { records = []; text_is = refl; each = tt; count_is = refl }
 
-pub lines_more : {V X : Type 0} (format : TableFormat V X) (plain : LineFormat V X) (version : V) (text : List ℕ) (spans : List X) (count : ℕ)
+pub lines_more : {V X : Type 0} (format : TableFormat V X) (plain : LineFormat V X) (version : V) (text : List ℕ)
+    (spans : List X) (count : ℕ)
     (fields : Fields) (span : X) → AreLinesIn format plain version text spans count → format.Says version fields span
     → AreLinesIn format plain version (text ++ plain.line fields) (spans ++ span ∷ []) (count + 1)
 lines_more format plain version text spans count fields span a says = record {
@@ -304,7 +307,8 @@ lines_written plain version old now new block spans l more = record {
 -- ---- a loop that is stopped
 
 -- before anything was written
-pub none_begun : {V X : Type 0} (plain : LineFormat V X) (version : V) (old : Option (List ℕ)) → HasBegunLines {X = X} plain version old old []
+pub none_begun : {V X : Type 0} (plain : LineFormat V X) (version : V) (old : Option (List ℕ))
+    → HasBegunLines {X = X} plain version old old []
 none_begun plain version old =
     record { records = []; prefix = prefix_none old (lines_of plain.line (plain.names version ∷ [])); each = tt }
 
@@ -342,7 +346,8 @@ table_begun plain version one_record old new first rest spans begun e = record {
       let more = prefix_records (plain.Says version) one_record begun.records whole.records first rest begun.each all in
       let text : List ℕ = text_of plain version begun.records in
       let same : text ++ lines_of plain.line more.0 ≡ bytes =
-      sym (lines_append plain.line (plain.names version ∷ begun.records) more.0) ∙ ap (text_of plain version) (sym more.1) ∙ sym whole.lines in
+      sym (lines_append plain.line (plain.names version ∷ begun.records) more.0) ∙ ap (text_of plain version) (sym more.1)
+      ∙ sym whole.lines in
       prefix_same old new _ bytes same (prefix_before old new text (lines_of plain.line more.0) begun.prefix);
 }
 

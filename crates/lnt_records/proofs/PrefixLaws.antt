@@ -137,14 +137,6 @@ last_narrow : (records : List Fields) (last : Fields) → AllByRecursion IsNarro
 last_narrow [] last all = all.0
 last_narrow (r ∷ records) last all = last_narrow records last all.1
 
-pub all_read : (bytes : List ℕ) → IsReadFor bytes bytes
-all_read bytes = record {
-  few = omega arith;
-  first = λ fields narrow h. h;
-  begins = λ records fields h. (fields, inl refl, h);
-  all = λ records h narrow. h;
-}
-
 prefix_begins : (prefix bytes : List ℕ) → IsPrefixOf prefix bytes → 3 ≤ length prefix → EndsWide prefix
     → (records : List Fields) (fields : Fields)
     → BeginsWith prefix (records ++ fields ∷ []) → (whole : Fields) × IsReadAs fields whole × BeginsWith bytes (records ++ whole ∷ [])

@@ -3,7 +3,7 @@ use Rattle.std.proofs.Common.{◌≡◌, ◌∙◌, ℕ, ◌<◌, ◌≤◌, Lis
 use Rattle.std.specs.List.{AllZip}
 use Rattle.lnt_records.specs.declared.fault.TableFault.TheVariants as fault
 use Rattle.lnt_records.specs.Faults.{HasFaultyRecordIn, IsFaultIn, IsFaultyIn, TableFault}
-use Rattle.lnt_records.specs.Reading.{IsNarrow, IsReadAs}
+use Rattle.lnt_records.specs.Reading.{IsReadAs}
 use Rattle.lnt_records.specs.Table.{BeginsWith, Fields, IsOfColumn, IsTableIn, IsTableOfIn, RecordsOf, TableFormat}
 use Rattle.lnt_records.proofs.BeginningLaws.{faulty_begins, table_begins}
 use Rattle.lnt_records.proofs.RecordLaws.{prefix_of, one_end, one_list, same_least, stands_before}
@@ -74,13 +74,6 @@ pub refused : {V X : Type 0} (format : TableFormat V X) → FormatLaws format �
 refused format laws version records table fields told t f whole bytes same begins =
     fault_told format bytes version records whole table told begins t
     (faulty_as format laws version table (length records) fields whole told same f)
-
-pub says_narrow : {V X : Type 0} (format : TableFormat V X) → FormatLaws format → (version : V) (fields : Fields) (span : X)
-    → format.Says version fields span → IsNarrow fields
-says_narrow format laws version fields span s =
-    let few = laws.narrow version in
-    let same = laws.count version fields span s in
-    omega (arith, few, same)
 
 -- ---- one table
 

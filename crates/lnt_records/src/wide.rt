@@ -1,5 +1,5 @@
 //! Records with more fields than any table has columns: no such record is held whole.
-ghost use Rattle.std.specs.Prelude.{◌<◌, ◌++◌, IsTrue, IfOk, ℕ, List, [], ◌∷◌, length};
+ghost use Rattle.std.specs.Prelude.{◌<◌, IsTrue, IfOk, [], ◌∷◌, length};
 ghost use Rattle.lnt_records.specs.Reading.{EndsWide, IsPrefixOf, IsReadFor};
 ghost use Rattle.lnt_records.specs.Table.{BeginsWith, Fields};
 

@@ -16,11 +16,13 @@ use Rattle.lnt_sequences.proofs.WalkLaws.{last_row_is}
 use Rattle.std.proofs.lemmas.Grind.{common_steps}
 
 -- the place before all rows
-pub checkpoint_before : (rows : List Row) (checkpoint : Checkpoint) → checkpoint.last ≡ None → WillGive rows checkpoint.after → IsCheckpointIn rows checkpoint
+pub checkpoint_before : (rows : List Row) (checkpoint : Checkpoint) → checkpoint.last ≡ None → WillGive rows checkpoint.after
+    → IsCheckpointIn rows checkpoint
 checkpoint_before rows checkpoint none will = record { seen = []; left = rows; rows_are = refl; last_is = none; to_come = will }
 
 -- one more checkpoint
-pub checkpoints_more : (rows : List Row) (checkpoints new : List Checkpoint) (checkpoint added : Checkpoint) → All (IsCheckpointIn rows) checkpoints → IsCheckpointIn rows checkpoint
+pub checkpoints_more : (rows : List Row) (checkpoints new : List Checkpoint) (checkpoint added : Checkpoint)
+    → All (IsCheckpointIn rows) checkpoints → IsCheckpointIn rows checkpoint
     → added ≡ checkpoint → new ≡ checkpoints ++ added ∷ [] → All (IsCheckpointIn rows) new
 checkpoints_more rows checkpoints new checkpoint added all is same are = grind (arith, common_steps)
 

@@ -54,10 +54,12 @@ pub record IsSketch (s : Placed) (e : Extent) : Type 0 where
   pub into : (p : Position) → Holds s.rows p → IsIn p e
   pub back : (p : Position) → IsIn p e → Holds s.rows p
 
+ruleset sketch_lemmas = (none_held, last_row_is, below_from_test, from_holds, holds_after, not_both, at_most_trans, at_most_from_not_below)
+
 sketch_of : (id : SeqId) (rows : List Row) → IsEmpty (record { id = id; rows = rows })
     ⊎ ((e : Extent) × IsSketch (record { id = id; rows = rows }) e)
 sketch_of id rows =
-    grind (arith, common_steps, none_held, last_row_is, below_from_test, from_holds, holds_after, not_both, at_most_trans, at_most_from_not_below)
+    grind (arith, common_steps, sketch_lemmas)
 
 pub sketch : (s : Placed) → IsEmpty s ⊎ ((e : Extent) × IsSketch s e)
 sketch s = sketch_of s.id s.rows

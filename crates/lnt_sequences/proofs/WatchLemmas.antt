@@ -50,7 +50,7 @@ pub seen_more : (dead : Option ℕ) (unit files : ℕ) (rows : List Row) (old ne
     → current ≡ grown old.dead old.current row → new ≡ gone_on (noted old row current.live) row current
     → HasSeen dead unit files old rows → HasSeen dead unit files new (rows ++ row ∷ [])
 seen_more dead unit files rows old new row current is e seen few =
-    grind (arith, common_steps, common_steps, length-append, walked-rows, ended_few, walked-append, next-rows, next-ended, next-current, first_shown-push)
+    grind (arith, common_steps, length-append, walked-rows, ended_few, walked-append, next-rows, next-ended, next-current, first_shown-push)
 
 -- ---- what is collected
 

@@ -3,7 +3,8 @@ ghost use Rattle.std.specs.Prelude.{◌≡◌, ◌-◌, ◌<◌, ◌≤◌, List
 ghost use Rattle.lnt_machine.specs.Walking.{WillGive};
 ghost use Rattle.lnt_machine.specs.declared.row.Row as spec;
 ghost use Rattle.lnt_sequences.specs.declared.brief.BriefRow as brief;
-ghost use Rattle.lnt_sequences.specs.Briefs.{AreInBrief, AreKept, IsAdded, IsInBrief, IsReached, IsReachedIn, WereKept, brief_answer, place_of};
+ghost use Rattle.lnt_sequences.specs.Briefs.{AreInBrief, AreKept, IsAdded, IsInBrief, IsReached, IsReachedIn, WereKept};
+ghost use Rattle.lnt_sequences.specs.Briefs.{brief_answer, place_of};
 
 use crate::buckets::Buckets;
 use lnt_machine::{Row, SequenceRows};

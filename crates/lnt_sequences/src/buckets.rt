@@ -1,5 +1,5 @@
 //! Where a search among rows in brief begins.
-ghost use Rattle.std.specs.Prelude.{◌≡◌, ◌-◌, ◌<◌, ◌≤◌, get_or, length};
+ghost use Rattle.std.specs.Prelude.{◌-◌, ◌<◌, ◌≤◌, get_or, length};
 ghost use Rattle.lnt_spans.specs.Positions.{IsAtMost, IsBelow};
 ghost use Rattle.lnt_sequences.specs.Briefs.{IsBetween, place_of};
 ghost use Rattle.lnt_sequences.specs.declared.brief.BriefRow as brief;

@@ -109,7 +109,8 @@ impl<'a> Checkpoints<'a> {
         rows: SequenceRows<'a>,
         position: Position,
     ) -> Result<Option<Row>, AllocError>
-        ensures checkpoints { (list : List spec.Row) → WillGive list rows.entry → AreCheckpointsIn list self.old → AreCheckpointsIn list self.new }
+        ensures checkpoints { (list : List spec.Row) → WillGive list rows.entry → AreCheckpointsIn list self.old
+            → AreCheckpointsIn list self.new }
         ensures found { IfOk result (λ row. (list : List spec.Row) → WillGive list rows.entry → AreCheckpointsIn list self.old
             → IsOrdered list → row ≡ sequence.row_at position list) }
     {

@@ -1,5 +1,5 @@
 //! The positions that sequences hold, and the first position that two of them hold.
-ghost use Rattle.std.specs.Prelude.{◌≡◌, ◌≢◌, ◌+◌, ◌-◌, ◌<◌, length, slice_index_or, IfNone, IfSome, MatchOption, Some, All, AllPairs};
+ghost use Rattle.std.specs.Prelude.{◌≢◌, ◌+◌, ◌-◌, ◌<◌, length, slice_index_or, IfNone, IfSome, MatchOption, Some, All, AllPairs};
 ghost use Rattle.std.specs.Prelude.{IsPermutation};
 ghost use Rattle.lnt_spans.specs.Positions.{IsBelow};
 ghost use Rattle.lnt_sequences.specs.Overlaps.{AreGathered, kept_extents, ExtentsDisjoint, ExtentsOverlap};

@@ -1,5 +1,6 @@
 -- What the derived comparisons of positions say.
-use Rattle.std.proofs.Common.{◌≡◌, ◌∙◌, sym, refl, Bool, true, false, ◌&&◌, ◌||◌, cond, ◌==◌, nat_lt, Option, Ordering, Some, Less, Equal, Greater}
+use Rattle.std.proofs.Common.{◌≡◌, ◌∙◌, sym, refl, Bool, true, false, ◌&&◌, ◌||◌, cond, ◌==◌, nat_lt, Option, Ordering}
+use Rattle.std.proofs.Common.{Some, Less, Equal, Greater}
 use Rattle.std.specs.Ordering.{nat_cmp, partial_ordering_then, is_some_and, is_lt, is_ge, partial_lt, partial_ge}
 use Rattle.lnt_spans.specs.Positions.{IsBelow, IsAtMost, Position}
 use Rattle.lnt_spans.proofs.PositionLaws.{below_from_test, at_most_from_not_below}
@@ -39,7 +40,8 @@ below_from_lt {p} {q} h =
 
 pub at_most_from_not_lt : {p q : Position} → false ≡ partial_lt compared p q → IsAtMost q p
 at_most_from_not_lt {p} {q} h =
-    at_most_from_not_below p q (sym (h ∙ lt_by_tests (nat_lt p.address q.address) (p.address == q.address) (nat_lt p.op q.op) (p.op == q.op)))
+    at_most_from_not_below p q
+    (sym (h ∙ lt_by_tests (nat_lt p.address q.address) (p.address == q.address) (nat_lt p.op q.op) (p.op == q.op)))
 
 pub at_most_from_ge : {p q : Position} → true ≡ partial_ge compared p q → IsAtMost q p
 at_most_from_ge {p} {q} h =

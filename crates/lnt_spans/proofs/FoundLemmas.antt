@@ -14,7 +14,8 @@ use Rattle.lnt_spans.specs.Spans.{span_answer, Answer, Span}
 use Rattle.lnt_spans.proofs.AheadLaws.{left_first}
 use Rattle.lnt_spans.proofs.CountLemmas.{addresses_of_spans, count_either, most_addresses, one_if, same_addresses}
 use Rattle.lnt_spans.proofs.PositionLaws.{order_cases}
-use Rattle.lnt_spans.proofs.MergedLemmas.{alike_here, gap_begins, missed_here, missed_unanswered, none_from, none_is, until_below, until_from}
+use Rattle.lnt_spans.proofs.MergedLemmas.{alike_here, gap_begins, missed_here, missed_unanswered, none_from, none_is}
+use Rattle.lnt_spans.proofs.MergedLemmas.{until_below, until_from}
 use Rattle.std.proofs.lemmas.Grind.{common_steps}
 
 -- a mistake was found
@@ -41,6 +42,8 @@ right_ended tell spans by_table at AreLeft passed ended p = elim (order_cases p 
   | inr late ↦ inl (ended p late)
 ]
 
+ruleset ended_lemmas = (none_is, right_ended, same_addresses, until_below, until_from, missed_unanswered, merged_none, alike_here)
+
 -- no span is left
 pub found_ended : {S D X : Type 0} (to_come : S → List Span → Type 0) (tell : Answer → X) (value_of : D → Stretch X) (merge : Merge S D)
     (spans : List Span) (by_table : Position → Option X) (counted : ℕ) → false ≡ is_some merge.mistake → merge.spans.next ≡ None
@@ -48,11 +51,12 @@ pub found_ended : {S D X : Type 0} (to_come : S → List Span → Type 0) (tell 
     → AreFound value_of (answer_told tell spans) by_table (record { gap = merge.gap; mistake = merge.mistake; missed = counted })
 unfolding merged_none
 found_ended {S} {D} {X} to_come tell value_of merge spans by_table counted none empty is m =
-    grind (arith, common_steps, none_is, right_ended, same_addresses, order_cases, until_below, until_from, missed_unanswered, merged_none, alike_here)
+    grind (arith, common_steps, order_cases, ended_lemmas)
 
 -- the addresses at which the table doesn't answer are those below a position, and those of the spans that are left there
 missed_rest : {X : Type 0} (tell : Answer → X) (spans : List Span) (by_table : Position → Option X) (at : Position)
-    (AreLeft : List Span → Type 0) (passed : ArePassed tell spans by_table at AreLeft) → ((p : Position) → IsAtMost at p → by_table p ≡ None)
+    (AreLeft : List Span → Type 0) (passed : ArePassed tell spans by_table at AreLeft)
+    → ((p : Position) → IsAtMost at p → by_table p ≡ None)
     → addresses_answered (where_missed by_table (answer_told tell spans))
     ≡ addresses_answered (until at (where_missed by_table (answer_told tell spans))) + addresses_of passed.rest
 missed_rest {X} tell spans by_table at AreLeft passed ended =
@@ -126,7 +130,8 @@ found_more {S} {D} {X} to_come tell value_of merge spans by_table span gap count
     most = omega (arith, total, now.0.counted, most_addresses all)
 
     first : (old : Option D)
-        → (old ≡ Some gap) ⊎ ((old ≡ None) × (value_of gap ≡ record { position = span.low; by_section = Some (tell span.answer); by_table = None }))
+        → (old ≡ Some gap)
+        ⊎ ((old ≡ None) × (value_of gap ≡ record { position = span.low; by_section = Some (tell span.answer); by_table = None }))
         → HasGap (option_map value_of old) tell spans by_table merge.at → IsFirstDifference section by_table (value_of gap)
     first None (inl e) h = cc e
     first None (inr e) h =

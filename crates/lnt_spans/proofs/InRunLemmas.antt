@@ -1,25 +1,16 @@
--- A side within one of its runs: how the run is entered, followed and left.
-use Rattle.std.proofs.Common.{◌≡◌, List, None, Option, arith, option_map}
+-- A side within one of its runs: how the run is followed and left.
+use Rattle.std.proofs.Common.{List, Option, arith, option_map}
 use Rattle.lnt_spans.specs.declared.runs.Run.{Run}
 use Rattle.lnt_spans.specs.AnyStretches.{Stretch}
 use Rattle.lnt_spans.specs.Positions.{IsAtMost, Position}
 use Rattle.lnt_spans.specs.Runs.{IsBefore, IsRun, IsSideAt, IsUpTo, Answer, Span}
 use Rattle.lnt_spans.specs.Stepping.{IsInRun}
 use Rattle.lnt_spans.specs.Stretching.{HasGiven, Stretches}
-use Rattle.lnt_spans.proofs.PositionLaws.{at_most_itself, at_most_trans, below_is_at_most}
+use Rattle.lnt_spans.proofs.PositionLaws.{at_most_trans}
 use Rattle.std.proofs.lemmas.Grind.{common_steps}
-
-before_is_up_to : (p : Position) (end : Option Position) → IsBefore p end → IsUpTo p end
-before_is_up_to p end h = grind (arith, common_steps, below_is_at_most)
 
 module _ {N A V X : Type 0} (is_at : N → Position → (Position → Option V) → Type 0) (value_of : A → V) (said : A → X) (run : Run A)
     (from : Position) (side : N) (answers : Position → Option X) where
-  -- the side stands where a run of it begins
-  pub entered : IsSideAt is_at value_of said side from answers
-      → ((values : Position → Option V) → is_at side from values → IsRun values from (option_map value_of run.answer) run.end)
-      → (run.end ≡ None → run.answer ≡ None) → IsSideAt (IsInRun is_at value_of run from) value_of said side from answers
-  entered s runs ended = grind (arith, common_steps, at_most_itself, before_is_up_to)
-
   -- it answers as the run does until that ends
   pub run_on : (at : Position) (values : Position → Option V) → IsInRun is_at value_of run from side at values → IsBefore at run.end
       → IsRun values at (option_map value_of run.answer) run.end
@@ -39,14 +30,7 @@ module _ {N A V X : Type 0} (is_at : N → Position → (Position → Option V) 
 module _ {S N A V X : Type 0} (to_come : S → List Span → Type 0) (is_at : N → Position → (Position → Option V) → Type 0)
     (value_of : A → V) (tell : Answer → X) (said : A → X) (run : Run A) (stretches : Stretches S N A)
     (by_section by_table : Position → Option X) (told : List (Stretch X)) where
-  -- nothing changes where a run of the table is entered
-  pub given_in : HasGiven to_come is_at value_of tell said stretches by_section by_table told
-      → ((values : Position → Option V) → is_at stretches.table stretches.at values
-      → IsRun values stretches.at (option_map value_of run.answer) run.end) → (run.end ≡ None → run.answer ≡ None)
-      → HasGiven to_come (IsInRun is_at value_of run stretches.at) value_of tell said stretches by_section by_table told
-  given_in h runs ended = grind (arith, common_steps, entered)
-
-  -- nor where it is left
+  -- nothing changes where it is left
   pub given_left : (from : Position) (new : N) → HasGiven to_come (IsInRun is_at value_of run from) value_of tell said stretches by_section
       by_table told
       → ((values : Position → Option V) → is_at stretches.table from values → IsAtMost from stretches.at → IsUpTo stretches.at run.end

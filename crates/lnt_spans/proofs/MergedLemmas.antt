@@ -420,7 +420,8 @@ merged_still {S} {D} {X} to_come tell value_of old new spans by_table by_more lo
     grind (arith, common_steps, true≢false, right_moved, below_at_most, below_is_at_most, at_most_trans, gap_moved)
 
 -- what is passed in a gap of the table
-abbrev pub PassesGap : {S D X : Type 0} → (S → List Span → Type 0) → (Answer → X) → (D → Stretch X) → Ahead S → Ahead S → Option D → Option D
+abbrev pub PassesGap : {S D X : Type 0} → (S → List Span → Type 0) → (Answer → X) → (D → Stretch X) → Ahead S → Ahead S
+    → Option D → Option D
     → ℕ → ℕ → Position → Type 0
 PassesGap {S} {D} {X} to_come tell value_of old new gap gap' missed missed' end =
     (list : List Span) (by_table : Position → Option X) (at : Position) → IsAtMost at end → AnswersNothing by_table at end
@@ -443,10 +444,11 @@ pub merged_more : {S D X : Type 0} (to_come : S → List Span → Type 0) (tell 
     → FindsMistake to_come tell value_of middle new.spans low high said new.mistake
     → HasOneMore by_table by_more old.at low high said
     → HasMerged to_come tell value_of old spans by_table → HasMerged to_come tell value_of new spans by_more
-merged_more {S} {D} {X} to_come tell value_of old new middle spans by_table by_more low high said none at le lt passes found more m = record {
-  ended = λ p h. more.ended p (subst (λ (q : Position). IsAtMost q p) at h);
-  merged = rw at (by_found new.mistake (found spans by_more more.says passed.0.passed));
-}
+merged_more {S} {D} {X} to_come tell value_of old new middle spans by_table by_more low high said none at le lt passes found more m =
+    record {
+      ended = λ p h. more.ended p (subst (λ (q : Position). IsAtMost q p) at h);
+      merged = rw at (by_found new.mistake (found spans by_more more.says passed.0.passed));
+    }
   where
     section : Position → Option X
     section = answer_told tell spans

@@ -1,5 +1,5 @@
 -- Spans in order, the first of them passed: where these end, and what all of them answer below that and from there on.
-use Rattle.std.proofs.Common.{◌≡◌, ◌∙◌, List, [], ◌∷◌, ◌++◌, refl, ap, sym, arith}
+use Rattle.std.proofs.Common.{◌≡◌, ◌∙◌, List, [], ◌∷◌, ◌++◌, refl, ap, sym}
 use Rattle.std.specs.List.{AllByRecursion}
 use Rattle.lnt_spans.specs.Spans.{number_spans, IsTold, end_of, AreInOrder, span_answer, version_answer, Version, Span}
 use Rattle.lnt_spans.specs.Merged.{BeginFrom}

@@ -41,7 +41,8 @@ stretches_to_give left runs stretches =
 -- ---- how far the stretches of a section and a table by number were given: what contracts see of `Differences`
 
 -- These stretches were given, and the sources have the spans from there on still to come.
-abbrev pub HasFoundStretches : {S T : Type 0} → (S → List Span → Type 0) → (T → List Span → Type 0) → Differences S T → (Position → Option Answer)
+abbrev pub HasFoundStretches : {S T : Type 0} → (S → List Span → Type 0) → (T → List Span → Type 0) → Differences S T
+    → (Position → Option Answer)
     → (Position → Option Answer) → List Difference → Type 0
 HasFoundStretches of_section of_table differences by_section by_table given = HasGiven of_section (IsAheadAt of_table) (λ answer. answer)
     (in_version differences.version) (λ answer. answer) differences.stretches by_section by_table (stretches_of given)

@@ -1,5 +1,5 @@
 //! What tables by number contain of an answer.
-ghost use Rattle.std.specs.Prelude.{◌≡◌, ◌≢◌, IfOk, OnOk, MatchBool, option_map};
+ghost use Rattle.std.specs.Prelude.{◌≡◌, IfOk, option_map};
 ghost use Rattle.lnt_spans.specs.AnyStretches.{stretch_at};
 ghost use Rattle.lnt_spans.specs.Answers.{in_version};
 ghost use Rattle.lnt_spans.specs.Differences.{stretch_of};

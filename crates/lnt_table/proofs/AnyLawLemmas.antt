@@ -94,5 +94,6 @@ own_table_by_path numbers = record {
   same = own;
   no_verdict = λ line general options section table units version verdict good w v.
       none_numbered verdict
-      (numbers.one line general options section table verdict (ByPath Same) v (own line general options section table units version good w));
+      (numbers.one line general options section table verdict (ByPath Same) v
+      (own line general options section table units version good w));
 }

@@ -257,7 +257,8 @@ within_section line general options section index Answered told all i =
     covered_so (IsTrueOfSectionWithin line general options section) (missed_in told) all (part_checked told)
     (of_good line general options section index told i).1 (λ coverage. (i.units, i.good))
 
-pub section_within : (line general : List ℕ) (options : Options) (section : Option (List ℕ)) (index : Indexed) (scope : Scope) (told : Judged)
+pub section_within : (line general : List ℕ) (options : Options) (section : Option (List ℕ)) (index : Indexed)
+    (scope : Scope) (told : Judged)
     (all : ℕ) → IfSome section (λ bytes. IsIndexOfSection line general options bytes index)
     → IfSome section (λ bytes. IsTrueOfSectionWithin line general options bytes (within_scope scope told all))
 section_within line general options section index scope told all i =

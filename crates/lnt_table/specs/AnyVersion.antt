@@ -36,7 +36,8 @@ told_paths line general options units version = answer_by_path version line gene
 -- these.
 abbrev pub IsTrueByPath : List ℕ → List ℕ → Options → List ℕ → List ℕ → Compared DifferenceByPath → Type 0
 IsTrueByPath line general options section table compared = IsUnnumbered table
-    × IsGoodWith line general options section (λ units. IsComparisonOf tables_by_path (told_paths line general options units) table compared)
+    × IsGoodWith line general options section
+    (λ units. IsComparisonOf tables_by_path (told_paths line general options units) table compared)
 
 -- The answer is true, and a reason that it gives is the first. If the section is good and the table begins with the header of
 -- neither version 1 nor 2, it is an answer by path, not a verdict.

@@ -16,7 +16,8 @@ use Rattle.lnt_unit.specs.UnitBytes.{UnitBytesIn}
 use Rattle.std.proofs.lemmas.Grind.{common_steps}
 
 -- the shortest program gives the shortest unit
-pub unit_put : (order : Order) (unit : UnitParts) (program bytes : List ℕ) → IsShortest (Each (OpBytes unit.header.numbers)) unit.ops program
+pub unit_put : (order : Order) (unit : UnitParts) (program bytes : List ℕ)
+    → IsShortest (Each (OpBytes unit.header.numbers)) unit.ops program
     → IsShortest (HeaderBytesIn order) (unit.header, program) bytes → IsShortest (UnitBytesIn order) unit bytes
 unit_put order unit program bytes p q = record {
   spelled = record {

@@ -21,7 +21,8 @@ pub record UnitsSoFar (order : Order) (bytes : List ℕ) (units : List (ℕ × U
 
 pub no_units : (order : Order) (bytes : List ℕ) (cursor : At) → cursor.rest ≡ bytes → cursor.place ≡ 0 → cursor.order ≡ order
     → UnitsSoFar order bytes [] cursor
-no_units order bytes cursor rest place order_is = record { prefix = []; whole = sym rest; joined = refl; place = place; order_is = order_is }
+no_units order bytes cursor rest place order_is =
+    record { prefix = []; whole = sym rest; joined = refl; place = place; order_is = order_is }
 
 pub one_more_unit : (order : Order) (bytes : List ℕ) (units : List (ℕ × UnitParts)) (unit : ℕ × UnitParts) (old new : At)
     → UnitsSoFar order bytes units old → Reads (UnitBytesIn order) unit.1 old new

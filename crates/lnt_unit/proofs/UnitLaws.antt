@@ -46,7 +46,8 @@ same_unit order u v x y r s p q e =
     let operations : Each (OpBytes u.header.numbers) v.ops left.program =
     subst (λ (h : HeaderParts). Each (OpBytes h.numbers) v.ops left.program) (sym found.header)
     (subst (λ (z : List ℕ). Each (OpBytes v.header.numbers) v.ops z) (sym found.program) right.operations) in
-    let ops : u.ops ≡ v.ops = same_program u.header.numbers left.whole.counted.numbers u.ops v.ops left.program left.operations operations in
+    let ops : u.ops ≡ v.ops =
+    same_program u.header.numbers left.whole.counted.numbers u.ops v.ops left.program left.operations operations in
     let parts : parts_of u.header u.ops ≡ parts_of v.header v.ops = ap (λ (h : HeaderParts). parts_of h u.ops) found.header
     ∙ ap (parts_of v.header) ops in
     (sym (parts_are u) ∙ parts ∙ parts_are v, found.bytes)
@@ -108,7 +109,8 @@ same_units order offset (u ∷ us) (v ∷ vs) x p q =
 -- no other list goes past the units that stand before bytes that no unit begins
 none_past : (order : Order) (k l : ℕ) (units others : List (ℕ × UnitParts)) (prefix rest whole : List ℕ) → UnitsFrom order k units prefix
     → UnitsFrom order l others whole → whole ≡ prefix ++ rest → NoneSpelled (UnitBytesIn order) rest → 0 < length rest → ⊥
-none_past order k l [] [] prefix rest whole p q e none some = omega (arith, ap length p, ap length q, ap length e, length-append prefix rest)
+none_past order k l [] [] prefix rest whole p q e none some =
+    omega (arith, ap length p, ap length q, ap length e, length-append prefix rest)
 none_past order k l [] (u ∷ us) prefix rest whole p q e none some = none u.1 q.0 q.1 q.3 (sym q.4 ∙ e ∙ ap (λ (z : List ℕ). z ++ rest) p)
 none_past order k l (v ∷ vs) [] prefix rest whole p q e none some =
     omega (arith, unit_is_some order v.1 p.0 p.3, ap length p.4, length-append p.0 p.1, ap length q, ap length e, length-append prefix rest)

@@ -40,7 +40,8 @@ group_put : {X : Type 0} (Spells : X → List ℕ → Type 0) (whole rest after 
 group_put Spells whole rest after old new byte b g = record {
   prefix = b.prefix ++ byte ∷ [];
   joined = ap (λ (z : List ℕ). z ++ byte ∷ []) b.joined ∙ append_assoc old b.prefix (byte ∷ []);
-  completes = λ tail p. subst (Spells whole) (sym (append_assoc b.prefix (byte ∷ []) tail)) (b.completes (byte ∷ tail) (g.completes tail p));
+  completes = λ tail p. subst (Spells whole) (sym (append_assoc b.prefix (byte ∷ []) tail))
+      (b.completes (byte ∷ tail) (g.completes tail p));
   same = λ other p.
       let one = b.same other p in
       let two = g.same one.0 one.1 in

@@ -119,7 +119,8 @@ impl<'p, 'r, P: Paths> Telling for PathTelling<'p, 'r, P> {
         by_section: Option<Answer>,
     ) -> Result<DifferenceByPath, AllocError>
         ensures { IfOk result (λ difference. stretch_of difference ≡ stretch_at position
-            (option_map (path_answer self.now.version (P.bytes_of self.now.paths.now)) by_section) (option_map said_answer by_table.entry)) }
+            (option_map (path_answer self.now.version (P.bytes_of self.now.paths.now)) by_section)
+            (option_map said_answer by_table.entry)) }
     {
         let by_table = match by_table {
             Some(held) => Some(said_of(self.alloc, held)?),

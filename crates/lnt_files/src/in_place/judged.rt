@@ -1,8 +1,8 @@
 //! What is wrong with the tables of a header. Each is walked once.
-ghost use Rattle.std.specs.Prelude.{◌≡◌, ◌<◌, ◌↔◌, IsTrue, MatchOption, length};
+ghost use Rattle.std.specs.Prelude.{◌≡◌, ◌<◌, ◌↔◌, IsTrue, MatchOption};
 ghost use Rattle.std.specs.List.{AllByRecursion};
 ghost use Rattle.lnt_header.specs.HeaderTests.{IsFirstNot};
-ghost use Rattle.lnt_files.specs.Walks.{first_missing, HasAll, IsFilesFault, NamesDirectoryBelow};
+ghost use Rattle.lnt_files.specs.Walks.{first_missing, HasAll, IsFilesFault};
 ghost use Rattle.lnt_files.specs.Tables.{HasUsableFormat, HasPath, AreUsableTables, IsTablesFault};
 
 use crate::ends::StringEnds;

@@ -28,7 +28,8 @@ loop-count-preserved g c =
       same = c.in_ok-answer_block.ensures.same ∙ c.loop-count.invariant.same;
       index = c.answer_block.ensures.index ∙ c.loop-count.invariant.index;
       none = c.in_ok-answer_block.ensures.none;
-      printed = text_kept (text_more _ c.loop-count.invariant.printed pulls block c.in_ok-answer_block.ensures.line) c.in_ok-flush.ensures.bytes;
+      printed =
+          text_kept (text_more _ c.loop-count.invariant.printed pulls block c.in_ok-answer_block.ensures.line) c.in_ok-flush.ensures.bytes;
     }
 
 pub returns-clause-printed : goal.returns-clause-printed

@@ -13,7 +13,8 @@ invariant-loop-lines g l =
     × ((f f' : Position → Option PathAnswer)
     → HasFoundStretchesByPath g.S.SpanSource.to_come (g.P.Paths.bytes_of l.fn.paths) l.fn.differences f f' []
     → HasPrinted stretch_of path_stretch_line
-    (λ given. HasFoundStretchesByPath g.S.SpanSource.to_come (g.P.Paths.bytes_of l.fn.paths) l.differences f f' (stretches_of given)) l.fn.scope
+    (λ given. HasFoundStretchesByPath g.S.SpanSource.to_come (g.P.Paths.bytes_of l.fn.paths) l.differences f f' (stretches_of given))
+    l.fn.scope
     (g.W.Write.contents l.fn.out) (g.W.Write.contents l.out) l.lines.is_right)
 
 abbrev pub decreases-loop-lines : goal.decreases-loop-lines

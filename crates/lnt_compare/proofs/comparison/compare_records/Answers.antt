@@ -24,7 +24,8 @@ returns g c =
     (λ outcome h list coming order.
     outcome_told _ g.S.SpanSource.to_come tables_by_number (in_version version) version list (names ∷ []) c.args.table.now
     (in_versions (span_answer list)) outcome (λ p. refl)
-    (h names list (names ∷ []) c.args.table.now (numbered.narrow version) (rw c.in-Some.is at c.in_ok-version.ensures) (λ more after rest r. r)
+    (h names list (names ∷ []) c.args.table.now (numbered.narrow version) (rw c.in-Some.is at c.in_ok-version.ensures)
+    (λ more after rest r. r)
     (judges_none g.S.SpanSource.to_come tables_by_number (in_version version) (span_in_version version) (number_told version) version
     c.args.spans c.past-comparison.result list c.past-comparison.ensures.past coming order) refl))
     c.compare_after.ensures

@@ -17,7 +17,8 @@ gather_after-gathered-requires g c =
     let past : List ℕ = c.pass_spans.new.window in
     let ends : Ends (g.T.Source.remaining c.pass_spans.new.source) (g.T.Source.left c.pass_spans.new.source)
     (c.header_line.result.now ++ past) c.deref.result.now = rw (← c.deref.ensures.value) at c.in_ok-text.ensures.ok in
-    rest_begins by_number plain_by_number plain_numbers version _ _ c.header_line.result.now past c.deref.result.now c.header_line.ensures ends
+    rest_begins by_number plain_by_number plain_numbers version _ _ c.header_line.result.now past c.deref.result.now
+    c.header_line.ensures ends
 
 pub returns-clause-ok : goal.returns-clause-ok
 returns-clause-ok g c list section coming order answers =

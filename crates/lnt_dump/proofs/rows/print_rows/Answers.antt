@@ -2,7 +2,8 @@ use Rattle.std.proofs.Common.{◌∙◌, ◌+◌, ◌^◌, ◌<◌, arith, rules
 use Rattle.lnt_io.proofs.PrefixLaws.{so_stopped}
 use Rattle.lnt_ops.specs.Walks.{Walk}
 use Rattle.lnt_dump.proofs.Pages.{paged_none}
-use Rattle.lnt_dump.proofs.RunWalks.{RowsPrinted, rows_all, rows_cut, rows_more, rows_none, rows_quiet, rows_room, running_allowed, running_in}
+use Rattle.lnt_dump.proofs.RunWalks.{RowsPrinted, rows_all, rows_cut, rows_more, rows_none, rows_quiet, rows_room}
+use Rattle.lnt_dump.proofs.RunWalks.{running_allowed, running_in}
 use Rattle.lnt_machine.proofs.RanLaws.{fails_op, gives_op}
 use Rattle.lnt_dump.proofs.UnitWalks.{stands_fails, stands_first}
 use Rattle.lnt_dump.proofs.rows.print_rows.Goals as goal

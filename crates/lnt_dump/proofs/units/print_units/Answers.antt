@@ -25,7 +25,8 @@ returns-in-Fault-clause-printed g c =
 
 pub returns-in-Fault-clause-begun : goal.returns-in-Fault-clause-begun
 returns-in-Fault-clause-begun g c =
-    fault_cut (g.W.Write.contents c.print_fault.new.out) c.in-Fault.fault c.print_fault.result c.loop-unit.invariant.printed (rw c.in-Fault.is
+    fault_cut (g.W.Write.contents c.print_fault.new.out) c.in-Fault.fault c.print_fault.result c.loop-unit.invariant.printed
+    (rw c.in-Fault.is
     at c.in_ok-unit.ensures.next) c.print_fault.ensures.prefix
 
 pub returns-in_err-unit-clause-begun : goal.returns-in_err-unit-clause-begun

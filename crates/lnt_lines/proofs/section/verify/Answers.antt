@@ -21,4 +21,5 @@ told text general options (Some bytes) index lines i tells =
     }
 
 pub returns-in_ok-lines_of-in-Good-clause-judged : goal.returns-in_ok-lines_of-in-Good-clause-judged
-returns-in_ok-lines_of-in-Good-clause-judged g c = told _ _ _ _ _ _ (rw c.in-Good.is at c.in_ok-index.ensures.judged) c.in_ok-lines_of-in-Good.ensures
+returns-in_ok-lines_of-in-Good-clause-judged g c =
+    told _ _ _ _ _ _ (rw c.in-Good.is at c.in_ok-index.ensures.judged) c.in_ok-lines_of-in-Good.ensures

@@ -17,7 +17,8 @@ returns-in_err-view-clause-err c =
     subst (λ (r : Result OpView Fault). WalkStep c.loop-view.view-iterator (Some r) c.next.new.self) c.in_err-view.was
     c.in-Some.ensures.steps in
     let rest : fault.reason ≢ Memory → BrokenProgram c.args.numbers.now c.args.place c.args.program.now fault =
-    λ _. walk_broken c.args.numbers.now c.args.place c.args.program.now c.loop-view.ops.items fault c.loop-view.view-iterator c.next.new.self
+    λ _. walk_broken c.args.numbers.now c.args.place c.args.program.now c.loop-view.ops.items fault c.loop-view.view-iterator
+    c.next.new.self
     c.new-view-items.ensures.numbers c.loop-view.invariant.0 c.loop-view.invariant.2 step in
     rw (p.1, p.2) rest
 

@@ -12,7 +12,8 @@ returns-in_err-add_op-clause-extends c =
 
 pub loop-op-preserved : goal.loop-op-preserved
 loop-op-preserved c =
-    ops_more c.args.numbers.now c.args.ops.now c.loop-op.op-index c.op-item.result _ _ _ c.loop-op-test.true c.op-item.is c.loop-op.invariant
+    ops_more c.args.numbers.now c.args.ops.now c.loop-op.op-index c.op-item.result _ _ _ c.loop-op-test.true c.op-item.is
+    c.loop-op.invariant
     c.in_ok-add_op.ensures.ok
 
 pub add_op-requires : goal.add_op-requires

@@ -3,7 +3,8 @@ use Rattle.lnt_sequences.proofs.held.row_at.Goals as goal
 
 pub loop-position-init : goal.loop-position-init
 loop-position-init c = record {
-  in_rows = λ list will. checkpoint_before list c.before-checkpoint.result c.before-checkpoint.ensures.last (rw c.before-checkpoint.ensures.after will);
+  in_rows = λ list will. checkpoint_before list c.before-checkpoint.result c.before-checkpoint.ensures.last
+      (rw c.before-checkpoint.ensures.after will);
   not_above = rw c.before-checkpoint.ensures.last tt;
 }
 

@@ -36,14 +36,16 @@ returns-then-not-branch-clause-mistaken g c list by_table says passed =
     let now = c.loop-held.invariant.3 list by_table says passed in
     mistaken_other g.S.SpanSource.to_come (g.T.Telling.tell c.args.telling.now) list by_table c.loop-held.spans c.args.low c.args.high
     c.loop-held.at (g.T.Telling.said c.args.held) c.in-Some.span _ c.in-Some.ensures.0 c.in-Some.ensures.1
-    (rw c.if-not-branch.true at c.in_ok-is_said.ensures.same) now.0 (below_from_lt c.loop-held-test.ensures) says c.in_ok-mistake-2.ensures now.1
+    (rw c.if-not-branch.true at c.in_ok-is_said.ensures.same) now.0
+    (below_from_lt c.loop-held-test.ensures) says c.in_ok-mistake-2.ensures now.1
 
 pub returns-then-lt-clause-mistaken : goal.returns-then-lt-clause-mistaken
 returns-then-lt-clause-mistaken g c list by_table says passed =
     let now = c.loop-held.invariant.3 list by_table says passed in
     passed_within g.S.SpanSource.to_come (g.T.Telling.tell c.args.telling.now) list by_table c.loop-held.spans c.args.low c.args.high
     c.loop-held.at (g.T.Telling.said c.args.held) c.in-Some.span c.in-Some.ensures.0 c.in-Some.ensures.1
-    (rw c.if-not-branch.false at c.in_ok-is_said.ensures.same) now.0 (below_from_lt c.loop-held-test.ensures) (below_from_lt c.if-lt.ensures) says now.1
+    (rw c.if-not-branch.false at c.in_ok-is_said.ensures.same) now.0 (below_from_lt c.loop-held-test.ensures)
+    (below_from_lt c.if-lt.ensures) says now.1
 
 pub loop-held-preserved : goal.loop-held-preserved
 loop-held-preserved g c = (
@@ -56,7 +58,8 @@ loop-held-preserved g c = (
             c.in-Some.span c.in-Some.ensures.0 now.0 now.1,
         passed_whole g.S.SpanSource.to_come (g.T.Telling.tell c.args.telling.now) list by_table c.loop-held.spans _ c.args.low c.args.high
             c.loop-held.at (g.T.Telling.said c.args.held) c.in-Some.span c.in-Some.ensures.0 c.in-Some.ensures.1
-            (rw c.if-not-branch.false at c.in_ok-is_said.ensures.same) now.0 (at_most_from_not_lt c.if-lt.ensures) c.pass.ensures.passed says now.1,
+            (rw c.if-not-branch.false at c.in_ok-is_said.ensures.same) now.0
+            (at_most_from_not_lt c.if-lt.ensures) c.pass.ensures.passed says now.1,
       ),
 )
 

@@ -16,7 +16,8 @@ pub loop-span-preserved : goal.loop-span-preserved
 loop-span-preserved g c tell list by_table at le nothing counted =
     let now = c.loop-span.invariant tell list by_table at le nothing counted in
     let next = counted_span g.S.SpanSource.to_come tell list by_table c.loop-span.spans c.pass.new.self now.0 c.args.end c.loop-span.missed
-    c.add_between-in-Some.new.count c.in-Some.span c.in-Some.ensures.0 (at_most_from_not_lt c.if-lt.ensures) c.pass.ensures.passed now.2 c.add_between-in-Some.ensures now.3 in
+    c.add_between-in-Some.new.count c.in-Some.span c.in-Some.ensures.0
+    (at_most_from_not_lt c.if-lt.ensures) c.pass.ensures.passed now.2 c.add_between-in-Some.ensures now.3 in
     (c.in-Some.span.high, at_most_from_not_lt c.if-lt.ensures, λ p h k. now.2 p (at_most_trans next.0 h) k, next.1)
 
 pub returns : goal.returns

@@ -8,7 +8,8 @@ use Rattle.lnt_spans.proofs.merge.pass_below.Given as goal
 
 abbrev pub invariant-loop-span : goal.invariant-loop-span
 invariant-loop-span g l =
-    (tell : Answer → g.T.Telling.Told) (list : List Span) (by_table : Position → Option g.T.Telling.Told) (at : Position) → IsAtMost at l.end
+    (tell : Answer → g.T.Telling.Told) (list : List Span) (by_table : Position → Option g.T.Telling.Told) (at : Position)
+    → IsAtMost at l.end
     → AnswersNothing by_table at l.end → AreCounted tell list by_table at (IsAhead g.S.SpanSource.to_come l.fn.spans) l.fn.missed
     → (to : Position) × IsAtMost to l.end × AnswersNothing by_table to l.end
     × AreCounted tell list by_table to (IsAhead g.S.SpanSource.to_come l.spans) l.missed

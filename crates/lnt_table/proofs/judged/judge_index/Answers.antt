@@ -14,7 +14,8 @@ returns-in-Some-clause-ok g c selection is =
 pub returns-in-Some-pass_header-clause-ok : goal.returns-in-Some-pass_header-clause-ok
 returns-in-Some-pass_header-clause-ok g c selection is =
     let all = c.spans-in-Some-pass_header.ensures.gives selection is in
-    begun_by_path _ _ _ _ c.in_ok-window.window c.pass_header-2.new.window c.in-Some-pass_header.version c.args.index.now selection all.spans
+    begun_by_path _ _ _ _ c.in_ok-window.window c.pass_header-2.new.window c.in-Some-pass_header.version c.args.index.now
+    selection all.spans
     c.in_ok-outcome-2.outcome is c.in_ok-window.ensures.taken (sym c.in_default.ensures ∙ c.in-Some-pass_header.ensures) all.answers
     (c.in_ok-outcome-2.ensures.ok all.spans all.to_come all.in_order)
 

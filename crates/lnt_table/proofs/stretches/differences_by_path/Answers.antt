@@ -16,7 +16,8 @@ returns-clause-started c order =
     let all = c.spans.ensures.gives known.selection known.index_is in (
       spans_by_path c.args.version (indexed_path c.args.index.now) all.spans,
       _,
-      c.of.ensures (indexed_path c.args.index.now) all.spans (spans_by_path c.args.version (indexed_path c.args.index.now) all.spans) all.to_come
+      c.of.ensures (indexed_path c.args.index.now) all.spans
+          (spans_by_path c.args.version (indexed_path c.args.index.now) all.spans) all.to_come
           all.in_order
           (λ p. refl) order,
     )

@@ -46,6 +46,7 @@ returns-in-Err-TooLarge-clause-err c =
       refl,
       frame_large header.numbers.order header c.numbers.result.now c.args.program.now _ c.new-converted.result.items _ c.deref.result.now
           c.args.format c.args.to _
-          c.requires.spelled c.numbers.ensures.numbers c.in_ok-convert_ops.ensures.ok c.new-converted.ensures.items c.deref.ensures.value refused
+          c.requires.spelled c.numbers.ensures.numbers c.in_ok-convert_ops.ensures.ok c.new-converted.ensures.items
+          c.deref.ensures.value refused
           c.in-Err-TooLarge.field-0-is,
     )

@@ -30,7 +30,8 @@ returns g c =
     (λ outcome h list come order.
     outcome_told _ g.S.SpanSource.to_come tables_by_path tell version list (names ∷ []) c.args.table.now
     (λ version. spans_by_path version path list) outcome (λ p. refl)
-    (h names list (names ∷ []) c.args.table.now (pathed.narrow version) (rw c.in-Some.is at c.in_ok-version.ensures) (λ more after rest r. r)
+    (h names list (names ∷ []) c.args.table.now (pathed.narrow version) (rw c.in-Some.is at c.in_ok-version.ensures)
+    (λ more after rest r. r)
     (judges_none g.S.SpanSource.to_come tables_by_path tell (tell_span tell) (path_told tell) version c.args.spans
     c.past-comparison.result list (rw c.whole.ensures at c.past-comparison.ensures.past) come order) refl))
     c.compare_after.ensures

@@ -14,7 +14,8 @@ pub returns-in-Ok-clause-path : goal.returns-in-Ok-clause-path
 returns-in-Ok-clause-path c =
     let h = c.args.header.now in
     let at = file_there h c.files.result.now c.args.file c.in-Some.entry c.files.ensures.pairs c.files.ensures.entries c.in-Some.ensures in
-    path_made c.args.strings.line.now c.args.strings.general.now h c.args.file at.0 _ _ c.new-path.ensures.items at.1 (c.in-Ok.ensures at.0 at.2)
+    path_made c.args.strings.line.now c.args.strings.general.now h c.args.file at.0 _ _ c.new-path.ensures.items at.1
+    (c.in-Ok.ensures at.0 at.2)
 
 pub returns-in-Ok-clause-there : goal.returns-in-Ok-clause-there
 returns-in-Ok-clause-there c =

@@ -12,7 +12,8 @@ returns-in_default-clause-answer c rows known is ordered = absurd (c.in_default.
 pub returns-in-Some-place_in-clause-known : goal.returns-in-Some-place_in-clause-known
 returns-in-Some-place_in-clause-known c known =
     let index : Indexed = c.args.index.now in
-    let at = cached_at index c.args.self.now.sequences.items c.deref.result.now c.in-Some-place_in.known c.index_mut.result.now c.args.held.id
+    let at =
+    cached_at index c.args.self.now.sequences.items c.deref.result.now c.in-Some-place_in.known c.index_mut.result.now c.args.held.id
     c.deref.ensures.value c.in-Some-place_in.ensures c.index_mut.ensures.value known in
     All-set (IsCachedOf index) c.args.self.now.sequences.items c.in-Some-place_in.known
     (record { id = c.index_mut.result.now.id; cache = c.answer_at.new.self })
@@ -26,7 +27,8 @@ returns-in-Some-place_in-clause-answer c =
     IfOk-weaker c.answer_at.result _ _
     (λ answer found rows known is ordered.
     let index : Indexed = c.args.index.now in
-    let at = cached_at index c.args.self.now.sequences.items c.deref.result.now c.in-Some-place_in.known c.index_mut.result.now c.args.held.id
+    let at =
+    cached_at index c.args.self.now.sequences.items c.deref.result.now c.in-Some-place_in.known c.index_mut.result.now c.args.held.id
     c.deref.ensures.value c.in-Some-place_in.ensures c.index_mut.ensures.value known in
     found rows (c.in-Some.ensures rows is)
     (at.1 rows (subst (λ (id : SeqId). IsSequenceIn index.units index.programs id rows) (sym at.0) is)) ordered)

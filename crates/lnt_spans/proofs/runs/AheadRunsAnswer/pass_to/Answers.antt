@@ -19,4 +19,5 @@ returns-then-ge-clause-at g c at values h le up =
 pub returns-else-ge-clause-at : goal.returns-else-ge-clause-at
 returns-else-ge-clause-at g c at values h le up =
     kept_on g.S.SpanSource.to_come c.args.self.now at values h c.args.to le
-    (λ span some. subst (λ (s : Span). IsBelow c.args.to s.high) (same_Some _ span (sym c.in-Some.is ∙ some)) (below_from_not_ge c.if-ge.ensures))
+    (λ span some. subst (λ (s : Span). IsBelow c.args.to s.high) (same_Some _ span (sym c.in-Some.is ∙ some))
+    (below_from_not_ge c.if-ge.ensures))

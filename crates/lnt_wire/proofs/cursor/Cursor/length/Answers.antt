@@ -16,7 +16,8 @@ returns-in-Leb-clause-err c =
 
 pub returns-in-Leb-clause-ok : goal.returns-in-Leb-clause-ok
 returns-in-Leb-clause-ok c =
-    subst (λ (p : BlockLength). IfOk c.uleb.result (λ (n : ℕ). Reads (LengthBytes c.args.self.now.order p) n c.args.self.now c.uleb.new.self))
+    subst
+    (λ (p : BlockLength). IfOk c.uleb.result (λ (n : ℕ). Reads (LengthBytes c.args.self.now.order p) n c.args.self.now c.uleb.new.self))
     (sym c.in-Leb.is) c.uleb.ensures.ok
 
 pub returns-in-Leb-clause-unchanged : goal.returns-in-Leb-clause-unchanged
@@ -25,7 +26,8 @@ returns-in-Leb-clause-unchanged c = c.uleb.ensures.unchanged
 pub returns-in_err-u8-in-One-clause-err : goal.returns-in_err-u8-in-One-clause-err
 returns-in_err-u8-in-One-clause-err c =
     passed_on c.from_residual.result c.in_err-u8-in-One.field-0.0
-    (λ (fault : Fault). RefusesField (IsLengthFault c.args.encoding) (LengthBytes c.args.self.now.order c.args.encoding) c.args.self.now fault)
+    (λ (fault : Fault). RefusesField (IsLengthFault c.args.encoding)
+    (LengthBytes c.args.self.now.order c.args.encoding) c.args.self.now fault)
     c.from_residual.ensures.1
     (subst (λ (p : BlockLength). RefusesField (IsLengthFault p) (LengthBytes c.args.self.now.order p) c.args.self.now
     c.in_err-u8-in-One.field-0.0)
@@ -47,7 +49,8 @@ returns-in_ok-u8-in-One-clause-ok c =
 pub returns-in_err-u16-in-Two-clause-err : goal.returns-in_err-u16-in-Two-clause-err
 returns-in_err-u16-in-Two-clause-err c =
     passed_on c.from_residual-in_err-u16-in-Two.result c.in_err-u16-in-Two.field-0.0
-    (λ (fault : Fault). RefusesField (IsLengthFault c.args.encoding) (LengthBytes c.args.self.now.order c.args.encoding) c.args.self.now fault)
+    (λ (fault : Fault). RefusesField (IsLengthFault c.args.encoding)
+    (LengthBytes c.args.self.now.order c.args.encoding) c.args.self.now fault)
     c.from_residual-in_err-u16-in-Two.ensures.1
     (subst (λ (p : BlockLength). RefusesField (IsLengthFault p) (LengthBytes c.args.self.now.order p) c.args.self.now
     c.in_err-u16-in-Two.field-0.0)
@@ -62,7 +65,8 @@ returns-in_err-u16-in-Two-clause-unchanged c = leaves_it _ _ _ c.in_err-u16-in-T
 pub returns-in_err-u32-in-Four-clause-err : goal.returns-in_err-u32-in-Four-clause-err
 returns-in_err-u32-in-Four-clause-err c =
     passed_on c.from_residual-in_err-u32-in-Four.result c.in_err-u32-in-Four.field-0.0
-    (λ (fault : Fault). RefusesField (IsLengthFault c.args.encoding) (LengthBytes c.args.self.now.order c.args.encoding) c.args.self.now fault)
+    (λ (fault : Fault). RefusesField (IsLengthFault c.args.encoding)
+    (LengthBytes c.args.self.now.order c.args.encoding) c.args.self.now fault)
     c.from_residual-in_err-u32-in-Four.ensures.1
     (subst (λ (p : BlockLength). RefusesField (IsLengthFault p) (LengthBytes c.args.self.now.order p) c.args.self.now
     c.in_err-u32-in-Four.field-0.0)
